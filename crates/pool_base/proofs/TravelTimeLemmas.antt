@@ -1,0 +1,32 @@
+use Rattle.std.proofs.Common.{◌≡◌, ℕ, suc, ◌+◌, ◌*◌, ◌<◌, ◌≤◌, List, length, slice_index_or, refl, sym, ◌∙◌, arith}
+use Rattle.std.proofs.Math.Nat.{mul-le-mul_right}
+use Rattle.std.proofs.lemmas.Bool.{lt-ltb, le-ltb, and_right}
+use Rattle.std.proofs.lemmas.List.{get_or_default}
+use Rattle.pool_base.specs.TravelTime.{never, cell_of, IsTable}
+
+-- inside the table a travel time is its cell
+pub cell_of-within : (n : ℕ) (cells : List ℕ) (a b : ℕ) → a < n → b < n → cell_of n cells a b ≡ slice_index_or cells (a * n + b) never
+unfolding cell_of
+cell_of-within n cells a b ha hb = rw (lt-ltb a n ha, lt-ltb b n hb)
+
+-- from a place that isn't in the table nothing is reached
+pub cell_of-from_outside : (n : ℕ) (cells : List ℕ) (a b : ℕ) → n ≤ a → cell_of n cells a b ≡ never
+unfolding cell_of
+cell_of-from_outside n cells a b ha = rw (le-ltb a n ha)
+
+-- a place that isn't in the table is out of reach
+pub cell_of-to_outside : (n : ℕ) (cells : List ℕ) (a b : ℕ) → n ≤ b → cell_of n cells a b ≡ never
+unfolding cell_of
+cell_of-to_outside n cells a b hb = rw (le-ltb b n hb, and_right _ _ refl)
+
+-- the place of a cell lies within the cells
+pub cell_place_within : (n a b : ℕ) → a < n → b < n → a * n + b < n * n
+cell_place_within n a b ha hb =
+    let row : suc a * n ≤ n * n = mul-le-mul_right n ha in
+    omega (arith, row)
+
+-- what a read of the cells gives is the travel time
+pub cell_of-read : (n : ℕ) (cells : List ℕ) (a b x : ℕ) → IsTable n cells → a < n → b < n → x ≡ slice_index_or cells (a * n + b) x → x ≡ cell_of n cells a b
+cell_of-read n cells a b x table ha hb read =
+    let place : a * n + b < length cells = rw table.square (cell_place_within n a b ha hb) in
+    read ∙ get_or_default cells (a * n + b) x never place ∙ sym (cell_of-within n cells a b ha hb)

@@ -1,0 +1,4 @@
+pub mod Number
+pub mod Which
+pub mod TravelTime
+pub mod Times

@@ -1,0 +1,24 @@
+use Rattle.std.specs.Prelude.{ℕ, ◌+◌, ◌-◌, ◌*◌, ◌<◌, ◌≤◌, List, [], ◌∷◌, length, slice_index}
+
+-- the character is one of `0` to `9`
+abbrev pub IsDigit : ℕ → Type 0
+IsDigit c = (48 ≤ c) × (c ≤ 57)
+
+-- every character is a decimal digit
+abbrev pub AllDigits : List ℕ → Type 0
+AllDigits text = (k : ℕ) → k < length text → IsDigit (slice_index text k)
+
+-- the value of the digits so far, followed by these
+abbrev pub value_after : ℕ → List ℕ → ℕ
+value_after n [] = n
+value_after n (c ∷ cs) = value_after (n * 10 + (c - 48)) cs
+
+-- the value of a decimal numeral
+abbrev pub value_of : List ℕ → ℕ
+value_of text = value_after 0 text
+
+-- the character at this place is the first that is no digit
+pub record IsFirstNoDigit (text : List ℕ) (place : ℕ) : Type 0 where
+  pub within : place < length text
+  pub other : IsDigit (slice_index text place) → ⊥
+  pub before : (k : ℕ) → k < place → IsDigit (slice_index text k)

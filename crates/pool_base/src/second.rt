@@ -1,0 +1,42 @@
+ghost use Rattle.std.specs.Prelude.{◌≡◌, ℕ, ◌≤◌, ◌↔◌, IsSome, IfSome};
+
+use std::marker::Model;
+
+/// A moment, in whole seconds, from 0 to 1,000,000,000.
+#[derive(Clone, Copy, Debug, PartialEq, Eq, Hash, PartialOrd, Ord)]
+pub struct Second {
+    number: u32,
+}
+
+impl Model for Second {
+    ghost Value = { ℕ };
+
+    ghost view = { λ id. id.number };
+
+    ghost invariant = { λ id. id.number ≤ 1000000000 };
+
+    ghost inverse = { λ n. record { number = n } };
+}
+
+impl Second {
+    /// `None` exactly where the number is above 1,000,000,000.
+    pub fn new(number: u64) -> Option<Self>
+        ensures valid { IsSome result ↔ (number ≤ 1000000000) }
+        ensures value { IfSome result (λ id. id ≡ number) }
+    {
+        if number <= 1_000_000_000 {
+            Some(Second {
+                number: number as u32,
+            })
+        } else {
+            None
+        }
+    }
+
+    pub fn get(self) -> u32
+        ensures value { result ≡ self }
+        ensures within { self ≤ 1000000000 }
+    {
+        self.number
+    }
+}

@@ -1,0 +1,23 @@
+ghost use Rattle.std.specs.Prelude.{◌≡◌, codes};
+ghost use Rattle.pool_base.specs.Which.{name_of};
+
+/// One of the program's input files.
+#[derive(Clone, Copy, Debug, PartialEq, Eq, Hash)]
+pub enum Which {
+    Network,
+    Fleet,
+    Script,
+}
+
+impl Which {
+    /// The file's word in commands and messages.
+    pub fn name(self) -> &'static str
+        ensures { result.now ≡ name_of self }
+    {
+        match self {
+            Which::Network => "network",
+            Which::Fleet => "fleet",
+            Which::Script => "script",
+        }
+    }
+}
