@@ -1,4 +1,4 @@
-use Rattle.std.specs.Prelude.{◌≡◌, ◌≢◌, ℕ, ◌+◌, ◌-◌, ◌*◌, ◌%◌, ◌<◌, ◌≤◌, ◌⊎◌, Bool, false, true, IsTrue, List, length, slice_index, slice_index_or, Option, Some, Contains}
+use Rattle.std.specs.Prelude.{◌≡◌, ◌≢◌, ℕ, ◌+◌, ◌-◌, ◌*◌, ◌%◌, ◌<◌, ◌≤◌, ◌⊎◌, Bool, false, true, IsTrue, List, length, slice_index, slice_index_or, Option, Some, Contains, All}
 use Rattle.std.specs.List.Sorted.{IsNonDecreasing}
 use Rattle.plan_rules.specs.Graph.{Graph, riders_at, cost_at, has_rider, choice_at, IsRowOf, vehicle_at}
 use Rattle.plan_rules.specs.Greedy.{IsTaken, IsApart}
@@ -11,15 +11,14 @@ rank_value size cost k = ((6 - size) * 1000000001 + cost) * 2000000 + k
 abbrev pub rank_of : Graph → ℕ → ℕ
 rank_of g k = rank_value (length (riders_at g k)) (cost_at g k) k
 
--- these are the ranks of rows
-abbrev pub AreRanks : Graph → List ℕ → Type 0
-AreRanks g ranks =
-    (i : ℕ) → i < length ranks
-    → (slice_index ranks i % 2000000 < length g.rows) × (rank_of g (slice_index ranks i % 2000000) ≡ slice_index ranks i)
+-- the number is the rank of a row
+pub record IsRankOfRow (g : Graph) (x : ℕ) : Type 0 where
+  pub within : x % 2000000 < length g.rows
+  pub ranked : rank_of g (x % 2000000) ≡ x
 
 -- the ranks of all rows, in order
 pub record IsRanking (g : Graph) (numbers : List ℕ) : Type 0 where
-  pub ranks : AreRanks g numbers
+  pub ranks : All (IsRankOfRow g) numbers
   pub all : (k : ℕ) → k < length g.rows → Contains numbers (rank_of g k)
   pub sorted : IsNonDecreasing numbers
 

@@ -100,15 +100,16 @@ abbrev pub rounded_up : ℤ → ℤ
 rounded_up (pos n) = pos ((n + 1023) / 1024)
 rounded_up (negsuc n) = neg_ℤ (pos (suc n / 1024))
 
--- the least over these leaves of the leaf value in seconds, rounded up
+-- the least so far and, of a leaf, its value in seconds, rounded up
+abbrev pub with_leaf : Graph → Usable → Node → Option ℤ → Option ℤ
+with_leaf g usable (Leaf ms) least = Some (lesser least (rounded_up (leaf_value g usable ms)))
+with_leaf g usable (Branch v k) least = least
+with_leaf g usable Dead least = least
+
+-- the least over these places' leaves
 abbrev pub least_leaf : Graph → List Place → Option ℤ
 least_leaf g [] = None
 least_leaf g (p ∷ ps) = with_leaf g p.usable p.node (least_leaf g ps)
-  where
-    with_leaf : Graph → Usable → Node → Option ℤ → Option ℤ
-    with_leaf g usable (Leaf ms) least = Some (lesser least (rounded_up (leaf_value g usable ms)))
-    with_leaf g usable (Branch v k) least = least
-    with_leaf g usable Dead least = least
 
 -- the value of a tree: the least over its leaves
 abbrev pub tree_value : Graph → List Node → ℤ

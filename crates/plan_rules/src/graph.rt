@@ -73,6 +73,7 @@ impl TripGraph {
     pub fn vehicle_count(&self) -> usize
         ensures value { result ≡ self.now.vehicles }
         ensures within { result ≤ 500 }
+        ensures good { IsGoodGraph self.now }
     {
         self.parts.vehicles
     }
@@ -80,6 +81,7 @@ impl TripGraph {
     pub fn rider_count(&self) -> usize
         ensures value { result ≡ self.now.riders }
         ensures within { result ≤ 1000 }
+        ensures good { IsGoodGraph self.now }
     {
         self.parts.riders
     }

@@ -1,7 +1,8 @@
 //! The greedy plan: row after row, the larger, cheaper and lesser first.
-ghost use Rattle.std.specs.Prelude.{◌≡◌, ◌⊎◌, ℕ, ◌<◌, ◌≤◌, IfOk, length, Contains};
+ghost use Rattle.std.specs.Prelude.{◌≡◌, ◌↔◌, ◌⊎◌, ℕ, ◌<◌, ◌≤◌, IsTrue, IfOk, length, replicate, Contains, All};
+ghost use Rattle.plan_rules.specs.Graph.{IsGoodGraph, choice_at};
 ghost use Rattle.plan_rules.specs.Greedy.{IsGreedy, IsTaken};
-ghost use Rattle.plan_rules.specs.Rank.{rank_value, rank_of, AreRanks, IsRanking, IsSelection, IsInTheWay};
+ghost use Rattle.plan_rules.specs.Rank.{rank_value, rank_of, IsRankOfRow, IsRanking, IsSelection, IsInTheWay};
 
 use crate::graph::TripGraph;
 use crate::marks::{is_any_marked, mark_riders};
@@ -16,12 +17,30 @@ pub fn greedy(alloc: Global, graph: &TripGraph) -> Result<Plan, OutOfMemory>
     ensures { IfOk result (IsGreedy graph.now) }
 {
     let ranks = ranking(alloc, graph)?;
-    let mut chosen = vec![in alloc; None; graph.vehicle_count()]?;
+    let mut chosen = no_choices(alloc, graph.vehicle_count())?;
     let mut served = vec![in alloc; false; graph.rider_count()]?;
-    for rank in &ranks {
-        take_row(graph, (*rank % 2_000_000) as usize, &mut chosen, &mut served);
-    }
+    take_rows(graph, &ranks, &mut chosen, &mut served);
     Ok(Plan::of(chosen))
+}
+
+fn no_choices(alloc: Global, count: usize) -> Result<Vec<Option<u32>>, OutOfMemory>
+    ensures { IfOk result (λ chosen. chosen.items ≡ replicate count None) }
+{
+    Ok(vec![in alloc; None; count]?)
+}
+
+/// Takes rows in the order of their ranks.
+fn take_rows(graph: &TripGraph, ranks: &[u64], chosen: &mut [Option<u32>], served: &mut [bool])
+    requires good { IsGoodGraph graph.now }
+    requires ranking { IsRanking graph.now ranks.now }
+    requires selection { IsSelection graph.now chosen.old served.old }
+    requires none { (k : ℕ) → IsTaken graph.now chosen.old k → ⊥ }
+    ensures greedy { IsGreedy graph.now chosen.new }
+    ensures len { length chosen.new ≡ length chosen.old }
+{
+    for rank in ranks {
+        take_row(graph, (*rank % 2_000_000) as usize, chosen, served);
+    }
 }
 
 /// The ranks of all rows, in order.
@@ -34,7 +53,7 @@ fn ranking(alloc: Global, graph: &TripGraph) -> Result<Vec<u64>, OutOfMemory>
 }
 
 fn ranks_of(alloc: Global, graph: &TripGraph) -> Result<Vec<u64>, OutOfMemory>
-    ensures ranks { IfOk result (λ ranks. AreRanks graph.now ranks.items) }
+    ensures ranks { IfOk result (λ ranks. All (IsRankOfRow graph.now) ranks.items) }
     ensures all { IfOk result (λ ranks. (k : ℕ) → k < length graph.now.rows → Contains ranks.items (rank_of graph.now k)) }
 {
     let mut ranks = Vec::new(alloc);
@@ -65,8 +84,15 @@ fn take_row(graph: &TripGraph, row: usize, chosen: &mut [Option<u32>], served: &
 {
     let trip = &graph.rows()[row];
     let riders = trip.riders.as_slice();
-    if chosen[trip.vehicle].is_none() && !is_any_marked(riders, served) {
+    if is_free(chosen, trip.vehicle) && !is_any_marked(riders, served) {
         chosen[trip.vehicle] = Some(row as u32);
         mark_riders(riders, served);
     }
+}
+
+fn is_free(chosen: &[Option<u32>], vehicle: usize) -> bool
+    requires { vehicle < length chosen.now }
+    ensures { IsTrue result ↔ (choice_at chosen.now vehicle ≡ None) }
+{
+    chosen[vehicle].is_none()
 }

@@ -16,7 +16,7 @@ pub fn leaf_value_is_below_every_cost()
 
 /// The leaves and dead ends of a sound tree part the plans: each plan belongs to exactly one of them.
 pub fn ends_part_the_plans()
-    ensures { (g : Graph) (nodes : List NodeValue) (chosen : List (Option ℕ)) → IsSoundTree g nodes → IsPlan g chosen
+    ensures { (g : Graph) (nodes : List NodeValue) (chosen : List (Option ℕ)) → IsGoodGraph g → IsSoundTree g nodes → IsPlan g chosen
         → count_by (belongs_to_end g chosen) (places g nodes) ≡ 1 }
 {
 }

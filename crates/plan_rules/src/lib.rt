@@ -20,6 +20,8 @@ mod row;
 mod row_index;
 mod row_order;
 mod rules;
+#[cfg(test)]
+mod tests;
 mod tree;
 
 pub use fault::GraphFault;

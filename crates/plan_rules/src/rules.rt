@@ -47,6 +47,8 @@ fn is_own_choice(graph: &TripGraph, vehicle: usize, choice: Option<u32>) -> bool
     requires { vehicle < graph.now.vehicles }
     ensures { IsTrue result ↔ MatchOption choice (HasNoRow graph.now vehicle) (IsRowOf graph.now vehicle) }
 {
+    let count = graph.vehicle_count();
+    prove!(vehicle < count);
     let first = graph.first_row(vehicle);
     let end = graph.first_row(vehicle + 1);
     match choice {
