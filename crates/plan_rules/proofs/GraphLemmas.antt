@@ -30,9 +30,9 @@ below_tail x [] h r e = absurd (both_ways false refl e)
 below_tail x (y ∷ ys) h r e =
     let first : x < y = h 0 (omega arith) in
     ⊎_elim
-      (λ (here : (y == r) ≡ true). let same : y ≡ r = eqb-true y r here in omega arith)
-      (λ (later : has ys r ≡ true). let above : y < r = below_tail y ys (tail_rises x (y ∷ ys) h) r later in omega arith)
-      (or_cases (y == r) (has ys r) e)
+    (λ (here : (y == r) ≡ true). let same : y ≡ r = eqb-true y r here in omega arith)
+    (λ (later : has ys r ≡ true). let above : y < r = below_tail y ys (tail_rises x (y ∷ ys) h) r later in omega arith)
+    (or_cases (y == r) (has ys r) e)
 
 -- the first of rising riders stands nowhere else
 pub head_apart : (x : ℕ) (xs : List ℕ) (r : ℕ) → IsStrictlyIncreasing (x ∷ xs) → (x == r) ≡ true → has xs r ≡ true → ⊥
@@ -46,9 +46,9 @@ pub has_below : (n : ℕ) (xs : List ℕ) (r : ℕ) → ((i : ℕ) → i < lengt
 has_below n [] r h e = absurd (both_ways false refl e)
 has_below n (x ∷ xs) r h e =
     ⊎_elim
-      (λ (here : (x == r) ≡ true). let same : x ≡ r = eqb-true x r here in let low : x < n = h 0 (omega arith) in omega arith)
-      (λ (later : has xs r ≡ true). has_below n xs r (λ i l. h (suc i) (omega arith)) later)
-      (or_cases (x == r) (has xs r) e)
+    (λ (here : (x == r) ≡ true). let same : x ≡ r = eqb-true x r here in let low : x < n = h 0 (omega arith) in omega arith)
+    (λ (later : has xs r ≡ true). has_below n xs r (λ i l. h (suc i) (omega arith)) later)
+    (or_cases (x == r) (has xs r) e)
 
 pub has_at : (xs : List ℕ) (i : ℕ) → i < length xs → has xs (get_or xs i 0) ≡ true
 has_at xs i l = list_any_at (λ x. x == get_or xs i 0) xs i 0 l (eq-eqb (get_or xs i 0) (get_or xs i 0) refl)
@@ -93,7 +93,7 @@ pub times_served_outside : (g : Graph) (chosen : List (Option ℕ)) (n r : ℕ) 
 unfolding times_served
 times_served_outside g chosen n r rows fits out =
     count_below_none n (λ v. is_in g (choice_at chosen v) r)
-      (λ v l. nobody v l (is_in g (choice_at chosen v) r) refl)
+    (λ v l. nobody v l (is_in g (choice_at chosen v) r) refl)
   where
     nobody : (v : ℕ) → v < n → (b : Bool) → is_in g (choice_at chosen v) r ≡ b → is_in g (choice_at chosen v) r ≡ false
     nobody v l false e = e
@@ -114,9 +114,10 @@ row_between g v k start next first second low high =
 pub between_row : (g : Graph) (v k start next : ℕ) → IsStartOf g v start → IsStartOf g (v + 1) next → IsRowOf g v k → (start ≤ k) × (k < next)
 between_row g v k start next first second row =
     let within : k < length g.rows = row.within in
-    let own : vehicle_at g k ≡ v = row.own in
-    ( ⊎_elim (λ (low : k < start). let wrong : vehicle_at g k < v = first.below k low in absurd (omega arith)) (λ (yes : start ≤ k). yes) (cases_lt k start)
-    , ⊎_elim (λ (yes : k < next). yes) (λ (high : next ≤ k). let wrong : v + 1 ≤ vehicle_at g k = second.above k high within in absurd (omega arith)) (cases_lt k next) )
+    let own : vehicle_at g k ≡ v = row.own in (
+      ⊎_elim (λ (low : k < start). let wrong : vehicle_at g k < v = first.below k low in absurd (omega arith)) (λ (yes : start ≤ k). yes) (cases_lt k start),
+      ⊎_elim (λ (yes : k < next). yes) (λ (high : next ≤ k). let wrong : v + 1 ≤ vehicle_at g k = second.above k high within in absurd (omega arith)) (cases_lt k next),
+    )
 
 pub no_row_between : (g : Graph) (v start : ℕ) → IsStartOf g v start → IsStartOf g (v + 1) start → HasNoRow g v
 no_row_between g v start first second k row =
@@ -127,16 +128,16 @@ no_row_between g v start first second k row =
 pub starts_meet : (g : Graph) (v start next : ℕ) → IsStartOf g v start → IsStartOf g (v + 1) next → HasNoRow g v → start ≡ next
 starts_meet g v start next first second none =
     ⊎_elim
-      (λ (some : start < next). absurd (none start (row_between g v start start next first second (omega arith) some)))
-      (λ (high : next ≤ start).
-        ⊎_elim
-          (λ (cross : next < start).
-            let below : vehicle_at g next < v = first.below next cross in
-            let above : v + 1 ≤ vehicle_at g next = second.above next (omega arith) (omega (arith, first.within)) in
-            absurd (omega arith))
-          (λ (low : start ≤ next). omega arith)
-          (cases_lt next start))
-      (cases_lt start next)
+    (λ (some : start < next). absurd (none start (row_between g v start start next first second (omega arith) some)))
+    (λ (high : next ≤ start).
+    ⊎_elim
+    (λ (cross : next < start).
+    let below : vehicle_at g next < v = first.below next cross in
+    let above : v + 1 ≤ vehicle_at g next = second.above next (omega arith) (omega (arith, first.within)) in
+    absurd (omega arith))
+    (λ (low : start ≤ next). omega arith)
+    (cases_lt next start))
+    (cases_lt start next)
 
 -- ---- held rows
 
@@ -148,14 +149,14 @@ held_once g (suc n) r low holds =
     let same : times_served g g.held (suc n) r ≡ times_served g g.held (n + 1) r = ap (λ (m : ℕ). times_served g g.held m r) (sym (add-one n)) in
     let before : times_served g g.held n r ≤ 1 = held_once g n r (omega arith) (λ v l. holds v (omega arith)) in
     ⊎_elim
-      (λ (yes : is_in g (choice_at g.held n) r ≡ true).
-        let counted : flag (is_in g (choice_at g.held n) r) ≡ 1 = flag-true _ yes in
-        let alone : times_served g g.held n r ≡ 0 = alone_at (choice_at g.held n) (holds n (omega arith)) yes in
-        omega arith)
-      (λ (no : is_in g (choice_at g.held n) r ≡ false).
-        let counted : flag (is_in g (choice_at g.held n) r) ≡ 0 = flag-false _ no in
-        omega arith)
-      (cases_Bool (is_in g (choice_at g.held n) r))
+    (λ (yes : is_in g (choice_at g.held n) r ≡ true).
+    let counted : flag (is_in g (choice_at g.held n) r) ≡ 1 = flag-true _ yes in
+    let alone : times_served g g.held n r ≡ 0 = alone_at (choice_at g.held n) (holds n (omega arith)) yes in
+    omega arith)
+    (λ (no : is_in g (choice_at g.held n) r ≡ false).
+    let counted : flag (is_in g (choice_at g.held n) r) ≡ 0 = flag-false _ no in
+    omega arith)
+    (cases_Bool (is_in g (choice_at g.held n) r))
   where
     alone_at : (c : Option ℕ) → MatchOption c (HasNoRow g n) (λ k. IsRowOf g n k × ((r : ℕ) → IsTrue (has_rider g k r) → times_served g g.held n r ≡ 0)) → is_in g c r ≡ true → times_served g g.held n r ≡ 0
     alone_at None h e = absurd (both_ways false refl e)

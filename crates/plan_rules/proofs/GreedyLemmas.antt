@@ -20,28 +20,31 @@ rank_order : (a b x y j k : ℕ) → a ≤ 6 → b ≤ 6 → x ≤ 1000000000 �
 unfolding rank_value
 rank_order a b x y j k la lb lx ly lj lk ne low =
     ⊎_elim
-      (λ (larger : b < a). inl larger)
-      (λ (smaller : a ≤ b).
-        ⊎_elim
-          (λ (same : a ≡ b).
-            inr (same, ⊎_elim
-              (λ (cheaper : x < y). inl cheaper)
-              (λ (dearer : y ≤ x).
-                ⊎_elim
-                  (λ (alike : x ≡ y). inr (alike, omega arith))
-                  (λ (differs : x ≡ y → ⊥). absurd (omega arith))
-                  (cases_eq x y))
-              (cases_lt x y)))
-          (λ (differs : a ≡ b → ⊥). absurd (omega arith))
-          (cases_eq a b))
-      (cases_lt b a)
+    (λ (larger : b < a). inl larger)
+    (λ (smaller : a ≤ b).
+    ⊎_elim
+    (λ (same : a ≡ b).
+    inr (
+      same,
+      ⊎_elim
+          (λ (cheaper : x < y). inl cheaper)
+          (λ (dearer : y ≤ x).
+          ⊎_elim
+          (λ (alike : x ≡ y). inr (alike, omega arith))
+          (λ (differs : x ≡ y → ⊥). absurd (omega arith))
+          (cases_eq x y))
+          (cases_lt x y),
+    ))
+    (λ (differs : a ≡ b → ⊥). absurd (omega arith))
+    (cases_eq a b))
+    (cases_lt b a)
 
 pub rank_before : (g : Graph) (j k : ℕ) → IsGoodGraph g → j < length g.rows → k < length g.rows → (j ≡ k → ⊥) → rank_of g j ≤ rank_of g k → IsTriedBefore g j k
 rank_before g j k good lj lk ne low =
     let few = good.limits.rows in
     rank_order (length (riders_at g j)) (length (riders_at g k)) (cost_at g j) (cost_at g k) j k
-      (good.rows j lj).few (good.rows k lk).few (good.rows j lj).cheap (good.rows k lk).cheap
-      (omega (arith, few, lj)) (omega (arith, few, lk)) ne low
+    (good.rows j lj).few (good.rows k lk).few (good.rows j lj).cheap (good.rows k lk).cheap
+    (omega (arith, few, lj)) (omega (arith, few, lk)) ne low
 
 pub row_ranked : (g : Graph) (k : ℕ) → IsGoodGraph g → k < length g.rows → IsRankOfRow g (rank_of g k)
 row_ranked g k good l =
@@ -77,20 +80,20 @@ module _ (g : Graph) (chosen : List (Option ℕ)) (served : List Bool) (row : �
   pub taken_before : (j : ℕ) → IsTaken g (set chosen (vehicle_at g row) (Some row)) j → IsTaken g chosen j ⊎ (j ≡ row)
   taken_before j taken =
       ⊎_elim
-        (λ (here : vehicle_at g j ≡ vehicle_at g row).
-          inr (same_some j row (sym taken ∙ ap (choice_at (set chosen (vehicle_at g row) (Some row))) here ∙ row_taken)))
-        (λ (other : vehicle_at g j ≡ vehicle_at g row → ⊥).
-          inl (sym (get_or-set_other chosen (vehicle_at g row) (vehicle_at g j) (Some row) None other) ∙ taken))
-        (cases_eq (vehicle_at g j) (vehicle_at g row))
+      (λ (here : vehicle_at g j ≡ vehicle_at g row).
+      inr (same_some j row (sym taken ∙ ap (choice_at (set chosen (vehicle_at g row) (Some row))) here ∙ row_taken)))
+      (λ (other : vehicle_at g j ≡ vehicle_at g row → ⊥).
+      inl (sym (get_or-set_other chosen (vehicle_at g row) (vehicle_at g j) (Some row) None other) ∙ taken))
+      (cases_eq (vehicle_at g j) (vehicle_at g row))
 
   -- a row that is taken is apart from one with no marked rider
   pub new_apart : (list_any (λ r. get_or served r false) (riders_at g row) ≡ false) → (j : ℕ) → j < length g.rows → IsTaken g chosen j → IsApart g j row
   new_apart unmarked j low taken = record {
-      vehicles = other_vehicle j taken;
-      riders = λ r a b.
+    vehicles = other_vehicle j taken;
+    riders = λ r a b.
         let marked : get_or served r false ≡ true = selection.serves j r low taken a in
-        both_ways _ unmarked (any_marked served (riders_at g row) r b marked)
-    }
+        both_ways _ unmarked (any_marked served (riders_at g row) r b marked);
+  }
 
   flip : (j : ℕ) → IsApart g j row → IsApart g row j
   flip j apart = record { vehicles = λ e. apart.vehicles (sym e); riders = λ r a b. apart.riders r b a }
@@ -99,50 +102,50 @@ module _ (g : Graph) (chosen : List (Option ℕ)) (served : List Bool) (row : �
       → ((r : ℕ) → r < length served → get_or marks r false ≡ (get_or served r false || has_rider g row r))
       → IsSelection g (set chosen (vehicle_at g row) (Some row)) marks
   selection_more unmarked marks len marked = record {
-      sized = length-set chosen (vehicle_at g row) (Some row) ∙ selection.sized;
-      marked = len ∙ selection.marked;
-      own = λ v k low e.
+    sized = length-set chosen (vehicle_at g row) (Some row) ∙ selection.sized;
+    marked = len ∙ selection.marked;
+    own = λ v k low e.
         ⊎_elim
-          (λ (here : v ≡ vehicle_at g row).
-            let same : k ≡ row = same_some k row (sym e ∙ ap (choice_at (set chosen (vehicle_at g row) (Some row))) here ∙ row_taken) in
-            record { within = subst (λ (q : ℕ). q < length g.rows) (sym same) within; own = ap (vehicle_at g) same ∙ sym here })
-          (λ (other : v ≡ vehicle_at g row → ⊥).
-            selection.own v k low (sym (get_or-set_other chosen (vehicle_at g row) v (Some row) None other) ∙ e))
-          (cases_eq v (vehicle_at g row));
-      apart = λ j k lj lk ne a b.
+        (λ (here : v ≡ vehicle_at g row).
+        let same : k ≡ row = same_some k row (sym e ∙ ap (choice_at (set chosen (vehicle_at g row) (Some row))) here ∙ row_taken) in
+        record { within = subst (λ (q : ℕ). q < length g.rows) (sym same) within; own = ap (vehicle_at g) same ∙ sym here })
+        (λ (other : v ≡ vehicle_at g row → ⊥).
+        selection.own v k low (sym (get_or-set_other chosen (vehicle_at g row) v (Some row) None other) ∙ e))
+        (cases_eq v (vehicle_at g row));
+    apart = λ j k lj lk ne a b.
         ⊎_elim
-          (λ (old_j : IsTaken g chosen j).
-            ⊎_elim
-              (λ (old_k : IsTaken g chosen k). selection.apart j k lj lk ne old_j old_k)
-              (λ (new_k : k ≡ row). subst (IsApart g j) (sym new_k) (new_apart unmarked j lj old_j))
-              (taken_before k b))
-          (λ (new_j : j ≡ row).
-            ⊎_elim
-              (λ (old_k : IsTaken g chosen k). subst (λ (q : ℕ). IsApart g q k) (sym new_j) (flip k (new_apart unmarked k lk old_k)))
-              (λ (new_k : k ≡ row). absurd (ne (new_j ∙ sym new_k)))
-              (taken_before k b))
-          (taken_before j a);
-      serves = λ j r lj a e.
+        (λ (old_j : IsTaken g chosen j).
+        ⊎_elim
+        (λ (old_k : IsTaken g chosen k). selection.apart j k lj lk ne old_j old_k)
+        (λ (new_k : k ≡ row). subst (IsApart g j) (sym new_k) (new_apart unmarked j lj old_j))
+        (taken_before k b))
+        (λ (new_j : j ≡ row).
+        ⊎_elim
+        (λ (old_k : IsTaken g chosen k). subst (λ (q : ℕ). IsApart g q k) (sym new_j) (flip k (new_apart unmarked k lk old_k)))
+        (λ (new_k : k ≡ row). absurd (ne (new_j ∙ sym new_k)))
+        (taken_before k b))
+        (taken_before j a);
+    serves = λ j r lj a e.
         let low : r < g.riders = rider_below g j r (good.rows j lj) e in
         let sized : length served ≡ g.riders = selection.marked in
         let now : get_or marks r false ≡ (get_or served r false || has_rider g row r) = marked r (omega arith) in
         ⊎_elim
-          (λ (old : IsTaken g chosen j). now ∙ or_left (get_or served r false) (has_rider g row r) (selection.serves j r lj old e))
-          (λ (new : j ≡ row). now ∙ or_right (get_or served r false) (has_rider g row r) (subst (λ (q : ℕ). has_rider g q r ≡ true) new e))
-          (taken_before j a);
-      served_by = λ r e.
+        (λ (old : IsTaken g chosen j). now ∙ or_left (get_or served r false) (has_rider g row r) (selection.serves j r lj old e))
+        (λ (new : j ≡ row). now ∙ or_right (get_or served r false) (has_rider g row r) (subst (λ (q : ℕ). has_rider g q r ≡ true) new e))
+        (taken_before j a);
+    served_by = λ r e.
         ⊎_elim
-          (λ (low : r < length served).
-            ⊎_elim
-              (λ (old : get_or served r false ≡ true).
-                let w = selection.served_by r old in
-                (w.0, w.1, taken_stays (w.0) (w.2), w.3))
-              (λ (new : has_rider g row r ≡ true). (row, within, row_taken, new))
-              (or_cases (get_or served r false) (has_rider g row r) (sym (marked r low) ∙ e)))
-          (λ (high : length served ≤ r).
-            absurd (both_ways false refl (sym (get_or_past marks r false (omega (arith, len, high))) ∙ e)))
-          (cases_lt r (length served))
-    }
+        (λ (low : r < length served).
+        ⊎_elim
+        (λ (old : get_or served r false ≡ true).
+        let w = selection.served_by r old in
+        (w.0, w.1, taken_stays (w.0) (w.2), w.3))
+        (λ (new : has_rider g row r ≡ true). (row, within, row_taken, new))
+        (or_cases (get_or served r false) (has_rider g row r) (sym (marked r low) ∙ e)))
+        (λ (high : length served ≤ r).
+        absurd (both_ways false refl (sym (get_or_past marks r false (omega (arith, len, high))) ∙ e)))
+        (cases_lt r (length served));
+  }
 
 -- a vehicle that has a row already, or a rider of the row who is served already, is in the way
 pub way_by_vehicle : (g : Graph) (chosen : List (Option ℕ)) (served : List Bool) (row k : ℕ) → IsGoodGraph g → row < length g.rows → IsSelection g chosen served → choice_at chosen (vehicle_at g row) ≡ Some k → IsInTheWay g chosen row
@@ -153,7 +156,7 @@ way_by_vehicle g chosen served row k good within selection e =
       other = k;
       within = own.within;
       taken = ap (choice_at chosen) own.own ∙ e;
-      conflict = λ apart. apart.vehicles own.own
+      conflict = λ apart. apart.vehicles own.own;
     }
 
 pub way_by_rider : (g : Graph) (chosen : List (Option ℕ)) (served : List Bool) (row : ℕ) → IsSelection g chosen served → list_any (λ r. get_or served r false) (riders_at g row) ≡ true → IsInTheWay g chosen row
@@ -168,11 +171,11 @@ way_by_rider g chosen served row selection e =
 pub greedy_from : (g : Graph) (chosen : List (Option ℕ)) (served : List Bool) → IsGoodGraph g → IsSelection g chosen served
     → ((k : ℕ) → k < length g.rows → ((j : ℕ) → j < length g.rows → IsTriedBefore g j k → IsTaken g chosen j → IsApart g j k) → IsTaken g chosen k) → IsGreedy g chosen
 greedy_from g chosen served good selection settled = record {
-    sized = selection.sized;
-    own = selection.own;
-    apart = λ j k lj lk before a b. selection.apart j k lj lk (λ (e : j ≡ k). not_before_itself g j k e before) a b;
-    taken = settled
-  }
+  sized = selection.sized;
+  own = selection.own;
+  apart = λ j k lj lk before a b. selection.apart j k lj lk (λ (e : j ≡ k). not_before_itself g j k e before) a b;
+  taken = settled;
+}
   where
     not_before_itself : (g : Graph) (j k : ℕ) → j ≡ k → IsTriedBefore g j k → ⊥
     not_before_itself g j k e before =
@@ -189,37 +192,37 @@ pub settled_more : (g : Graph) (old new : List (Option ℕ)) (row : ℕ) → IsG
 settled_more g old new row good within earlier keeps (inl taken) apart = taken
 settled_more g old new row good within earlier keeps (inr way) apart =
     ⊎_elim
-      (λ (same : way.other ≡ row). subst (IsTaken g new) same (keeps way.other way.taken))
-      (λ (differs : way.other ≡ row → ⊥).
-        let before : IsTriedBefore g way.other row = rank_before g way.other row good way.within within differs (earlier way.other way.within way.taken) in
-        absurd (way.conflict (apart way.other way.within before (keeps way.other way.taken))))
-      (cases_eq way.other row)
+    (λ (same : way.other ≡ row). subst (IsTaken g new) same (keeps way.other way.taken))
+    (λ (differs : way.other ≡ row → ⊥).
+    let before : IsTriedBefore g way.other row = rank_before g way.other row good way.within within differs (earlier way.other way.within way.taken) in
+    absurd (way.conflict (apart way.other way.within before (keeps way.other way.taken))))
+    (cases_eq way.other row)
 
 -- ---- before the first row
 
 nothing : (n v : ℕ) → choice_at (replicate n None) v ≡ None
 nothing n v =
     ⊎_elim
-      (λ (low : v < n). get_or-replicate n v None None low)
-      (λ (high : n ≤ v). get_or_past (replicate n None) v None (omega (arith, high, length-replicate {A = Option ℕ} n None)))
-      (cases_lt v n)
+    (λ (low : v < n). get_or-replicate n v None None low)
+    (λ (high : n ≤ v). get_or_past (replicate n None) v None (omega (arith, high, length-replicate {A = Option ℕ} n None)))
+    (cases_lt v n)
 
 unmarked : (n r : ℕ) → get_or (replicate n false) r false ≡ false
 unmarked n r =
     ⊎_elim
-      (λ (low : r < n). get_or-replicate n r false false low)
-      (λ (high : n ≤ r). get_or_past (replicate n false) r false (omega (arith, high, length-replicate n false)))
-      (cases_lt r n)
+    (λ (low : r < n). get_or-replicate n r false false low)
+    (λ (high : n ≤ r). get_or_past (replicate n false) r false (omega (arith, high, length-replicate n false)))
+    (cases_lt r n)
 
 pub none_taken : (g : Graph) (n k : ℕ) → IsTaken g (replicate n None) k → ⊥
 none_taken g n k taken = none_some k (sym (nothing n (vehicle_at g k)) ∙ taken)
 
 pub selection_none : (g : Graph) → IsSelection g (replicate g.vehicles None) (replicate g.riders false)
 selection_none g = record {
-    sized = length-replicate g.vehicles None;
-    marked = length-replicate g.riders false;
-    own = λ v k l e. absurd (none_some k (sym (nothing g.vehicles v) ∙ e));
-    apart = λ j k lj lk ne a b. absurd (none_taken g g.vehicles j a);
-    serves = λ j r l a e. absurd (none_taken g g.vehicles j a);
-    served_by = λ r e. absurd (both_ways false refl (sym (unmarked g.riders r) ∙ e))
-  }
+  sized = length-replicate g.vehicles None;
+  marked = length-replicate g.riders false;
+  own = λ v k l e. absurd (none_some k (sym (nothing g.vehicles v) ∙ e));
+  apart = λ j k lj lk ne a b. absurd (none_taken g g.vehicles j a);
+  serves = λ j r l a e. absurd (none_taken g g.vehicles j a);
+  served_by = λ r e. absurd (both_ways false refl (sym (unmarked g.riders r) ∙ e));
+}

@@ -58,8 +58,8 @@ pub coming_left : (g : Graph) (path : List Decision) (depth : ℕ) → depth ≤
 coming_left g path depth l h =
     let n : depth + (length path - depth) ≡ length path = omega (arith, l) in
     ap (λ (p : List Decision). (standing_of g p).coming) (sym (take_all (length path) path (omega arith)))
-      ∙ ap (λ (m : ℕ). (standing_of g (take m path)).coming) (sym n)
-      ∙ coming_kept g path depth (length path - depth) (omega (arith, n)) h
+    ∙ ap (λ (m : ℕ). (standing_of g (take m path)).coming) (sym n)
+    ∙ coming_kept g path depth (length path - depth) (omega (arith, n)) h
 
 -- the last decision turns from the row alone to all but the row
 pub coming_next : (g : Graph) (path : List Decision) (d : Decision) → d.alone ≡ true
@@ -69,7 +69,7 @@ coming_next g path d e =
     let first : Standing = record { usable = only_row g s.usable d.vehicle d.row; coming = without_row s.usable d.row ∷ s.coming } in
     let second : Standing = record { usable = without_row s.usable d.row; coming = s.coming } in
     ap (λ (t : Standing). t.coming) (standing_push g path d ∙ cond-true d.alone first second e)
-      ∙ sym (ap (λ (t : Standing). t.usable ∷ t.coming) (standing_push g path (record { vehicle = d.vehicle; row = d.row; alone = false })))
+    ∙ sym (ap (λ (t : Standing). t.usable ∷ t.coming) (standing_push g path (record { vehicle = d.vehicle; row = d.row; alone = false })))
 
 -- what the marks say one decision on
 pub along_alone : (g : Graph) (path : List Decision) (i n : ℕ) (d : Decision) (old new : List Bool) → i < length path → (get_or path i d).alone ≡ true
@@ -78,30 +78,30 @@ pub along_alone : (g : Graph) (path : List Decision) (i n : ℕ) (d : Decision) 
     → (k : ℕ) → k < n → get_or new k false ≡ (standing_of g (take (i + 1) path)).usable k
 along_alone g path i n d old new l e before now k low =
     now k low
-      ∙ ap (λ (b : Bool). b && (not (vehicle_at g k == (get_or path i d).vehicle) || k == (get_or path i d).row)) (before k low)
-      ∙ sym (usable_alone g (standing_of g (take i path)) (get_or path i d) k e)
-      ∙ sym (ap (λ (s : Standing). s.usable k) (standing_more g path i d l))
+    ∙ ap (λ (b : Bool). b && (not (vehicle_at g k == (get_or path i d).vehicle) || k == (get_or path i d).row)) (before k low)
+    ∙ sym (usable_alone g (standing_of g (take i path)) (get_or path i d) k e)
+    ∙ sym (ap (λ (s : Standing). s.usable k) (standing_more g path i d l))
 
 pub along_without : (g : Graph) (path : List Decision) (i n : ℕ) (d : Decision) (old : List Bool) → i < length path → (get_or path i d).alone ≡ false → (get_or path i d).row < length old
     → ((k : ℕ) → k < n → get_or old k false ≡ (standing_of g (take i path)).usable k)
     → (k : ℕ) → k < n → get_or (set old (get_or path i d).row false) k false ≡ (standing_of g (take (i + 1) path)).usable k
 along_without g path i n d old l e inside before k low =
     written
-      ∙ sym (usable_without g (standing_of g (take i path)) (get_or path i d) k e)
-      ∙ sym (ap (λ (s : Standing). s.usable k) (standing_more g path i d l))
+    ∙ sym (usable_without g (standing_of g (take i path)) (get_or path i d) k e)
+    ∙ sym (ap (λ (s : Standing). s.usable k) (standing_more g path i d l))
   where
     written : get_or (set old (get_or path i d).row false) k false ≡ ((standing_of g (take i path)).usable k && not (k == (get_or path i d).row))
     written =
         ⊎_elim
-          (λ (here : k ≡ (get_or path i d).row).
-            ap (λ (q : ℕ). get_or (set old (get_or path i d).row false) q false) here
-              ∙ get_or-set_same old (get_or path i d).row false false inside
-              ∙ sym (and_right ((standing_of g (take i path)).usable k) (not (k == (get_or path i d).row)) (ap not (eq-eqb k (get_or path i d).row here))))
-          (λ (other : k ≡ (get_or path i d).row → ⊥).
-            get_or-set_other old (get_or path i d).row k false false other
-              ∙ before k low
-              ∙ whole ((standing_of g (take i path)).usable k) (k == (get_or path i d).row) (ne_eqb k (get_or path i d).row other))
-          (cases_eq k (get_or path i d).row)
+        (λ (here : k ≡ (get_or path i d).row).
+        ap (λ (q : ℕ). get_or (set old (get_or path i d).row false) q false) here
+        ∙ get_or-set_same old (get_or path i d).row false false inside
+        ∙ sym (and_right ((standing_of g (take i path)).usable k) (not (k == (get_or path i d).row)) (ap not (eq-eqb k (get_or path i d).row here))))
+        (λ (other : k ≡ (get_or path i d).row → ⊥).
+        get_or-set_other old (get_or path i d).row k false false other
+        ∙ before k low
+        ∙ whole ((standing_of g (take i path)).usable k) (k == (get_or path i d).row) (ne_eqb k (get_or path i d).row other))
+        (cases_eq k (get_or path i d).row)
       where
         whole : (a b : Bool) → b ≡ false → a ≡ (a && not b)
         whole true b q = sym (ap not q)
@@ -123,10 +123,10 @@ leave_next g path (suc n) x last low high at alone is dropped =
     let yes : last.alone ≡ true = ap (λ (d : Decision). d.alone) same ∙ alone in
     let plus : suc n ≡ n + 1 = omega arith in
     let more : take (suc n) path ≡ take n path ++ last ∷ [] =
-          ap (λ (m : ℕ). take m path) plus ∙ take_more path n last (omega (arith, high)) ∙ ap (λ (d : Decision). take n path ++ d ∷ []) (sym read) in
+    ap (λ (m : ℕ). take m path) plus ∙ take_more path n last (omega (arith, high)) ∙ ap (λ (d : Decision). take n path ++ d ∷ []) (sym read) in
     let turned : set (take (suc n) path) (suc n - 1) off ≡ take n path ++ off ∷ [] =
-          ap (λ (p : List Decision). set p (suc n - 1) off) more ∙ ap (λ (j : ℕ). set (take n path ++ last ∷ []) j off) e ∙ set_at (take n path) last [] off n front in
+    ap (λ (p : List Decision). set p (suc n - 1) off) more ∙ ap (λ (j : ℕ). set (take n path ++ last ∷ []) j off) e ∙ set_at (take n path) last [] off n front in
     coming_left g path (suc n) high dropped
-      ∙ ap (λ (p : List Decision). (standing_of g p).coming) more
-      ∙ coming_next g (take n path) last yes
-      ∙ sym (ap (λ (p : List Decision). (standing_of g p).usable ∷ (standing_of g p).coming) turned)
+    ∙ ap (λ (p : List Decision). (standing_of g p).coming) more
+    ∙ coming_next g (take n path) last yes
+    ∙ sym (ap (λ (p : List Decision). (standing_of g p).usable ∷ (standing_of g p).coming) turned)

@@ -45,21 +45,21 @@ held_own g v (Some k) h = h.0
 -- the held plan is lawful
 pub held_is_lawful : (g : Graph) → IsGoodGraph g → IsLawful g g.held
 held_is_lawful g good = record {
-    plan = record { sized = good.sized; own = λ v l. held_own g v (choice_at g.held v) (good.holds v l) };
-    once = λ r. held_once g g.vehicles r (omega arith) good.holds;
-    kept = λ r must.
+  plan = record { sized = good.sized; own = λ v l. held_own g v (choice_at g.held v) (good.holds v l) };
+  once = λ r. held_once g g.vehicles r (omega arith) good.holds;
+  kept = λ r must.
       let some : 0 < times_served g g.held g.vehicles r = ltb-true 0 (times_served g g.held g.vehicles r) must in
       let once : times_served g g.held g.vehicles r ≤ 1 = held_once g g.vehicles r (omega arith) good.holds in
-      omega arith
-  }
+      omega arith;
+}
 
 -- a plan is lawful where it serves each of the graph's riders as it must
 pub lawful_from : (g : Graph) (chosen : List (Option ℕ)) → IsGoodGraph g → IsPlan g chosen → ((r : ℕ) → r < g.riders → times_chosen g chosen r ≤ 1) → ((r : ℕ) → r < g.riders → IsTrue (must_be_served g r) → times_chosen g chosen r ≡ 1) → IsLawful g chosen
 lawful_from g chosen good plan once kept = record {
-    plan = plan;
-    once = λ r. elim (cases_lt r g.riders) [ inl low ↦ once r low | inr high ↦ let none = outside r high in omega (arith, none) ];
-    kept = λ r must. elim (cases_lt r g.riders) [ inl low ↦ kept r low must | inr high ↦ absurd (nobody r high must) ]
-  }
+  plan = plan;
+  once = λ r. elim (cases_lt r g.riders) [ inl low ↦ once r low | inr high ↦ let none = outside r high in omega (arith, none) ];
+  kept = λ r must. elim (cases_lt r g.riders) [ inl low ↦ kept r low must | inr high ↦ absurd (nobody r high must) ];
+}
   where
     outside : (r : ℕ) → g.riders ≤ r → times_chosen g chosen r ≡ 0
     outside r high = times_served_outside g chosen g.vehicles r good.rows (λ v k l e. (plan_choice g chosen v k plan l e).within) high

@@ -17,30 +17,30 @@ pub record IsRisingSoFar (riders least i : ℕ) (xs : List ℕ) : Type 0 where
 
 pub rising_start : (riders : ℕ) (xs : List ℕ) → IsRisingSoFar riders 0 0 xs
 rising_start riders xs = record {
-    start = λ _. refl;
-    last = λ k e. absurd (omega (arith, e));
-    below = λ k l. absurd (omega (arith, l));
-    rising = λ k l. absurd (omega (arith, l))
-  }
+  start = λ _. refl;
+  last = λ k e. absurd (omega (arith, e));
+  below = λ k l. absurd (omega (arith, l));
+  rising = λ k l. absurd (omega (arith, l));
+}
 
 pub rising_more : (riders least i : ℕ) (xs : List ℕ) → IsRisingSoFar riders least i xs → least ≤ get_or xs i 0 → get_or xs i 0 < riders → IsRisingSoFar riders (get_or xs i 0 + 1) (i + 1) xs
 rising_more riders least i xs h low high = record {
-    start = λ e. absurd (omega (arith, e));
-    last = λ k e.
+  start = λ e. absurd (omega (arith, e));
+  last = λ k e.
       let same : k ≡ i = omega (arith, e) in
       ap (λ (j : ℕ). get_or xs j 0 + 1) (sym same);
-    below = λ k l. ⊎_elim
+  below = λ k l. ⊎_elim
       (λ (here : k ≡ i). subst (λ (j : ℕ). get_or xs j 0 < riders) (sym here) high)
       (λ (other : k ≡ i → ⊥). h.below k (omega (arith, l)))
       (cases_eq k i);
-    rising = λ k l. ⊎_elim
+  rising = λ k l. ⊎_elim
       (λ (here : k + 1 ≡ i).
-        let last : least ≡ get_or xs k 0 + 1 = h.last k here in
-        let up : get_or xs k 0 < get_or xs i 0 = omega arith in
-        subst (λ (j : ℕ). get_or xs k 0 < get_or xs j 0) (sym here) up)
+      let last : least ≡ get_or xs k 0 + 1 = h.last k here in
+      let up : get_or xs k 0 < get_or xs i 0 = omega arith in
+      subst (λ (j : ℕ). get_or xs k 0 < get_or xs j 0) (sym here) up)
       (λ (other : k + 1 ≡ i → ⊥). h.rising k (omega (arith, l)))
-      (cases_eq (k + 1) i)
-  }
+      (cases_eq (k + 1) i);
+}
 
 pub rising_all : (riders least : ℕ) (xs : List ℕ) → IsRisingSoFar riders least (length xs) xs → AreRisingBelow riders xs
 rising_all riders least xs h = record { below = h.below; rising = h.rising }
@@ -86,27 +86,27 @@ start_first g = record { within = omega arith; below = λ k l. absurd (omega (ar
 -- where the rows of vehicle v end, those of the next one start
 pub start_next : (g : Graph) (v row end : ℕ) → HasRowsInOrder g → IsStartOf g v row → row ≤ end → end ≤ length g.rows → ((k : ℕ) → row ≤ k → k < end → vehicle_at g k ≡ v) → (end < length g.rows → vehicle_at g end ≡ v → ⊥) → IsStartOf g (v + 1) end
 start_next g v row end order start up within own next = record {
-    within = within;
-    below = λ k l. ⊎_elim
+  within = within;
+  below = λ k l. ⊎_elim
       (λ (before : k < row). let low : vehicle_at g k < v = start.below k before in omega arith)
       (λ (inside : row ≤ k). let same : vehicle_at g k ≡ v = own k inside l in omega arith)
       (cases_lt k row);
-    above = λ k a b.
+  above = λ k a b.
       let first : v ≤ vehicle_at g end = start.above end up (omega (arith, a, b)) in
       let differs = next (omega (arith, a, b)) in
       let same : end + (k - end) ≡ k = omega (arith, a) in
       let rise : vehicle_at g end ≤ vehicle_at g (end + (k - end)) = vehicles_rise g order end (k - end) (omega (arith, a, b)) in
       let e : vehicle_at g (end + (k - end)) ≡ vehicle_at g k = ap (vehicle_at g) same in
-      omega (arith, first, differs, rise, e)
-  }
+      omega (arith, first, differs, rise, e);
+}
 
 -- the start of one more vehicle at the end of the list
 pub starts_push : (g : Graph) (starts : List ℕ) (row n : ℕ) → length starts ≡ n → ((v : ℕ) → v < n → IsStartOf g v (get_or starts v 0)) → IsStartOf g n row → (v : ℕ) → v < n + 1 → IsStartOf g v (get_or (starts ++ row ∷ []) v 0)
 starts_push g starts row n long before here v l =
     ⊎_elim
-      (λ (last : v ≡ n). subst (IsStartOf g v) (sym (get_or_push starts row 0 v (long ∙ sym last))) (subst (λ (w : ℕ). IsStartOf g w row) (sym last) here))
-      (λ (other : v ≡ n → ⊥). subst (IsStartOf g v) (sym (get_or_append_left starts (row ∷ []) 0 v (omega (arith, l, long)))) (before v (omega (arith, l))))
-      (cases_eq v n)
+    (λ (last : v ≡ n). subst (IsStartOf g v) (sym (get_or_push starts row 0 v (long ∙ sym last))) (subst (λ (w : ℕ). IsStartOf g w row) (sym last) here))
+    (λ (other : v ≡ n → ⊥). subst (IsStartOf g v) (sym (get_or_append_left starts (row ∷ []) 0 v (omega (arith, l, long)))) (before v (omega (arith, l))))
+    (cases_eq v n)
 
 -- the first row that isn't above the one before it
 pub first_unordered : (g : Graph) (k : ℕ) → 1 ≤ k → k < length g.rows → ((j : ℕ) → suc j < k → IsInOrder g j) → (row_cmp (row_at g (k - 1)) (row_at g k) ≡ Less → ⊥) → IsFirstUnordered g k
@@ -118,7 +118,7 @@ first_unordered g (suc j) low within before wrong =
       next = refl;
       within = within;
       wrong = λ h. wrong (ap (λ (q : ℕ). row_cmp (row_at g q) (row_at g (suc j))) e ∙ h);
-      before = before
+      before = before;
     }
 
 not_less : (o : Ordering) → not (eqb (ordering_index o) 0) ≡ true → o ≡ Less → ⊥

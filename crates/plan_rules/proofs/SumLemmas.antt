@@ -78,38 +78,38 @@ pub count_below_some : (n : ℕ) (p : ℕ → Bool) (k : ℕ) → k < n → p k 
 count_below_some zero p k l e = absurd (omega arith)
 count_below_some (suc n) p k l e =
     ⊎_elim
-      (λ (here : k ≡ n). let last : flag (p n) ≡ 1 = flag-true (p n) (subst (λ (j : ℕ). p j ≡ true) here e) in omega arith)
-      (λ (other : k ≡ n → ⊥). omega (arith, count_below_some n p k (omega arith) e))
-      (cases_eq k n)
+    (λ (here : k ≡ n). let last : flag (p n) ≡ 1 = flag-true (p n) (subst (λ (j : ℕ). p j ≡ true) here e) in omega arith)
+    (λ (other : k ≡ n → ⊥). omega (arith, count_below_some n p k (omega arith) e))
+    (cases_eq k n)
 
 -- two that pass are counted twice
 pub count_below_two : (n : ℕ) (p : ℕ → Bool) (j k : ℕ) → j < n → k < n → (j ≡ k → ⊥) → p j ≡ true → p k ≡ true → 2 ≤ count_below n p
 count_below_two zero p j k a b d e f = absurd (omega arith)
 count_below_two (suc n) p j k a b d e f =
     ⊎_elim
-      (λ (here : j ≡ n).
-        let last : flag (p n) ≡ 1 = flag-true (p n) (subst (λ (i : ℕ). p i ≡ true) here e) in
-        omega (arith, count_below_some n p k (omega arith) f))
-      (λ (other : j ≡ n → ⊥).
-        ⊎_elim
-          (λ (there : k ≡ n).
-            let last : flag (p n) ≡ 1 = flag-true (p n) (subst (λ (i : ℕ). p i ≡ true) there f) in
-            omega (arith, count_below_some n p j (omega arith) e))
-          (λ (apart : k ≡ n → ⊥). omega (arith, count_below_two n p j k (omega arith) (omega arith) d e f))
-          (cases_eq k n))
-      (cases_eq j n)
+    (λ (here : j ≡ n).
+    let last : flag (p n) ≡ 1 = flag-true (p n) (subst (λ (i : ℕ). p i ≡ true) here e) in
+    omega (arith, count_below_some n p k (omega arith) f))
+    (λ (other : j ≡ n → ⊥).
+    ⊎_elim
+    (λ (there : k ≡ n).
+    let last : flag (p n) ≡ 1 = flag-true (p n) (subst (λ (i : ℕ). p i ≡ true) there f) in
+    omega (arith, count_below_some n p j (omega arith) e))
+    (λ (apart : k ≡ n → ⊥). omega (arith, count_below_two n p j k (omega arith) (omega arith) d e f))
+    (cases_eq k n))
+    (cases_eq j n)
 
 -- where something is counted, something passes
 pub count_below_found : (n : ℕ) (p : ℕ → Bool) → 1 ≤ count_below n p → (k : ℕ) × (k < n) × (p k ≡ true)
 count_below_found zero p h = absurd (omega arith)
 count_below_found (suc n) p h =
     ⊎_elim
-      (λ (yes : p n ≡ true). (n, omega arith, yes))
-      (λ (no : p n ≡ false).
-        let last : flag (p n) ≡ 0 = flag-false (p n) no in
-        let w = count_below_found n p (omega arith) in
-        (w.0, omega arith, w.2))
-      (cases_Bool (p n))
+    (λ (yes : p n ≡ true). (n, omega arith, yes))
+    (λ (no : p n ≡ false).
+    let last : flag (p n) ≡ 0 = flag-false (p n) no in
+    let w = count_below_found n p (omega arith) in
+    (w.0, omega arith, w.2))
+    (cases_Bool (p n))
 
 -- ---- all
 
@@ -117,9 +117,9 @@ pub all_below_at : (n : ℕ) (p : ℕ → Bool) (k : ℕ) → all_below n p ≡ 
 all_below_at zero p k e l = absurd (omega arith)
 all_below_at (suc n) p k e l =
     ⊎_elim
-      (λ (here : k ≡ n). subst (λ (j : ℕ). p j ≡ true) (sym here) ((and_parts (all_below n p) (p n) e).1))
-      (λ (other : k ≡ n → ⊥). all_below_at n p k ((and_parts (all_below n p) (p n) e).0) (omega arith))
-      (cases_eq k n)
+    (λ (here : k ≡ n). subst (λ (j : ℕ). p j ≡ true) (sym here) ((and_parts (all_below n p) (p n) e).1))
+    (λ (other : k ≡ n → ⊥). all_below_at n p k ((and_parts (all_below n p) (p n) e).0) (omega arith))
+    (cases_eq k n)
 
 pub all_below_from : (n : ℕ) (p : ℕ → Bool) → ((k : ℕ) → k < n → p k ≡ true) → all_below n p ≡ true
 all_below_from zero p e = refl
@@ -130,9 +130,9 @@ pub all_below_fails : (n : ℕ) (p : ℕ → Bool) (k : ℕ) → k < n → p k �
 all_below_fails zero p k l e = absurd (omega arith)
 all_below_fails (suc n) p k l e =
     ⊎_elim
-      (λ (here : k ≡ n). and_right (all_below n p) (p n) (subst (λ (j : ℕ). p j ≡ false) here e))
-      (λ (other : k ≡ n → ⊥). and_left (all_below n p) (p n) (all_below_fails n p k (omega arith) e))
-      (cases_eq k n)
+    (λ (here : k ≡ n). and_right (all_below n p) (p n) (subst (λ (j : ℕ). p j ≡ false) here e))
+    (λ (other : k ≡ n → ⊥). and_left (all_below n p) (p n) (all_below_fails n p k (omega arith) e))
+    (cases_eq k n)
 
 pub all_below_same : (n : ℕ) (p q : ℕ → Bool) → ((k : ℕ) → k < n → p k ≡ q k) → all_below n p ≡ all_below n q
 all_below_same zero p q e = refl
@@ -206,39 +206,39 @@ pub int_sum_single : (n x : ℕ) (f : ℕ → ℤ) → x < n → int_sum_below n
 int_sum_single zero x f l = absurd (omega arith)
 int_sum_single (suc n) x f l =
     ⊎_elim
-      (λ (here : x ≡ n).
-        let none : int_sum_below n (λ r. part (x == r) (f r)) ≡ int_sum_below n (λ _. pos 0) =
-              int_sum_same n (λ r. part (x == r) (f r)) (λ _. pos 0) (λ k low. cond-false (x == k) (f k) (pos 0) (ne_eqb x k (λ (e : x ≡ k). omega arith))) in
-        let zeros : int_sum_below n (λ _. pos 0) ≡ pos 0 = int_sum_zero n in
-        let last : part (x == n) (f n) ≡ f n = cond-true (x == n) (f n) (pos 0) (eq-eqb x n here) in
-        let same : f n ≡ f x = ap f (sym here) in
-        omega (arith, ints))
-      (λ (other : x ≡ n → ⊥).
-        let rest : int_sum_below n (λ r. part (x == r) (f r)) ≡ f x = int_sum_single n x f (omega arith) in
-        let last : part (x == n) (f n) ≡ pos 0 = cond-false (x == n) (f n) (pos 0) (ne_eqb x n other) in
-        omega (arith, ints))
-      (cases_eq x n)
+    (λ (here : x ≡ n).
+    let none : int_sum_below n (λ r. part (x == r) (f r)) ≡ int_sum_below n (λ _. pos 0) =
+    int_sum_same n (λ r. part (x == r) (f r)) (λ _. pos 0) (λ k low. cond-false (x == k) (f k) (pos 0) (ne_eqb x k (λ (e : x ≡ k). omega arith))) in
+    let zeros : int_sum_below n (λ _. pos 0) ≡ pos 0 = int_sum_zero n in
+    let last : part (x == n) (f n) ≡ f n = cond-true (x == n) (f n) (pos 0) (eq-eqb x n here) in
+    let same : f n ≡ f x = ap f (sym here) in
+    omega (arith, ints))
+    (λ (other : x ≡ n → ⊥).
+    let rest : int_sum_below n (λ r. part (x == r) (f r)) ≡ f x = int_sum_single n x f (omega arith) in
+    let last : part (x == n) (f n) ≡ pos 0 = cond-false (x == n) (f n) (pos 0) (ne_eqb x n other) in
+    omega (arith, ints))
+    (cases_eq x n)
 
 -- what is counted at most once counts once where it is counted
 pub int_sum_once : (n : ℕ) (p : ℕ → Bool) (z : ℤ) → count_below n p ≤ 1 → int_sum_below n (λ v. part (p v) z) ≡ part (ltb 0 (count_below n p)) z
 int_sum_once zero p z h = refl
 int_sum_once (suc n) p z h =
     ⊎_elim
-      (λ (yes : p n ≡ true).
-        let last : flag (p n) ≡ 1 = flag-true (p n) yes in
-        let now : part (p n) z ≡ z = cond-true (p n) z (pos 0) yes in
-        let rest : int_sum_below n (λ v. part (p v) z) ≡ part (ltb 0 (count_below n p)) z = int_sum_once n p z (omega arith) in
-        let none : part (ltb 0 (count_below n p)) z ≡ pos 0 = cond-false (ltb 0 (count_below n p)) z (pos 0) (le-ltb 0 (count_below n p) (omega arith)) in
-        let whole : part (ltb 0 (count_below (suc n) p)) z ≡ z = cond-true (ltb 0 (count_below (suc n) p)) z (pos 0) (lt-ltb 0 (count_below (suc n) p) (omega arith)) in
-        omega (arith, ints))
-      (λ (no : p n ≡ false).
-        let last : flag (p n) ≡ 0 = flag-false (p n) no in
-        let now : part (p n) z ≡ pos 0 = cond-false (p n) z (pos 0) no in
-        let rest : int_sum_below n (λ v. part (p v) z) ≡ part (ltb 0 (count_below n p)) z = int_sum_once n p z (omega arith) in
-        let same : count_below (suc n) p ≡ count_below n p = omega arith in
-        let whole : part (ltb 0 (count_below (suc n) p)) z ≡ part (ltb 0 (count_below n p)) z = ap (λ (c : ℕ). part (ltb 0 c) z) same in
-        omega (arith, ints))
-      (cases_Bool (p n))
+    (λ (yes : p n ≡ true).
+    let last : flag (p n) ≡ 1 = flag-true (p n) yes in
+    let now : part (p n) z ≡ z = cond-true (p n) z (pos 0) yes in
+    let rest : int_sum_below n (λ v. part (p v) z) ≡ part (ltb 0 (count_below n p)) z = int_sum_once n p z (omega arith) in
+    let none : part (ltb 0 (count_below n p)) z ≡ pos 0 = cond-false (ltb 0 (count_below n p)) z (pos 0) (le-ltb 0 (count_below n p) (omega arith)) in
+    let whole : part (ltb 0 (count_below (suc n) p)) z ≡ z = cond-true (ltb 0 (count_below (suc n) p)) z (pos 0) (lt-ltb 0 (count_below (suc n) p) (omega arith)) in
+    omega (arith, ints))
+    (λ (no : p n ≡ false).
+    let last : flag (p n) ≡ 0 = flag-false (p n) no in
+    let now : part (p n) z ≡ pos 0 = cond-false (p n) z (pos 0) no in
+    let rest : int_sum_below n (λ v. part (p v) z) ≡ part (ltb 0 (count_below n p)) z = int_sum_once n p z (omega arith) in
+    let same : count_below (suc n) p ≡ count_below n p = omega arith in
+    let whole : part (ltb 0 (count_below (suc n) p)) z ≡ part (ltb 0 (count_below n p)) z = ap (λ (c : ℕ). part (ltb 0 c) z) same in
+    omega (arith, ints))
+    (cases_Bool (p n))
 
 -- ---- least values
 
@@ -265,37 +265,37 @@ pub least_below_some : (n : ℕ) (p : ℕ → Bool) (f : ℕ → ℤ) (k : ℕ) 
 least_below_some zero p f k l e = absurd (omega arith)
 least_below_some (suc n) p f k l e =
     ⊎_elim
-      (λ (yes : p n ≡ true).
-        let now : least_below (suc n) p f ≡ Some (lesser (least_below n p f) (f n)) =
-              cond-true (p n) (Some (lesser (least_below n p f) (f n))) (least_below n p f) yes in
-        ⊎_elim
-          (λ (here : k ≡ n).
-            (lesser (least_below n p f) (f n), now, subst (λ (j : ℕ). lesser (least_below n p f) (f n) ≤ℤ f j) (sym here) (lesser-le_right (least_below n p f) (f n))))
-          (λ (other : k ≡ n → ⊥).
-            let w = least_below_some n p f k (omega arith) e in
-            let same : lesser (least_below n p f) (f n) ≡ lesser (Some (w.0)) (f n) = ap (λ (o : Option ℤ). lesser o (f n)) (w.1) in
-            let below : lesser (Some (w.0)) (f n) ≤ℤ w.0 = lesser-le_left (w.0) (f n) in
-            let least : w.0 ≤ℤ f k = w.2 in
-            let all : lesser (least_below n p f) (f n) ≤ℤ f k = omega (arith, ints) in
-            (lesser (least_below n p f) (f n), now, all))
-          (cases_eq k n))
-      (λ (no : p n ≡ false).
-        let now : least_below (suc n) p f ≡ least_below n p f =
-              cond-false (p n) (Some (lesser (least_below n p f) (f n))) (least_below n p f) no in
-        ⊎_elim
-          (λ (here : k ≡ n). absurd (both_ways (p n) no (subst (λ (j : ℕ). p j ≡ true) here e)))
-          (λ (other : k ≡ n → ⊥).
-            let w = least_below_some n p f k (omega arith) e in
-            (w.0, now ∙ w.1, w.2))
-          (cases_eq k n))
-      (cases_Bool (p n))
+    (λ (yes : p n ≡ true).
+    let now : least_below (suc n) p f ≡ Some (lesser (least_below n p f) (f n)) =
+    cond-true (p n) (Some (lesser (least_below n p f) (f n))) (least_below n p f) yes in
+    ⊎_elim
+    (λ (here : k ≡ n).
+    (lesser (least_below n p f) (f n), now, subst (λ (j : ℕ). lesser (least_below n p f) (f n) ≤ℤ f j) (sym here) (lesser-le_right (least_below n p f) (f n))))
+    (λ (other : k ≡ n → ⊥).
+    let w = least_below_some n p f k (omega arith) e in
+    let same : lesser (least_below n p f) (f n) ≡ lesser (Some (w.0)) (f n) = ap (λ (o : Option ℤ). lesser o (f n)) (w.1) in
+    let below : lesser (Some (w.0)) (f n) ≤ℤ w.0 = lesser-le_left (w.0) (f n) in
+    let least : w.0 ≤ℤ f k = w.2 in
+    let all : lesser (least_below n p f) (f n) ≤ℤ f k = omega (arith, ints) in
+    (lesser (least_below n p f) (f n), now, all))
+    (cases_eq k n))
+    (λ (no : p n ≡ false).
+    let now : least_below (suc n) p f ≡ least_below n p f =
+    cond-false (p n) (Some (lesser (least_below n p f) (f n))) (least_below n p f) no in
+    ⊎_elim
+    (λ (here : k ≡ n). absurd (both_ways (p n) no (subst (λ (j : ℕ). p j ≡ true) here e)))
+    (λ (other : k ≡ n → ⊥).
+    let w = least_below_some n p f k (omega arith) e in
+    (w.0, now ∙ w.1, w.2))
+    (cases_eq k n))
+    (cases_Bool (p n))
 
 -- none passes, none is least
 pub least_below_none : (n : ℕ) (p : ℕ → Bool) (f : ℕ → ℤ) → ((k : ℕ) → k < n → p k ≡ false) → least_below n p f ≡ None
 least_below_none zero p f e = refl
 least_below_none (suc n) p f e =
     cond-false (p n) (Some (lesser (least_below n p f) (f n))) (least_below n p f) (e n (omega arith))
-      ∙ least_below_none n p f (λ k l. e k (omega arith))
+    ∙ least_below_none n p f (λ k l. e k (omega arith))
 
 int_min_cases : (x y : ℤ) → (int_min x y ≡ x) ⊎ (int_min x y ≡ y)
 int_min_cases x y = cond_both (int_lt y x) y x (λ (m : ℤ). (m ≡ x) ⊎ (m ≡ y)) (λ e. inr refl) (λ e. inl refl)
@@ -308,11 +308,11 @@ from_lesser : (n : ℕ) (p : ℕ → Bool) (f : ℕ → ℤ) (z : ℤ) → p n �
 from_lesser n p f z passed None before value = (n, omega arith, passed, sym value)
 from_lesser n p f z passed (Some y) before value =
     ⊎_elim
-      (λ (left : int_min y (f n) ≡ y).
-        let w = before y refl in
-        (w.0, omega arith, w.2, sym value ∙ left ∙ w.3))
-      (λ (right : int_min y (f n) ≡ f n). (n, omega arith, passed, sym value ∙ right))
-      (int_min_cases y (f n))
+    (λ (left : int_min y (f n) ≡ y).
+    let w = before y refl in
+    (w.0, omega arith, w.2, sym value ∙ left ∙ w.3))
+    (λ (right : int_min y (f n) ≡ f n). (n, omega arith, passed, sym value ∙ right))
+    (int_min_cases y (f n))
 
 not_some : (z : ℤ) → ◌≡◌ {A = Option ℤ} None (Some z) → ⊥
 not_some z e = cc
@@ -325,13 +325,13 @@ pub least_below_found : (n : ℕ) (p : ℕ → Bool) (f : ℕ → ℤ) (z : ℤ)
 least_below_found zero p f z e = absurd (not_some z e)
 least_below_found (suc n) p f z e =
     ⊎_elim
-      (λ (yes : p n ≡ true).
-        let now : least_below (suc n) p f ≡ Some (lesser (least_below n p f) (f n)) =
-              cond-true (p n) (Some (lesser (least_below n p f) (f n))) (least_below n p f) yes in
-        from_lesser n p f z yes (least_below n p f) (λ y is. least_below_found n p f y is) (inner _ _ (sym now ∙ e)))
-      (λ (no : p n ≡ false).
-        let now : least_below (suc n) p f ≡ least_below n p f =
-              cond-false (p n) (Some (lesser (least_below n p f) (f n))) (least_below n p f) no in
-        let w = least_below_found n p f z (sym now ∙ e) in
-        (w.0, omega arith, w.2, w.3))
-      (cases_Bool (p n))
+    (λ (yes : p n ≡ true).
+    let now : least_below (suc n) p f ≡ Some (lesser (least_below n p f) (f n)) =
+    cond-true (p n) (Some (lesser (least_below n p f) (f n))) (least_below n p f) yes in
+    from_lesser n p f z yes (least_below n p f) (λ y is. least_below_found n p f y is) (inner _ _ (sym now ∙ e)))
+    (λ (no : p n ≡ false).
+    let now : least_below (suc n) p f ≡ least_below n p f =
+    cond-false (p n) (Some (lesser (least_below n p f) (f n))) (least_below n p f) no in
+    let w = least_below_found n p f z (sym now ∙ e) in
+    (w.0, omega arith, w.2, w.3))
+    (cases_Bool (p n))

@@ -45,13 +45,13 @@ module _ (g : Graph) (usable : Usable) (chosen : List (Option ℕ)) (plan : IsPl
   only_same e w l (Some j) is =
       let own : IsRowOf g w j = plan_choice g chosen w j plan l is in
       ⊎_elim
-        (λ (here : w ≡ v).
-          let same : j ≡ k = same_some j k (sym is ∙ ap (choice_at chosen) here ∙ e) in
-          whole (usable j) (not (vehicle_at g j == v)) (j == k) (or_right (not (vehicle_at g j == v)) (j == k) (eq-eqb j k same)))
-        (λ (other : w ≡ v → ⊥).
-          let apart : (vehicle_at g j == v) ≡ false = ne_eqb (vehicle_at g j) v (λ (q : vehicle_at g j ≡ v). other (sym own.own ∙ q)) in
-          whole (usable j) (not (vehicle_at g j == v)) (j == k) (or_left (not (vehicle_at g j == v)) (j == k) (ap not apart)))
-        (cases_eq w v)
+      (λ (here : w ≡ v).
+      let same : j ≡ k = same_some j k (sym is ∙ ap (choice_at chosen) here ∙ e) in
+      whole (usable j) (not (vehicle_at g j == v)) (j == k) (or_right (not (vehicle_at g j == v)) (j == k) (eq-eqb j k same)))
+      (λ (other : w ≡ v → ⊥).
+      let apart : (vehicle_at g j == v) ≡ false = ne_eqb (vehicle_at g j) v (λ (q : vehicle_at g j ≡ v). other (sym own.own ∙ q)) in
+      whole (usable j) (not (vehicle_at g j == v)) (j == k) (or_left (not (vehicle_at g j == v)) (j == k) (ap not apart)))
+      (cases_eq w v)
     where
       whole : (a b d : Bool) → (b || d) ≡ true → (a && (b || d)) ≡ a
       whole true b d e = e
@@ -63,9 +63,9 @@ module _ (g : Graph) (usable : Usable) (chosen : List (Option ℕ)) (plan : IsPl
   without_same j e differs w l (Some i) is =
       let own : IsRowOf g w i = plan_choice g chosen w i plan l is in
       let apart : (i == k) ≡ false =
-            ne_eqb i k (λ (q : i ≡ k).
-              let here : w ≡ v = sym own.own ∙ ap (vehicle_at g) q ∙ row.own in
-              differs (sym (same_some i j (sym is ∙ ap (choice_at chosen) here ∙ e)) ∙ q)) in
+      ne_eqb i k (λ (q : i ≡ k).
+      let here : w ≡ v = sym own.own ∙ ap (vehicle_at g) q ∙ row.own in
+      differs (sym (same_some i j (sym is ∙ ap (choice_at chosen) here ∙ e)) ∙ q)) in
       whole (usable i) (i == k) apart
     where
       whole : (a b : Bool) → b ≡ false → (a && not b) ≡ a
@@ -101,29 +101,29 @@ parts g usable v k chosen plan low can =
     let row = can.row.row in
     let w = has_choice g v k (choice_at chosen v) (plan.own v low) row in
     ⊎_elim
-      (λ (same : w.0 ≡ k).
-        let e : choice_at chosen v ≡ Some k = w.1 ∙ ap Some same in
-        let yes : all_below g.vehicles (λ v'. is_choice_usable (only_row g usable v k) (choice_at chosen v')) ≡ all_below g.vehicles (λ v'. is_choice_usable usable (choice_at chosen v')) =
-              all_below_same g.vehicles (λ v'. is_choice_usable (only_row g usable v k) (choice_at chosen v')) (λ v'. is_choice_usable usable (choice_at chosen v'))
-                (λ u l. only_same g usable chosen plan v k low row e u l (choice_at chosen u) refl) in
-        let no : all_below g.vehicles (λ v'. is_choice_usable (without_row usable k) (choice_at chosen v')) ≡ false =
-              all_below_fails g.vehicles (λ v'. is_choice_usable (without_row usable k) (choice_at chosen v')) v low
-                (ap (is_choice_usable (without_row usable k)) e ∙ without_fails g usable chosen plan v k low row) in
-        let a = ap flag yes in
-        let b : flag (all_below g.vehicles (λ v'. is_choice_usable (without_row usable k) (choice_at chosen v'))) ≡ 0 = flag-false _ no in
-        record { together = omega (arith, a, b) })
-      (λ (differs : w.0 ≡ k → ⊥).
-        let e : choice_at chosen v ≡ Some (w.0) = w.1 in
-        let yes : all_below g.vehicles (λ v'. is_choice_usable (without_row usable k) (choice_at chosen v')) ≡ all_below g.vehicles (λ v'. is_choice_usable usable (choice_at chosen v')) =
-              all_below_same g.vehicles (λ v'. is_choice_usable (without_row usable k) (choice_at chosen v')) (λ v'. is_choice_usable usable (choice_at chosen v'))
-                (λ u l. without_same g usable chosen plan v k low row (w.0) e differs u l (choice_at chosen u) refl) in
-        let no : all_below g.vehicles (λ v'. is_choice_usable (only_row g usable v k) (choice_at chosen v')) ≡ false =
-              all_below_fails g.vehicles (λ v'. is_choice_usable (only_row g usable v k) (choice_at chosen v')) v low
-                (ap (is_choice_usable (only_row g usable v k)) e ∙ only_fails g usable chosen plan v k low row (w.0) (w.2) differs) in
-        let a = ap flag yes in
-        let b : flag (all_below g.vehicles (λ v'. is_choice_usable (only_row g usable v k) (choice_at chosen v'))) ≡ 0 = flag-false _ no in
-        record { together = omega (arith, a, b) })
-      (cases_eq (w.0) k)
+    (λ (same : w.0 ≡ k).
+    let e : choice_at chosen v ≡ Some k = w.1 ∙ ap Some same in
+    let yes : all_below g.vehicles (λ v'. is_choice_usable (only_row g usable v k) (choice_at chosen v')) ≡ all_below g.vehicles (λ v'. is_choice_usable usable (choice_at chosen v')) =
+    all_below_same g.vehicles (λ v'. is_choice_usable (only_row g usable v k) (choice_at chosen v')) (λ v'. is_choice_usable usable (choice_at chosen v'))
+    (λ u l. only_same g usable chosen plan v k low row e u l (choice_at chosen u) refl) in
+    let no : all_below g.vehicles (λ v'. is_choice_usable (without_row usable k) (choice_at chosen v')) ≡ false =
+    all_below_fails g.vehicles (λ v'. is_choice_usable (without_row usable k) (choice_at chosen v')) v low
+    (ap (is_choice_usable (without_row usable k)) e ∙ without_fails g usable chosen plan v k low row) in
+    let a = ap flag yes in
+    let b : flag (all_below g.vehicles (λ v'. is_choice_usable (without_row usable k) (choice_at chosen v'))) ≡ 0 = flag-false _ no in
+    record { together = omega (arith, a, b) })
+    (λ (differs : w.0 ≡ k → ⊥).
+    let e : choice_at chosen v ≡ Some (w.0) = w.1 in
+    let yes : all_below g.vehicles (λ v'. is_choice_usable (without_row usable k) (choice_at chosen v')) ≡ all_below g.vehicles (λ v'. is_choice_usable usable (choice_at chosen v')) =
+    all_below_same g.vehicles (λ v'. is_choice_usable (without_row usable k) (choice_at chosen v')) (λ v'. is_choice_usable usable (choice_at chosen v'))
+    (λ u l. without_same g usable chosen plan v k low row (w.0) e differs u l (choice_at chosen u) refl) in
+    let no : all_below g.vehicles (λ v'. is_choice_usable (only_row g usable v k) (choice_at chosen v')) ≡ false =
+    all_below_fails g.vehicles (λ v'. is_choice_usable (only_row g usable v k) (choice_at chosen v')) v low
+    (ap (is_choice_usable (only_row g usable v k)) e ∙ only_fails g usable chosen plan v k low row (w.0) (w.2) differs) in
+    let a = ap flag yes in
+    let b : flag (all_below g.vehicles (λ v'. is_choice_usable (only_row g usable v k) (choice_at chosen v'))) ≡ 0 = flag-false _ no in
+    record { together = omega (arith, a, b) })
+    (cases_eq (w.0) k)
 
 -- the vehicle of a branch is one of the graph's
 branch_vehicle : (g : Graph) (usable : Usable) (v k : ℕ) → ((k : ℕ) → k < length g.rows → IsRow g.vehicles g.riders (row_at g k)) → CanBranch g usable v k → v < g.vehicles
@@ -184,7 +184,7 @@ clash_holds_none g usable chosen good lawful c within =
     let a_in : is_in g (choice_at chosen c.first) c.rider ≡ true = ap (λ (o : Option ℕ). is_in g o c.rider) (a.1 ∙ ap Some a_is) ∙ c.in_first in
     let b_in : is_in g (choice_at chosen c.second) c.rider ≡ true = ap (λ (o : Option ℕ). is_in g o c.rider) (b.1 ∙ ap Some b_is) ∙ c.in_second in
     let two : 2 ≤ count_below g.vehicles (λ v. is_in g (choice_at chosen v) c.rider) =
-          count_below_two g.vehicles (λ v. is_in g (choice_at chosen v) c.rider) c.first c.second first_low second_low c.differ a_in b_in in
+    count_below_two g.vehicles (λ v. is_in g (choice_at chosen v) c.rider) c.first c.second first_low second_low c.differ a_in b_in in
     let count = times_served_as_count g chosen g.vehicles c.rider in
     let once = lawful.once c.rider in
     omega (arith, two, count, once)
@@ -253,20 +253,20 @@ least_leaf_step g chosen good lawful (Leaf ms) u ps later some none =
     let ends = count-cons (belongs_to_end g chosen) (record { node = Leaf ms; usable = u }) ps in
     let dead = count-cons (belongs_to_dead_end g chosen) (record { node = Leaf ms; usable = u }) ps in
     ⊎_elim
-      (λ (yes : is_within g u chosen ≡ true).
-        let below : rounded_up (leaf_value g u ms) ≤ℤ pos (cost_of g chosen) = rounded_up_le (leaf_value g u ms) (cost_of g chosen) (leaf_value_le g u ms chosen good lawful yes) in
-        let right : lesser (least_leaf g ps) (rounded_up (leaf_value g u ms)) ≤ℤ rounded_up (leaf_value g u ms) = lesser-le_right (least_leaf g ps) (rounded_up (leaf_value g u ms)) in
-        let all : lesser (least_leaf g ps) (rounded_up (leaf_value g u ms)) ≤ℤ pos (cost_of g chosen) = omega (arith, ints) in
-        (lesser (least_leaf g ps) (rounded_up (leaf_value g u ms)), refl, all))
-      (λ (no : is_within g u chosen ≡ false).
-        let zero : flag (is_within g u chosen) ≡ 0 = flag-false _ no in
-        let w = later (omega (arith, ends, some, zero)) (omega (arith, dead, none)) in
-        let same : lesser (least_leaf g ps) (rounded_up (leaf_value g u ms)) ≡ lesser (Some (w.0)) (rounded_up (leaf_value g u ms)) = ap (λ (o : Option ℤ). lesser o (rounded_up (leaf_value g u ms))) (w.1) in
-        let left : lesser (Some (w.0)) (rounded_up (leaf_value g u ms)) ≤ℤ w.0 = lesser-le_left (w.0) (rounded_up (leaf_value g u ms)) in
-        let below : w.0 ≤ℤ pos (cost_of g chosen) = w.2 in
-        let all : lesser (least_leaf g ps) (rounded_up (leaf_value g u ms)) ≤ℤ pos (cost_of g chosen) = omega (arith, ints) in
-        (lesser (least_leaf g ps) (rounded_up (leaf_value g u ms)), refl, all))
-      (cases_Bool (is_within g u chosen))
+    (λ (yes : is_within g u chosen ≡ true).
+    let below : rounded_up (leaf_value g u ms) ≤ℤ pos (cost_of g chosen) = rounded_up_le (leaf_value g u ms) (cost_of g chosen) (leaf_value_le g u ms chosen good lawful yes) in
+    let right : lesser (least_leaf g ps) (rounded_up (leaf_value g u ms)) ≤ℤ rounded_up (leaf_value g u ms) = lesser-le_right (least_leaf g ps) (rounded_up (leaf_value g u ms)) in
+    let all : lesser (least_leaf g ps) (rounded_up (leaf_value g u ms)) ≤ℤ pos (cost_of g chosen) = omega (arith, ints) in
+    (lesser (least_leaf g ps) (rounded_up (leaf_value g u ms)), refl, all))
+    (λ (no : is_within g u chosen ≡ false).
+    let zero : flag (is_within g u chosen) ≡ 0 = flag-false _ no in
+    let w = later (omega (arith, ends, some, zero)) (omega (arith, dead, none)) in
+    let same : lesser (least_leaf g ps) (rounded_up (leaf_value g u ms)) ≡ lesser (Some (w.0)) (rounded_up (leaf_value g u ms)) = ap (λ (o : Option ℤ). lesser o (rounded_up (leaf_value g u ms))) (w.1) in
+    let left : lesser (Some (w.0)) (rounded_up (leaf_value g u ms)) ≤ℤ w.0 = lesser-le_left (w.0) (rounded_up (leaf_value g u ms)) in
+    let below : w.0 ≤ℤ pos (cost_of g chosen) = w.2 in
+    let all : lesser (least_leaf g ps) (rounded_up (leaf_value g u ms)) ≤ℤ pos (cost_of g chosen) = omega (arith, ints) in
+    (lesser (least_leaf g ps) (rounded_up (leaf_value g u ms)), refl, all))
+    (cases_Bool (is_within g u chosen))
 least_leaf_step g chosen good lawful Dead u ps later some none =
     let ends = count-cons (belongs_to_end g chosen) (record { node = Dead; usable = u }) ps in
     let dead = count-cons (belongs_to_dead_end g chosen) (record { node = Dead; usable = u }) ps in

@@ -82,8 +82,8 @@ pub record IsRow (vehicles riders : ℕ) (row : TripRow) : Type 0 where
 abbrev pub row_cmp : TripRow → TripRow → Ordering
 row_cmp a b =
     ordering_then (nat_cmp a.vehicle b.vehicle)
-      (ordering_then (nat_cmp (length a.riders.items) (length b.riders.items))
-        (slice_cmp nat_cmp a.riders.items b.riders.items))
+    (ordering_then (nat_cmp (length a.riders.items) (length b.riders.items))
+    (slice_cmp nat_cmp a.riders.items b.riders.items))
 
 -- the row of this number is above the one before it
 abbrev pub IsInOrder : Graph → ℕ → Type 0
@@ -93,7 +93,7 @@ IsInOrder g k = row_cmp (row_at g k) (row_at g (suc k)) ≡ Less
 abbrev pub HoldsRightly : Graph → ℕ → Type 0
 HoldsRightly g v =
     MatchOption (slice_index_or g.held v None) (HasNoRow g v)
-      (λ k. IsRowOf g v k × ((r : ℕ) → IsTrue (has_rider g k r) → times_served g g.held v r ≡ 0))
+    (λ k. IsRowOf g v k × ((r : ℕ) → IsTrue (has_rider g k r) → times_served g g.held v r ≡ 0))
 
 -- how large a graph may be
 pub record IsWithinLimits (g : Graph) : Type 0 where

@@ -1,4 +1,4 @@
-use Rattle.std.specs.Prelude.{◌≡◌, ◌==◌, ◌&&◌, ℕ, zero, suc, ◌+◌, ◌*◌, Bool, List, [], ◌∷◌, ◌++◌, length, slice_index_or, Option, unwrap_or, if◌then◌else◌, ℤ, pos, ◌+ℤ◌, ◌-ℤ◌, ◌*ℤ◌}
+use Rattle.std.specs.Prelude.{◌≡◌, ◌==◌, ◌&&◌, ℕ, zero, suc, ◌+◌, ◌*◌, Bool, false, List, [], ◌∷◌, ◌++◌, length, slice_index_or, Option, unwrap_or, if◌then◌else◌, ℤ, pos, ◌+ℤ◌, ◌-ℤ◌, ◌*ℤ◌}
 use Rattle.std.specs.Int.{int_min}
 use Rattle.plan_rules.specs.Sums.{int_sum_below, least_below, lesser}
 use Rattle.plan_rules.specs.Graph.{Graph, vehicle_at, riders_at, cost_at, has_rider, must_be_served}
@@ -6,6 +6,10 @@ use Rattle.plan_rules.specs.Graph.{Graph, vehicle_at, riders_at, cost_at, has_ri
 -- which rows may be chosen
 abbrev pub Usable : Type 0
 Usable = ℕ → Bool
+
+-- the rows that are marked
+abbrev pub usable_of : List Bool → Usable
+usable_of marks = λ k. slice_index_or marks k false
 
 -- the rider's multiplier, in 1/1024 second; 0 where there is none
 abbrev pub multiplier_at : List ℤ → ℕ → ℤ

@@ -77,7 +77,10 @@ fn has_choice_rider(graph: &TripGraph, choice: Option<u32>, rider: usize) -> boo
 {
     match choice {
         None => false,
-        Some(row) => graph.rows()[row as usize].riders.as_slice().contains(&rider),
+        Some(row) => graph.rows()[row as usize]
+            .riders
+            .as_slice()
+            .contains(&rider),
     }
 }
 

@@ -1,4 +1,4 @@
-use crate::{cost_of, greedy, held_plan, is_lawful, GraphFault, Plan, TripGraph, TripRow};
+use crate::{GraphFault, Plan, TripGraph, TripRow, cost_of, greedy, held_plan, is_lawful};
 use arrayvec::ArrayVec;
 use std::alloc::{AllocError, Global};
 use std::test::Fail;
@@ -32,12 +32,27 @@ fn graph(
 
 /// Three vehicles, each with an empty row and a pair; each two pairs share a rider.
 fn three_pairs(alloc: Global) -> Result<Vec<TripRow>, AllocError> {
-    Ok(vec![in alloc; row(0, &[], 0), row(0, &[0, 1], 10), row(1, &[], 0), row(1, &[1, 2], 10), row(2, &[], 0), row(2, &[0, 2], 10)]?)
+    Ok(vec![in alloc;
+        row(0, &[], 0),
+        row(0, &[0, 1], 10),
+        row(1, &[], 0),
+        row(1, &[1, 2], 10),
+        row(2, &[], 0),
+        row(2, &[0, 2], 10),
+    ]?)
 }
 
 /// A vehicle that holds rider 0, and one that could fetch rider 2.
 fn one_held(alloc: Global) -> Result<Vec<TripRow>, AllocError> {
-    Ok(vec![in alloc; row(0, &[], 0), row(0, &[0], 60), row(0, &[1], 60), row(0, &[2], 60), row(0, &[1, 2], 120), row(1, &[], 0), row(1, &[2], 10)]?)
+    Ok(vec![in alloc;
+        row(0, &[], 0),
+        row(0, &[0], 60),
+        row(0, &[1], 60),
+        row(0, &[2], 60),
+        row(0, &[1, 2], 120),
+        row(1, &[], 0),
+        row(1, &[2], 10),
+    ]?)
 }
 
 #[test]
@@ -76,8 +91,8 @@ fn greedy_leaves_a_held_rider_out(rt: HostRuntime) -> Result<(), Fail> {
     Ok(())
 }
 
-fn refusal(result: Result<TripGraph, GraphFault>) -> Option<GraphFault> {
-    match result {
+fn refusal(outcome: Result<TripGraph, GraphFault>) -> Option<GraphFault> {
+    match outcome {
         Ok(_) => None,
         Err(fault) => Some(fault),
     }
@@ -89,7 +104,12 @@ fn refusals_name_the_first(rt: HostRuntime) -> Result<(), Fail> {
     let rows = vec![in alloc; row(0, &[], 0), row(0, &[1, 0], 0), row(3, &[], 0)]?;
     let fault = refusal(graph(alloc, 3, 3, rows, Vec::new(alloc)));
     assert_eq!(rt; fault, Some(GraphFault::Range { row: 1 }));
-    let rows = vec![in alloc; row(0, &[], 0), row(0, &[1], 0), row(0, &[1], 0), row(0, &[0], 0)]?;
+    let rows = vec![in alloc;
+        row(0, &[], 0),
+        row(0, &[1], 0),
+        row(0, &[1], 0),
+        row(0, &[0], 0),
+    ]?;
     let fault = refusal(graph(alloc, 3, 3, rows, Vec::new(alloc)));
     assert_eq!(rt; fault, Some(GraphFault::Order { row: 2 }));
     let held = vec![in alloc; Some(1), Some(3), Some(5)]?;

@@ -14,7 +14,7 @@ take_rows-requires-clause-selection c =
     let chosen = c.deref_mut.ensures.value ∙ c.in_ok-chosen.ensures ∙ ap (λ (n : ℕ). replicate {A = Option ℕ} n None) c.vehicle_count.ensures.value in
     let served = c.deref_mut-2.ensures.value ∙ c.in_ok-served.ensures.items_if_clones_equal (λ y e. e) ∙ ap (λ (n : ℕ). replicate n false) c.rider_count.ensures.value in
     subst (λ (xs : List (Option ℕ)). IsSelection g xs c.deref_mut-2.result.now) (sym chosen)
-      (subst (λ (ys : List Bool). IsSelection g (replicate g.vehicles None) ys) (sym served) (selection_none g))
+    (subst (λ (ys : List Bool). IsSelection g (replicate g.vehicles None) ys) (sym served) (selection_none g))
 
 pub take_rows-requires-clause-none : goal.take_rows-requires-clause-none
 take_rows-requires-clause-none c = λ k taken.

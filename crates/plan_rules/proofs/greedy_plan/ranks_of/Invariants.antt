@@ -5,5 +5,5 @@ use Rattle.plan_rules.proofs.greedy_plan.ranks_of.Given as goal
 abbrev pub invariant-loop-k : goal.invariant-loop-k
 invariant-loop-k l = record {
   len : vec_len l.ranks ≡ l.k;
-  ranks : (j : ℕ) → j < l.k → get_or l.ranks.items j 0 ≡ rank_of l.graph j
+  ranks : (j : ℕ) → j < l.k → get_or l.ranks.items j 0 ≡ rank_of l.graph j;
 }

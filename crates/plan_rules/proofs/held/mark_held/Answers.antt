@@ -18,5 +18,5 @@ loop-vehicle-preserved c =
     let long : length c.mark_held_by.new.marks ≡ c.loop-vehicle.marks.len = omega (arith, marks.sized, old.sized, c.loop-vehicle.marks.ok.0) in
     record {
       marks = subst (MarksHeld g _) (sym (take_at c.mark_held_by.new.marks _ c.loop-vehicle.marks.len long)) marks;
-      holds = holds_more g c.loop-vehicle.vehicle c.loop-vehicle.invariant.holds held
+      holds = holds_more g c.loop-vehicle.vehicle c.loop-vehicle.invariant.holds held;
     }

@@ -6,5 +6,5 @@ use Rattle.plan_rules.proofs.held.mark_held.Given as goal
 abbrev pub invariant-loop-vehicle : goal.invariant-loop-vehicle
 invariant-loop-vehicle l = record {
   marks : MarksHeld (graph_of l.parts) l.vehicle l.marks.items;
-  holds : (v : ℕ) → v < l.vehicle → HoldsRightly (graph_of l.parts) v
+  holds : (v : ℕ) → v < l.vehicle → HoldsRightly (graph_of l.parts) v;
 }

@@ -8,5 +8,5 @@ invariant-loop-may l = (k : ℕ) → k < l.may-index → get_or l.usable k false
 abbrev pub invariant-loop-decision : goal.invariant-loop-decision
 invariant-loop-decision l = record {
   len : length l.usable ≡ length l.graph.rows;
-  usable : (k : ℕ) → k < length l.graph.rows → get_or l.usable k false ≡ (standing_of l.graph (take l.decision-index l.path)).usable k
+  usable : (k : ℕ) → k < length l.graph.rows → get_or l.usable k false ≡ (standing_of l.graph (take l.decision-index l.path)).usable k;
 }

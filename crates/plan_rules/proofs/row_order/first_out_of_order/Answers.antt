@@ -13,4 +13,4 @@ returns-then-ne-clause-found c =
     let b : c.index-in-loop-k.result.now ≡ row_at g k = row_read g g.rows k c.index-in-loop-k.result.now refl (omega arith) c.index-in-loop-k.ensures in
     let compared = c.compare_rows.ensures ∙ ap₂ row_cmp a b in
     first_unordered g k (omega arith) (omega arith) c.loop-k.invariant
-      (λ h. not_less_index c.compare_rows.result (sym c.ne.ensures ∙ c.if-ne.true) (compared ∙ h))
+    (λ h. not_less_index c.compare_rows.result (sym c.ne.ensures ∙ c.if-ne.true) (compared ∙ h))

@@ -12,6 +12,7 @@ returns-in-None c =
     let v = c.args.vehicle in
     let a = c.first_row-first.result in
     let b = c.first_row-end.result in
-    let own : Option ℕ → Type 0 = λ o. MatchOption o (HasNoRow g v) (IsRowOf g v) in
-    ( λ e. subst own (sym c.in-None.is) (no_row_between g v a c.first_row-first.ensures (subst (IsStartOf g _) (sym (eqb-true a b e)) c.first_row-end.ensures))
-    , λ none. eq-eqb a b (starts_meet g v a b c.first_row-first.ensures c.first_row-end.ensures (subst own c.in-None.is none)) )
+    let own : Option ℕ → Type 0 = λ o. MatchOption o (HasNoRow g v) (IsRowOf g v) in (
+      λ e. subst own (sym c.in-None.is) (no_row_between g v a c.first_row-first.ensures (subst (IsStartOf g _) (sym (eqb-true a b e)) c.first_row-end.ensures)),
+      λ none. eq-eqb a b (starts_meet g v a b c.first_row-first.ensures c.first_row-end.ensures (subst own c.in-None.is none)),
+    )
