@@ -1,14 +1,12 @@
 -- The calls of a lane in a log that grows by one entry.
 use Rattle.std.proofs.Common.{◌≡◌, ◌≢◌, ℕ, zero, suc, ◌+◌, ◌<◌, ◌≤◌, ◌==◌, if◌then◌else◌, cond, true, false, List, [], ◌∷◌, ◌++◌, length, filter, sym, refl, ap, ◌∙◌, subst, arith, eq-eqb, ne_eqb, append-nil}
-use mathlib.Core.Logic.{dite}
-use native.Mathlib.Decide.{ℕ_discrete}
 use Rattle.std.specs.List.{enumerate_from}
 use Rattle.std.proofs.lemmas.List.Elements.{filter-append}
 use Rattle.seat_lock.specs.declared.logged.Entry.{Entry}
 use Rattle.seat_lock.specs.declared.view.Claim.{Claim}
 use Rattle.seat_lock.specs.Values.{calls_of}
 use Rattle.seat_lock.specs.Rule.{Claimed, Laned, lane_weight}
-use Rattle.seat_lock.proofs.Totals.{at, at-same, at-other}
+use Rattle.seat_lock.proofs.Totals.{at, at-same}
 
 module _ {C R : Type 0} where
   pub enumerate-push : (n : ℕ) (es : List (Entry C R)) (e : Entry C R) → enumerate_from n (es ++ e ∷ []) ≡ enumerate_from n es ++ (n + length es, e) ∷ []

@@ -1,8 +1,8 @@
 -- Each move keeps the lock's rule.
-use Rattle.std.proofs.Common.{◌≡◌, ◌≢◌, ℕ, zero, suc, ◌+◌, ◌%◌, ◌^◌, ◌<◌, ◌≤◌, ◌⊎◌, List, [], ◌∷◌, ◌++◌, length, drop, set, get_or, Option, Some, None, sym, refl, ap, ◌∙◌, subst, inl, inr, ⊎_elim, arith, le_refl, add-one, append-nil, length-append, mod-eq_of_lt}
+use Rattle.std.proofs.Common.{◌≡◌, ◌≢◌, ℕ, zero, suc, ◌+◌, ◌%◌, ◌^◌, ◌<◌, ◌≤◌, ◌⊎◌, List, [], ◌∷◌, ◌++◌, length, drop, set, get_or, Option, Some, sym, refl, ap, ◌∙◌, subst, inl, inr, ⊎_elim, arith, le_refl, append-nil, length-append, mod-eq_of_lt}
 use Rattle.std.proofs.Math.Nat.{mod-add-mod}
 use Rattle.std.proofs.Math.Seq.{drop-append_seam}
-use Rattle.std.proofs.lemmas.List.{set-get_or, append_cancel_left}
+use Rattle.std.proofs.lemmas.List.{set-get_or}
 use mathlib.Core.Option as maybe
 use mathlib.Core.Option.{some, none, some-injective, some-ne-none}
 use mathlib.Core.List.{append_assoc}
@@ -17,12 +17,12 @@ use Rattle.seat_lock.specs.declared.view.Claim.{Claim}
 use Rattle.seat_lock.specs.declared.view.Stage.{Stage}
 use Rattle.seat_lock.specs.declared.view.Stage.TheVariants.{Idle, Waiting, InTurn}
 use Rattle.seat_lock.specs.Values.{calls_of}
-use Rattle.seat_lock.specs.Views.{claim, fresh_claims, first_claim, other_claims, with_stage, with_claims, in_turn, lane_view, first_view, spent_view, lane_given, lanes_kept, lanes_joined}
+use Rattle.seat_lock.specs.Views.{fresh_claims, first_claim, other_claims, with_stage, in_turn, lane_view, first_view, spent_view, lane_given, lanes_kept, lanes_joined}
 use Rattle.seat_lock.specs.Rule.{total, below, ticket_weight, lane_weight, IsInTurn, Claimed, Laned, Knows, Agrees, Sound, IsHome, IsOut, Kept}
-use Rattle.seat_lock.specs.Moves.{since, held, drew, TakesTurn, LooksAt, looked, NotesAt, noted, gave_way}
+use Rattle.seat_lock.specs.Moves.{since, drew, LooksAt, looked, noted, gave_way}
 use Rattle.seat_lock.specs.Passes.{IsClosed}
 use Rattle.seat_lock.specs.Turns.{CanNote, CanServe}
-use Rattle.seat_lock.proofs.Totals.{total-set, total-append, term-le, terms-le, total-le, total-ext, at, at-same, at-other, below-past, below-hit, below-most, below-count, lane_weight-count, lane_weight-append, lane_weight-cut, length-fresh, fresh-most, fresh-within}
+use Rattle.seat_lock.proofs.Totals.{total-set, total-append, term-le, terms-le, total-le, total-ext, at, at-same, below-past, below-hit, below-most, below-count, lane_weight-count, lane_weight-append, lane_weight-cut, length-fresh, fresh-most, fresh-within}
 use Rattle.seat_lock.proofs.Calls.{Claimed-push, Claimed-append, Laned-push}
 
 module _ {A : Type 0} where
@@ -179,21 +179,22 @@ module _ {B C R Root : Type 0} (root : B → Root) (log : B → List (Entry C R)
       (λ hit. let same : r.served ≡ x = one_turn r.served x (2 ^ 64) range.0 (omega (arith, range.1, near)) (sym hit) in
       ⊎_elim
       (λ (h : IsHome root log spare start r.entries s.homes s.views).
-          let w : V = in_turn x r.entries (length r.entries) v in (
-            w,
-            takes 0 (Some h.value),
-            ap (λ (hs : Homes). get_elem? hs 0) h.lies,
-            comes slots id me s r x st claims empty (sym same) here h,
-            subst (LooksAt root log spare me (get_or s.words 1 0) (w, (0, Some h.value) ∷ me.1)) (sym st)
-                ((λ _. record { start = start; value = h.value; entries = r.entries; opened = fit.opened claims; sound = h.sound; short = r.short; behind = fit.behind; claimed = fit.claimed; now = ap (λ (c : List (ℕ × Option B)). (w, (0, Some h.value) ∷ c)) empty }),
-                λ miss. absurd (miss (hit ∙ sym n_is))),
-          ))
+      let w : V = in_turn x r.entries (length r.entries) v in (
+        w,
+        takes 0 (Some h.value),
+        ap (λ (hs : Homes). get_elem? hs 0) h.lies,
+        comes slots id me s r x st claims empty (sym same) here h,
+        subst (LooksAt root log spare me (get_or s.words 1 0) (w, (0, Some h.value) ∷ me.1)) (sym st) (
+          (λ _. record { start = start; value = h.value; entries = r.entries; opened = fit.opened claims; sound = h.sound; short = r.short; behind = fit.behind; claimed = fit.claimed; now = ap (λ (c : List (ℕ × Option B)). (w, (0, Some h.value) ∷ c)) empty }),
+          λ miss. absurd (miss (hit ∙ sym n_is)),
+        ),
+      ))
       (λ (h : IsOut s.homes s.views).
-          let other = r.each_view h.who h.view h.at in
-          let theirs : ticket_weight (at r.served) h.view.stage ≡ 1 = in_turn_weight r.served r.entries h.view.stage h.turn other.knows in
-          let ours : ticket_weight (at r.served) v.stage ≡ 1 = subst (λ (k : ℕ). ticket_weight (at k) v.stage ≡ 1) (sym same) mine in
-          let me_too = one_ticket s r h.who id h.view v r.served h.at here theirs ours in
-          absurd (waiting_out v.stage x st (subst (λ (u : V). IsInTurn u.stage) (same_at s.views id h.view v (subst (λ (k : ℕ). get_elem? s.views k ≡ some h.view) me_too h.at) here) h.turn)))
+      let other = r.each_view h.who h.view h.at in
+      let theirs : ticket_weight (at r.served) h.view.stage ≡ 1 = in_turn_weight r.served r.entries h.view.stage h.turn other.knows in
+      let ours : ticket_weight (at r.served) v.stage ≡ 1 = subst (λ (k : ℕ). ticket_weight (at k) v.stage ≡ 1) (sym same) mine in
+      let me_too = one_ticket s r h.who id h.view v r.served h.at here theirs ours in
+      absurd (waiting_out v.stage x st (subst (λ (u : V). IsInTurn u.stage) (same_at s.views id h.view v (subst (λ (k : ℕ). get_elem? s.views k ≡ some h.view) me_too h.at) here) h.turn)))
       r.slot)
       (λ miss. (
         v,
@@ -263,8 +264,7 @@ module _ {B C R Root : Type 0} (root : B → Root) (log : B → List (Entry C R)
       let whole : log b ≡ log a ++ (es ++ e ∷ []) = grown ∙ append_assoc (log a) es (e ∷ []) in
       let more : now ≡ es ++ e ∷ [] = since-is a b (es ++ e ∷ []) whole in
       let long = ap length whole ∙ length-append (log a) (es ++ e ∷ []) in
-      let within : length now ≤ length (log b) = omega (arith, long, ap length more) in
-      (
+      let within : length now ≤ length (log b) = omega (arith, long, ap length more) in (
         lane_view a l (calls_of l now) (length now) (InTurn x now),
         keeps,
         tt,
@@ -282,8 +282,7 @@ module _ {B C R Root : Type 0} (root : B → Root) (log : B → List (Entry C R)
       let known : es ≡ r.entries = fit.knows.1 in
       let same : x ≡ r.served = fit.knows.0 in
       let mine : ticket_weight (at r.served) v.stage ≡ 1 = at-same r.served x same in
-      let out = others_out s r id v here mine in
-      (
+      let out = others_out s r id v here mine in (
         w,
         gives,
         tt,
@@ -433,16 +432,16 @@ module _ {B C R Root : Type 0} (root : B → Root) (log : B → List (Entry C R)
       ⊎_elim
       (λ (h : IsHome root log spare start r.entries s.homes s.views). record { value = h.value; lies = values 0 (Some h.value) (ap (λ (hs : Homes). get_elem? hs 0) h.lies); entries = r.entries; sound = h.sound; claimed = (r.each_view id v here).claimed; laned = r.laned })
       (λ (h : IsOut s.homes s.views).
-          let fit = r.each_view h.who h.view h.at in
-          let apart : id ≢ h.who = λ same. idle_out v.stage idle (subst (λ (u : V). IsInTurn u.stage) (same_at s.views id h.view v (subst (λ (k : ℕ). get_elem? s.views k ≡ some h.view) (sym same) h.at) here) h.turn) in
-          let two = terms-le (λ (u : V). lane_weight (λ _. 1) u.claims) s.views id h.who v h.view apart here h.at in
-          let all = r.lanes_out (λ _. 1) in
-          let mine = lane_weight-count v.claims in
-          let theirs = lane_weight-count h.view.claims in
-          let fresh = lane_weight-count (fresh_claims {C = C} {R = R} 0 lanes) in
-          let long = length-fresh C R 0 lanes in
-          let one = in_turn_one h.view.stage h.turn in
-          absurd (omega (arith, two, all, mine, theirs, fresh, long, one, fit.queued, every)))
+      let fit = r.each_view h.who h.view h.at in
+      let apart : id ≢ h.who = λ same. idle_out v.stage idle (subst (λ (u : V). IsInTurn u.stage) (same_at s.views id h.view v (subst (λ (k : ℕ). get_elem? s.views k ≡ some h.view) (sym same) h.at) here) h.turn) in
+      let two = terms-le (λ (u : V). lane_weight (λ _. 1) u.claims) s.views id h.who v h.view apart here h.at in
+      let all = r.lanes_out (λ _. 1) in
+      let mine = lane_weight-count v.claims in
+      let theirs = lane_weight-count h.view.claims in
+      let fresh = lane_weight-count (fresh_claims {C = C} {R = R} 0 lanes) in
+      let long = length-fresh C R 0 lanes in
+      let one = in_turn_one h.view.stage h.turn in
+      absurd (omega (arith, two, all, mine, theirs, fresh, long, one, fit.queued, every)))
       r.slot
     where
       in_turn_one : (st : Stage C R) → IsInTurn st → ticket_weight (λ _. 1) st ≡ 1

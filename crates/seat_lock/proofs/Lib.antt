@@ -3,3 +3,4 @@ pub mod Calls
 pub mod Keeps
 pub mod Handing
 pub mod Turning
+pub mod Positions

@@ -8,7 +8,6 @@ use Rattle.seat_lock.specs.declared.view.View.{View}
 use Rattle.seat_lock.specs.declared.view.Stage.TheVariants.{Idle, Waiting, InTurn}
 use Rattle.seat_lock.specs.Values.{calls_of}
 use Rattle.seat_lock.specs.Views.{claim, calls_in, with_stage, in_turn, lane_view}
-use Rattle.seat_lock.specs.Rule.{Claimed}
 use Rattle.seat_lock.specs.Moves.{since, held, NotesAt}
 use Rattle.seat_lock.proofs.Calls.{calls-own}
 

@@ -4,3 +4,4 @@ pub mod Rule
 pub mod Moves
 pub mod Turns
 pub mod Passes
+pub mod Counted

@@ -1,5 +1,5 @@
 -- What each step at the lock's table tells its seat: of the step, the view and the slots held before, the number found, and the view and the slots after.
-use Rattle.std.specs.Prelude.{◌≡◌, ◌≢◌, ℕ, ◌+◌, ◌%◌, ◌^◌, ◌<◌, ◌≤◌, List, [], ◌∷◌, ◌++◌, length, drop, Option, Some, None}
+use Rattle.std.specs.Prelude.{◌≡◌, ◌≢◌, ℕ, ◌%◌, ◌^◌, ◌<◌, ◌≤◌, List, [], ◌∷◌, length, drop, Option, Some, None}
 use Rattle.atomic_table.specs.Table.{Me, Step, rest}
 use Rattle.seat_lock.specs.declared.logged.Entry.{Entry}
 use Rattle.seat_lock.specs.declared.view.View.{View}

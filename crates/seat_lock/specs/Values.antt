@@ -1,5 +1,5 @@
 -- What contracts see of a lock and of its passes.
-use Rattle.std.specs.Prelude.{◌≡◌, ℕ, ◌+◌, ◌<◌, ◌==◌, List, [], ◌++◌, length, Option, Some, All, filter, slice_index_or}
+use Rattle.std.specs.Prelude.{◌≡◌, ℕ, ◌<◌, ◌==◌, List, [], ◌++◌, length, Option, Some, All, filter, slice_index_or, sum_by, count_by, nat_lt, if◌then◌else◌}
 use Rattle.std.specs.List.{enumerate_from}
 use Rattle.atomic_table.specs.Seated.{TableId}
 use Rattle.seat_lock.specs.declared.logged.Entry.{Entry}
@@ -40,9 +40,11 @@ module _ {B C R : Type 0} where
     pub own : All (IsPassOf lock) passes
     pub lanes : (k : ℕ) (d : PassValue B C R) → k < length passes → (slice_index_or passes k d).lane ≡ k
 
-  -- what a log has gained is the calls of these passes: cut to each lane, it is that pass's calls at their positions, and each entry is of one of the lanes
+  -- what a log has gained is the calls of these passes: cut to each lane, it is that pass's calls with their replies, at their positions.
+  -- Each entry is of one of the lanes, and each number below the length is the position of one call
   pub record GainsCalls (before after : List (Entry C R)) (passes : List (PassValue B C R)) : Type 0 where
     pub since : List (Entry C R)
     pub gained : after ≡ before ++ since
     pub cut : (k : ℕ) (d : PassValue B C R) → k < length passes → (slice_index_or passes k d).calls ≡ calls_of k since
     pub lanes : All (λ e. e.lane < length passes) since
+    pub once : (n : ℕ) → sum_by (λ p. count_by (λ c. c.0 == n) p.calls) passes ≡ (if nat_lt n (length since) then 1 else 0)

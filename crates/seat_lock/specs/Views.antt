@@ -5,7 +5,7 @@ use Rattle.seat_lock.specs.declared.logged.Entry.{Entry}
 use Rattle.seat_lock.specs.declared.view.View.{View}
 use Rattle.seat_lock.specs.declared.view.Claim.{Claim}
 use Rattle.seat_lock.specs.declared.view.Stage.{Stage}
-use Rattle.seat_lock.specs.declared.view.Stage.TheVariants.{Idle, Waiting, InTurn}
+use Rattle.seat_lock.specs.declared.view.Stage.TheVariants.{Idle, InTurn}
 use Rattle.seat_lock.specs.Values.{PassValue}
 
 module _ {C R : Type 0} where

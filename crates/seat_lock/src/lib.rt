@@ -5,15 +5,19 @@
 //! just those calls of all passes. That a waiting call returns, and which lane comes first, is not said.
 #![tactic(auto)]
 
+mod counter;
 mod hand_out;
 mod lock;
 mod logged;
 mod moves;
 mod pass;
 mod steps;
+#[cfg(test)]
+mod tests;
 mod turn;
 mod view;
 
+pub use counter::{Addition, Counter};
 pub use lock::{Refused, SeatLock, Unfinished};
 pub use logged::{Entry, Logged};
 pub use pass::Pass;

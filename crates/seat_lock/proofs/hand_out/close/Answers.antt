@@ -1,5 +1,4 @@
-use Rattle.std.proofs.Common.{◌≡◌, Some, None, Option}
-use Rattle.seat_lock.proofs.Keeps.{Closes, ends, closes}
+use Rattle.seat_lock.proofs.Keeps.{ends, closes}
 use Rattle.seat_lock.proofs.hand_out.close.Goals as goal
 
 pub unreachable-requires : goal.unreachable-requires
