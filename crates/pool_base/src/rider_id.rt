@@ -40,3 +40,10 @@ impl RiderId {
         self.number
     }
 }
+
+/// Rider 0.
+impl Default for RiderId {
+    fn default() -> Self {
+        RiderId { number: 0 }
+    }
+}
