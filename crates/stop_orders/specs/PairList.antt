@@ -1,8 +1,8 @@
-use Rattle.std.specs.Prelude.{◌≡◌, ℕ, ◌+◌, ◌<◌, ◌⊎◌, All, List, length, slice_index_or}
+use Rattle.std.specs.Prelude.{◌≡◌, ℕ, ◌+◌, ◌<◌, ◌≤◌, All, List, length, slice_index_or}
 
--- one pair comes before another: by its first number, then by its second
+-- one pair comes before another: its first number is no greater, and where they are equal its second is less
 abbrev pub IsBefore : ℕ × ℕ → ℕ × ℕ → Type 0
-IsBefore p q = (p.0 < q.0) ⊎ ((p.0 ≡ q.0) × (p.1 < q.1))
+IsBefore p q = (p.0 ≤ q.0) × (p.0 ≡ q.0 → p.1 < q.1)
 
 -- the pairs rise, each once, and the first number of each is below its second
 pub record ArePairs (pairs : List (ℕ × ℕ)) : Type 0 where
