@@ -1,1 +1,4 @@
 pub mod TravelTimeLemmas
+pub mod TableLemmas
+pub mod FaultLemmas
+pub mod NumberLemmas
