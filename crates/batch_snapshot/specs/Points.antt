@@ -1,4 +1,4 @@
-use Rattle.std.specs.Prelude.{◌≡◌, ℕ, List, ◌++◌, ◌∷◌, [], ◌↔◌}
+use Rattle.std.specs.Prelude.{ℕ, List, ◌++◌, ◌∷◌, [], ◌↔◌}
 use Rattle.std.specs.List.{Contains, flat_map}
 use Rattle.std.specs.List.Sorted.{IsStrictlyIncreasing}
 use Rattle.batch_snapshot.specs.declared.rider.Rider.{Rider}

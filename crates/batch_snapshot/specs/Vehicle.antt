@@ -1,4 +1,4 @@
-use Rattle.std.specs.Prelude.{◌≡◌, ℕ, ◌≤◌, List, [], map}
+use Rattle.std.specs.Prelude.{◌≡◌, ℕ, ◌≤◌, List, []}
 use Rattle.std.specs.List.{sum_by}
 use Rattle.batch_snapshot.specs.declared.passenger.Passenger.{Passenger}
 use Rattle.batch_snapshot.specs.declared.vehicle.Vehicle.{Vehicle}

@@ -37,8 +37,8 @@ impl Snapshot {
 
     /// An equal snapshot.
     pub fn copy(&self, alloc: Global) -> Result<Snapshot, OutOfMemory>
-        ensures copy { IfOk result (λ copy. copy ≡ self.now) }
-        ensures kept { IsKept self.now }
+        ensures copy { IfOk result (λ copy. copy ≡ self.entry.now) }
+        ensures kept { IsKept self.entry.now }
     {
         Ok(Snapshot {
             batch: self.batch,
@@ -51,13 +51,18 @@ impl Snapshot {
 
     /// Whether the two tell the same.
     pub fn same(&self, other: &Snapshot) -> bool
-        ensures { IsTrue result ↔ (self.now ≡ other.now) }
+        ensures { IsTrue result ↔ (self.entry.now ≡ other.entry.now) }
     {
-        self.batch == other.batch
-            && self.now == other.now
-            && same_vehicles(self.vehicles.as_slice(), other.vehicles.as_slice())
-            && same_riders(self.riders.as_slice(), other.riders.as_slice())
-            && self.expired.as_slice() == other.expired.as_slice()
+        if self.batch != other.batch || self.now != other.now {
+            return false;
+        }
+        if !same_vehicles(self.vehicles.as_slice(), other.vehicles.as_slice()) {
+            return false;
+        }
+        if !same_riders(self.riders.as_slice(), other.riders.as_slice()) {
+            return false;
+        }
+        self.expired.as_slice() == other.expired.as_slice()
     }
 }
 
