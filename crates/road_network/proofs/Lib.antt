@@ -1,0 +1,7 @@
+pub mod Places
+pub mod Stored
+pub mod Numbering
+pub mod Refusals
+pub mod Names
+pub mod Sorted
+pub mod RowSteps
