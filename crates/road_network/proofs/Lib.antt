@@ -5,3 +5,4 @@ pub mod Refusals
 pub mod Names
 pub mod Sorted
 pub mod RowSteps
+pub mod HopLemmas

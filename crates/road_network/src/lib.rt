@@ -11,6 +11,7 @@ mod network;
 mod reading;
 mod storage;
 
+pub use arc::Arc;
 pub use fault::NetworkFault;
 pub use hop::Hop;
 pub use network::Network;
