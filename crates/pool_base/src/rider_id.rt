@@ -40,3 +40,11 @@ impl RiderId {
         self.number
     }
 }
+
+impl Default for RiderId {
+    ghost is_default = { λ id. id ≡ 0 };
+
+    fn default() -> Self {
+        RiderId { number: 0 }
+    }
+}
