@@ -1,1 +1,5 @@
 pub mod TravelTimeLemmas
+pub mod TableLemmas
+pub mod FaultLemmas
+pub mod NumberLemmas
+pub mod NumeralLemmas

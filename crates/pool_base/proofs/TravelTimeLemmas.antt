@@ -30,3 +30,9 @@ pub cell_of-read : (n : ℕ) (cells : List ℕ) (a b x : ℕ) → IsTable n cell
 cell_of-read n cells a b x table ha hb read =
     let place : a * n + b < length cells = rw table.square (cell_place_within n a b ha hb) in
     read ∙ get_or_default cells (a * n + b) x never place ∙ sym (cell_of-within n cells a b ha hb)
+
+-- the same, of cells that are known only to be square, read with 0 past their end
+pub cell_of-place : (n : ℕ) (cells : List ℕ) (a b : ℕ) → length cells ≡ n * n → a < n → b < n → slice_index_or cells (a * n + b) 0 ≡ cell_of n cells a b
+cell_of-place n cells a b square ha hb =
+    let place : a * n + b < length cells = rw square (cell_place_within n a b ha hb) in
+    get_or_default cells (a * n + b) 0 never place ∙ sym (cell_of-within n cells a b ha hb)

@@ -1,4 +1,4 @@
-use Rattle.std.specs.Prelude.{ℕ, ◌+◌, ◌-◌, ◌*◌, ◌<◌, ◌≤◌, List, [], ◌∷◌, length, slice_index}
+use Rattle.std.specs.Prelude.{◌≡◌, ◌≢◌, ℕ, ◌+◌, ◌-◌, ◌*◌, ◌<◌, ◌≤◌, List, [], ◌∷◌, length, slice_index}
 
 -- the character is one of `0` to `9`
 abbrev pub IsDigit : ℕ → Type 0
@@ -22,3 +22,9 @@ pub record IsFirstNoDigit (text : List ℕ) (place : ℕ) : Type 0 where
   pub within : place < length text
   pub other : IsDigit (slice_index text place) → ⊥
   pub before : (k : ℕ) → k < place → IsDigit (slice_index text k)
+
+-- a text of digits, at least one, that has the number's value
+pub record IsNumeralOf (n : ℕ) (text : List ℕ) : Type 0 where
+  pub some : text ≢ []
+  pub digits : AllDigits text
+  pub value : value_of text ≡ n

@@ -7,22 +7,30 @@
 
 mod memory;
 mod node_id;
-// mod number;
+mod number;
+mod numeral;
 mod party;
 mod rider_id;
 mod second;
+mod sequence;
 mod steps;
 mod times;
+mod times_check;
 mod vehicle_id;
 mod which;
 
 pub use memory::OutOfMemory;
 pub use node_id::NodeId;
-// pub use number::{put_number, put_signed, read_number, NumberFault};
+pub use number::{NumberFault, number_reads_back, put_number, put_signed, read_number};
+pub use numeral::read_number_up_to;
 pub use party::Party;
 pub use rider_id::RiderId;
 pub use second::Second;
+pub use sequence::Sequence;
 pub use steps::Steps;
 pub use times::{Times, TimesFault};
 pub use vehicle_id::VehicleId;
 pub use which::Which;
+
+#[cfg(test)]
+mod tests;

@@ -40,3 +40,11 @@ impl NodeId {
         self.number
     }
 }
+
+impl Default for NodeId {
+    ghost is_default = { λ id. id ≡ 0 };
+
+    fn default() -> Self {
+        NodeId { number: 0 }
+    }
+}

@@ -43,3 +43,12 @@ impl Party {
         self.persons
     }
 }
+
+/// One person.
+impl Default for Party {
+    ghost is_default = { λ party. party ≡ 1 };
+
+    fn default() -> Self {
+        Party::ONE
+    }
+}

@@ -41,8 +41,9 @@ impl RiderId {
     }
 }
 
-/// Rider 0.
 impl Default for RiderId {
+    ghost is_default = { λ id. id ≡ 0 };
+
     fn default() -> Self {
         RiderId { number: 0 }
     }

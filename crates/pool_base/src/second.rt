@@ -40,3 +40,11 @@ impl Second {
         self.number
     }
 }
+
+impl Default for Second {
+    ghost is_default = { λ id. id ≡ 0 };
+
+    fn default() -> Self {
+        Second { number: 0 }
+    }
+}

@@ -1,6 +1,8 @@
 ghost use Rattle.std.specs.Prelude.{◌≡◌, ◌==◌, ◌<◌, ◌≤◌, ℕ, MatchOption};
 ghost use Rattle.pool_base.specs.TravelTime.{never, longest, IsTable};
 
+use crate::times_check::check;
+
 /// A square table of shortest seconds between places, row by row, flat.
 ///
 /// The type keeps that the diagonal is zero, that no detour is shorter, and that no number is above
@@ -26,7 +28,11 @@ pub enum TimesFault {
 }
 
 impl Times {
+    ghost use Rattle.std.specs.Prelude.{◌↔◌, IsOk, IfOk};
+    ghost use Rattle.std.specs.Result.{IsErrOf};
     ghost use Rattle.pool_base.specs.Times.{point_count, travel_time};
+    ghost use Rattle.pool_base.specs.declared.times.TimesFault.{TimesFault};
+    ghost use Rattle.pool_base.specs.TimesFault.{IsFirstFault};
 
     /// The cell that stands for "cannot be reached".
     pub const NEVER: u32 = u32::MAX;
@@ -38,6 +44,19 @@ impl Times {
         ensures cells { result.cells ≡ cells }
     {
         Times { points, cells }
+    }
+
+    /// A table of these cells, row by row, or the first thing that is wrong with them. It looks at
+    /// every three places.
+    pub fn checked(points: usize, cells: Vec<u32>) -> Result<Times, TimesFault>
+        ensures accepts { IsOk result ↔ IsTable points cells.items }
+        ensures kept { IfOk result (λ t. (point_count t ≡ points) × (t.cells ≡ cells)) }
+        ensures refused { (fault : TimesFault) → IsErrOf result fault ↔ IsFirstFault points cells.items fault }
+    {
+        match check(points, &cells) {
+            Ok(()) => Ok(Times { points, cells }),
+            Err(fault) => Err(fault),
+        }
     }
 
     /// How many places there are.

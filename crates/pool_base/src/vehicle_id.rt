@@ -40,3 +40,11 @@ impl VehicleId {
         self.number
     }
 }
+
+impl Default for VehicleId {
+    ghost is_default = { λ id. id ≡ 0 };
+
+    fn default() -> Self {
+        VehicleId { number: 0 }
+    }
+}

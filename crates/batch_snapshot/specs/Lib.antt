@@ -1,0 +1,4 @@
+pub mod Vehicle
+pub mod Batch
+pub mod Kept
+pub mod Points

@@ -1,0 +1,9 @@
+pub mod Keyed
+pub mod Rider
+pub mod State
+pub mod Refusals
+pub mod Sealing
+pub mod Closing
+pub mod Step
+pub mod Replay
+pub mod Consistent
