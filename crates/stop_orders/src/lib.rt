@@ -6,6 +6,7 @@
 #![tactic(auto)]
 
 mod done;
+pub mod laws;
 mod leg;
 mod order;
 mod pair_list;
@@ -38,3 +39,6 @@ pub use task::Task;
 pub use trip::task_of;
 pub use validity::is_valid;
 pub use visit::Visit;
+
+#[cfg(test)]
+mod tests;
