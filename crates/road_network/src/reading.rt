@@ -88,6 +88,7 @@ pub fn read_network(alloc: Global, rows: &Rows) -> Result<Network, NetworkFault>
     requires { rows.now.columns ≡ 3 }
     ensures network { IfOk result (λ network. network_of rows.now.records ≡ Ok network) }
     ensures refused { IfErr result (λ fault. fault ≢ NetworkFault.OutOfMemory → network_of rows.now.records ≡ Err fault) }
+    ensures every_row { IfOk result (λ network. length network.arcs ≡ length rows.now.records) }
 {
     if rows.len() > MOST_ARCS {
         return Err(NetworkFault::TooManyArcs);

@@ -1,6 +1,6 @@
 use Rattle.std.proofs.Common.{◌≡◌, ◌+◌, ◌<◌, ◌≤◌, [], Ok, true, length, take, map, sym, ap, ◌∙◌, arith}
 use Rattle.std.specs.Result.{is_ok}
-use Rattle.std.proofs.lemmas.List.{take_all}
+use Rattle.std.proofs.lemmas.List.{take_all, length-map}
 use Rattle.std.proofs.lemmas.List.Elements.{All-more, All-same}
 use Rattle.std.proofs.lemmas.Result.{err_from_is_err_and}
 use Rattle.pool_io.specs.Table.{record_at}
@@ -9,6 +9,7 @@ use Rattle.road_network.specs.Reading.{arc_in, seconds_in, with_row}
 use Rattle.road_network.specs.declared.fault.NetworkFault.TheVariants.{TooManyNodes}
 use Rattle.road_network.proofs.Names.{All-with_node}
 use Rattle.road_network.proofs.Refusals.{first_refusal-next, first_refusal-field, first_refusal-nodes, first_refusal-end, network_of-refused, network_of-accepted, network_of-too_many}
+use Rattle.road_network.proofs.Sorted.{length-by_start-all}
 use Rattle.road_network.proofs.RowSteps.{All-arc_in, All-numbered-more, arc_in-numbered, arcs-more, nodes_of-more}
 use Rattle.road_network.proofs.reading.read_network.Goals as goal
 
@@ -69,3 +70,12 @@ returns-in-Ok-clause-network c =
     let accepted = network_of-accepted c.args.rows.now.records few (inv.0 ∙ first_refusal-end c.args.rows.now.records c.rows.row c.rows.nodes.keys all) in
     let network = rw (arcs, nodes) at c.in-Ok.ensures in
     accepted ∙ ap Ok (sym network)
+
+pub returns-in-Ok-clause-every_row : goal.returns-in-Ok-clause-every_row
+returns-in-Ok-clause-every_row c =
+    let inv = c.rows.invariant in
+    let all : length c.args.rows.now.records ≤ c.rows.row = omega (arith, c.len-row-end.ensures) in
+    let whole = take_all c.rows.row c.args.rows.now.records all in
+    let arcs = rw whole at (c.as_slice.ensures.value ∙ inv.3) in
+    let among = All-same (IsArcAmong (length c.rows.nodes.keys)) c.as_slice.result.now (map (arc_in c.rows.nodes.keys) (take c.rows.row c.args.rows.now.records)) (c.as_slice.ensures.value ∙ inv.3) (All-arc_in c.rows.nodes.keys (take c.rows.row c.args.rows.now.records) inv.4 inv.5) in
+    rw c.in-Ok.ensures (length-by_start-all (length c.rows.nodes.keys) c.as_slice.result.now among ∙ ap length arcs ∙ length-map c.args.rows.now.records (arc_in c.rows.nodes.keys))
