@@ -29,7 +29,10 @@ pub fn check(alloc: Global, graph: &TripGraph, tree: &Tree) -> Result<i128, Chec
         if walk.ended {
             return Err(CheckFault::Extra { node: place as u64 });
         }
-        walk.visit(graph, node, place)?;
+        match walk.visit(graph, node, place) {
+            Ok(()) => {}
+            Err(fault) => return Err(fault),
+        }
     }
     if !walk.ended {
         return Err(CheckFault::Unfinished);

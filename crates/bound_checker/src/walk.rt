@@ -87,7 +87,8 @@ impl Walk {
 /// Whether the row is among the vehicle's allowed rows, and another one is.
 fn can_branch(graph: &TripGraph, allowed: &[bool], vehicle: usize, row: usize) -> bool
     requires { length allowed.now ≡ length graph.now.rows }
-    ensures { IsTrue result ↔ CanBranch graph.now (usable_of allowed.now) vehicle row }
+    ensures value { IsTrue result ↔ CanBranch graph.now (usable_of allowed.now) vehicle row }
+    ensures vehicle { IsTrue result → vehicle < graph.now.vehicles }
 {
     if vehicle >= graph.vehicle_count() {
         return false;
