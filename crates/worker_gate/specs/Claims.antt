@@ -18,6 +18,7 @@ at k n = if n == k then 1 else 0
 abbrev pub past : ℕ → ℕ → ℕ
 past pieces n = if nat_lt n pieces then 0 else 1
 
+-- for so many workers, these numbers were drawn
 abbrev pub draws : ℕ → List ℕ → Drawn
 draws parts numbers = record { parts = parts; numbers = numbers }
 
@@ -28,6 +29,7 @@ others_kept v = draws (v.parts - 1) v.numbers
 abbrev pub one_given : Drawn → Drawn
 one_given v = draws 1 []
 
+-- two seats together
 abbrev pub joined : Drawn → Drawn → Drawn
 joined v w = draws (v.parts + w.parts) (v.numbers ++ w.numbers)
 
@@ -36,6 +38,7 @@ pub record Agrees (pieces : ℕ) (v : Drawn) : Type 0 where
   pub few_past : sum_by (past pieces) v.numbers ≤ v.parts
   pub idle : v.parts ≡ 0 → v.numbers ≡ []
 
+-- the whole rule, for so many pieces and workers
 pub record Kept (pieces workers : ℕ) (s : State (Unit {0}) Drawn) : Type 0 where
   pub drawn : ℕ
   pub words : s.words ≡ drawn ∷ []

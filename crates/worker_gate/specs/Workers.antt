@@ -17,6 +17,7 @@ module _ {O : Type 0} where
   abbrev pub AreDoneRight : ℕ → (ℕ → O → Type 0) → List (Done O) → Type 0
   AreDoneRight pieces right done = All (λ d. (d.piece < pieces) × right d.piece d.out) done
 
+  -- the pieces that were done, in their order
   abbrev pub pieces_of : List (Done O) → List ℕ
   pieces_of done = map (λ d. d.piece) done
 
