@@ -1,0 +1,4 @@
+pub mod Label
+pub mod Ahead
+pub mod Kept
+pub mod Search

@@ -23,7 +23,7 @@ mod trip;
 mod validity;
 mod visit;
 
-pub use done::Done;
+pub use done::{Done, stop_of};
 pub use leg::Leg;
 pub use order::is_order;
 pub use pair_list::PairList;
