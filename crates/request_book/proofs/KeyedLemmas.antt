@@ -529,7 +529,7 @@ module _ where
       let le' : y ≤ x = omega arith in
       rw (le-ltb x y le') (ap (λ zs. y ∷ zs) (insert-placed ys i x (omega arith) (λ k h. low (suc k) (omega arith)) (λ k h l. high (suc k) (omega arith) (omega arith))))
 
-  without-absent : (xs : List ℕ) (x : ℕ) → look_up (λ n. n) x xs ≡ None → without (λ n. n) x xs ≡ xs
+  pub without-absent : (xs : List ℕ) (x : ℕ) → look_up (λ n. n) x xs ≡ None → without (λ n. n) x xs ≡ xs
   unfolding without
   without-absent [] x none = refl
   without-absent (y ∷ ys) x none =
@@ -537,6 +537,12 @@ module _ where
         inl e ↦ let found = look_up-here (λ n. n) x y ys e in absurd cc
       | inr ne ↦ rw (ne_eqb y x ne) (ap (λ zs. y ∷ zs) (without-absent ys x (sym (look_up-there (λ n. n) x y ys ne) ∙ none)))
       ]
+
+  -- a number that stands at no place isn't found
+  pub look_up-nowhere : (xs : List ℕ) (x : ℕ) → ((k : ℕ) → k < length xs → get_or xs k 0 ≡ x → ⊥) → look_up (λ n. n) x xs ≡ None
+  look_up-nowhere [] x none = look_up-nil (λ n. n) x
+  look_up-nowhere (y ∷ ys) x none =
+      look_up-there (λ n. n) x y ys (none 0 (omega arith)) ∙ look_up-nowhere ys x (λ k in' e. none (suc k) (omega arith) e)
 
   -- a number taken out at its place
   pub remove-without : (xs : List ℕ) (i x : ℕ) → KeysDiffer (λ n. n) xs → i < length xs → get_or xs i 0 ≡ x → remove xs i ≡ without (λ n. n) x xs
@@ -551,6 +557,15 @@ module _ where
       rw (ne_eqb y x other) (ap (λ zs. y ∷ zs) (remove-without ys i x d.1 (omega arith) at))
 
 module _ {X : Type 0} (key : X → ℕ) where
+  pub without_key-absent : (k : ℕ) (xs : List X) → look_up key k xs ≡ None → without key k xs ≡ xs
+  unfolding without
+  without_key-absent k [] none = refl
+  without_key-absent k (x ∷ xs) none =
+      elim (cases_eq (key x) k) [
+        inl e ↦ let found = look_up-here key k x xs e in absurd cc
+      | inr ne ↦ rw (ne_eqb (key x) k ne) (ap (λ ys. x ∷ ys) (without_key-absent k xs (sym (look_up-there key k x xs ne) ∙ none)))
+      ]
+
   AllAbove-without : (k j : ℕ) (xs : List X) → AllAbove key k xs → AllAbove key k (without key j xs)
   unfolding AllAbove without
   AllAbove-without k j [] all = tt

@@ -1,1 +1,4 @@
 pub mod KeyedLemmas
+pub mod RegisterLemmas
+pub mod StepLemmas
+pub mod IndexLemmas

@@ -1,8 +1,5 @@
 use Rattle.std.specs.Prelude.{◌≡◌, ℕ, ◌≤◌, ◌==◌, true, List, length, Option, None, Some, is_some, option_map, option_and_then, if◌then◌else◌}
 use Rattle.std.specs.List.{All}
-use Rattle.batch_snapshot.specs.Batch.{Batch}
-use Rattle.batch_snapshot.specs.Kept.{IsKept}
-use Rattle.batch_snapshot.specs.Snapshot.{named_nodes}
 use Rattle.batch_snapshot.specs.Vehicle.{HasSeats}
 use Rattle.batch_snapshot.specs.declared.passenger.Passenger.{Passenger}
 use Rattle.request_book.specs.declared.rider.BookRider.{BookRider}
@@ -23,8 +20,6 @@ pub record IsConsistent (s : State) : Type 0 where
   -- each rider and each vehicle stands once; vehicles by rising id
   pub riders : KeysDiffer (λ r. r.id) s.riders
   pub vehicles : KeysRise (λ v. v.id) s.vehicles
-  -- no party is empty
-  pub parties : All (λ r. 1 ≤ r.party) s.riders
   -- no vehicle has more persons than seats, nor a passenger twice
   pub seats : All HasSeats s.vehicles
   pub passengers : All (λ v. KeysDiffer (λ p. p.rider) v.aboard.items) s.vehicles

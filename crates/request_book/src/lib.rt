@@ -9,8 +9,11 @@
 mod command;
 mod journal;
 mod outcome;
+mod refusals;
+mod register;
 mod reply;
 mod rider;
+mod riding;
 mod state;
 
 pub use command::Command;
