@@ -10,7 +10,7 @@ use Rattle.request_book.specs.Register.{pool_id}
 use Rattle.request_book.specs.Rider.{is_active, with_status}
 use Rattle.request_book.specs.State.{find_rider, find_vehicle, pool_count}
 use Rattle.batch_snapshot.specs.declared.vehicle.Vehicle.{Vehicle}
-use Rattle.request_book.proofs.KeyedLemmas.{set-changed_at, look_up-changed_here, look_up-changed_there, look_up-without_here, look_up-without_there, look_up-placed_here, look_up-placed_there, look_up-push_here, look_up-push_there, look_up-key, look_up-filter_map, KeysDiffer-filter_map, KeysDiffer-from_rise, by_key-order, same_from_look_up, length-by_key, length-filter_map}
+use Rattle.request_book.proofs.KeyedLemmas.{set-changed_at, look_up-changed_here, look_up-changed_there, look_up-without_here, look_up-without_there, look_up-placed_here, look_up-placed_there, look_up-push_here, look_up-push_there, look_up-map, look_up-key, look_up-filter_map, KeysDiffer-filter_map, KeysDiffer-from_rise, by_key-order, same_from_look_up, length-by_key, length-filter_map}
 
 -- the pool is the ids of the active riders
 abbrev pub IsPool : List ℕ → List BookRider → Type 0
@@ -67,7 +67,7 @@ IsPool-placed pool riders new on none is id =
         look_up-placed_there (λ n. n) id new.id pool other ∙ is id ∙ ap (option_and_then pool_id) (sym (look_up-push_there (λ r. r.id) id new riders other))
     ]
 
-pool_id-keeps : (r : BookRider) (id : ℕ) → pool_id r ≡ Some id → id ≡ r.id
+pub pool_id-keeps : (r : BookRider) (id : ℕ) → pool_id r ≡ Some id → id ≡ r.id
 pool_id-keeps r id e = by (is_active r.status) refl e
   where
     by : (b : Bool) → is_active r.status ≡ b → cond b (Some r.id) None ≡ Some id → id ≡ r.id
@@ -97,3 +97,11 @@ length-pool pool riders rise differ is =
 pub vehicle-set : (f : Vehicle → Vehicle) (k at : ℕ) (vs : List Vehicle) (d : Vehicle) → KeysRise (λ v. v.id) vs → at < length vs → ((d : Vehicle) → find_vehicle k vs ≡ Some (get_or vs at d)) → set vs at (f (get_or vs at d)) ≡ changed_at (λ v. v.id) k f vs
 vehicle-set f k at vs d rise in' found =
     set-changed_at (λ v. v.id) f k at vs d (KeysDiffer-from_rise (λ v. v.id) vs rise) in' (look_up-key (λ v. v.id) k vs (get_or vs at d) (found d))
+
+-- riders whose place in the pool stays
+pub IsPool-map : (f : BookRider → BookRider) → ((r : BookRider) → (f r).id ≡ r.id) → ((r : BookRider) → pool_id (f r) ≡ pool_id r) → (pool : List ℕ) (riders : List BookRider) → IsPool pool riders → IsPool pool (map f riders)
+IsPool-map f keeps stays pool riders is id = is id ∙ sym (ap (option_and_then pool_id) (look_up-map (λ r. r.id) f keeps id riders) ∙ by (find_rider id riders))
+  where
+    by : (o : Option BookRider) → option_and_then pool_id (option_map f o) ≡ option_and_then pool_id o
+    by None = refl
+    by (Some r) = stays r

@@ -2,3 +2,6 @@ pub mod KeyedLemmas
 pub mod RegisterLemmas
 pub mod StepLemmas
 pub mod IndexLemmas
+pub mod SealLemmas
+pub mod CloseLemmas
+pub mod BatchLemmas

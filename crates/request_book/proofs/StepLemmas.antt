@@ -3,9 +3,13 @@ use Rattle.std.proofs.Common.{◌≡◌, ℕ, ◌+◌, ◌<◌, ◌≤◌, Bool,
 use Rattle.std.specs.Prelude.{is_some, option_map, option_and_then}
 use Rattle.std.proofs.lemmas.Bool.{leb-false}
 use Rattle.batch_snapshot.specs.declared.vehicle.Vehicle.{Vehicle}
+use Rattle.batch_snapshot.specs.Batch.{Batch}
+use Rattle.request_book.specs.declared.outcome.Answer.{Answer}
+use Rattle.request_book.specs.Closing.{after_answer, closed_state}
+use Rattle.request_book.specs.Sealing.{one_more, sealed_state}
 use Rattle.request_book.specs.declared.reply.BookRefusal.{BookRefusal}
 use Rattle.request_book.specs.declared.reply.Reply.{Reply}
-use Rattle.request_book.specs.declared.reply.Reply.TheVariants.{Refused, Accepted, Cancelled, Placed, Picked, Dropped}
+use Rattle.request_book.specs.declared.reply.Reply.TheVariants.{Refused, Accepted, Cancelled, Placed, Picked, Dropped, Sealed, Closed}
 use Rattle.request_book.specs.declared.reply.BookRefusal.TheVariants.{UnknownRider, UnknownVehicle, PoolFull}
 use Rattle.request_book.specs.declared.rider.BookRider.{BookRider}
 use Rattle.request_book.specs.declared.rider.Status.{Status}
@@ -14,15 +18,20 @@ use Rattle.request_book.specs.declared.state.State.{State}
 use Rattle.request_book.specs.Keyed.{changed_at}
 use Rattle.request_book.specs.Register.{pool_id}
 use Rattle.request_book.specs.Rider.{is_active, pool_promise}
-use Rattle.request_book.specs.Refusals.{first_of, duplicate_rider, aboard_refusal, ended_refusal, promise_refusal, seat_refusal, time_back, vehicle_full, unknown_node}
+use Rattle.request_book.specs.Refusals.{first_of, duplicate_rider, aboard_refusal, ended_refusal, promise_refusal, seat_refusal, time_back, vehicle_full, unknown_node, not_this_batch}
 use Rattle.request_book.specs.State.{find_rider, find_vehicle, pool_count}
-use Rattle.request_book.specs.Step.{answer, rider_becomes, vehicle_becomes, stands_at, takes_in, lets_out, submit_refusal, submit_step, cancel_step, report_step, pickup_step, dropoff_step}
+use Rattle.request_book.specs.Step.{answer, rider_becomes, vehicle_becomes, stands_at, takes_in, lets_out, submit_refusal, submit_step, cancel_step, report_step, pickup_step, dropoff_step, seal_refusal, seal_step, close_step}
 
 -- where the first refusal of a list is none, none of them holds
 pub first_of-none : (o : Option BookRefusal) (rest : List (Option BookRefusal)) → first_of (o ∷ rest) ≡ None → (o ≡ None) × (first_of rest ≡ None)
 unfolding first_of
 first_of-none None rest none = (refl, none)
 first_of-none (Some r) rest none = absurd cc
+
+pub first_of-alone : (o : Option BookRefusal) → first_of (o ∷ []) ≡ o
+unfolding first_of
+first_of-alone None = refl
+first_of-alone (Some r) = refl
 
 -- who is neither aboard nor ended is in the pool
 pub active_left : (s : Status) → aboard_refusal s ≡ None → ended_refusal s ≡ None → is_active s ≡ true
@@ -73,6 +82,23 @@ submit-fits nodes s r none =
 pub submit-known : (nodes : List ℕ) (s : State) (r : BookRider) (o : Option BookRefusal) → o ≡ submit_refusal nodes s r → answer s o Accepted (record s { riders = s.riders ++ r ∷ [] }) ≡ submit_step nodes s r
 unfolding submit_step
 submit-known nodes s r o e = rw e refl
+
+-- seals and closes
+pub seal-known : (wait : ℕ) (s : State) (now : ℕ) (o : Option BookRefusal) → o ≡ seal_refusal s now → answer s o (Sealed (one_more s.batches)) (sealed_state wait s now) ≡ seal_step wait s now
+unfolding seal_step
+seal-known wait s now o e = rw e refl
+
+pub close-known : (s : State) (batch : ℕ) (outcome : Answer) (o : Option BookRefusal) → o ≡ not_this_batch s.sealed batch → answer s o Closed (closed_state s outcome) ≡ close_step s batch outcome
+unfolding close_step
+close-known s batch outcome o e = ap (λ p. answer s p Closed (closed_state s outcome)) (one o ∙ ap (λ p. first_of (p ∷ [])) e)
+  where
+    one : (o : Option BookRefusal) → o ≡ first_of (o ∷ [])
+    one None = sym (first_of-alone None)
+    one (Some r) = sym (first_of-alone (Some r))
+
+pub closed-some : (s : State) (b : Batch) (outcome : Answer) → s.sealed ≡ Some b → closed_state s outcome ≡ record s { riders = after_answer b.riders outcome s.riders; sealed = None }
+unfolding closed_state
+closed-some s b outcome e = rw e refl
 
 module _ (s : State) where
   -- cancel

@@ -6,6 +6,7 @@
 //! of the journal and changes nothing else.
 #![tactic(auto)]
 
+mod closing;
 mod command;
 mod journal;
 mod outcome;
@@ -14,6 +15,7 @@ mod register;
 mod reply;
 mod rider;
 mod riding;
+mod sealing;
 mod state;
 
 pub use command::Command;
