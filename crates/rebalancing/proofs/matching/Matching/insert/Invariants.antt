@@ -1,0 +1,11 @@
+use Rattle.std.proofs.Common.{ℕ, ◌+◌, ◌==◌, count_by}
+use Rattle.rebalancing.specs.Prices.{IsPricedMatching, IsSized, IsSameProblem}
+use Rattle.rebalancing.specs.SearchTree.{IsNearest, IsSearchTree}
+use Rattle.rebalancing.proofs.Inserting.{IsSearching}
+use Rattle.rebalancing.proofs.matching.Matching.insert.Given as goal
+
+abbrev pub invariant-search : goal.invariant-search
+invariant-search l = IsSearching l.fn.self l.self l.tree l.vehicle l.nearest
+
+abbrev pub decreases-search : goal.decreases-search
+decreases-search l = count_by (λ x. x == 0) l.tree.place.items

@@ -1,0 +1,6 @@
+pub mod DoneLemmas
+pub mod ClockLemmas
+pub mod PairLemmas
+pub mod VisitLemmas
+pub mod ScanLemmas
+pub mod PlainLemmas

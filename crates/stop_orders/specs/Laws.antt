@@ -1,0 +1,81 @@
+use Rattle.std.specs.Prelude.{ℕ, ◌-◌, ◌<◌, ◌≤◌, not, nat_lt, if◌then◌else◌, List, [], ◌∷◌, length, map, filter, remove, slice_index}
+use Rattle.pool_base.specs.TravelTime.{IsTravelTime}
+use Rattle.stop_orders.specs.declared.stop.Stop.{Stop}
+use Rattle.stop_orders.specs.declared.stop.Stop.TheVariants.{Pick, Drop, Alight}
+use Rattle.stop_orders.specs.declared.task.Task.{Task}
+use Rattle.stop_orders.specs.declared.settled.Settled.{Settled}
+use Rattle.stop_orders.specs.Order.{is_of_rider, is_of_passenger}
+use Rattle.stop_orders.specs.Task.{IsTask, IsServable, IsLeastDelay, Serves, order_delay}
+use Rattle.stop_orders.specs.Settled.{IsSound, IsTrip, IsRrEdge, trip_task}
+
+-- the number k when number i is left out: those above it move down
+abbrev pub number_without : ℕ → ℕ → ℕ
+number_without i k = if nat_lt i k then k - 1 else k
+
+-- a stop when rider i is left out
+abbrev pub stop_without_rider : ℕ → Stop → Stop
+stop_without_rider i (Pick k) = Pick (number_without i k)
+stop_without_rider i (Drop k) = Drop (number_without i k)
+stop_without_rider i (Alight k) = Alight k
+
+-- a stop when passenger j is left out
+abbrev pub stop_without_passenger : ℕ → Stop → Stop
+stop_without_passenger j (Pick k) = Pick k
+stop_without_passenger j (Drop k) = Drop k
+stop_without_passenger j (Alight k) = Alight (number_without j k)
+
+-- the stops without those of rider i
+abbrev pub stops_without_rider : ℕ → List Stop → List Stop
+stops_without_rider i stops = map (stop_without_rider i) (filter (λ s. not (is_of_rider i s)) stops)
+
+-- the stops without that of passenger j
+abbrev pub stops_without_passenger : ℕ → List Stop → List Stop
+stops_without_passenger j stops = map (stop_without_passenger j) (filter (λ s. not (is_of_passenger j s)) stops)
+
+-- the task without rider i
+abbrev pub without_rider : ℕ → Task → Task
+without_rider i task = record task { riders = record { items = remove task.riders.items i } }
+
+-- the task without passenger j
+abbrev pub without_passenger : ℕ → Task → Task
+without_passenger j task = record task { aboard = record { items = remove task.aboard.items j } }
+
+-- the smaller task is valid, its order serves it, and has no more delay than the order of the task
+pub record StillServes (points : ℕ) (tau : ℕ → ℕ → ℕ) (task smaller : Task) (stops fewer : List Stop) : Type 0 where
+  pub valid : IsTask points smaller
+  pub serves : Serves tau smaller fewer
+  pub delay : order_delay tau smaller fewer ≤ order_delay tau task stops
+
+-- a serving order without a rider's pickup and drop-off serves the task without the rider
+abbrev pub RidersCanBeLeftOut : Type 0
+RidersCanBeLeftOut = (points : ℕ) (tau : ℕ → ℕ → ℕ) (task : Task) (stops : List Stop) (i : ℕ) → IsTravelTime points tau
+    → IsTask points task → i < length task.riders.items → Serves tau task stops
+    → StillServes points tau task (without_rider i task) stops (stops_without_rider i stops)
+
+-- a serving order without a passenger's drop-off serves the task without the passenger
+abbrev pub PassengersCanBeLeftOut : Type 0
+PassengersCanBeLeftOut = (points : ℕ) (tau : ℕ → ℕ → ℕ) (task : Task) (stops : List Stop) (j : ℕ) → IsTravelTime points tau
+    → IsTask points task → j < length task.aboard.items → Serves tau task stops
+    → StillServes points tau task (without_passenger j task) stops (stops_without_passenger j stops)
+
+-- where a vehicle serves a trip, it serves the trip without one of its riders
+abbrev pub SubTripsAreServable : Type 0
+SubTripsAreServable = (k points : ℕ) (tau : ℕ → ℕ → ℕ) (settled : Settled) (v : ℕ) (trip : List ℕ) (i : ℕ)
+    → IsTravelTime points tau → IsSound k points tau settled → v < length settled.vehicles
+    → IsTrip (length settled.riders) trip → length trip ≤ 6 → i < length trip
+    → IsServable tau (trip_task settled v trip) → IsServable tau (trip_task settled v (remove trip i))
+
+-- .. at no more delay
+abbrev pub SubTripsCostNoMore : Type 0
+SubTripsCostNoMore = (k points : ℕ) (tau : ℕ → ℕ → ℕ) (settled : Settled) (v : ℕ) (trip : List ℕ) (i cost less : ℕ)
+    → IsTravelTime points tau → IsSound k points tau settled → v < length settled.vehicles
+    → IsTrip (length settled.riders) trip → length trip ≤ 6 → i < length trip
+    → IsLeastDelay tau (trip_task settled v trip) cost → IsLeastDelay tau (trip_task settled v (remove trip i)) less
+    → less ≤ cost
+
+-- where a vehicle serves a trip, any two of its riders are an edge between riders
+abbrev pub PairsOfTripsAreEdges : Type 0
+PairsOfTripsAreEdges = (k points : ℕ) (tau : ℕ → ℕ → ℕ) (settled : Settled) (v : ℕ) (trip : List ℕ) (i j : ℕ)
+    → IsTravelTime points tau → IsSound k points tau settled → v < length settled.vehicles
+    → IsTrip (length settled.riders) trip → length trip ≤ 6 → i < j → j < length trip
+    → IsServable tau (trip_task settled v trip) → IsRrEdge tau settled (slice_index trip i) (slice_index trip j)

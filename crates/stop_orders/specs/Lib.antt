@@ -1,0 +1,9 @@
+pub mod Visit
+pub mod Order
+pub mod Done
+pub mod Task
+pub mod Position
+pub mod Settled
+pub mod PairList
+pub mod Laws
+pub mod Plain

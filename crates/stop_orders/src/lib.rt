@@ -1,0 +1,40 @@
+//! Orders of stops of shared vehicles: what an order is, when it serves, and how long it delays.
+//!
+//! The definitions stand here once: an order of a vehicle's passengers and a trip's riders, the seconds
+//! of its stops, its delay, the trips that a vehicle can serve, and the edges between riders and vehicles.
+//! The calls decide them exactly, and the laws say that whoever is left out of a serving order leaves one.
+#![tactic(auto)]
+
+mod done;
+mod leg;
+mod order;
+mod pair_list;
+mod plain;
+mod position;
+mod route;
+mod serving;
+mod settled;
+mod settled_rider;
+mod settled_vehicle;
+mod stop;
+mod task;
+mod trip;
+mod validity;
+mod visit;
+
+pub use done::Done;
+pub use leg::Leg;
+pub use order::is_order;
+pub use pair_list::PairList;
+pub use plain::least_over_all_orders;
+pub use position::{Position, arrival, first_position_of, position_after_visit};
+pub use route::Route;
+pub use serving::{delay_of, serves, stop_second, visit_of};
+pub use settled::{Settled, SettledRiders, SettledVehicles};
+pub use settled_rider::SettledRider;
+pub use settled_vehicle::SettledVehicle;
+pub use stop::Stop;
+pub use task::Task;
+pub use trip::task_of;
+pub use validity::is_valid;
+pub use visit::Visit;

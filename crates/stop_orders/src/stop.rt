@@ -1,0 +1,17 @@
+/// One stop of a vehicle's order of stops.
+#[derive(Clone, Copy, Debug, PartialEq, Eq)]
+pub enum Stop {
+    /// This rider of the trip is picked up.
+    Pick(u8),
+    /// This rider of the trip is dropped off.
+    Drop(u8),
+    /// This passenger, who was aboard from the start, gets out.
+    Alight(u8),
+}
+
+/// The pickup of rider 0.
+impl Default for Stop {
+    fn default() -> Stop {
+        Stop::Pick(0)
+    }
+}
