@@ -2,3 +2,4 @@ pub mod TravelTimeLemmas
 pub mod TableLemmas
 pub mod FaultLemmas
 pub mod NumberLemmas
+pub mod NumeralLemmas

@@ -1,4 +1,5 @@
 pub mod Number
+pub mod Numeral
 pub mod Which
 pub mod TravelTime
 pub mod Times

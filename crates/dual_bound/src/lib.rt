@@ -1,0 +1,13 @@
+//! Bounds from multipliers: what a leaf of a search tree shows, the first-fit multipliers, and multipliers
+//! that are better than those.
+//!
+//! A leaf value is computed exactly, in whole numbers, and takes no memory; whatever an ascent tries, it
+//! keeps the best multipliers that a leaf value has judged.
+#![tactic(auto)]
+
+mod first_fit_pass;
+mod cheapest;
+mod value;
+
+pub use first_fit_pass::first_fit;
+pub use value::leaf_value;

@@ -1,0 +1,130 @@
+-- Rows: rising riders, and the order of vehicles.
+use Rattle.std.proofs.Common.{◌≡◌, ◌≢◌, ◌==◌, ◌⊎◌, ℕ, zero, suc, ◌+◌, ◌-◌, ◌<◌, ◌≤◌, Bool, true, false, cond, List, [], ◌∷◌, ◌++◌, length, get_or, eqb, not, Ordering, Less, Equal, Greater, nat_cmp, refl, sym, ap, ◌∙◌, subst, inl, inr, ⊎_elim, arith, eqb-true, ltb-true, ltb-false}
+use Rattle.std.specs.Ordering.{ordering_then, ordering_index}
+use Rattle.std.proofs.lemmas.List.{get_or_push, get_or_append_left}
+use Rattle.std.proofs.lemmas.Bool.{cases_eq, cases_lt, both_ways}
+use Rattle.std.proofs.lemmas.Bool.Decides.{nat_tests}
+use Rattle.std.specs.Cmp.Lexicographic.{slice_cmp}
+use Rattle.plan_rules.specs.Graph.{Graph, row_at, vehicle_at, IsInOrder, AreRisingBelow, IsStartOf, IsRow, row_cmp}
+use Rattle.plan_rules.specs.GraphFault.{HasRowsInOrder, IsFirstUnordered}
+
+-- the first i numbers rise and are below `riders`, and `least` is one above the last of them
+pub record IsRisingSoFar (riders least i : ℕ) (xs : List ℕ) : Type 0 where
+  pub start : i ≡ 0 → least ≡ 0
+  pub last : (k : ℕ) → k + 1 ≡ i → least ≡ get_or xs k 0 + 1
+  pub below : (k : ℕ) → k < i → get_or xs k 0 < riders
+  pub rising : (k : ℕ) → k + 1 < i → get_or xs k 0 < get_or xs (k + 1) 0
+
+pub rising_start : (riders : ℕ) (xs : List ℕ) → IsRisingSoFar riders 0 0 xs
+rising_start riders xs = record {
+  start = λ _. refl;
+  last = λ k e. absurd (omega (arith, e));
+  below = λ k l. absurd (omega (arith, l));
+  rising = λ k l. absurd (omega (arith, l));
+}
+
+pub rising_more : (riders least i : ℕ) (xs : List ℕ) → IsRisingSoFar riders least i xs → least ≤ get_or xs i 0 → get_or xs i 0 < riders → IsRisingSoFar riders (get_or xs i 0 + 1) (i + 1) xs
+rising_more riders least i xs h low high = record {
+  start = λ e. absurd (omega (arith, e));
+  last = λ k e.
+      let same : k ≡ i = omega (arith, e) in
+      ap (λ (j : ℕ). get_or xs j 0 + 1) (sym same);
+  below = λ k l. ⊎_elim
+      (λ (here : k ≡ i). subst (λ (j : ℕ). get_or xs j 0 < riders) (sym here) high)
+      (λ (other : k ≡ i → ⊥). h.below k (omega (arith, l)))
+      (cases_eq k i);
+  rising = λ k l. ⊎_elim
+      (λ (here : k + 1 ≡ i).
+      let last : least ≡ get_or xs k 0 + 1 = h.last k here in
+      let up : get_or xs k 0 < get_or xs i 0 = omega arith in
+      subst (λ (j : ℕ). get_or xs k 0 < get_or xs j 0) (sym here) up)
+      (λ (other : k + 1 ≡ i → ⊥). h.rising k (omega (arith, l)))
+      (cases_eq (k + 1) i);
+}
+
+pub rising_all : (riders least : ℕ) (xs : List ℕ) → IsRisingSoFar riders least (length xs) xs → AreRisingBelow riders xs
+rising_all riders least xs h = record { below = h.below; rising = h.rising }
+
+-- a number that is too low or too high breaks the order
+pub not_rising : (riders least i : ℕ) (xs : List ℕ) → IsRisingSoFar riders least i xs → i < length xs → (get_or xs i 0 < least) ⊎ (riders ≤ get_or xs i 0) → AreRisingBelow riders xs → ⊥
+not_rising riders least i xs h l (inr high) all =
+    let low : get_or xs i 0 < riders = all.below i l in
+    omega arith
+not_rising riders least zero xs h l (inl low) all =
+    let none : least ≡ 0 = h.start refl in
+    omega arith
+not_rising riders least (suc k) xs h l (inl low) all =
+    let e : k + 1 ≡ suc k = omega arith in
+    let last : least ≡ get_or xs k 0 + 1 = h.last k e in
+    let up : get_or xs k 0 < get_or xs (k + 1) 0 = all.rising k (omega arith) in
+    let same : get_or xs (k + 1) 0 ≡ get_or xs (suc k) 0 = ap (λ (j : ℕ). get_or xs j 0) e in
+    omega arith
+
+-- ---- the order of vehicles
+
+less_vehicle : (a b : ℕ) (o : Ordering) → ordering_then (nat_cmp a b) o ≡ Less → a ≤ b
+less_vehicle a b o e = grind (arith, nat_tests)
+
+pub vehicle_rises : (g : Graph) (k : ℕ) → IsInOrder g k → vehicle_at g k ≤ vehicle_at g (suc k)
+vehicle_rises g k e = less_vehicle (vehicle_at g k) (vehicle_at g (suc k)) _ e
+
+pub vehicles_rise : (g : Graph) → HasRowsInOrder g → (j n : ℕ) → j + n < length g.rows → vehicle_at g j ≤ vehicle_at g (j + n)
+vehicles_rise g order j zero l =
+    let same : j + 0 ≡ j = omega arith in
+    let e : vehicle_at g (j + 0) ≡ vehicle_at g j = ap (vehicle_at g) same in
+    omega arith
+vehicles_rise g order j (suc n) l =
+    let before : vehicle_at g j ≤ vehicle_at g (j + n) = vehicles_rise g order j n (omega arith) in
+    let next : vehicle_at g (j + n) ≤ vehicle_at g (suc (j + n)) = vehicle_rises g (j + n) (order (j + n) (omega arith)) in
+    let same : suc (j + n) ≡ j + suc n = omega arith in
+    let e : vehicle_at g (suc (j + n)) ≡ vehicle_at g (j + suc n) = ap (vehicle_at g) same in
+    omega arith
+
+pub start_first : (g : Graph) → IsStartOf g 0 0
+start_first g = record { within = omega arith; below = λ k l. absurd (omega (arith, l)); above = λ k a b. omega arith }
+
+-- where the rows of vehicle v end, those of the next one start
+pub start_next : (g : Graph) (v row end : ℕ) → HasRowsInOrder g → IsStartOf g v row → row ≤ end → end ≤ length g.rows → ((k : ℕ) → row ≤ k → k < end → vehicle_at g k ≡ v) → (end < length g.rows → vehicle_at g end ≡ v → ⊥) → IsStartOf g (v + 1) end
+start_next g v row end order start up within own next = record {
+  within = within;
+  below = λ k l. ⊎_elim
+      (λ (before : k < row). let low : vehicle_at g k < v = start.below k before in omega arith)
+      (λ (inside : row ≤ k). let same : vehicle_at g k ≡ v = own k inside l in omega arith)
+      (cases_lt k row);
+  above = λ k a b.
+      let first : v ≤ vehicle_at g end = start.above end up (omega (arith, a, b)) in
+      let differs = next (omega (arith, a, b)) in
+      let same : end + (k - end) ≡ k = omega (arith, a) in
+      let rise : vehicle_at g end ≤ vehicle_at g (end + (k - end)) = vehicles_rise g order end (k - end) (omega (arith, a, b)) in
+      let e : vehicle_at g (end + (k - end)) ≡ vehicle_at g k = ap (vehicle_at g) same in
+      omega (arith, first, differs, rise, e);
+}
+
+-- the start of one more vehicle at the end of the list
+pub starts_push : (g : Graph) (starts : List ℕ) (row n : ℕ) → length starts ≡ n → ((v : ℕ) → v < n → IsStartOf g v (get_or starts v 0)) → IsStartOf g n row → (v : ℕ) → v < n + 1 → IsStartOf g v (get_or (starts ++ row ∷ []) v 0)
+starts_push g starts row n long before here v l =
+    ⊎_elim
+    (λ (last : v ≡ n). subst (IsStartOf g v) (sym (get_or_push starts row 0 v (long ∙ sym last))) (subst (λ (w : ℕ). IsStartOf g w row) (sym last) here))
+    (λ (other : v ≡ n → ⊥). subst (IsStartOf g v) (sym (get_or_append_left starts (row ∷ []) 0 v (omega (arith, l, long)))) (before v (omega (arith, l))))
+    (cases_eq v n)
+
+-- the first row that isn't above the one before it
+pub first_unordered : (g : Graph) (k : ℕ) → 1 ≤ k → k < length g.rows → ((j : ℕ) → suc j < k → IsInOrder g j) → (row_cmp (row_at g (k - 1)) (row_at g k) ≡ Less → ⊥) → IsFirstUnordered g k
+first_unordered g zero low within before wrong = absurd (omega (arith, low))
+first_unordered g (suc j) low within before wrong =
+    let e : suc j - 1 ≡ j = omega arith in
+    record {
+      previous = j;
+      next = refl;
+      within = within;
+      wrong = λ h. wrong (ap (λ (q : ℕ). row_cmp (row_at g q) (row_at g (suc j))) e ∙ h);
+      before = before;
+    }
+
+not_less : (o : Ordering) → not (eqb (ordering_index o) 0) ≡ true → o ≡ Less → ⊥
+not_less Less h e = absurd (both_ways false refl h)
+not_less Equal h e = cc
+not_less Greater h e = cc
+
+pub not_less_index : (o : Ordering) → not (ordering_index o == 0) ≡ true → o ≡ Less → ⊥
+not_less_index o h e = not_less o h e

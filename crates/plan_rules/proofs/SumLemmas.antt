@@ -1,0 +1,337 @@
+-- Sums, counts and least values over the numbers below n.
+use Rattle.std.proofs.Common.{◌≡◌, ◌≢◌, ◌==◌, ◌⊎◌, ℕ, zero, suc, ◌+◌, ◌*◌, ◌<◌, ◌≤◌, Bool, true, false, cond, not, ◌&&◌, ◌||◌, if◌then◌else◌, eqb, ltb, nat_lt, ℤ, pos, ◌+ℤ◌, ◌-ℤ◌, ◌≤ℤ◌, Option, Some, None, refl, sym, ap, ◌∙◌, subst, inl, inr, ⊎_elim, arith, add-one, eqb-true, eq-eqb, ne_eqb, lt-ltb, le-ltb}
+use Rattle.std.specs.Int.{int_min}
+use Rattle.std.specs.Prelude.{int_lt}
+use Rattle.std.proofs.lemmas.Int.{ints, clamps, int_min_is}
+use Rattle.std.proofs.lemmas.Bool.{both_ways, cases_eq, cases_lt, cases_Bool, cond_both, cond-true, cond-false, and_parts, and_from, and_left, and_right}
+use Rattle.plan_rules.specs.Sums.{sum_below, count_below, all_below, int_sum_below, lesser, least_below}
+
+-- ---- sums of naturals
+
+pub sum_below_more : (n : ℕ) (f : ℕ → ℕ) → sum_below (n + 1) f ≡ sum_below n f + f n
+sum_below_more n f = rw add-one refl
+
+pub sum_below_same : (n : ℕ) (f h : ℕ → ℕ) → ((k : ℕ) → k < n → f k ≡ h k) → sum_below n f ≡ sum_below n h
+sum_below_same zero f h e = refl
+sum_below_same (suc n) f h e =
+    let rest : sum_below n f ≡ sum_below n h = sum_below_same n f h (λ k l. e k (omega arith)) in
+    let last : f n ≡ h n = e n (omega arith) in
+    omega arith
+
+pub sum_below_plus : (n : ℕ) (f h : ℕ → ℕ) → sum_below n (λ k. f k + h k) ≡ sum_below n f + sum_below n h
+sum_below_plus zero f h = refl
+sum_below_plus (suc n) f h = omega (arith, sum_below_plus n f h)
+
+pub sum_below_scale : (n c : ℕ) (f : ℕ → ℕ) → sum_below n (λ k. c * f k) ≡ c * sum_below n f
+sum_below_scale zero c f = omega arith
+sum_below_scale (suc n) c f = omega (arith, sum_below_scale n c f)
+
+pub sum_below_le : (n m : ℕ) (f : ℕ → ℕ) → ((k : ℕ) → k < n → f k ≤ m) → sum_below n f ≤ n * m
+sum_below_le zero m f e = omega arith
+sum_below_le (suc n) m f e =
+    let rest : sum_below n f ≤ n * m = sum_below_le n m f (λ k l. e k (omega arith)) in
+    let last : f n ≤ m = e n (omega arith) in
+    omega arith
+
+-- ---- counts
+
+-- 1 where the test passes, and else 0
+abbrev pub flag : Bool → ℕ
+flag b = if b then 1 else 0
+
+pub flag-le : (b : Bool) → flag b ≤ 1
+flag-le true = omega arith
+flag-le false = omega arith
+
+pub flag-true : (b : Bool) → b ≡ true → flag b ≡ 1
+flag-true b e = cond-true b 1 0 e
+
+pub flag-false : (b : Bool) → b ≡ false → flag b ≡ 0
+flag-false b e = cond-false b 1 0 e
+
+pub count_below_more : (n : ℕ) (p : ℕ → Bool) → count_below (n + 1) p ≡ count_below n p + flag (p n)
+count_below_more n p = sum_below_more n (λ k. flag (p k))
+
+pub count_below_yes : (n : ℕ) (p : ℕ → Bool) → p n ≡ true → count_below (n + 1) p ≡ count_below n p + 1
+count_below_yes n p e = omega (arith, count_below_more n p, flag-true (p n) e)
+
+pub count_below_no : (n : ℕ) (p : ℕ → Bool) → p n ≡ false → count_below (n + 1) p ≡ count_below n p
+count_below_no n p e = omega (arith, count_below_more n p, flag-false (p n) e)
+
+pub count_below-le : (n : ℕ) (p : ℕ → Bool) → count_below n p ≤ n
+count_below-le n p = omega (arith, sum_below_le n 1 (λ k. flag (p k)) (λ k l. flag-le (p k)))
+
+pub count_below_same : (n : ℕ) (p q : ℕ → Bool) → ((k : ℕ) → k < n → p k ≡ q k) → count_below n p ≡ count_below n q
+count_below_same n p q e =
+    sum_below_same n (λ k. flag (p k)) (λ k. flag (q k)) (λ k l. ap flag (e k l))
+
+-- where none passes, none is counted
+pub count_below_none : (n : ℕ) (p : ℕ → Bool) → ((k : ℕ) → k < n → p k ≡ false) → count_below n p ≡ 0
+count_below_none zero p e = refl
+count_below_none (suc n) p e =
+    let rest : count_below n p ≡ 0 = count_below_none n p (λ k l. e k (omega arith)) in
+    let last : flag (p n) ≡ 0 = flag-false (p n) (e n (omega arith)) in
+    omega arith
+
+-- one that passes is counted
+pub count_below_some : (n : ℕ) (p : ℕ → Bool) (k : ℕ) → k < n → p k ≡ true → 1 ≤ count_below n p
+count_below_some zero p k l e = absurd (omega arith)
+count_below_some (suc n) p k l e =
+    ⊎_elim
+    (λ (here : k ≡ n). let last : flag (p n) ≡ 1 = flag-true (p n) (subst (λ (j : ℕ). p j ≡ true) here e) in omega arith)
+    (λ (other : k ≡ n → ⊥). omega (arith, count_below_some n p k (omega arith) e))
+    (cases_eq k n)
+
+-- two that pass are counted twice
+pub count_below_two : (n : ℕ) (p : ℕ → Bool) (j k : ℕ) → j < n → k < n → (j ≡ k → ⊥) → p j ≡ true → p k ≡ true → 2 ≤ count_below n p
+count_below_two zero p j k a b d e f = absurd (omega arith)
+count_below_two (suc n) p j k a b d e f =
+    ⊎_elim
+    (λ (here : j ≡ n).
+    let last : flag (p n) ≡ 1 = flag-true (p n) (subst (λ (i : ℕ). p i ≡ true) here e) in
+    omega (arith, count_below_some n p k (omega arith) f))
+    (λ (other : j ≡ n → ⊥).
+    ⊎_elim
+    (λ (there : k ≡ n).
+    let last : flag (p n) ≡ 1 = flag-true (p n) (subst (λ (i : ℕ). p i ≡ true) there f) in
+    omega (arith, count_below_some n p j (omega arith) e))
+    (λ (apart : k ≡ n → ⊥). omega (arith, count_below_two n p j k (omega arith) (omega arith) d e f))
+    (cases_eq k n))
+    (cases_eq j n)
+
+-- where something is counted, something passes
+pub count_below_found : (n : ℕ) (p : ℕ → Bool) → 1 ≤ count_below n p → (k : ℕ) × (k < n) × (p k ≡ true)
+count_below_found zero p h = absurd (omega arith)
+count_below_found (suc n) p h =
+    ⊎_elim
+    (λ (yes : p n ≡ true). (n, omega arith, yes))
+    (λ (no : p n ≡ false).
+    let last : flag (p n) ≡ 0 = flag-false (p n) no in
+    let w = count_below_found n p (omega arith) in
+    (w.0, omega arith, w.2))
+    (cases_Bool (p n))
+
+-- ---- all
+
+pub all_below_at : (n : ℕ) (p : ℕ → Bool) (k : ℕ) → all_below n p ≡ true → k < n → p k ≡ true
+all_below_at zero p k e l = absurd (omega arith)
+all_below_at (suc n) p k e l =
+    ⊎_elim
+    (λ (here : k ≡ n). subst (λ (j : ℕ). p j ≡ true) (sym here) ((and_parts (all_below n p) (p n) e).1))
+    (λ (other : k ≡ n → ⊥). all_below_at n p k ((and_parts (all_below n p) (p n) e).0) (omega arith))
+    (cases_eq k n)
+
+pub all_below_from : (n : ℕ) (p : ℕ → Bool) → ((k : ℕ) → k < n → p k ≡ true) → all_below n p ≡ true
+all_below_from zero p e = refl
+all_below_from (suc n) p e =
+    and_from (all_below n p) (p n) (all_below_from n p (λ k l. e k (omega arith))) (e n (omega arith))
+
+pub all_below_fails : (n : ℕ) (p : ℕ → Bool) (k : ℕ) → k < n → p k ≡ false → all_below n p ≡ false
+all_below_fails zero p k l e = absurd (omega arith)
+all_below_fails (suc n) p k l e =
+    ⊎_elim
+    (λ (here : k ≡ n). and_right (all_below n p) (p n) (subst (λ (j : ℕ). p j ≡ false) here e))
+    (λ (other : k ≡ n → ⊥). and_left (all_below n p) (p n) (all_below_fails n p k (omega arith) e))
+    (cases_eq k n)
+
+pub all_below_same : (n : ℕ) (p q : ℕ → Bool) → ((k : ℕ) → k < n → p k ≡ q k) → all_below n p ≡ all_below n q
+all_below_same zero p q e = refl
+all_below_same (suc n) p q e =
+    let rest : all_below n p ≡ all_below n q = all_below_same n p q (λ k l. e k (omega arith)) in
+    let last : p n ≡ q n = e n (omega arith) in
+    cc
+
+-- ---- sums of integers
+
+pub int_sum_more : (n : ℕ) (f : ℕ → ℤ) → int_sum_below (n + 1) f ≡ int_sum_below n f +ℤ f n
+int_sum_more n f = rw add-one refl
+
+pub int_sum_same : (n : ℕ) (f h : ℕ → ℤ) → ((k : ℕ) → k < n → f k ≡ h k) → int_sum_below n f ≡ int_sum_below n h
+int_sum_same zero f h e = refl
+int_sum_same (suc n) f h e =
+    let rest : int_sum_below n f ≡ int_sum_below n h = int_sum_same n f h (λ k l. e k (omega arith)) in
+    let last : f n ≡ h n = e n (omega arith) in
+    cc
+
+pub int_sum_le : (n : ℕ) (f h : ℕ → ℤ) → ((k : ℕ) → k < n → f k ≤ℤ h k) → int_sum_below n f ≤ℤ int_sum_below n h
+int_sum_le zero f h e = omega (arith, ints)
+int_sum_le (suc n) f h e =
+    let rest : int_sum_below n f ≤ℤ int_sum_below n h = int_sum_le n f h (λ k l. e k (omega arith)) in
+    let last : f n ≤ℤ h n = e n (omega arith) in
+    omega (arith, ints)
+
+pub int_sum_plus : (n : ℕ) (f h : ℕ → ℤ) → int_sum_below n (λ k. f k +ℤ h k) ≡ int_sum_below n f +ℤ int_sum_below n h
+int_sum_plus zero f h = refl
+int_sum_plus (suc n) f h =
+    let rest : int_sum_below n (λ k. f k +ℤ h k) ≡ int_sum_below n f +ℤ int_sum_below n h = int_sum_plus n f h in
+    omega (arith, ints)
+
+pub int_sum_minus : (n : ℕ) (f h : ℕ → ℤ) → int_sum_below n (λ k. f k -ℤ h k) ≡ int_sum_below n f -ℤ int_sum_below n h
+int_sum_minus zero f h = refl
+int_sum_minus (suc n) f h =
+    let rest : int_sum_below n (λ k. f k -ℤ h k) ≡ int_sum_below n f -ℤ int_sum_below n h = int_sum_minus n f h in
+    omega (arith, ints)
+
+pub int_sum_pos : (n : ℕ) (f : ℕ → ℕ) → int_sum_below n (λ k. pos (f k)) ≡ pos (sum_below n f)
+int_sum_pos zero f = refl
+int_sum_pos (suc n) f =
+    let rest : int_sum_below n (λ k. pos (f k)) ≡ pos (sum_below n f) = int_sum_pos n f in
+    omega (arith, ints)
+
+pub int_sum_zero : (n : ℕ) → int_sum_below n (λ _. pos 0) ≡ pos 0
+int_sum_zero zero = refl
+int_sum_zero (suc n) =
+    let rest : int_sum_below n (λ _. pos 0) ≡ pos 0 = int_sum_zero n in
+    omega (arith, ints)
+
+pub int_sum_swap : (n m : ℕ) (f : ℕ → ℕ → ℤ) → int_sum_below n (λ v. int_sum_below m (f v)) ≡ int_sum_below m (λ r. int_sum_below n (λ v. f v r))
+int_sum_swap zero m f = sym (int_sum_zero m)
+int_sum_swap (suc n) m f =
+    let rest : int_sum_below n (λ v. int_sum_below m (f v)) ≡ int_sum_below m (λ r. int_sum_below n (λ v. f v r)) = int_sum_swap n m f in
+    let both : int_sum_below m (λ r. int_sum_below n (λ v. f v r) +ℤ f n r) ≡ int_sum_below m (λ r. int_sum_below n (λ v. f v r)) +ℤ int_sum_below m (f n) = int_sum_plus m (λ r. int_sum_below n (λ v. f v r)) (f n) in
+    omega (arith, ints)
+
+-- the number where the test passes, and else nothing
+abbrev pub part : Bool → ℤ → ℤ
+part b z = cond b z (pos 0)
+
+-- of two tests that never pass both, one at most counts
+pub part-or : (a b : Bool) (z : ℤ) → (a ≡ true → b ≡ true → ⊥) → part (a || b) z ≡ part a z +ℤ part b z
+part-or true true z h = absurd (h refl refl)
+part-or true false z h = omega (arith, ints)
+part-or false b z h = omega (arith, ints)
+
+-- a sum in which one number counts
+pub int_sum_single : (n x : ℕ) (f : ℕ → ℤ) → x < n → int_sum_below n (λ r. part (x == r) (f r)) ≡ f x
+int_sum_single zero x f l = absurd (omega arith)
+int_sum_single (suc n) x f l =
+    ⊎_elim
+    (λ (here : x ≡ n).
+    let none : int_sum_below n (λ r. part (x == r) (f r)) ≡ int_sum_below n (λ _. pos 0) =
+    int_sum_same n (λ r. part (x == r) (f r)) (λ _. pos 0) (λ k low. cond-false (x == k) (f k) (pos 0) (ne_eqb x k (λ (e : x ≡ k). omega arith))) in
+    let zeros : int_sum_below n (λ _. pos 0) ≡ pos 0 = int_sum_zero n in
+    let last : part (x == n) (f n) ≡ f n = cond-true (x == n) (f n) (pos 0) (eq-eqb x n here) in
+    let same : f n ≡ f x = ap f (sym here) in
+    omega (arith, ints))
+    (λ (other : x ≡ n → ⊥).
+    let rest : int_sum_below n (λ r. part (x == r) (f r)) ≡ f x = int_sum_single n x f (omega arith) in
+    let last : part (x == n) (f n) ≡ pos 0 = cond-false (x == n) (f n) (pos 0) (ne_eqb x n other) in
+    omega (arith, ints))
+    (cases_eq x n)
+
+-- what is counted at most once counts once where it is counted
+pub int_sum_once : (n : ℕ) (p : ℕ → Bool) (z : ℤ) → count_below n p ≤ 1 → int_sum_below n (λ v. part (p v) z) ≡ part (ltb 0 (count_below n p)) z
+int_sum_once zero p z h = refl
+int_sum_once (suc n) p z h =
+    ⊎_elim
+    (λ (yes : p n ≡ true).
+    let last : flag (p n) ≡ 1 = flag-true (p n) yes in
+    let now : part (p n) z ≡ z = cond-true (p n) z (pos 0) yes in
+    let rest : int_sum_below n (λ v. part (p v) z) ≡ part (ltb 0 (count_below n p)) z = int_sum_once n p z (omega arith) in
+    let none : part (ltb 0 (count_below n p)) z ≡ pos 0 = cond-false (ltb 0 (count_below n p)) z (pos 0) (le-ltb 0 (count_below n p) (omega arith)) in
+    let whole : part (ltb 0 (count_below (suc n) p)) z ≡ z = cond-true (ltb 0 (count_below (suc n) p)) z (pos 0) (lt-ltb 0 (count_below (suc n) p) (omega arith)) in
+    omega (arith, ints))
+    (λ (no : p n ≡ false).
+    let last : flag (p n) ≡ 0 = flag-false (p n) no in
+    let now : part (p n) z ≡ pos 0 = cond-false (p n) z (pos 0) no in
+    let rest : int_sum_below n (λ v. part (p v) z) ≡ part (ltb 0 (count_below n p)) z = int_sum_once n p z (omega arith) in
+    let same : count_below (suc n) p ≡ count_below n p = omega arith in
+    let whole : part (ltb 0 (count_below (suc n) p)) z ≡ part (ltb 0 (count_below n p)) z = ap (λ (c : ℕ). part (ltb 0 c) z) same in
+    omega (arith, ints))
+    (cases_Bool (p n))
+
+-- ---- least values
+
+pub lesser-le_right : (o : Option ℤ) (z : ℤ) → lesser o z ≤ℤ z
+lesser-le_right None z = omega (arith, ints)
+lesser-le_right (Some y) z = omega (arith, ints, int_min_is y z)
+
+pub lesser-le_left : (y z : ℤ) → lesser (Some y) z ≤ℤ y
+lesser-le_left y z = omega (arith, ints, int_min_is y z)
+
+pub least_below_more : (n : ℕ) (p : ℕ → Bool) (f : ℕ → ℤ) → least_below (n + 1) p f ≡ (if p n then Some (lesser (least_below n p f) (f n)) else least_below n p f)
+least_below_more n p f = rw add-one refl
+
+-- z is the least of f at the numbers below n that pass
+pub record IsLeast (n : ℕ) (p : ℕ → Bool) (f : ℕ → ℤ) (z : ℤ) : Type 0 where
+  pub place : ℕ
+  pub within : place < n
+  pub passes : p place ≡ true
+  pub reached : z ≡ f place
+  pub least : (k : ℕ) → k < n → p k ≡ true → z ≤ℤ f k
+
+-- what the least value is, where one passes
+pub least_below_some : (n : ℕ) (p : ℕ → Bool) (f : ℕ → ℤ) (k : ℕ) → k < n → p k ≡ true → (z : ℤ) × (least_below n p f ≡ Some z) × (z ≤ℤ f k)
+least_below_some zero p f k l e = absurd (omega arith)
+least_below_some (suc n) p f k l e =
+    ⊎_elim
+    (λ (yes : p n ≡ true).
+    let now : least_below (suc n) p f ≡ Some (lesser (least_below n p f) (f n)) =
+    cond-true (p n) (Some (lesser (least_below n p f) (f n))) (least_below n p f) yes in
+    ⊎_elim
+    (λ (here : k ≡ n).
+    (lesser (least_below n p f) (f n), now, subst (λ (j : ℕ). lesser (least_below n p f) (f n) ≤ℤ f j) (sym here) (lesser-le_right (least_below n p f) (f n))))
+    (λ (other : k ≡ n → ⊥).
+    let w = least_below_some n p f k (omega arith) e in
+    let same : lesser (least_below n p f) (f n) ≡ lesser (Some (w.0)) (f n) = ap (λ (o : Option ℤ). lesser o (f n)) (w.1) in
+    let below : lesser (Some (w.0)) (f n) ≤ℤ w.0 = lesser-le_left (w.0) (f n) in
+    let least : w.0 ≤ℤ f k = w.2 in
+    let all : lesser (least_below n p f) (f n) ≤ℤ f k = omega (arith, ints) in
+    (lesser (least_below n p f) (f n), now, all))
+    (cases_eq k n))
+    (λ (no : p n ≡ false).
+    let now : least_below (suc n) p f ≡ least_below n p f =
+    cond-false (p n) (Some (lesser (least_below n p f) (f n))) (least_below n p f) no in
+    ⊎_elim
+    (λ (here : k ≡ n). absurd (both_ways (p n) no (subst (λ (j : ℕ). p j ≡ true) here e)))
+    (λ (other : k ≡ n → ⊥).
+    let w = least_below_some n p f k (omega arith) e in
+    (w.0, now ∙ w.1, w.2))
+    (cases_eq k n))
+    (cases_Bool (p n))
+
+-- none passes, none is least
+pub least_below_none : (n : ℕ) (p : ℕ → Bool) (f : ℕ → ℤ) → ((k : ℕ) → k < n → p k ≡ false) → least_below n p f ≡ None
+least_below_none zero p f e = refl
+least_below_none (suc n) p f e =
+    cond-false (p n) (Some (lesser (least_below n p f) (f n))) (least_below n p f) (e n (omega arith))
+    ∙ least_below_none n p f (λ k l. e k (omega arith))
+
+int_min_cases : (x y : ℤ) → (int_min x y ≡ x) ⊎ (int_min x y ≡ y)
+int_min_cases x y = cond_both (int_lt y x) y x (λ (m : ℤ). (m ≡ x) ⊎ (m ≡ y)) (λ e. inr refl) (λ e. inl refl)
+
+-- some number below n passes and has this value
+abbrev Reaches : ℕ → (ℕ → Bool) → (ℕ → ℤ) → ℤ → Type 0
+Reaches n p f z = (k : ℕ) × (k < n) × (p k ≡ true) × (z ≡ f k)
+
+from_lesser : (n : ℕ) (p : ℕ → Bool) (f : ℕ → ℤ) (z : ℤ) → p n ≡ true → (o : Option ℤ) → ((y : ℤ) → o ≡ Some y → Reaches n p f y) → lesser o (f n) ≡ z → Reaches (suc n) p f z
+from_lesser n p f z passed None before value = (n, omega arith, passed, sym value)
+from_lesser n p f z passed (Some y) before value =
+    ⊎_elim
+    (λ (left : int_min y (f n) ≡ y).
+    let w = before y refl in
+    (w.0, omega arith, w.2, sym value ∙ left ∙ w.3))
+    (λ (right : int_min y (f n) ≡ f n). (n, omega arith, passed, sym value ∙ right))
+    (int_min_cases y (f n))
+
+not_some : (z : ℤ) → ◌≡◌ {A = Option ℤ} None (Some z) → ⊥
+not_some z e = cc
+
+inner : (x y : ℤ) → Some x ≡ Some y → x ≡ y
+inner x y e = cc
+
+-- the least value is reached
+pub least_below_found : (n : ℕ) (p : ℕ → Bool) (f : ℕ → ℤ) (z : ℤ) → least_below n p f ≡ Some z → Reaches n p f z
+least_below_found zero p f z e = absurd (not_some z e)
+least_below_found (suc n) p f z e =
+    ⊎_elim
+    (λ (yes : p n ≡ true).
+    let now : least_below (suc n) p f ≡ Some (lesser (least_below n p f) (f n)) =
+    cond-true (p n) (Some (lesser (least_below n p f) (f n))) (least_below n p f) yes in
+    from_lesser n p f z yes (least_below n p f) (λ y is. least_below_found n p f y is) (inner _ _ (sym now ∙ e)))
+    (λ (no : p n ≡ false).
+    let now : least_below (suc n) p f ≡ least_below n p f =
+    cond-false (p n) (Some (lesser (least_below n p f) (f n))) (least_below n p f) no in
+    let w = least_below_found n p f z (sym now ∙ e) in
+    (w.0, omega arith, w.2, w.3))
+    (cases_Bool (p n))

@@ -1,0 +1,10 @@
+use Rattle.std.proofs.Common.{ℕ, ◌<◌, ◌≤◌}
+use Rattle.plan_rules.specs.Graph.{MarksHeld, HoldsRightly}
+use Rattle.plan_rules.specs.Parts.{graph_of}
+use Rattle.plan_rules.proofs.held.mark_held.Given as goal
+
+abbrev pub invariant-loop-vehicle : goal.invariant-loop-vehicle
+invariant-loop-vehicle l = record {
+  marks : MarksHeld (graph_of l.parts) l.vehicle l.marks.items;
+  holds : (v : ℕ) → v < l.vehicle → HoldsRightly (graph_of l.parts) v;
+}

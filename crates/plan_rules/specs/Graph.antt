@@ -1,0 +1,141 @@
+use Rattle.std.specs.Prelude.{◌≡◌, ◌==◌, ◌↔◌, ℕ, suc, ◌+◌, ◌<◌, ◌≤◌, Bool, false, IsTrue, IsFalse, nat_lt, List, [], length, take, slice_index, slice_index_or, EachIndex, Option, Some, None, MatchOption, if◌then◌else◌}
+use Rattle.std.specs.List.{list_any}
+use Rattle.std.specs.List.Sorted.{IsStrictlyIncreasing}
+use Rattle.std.specs.Ordering.{nat_cmp, ordering_then}
+use Rattle.std.specs.Cmp.Lexicographic.{slice_cmp}
+use Rattle.std.specs.declared.cmp.Ordering.{Ordering}
+use Rattle.std.specs.declared.cmp.Ordering.TheVariants.{Less}
+use Rattle.plan_rules.specs.declared.row.TripRow.{TripRow}
+use Rattle.plan_rules.specs.Sums.{count_below}
+
+-- a trip graph: its vehicles and riders are numbered from 0; rows stand by vehicle, then size, then riders
+pub record Graph : Type 0 where
+  -- how many there are
+  pub vehicles : ℕ
+  pub riders : ℕ
+  -- what each rider who is left out costs
+  pub penalty : ℕ
+  pub rows : List TripRow
+  -- for each vehicle the number of the row that it holds
+  pub held : List (Option ℕ)
+
+-- what stands where there is no row: nobody rides, at no cost
+abbrev pub no_row : TripRow
+no_row = record { vehicle = 0; riders = record { items = [] }; cost = 0 }
+
+-- the row of this number
+abbrev pub row_at : Graph → ℕ → TripRow
+row_at g k = slice_index_or g.rows k no_row
+
+abbrev pub vehicle_at : Graph → ℕ → ℕ
+vehicle_at g k = (row_at g k).vehicle
+
+abbrev pub riders_at : Graph → ℕ → List ℕ
+riders_at g k = (row_at g k).riders.items
+
+abbrev pub cost_at : Graph → ℕ → ℕ
+cost_at g k = (row_at g k).cost
+
+-- whether this rider is in the row's trip
+abbrev pub has_rider : Graph → ℕ → ℕ → Bool
+has_rider g k r = list_any (λ x. x == r) (riders_at g k)
+
+-- the number is that of a row of this vehicle
+pub record IsRowOf (g : Graph) (v k : ℕ) : Type 0 where
+  pub within : k < length g.rows
+  pub own : vehicle_at g k ≡ v
+
+-- the vehicle has no row
+abbrev pub HasNoRow : Graph → ℕ → Type 0
+HasNoRow g v = (k : ℕ) → IsRowOf g v k → ⊥
+
+-- what a list of rows, one or none for each vehicle, gives this vehicle
+abbrev pub choice_at : List (Option ℕ) → ℕ → Option ℕ
+choice_at chosen v = slice_index_or chosen v None
+
+-- whether this rider is in the trip of a chosen row; in none there is nobody
+abbrev pub is_in : Graph → Option ℕ → ℕ → Bool
+is_in g None r = false
+is_in g (Some k) r = has_rider g k r
+
+-- how many of the rows that the first n vehicles are given have this rider
+unfoldable pub times_served : Graph → List (Option ℕ) → ℕ → ℕ → ℕ
+times_served g chosen n r = count_below n (λ v. is_in g (choice_at chosen v) r)
+
+-- a rider in a held row must be served
+abbrev pub must_be_served : Graph → ℕ → Bool
+must_be_served g r = nat_lt 0 (times_served g g.held g.vehicles r)
+
+-- the riders rise and are all below this number
+pub record AreRisingBelow (riders : ℕ) (members : List ℕ) : Type 0 where
+  pub below : (i : ℕ) → i < length members → slice_index members i < riders
+  pub rising : IsStrictlyIncreasing members
+
+-- a row's vehicle and riders exist, its riders rise, they are at most six, and it costs at most 1,000,000,000
+pub record IsRow (vehicles riders : ℕ) (row : TripRow) : Type 0 where
+  pub vehicle : row.vehicle < vehicles
+  pub members : AreRisingBelow riders row.riders.items
+  pub few : length row.riders.items ≤ 6
+  pub cheap : row.cost ≤ 1000000000
+
+-- rows stand by vehicle, then size, then riders
+abbrev pub row_cmp : TripRow → TripRow → Ordering
+row_cmp a b =
+    ordering_then (nat_cmp a.vehicle b.vehicle)
+    (ordering_then (nat_cmp (length a.riders.items) (length b.riders.items))
+    (slice_cmp nat_cmp a.riders.items b.riders.items))
+
+-- the row of this number is above the one before it
+abbrev pub IsInOrder : Graph → ℕ → Type 0
+IsInOrder g k = row_cmp (row_at g k) (row_at g (suc k)) ≡ Less
+
+-- a vehicle with rows holds one of its own, whose riders no earlier vehicle holds; one without holds none
+abbrev pub HoldsRightly : Graph → ℕ → Type 0
+HoldsRightly g v =
+    MatchOption (slice_index_or g.held v None) (HasNoRow g v)
+    (λ k. IsRowOf g v k × ((r : ℕ) → IsTrue (has_rider g k r) → times_served g g.held v r ≡ 0))
+
+-- how large a graph may be
+pub record IsWithinLimits (g : Graph) : Type 0 where
+  pub vehicles : g.vehicles ≤ 500
+  pub riders : g.riders ≤ 1000
+  pub penalty : g.penalty ≤ 1000000000
+  pub rows : length g.rows ≤ 2000000
+
+-- a graph is good where its rows are, each is above the one before it, and each vehicle holds rightly
+pub record IsGoodGraph (g : Graph) : Type 0 where
+  pub limits : IsWithinLimits g
+  pub rows : (k : ℕ) → k < length g.rows → IsRow g.vehicles g.riders (row_at g k)
+  pub order : (k : ℕ) → suc k < length g.rows → IsInOrder g k
+  pub sized : length g.held ≡ g.vehicles
+  pub holds : (v : ℕ) → v < g.vehicles → HoldsRightly g v
+
+-- the rows before this one are those of the vehicles before this one
+pub record IsStartOf (g : Graph) (v start : ℕ) : Type 0 where
+  pub within : start ≤ length g.rows
+  pub below : (k : ℕ) → k < start → vehicle_at g k < v
+  pub above : (k : ℕ) → start ≤ k → k < length g.rows → v ≤ vehicle_at g k
+
+-- the rows of vehicle v begin at the v-th of these numbers and end before the next one
+pub record IsRowIndex (g : Graph) (index : List ℕ) : Type 0 where
+  pub sized : length index ≡ g.vehicles + 1
+  pub starts : (v : ℕ) → v ≤ g.vehicles → IsStartOf g v (slice_index index v)
+
+-- each choice of these is a row of the graph
+abbrev pub ChoosesRows : Graph → List (Option ℕ) → Type 0
+ChoosesRows g chosen = (v k : ℕ) → choice_at chosen v ≡ Some k → k < length g.rows
+
+-- the r-th says whether one of the first n vehicles holds rider r
+pub record MarksHeld (g : Graph) (n : ℕ) (flags : List Bool) : Type 0 where
+  pub sized : length flags ≡ g.riders
+  pub marks : (r : ℕ) → r < g.riders → slice_index_or flags r false ≡ nat_lt 0 (times_served g g.held n r)
+
+-- the r-th says whether rider r must be served
+abbrev pub MarksMust : Graph → List Bool → Type 0
+MarksMust g flags = MarksHeld g g.vehicles flags
+
+-- what a trip graph keeps beside its parts
+pub record IsKept (g : Graph) (index : List ℕ) (flags : List Bool) : Type 0 where
+  pub good : IsGoodGraph g
+  pub starts : IsRowIndex g index
+  pub must : MarksMust g flags

@@ -1,0 +1,10 @@
+pub mod Sums
+pub mod Graph
+pub mod GraphFault
+pub mod Parts
+pub mod Plan
+pub mod Greedy
+pub mod Multipliers
+pub mod Tree
+pub mod Path
+pub mod Rank

@@ -1,0 +1,65 @@
+//! Judges which row each vehicle holds, and marks the riders who must be served.
+ghost use Rattle.std.specs.Prelude.{◌≡◌, ◌+◌, ◌<◌, ◌≤◌, ◌↔◌, ℕ, IsTrue, IfOk, IfErr, OnOk, length, slice_index, slice_index_or, false, nat_lt, Option};
+ghost use Rattle.plan_rules.specs.Graph.{IsRowIndex, MarksMust, MarksHeld, HoldsRightly, IsWithinLimits};
+ghost use Rattle.plan_rules.specs.GraphFault.{HasGoodRows, HasRowsInOrder, IsFaultOf, HasHeldRows};
+ghost use Rattle.plan_rules.specs.Parts.{graph_of};
+
+use crate::fault::GraphFault;
+use crate::marks::{is_any_marked, mark_riders};
+use crate::parts::Parts;
+use std::alloc::Global;
+
+/// Whether this vehicle holds rightly, where the riders that earlier ones hold are marked; then its
+/// riders are marked too.
+fn mark_held_by(parts: &Parts, starts: &[u32], vehicle: usize, marks: &mut [bool]) -> bool
+    requires rows { HasGoodRows (graph_of parts.now) }
+    requires starts { IsRowIndex (graph_of parts.now) starts.now }
+    requires vehicle { vehicle < parts.now.vehicles }
+    requires held { vehicle < length parts.now.held.items }
+    requires marked { MarksHeld (graph_of parts.now) vehicle marks.old }
+    ensures variant { IsTrue result ↔ HoldsRightly (graph_of parts.now) vehicle }
+    ensures marked { IsTrue result → MarksHeld (graph_of parts.now) (vehicle + 1) marks.new }
+{
+    match parts.held[vehicle] {
+        None => starts[vehicle] == starts[vehicle + 1],
+        Some(row) => {
+            let row = row as usize;
+            if row >= parts.rows.len() || parts.rows[row].vehicle != vehicle {
+                return false;
+            }
+            let riders = parts.rows[row].riders.as_slice();
+            if is_any_marked(riders, marks) {
+                return false;
+            }
+            mark_riders(riders, marks);
+            true
+        }
+    }
+}
+
+/// The marks of the riders who must be served.
+pub fn mark_held(alloc: Global, parts: &Parts, starts: &[u32]) -> Result<Vec<bool>, GraphFault>
+    requires limits { IsWithinLimits (graph_of parts.now) }
+    requires rows { HasGoodRows (graph_of parts.now) }
+    requires order { HasRowsInOrder (graph_of parts.now) }
+    requires starts { IsRowIndex (graph_of parts.now) starts.now }
+    ensures marks { IfOk result (λ marks. MarksMust (graph_of parts.now) marks.items) }
+    ensures held { OnOk result (HasHeldRows (graph_of parts.now)) }
+    ensures fault { IfErr result (IsFaultOf (graph_of parts.now)) }
+{
+    let mut marks = vec![in alloc; false; parts.riders]?;
+    let count = parts.vehicles.min(parts.held.len());
+    for vehicle in 0..count {
+        if !mark_held_by(parts, starts, vehicle, &mut marks) {
+            return Err(GraphFault::Held {
+                vehicle: vehicle as u64,
+            });
+        }
+    }
+    if parts.held.len() != parts.vehicles {
+        return Err(GraphFault::Held {
+            vehicle: parts.vehicles as u64,
+        });
+    }
+    Ok(marks)
+}

@@ -1,0 +1,40 @@
+//! The rules of the assignment: trip graphs, plans and their costs, multipliers and their leaf values,
+//! search trees and what they show.
+//!
+//! A graph is good by its type; the held plan is always lawful; and no lawful plan costs less than the
+//! value of a sound tree. The search and the separate checker both stand on these definitions.
+#![tactic(auto)]
+
+mod fault;
+mod graph;
+mod greedy_plan;
+mod held;
+mod laws;
+mod marks;
+mod multipliers;
+mod node;
+mod parts;
+mod path;
+mod plan;
+mod row;
+mod row_index;
+mod row_order;
+mod rules;
+#[cfg(test)]
+mod tests;
+mod tree;
+
+pub use fault::GraphFault;
+pub use graph::TripGraph;
+pub use greedy_plan::greedy;
+pub use laws::{
+    dead_ends_hold_no_lawful_plan, ends_part_the_plans, leaf_value_is_below_every_cost,
+    tree_value_is_a_bound,
+};
+pub use multipliers::Multipliers;
+pub use node::Node;
+pub use path::{Decision, Path};
+pub use plan::Plan;
+pub use row::TripRow;
+pub use rules::{cost_of, held_plan, is_lawful};
+pub use tree::Tree;

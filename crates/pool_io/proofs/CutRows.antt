@@ -1,0 +1,54 @@
+-- A flat list of fields, cut into rows.
+use Rattle.std.proofs.Common.{◌≡◌, ℕ, zero, suc, ◌+◌, ◌*◌, ◌<◌, ◌≤◌, ◌==◌, not, List, [], ◌∷◌, ◌++◌, Some, None, length, get_or, take, drop, refl, sym, ap, ◌∙◌, arith, true, Bool, inl, inr, length-drop, length-take}
+use Rattle.std.proofs.lemmas.List.{take_all, take-append-le, drop-append-le, get_or-take, get_or-drop, nil_from_length}
+use Rattle.std.proofs.lemmas.Bool.{cases_Bool}
+use Rattle.std.proofs.lemmas.Option.{none-some}
+use Rattle.std.proofs.lemmas.Bool.Decides.{nat_tests}
+use Rattle.std.specs.List.{position_from}
+use Rattle.pool_io.specs.Table.{cut_rows}
+
+pub length-cut_rows : (count columns : ℕ) (fields : List (List ℕ)) → length (cut_rows count columns fields) ≡ count
+length-cut_rows zero columns fields = refl
+length-cut_rows (suc count) columns fields = ap suc (length-cut_rows count columns (drop columns fields))
+
+-- one more record's fields at the end are one more row
+pub cut_rows-append : (count columns : ℕ) (fields row : List (List ℕ)) → length fields ≡ count * columns → length row ≡ columns
+    → cut_rows (suc count) columns (fields ++ row) ≡ cut_rows count columns fields ++ row ∷ []
+cut_rows-append zero columns fields row flat even =
+    let none : fields ≡ [] = nil_from_length fields (omega (arith, flat)) in
+    rw none (ap (λ (r : List (List ℕ)). r ∷ []) (take_all columns row (omega (arith, even))))
+cut_rows-append (suc count) columns fields row flat even =
+    let long : columns ≤ length fields = grind arith in
+    let flat2 : length (drop columns fields) ≡ count * columns = rw length-drop (grind arith) in
+    rw (take-append-le columns fields row long, drop-append-le columns fields row long) (ap (λ (rows : List (List (List ℕ))). take columns fields ∷ rows) (cut_rows-append count columns (drop columns fields) row flat2 even))
+
+-- a field of a row stands in the flat list
+pub cut_rows-field : (count columns : ℕ) (fields : List (List ℕ)) (row column : ℕ) → row < count → column < columns
+    → get_or (get_or (cut_rows count columns fields) row []) column [] ≡ get_or fields (row * columns + column) []
+cut_rows-field zero columns fields row column below within = absurd (omega (arith, below))
+cut_rows-field (suc count) columns fields zero column below within =
+    let place : 0 * columns + column ≡ column = grind arith in
+    rw (place, get_or-take columns fields column [] within) refl
+cut_rows-field (suc count) columns fields (suc row) column below within =
+    let place : suc row * columns + column ≡ columns + (row * columns + column) = grind arith in
+    rw (place, ← get_or-drop columns fields (row * columns + column) []) (cut_rows-field count columns (drop columns fields) row column (omega (arith, below)) within)
+
+-- no row has another number of fields
+pub position_from-cut_rows : (count columns : ℕ) (fields : List (List ℕ)) (start : ℕ) → length fields ≡ count * columns
+    → position_from (λ (row : List (List ℕ)). not (length row == columns)) start (cut_rows count columns fields) ≡ None
+position_from-cut_rows zero columns fields start flat = refl
+position_from-cut_rows (suc count) columns fields start flat =
+    let flat2 : length (drop columns fields) ≡ count * columns = rw length-drop (grind arith) in
+    let even : length (take columns fields) ≡ columns = rw length-take (grind arith) in
+    let test : (length (take columns fields) == columns) ≡ true = grind (arith, nat_tests) in
+    rw test (position_from-cut_rows count columns (drop columns fields) (start + 1) flat2)
+
+-- the first that passes stands after those that don't
+pub position_from-first : {A : Type 0} (test : A → Bool) (start : ℕ) (front : List A) (x : A) (more : List A)
+    → position_from test start front ≡ None → test x ≡ true → position_from test start (front ++ x ∷ more) ≡ Some (start + length front)
+position_from-first test start [] x more none here = rw here (ap Some (omega arith))
+position_from-first test start (y ∷ front) x more none here =
+    elim (cases_Bool (test y)) [
+      | inl passes ↦ absurd (none-some start (sym (rw passes at none)))
+      | inr fails ↦ rw fails (position_from-first test (start + 1) front x more (rw fails at none) here ∙ ap Some (omega arith))
+    ]

@@ -1,0 +1,14 @@
+-- When two records are told to be equal.
+use Rattle.std.proofs.Common.{◌≡◌, ℕ, List, Bool, true, false, refl}
+use Rattle.std.proofs.lemmas.Slice.Eq.{bytes_eq-Decides, slice_eq-Decides}
+use Rattle.pool_io.specs.Table.{is_record}
+
+pub is_record-same : (fields others : List (List ℕ)) → fields ≡ others → is_record fields others ≡ true
+is_record-same fields others same = (slice_eq-Decides bytes_eq-Decides fields others (is_record fields others) refl).1 same
+
+pub is_record-other : (fields others : List (List ℕ)) → (fields ≡ others → ⊥) → is_record fields others ≡ false
+is_record-other fields others differ = by (is_record fields others) (λ told. differ ((slice_eq-Decides bytes_eq-Decides fields others (is_record fields others) refl).0 told))
+  where
+    by : (b : Bool) → (b ≡ true → ⊥) → b ≡ false
+    by true h = absurd (h refl)
+    by false h = refl

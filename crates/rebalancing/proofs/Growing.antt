@@ -1,0 +1,238 @@
+use Rattle.std.proofs.Common.{◌≡◌, ◌≢◌, ℕ, ◌+◌, ◌*◌, ◌<◌, ◌≤◌, ◌⊎◌, List, [], ◌∷◌, ◌++◌, length, slice_index, set, replicate, refl, sym, ap, ◌∙◌, inl, inr, ⊎_elim, arith}
+use Rattle.std.proofs.lemmas.Bool.{cases_eq, cases_lt}
+use Rattle.std.proofs.lemmas.List.{length-set, get_or-set_same, get_or-set_other, get_or_append_left, get_or_push, length_push, get_or-replicate, length-replicate}
+use Rattle.rebalancing.specs.Potentials.{pair_worth}
+use Rattle.rebalancing.specs.Prices.{IsPriced}
+use Rattle.rebalancing.specs.Relaxation.{Relaxes}
+use Rattle.rebalancing.specs.SearchTree.{IsGrown, IsReached, IsCheapest}
+
+-- no rider's price is above a pair's worth
+pub b_most : {n m : ℕ} {w : ℕ → ℕ → ℕ} {done next : ℕ} {a b q p : List ℕ} → IsPriced n m w done next a b q p → (j : ℕ) → j < m → slice_index b j ≤ pair_worth
+b_most {n} {m} {w} {done} {next} {a} {b} {q} {p} priced j hj =
+    ⊎_elim
+    (λ (matched : slice_index p j < n).
+    let back : slice_index q (slice_index p j) ≡ j = priced.back j hj matched in
+    let tight : slice_index a (slice_index p j) + slice_index b j ≡ w (slice_index p j) j = rw back at (priced.tight (slice_index p j) matched (rw back hj)) in
+    let light : w (slice_index p j) j ≤ pair_worth = priced.light (slice_index p j) j matched hj in
+    omega arith)
+    (λ (free : n ≤ slice_index p j). let is : slice_index b j ≡ 0 = priced.free_rider j hj free in omega arith)
+    (cases_lt (slice_index p j) n)
+
+-- the vehicle whose search begins no longer waits
+pub IsPriced-begin : {n m : ℕ} {w : ℕ → ℕ → ℕ} {k : ℕ} {a b q p : List ℕ} → IsPriced n m w k k a b q p → IsPriced n m w k (k + 1) a b q p
+IsPriced-begin priced = record {
+  a_length = priced.a_length;
+  b_length = priced.b_length;
+  q_length = priced.q_length;
+  p_length = priced.p_length;
+  q_most = priced.q_most;
+  p_most = priced.p_most;
+  a_most = priced.a_most;
+  light = priced.light;
+  covers = priced.covers;
+  tight = priced.tight;
+  forth = priced.forth;
+  back = priced.back;
+  free_rider = priced.free_rider;
+  free_vehicle = priced.free_vehicle;
+  waiting = λ i hi le. priced.waiting i hi (omega arith);
+  waiting_price = λ i hi le. priced.waiting_price i hi (omega arith);
+}
+
+module _ {n m : ℕ} {w : ℕ → ℕ → ℕ} {k : ℕ} {a b q p : List ℕ} (priced : IsPriced n m w k k a b q p) (hk : k < n) where
+  -- a tree of the root alone
+  pub IsGrown-root : IsGrown n m w k a b q (k ∷ []) (m ∷ []) (0 ∷ []) (replicate m 0)
+  IsGrown-root = record {
+    rooted = omega arith;
+    root = refl;
+    root_free = priced.waiting k hk (omega arith);
+    c_length = refl;
+    parent_length = refl;
+    place_length = length-replicate {A = ℕ} m 0;
+    vehicle = λ t ht. let z : t ≡ 0 = omega arith in rw z hk;
+    rider = λ t pt ht. absurd (omega arith);
+    partner = λ t pt ht. absurd (omega arith);
+    earlier = λ t pt ht. absurd (omega arith);
+    edge = λ t pt ht. absurd (omega arith);
+    placed = λ t pt ht. absurd (omega arith);
+    place_most = λ j hj. rw (get_or-replicate {A = ℕ} m j 0 0 hj) (omega arith);
+    found = λ j hj pp. let is : slice_index (replicate m 0) j ≡ 0 = get_or-replicate {A = ℕ} m j 0 0 hj in absurd (omega arith);
+  }
+
+  -- every rider is tight with the root first
+  pub IsReached-root : {row place ta po ta' po' : List ℕ} {huge : ℕ} → length row ≡ m → length ta ≡ m → length po ≡ m → ((j : ℕ) → j < m → slice_index row j ≡ w k j) → ((j : ℕ) → j < m → slice_index ta j ≡ huge) → 2 * pair_worth < huge
+      → Relaxes row b place (slice_index a k) 0 ta po ta' po' → IsReached m w a b (k ∷ []) place ta' po' 0
+  IsReached-root {row} {place} {ta} {po} {ta'} {po'} {huge} row_length ta_length po_length weights far large relaxes =
+      let from : (j : ℕ) → j < m → slice_index place j ≡ 0 → (w k j + slice_index ta' j ≡ slice_index a k + slice_index b j) × (slice_index po' j ≡ 0) = λ j hj out.
+      let weight : slice_index row j ≡ w k j = weights j hj in
+      ⊎_elim
+      (λ (new : (slice_index row j + slice_index ta' j ≡ slice_index a k + slice_index b j) × (slice_index po' j ≡ 0)). (rw weight at new.0, new.1))
+      (λ (old : (slice_index ta' j ≡ slice_index ta j) × (slice_index po' j ≡ slice_index po j)).
+      let bound : slice_index row j + slice_index ta' j ≤ slice_index a k + slice_index b j = relaxes.bounded j (rw row_length hj) out in
+      let is : slice_index ta' j ≡ slice_index ta j = old.0 in
+      let at : slice_index ta j ≡ huge = far j hj in
+      let price : slice_index b j ≤ pair_worth = b_most priced j hj in
+      let root_price : slice_index a k ≤ pair_worth = priced.a_most k hk in
+      absurd (omega arith))
+      (relaxes.from j (rw row_length hj) out)
+      in
+      record {
+        tight_length = relaxes.tight_length ∙ ta_length;
+        of_length = relaxes.parent_length ∙ po_length;
+        not_past = λ j hj out. omega arith;
+        of_within = λ j hj out. rw (from j hj out).1 (omega arith);
+        no_earlier = λ j t hj out ht. let z : t ≡ 0 = omega arith in rw z (let e : w k j + slice_index ta' j ≡ slice_index a k + slice_index b j = (from j hj out).0 in omega arith);
+        exactly = λ j hj out. rw (from j hj out).1 (let e : w k j + slice_index ta' j ≡ slice_index a k + slice_index b j = (from j hj out).0 in omega arith);
+      }
+
+  pub IsCheapest-root : IsCheapest k a (k ∷ []) 0 0
+  IsCheapest-root = record {
+    within = omega arith;
+    least = λ t ht. let z : t ≡ 0 = omega arith in rw z (omega arith);
+    fallen = let e : slice_index a k ≡ pair_worth = priced.waiting_price k hk (omega arith) in omega arith;
+  }
+
+module _ {n m : ℕ} {w : ℕ → ℕ → ℕ} {k : ℕ} {a b q p r c parent place ta po : List ℕ} {lowered cheapest j v : ℕ}
+    (priced : IsPriced n m w k (k + 1) a b q p) (grown : IsGrown n m w k a b q r c parent place) (reached : IsReached m w a b r place ta po lowered) (cheap : IsCheapest k a r cheapest lowered)
+    (hj : j < m) (out : slice_index place j ≡ 0) (tight : slice_index ta j ≡ lowered) (matched : slice_index p j < n) (ev : slice_index p j ≡ v) where
+  v_within : v < n
+  v_within = rw (← ev) matched
+
+  r_old : (t : ℕ) → t < length r → slice_index (r ++ v ∷ []) t ≡ slice_index r t
+  r_old t h = get_or_append_left r (v ∷ []) 0 t h
+
+  r_new : slice_index (r ++ v ∷ []) (length r) ≡ v
+  r_new = get_or_push r v 0 (length r) refl
+
+  c_old : (t : ℕ) → t < length r → slice_index (c ++ j ∷ []) t ≡ slice_index c t
+  c_old t h = get_or_append_left c (j ∷ []) 0 t (rw grown.c_length h)
+
+  c_new : slice_index (c ++ j ∷ []) (length r) ≡ j
+  c_new = get_or_push c j 0 (length r) grown.c_length
+
+  parent_old : (t : ℕ) → t < length r → slice_index (parent ++ slice_index po j ∷ []) t ≡ slice_index parent t
+  parent_old t h = get_or_append_left parent (slice_index po j ∷ []) 0 t (rw grown.parent_length h)
+
+  parent_new : slice_index (parent ++ slice_index po j ∷ []) (length r) ≡ slice_index po j
+  parent_new = get_or_push parent (slice_index po j) 0 (length r) grown.parent_length
+
+  -- the positions of the larger tree are the old ones and one more
+  positions : (t : ℕ) → t < length (r ++ v ∷ []) → (t < length r) ⊎ (t ≡ length r)
+  positions t h = ⊎_elim (λ (lt : t < length r). inl lt) (λ (le : length r ≤ t). inr (omega (arith, length_push r v))) (cases_lt t (length r))
+
+  place_new : slice_index (set place j (length r)) j ≡ length r
+  place_new = get_or-set_same place j (length r) 0 (rw grown.place_length hj)
+
+  place_other : (i : ℕ) → i ≢ j → slice_index (set place j (length r)) i ≡ slice_index place i
+  place_other i ne = get_or-set_other place j i (length r) 0 ne
+
+  -- a rider outside the larger tree is outside the old one
+  outside : (i : ℕ) → slice_index (set place j (length r)) i ≡ 0 → slice_index place i ≡ 0
+  outside i h = ⊎_elim (λ (e : i ≡ j). rw e out) (λ (ne : i ≢ j). sym (place_other i ne) ∙ h) (cases_eq i j)
+
+  pub IsGrown-more : IsGrown n m w k a b q (r ++ v ∷ []) (c ++ j ∷ []) (parent ++ slice_index po j ∷ []) (set place j (length r))
+  IsGrown-more = record {
+    rooted = omega (arith, length_push r v);
+    root = r_old 0 grown.rooted ∙ grown.root;
+    root_free = grown.root_free;
+    c_length = let e : length c ≡ length r = grown.c_length in omega (arith, length_push r v, length_push c j);
+    parent_length = let e : length parent ≡ length r = grown.parent_length in omega (arith, length_push r v, length_push parent (slice_index po j));
+    place_length = length-set place j (length r) ∙ grown.place_length;
+    vehicle = λ t ht. ⊎_elim (λ (lt : t < length r). rw (r_old t lt) (grown.vehicle t lt)) (λ (e : t ≡ length r). rw (e, r_new) v_within) (positions t ht);
+    rider = λ t pt ht. ⊎_elim (λ (lt : t < length r). rw (c_old t lt) (grown.rider t pt lt)) (λ (e : t ≡ length r). rw (e, c_new) hj) (positions t ht);
+    partner = λ t pt ht. ⊎_elim (λ (lt : t < length r). rw (r_old t lt, c_old t lt) (grown.partner t pt lt)) (λ (e : t ≡ length r). rw (e, r_new, c_new) (rw ev at (priced.back j hj matched))) (positions t ht);
+    earlier = λ t pt ht. ⊎_elim (λ (lt : t < length r). rw (parent_old t lt) (grown.earlier t pt lt)) (λ (e : t ≡ length r). rw (e, parent_new) (reached.of_within j hj out)) (positions t ht);
+    edge = λ t pt ht. ⊎_elim
+        (λ (lt : t < length r).
+        let before : slice_index parent t < length r = let h : slice_index parent t < t = grown.earlier t pt lt in omega arith in
+        rw (parent_old t lt, r_old (slice_index parent t) before, c_old t lt) (grown.edge t pt lt))
+        (λ (e : t ≡ length r).
+        let before : slice_index po j < length r = reached.of_within j hj out in
+        let exactly : w (slice_index r (slice_index po j)) j + slice_index ta j ≡ slice_index a (slice_index r (slice_index po j)) + slice_index b j + lowered = reached.exactly j hj out in
+        rw (e, parent_new, r_old (slice_index po j) before, c_new) (omega arith))
+        (positions t ht);
+    placed = λ t pt ht. ⊎_elim
+        (λ (lt : t < length r).
+        let at : slice_index place (slice_index c t) ≡ t = grown.placed t pt lt in
+        let other : slice_index c t ≢ j = λ e. let same : slice_index place (slice_index c t) ≡ slice_index place j = ap (slice_index place) e in omega arith in
+        rw (c_old t lt) (place_other (slice_index c t) other ∙ at))
+        (λ (e : t ≡ length r). rw (e, c_new) place_new)
+        (positions t ht);
+    place_most = λ i hi. ⊎_elim
+        (λ (e : i ≡ j). rw (e, place_new) (omega (arith, length_push r v)))
+        (λ (ne : i ≢ j). let is : slice_index (set place j (length r)) i ≡ slice_index place i = place_other i ne in let h : slice_index place i < length r = grown.place_most i hi in omega (arith, length_push r v))
+        (cases_eq i j);
+    found = λ i hi pp. ⊎_elim
+        (λ (e : i ≡ j). rw (e, place_new) c_new)
+        (λ (ne : i ≢ j).
+        let is : slice_index (set place j (length r)) i ≡ slice_index place i = place_other i ne in
+        rw (is, c_old (slice_index place i) (grown.place_most i hi)) (grown.found i hi (rw is at pp)))
+        (cases_eq i j);
+  }
+
+  pub IsReached-more : {row ta' po' : List ℕ} → length row ≡ m → ((i : ℕ) → i < m → slice_index row i ≡ w v i) → Relaxes row b (set place j (length r)) (slice_index a v + lowered) (length r) ta po ta' po'
+      → IsReached m w a b (r ++ v ∷ []) (set place j (length r)) ta' po' lowered
+  IsReached-more {row} {ta'} {po'} row_length weights relaxes =
+      let near : (i : ℕ) → i < m → slice_index (set place j (length r)) i ≡ 0 → w v i + slice_index ta' i ≤ slice_index a v + lowered + slice_index b i =
+      λ i hi away. rw (weights i hi) at (relaxes.bounded i (rw row_length hi) away) in
+      record {
+        tight_length = relaxes.tight_length ∙ reached.tight_length;
+        of_length = relaxes.parent_length ∙ reached.of_length;
+        not_past = λ i hi away. ⊎_elim
+            (λ (new : (slice_index row i + slice_index ta' i ≡ slice_index a v + lowered + slice_index b i) × (slice_index po' i ≡ length r)).
+            let weight : slice_index row i ≡ w v i = weights i hi in
+            let cover : w v i ≤ slice_index a v + slice_index b i = priced.covers v i v_within hi in
+            let is : slice_index row i + slice_index ta' i ≡ slice_index a v + lowered + slice_index b i = new.0 in
+            omega arith)
+            (λ old. rw old.0 (reached.not_past i hi (outside i away)))
+            (relaxes.from i (rw row_length hi) away);
+        of_within = λ i hi away. ⊎_elim
+            (λ new. rw new.1 (omega (arith, length_push r v)))
+            (λ old. rw old.1 (let h : slice_index po i < length r = reached.of_within i hi (outside i away) in omega (arith, length_push r v)))
+            (relaxes.from i (rw row_length hi) away);
+        no_earlier = λ i t hi away ht. ⊎_elim
+            (λ (lt : t < length r).
+            let was : w (slice_index r t) i + slice_index ta i ≤ slice_index a (slice_index r t) + slice_index b i + lowered = reached.no_earlier i t hi (outside i away) lt in
+            let less : slice_index ta' i ≤ slice_index ta i = relaxes.no_later i (rw row_length hi) away in
+            rw (r_old t lt) (omega arith))
+            (λ (e : t ≡ length r). let here : w v i + slice_index ta' i ≤ slice_index a v + lowered + slice_index b i = near i hi away in rw (e, r_new) (omega arith))
+            (positions t ht);
+        exactly = λ i hi away. ⊎_elim
+            (λ (new : (slice_index row i + slice_index ta' i ≡ slice_index a v + lowered + slice_index b i) × (slice_index po' i ≡ length r)).
+            let weight : slice_index row i ≡ w v i = weights i hi in
+            let is : slice_index row i + slice_index ta' i ≡ slice_index a v + lowered + slice_index b i = new.0 in
+            rw (new.1, r_new) (omega arith))
+            (λ (old : (slice_index ta' i ≡ slice_index ta i) × (slice_index po' i ≡ slice_index po i)).
+            let h : slice_index po i < length r = reached.of_within i hi (outside i away) in
+            rw (old.0, old.1, r_old (slice_index po i) h) (reached.exactly i hi (outside i away)))
+            (relaxes.from i (rw row_length hi) away);
+      }
+
+  -- the new vehicle is the cheapest, or the old one stays so
+  pub IsCheapest-new : slice_index a v < slice_index a (slice_index r cheapest) → IsCheapest k a (r ++ v ∷ []) (length r) lowered
+  IsCheapest-new less = record {
+    within = omega (arith, length_push r v);
+    least = λ t ht. rw r_new (⊎_elim
+        (λ (lt : t < length r). let was : slice_index a (slice_index r cheapest) ≤ slice_index a (slice_index r t) = cheap.least t lt in rw (r_old t lt) (omega arith))
+        (λ (e : t ≡ length r). rw (e, r_new) (omega arith))
+        (positions t ht));
+    fallen = cheap.fallen;
+  }
+
+  pub IsCheapest-old : slice_index a (slice_index r cheapest) ≤ slice_index a v → IsCheapest k a (r ++ v ∷ []) cheapest lowered
+  IsCheapest-old le = record {
+    within = let h : cheapest < length r = cheap.within in omega (arith, length_push r v);
+    least = λ t ht. rw (r_old cheapest cheap.within) (⊎_elim
+        (λ (lt : t < length r). rw (r_old t lt) (cheap.least t lt))
+        (λ (e : t ≡ length r). rw (e, r_new) le)
+        (positions t ht));
+    fallen = cheap.fallen;
+  }
+
+  -- the prices and the fall fit
+  pub offset_fits : (i : ℕ) → i < m → slice_index a v + lowered + slice_index b i < 2000000000000
+  offset_fits i hi =
+      let first : slice_index a v ≤ pair_worth = priced.a_most v v_within in
+      let second : slice_index b i ≤ pair_worth = b_most priced i hi in
+      let fallen : slice_index a k + lowered ≡ pair_worth = cheap.fallen in
+      omega arith

@@ -1,0 +1,10 @@
+pub mod PlaceSums
+pub mod MatchingLaw
+pub mod TreePrices
+pub mod Relaxing
+pub mod Rows
+pub mod Shifting
+pub mod Augmenting
+pub mod Growing
+pub mod Inserting
+pub mod Choosing

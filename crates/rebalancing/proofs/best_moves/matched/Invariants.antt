@@ -1,0 +1,6 @@
+use Rattle.rebalancing.specs.Prices.{IsPricedMatching, IsSized, IsSameProblem}
+use Rattle.rebalancing.specs.SearchTree.{HasRoom}
+use Rattle.rebalancing.proofs.best_moves.matched.Given as goal
+
+abbrev pub invariant-loop-vehicle : goal.invariant-loop-vehicle
+invariant-loop-vehicle l = IsPricedMatching l.vehicle l.vehicle l.matching × IsSized l.matching × HasRoom l.riders l.tree × IsSameProblem l.initial.matching l.matching

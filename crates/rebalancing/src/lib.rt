@@ -1,0 +1,18 @@
+//! Best moves of idle vehicles to riders who were left out.
+//!
+//! `rebalance` matches the two one to one over reachable pairs: most pairs first, then the least total of
+//! seconds. Its answer comes with potentials, from which `potentials_show_best` has it that no other matching is better.
+#![tactic(auto)]
+
+mod best_moves;
+mod law;
+mod matching;
+mod moves;
+#[cfg(test)]
+mod tests;
+mod tree;
+mod weights;
+
+pub use best_moves::rebalance;
+pub use law::potentials_show_best;
+pub use moves::{Moves, Pairs, Potentials};

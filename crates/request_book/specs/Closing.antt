@@ -1,0 +1,64 @@
+use Rattle.std.specs.Prelude.{ℕ, Bool, ◌==◌, ◌&&◌, List, [], ◌∷◌, ◌++◌, Option, None, Some, map, option_map, unwrap_or, is_some, if◌then◌else◌}
+use Rattle.std.specs.List.{flat_map}
+use Rattle.batch_snapshot.specs.Batch.{Batch}
+use Rattle.batch_snapshot.specs.declared.promise.Promise.{Promise}
+use Rattle.batch_snapshot.specs.declared.rider.Rider.{Rider}
+use Rattle.request_book.specs.declared.outcome.Answer.{Answer}
+use Rattle.request_book.specs.declared.outcome.Answer.TheVariants.{Overflow, Planned}
+use Rattle.request_book.specs.declared.outcome.ChosenTrip.{ChosenTrip}
+use Rattle.request_book.specs.declared.outcome.PlannedStop.{PlannedStop}
+use Rattle.request_book.specs.declared.rider.BookRider.{BookRider}
+use Rattle.request_book.specs.declared.rider.Status.{Status}
+use Rattle.request_book.specs.declared.rider.Status.TheVariants.{Waiting, Promised}
+use Rattle.request_book.specs.declared.state.State.{State}
+use Rattle.request_book.specs.Keyed.{look_up, changed_at}
+use Rattle.request_book.specs.Rider.{is_active, is_waiting, with_status}
+
+-- a pick stop: whom it picks, and what it promises
+pub record Pick : Type 0 where
+  pub rider : ℕ
+  pub promise : Promise
+
+-- the pick stops of a vehicle's trip, in their order
+unfoldable pub trip_picks : ℕ → List PlannedStop → List Pick
+trip_picks vehicle [] = []
+trip_picks vehicle (stop ∷ stops) =
+    if stop.pick then (record { rider = stop.rider; promise = record { vehicle = vehicle; pickup = stop.second } }) ∷ trip_picks vehicle stops else trip_picks vehicle stops
+
+-- the pick stops of the chosen trips, in their order
+unfoldable pub picks : List ChosenTrip → List Pick
+picks chosen = flat_map (λ trip. trip_picks trip.vehicle trip.stops.items) chosen
+
+-- the first pick stop of a rider promises; without one the rider waits
+abbrev pub planned_status : List Pick → ℕ → Status
+planned_status ps id = unwrap_or (option_map (λ p. Promised p.promise) (look_up (λ p. p.rider) id ps)) Waiting
+
+-- the rider is one of the snapshot's
+abbrev pub in_batch : List Rider → ℕ → Bool
+in_batch riders id = is_some (look_up (λ r. r.id) id riders)
+
+-- the rider after a plan: who is in the snapshot and still in the pool gets the status that was planned
+abbrev pub after_plan : List Rider → List Pick → BookRider → BookRider
+after_plan riders ps r = if is_active r.status && in_batch riders r.id then with_status (planned_status ps r.id) r else r
+
+-- the riders after an answer for a batch of these riders
+unfoldable pub after_answer : List Rider → Answer → List BookRider → List BookRider
+after_answer batch Overflow riders = riders
+after_answer batch (Planned plan) riders = map (after_plan batch (picks plan.chosen)) riders
+
+-- the state after the close of the sealed batch
+unfoldable pub closed_state : State → Answer → State
+closed_state s answer = elim s.sealed [ None ↦ s | Some b ↦ record s { riders = after_answer b.riders answer s.riders; sealed = None } ]
+
+-- a rider of the pool waits again
+abbrev pub waits_again : BookRider → BookRider
+waits_again r = if is_active r.status then with_status Waiting r else r
+
+-- the rider, where a pick stop is theirs: who is in the snapshot and waits is promised
+abbrev pub takes_promise : List Rider → Pick → BookRider → BookRider
+takes_promise riders p r = if in_batch riders p.rider && is_waiting r.status then with_status (Promised p.promise) r else r
+
+-- the riders after these pick stops, one after another
+unfoldable pub promised_in_turn : List Rider → List Pick → List BookRider → List BookRider
+promised_in_turn riders [] rs = rs
+promised_in_turn riders (p ∷ ps) rs = promised_in_turn riders ps (changed_at (λ r. r.id) p.rider (takes_promise riders p) rs)

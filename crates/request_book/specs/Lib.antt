@@ -1,0 +1,11 @@
+pub mod Keyed
+pub mod Rider
+pub mod State
+pub mod Refusals
+pub mod Sealing
+pub mod Closing
+pub mod Register
+pub mod Step
+pub mod Replay
+pub mod Consistent
+pub mod Book

@@ -1,0 +1,50 @@
+use Rattle.std.specs.Prelude.{ℕ, Bool, ◌+◌, ◌-◌, ◌^◌, ◌&&◌, List, Option, None, Some, map, min, option_map, nat_lt, nat_le, if◌then◌else◌}
+use Rattle.std.specs.List.{filter_map}
+use Rattle.batch_snapshot.specs.Batch.{Batch}
+use Rattle.batch_snapshot.specs.declared.rider.Rider.{Rider}
+use Rattle.request_book.specs.declared.rider.BookRider.{BookRider}
+use Rattle.request_book.specs.declared.rider.Status.TheVariants.{Expired}
+use Rattle.request_book.specs.declared.state.State.{State}
+use Rattle.request_book.specs.Keyed.{by_key}
+use Rattle.request_book.specs.Rider.{is_active, pool_promise, shown, with_status}
+
+-- the rider is in the pool, and their wait is over
+abbrev pub is_over : ℕ → ℕ → BookRider → Bool
+is_over wait now r = is_active r.status && nat_lt (r.time + wait) now
+
+-- the rider after a seal: whose wait is over expires
+abbrev pub after_seal : ℕ → ℕ → BookRider → BookRider
+after_seal wait now r = if is_over wait now r then with_status Expired r else r
+
+-- the id of a rider whose wait is over
+abbrev pub over_id : ℕ → ℕ → BookRider → Option ℕ
+over_id wait now r = if is_over wait now r then Some r.id else None
+
+-- a rider of the pool who asked by now, as a snapshot shows them
+abbrev pub asking : ℕ → BookRider → Option Rider
+asking now r = if nat_le r.time now then option_map (shown r) (pool_promise r.status) else None
+
+-- one more, at most the greatest u64
+abbrev pub one_more : ℕ → ℕ
+one_more n = min (n + 1) (2 ^ 64 - 1)
+
+-- the batch of a seal: all vehicles; whose wait is over, by rising id; who is then in the pool and asked by
+-- now, by rising id
+unfoldable pub batch_of : ℕ → State → ℕ → Batch
+batch_of wait s now = record {
+  number = one_more s.batches;
+  sealed_at = now;
+  vehicles = s.vehicles;
+  riders = by_key (λ r. r.id) (filter_map (asking now) (map (after_seal wait now) s.riders));
+  expired = by_key (λ id. id) (filter_map (over_id wait now) s.riders);
+}
+
+-- the state after a seal
+unfoldable pub sealed_state : ℕ → State → ℕ → State
+sealed_state wait s now = record {
+  riders = map (after_seal wait now) s.riders;
+  vehicles = s.vehicles;
+  last_seal = Some now;
+  sealed = Some (batch_of wait s now);
+  batches = one_more s.batches;
+}

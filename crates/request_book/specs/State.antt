@@ -1,0 +1,28 @@
+use Rattle.std.specs.Prelude.{ℕ, Bool, ◌==◌, List, Option, count_by}
+use Rattle.std.specs.List.{list_any}
+use Rattle.batch_snapshot.specs.declared.passenger.Passenger.{Passenger}
+use Rattle.batch_snapshot.specs.declared.vehicle.Vehicle.{Vehicle}
+use Rattle.request_book.specs.declared.rider.BookRider.{BookRider}
+use Rattle.request_book.specs.declared.state.State.{State}
+use Rattle.request_book.specs.Keyed.{look_up}
+use Rattle.request_book.specs.Rider.{is_active}
+
+-- the rider of this id
+abbrev pub find_rider : ℕ → List BookRider → Option BookRider
+find_rider = look_up (λ r. r.id)
+
+-- the vehicle of this id
+abbrev pub find_vehicle : ℕ → List Vehicle → Option Vehicle
+find_vehicle = look_up (λ v. v.id)
+
+-- the passenger of this id
+abbrev pub find_passenger : ℕ → List Passenger → Option Passenger
+find_passenger = look_up (λ p. p.rider)
+
+-- how many riders wait or have a promise
+abbrev pub pool_count : List BookRider → ℕ
+pool_count riders = count_by (λ r. is_active r.status) riders
+
+-- the node is one of these
+abbrev pub has_node : List ℕ → ℕ → Bool
+has_node nodes node = list_any (λ n. n == node) nodes

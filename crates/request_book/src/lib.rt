@@ -1,0 +1,28 @@
+//! The book of a dispatcher: who asked, who has a promise, who is aboard of which vehicle, and the one
+//! journal of commands and replies.
+//!
+//! `Book::apply` answers each command by the step table, whose definition is one function over plain
+//! lists; the book keeps that its state is that step run over its journal. A refused command is an entry
+//! of the journal and changes nothing else.
+#![tactic(auto)]
+
+mod closing;
+mod command;
+mod journal;
+mod outcome;
+mod refusals;
+mod register;
+mod reply;
+mod rider;
+mod riding;
+mod sealing;
+mod state;
+
+pub use command::Command;
+pub use journal::{Entry, Journal};
+pub use outcome::{
+    Answer, ChosenTrip, LateVehicle, MoveLine, Outcome, Planned, PlannedStop, RowLine,
+};
+pub use reply::{BookRefusal, Reply};
+pub use rider::{BookRider, Status};
+pub use state::State;

@@ -1,0 +1,18 @@
+use crate::rider::BookRider;
+use batch_snapshot::{Snapshot, Vehicle};
+use pool_base::{Second, Sequence};
+
+/// All riders and vehicles of a book at one moment.
+#[derive(Debug, Drop)]
+pub struct State {
+    /// In the order in which they were accepted.
+    pub riders: Sequence<BookRider>,
+    /// By rising id.
+    pub vehicles: Sequence<Vehicle>,
+    /// The second of the last seal.
+    pub last_seal: Option<Second>,
+    /// The batch that is sealed and not closed.
+    pub sealed: Option<Snapshot>,
+    /// How many batches were sealed.
+    pub batches: u64,
+}

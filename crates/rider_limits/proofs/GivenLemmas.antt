@@ -1,0 +1,225 @@
+use Rattle.std.proofs.Common.{◌≡◌, ℕ, ◌+◌, ◌<◌, ◌≤◌, ◌^◌, Bool, true, false, not, cond, List, [], ◌∷◌, ◌++◌, Option, Some, None, length, take, drop, nat_eq, nat_lt, nat_le, is_some, refl, sym, ap, ◌∙◌, inl, inr, lit≤, arith}
+use Rattle.std.specs.List.{list_all, prefix_len, position_or_len, before_first, after_first}
+use Rattle.std.specs.Option.{option_map, option_map_or, option_or}
+use Rattle.std.proofs.lemmas.List.{append_assoc, length-append, take_at, drop_at, length_push}
+use Rattle.std.proofs.lemmas.Bool.{and_parts, cases_Bool, lt-ltb, leb-true}
+use Rattle.pool_base.specs.declared.which.Which.TheVariants.{Network, Fleet, Script}
+use Rattle.pool_base.specs.Number.{value_of}
+use Rattle.pool_base.specs.Numeral.{is_numeral, number_up_to}
+use Rattle.pool_base.proofs.NumeralLemmas.{number_up_to-some}
+use Rattle.rider_limits.specs.declared.command.Command.{Command}
+use Rattle.rider_limits.specs.declared.command.Command.TheVariants.{Run, Load}
+use Rattle.rider_limits.specs.declared.key.Key.{Key}
+use Rattle.rider_limits.specs.declared.key.Key.TheVariants.{Input, Notices, Wait, Delay, Trip, Penalty, Budget, Pairs, Workers, Proof, Dwell, Seed, Side, Vehicles, Riders, Rounds}
+use Rattle.rider_limits.specs.declared.key.Takes.TheVariants.{Number}
+use Rattle.rider_limits.specs.declared.word_fault.WordFault.TheVariants.{UnknownKey, Repeated, BadValue}
+use Rattle.rider_limits.specs.Key.{name_of, has_key, key_of, takes_of, default_of, accepts, IsNumber, IsTaken}
+use Rattle.rider_limits.specs.Words.{after_key, text_given, option_of, fault_at, first_fault}
+use Rattle.rider_limits.proofs.WordsLemmas.{after_key-some}
+
+-- a front that passes, before one that fails, is the longest front that passes
+prefix_len-front : (p : ℕ → Bool) (xs : List ℕ) (y : ℕ) (ys : List ℕ) → list_all p xs ≡ true → p y ≡ false → prefix_len p (xs ++ y ∷ ys) ≡ length xs
+prefix_len-front p [] y ys pass fails = ap (λ b. cond b (1 + prefix_len p ys) 0) fails
+prefix_len-front p (x ∷ xs) y ys pass fails =
+    let parts = and_parts (p x) (list_all p xs) pass in
+    let rest = prefix_len-front p xs y ys parts.1 fails in
+    ap (λ b. cond b (1 + prefix_len p (xs ++ y ∷ ys)) 0) parts.0 ∙ omega (arith, rest)
+
+-- no key's name has `=` in it
+name_lacks_equals : (key : Key) → list_all (λ c. not (nat_eq c 61)) (name_of key) ≡ true
+name_lacks_equals (Input Network) = refl
+name_lacks_equals (Input Fleet) = refl
+name_lacks_equals (Input Script) = refl
+name_lacks_equals Notices = refl
+name_lacks_equals Wait = refl
+name_lacks_equals Delay = refl
+name_lacks_equals Trip = refl
+name_lacks_equals Penalty = refl
+name_lacks_equals Budget = refl
+name_lacks_equals Pairs = refl
+name_lacks_equals Workers = refl
+name_lacks_equals Proof = refl
+name_lacks_equals Dwell = refl
+name_lacks_equals Seed = refl
+name_lacks_equals Side = refl
+name_lacks_equals Vehicles = refl
+name_lacks_equals Riders = refl
+name_lacks_equals Rounds = refl
+
+-- a key is found by its name, where the command has it
+key_of-name : (command : Command) (key : Key) → key_of command (name_of key) ≡ cond (has_key command key) (Some key) None
+unfolding key_of
+key_of-name Run (Input Network) = refl
+key_of-name Run (Input Fleet) = refl
+key_of-name Run (Input Script) = refl
+key_of-name Run Notices = refl
+key_of-name Run Wait = refl
+key_of-name Run Delay = refl
+key_of-name Run Trip = refl
+key_of-name Run Penalty = refl
+key_of-name Run Budget = refl
+key_of-name Run Pairs = refl
+key_of-name Run Workers = refl
+key_of-name Run Proof = refl
+key_of-name Run Dwell = refl
+key_of-name Run Seed = refl
+key_of-name Run Side = refl
+key_of-name Run Vehicles = refl
+key_of-name Run Riders = refl
+key_of-name Run Rounds = refl
+key_of-name Load (Input Network) = refl
+key_of-name Load (Input Fleet) = refl
+key_of-name Load (Input Script) = refl
+key_of-name Load Notices = refl
+key_of-name Load Wait = refl
+key_of-name Load Delay = refl
+key_of-name Load Trip = refl
+key_of-name Load Penalty = refl
+key_of-name Load Budget = refl
+key_of-name Load Pairs = refl
+key_of-name Load Workers = refl
+key_of-name Load Proof = refl
+key_of-name Load Dwell = refl
+key_of-name Load Seed = refl
+key_of-name Load Side = refl
+key_of-name Load Vehicles = refl
+key_of-name Load Riders = refl
+key_of-name Load Rounds = refl
+
+-- a word of a key's name, `=` and a text gives that key and text, where the command has the key
+option_of-named : (command : Command) (key : Key) (word text : List ℕ) → word ≡ name_of key ++ 61 ∷ text → option_of command word ≡ option_map (λ k. (k, text)) (cond (has_key command key) (Some key) None)
+unfolding option_of
+option_of-named command key word text is =
+    let name : List ℕ = name_of key in
+    let at : position_or_len (λ c. nat_eq c 61) word ≡ length name =
+    ap (position_or_len (λ c. nat_eq c 61)) is ∙ prefix_len-front (λ c. not (nat_eq c 61)) name 61 text (name_lacks_equals key) refl in
+    let size : length word ≡ length name + length (61 ∷ text) = ap length is ∙ length-append name (61 ∷ text) in
+    let inside : nat_lt (position_or_len (λ c. nat_eq c 61) word) (length word) ≡ true =
+    lt-ltb (position_or_len (λ c. nat_eq c 61) word) (length word) (omega (arith, at, size)) in
+    let before : before_first (λ c. nat_eq c 61) word ≡ name =
+    ap (λ n. take n word) at ∙ ap (take (length name)) is ∙ take_at name (61 ∷ text) (length name) refl in
+    let after : after_first (λ c. nat_eq c 61) word ≡ text =
+    ap (λ n. drop (n + 1) word) at ∙ ap (drop (length name + 1)) (is ∙ sym (append_assoc name (61 ∷ []) text))
+    ∙ drop_at (name ++ 61 ∷ []) text (length name + 1) (length_push name 61) in
+    ap (λ b. cond b (option_map (λ k. (k, after_first (λ c. nat_eq c 61) word)) (key_of command (before_first (λ c. nat_eq c 61) word))) None) inside
+    ∙ ap (λ n. option_map (λ k. (k, after_first (λ c. nat_eq c 61) word)) (key_of command n)) before
+    ∙ ap (λ t. option_map (λ k. (k, t)) (key_of command name)) after
+    ∙ ap (option_map (λ k. (k, text))) (key_of-name command key)
+
+-- two choices that give nothing give nothing each
+or_none : {X : Type 0} (o p : Option X) → option_or o p ≡ None → (o ≡ None) × (p ≡ None)
+or_none None p none = (refl, none)
+or_none (Some x) p none = absurd (let e : Some x ≡ None = none in cc)
+
+-- a word without a fault gives a key of the command a text that the key takes
+faultless : (command : Command) (key : Key) (earlier : List (List ℕ)) (place : ℕ) (word text : List ℕ) → word ≡ name_of key ++ 61 ∷ text → fault_at earlier place (option_of command word) ≡ None → accepts (takes_of key) text ≡ true
+faultless command key earlier place word text is none =
+    let named = option_of-named command key word text is in
+    let at : fault_at earlier place (option_map (λ k. (k, text)) (cond (has_key command key) (Some key) None)) ≡ None = sym (ap (fault_at earlier place) named) ∙ none in
+    elim (cases_Bool (has_key command key)) [
+      | inl has ↦
+          let found : fault_at earlier place (Some (key, text)) ≡ None = sym (ap (λ b. fault_at earlier place (option_map (λ k. (k, text)) (cond b (Some key) None))) has) ∙ at in
+          elim (cases_Bool (is_some (text_given (name_of key) earlier))) [
+            | inl repeated ↦
+                let e : Some (Repeated place) ≡ None = sym (ap (λ b. cond b (Some (Repeated place)) (cond (accepts (takes_of key) text) None (Some (BadValue place)))) repeated) ∙ found in
+                absurd cc
+            | inr single ↦
+                let judged : cond (accepts (takes_of key) text) None (Some (BadValue place)) ≡ None = sym (ap (λ b. cond b (Some (Repeated place)) (cond (accepts (takes_of key) text) None (Some (BadValue place)))) single) ∙ found in
+                elim (cases_Bool (accepts (takes_of key) text)) [
+                  | inl good ↦ good
+                  | inr bad ↦
+                      let e : Some (BadValue place) ≡ None = sym (ap (λ b. cond b None (Some (BadValue place))) bad) ∙ judged in
+                      absurd cc
+                ]
+          ]
+      | inr lacks ↦
+          let e : Some (UnknownKey place) ≡ None = sym (ap (λ b. fault_at earlier place (option_map (λ k. (k, text)) (cond b (Some key) None))) lacks) ∙ at in
+          absurd cc
+    ]
+
+-- words without a fault give each key a text that it takes
+given_is_accepted : (command : Command) (key : Key) (earlier : List (List ℕ)) (place : ℕ) (words : List (List ℕ)) (text : List ℕ) → first_fault command earlier place words ≡ None → text_given (name_of key) words ≡ Some text → accepts (takes_of key) text ≡ true
+given_is_accepted command key earlier place [] text none given = absurd (let e : None ≡ Some text = given in cc)
+given_is_accepted command key earlier place (word ∷ words) text none given =
+    let parts = or_none (fault_at earlier place (option_of command word)) (first_fault command (earlier ++ word ∷ []) (place + 1) words) none in
+    by_first (λ none given. given_is_accepted command key (earlier ++ word ∷ []) (place + 1) words text none given)
+    (after_key (name_of key) word) refl parts given
+  where
+    by_first : (first_fault command (earlier ++ word ∷ []) (place + 1) words ≡ None → text_given (name_of key) words ≡ Some text → accepts (takes_of key) text ≡ true) → (o : Option (List ℕ)) → after_key (name_of key) word ≡ o → (fault_at earlier place (option_of command word) ≡ None) × (first_fault command (earlier ++ word ∷ []) (place + 1) words ≡ None) → option_or o (text_given (name_of key) words) ≡ Some text → accepts (takes_of key) text ≡ true
+    by_first later None here parts given = later parts.1 given
+    by_first later (Some t) here parts given =
+        let same : t ≡ text = cc in
+        faultless command key earlier place word text (after_key-some (name_of key) word t here ∙ ap (λ r. name_of key ++ 61 ∷ r) same) parts.0
+
+-- a text that a range takes is a numeral, and its value is of the range
+pub record IsValueIn (least greatest : ℕ) (text : List ℕ) : Type 0 where
+  pub numeral : is_numeral text ≡ true
+  pub low : least ≤ value_of text
+  pub high : value_of text ≤ greatest
+
+pub accepts-number : (least greatest : ℕ) (text : List ℕ) → accepts (Number least greatest) text ≡ true → IsValueIn least greatest text
+accepts-number least greatest text good = by_number (number_up_to greatest text) refl good
+  where
+    by_number : (o : Option ℕ) → number_up_to greatest text ≡ o → option_map_or (nat_le least) o false ≡ true → IsValueIn least greatest text
+    by_number None here good = absurd (let e : false ≡ true = good in cc)
+    by_number (Some n) here good =
+        let up_to = number_up_to-some greatest text n here in
+        let low : least ≤ n = leb-true least n good in
+        record { numeral = up_to.numeral; low = omega (arith, up_to.value); high = omega (arith, up_to.value, up_to.within) }
+
+-- a text that a key takes as a number
+pub record IsTakenText (key : Key) (text : List ℕ) : Type 0 where
+  pub numeral : is_numeral text ≡ true
+  pub small : value_of text < 2 ^ 64
+  pub taken : IsTaken (takes_of key) (value_of text)
+
+number_taken : (key : Key) (least greatest : ℕ) (text : List ℕ) → takes_of key ≡ Number least greatest → greatest ≤ 1000000000 → accepts (takes_of key) text ≡ true → IsTakenText key text
+number_taken key least greatest text is small good =
+    let v = accepts-number least greatest text (sym (ap (λ t. accepts t text) is) ∙ good) in
+    record {
+      numeral = v.numeral;
+      small = omega (arith, v.high);
+      taken = rw is (v.low, v.high);
+    }
+
+pub accepted_is_taken : (key : Key) (text : List ℕ) → IsNumber (takes_of key) → accepts (takes_of key) text ≡ true → IsTakenText key text
+accepted_is_taken (Input which) text number good = absurd number
+accepted_is_taken Notices text number good = absurd number
+accepted_is_taken Wait text number good = number_taken Wait 0 7200 text refl (lit≤ tt) good
+accepted_is_taken Delay text number good = number_taken Delay 0 7200 text refl (lit≤ tt) good
+accepted_is_taken Trip text number good = number_taken Trip 1 6 text refl (lit≤ tt) good
+accepted_is_taken Penalty text number good = number_taken Penalty 0 1000000000 text refl (lit≤ tt) good
+accepted_is_taken Budget text number good = number_taken Budget 1 50000 text refl (lit≤ tt) good
+accepted_is_taken Pairs text number good = number_taken Pairs 1 2000000 text refl (lit≤ tt) good
+accepted_is_taken Workers text number good = number_taken Workers 1 64 text refl (lit≤ tt) good
+accepted_is_taken Proof text number good = number_taken Proof 0 1 text refl (lit≤ tt) good
+accepted_is_taken Dwell text number good = number_taken Dwell 0 600 text refl (lit≤ tt) good
+accepted_is_taken Seed text number good = number_taken Seed 0 1000000000 text refl (lit≤ tt) good
+accepted_is_taken Side text number good = number_taken Side 2 100 text refl (lit≤ tt) good
+accepted_is_taken Vehicles text number good = number_taken Vehicles 1 500 text refl (lit≤ tt) good
+accepted_is_taken Riders text number good = number_taken Riders 1 1000 text refl (lit≤ tt) good
+accepted_is_taken Rounds text number good = number_taken Rounds 1 100 text refl (lit≤ tt) good
+
+-- what a key gives of itself is a number that it takes
+pub default_is_taken : (key : Key) → IsNumber (takes_of key) → IsTaken (takes_of key) (default_of key)
+default_is_taken (Input which) number = absurd number
+default_is_taken Notices number = absurd number
+default_is_taken Wait number = (lit≤ tt, lit≤ tt)
+default_is_taken Delay number = (lit≤ tt, lit≤ tt)
+default_is_taken Trip number = (lit≤ tt, lit≤ tt)
+default_is_taken Penalty number = (lit≤ tt, lit≤ tt)
+default_is_taken Budget number = (lit≤ tt, lit≤ tt)
+default_is_taken Pairs number = (lit≤ tt, lit≤ tt)
+default_is_taken Workers number = (lit≤ tt, lit≤ tt)
+default_is_taken Proof number = (lit≤ tt, lit≤ tt)
+default_is_taken Dwell number = (lit≤ tt, lit≤ tt)
+default_is_taken Seed number = (lit≤ tt, lit≤ tt)
+default_is_taken Side number = (lit≤ tt, lit≤ tt)
+default_is_taken Vehicles number = (lit≤ tt, lit≤ tt)
+default_is_taken Riders number = (lit≤ tt, lit≤ tt)
+default_is_taken Rounds number = (lit≤ tt, lit≤ tt)
+
+-- words without a fault give a key of numbers a numeral that it takes
+pub given_is_taken : (command : Command) (key : Key) (words : List (List ℕ)) (text : List ℕ) → first_fault command [] 2 words ≡ None → IsNumber (takes_of key) → text_given (name_of key) words ≡ Some text → IsTakenText key text
+given_is_taken command key words text none number given =
+    accepted_is_taken key text number (given_is_accepted command key [] 2 words text none given)

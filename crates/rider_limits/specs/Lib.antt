@@ -1,0 +1,4 @@
+pub mod Key
+pub mod Words
+pub mod Range
+pub mod Settings

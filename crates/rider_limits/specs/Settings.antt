@@ -1,0 +1,49 @@
+use Rattle.std.specs.Prelude.{◌≡◌, ℕ, List, [], ◌∷◌, Option, Some, IsTrue, ◌↔◌}
+use Rattle.std.specs.Option.{option_map_or}
+use Rattle.pool_base.specs.Number.{value_of}
+use Rattle.rider_limits.specs.declared.command.Command.{Command}
+use Rattle.rider_limits.specs.declared.command.Command.TheVariants.{Run, Load}
+use Rattle.rider_limits.specs.declared.key.Key.{Key}
+use Rattle.rider_limits.specs.declared.key.Key.TheVariants.{Wait, Delay, Trip, Penalty, Budget, Pairs, Workers, Proof, Dwell, Seed, Side, Vehicles, Riders, Rounds}
+use Rattle.rider_limits.specs.declared.load_shape.LoadShape.{LoadShape}
+use Rattle.rider_limits.specs.declared.settings.Mode.{Mode}
+use Rattle.rider_limits.specs.declared.settings.Mode.TheVariants.{Run as Running, Load as Loading}
+use Rattle.rider_limits.specs.declared.settings.Settings.{Settings}
+use Rattle.rider_limits.specs.Key.{command_of, name_of, default_of}
+use Rattle.rider_limits.specs.Words.{text_given}
+
+-- the number that words give a key, or the key's own where none does
+abbrev pub number_given : Key → List (List ℕ) → ℕ
+number_given key words = option_map_or value_of (text_given (name_of key) words) (default_of key)
+
+-- the shape is the one that the words give
+pub record IsShapeGiven (words : List (List ℕ)) (shape : LoadShape) : Type 0 where
+  pub seed : shape.seed ≡ number_given Seed words
+  pub side : shape.side ≡ number_given Side words
+  pub vehicles : shape.vehicles ≡ number_given Vehicles words
+  pub riders : shape.riders ≡ number_given Riders words
+  pub rounds : shape.rounds ≡ number_given Rounds words
+
+-- the mode is the command's, with the shape that the words give
+abbrev pub IsModeGiven : Option Command → List (List ℕ) → Mode → Type 0
+IsModeGiven (Some Run) words Running = Unit {0}
+IsModeGiven (Some Load) words (Loading shape) = IsShapeGiven words shape
+IsModeGiven _ words _ = ⊥
+
+-- the settings are those that a command and the words behind it give
+pub record AreGivenBehind (command : Option Command) (words : List (List ℕ)) (s : Settings) : Type 0 where
+  pub mode : IsModeGiven command words s.mode
+  pub wait : s.wait ≡ number_given Wait words
+  pub delay : s.delay ≡ number_given Delay words
+  pub trip : s.trip ≡ number_given Trip words
+  pub penalty : s.penalty ≡ number_given Penalty words
+  pub budget : s.budget ≡ number_given Budget words
+  pub pairs : s.pairs ≡ number_given Pairs words
+  pub workers : s.workers ≡ number_given Workers words
+  pub proof : IsTrue s.proof ↔ (number_given Proof words ≡ 1)
+  pub dwell : s.dwell ≡ number_given Dwell words
+
+-- the settings are those that words give, of which the first is the command
+abbrev pub AreGiven : List (List ℕ) → Settings → Type 0
+AreGiven [] s = ⊥
+AreGiven (word ∷ words) s = AreGivenBehind (command_of word) words s

@@ -1,0 +1,30 @@
+ghost use Rattle.std.specs.Prelude.{◌≡◌};
+
+/// What the program is told to do: the first word.
+#[derive(Clone, Copy, Debug, PartialEq, Eq)]
+pub(crate) enum Command {
+    Run,
+    Load,
+}
+
+impl Command {
+    ghost use Rattle.rider_limits.specs.Key.{word_of, command_of};
+
+    fn word(self) -> &'static str
+        ensures { result.now ≡ word_of self }
+    {
+        match self {
+            Command::Run => "run",
+            Command::Load => "load",
+        }
+    }
+
+    /// The command of a word; `None` where there is none.
+    pub(crate) fn of(word: &str) -> Option<Command>
+        ensures { result ≡ command_of word.now }
+    {
+        [Command::Run, Command::Load]
+            .into_iter()
+            .find(|command| command.word() == word)
+    }
+}

@@ -1,0 +1,168 @@
+ghost use Rattle.std.specs.Prelude.{◌≡◌};
+ghost use Rattle.std.specs.List.{find};
+ghost use Rattle.rider_limits.specs.Key.{is_key};
+
+use crate::command::Command;
+use pool_base::{Which, read_number_up_to};
+
+/// What stands before a word's `=`.
+#[derive(Clone, Copy, Debug, PartialEq, Eq)]
+pub(crate) enum Key {
+    Input(Which),
+    Notices,
+    Wait,
+    Delay,
+    Trip,
+    Penalty,
+    Budget,
+    Pairs,
+    Workers,
+    Proof,
+    Dwell,
+    Seed,
+    Side,
+    Vehicles,
+    Riders,
+    Rounds,
+}
+
+/// What may stand behind a key's `=`: a file's name, or a number of a range.
+#[derive(Clone, Copy, Debug, PartialEq, Eq)]
+pub(crate) enum Takes {
+    FileName,
+    Number(u64, u64),
+}
+
+impl Key {
+    ghost use Rattle.rider_limits.specs.Key.{name_of, is_key, key_of, has_key, takes_of, default_of};
+
+    pub(crate) fn name(self) -> &'static str
+        ensures { result.now ≡ name_of self }
+    {
+        match self {
+            Key::Input(which) => which.name(),
+            Key::Notices => "notices",
+            Key::Wait => "wait",
+            Key::Delay => "delay",
+            Key::Trip => "trip",
+            Key::Penalty => "penalty",
+            Key::Budget => "budget",
+            Key::Pairs => "pairs",
+            Key::Workers => "workers",
+            Key::Proof => "proof",
+            Key::Dwell => "dwell",
+            Key::Seed => "seed",
+            Key::Side => "side",
+            Key::Vehicles => "vehicles",
+            Key::Riders => "riders",
+            Key::Rounds => "rounds",
+        }
+    }
+
+    fn is_of(self, command: Command) -> bool
+        ensures { result ≡ has_key command self }
+    {
+        match self {
+            Key::Input(_) | Key::Notices | Key::Proof => command == Command::Run,
+            Key::Seed | Key::Side | Key::Vehicles | Key::Riders | Key::Rounds => command
+                == Command::Load,
+            _ => true,
+        }
+    }
+
+    fn is_named(self, command: Command, name: &str) -> bool
+        ensures { result ≡ is_key command name.now self }
+    {
+        self.is_of(command) && self.name() == name
+    }
+
+    /// The key of this name that a command has.
+    #[tactic(auto, unfolding(crate::specs::Key::key_of))]
+    pub(crate) fn of(command: Command, name: &str) -> Option<Key>
+        ensures { result ≡ key_of command name.now }
+    {
+        let keys = [
+            Key::Input(Which::Network),
+            Key::Input(Which::Fleet),
+            Key::Input(Which::Script),
+            Key::Notices,
+            Key::Wait,
+            Key::Delay,
+            Key::Trip,
+            Key::Penalty,
+            Key::Budget,
+            Key::Pairs,
+            Key::Workers,
+            Key::Proof,
+            Key::Dwell,
+            Key::Seed,
+            Key::Side,
+            Key::Vehicles,
+            Key::Riders,
+            Key::Rounds,
+        ];
+        first_named(&keys, command, name)
+    }
+
+    pub(crate) fn takes(self) -> Takes
+        ensures { result ≡ takes_of self }
+    {
+        match self {
+            Key::Input(_) | Key::Notices => Takes::FileName,
+            Key::Wait | Key::Delay => Takes::Number(0, 7_200),
+            Key::Trip => Takes::Number(1, 6),
+            Key::Penalty => Takes::Number(0, 1_000_000_000),
+            Key::Budget => Takes::Number(1, 50_000),
+            Key::Pairs => Takes::Number(1, 2_000_000),
+            Key::Workers => Takes::Number(1, 64),
+            Key::Proof => Takes::Number(0, 1),
+            Key::Dwell => Takes::Number(0, 600),
+            Key::Seed => Takes::Number(0, 1_000_000_000),
+            Key::Side => Takes::Number(2, 100),
+            Key::Vehicles => Takes::Number(1, 500),
+            Key::Riders => Takes::Number(1, 1_000),
+            Key::Rounds => Takes::Number(1, 100),
+        }
+    }
+
+    /// The number where no word gives one.
+    pub(crate) fn default_number(self) -> u64
+        ensures { result ≡ default_of self }
+    {
+        match self {
+            Key::Input(_) | Key::Notices | Key::Proof | Key::Dwell => 0,
+            Key::Wait => 120,
+            Key::Delay => 180,
+            Key::Trip | Key::Workers | Key::Rounds => 4,
+            Key::Penalty => 10_000,
+            Key::Budget => 200,
+            Key::Pairs => 200_000,
+            Key::Seed => 1,
+            Key::Side => 20,
+            Key::Vehicles => 100,
+            Key::Riders => 150,
+        }
+    }
+}
+
+/// The first of these keys that a command has under this name.
+fn first_named(keys: &[Key], command: Command, name: &str) -> Option<Key>
+    ensures { result ≡ find (is_key command name.now) keys.now }
+{
+    keys.iter().copied().find(|key| key.is_named(command, name))
+}
+
+impl Takes {
+    ghost use Rattle.rider_limits.specs.Key.{accepts};
+
+    pub(crate) fn accepts(self, text: &str) -> bool
+        ensures { result ≡ accepts self text.now }
+    {
+        match self {
+            Takes::FileName => !text.is_empty(),
+            Takes::Number(least, greatest) => {
+                read_number_up_to(text.as_bytes(), greatest).is_some_and(|n| least <= n)
+            }
+        }
+    }
+}

@@ -1,0 +1,91 @@
+ghost use Rattle.std.specs.Prelude.{◌≡◌, [], None, Some, map, IfOk, IfErr};
+ghost use Rattle.std.specs.String.{string_bytes};
+ghost use Rattle.rider_limits.specs.Key.{takes_of, IsNumber, IsTaken};
+ghost use Rattle.rider_limits.specs.Words.{first_fault, fault_of};
+ghost use Rattle.rider_limits.specs.Settings.{number_given, IsShapeGiven, AreGivenBehind, AreGiven};
+ghost use Rattle.rider_limits.specs.declared.command.Command.TheVariants.{Load};
+
+use crate::command::Command;
+use crate::key::Key;
+use crate::load_shape::LoadShape;
+use crate::settings::{Mode, Settings};
+use crate::word_fault::WordFault;
+use crate::words::{first_fault, missing_file, value_of};
+use pool_base::read_number_up_to;
+
+/// The number that words without a fault give a key.
+fn number(command: Command, options: &[String], key: Key) -> u64
+    requires faultless { first_fault command [] 2 (map string_bytes options.now) ≡ None }
+    requires number { IsNumber (takes_of key) }
+    ensures value { result ≡ number_given key (map string_bytes options.now) }
+    ensures within { IsTaken (takes_of key) result }
+{
+    match value_of(options, key.name()) {
+        None => key.default_number(),
+        Some(text) => read_number_up_to(text.as_bytes(), u64::MAX).unwrap(),
+    }
+}
+
+/// The shape that words without a fault give.
+fn shape(options: &[String]) -> LoadShape
+    requires { first_fault Command.Load [] 2 (map string_bytes options.now) ≡ None }
+    ensures { IsShapeGiven (map string_bytes options.now) result }
+{
+    LoadShape {
+        seed: number(Command::Load, options, Key::Seed),
+        side: number(Command::Load, options, Key::Side) as u32,
+        vehicles: number(Command::Load, options, Key::Vehicles) as u32,
+        riders: number(Command::Load, options, Key::Riders) as u32,
+        rounds: number(Command::Load, options, Key::Rounds) as u32,
+    }
+}
+
+/// The settings that words without a fault give.
+fn settings(command: Command, options: &[String]) -> Settings
+    requires { first_fault command [] 2 (map string_bytes options.now) ≡ None }
+    ensures { AreGivenBehind (Some command) (map string_bytes options.now) result }
+{
+    Settings {
+        mode: match command {
+            Command::Run => Mode::Run,
+            Command::Load => Mode::Load(shape(options)),
+        },
+        wait: number(command, options, Key::Wait) as u32,
+        delay: number(command, options, Key::Delay) as u32,
+        trip: number(command, options, Key::Trip) as u8,
+        penalty: number(command, options, Key::Penalty) as u32,
+        budget: number(command, options, Key::Budget) as u32,
+        pairs: number(command, options, Key::Pairs) as u32,
+        workers: number(command, options, Key::Workers) as u8,
+        proof: number(command, options, Key::Proof) == 1,
+        dwell: number(command, options, Key::Dwell) as u16,
+    }
+}
+
+/// The settings that words give: a command, `run` or `load`, then `key=value` in any order, each key
+/// once. Words count from 1.
+///
+/// `run` needs the keys `network`, `fleet` and `script`, takes `notices` and `proof`, and `load` takes
+/// `seed`, `side`, `vehicles`, `riders` and `rounds`; both take the others. It takes no memory.
+///
+/// The first fault is given: no command, then word for word an unknown key, a repeated key, a bad value,
+/// and after the last word the first missing file.
+pub fn read_words(words: &[String]) -> Result<Settings, WordFault>
+    ensures accepted { IfOk result (λ settings. (fault_of (map string_bytes words.now) ≡ None)
+        × AreGiven (map string_bytes words.now) settings) }
+    ensures refused { IfErr result (λ fault. fault_of (map string_bytes words.now) ≡ Some fault) }
+{
+    let Some((word, options)) = words.split_first() else {
+        return Err(WordFault::NoCommand);
+    };
+    let Some(command) = Command::of(word.as_str()) else {
+        return Err(WordFault::NoCommand);
+    };
+    if let Some(fault) = first_fault(command, options) {
+        return Err(fault);
+    }
+    if let Some(which) = missing_file(command, options) {
+        return Err(WordFault::MissingFile { which });
+    }
+    Ok(settings(command, options))
+}

@@ -1,0 +1,6 @@
+pub mod Totals
+pub mod Calls
+pub mod Keeps
+pub mod Handing
+pub mod Turning
+pub mod Positions

@@ -1,0 +1,24 @@
+//! A ticket lock over a value that keeps a log of the calls made on it, with one pass for each lane.
+//!
+//! A lane plays its calls by its pass, one at a time and in the order of tickets. The pass knows which
+//! calls it made, with their replies and their positions, and `finish` shows that the value's log is
+//! just those calls of all passes. That a waiting call returns, and which lane comes first, is not said.
+#![tactic(auto)]
+
+mod counter;
+mod hand_out;
+mod lock;
+mod logged;
+mod moves;
+mod pass;
+mod steps;
+#[cfg(test)]
+mod tests;
+mod turn;
+mod view;
+
+pub use counter::{Addition, Counter};
+pub use lock::{Refused, SeatLock, Unfinished};
+pub use logged::{Entry, Logged};
+pub use pass::Pass;
+pub use turn::Played;
