@@ -27,9 +27,6 @@ parties_unlimited n (leg ∷ legs) = parties_unlimited (n + leg.party) legs
 persons_unlimited : (legs : List Leg) → persons (map without_latest legs) ≡ persons legs
 persons_unlimited legs = parties_unlimited 0 legs
 
-pub room_unlimited : (task : Task) → free_seats (without_limits task) ≡ free_seats task
-room_unlimited task = ap (λ n. task.seats - n) (persons_unlimited task.aboard.items)
-
 -- the task can be searched without the limits
 pub routable_unlimited : (points : ℕ) (task : Task) → IsTask points task → IsRoutable points (without_limits task)
 routable_unlimited points task valid =

@@ -18,8 +18,8 @@ on_both : (r : Result (Option Route) OutOfMemory) (P Q R : Option Route → Type
 on_both (Ok found) P Q R f p q = f found p q
 on_both (Err e) P Q R f p q = tt
 
-pub least_route-requires-clause-valid : goal.least_route-requires-clause-valid
-least_route-requires-clause-valid c = subst (λ u. IsRoutable (point_count c.args.times.now) u) (sym c.without_limits_of-unlimited.ensures) (routable_unlimited (point_count c.args.times.now) c.args.task.now c.requires.valid)
+pub least_route-requires : goal.least_route-requires
+least_route-requires c = record { valid = subst (λ u. IsRoutable (point_count c.args.times.now) u) (sym c.without_limits_of-unlimited.ensures) (routable_unlimited (point_count c.args.times.now) c.args.task.now c.requires.valid) }
 
 pub returns-clause-order : goal.returns-clause-order
 returns-clause-order c =
