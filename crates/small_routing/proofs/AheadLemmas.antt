@@ -1,13 +1,13 @@
-use Rattle.std.proofs.Common.{◌≡◌, ℕ, zero, suc, ◌+◌, ◌-◌, ◌<◌, ◌≤◌, Bool, true, false, List, [], ◌∷◌, length, refl, sym, ap, ◌∙◌, subst, arith, inl, inr}
+use Rattle.std.proofs.Common.{◌≡◌, ℕ, zero, suc, ◌+◌, ◌-◌, ◌<◌, ◌≤◌, Bool, true, false, List, [], ◌∷◌, refl, sym, ◌∙◌, subst, arith, inl, inr}
 use Rattle.std.proofs.lemmas.Bool.{cases_eq}
 use Rattle.pool_base.specs.TravelTime.{never, IsTravelTime}
 use Rattle.stop_orders.specs.declared.leg.Leg.{Leg}
 use Rattle.stop_orders.specs.declared.task.Task.{Task}
 use Rattle.stop_orders.specs.declared.stop.Stop.{Stop}
 use Rattle.stop_orders.specs.declared.stop.Stop.TheVariants.{Pick, Drop, Alight}
-use Rattle.stop_orders.specs.Visit.{place_of, latest_of, lateness}
+use Rattle.stop_orders.specs.Visit.{place_of, lateness}
 use Rattle.stop_orders.specs.Task.{leg_at, visit_at}
-use Rattle.stop_orders.specs.Done.{has, with_bit, with_stop, IsNext, Completes, IsAllDone, sum_below}
+use Rattle.stop_orders.specs.Done.{has, IsNext, sum_below}
 use Rattle.stop_orders.proofs.DoneLemmas.{has-with_same, has-with_other, Completes-front, IsAllDone-from_nil, sum_below-le}
 use Rattle.stop_orders.proofs.ClockLemmas.{AtLeastAsSoon, two_hops}
 use Rattle.small_routing.specs.declared.label.Label.{Label}

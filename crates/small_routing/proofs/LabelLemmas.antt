@@ -1,7 +1,6 @@
-use Rattle.std.proofs.Common.{◌≡◌, ℕ, zero, suc, ◌+◌, ◌-◌, ◌*◌, ◌<◌, ◌≤◌, Bool, true, false, List, [], ◌∷◌, ◌++◌, length, refl, sym, ap, ◌∙◌, subst, arith, inl, inr}
-use Rattle.std.specs.Prelude.{All}
+use Rattle.std.proofs.Common.{◌≡◌, ℕ, ◌+◌, ◌<◌, ◌≤◌, List, [], ◌∷◌, ◌++◌, length, sym, ap, ◌∙◌, subst, arith}
 use Rattle.std.proofs.lemmas.List.Elements.{All-weaker}
-use Rattle.pool_base.specs.TravelTime.{never, longest, IsTravelTime}
+use Rattle.pool_base.specs.TravelTime.{longest, IsTravelTime}
 use Rattle.stop_orders.specs.declared.leg.Leg.{Leg}
 use Rattle.stop_orders.specs.declared.task.Task.{Task}
 use Rattle.stop_orders.specs.declared.stop.Stop.{Stop}
@@ -9,14 +8,13 @@ use Rattle.stop_orders.specs.declared.stop.Stop.TheVariants.{Pick, Drop, Alight}
 use Rattle.stop_orders.specs.declared.visit.Visit.{Visit}
 use Rattle.stop_orders.specs.declared.visit.Visit.TheVariants.{Pickup, Dropoff}
 use Rattle.stop_orders.specs.Order.{IsKnown}
-use Rattle.stop_orders.specs.Visit.{place_of, latest_of, boarding_of, room_after, lateness, ServesFrom, delay_from}
-use Rattle.stop_orders.specs.Task.{no_leg, IsLeg, IsTask, leg_at, visit_at, visits_of, free_seats, IsOrderOf, order_delay, Serves}
-use Rattle.stop_orders.specs.Done.{with_stop, IsNext, Completes, left_count}
-use Rattle.stop_orders.specs.Plain.{MakesOrders}
-use Rattle.stop_orders.proofs.DoneLemmas.{left_count-falls, left_count-most, Completes-none}
+use Rattle.stop_orders.specs.Visit.{place_of, room_after, lateness, ServesFrom}
+use Rattle.stop_orders.specs.Task.{no_leg, IsLeg, IsTask, visit_at, visits_of, free_seats, order_delay}
+use Rattle.stop_orders.specs.Done.{IsNext, left_count}
+use Rattle.stop_orders.proofs.DoneLemmas.{left_count-most}
 use Rattle.stop_orders.proofs.PlainLemmas.{MakesOrders-next, MakesOrders-none, append_one}
 use Rattle.small_routing.specs.declared.label.Label.{Label}
-use Rattle.small_routing.specs.Label.{IsRoutable, IsRoutableLeg, rider_count, passenger_count, first_label, second_at, CanVisit, next_label, GoesOn, rest_delay, IsSmall}
+use Rattle.small_routing.specs.Label.{IsRoutable, IsRoutableLeg, rider_count, passenger_count, first_label, second_at, CanVisit, next_label, rest_delay, IsSmall}
 use Rattle.small_routing.specs.Search.{LeadsTo}
 
 routable_leg : (points : ℕ) (leg : Leg) → IsLeg points leg → IsRoutableLeg points leg

@@ -1,24 +1,24 @@
-use Rattle.std.proofs.Common.{◌≡◌, ◌↔◌, ℕ, zero, suc, ◌+◌, ◌-◌, ◌<◌, ◌≤◌, Bool, true, false, List, [], ◌∷◌, ◌++◌, length, map, get_or, take, Option, Some, None, refl, sym, ap, ◌∙◌, subst, arith, inl, inr}
-use Rattle.std.specs.Prelude.{All, Contains, IsFalse}
-use Rattle.std.proofs.lemmas.Bool.{cases_lt, false≢true}
+use Rattle.std.proofs.Common.{◌≡◌, ℕ, ◌+◌, ◌<◌, ◌≤◌, List, [], ◌∷◌, length, map, get_or, take, Option, Some, None, sym, ap, ◌∙◌, subst, arith, inl, inr}
+use Rattle.std.specs.Prelude.{All}
+use Rattle.std.proofs.lemmas.Bool.{cases_lt}
 use Rattle.std.proofs.lemmas.List.{append-nil}
-use Rattle.std.proofs.lemmas.List.Elements.{All-weaker, All-more, All-map, All-contains, All-push}
-use Rattle.pool_base.specs.TravelTime.{never, longest, IsTravelTime}
+use Rattle.std.proofs.lemmas.List.Elements.{All-weaker, All-more, All-map, All-contains}
+use Rattle.pool_base.specs.TravelTime.{IsTravelTime}
 use Rattle.stop_orders.specs.declared.route.Route.{Route}
 use Rattle.stop_orders.specs.declared.task.Task.{Task}
 use Rattle.stop_orders.specs.declared.stop.Stop.{Stop}
-use Rattle.stop_orders.specs.Visit.{place_of, lateness, ServesFrom}
-use Rattle.stop_orders.specs.Task.{visit_at, visits_of, free_seats, IsOrderOf, order_delay, Serves}
-use Rattle.stop_orders.specs.Done.{bit_of, IsNext, IsAllDone, Completes}
+use Rattle.stop_orders.specs.Visit.{ServesFrom}
+use Rattle.stop_orders.specs.Task.{visits_of, free_seats, order_delay, Serves}
+use Rattle.stop_orders.specs.Done.{IsAllDone, Completes}
 use Rattle.stop_orders.specs.Plain.{IsFound, NoneBetter, StaysGood}
-use Rattle.stop_orders.proofs.ClockLemmas.{AtLeastAsSoon, soon_over, ServesFrom-soon}
+use Rattle.stop_orders.proofs.ClockLemmas.{soon_over, ServesFrom-soon}
 use Rattle.stop_orders.proofs.DoneLemmas.{IsAllDone-from_nil, Completes-none}
 use Rattle.stop_orders.proofs.PlainLemmas.{MakesOrders-all, rest_of_all, stop_with-bit_of}
 use Rattle.small_routing.specs.declared.label.Label.{Label}
 use Rattle.small_routing.specs.declared.candidate.Candidate.{Candidate}
-use Rattle.small_routing.specs.Label.{IsRoutable, rider_count, passenger_count, second_at, CanVisit, next_label, GoesOn, rest_delay}
+use Rattle.small_routing.specs.Label.{IsRoutable, rider_count, passenger_count, next_label, GoesOn, rest_delay}
 use Rattle.small_routing.specs.Ahead.{RiderCan, PassengerCan, least_ahead}
-use Rattle.small_routing.specs.Kept.{no_label, Dominates, IsDominated, IsPlaced}
+use Rattle.small_routing.specs.Kept.{no_label, IsDominated}
 use Rattle.small_routing.specs.Search.{LeadsTo, IsExhausted, IsTried, IsSettled, AreCandidates, Searched}
 use Rattle.small_routing.proofs.AheadLemmas.{is_ahead, goes_on_next}
 

@@ -1,5 +1,5 @@
-use Rattle.std.proofs.Common.{◌≡◌, ℕ, zero, suc, ◌+◌, ◌-◌, ◌*◌, ◌<◌, ◌≤◌, List, [], ◌∷◌, length, map, get_or, Option, None, Some, refl, sym, ap, ◌∙◌, subst, arith}
-use Rattle.std.specs.Prelude.{All, IfSome, IfNone, fold}
+use Rattle.std.proofs.Common.{◌≡◌, ℕ, ◌+◌, ◌-◌, ◌*◌, ◌<◌, ◌≤◌, List, [], ◌∷◌, length, map, Option, None, Some, refl, sym, ap, ◌∙◌, subst, arith}
+use Rattle.std.specs.Prelude.{IfSome, IfNone, fold}
 use Rattle.std.specs.List.{AllByRecursion}
 use Rattle.std.proofs.lemmas.List.{get_or-map, length-map}
 use Rattle.std.proofs.lemmas.List.Elements.{All-map, All-weaker}
@@ -11,7 +11,7 @@ use Rattle.stop_orders.specs.declared.stop.Stop.{Stop}
 use Rattle.stop_orders.specs.declared.stop.Stop.TheVariants.{Pick, Drop, Alight}
 use Rattle.stop_orders.specs.Order.{IsKnown, IsOrder}
 use Rattle.stop_orders.specs.Visit.{place_of, latest_of, boarding_of, room_after, lateness, Reaches, ServesFrom, delay_from}
-use Rattle.stop_orders.specs.Task.{no_leg, IsLeg, IsTask, persons, leg_at, visit_at, visits_of, free_seats, IsOrderOf, ReachesAll, order_delay, Serves}
+use Rattle.stop_orders.specs.Task.{no_leg, IsTask, persons, leg_at, visit_at, visits_of, free_seats, IsOrderOf, ReachesAll, order_delay, Serves}
 use Rattle.stop_orders.proofs.ScanLemmas.{order_short}
 use Rattle.small_routing.specs.Label.{IsRoutable, IsRoutableLeg}
 use Rattle.small_routing.specs.Unlimited.{without_latest, without_limits}
@@ -26,9 +26,6 @@ parties_unlimited n (leg ∷ legs) = parties_unlimited (n + leg.party) legs
 
 persons_unlimited : (legs : List Leg) → persons (map without_latest legs) ≡ persons legs
 persons_unlimited legs = parties_unlimited 0 legs
-
-pub room_unlimited : (task : Task) → free_seats (without_limits task) ≡ free_seats task
-room_unlimited task = ap (λ n. task.seats - n) (persons_unlimited task.aboard.items)
 
 -- the task can be searched without the limits
 pub routable_unlimited : (points : ℕ) (task : Task) → IsTask points task → IsRoutable points (without_limits task)

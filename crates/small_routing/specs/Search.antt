@@ -3,8 +3,8 @@ use Rattle.stop_orders.specs.declared.route.Route.{Route}
 use Rattle.stop_orders.specs.declared.task.Task.{Task}
 use Rattle.stop_orders.specs.declared.stop.Stop.{Stop}
 use Rattle.stop_orders.specs.Visit.{ServesFrom}
-use Rattle.stop_orders.specs.Task.{IsOrderOf, visits_of, free_seats, order_delay}
-use Rattle.stop_orders.specs.Done.{bit_of, IsNext, left_count}
+use Rattle.stop_orders.specs.Task.{visits_of, free_seats, order_delay}
+use Rattle.stop_orders.specs.Done.{bit_of, IsNext}
 use Rattle.stop_orders.specs.Plain.{IsFound, NoneBetter, StaysGood, MakesOrders}
 use Rattle.small_routing.specs.declared.label.Label.{Label}
 use Rattle.small_routing.specs.declared.candidate.Candidate.{Candidate}

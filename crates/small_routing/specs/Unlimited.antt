@@ -1,4 +1,4 @@
-use Rattle.std.specs.Prelude.{List, map}
+use Rattle.std.specs.Prelude.{map}
 use Rattle.stop_orders.specs.declared.leg.Leg.{Leg}
 use Rattle.stop_orders.specs.declared.task.Task.{Task}
 

@@ -57,7 +57,7 @@ impl Kept {
         ensures { OnOk result (labels_of self.new ≡ labels_of self.old ++ label ∷ []) }
     {
         let chain = self.chain_of(label.done);
-        let next = self.head_of(chain, label.done);
+        let next = self.head_of(chain);
         self.entries.push(Entry { label, next })?;
         if chain < self.heads.len() {
             self.heads[chain] = self.entries.len() - 1;
@@ -71,7 +71,7 @@ impl Kept {
         requires place { label.now.place < point_count times.now }
         ensures { IsTrue result → IsDominated (travel_time times.now) (labels_of self.now) label.now }
     {
-        let mut at = self.head_of(self.chain_of(label.done), label.done);
+        let mut at = self.head_of(self.chain_of(label.done));
         for _entry in 0..self.entries.len() {
             if at >= self.entries.len() {
                 return false;
@@ -94,7 +94,7 @@ impl Kept {
     }
 
     /// The first entry of a chain. What an earlier task left there is none.
-    fn head_of(&self, chain: usize, _done: Done) -> usize {
+    fn head_of(&self, chain: usize) -> usize {
         if chain >= self.heads.len() {
             return usize::MAX;
         }

@@ -1,7 +1,7 @@
 ghost use Rattle.std.specs.Prelude.{◌≡◌, ◌+◌, ◌≤◌, List, IfOk, IfSome, IfNone};
 ghost use Rattle.pool_base.specs.Times.{point_count, travel_time};
 ghost use Rattle.stop_orders.specs.declared.stop.Stop.{Stop as OneStop};
-ghost use Rattle.stop_orders.specs.Task.{IsTask, Serves, order_delay, free_seats};
+ghost use Rattle.stop_orders.specs.Task.{IsTask, Serves, order_delay};
 ghost use Rattle.small_routing.specs.Label.{IsRoutable};
 
 use crate::Workspace;
@@ -49,19 +49,16 @@ pub fn least_delay_with<L: Ledger>(
     ensures step { steps.new ≡ steps.old + 1 }
 {
     steps.tick();
-    let first = first_position_of(task, times.len());
-    least_route(&mut workspace.kept, task, times, first.room)
+    least_route(&mut workspace.kept, task, times)
 }
 
-/// The same for any limits.
+/// The same whatever the limits of the task.
 pub(crate) fn least_route(
     kept: &mut Kept,
     task: &Task,
     times: &Times,
-    room: u32,
 ) -> Result<Option<Route>, OutOfMemory>
     requires valid { IsRoutable (point_count times.now) task.now }
-    requires room { room ≡ free_seats task.now }
     ensures serves { IfOk result (λ found. IfSome found (λ route. Serves (travel_time times.now) task.now route.stops.items)) }
     ensures delay { IfOk result (λ found. IfSome found (λ route. route.delay ≡ order_delay (travel_time times.now) task.now route.stops.items)) }
     ensures least { IfOk result (λ found. IfSome found (λ route. (stops : List OneStop) → Serves (travel_time times.now) task.now stops
@@ -69,11 +66,12 @@ pub(crate) fn least_route(
     ensures none { IfOk result (λ found. IfNone found ((stops : List OneStop) → Serves (travel_time times.now) task.now stops → ⊥)) }
 {
     kept.begin(task.riders.len() * 2 + task.aboard.len())?;
+    let first = first_position_of(task);
     let label = Label {
         done: Done::none(),
         place: task.start,
         free: task.ready,
-        room,
+        room: first.room,
         delay: 0,
     };
     let mut path = ArrayVec::new();

@@ -9,7 +9,7 @@ use crate::least::least_route;
 use arrayvec::ArrayVec;
 use pool_base::{OutOfMemory, Times};
 use std::alloc::Global;
-use stop_orders::{Leg, Route, Task, first_position_of};
+use stop_orders::{Leg, Route, Task};
 
 /// The least delay of an order in which all passengers can be dropped off, however late, and an order that
 /// has it; `None` exactly where no order reaches all their places. The task has no riders.
@@ -29,9 +29,8 @@ pub fn least_delay_unlimited(
         → ReachesAll (travel_time times.now) task.now stops → ⊥)) }
 {
     let unlimited = without_limits_of(task);
-    let first = first_position_of(task, times.len());
     let mut workspace = Workspace::new(alloc);
-    least_route(&mut workspace.kept, &unlimited, times, first.room)
+    least_route(&mut workspace.kept, &unlimited, times)
 }
 
 fn without_limits_of(task: &Task) -> Task

@@ -1,8 +1,7 @@
-use Rattle.std.proofs.Common.{◌≡◌, ℕ, zero, suc, ◌+◌, ◌-◌, ◌<◌, ◌≤◌, Bool, true, false, cond, not, eqb, ltb, List, [], ◌∷◌, ◌++◌, length, map, filter, get_or, take, drop, refl, sym, ap, ◌∙◌, subst, arith, inl, inr}
-use Rattle.std.specs.Prelude.{All, remove, sum_by}
+use Rattle.std.proofs.Common.{◌≡◌, ℕ, suc, ◌+◌, ◌-◌, ◌<◌, ◌≤◌, Bool, true, false, cond, not, eqb, ltb, List, [], ◌∷◌, length, map, filter, take, drop, refl, sym, ap, ◌∙◌, subst, arith, inl, inr}
+use Rattle.std.specs.Prelude.{All, remove}
 use Rattle.std.specs.List.{AllByRecursion}
 use Rattle.std.proofs.lemmas.Bool.{cases_Bool, cases_lt, cases_eq, eq-eqb, ne_eqb, eqb-true, cond-true, cond-false, lt-ltb, le-ltb, not_from_true, not_from_false, false≢true}
-use Rattle.std.proofs.lemmas.List.{take-map, drop-map}
 use Rattle.std.proofs.lemmas.List.Edits.{length-remove, get_or-remove_below, get_or-remove_above}
 use Rattle.std.proofs.lemmas.List.Elements.{All-append, All-take, All-drop}
 use Rattle.std.proofs.lemmas.List.Sums.{sum_by-remove}
@@ -13,9 +12,9 @@ use Rattle.stop_orders.specs.declared.stop.Stop.{Stop}
 use Rattle.stop_orders.specs.declared.stop.Stop.TheVariants.{Pick, Drop, Alight}
 use Rattle.stop_orders.specs.declared.visit.Visit.{Visit}
 use Rattle.stop_orders.specs.declared.visit.Visit.TheVariants.{Pickup, Dropoff}
-use Rattle.stop_orders.specs.Order.{is_of_rider, is_of_passenger, IsKnown, IsOrder}
+use Rattle.stop_orders.specs.Order.{is_of_rider, is_of_passenger, IsKnown}
 use Rattle.stop_orders.specs.Visit.{place_of, latest_of, boarding_of, room_after, lateness, ServesFrom, delay_from}
-use Rattle.stop_orders.specs.Task.{no_leg, leg_at, persons, IsLeg, IsTask, visit_at, visits_of, free_seats, IsOrderOf, Serves, order_delay}
+use Rattle.stop_orders.specs.Task.{no_leg, leg_at, persons, IsLeg, IsTask, visit_at, free_seats, IsOrderOf, Serves, order_delay}
 use Rattle.stop_orders.specs.Laws.{number_without, stop_without_rider, stop_without_passenger, stops_without_rider, stops_without_passenger, without_rider, without_passenger, StillServes}
 use Rattle.stop_orders.proofs.ClockLemmas.{room_after-le, lateness-le, two_hops, AtLeastAsSoon, soon_there}
 

@@ -1,17 +1,16 @@
-use Rattle.std.proofs.Common.{◌≡◌, ℕ, zero, suc, ◌+◌, ◌-◌, ◌<◌, ◌≤◌, Bool, true, false, List, [], ◌∷◌, ◌++◌, length, take, cond, ltb, Option, Some, None, refl, sym, ap, ◌∙◌, subst, arith, inl, inr, append_assoc, length-append}
+use Rattle.std.proofs.Common.{◌≡◌, ℕ, ◌+◌, ◌-◌, ◌<◌, ◌≤◌, Bool, true, false, List, [], ◌∷◌, ◌++◌, length, take, Option, refl, sym, ap, ◌∙◌, subst, arith, append_assoc, length-append}
 use Rattle.std.proofs.lemmas.List.{append-nil, take_at}
-use Rattle.std.proofs.lemmas.Bool.{cases_lt, cases_eq, lt-ltb, le-ltb, false≢true}
+use Rattle.std.proofs.lemmas.Bool.{lt-ltb, le-ltb, false≢true}
 use Rattle.stop_orders.specs.declared.route.Route.{Route}
 use Rattle.stop_orders.specs.declared.task.Task.{Task}
 use Rattle.stop_orders.specs.declared.stop.Stop.{Stop}
 use Rattle.stop_orders.specs.declared.stop.Stop.TheVariants.{Pick, Drop, Alight}
 use Rattle.stop_orders.specs.declared.visit.Visit.{Visit}
 use Rattle.stop_orders.specs.Visit.{place_of, room_after, Reaches, ServesFrom}
-use Rattle.stop_orders.specs.Order.{IsKnown, IsOrder}
-use Rattle.stop_orders.specs.Task.{IsTask, IsOrderOf, Serves, ReachesAll, order_delay, free_seats, visits_of}
-use Rattle.stop_orders.specs.Done.{stop_with, bit_of, has, with_stop, Completes, IsNext, IsAllDone, left_count}
-use Rattle.stop_orders.specs.Plain.{IsFound, NoneBetter, StaysGood, MakesOrders, AllTried}
-use Rattle.stop_orders.proofs.DoneLemmas.{Completes-front, Completes-back, Completes-nil, IsAllDone-from_nil, Completes-none, IsOrder-from_none, left_count-falls, left_count-most}
+use Rattle.stop_orders.specs.Task.{IsOrderOf, Serves, ReachesAll, order_delay, free_seats, visits_of}
+use Rattle.stop_orders.specs.Done.{stop_with, bit_of, with_stop, Completes, IsNext, IsAllDone}
+use Rattle.stop_orders.specs.Plain.{NoneBetter, StaysGood, MakesOrders, AllTried}
+use Rattle.stop_orders.proofs.DoneLemmas.{Completes-front, Completes-back, Completes-nil, IsAllDone-from_nil, IsOrder-from_none}
 
 -- what serves reaches all its places
 pub Reaches-from_serves : (tau : ℕ → ℕ → ℕ) (dwell place free room : ℕ) (vs : List Visit) → ServesFrom tau dwell place free room vs → Reaches tau place vs

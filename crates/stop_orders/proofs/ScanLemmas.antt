@@ -1,12 +1,12 @@
-use Rattle.std.proofs.Common.{◌≡◌, ℕ, zero, suc, ◌+◌, ◌-◌, ◌*◌, ◌<◌, ◌≤◌, List, [], ◌∷◌, length, take, slice_index, refl, sym, ap, ◌∙◌, subst, arith}
+use Rattle.std.proofs.Common.{◌≡◌, ℕ, zero, suc, ◌+◌, ◌*◌, ◌<◌, ◌≤◌, List, ◌∷◌, length, take, slice_index, refl, sym, ap, ◌∙◌, subst, arith}
 use Rattle.std.specs.List.{AllByRecursion}
 use Rattle.pool_base.specs.TravelTime.{never, longest}
 use Rattle.stop_orders.specs.declared.task.Task.{Task}
 use Rattle.stop_orders.specs.declared.stop.Stop.{Stop}
 use Rattle.stop_orders.specs.declared.position.Position.{Position}
 use Rattle.stop_orders.specs.Order.{IsKnown}
-use Rattle.stop_orders.specs.Visit.{place_of, latest_of, lateness, Reaches, ServesFrom, delay_from, seconds_from}
-use Rattle.stop_orders.specs.Task.{IsTask, IsOrderOf, Serves, visit_at, visits_of, free_seats, ReachesAll, order_delay, seconds_of}
+use Rattle.stop_orders.specs.Visit.{place_of, lateness, Reaches, delay_from, seconds_from}
+use Rattle.stop_orders.specs.Task.{IsTask, IsOrderOf, Serves, visit_at, visits_of, ReachesAll, order_delay, seconds_of}
 use Rattle.stop_orders.specs.Position.{first_position, position_after, CanServe, ServesAt}
 use Rattle.stop_orders.proofs.DoneLemmas.{length-IsOrder}
 use Rattle.stop_orders.proofs.VisitLemmas.{visit_place, visit_latest, visit_party}

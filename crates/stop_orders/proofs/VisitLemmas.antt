@@ -1,9 +1,9 @@
-use Rattle.std.proofs.Common.{◌≡◌, ℕ, ◌+◌, ◌<◌, ◌≤◌, List, length, arith}
+use Rattle.std.proofs.Common.{ℕ, ◌+◌, ◌<◌, ◌≤◌, length, arith}
 use Rattle.stop_orders.specs.declared.task.Task.{Task}
 use Rattle.stop_orders.specs.declared.stop.Stop.{Stop}
 use Rattle.stop_orders.specs.declared.stop.Stop.TheVariants.{Pick, Drop, Alight}
 use Rattle.stop_orders.specs.Order.{IsKnown}
-use Rattle.stop_orders.specs.Visit.{place_of, latest_of, boarding_of, room_after}
+use Rattle.stop_orders.specs.Visit.{place_of, latest_of, room_after}
 use Rattle.stop_orders.specs.Task.{no_leg, IsLeg, leg_at, IsTask, visit_at}
 
 module _ (points : ℕ) (task : Task) (valid : IsTask points task) where

@@ -1,4 +1,4 @@
-use Rattle.std.specs.Prelude.{ℕ, ◌+◌, ◌-◌, ◌<◌, ◌≤◌, List}
+use Rattle.std.specs.Prelude.{ℕ, ◌+◌, ◌<◌, ◌≤◌, List}
 use Rattle.pool_base.specs.TravelTime.{never}
 use Rattle.stop_orders.specs.declared.position.Position.{Position}
 use Rattle.stop_orders.specs.declared.visit.Visit.{Visit}

@@ -1,4 +1,4 @@
-use Rattle.std.specs.Prelude.{◌≡◌, ℕ, ◌+◌, ◌<◌, ◌≤◌, Bool, false, List, [], ◌∷◌, All, Contains, MatchBool, ◌⊎◌, length, map, max, slice_index_or}
+use Rattle.std.specs.Prelude.{◌≡◌, ℕ, ◌+◌, ◌<◌, ◌≤◌, false, List, [], ◌∷◌, All, Contains, MatchBool, ◌⊎◌, length, map, max, slice_index_or}
 use Rattle.std.specs.List.Sorted.{IsStrictlyIncreasing}
 use Rattle.pool_base.specs.TravelTime.{longest}
 use Rattle.stop_orders.specs.declared.leg.Leg.{Leg}

@@ -1,8 +1,8 @@
-ghost use Rattle.std.specs.Prelude.{◌≡◌, ◌+◌, ◌^◌, ◌<◌, ◌≤◌, MatchOption};
+ghost use Rattle.std.specs.Prelude.{◌≡◌, ◌+◌, ◌^◌, ◌<◌, ◌≤◌, MatchOption, length};
 ghost use Rattle.pool_base.specs.Times.{point_count, travel_time};
 ghost use Rattle.pool_base.specs.TravelTime.{never, longest};
 ghost use Rattle.stop_orders.specs.Visit.{place_of, latest_of, boarding_of};
-ghost use Rattle.stop_orders.specs.Task.{IsTask};
+ghost use Rattle.stop_orders.specs.Task.{persons};
 ghost use Rattle.stop_orders.specs.Position.{first_position, position_after, CanServe};
 
 use crate::validity::persons_of;
@@ -18,8 +18,9 @@ pub struct Position {
 }
 
 /// The position of the task's vehicle before its first stop.
-pub fn first_position_of(task: &Task, points: usize) -> Position
-    requires { IsTask points task.now }
+pub fn first_position_of(task: &Task) -> Position
+    requires few { length task.now.aboard.items ≤ 10 }
+    requires seated { persons task.now.aboard.items ≤ task.now.seats }
     ensures { result ≡ first_position task.now }
 {
     Position {

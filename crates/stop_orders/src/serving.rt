@@ -73,7 +73,7 @@ pub fn serves(task: &Task, times: &Times, stops: &[Stop]) -> bool
     if !is_order(task, stops) {
         return false;
     }
-    let mut position = first_position_of(task, times.len());
+    let mut position = first_position_of(task);
     for stop in stops {
         let visit = visit_of(task, *stop);
         let Some(next) = position_after_visit(times, task.dwell, position, &visit) else {

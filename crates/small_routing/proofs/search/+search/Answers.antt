@@ -1,20 +1,18 @@
-use Rattle.std.proofs.Common.{◌≡◌, ℕ, ◌<◌, ◌≤◌, ◌+◌, ◌∷◌, ◌++◌, [], List, length, get_or, take, length-append, Result, Ok, Err, OnOk, refl, subst, sym, ap, ◌∙◌, arith}
+use Rattle.std.proofs.Common.{◌≡◌, ℕ, ◌<◌, ◌≤◌, ◌+◌, ◌∷◌, ◌++◌, [], List, length, get_or, length-append, Result, Ok, Err, OnOk, refl, subst, sym, ap, ◌∙◌, arith}
 use Rattle.std.specs.Prelude.{All}
 use Rattle.std.proofs.lemmas.Bool.{true≢false}
 use Rattle.std.proofs.lemmas.List.{take_all}
 use Rattle.std.proofs.lemmas.List.Elements.{All-push}
 use Rattle.pool_base.specs.Times.{point_count, travel_time}
-use Rattle.stop_orders.specs.Done.{IsAllDone, with_stop, left_count}
-use Rattle.stop_orders.specs.Plain.{NoneBetter}
+use Rattle.stop_orders.specs.Done.{with_stop, left_count}
 use Rattle.stop_orders.proofs.DoneLemmas.{left_count-falls}
 use Rattle.stop_orders.proofs.PlainLemmas.{IsAllDone-at, IsAllDone-not_at, path_back}
-use Rattle.small_routing.specs.declared.label.Label.{Label}
 use Rattle.small_routing.specs.declared.candidate.Candidate.{Candidate}
-use Rattle.small_routing.specs.Label.{rider_count, passenger_count, next_label, IsSmall}
+use Rattle.small_routing.specs.Label.{rider_count, passenger_count, IsSmall}
 use Rattle.small_routing.specs.Kept.{labels_of, IsPlaced}
-use Rattle.small_routing.specs.Search.{LeadsTo, IsCandidate, AreCandidates, IsTried, IsSettled, IsExhausted, Searched}
+use Rattle.small_routing.specs.Search.{LeadsTo, IsCandidate, IsTried, IsSettled, Searched}
 use Rattle.small_routing.proofs.LabelLemmas.{small_next, leads_next}
-use Rattle.small_routing.proofs.SearchLemmas.{searched_better, searched_all, searched_no_better, exhausted_none, exhausted_bound, exhausted_dominated, exhausted_tried, tried_searched, tries_more}
+use Rattle.small_routing.proofs.SearchLemmas.{searched_better, searched_no_better, exhausted_none, exhausted_bound, exhausted_dominated, exhausted_tried, tried_searched, tries_more}
 use Rattle.small_routing.proofs.search.+search.Goals as goal
 
 -- an element of the slice is one of the candidates

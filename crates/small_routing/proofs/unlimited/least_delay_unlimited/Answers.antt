@@ -1,13 +1,13 @@
-use Rattle.std.proofs.Common.{◌≡◌, ◌≤◌, List, Option, Result, Ok, Err, subst, sym, ◌∙◌, ap}
+use Rattle.std.proofs.Common.{◌≡◌, ◌≤◌, List, Option, Result, Ok, Err, subst, sym}
 use Rattle.std.specs.Prelude.{IfOk, IfSome, IfNone}
 use Rattle.pool_base.specs.declared.memory.OutOfMemory.{OutOfMemory}
 use Rattle.pool_base.specs.Times.{point_count, travel_time}
 use Rattle.stop_orders.specs.declared.route.Route.{Route}
 use Rattle.stop_orders.specs.declared.stop.Stop.{Stop}
-use Rattle.stop_orders.specs.Task.{Serves, ReachesAll, IsOrderOf, order_delay, free_seats}
+use Rattle.stop_orders.specs.Task.{Serves, ReachesAll, IsOrderOf, order_delay}
 use Rattle.small_routing.specs.Label.{IsRoutable}
 use Rattle.small_routing.specs.Unlimited.{without_limits}
-use Rattle.small_routing.proofs.UnlimitedLemmas.{routable_unlimited, room_unlimited, unlimited_order, unlimited_reaches, unlimited_delay, unlimited_least, unlimited_none}
+use Rattle.small_routing.proofs.UnlimitedLemmas.{routable_unlimited, unlimited_order, unlimited_reaches, unlimited_delay, unlimited_least, unlimited_none}
 use Rattle.small_routing.proofs.unlimited.least_delay_unlimited.Goals as goal
 
 on_found : (r : Result (Option Route) OutOfMemory) (P Q : Option Route → Type 0) → ((found : Option Route) → P found → Q found) → IfOk r P → IfOk r Q
@@ -18,8 +18,8 @@ on_both : (r : Result (Option Route) OutOfMemory) (P Q R : Option Route → Type
 on_both (Ok found) P Q R f p q = f found p q
 on_both (Err e) P Q R f p q = tt
 
-pub least_route-requires-clause-valid : goal.least_route-requires-clause-valid
-least_route-requires-clause-valid c = subst (λ u. IsRoutable (point_count c.args.times.now) u) (sym c.without_limits_of-unlimited.ensures) (routable_unlimited (point_count c.args.times.now) c.args.task.now c.requires.valid)
+pub least_route-requires : goal.least_route-requires
+least_route-requires c = record { valid = subst (λ u. IsRoutable (point_count c.args.times.now) u) (sym c.without_limits_of-unlimited.ensures) (routable_unlimited (point_count c.args.times.now) c.args.task.now c.requires.valid) }
 
 pub returns-clause-order : goal.returns-clause-order
 returns-clause-order c =

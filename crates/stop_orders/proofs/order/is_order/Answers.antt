@@ -1,6 +1,5 @@
-use Rattle.std.proofs.Common.{◌≡◌, ◌∷◌, Bool, IsTrue, ◌↔◌, false, ℕ, ◌+◌, ◌<◌, ◌≤◌, List, length, get_or, drop, subst, sym, ◌∙◌, true, arith}
+use Rattle.std.proofs.Common.{◌≡◌, ◌∷◌, Bool, IsTrue, ◌↔◌, ℕ, ◌+◌, ◌<◌, ◌≤◌, List, length, get_or, drop, subst, sym, ◌∙◌, arith}
 use Rattle.std.proofs.lemmas.List.{drop_more}
-use Rattle.std.proofs.lemmas.Bool.{both_ways}
 use Rattle.stop_orders.specs.declared.stop.Stop.{Stop}
 use Rattle.stop_orders.specs.declared.stop.Stop.TheVariants.{Pick}
 use Rattle.stop_orders.specs.Order.{IsOrder}

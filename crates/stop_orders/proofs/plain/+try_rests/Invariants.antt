@@ -1,4 +1,4 @@
-use Rattle.std.proofs.Common.{◌≡◌, ℕ, ◌≤◌, ◌<◌, ◌+◌, ◌++◌, List, [], ◌∷◌, Option, length}
+use Rattle.std.proofs.Common.{◌≡◌, ℕ, ◌<◌, ◌++◌, List, [], ◌∷◌, Option, length}
 use Rattle.pool_base.specs.Times.{travel_time}
 use Rattle.stop_orders.specs.declared.route.Route.{Route}
 use Rattle.stop_orders.specs.declared.stop.Stop.{Stop}

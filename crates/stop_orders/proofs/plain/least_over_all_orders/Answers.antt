@@ -1,11 +1,9 @@
-use Rattle.std.proofs.Common.{◌≡◌, ℕ, ◌+◌, ◌≤◌, List, [], ◌++◌, length, Option, None, Some, subst, sym, ap, ◌∙◌, arith}
+use Rattle.std.proofs.Common.{◌≡◌, ℕ, ◌≤◌, List, [], length, Option, None, Some, subst, sym, ap, arith}
 use Rattle.std.specs.Prelude.{IfSome, IfNone}
-use Rattle.pool_base.specs.Times.{travel_time}
 use Rattle.stop_orders.specs.declared.route.Route.{Route}
 use Rattle.stop_orders.specs.declared.stop.Stop.{Stop}
 use Rattle.stop_orders.specs.declared.task.Task.{Task}
 use Rattle.stop_orders.specs.Task.{Serves, order_delay}
-use Rattle.stop_orders.specs.Done.{left_count}
 use Rattle.stop_orders.specs.Plain.{MakesOrders, AllTried, NoneBetter}
 use Rattle.stop_orders.proofs.DoneLemmas.{left_count-most, Completes-none}
 use Rattle.stop_orders.proofs.PlainLemmas.{MakesOrders-none}

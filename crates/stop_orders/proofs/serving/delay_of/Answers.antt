@@ -1,6 +1,4 @@
-use Rattle.std.proofs.Common.{drop}
-use Rattle.std.proofs.lemmas.List.{drop_more}
-use Rattle.stop_orders.proofs.ScanLemmas.{delay_first, delay_next, delay_stuck}
+use Rattle.stop_orders.proofs.ScanLemmas.{delay_first}
 use Rattle.stop_orders.proofs.serving.delay_of.Goals as goal
 
 pub loop-stop-init : goal.loop-stop-init

@@ -1,9 +1,8 @@
 use Rattle.std.proofs.Common.{◌≡◌, ℕ, ◌<◌, List, length, map, get_or, sym, ap, ◌∙◌, subst, arith}
 use Rattle.std.specs.Prelude.{All}
-use Rattle.std.proofs.lemmas.List.{get_or-map, length-map, get_or_read}
-use Rattle.small_routing.specs.declared.label.Label.{Label}
+use Rattle.std.proofs.lemmas.List.{get_or-map, length-map}
 use Rattle.small_routing.specs.declared.kept.Entry.{Entry}
-use Rattle.small_routing.specs.Kept.{no_label, IsPlaced, labels_of}
+use Rattle.small_routing.specs.Kept.{no_label, IsPlaced}
 use Rattle.small_routing.proofs.kept.Kept.dominates.Goals as goal
 
 -- the label of an entry is among the labels
