@@ -131,8 +131,8 @@ impl Book {
         let reply = self
             .register
             .run(self.alloc, &self.nodes, self.wait, &command)?;
-        append(&mut self.entries, lane, command, reply);
         self.reserved -= 1;
+        append(&mut self.entries, lane, command, &reply);
         Ok(reply)
     }
 
@@ -203,16 +203,16 @@ impl Book {
 }
 
 /// Puts an entry last. There is room for it.
-fn append(entries: &mut Vec<Entry>, lane: u8, command: Command, reply: Reply)
+fn append(entries: &mut Vec<Entry>, lane: u8, command: Command, reply: &Reply)
     requires room { vec_len entries.old < vec_capacity entries.old }
-    ensures items { entries.new.items ≡ entries.old.items ++ (record { lane = lane; command = command; reply = reply }) ∷ [] }
+    ensures items { entries.new.items ≡ entries.old.items ++ (record { lane = lane; command = command; reply = reply.now }) ∷ [] }
     ensures len { vec_len entries.new ≡ vec_len entries.old + 1 }
     ensures capacity { vec_capacity entries.new ≡ vec_capacity entries.old }
 {
     entries.push_reserved(Entry {
         lane,
         command,
-        reply,
+        reply: *reply,
     });
 }
 
