@@ -1,5 +1,5 @@
 -- What every book keeps is kept by each command.
-use Rattle.std.proofs.Common.{◌≡◌, ℕ, zero, suc, ◌≤◌, ◌<◌, Bool, true, false, eqb, List, [], ◌∷◌, ◌++◌, length, get_or, take, Option, Some, None, refl, sym, ap, subst, ◌∙◌, arith}
+use Rattle.std.proofs.Common.{◌≡◌, ℕ, zero, suc, ◌≤◌, ◌<◌, Bool, false, List, [], ◌∷◌, ◌++◌, length, get_or, take, Option, Some, None, refl, sym, ap, subst, ◌∙◌, arith}
 use Rattle.std.specs.Prelude.{option_and_then}
 use Rattle.std.specs.List.{All, list_any}
 use Rattle.std.proofs.lemmas.List.Elements.{All-nil, All-weaker}
@@ -10,8 +10,8 @@ use Rattle.request_book.specs.declared.command.Command.{Command}
 use Rattle.request_book.specs.declared.journal.Entry.{Entry}
 use Rattle.request_book.specs.declared.reply.Reply.{Reply}
 use Rattle.request_book.specs.declared.state.State.{State}
-use Rattle.request_book.specs.Book.{BookView, IsBook, IsApplied, opening}
-use Rattle.request_book.specs.Consistent.{IsConsistent, IsNode, NamesNodes, seat_in}
+use Rattle.request_book.specs.Book.{BookView, IsBook, opening}
+use Rattle.request_book.specs.Consistent.{IsConsistent, IsNode, NamesNodes}
 use Rattle.request_book.specs.Keyed.{look_up, KeysRise, KeysDiffer}
 use Rattle.request_book.specs.Replay.{state_after, RepliesAreSteps}
 use Rattle.request_book.specs.State.{find_vehicle, find_passenger}

@@ -3,7 +3,6 @@ use Rattle.std.proofs.Common.{◌≡◌, ℕ, Bool, true, false, cond, eqb, ◌&
 use Rattle.std.specs.Prelude.{option_and_then}
 use Rattle.std.specs.List.{All, filter_map, flat_map}
 use Rattle.std.proofs.lemmas.List.Elements.{All-nil, All-cons, All-head, All-tail, All-append, All-push, All-map, All-weaker}
-use Rattle.batch_snapshot.specs.Batch.{Batch}
 use Rattle.batch_snapshot.specs.Points.{named_nodes, vehicle_nodes, rider_nodes}
 use Rattle.batch_snapshot.specs.declared.passenger.Passenger.{Passenger}
 use Rattle.batch_snapshot.specs.declared.rider.Rider.{Rider}
@@ -18,7 +17,7 @@ use Rattle.request_book.specs.declared.rider.BookRider.{BookRider}
 use Rattle.request_book.specs.declared.rider.Status.{Status}
 use Rattle.request_book.specs.declared.rider.Status.TheVariants.{Waiting, Aboard, Delivered, Expired, Cancelled as GivenUp}
 use Rattle.request_book.specs.declared.state.State.{State}
-use Rattle.request_book.specs.Closing.{Pick, after_answer, after_plan, in_batch, picks, planned_status}
+use Rattle.request_book.specs.Closing.{after_answer, after_plan, in_batch, picks, planned_status}
 use Rattle.request_book.specs.Consistent.{IsConsistent, IsNode, NamesNodes, seat_in}
 use Rattle.request_book.specs.Keyed.{KeysDiffer, by_key}
 use Rattle.request_book.specs.Refusals.{unknown_node}
@@ -79,14 +78,14 @@ module _ (nodes : List ℕ) where
   unfolding submit_step
   submit-named s r named =
       answer-keeps (NamesNodes nodes) s (submit_refusal nodes s r) Accepted (record s { riders = s.riders ++ r ∷ [] }) named (λ none.
-        let a = first_of-none _ _ none in
-        let b = first_of-none _ _ a.1 in
-        let d = first_of-none _ _ b.1 in
-        record {
-          riders = All-push HasNodes s.riders r named.riders (known r.origin b.0, known r.destination d.0);
-          vehicles = named.vehicles;
-          sealed = named.sealed;
-        })
+      let a = first_of-none _ _ none in
+      let b = first_of-none _ _ a.1 in
+      let d = first_of-none _ _ b.1 in
+      record {
+        riders = All-push HasNodes s.riders r named.riders (known r.origin b.0, known r.destination d.0);
+        vehicles = named.vehicles;
+        sealed = named.sealed;
+      })
 
   cancel-named : (s : State) (rider : ℕ) → IsConsistent s → NamesNodes nodes s → NamesNodes nodes (cancel_step s rider).0
   unfolding cancel_step
@@ -97,7 +96,7 @@ module _ (nodes : List ℕ) where
   unfolding report_step
   report-named s vehicle node time kept named =
       answer-keeps (NamesNodes nodes) s _ Placed (vehicle_becomes s vehicle (stands_at node time)) named (λ none.
-        vehicle_becomes-named s vehicle (stands_at node time) (differ s kept) (λ v. known node (first_of-none _ _ (first_of-none _ _ none).1).0) named)
+      vehicle_becomes-named s vehicle (stands_at node time) (differ s kept) (λ v. known node (first_of-none _ _ (first_of-none _ _ none).1).0) named)
 
   pickup-named : (s : State) (vehicle rider time : ℕ) → IsConsistent s → NamesNodes nodes s → NamesNodes nodes (pickup_step s vehicle rider time).0
   unfolding pickup_step
@@ -108,8 +107,8 @@ module _ (nodes : List ℕ) where
       by None e = named
       by (Some r) e =
           vehicle_becomes-named (rider_becomes s r.id (Aboard vehicle)) vehicle (takes_in r time) (differ s kept)
-            (λ v. (All-look_up (λ (r : BookRider). r.id) HasNodes rider s.riders r named.riders e).0)
-            (rider_becomes-named s r.id (Aboard vehicle) kept named)
+          (λ v. (All-look_up (λ (r : BookRider). r.id) HasNodes rider s.riders r named.riders e).0)
+          (rider_becomes-named s r.id (Aboard vehicle) kept named)
 
   dropoff-named : (s : State) (vehicle rider time : ℕ) → IsConsistent s → NamesNodes nodes s → NamesNodes nodes (dropoff_step s vehicle rider time).0
   unfolding dropoff_step
@@ -120,8 +119,8 @@ module _ (nodes : List ℕ) where
       by None e = named
       by (Some r) e =
           vehicle_becomes-named (rider_becomes s r.id Delivered) vehicle (lets_out r time) (differ s kept)
-            (λ v. (All-look_up (λ (r : BookRider). r.id) HasNodes rider s.riders r named.riders e).1)
-            (rider_becomes-named s r.id Delivered kept named)
+          (λ v. (All-look_up (λ (r : BookRider). r.id) HasNodes rider s.riders r named.riders e).1)
+          (rider_becomes-named s r.id Delivered kept named)
 
   two : (a b : ℕ) → IsNode nodes a → IsNode nodes b → All (IsNode nodes) (a ∷ b ∷ [])
   two a b p q = All-cons (IsNode nodes) a (b ∷ []) p (All-cons (IsNode nodes) b [] q (All-nil (IsNode nodes)))
@@ -134,7 +133,7 @@ module _ (nodes : List ℕ) where
     seat-named : (x k : ℕ) (v : Vehicle) (p : Passenger) → find_vehicle x s.vehicles ≡ Some v → find_passenger k v.aboard.items ≡ Some p → All (IsNode nodes) (p.origin ∷ p.destination ∷ [])
     seat-named x k v p at seated =
         by (find_rider k s.riders) refl
-          (sym (sym (ap (option_and_then (λ (u : Vehicle). find_passenger k u.aboard.items)) at) ∙ kept.aboard x k) ∙ seated)
+        (sym (sym (ap (option_and_then (λ (u : Vehicle). find_passenger k u.aboard.items)) at) ∙ kept.aboard x k) ∙ seated)
       where
         by : (o : Option BookRider) → find_rider k s.riders ≡ o → option_and_then (seat_in x) o ≡ Some p → All (IsNode nodes) (p.origin ∷ p.destination ∷ [])
         by None e f = absurd cc
@@ -145,22 +144,22 @@ module _ (nodes : List ℕ) where
     vehicle-named : (x : ℕ) (v : Vehicle) → find_vehicle x s.vehicles ≡ Some v → All (IsNode nodes) (vehicle_nodes v)
     vehicle-named x v at =
         All-cons (IsNode nodes) v.node (flat_map (λ (p : Passenger). p.origin ∷ p.destination ∷ []) v.aboard.items)
-          (All-look_up (λ (v : Vehicle). v.id) (λ (v : Vehicle). IsNode nodes v.node) x s.vehicles v named.vehicles at)
-          (All-flat_map (IsNode nodes) (λ (p : Passenger). p.origin ∷ p.destination ∷ []) v.aboard.items
-            (All-from_look_up (λ (p : Passenger). p.rider) (λ (p : Passenger). All (IsNode nodes) (p.origin ∷ p.destination ∷ [])) v.aboard.items
-              (All-look_up (λ (v : Vehicle). v.id) (λ (v : Vehicle). KeysDiffer (λ p. p.rider) v.aboard.items) x s.vehicles v kept.passengers at)
-              (λ k p seated. seat-named x k v p at seated)))
+        (All-look_up (λ (v : Vehicle). v.id) (λ (v : Vehicle). IsNode nodes v.node) x s.vehicles v named.vehicles at)
+        (All-flat_map (IsNode nodes) (λ (p : Passenger). p.origin ∷ p.destination ∷ []) v.aboard.items
+        (All-from_look_up (λ (p : Passenger). p.rider) (λ (p : Passenger). All (IsNode nodes) (p.origin ∷ p.destination ∷ [])) v.aboard.items
+        (All-look_up (λ (v : Vehicle). v.id) (λ (v : Vehicle). KeysDiffer (λ p. p.rider) v.aboard.items) x s.vehicles v kept.passengers at)
+        (λ k p seated. seat-named x k v p at seated)))
 
     batch-named : All (IsNode nodes) (named_nodes (batch_of wait s now))
     unfolding batch_of
     batch-named =
         All-append (IsNode nodes) (flat_map vehicle_nodes s.vehicles) (flat_map rider_nodes (by_key (λ r. r.id) (filter_map (asking now) (map (after_seal wait now) s.riders))))
-          (All-flat_map (IsNode nodes) vehicle_nodes s.vehicles
-            (All-from_look_up (λ (v : Vehicle). v.id) (λ (v : Vehicle). All (IsNode nodes) (vehicle_nodes v)) s.vehicles (differ s kept) vehicle-named))
-          (All-flat_map (IsNode nodes) rider_nodes (by_key (λ r. r.id) (filter_map (asking now) (map (after_seal wait now) s.riders)))
-            (batch-each wait now s kept (λ (y : Rider). All (IsNode nodes) (rider_nodes y)) (λ k r y found is.
-              let has = rider-named k r found in
-              two y.origin y.destination (subst (IsNode nodes) (sym is.origin) has.0) (subst (IsNode nodes) (sym is.destination) has.1))))
+        (All-flat_map (IsNode nodes) vehicle_nodes s.vehicles
+        (All-from_look_up (λ (v : Vehicle). v.id) (λ (v : Vehicle). All (IsNode nodes) (vehicle_nodes v)) s.vehicles (differ s kept) vehicle-named))
+        (All-flat_map (IsNode nodes) rider_nodes (by_key (λ r. r.id) (filter_map (asking now) (map (after_seal wait now) s.riders)))
+        (batch-each wait now s kept (λ (y : Rider). All (IsNode nodes) (rider_nodes y)) (λ k r y found is.
+        let has = rider-named k r found in
+        two y.origin y.destination (subst (IsNode nodes) (sym is.origin) has.0) (subst (IsNode nodes) (sym is.destination) has.1))))
 
     sealed-named : NamesNodes nodes (sealed_state wait s now)
     unfolding sealed_state

@@ -1,4 +1,4 @@
-use Rattle.std.proofs.Common.{◌≡◌, ℕ, ◌+◌, ◌-◌, ◌<◌, ◌≤◌, List, ◌++◌, ◌∷◌, [], sym, ap, subst, ◌∙◌, arith}
+use Rattle.std.proofs.Common.{◌≡◌, ℕ, ◌+◌, ◌-◌, ◌<◌, List, sym, ap, subst, arith}
 use Rattle.request_book.specs.declared.journal.Entry.{Entry}
 use Rattle.request_book.specs.declared.state.State.{State}
 use Rattle.request_book.specs.Book.{BookView, IsBook}
@@ -28,7 +28,7 @@ invariant_of-self-2 c =
     let one_less : b.reserved ≡ (b.reserved - 1) + 1 = omega (arith, some) in
     record {
       book = subst (λ es. IsBook (view (state_of c.run.new.self) es (b.reserved - 1))) (sym c.append.ensures.items)
-        (applied-book (view (state_of b.register) b.entries.items b.reserved) c.args.lane c.args.command c.in_ok-reply.reply (state_of c.run.new.self) (b.reserved - 1) h.book c.in_ok-reply.ensures.ok);
+          (applied-book (view (state_of b.register) b.entries.items b.reserved) c.args.lane c.args.command c.in_ok-reply.reply (state_of c.run.new.self) (b.reserved - 1) h.book c.in_ok-reply.ensures.ok);
       indexed = c.run.ensures.indexed;
       room = c.run.ensures.room (b.reserved - 1) (subst (λ n. HasRoom n b.register) one_less h.room);
       entries = omega (arith, some, h.entries, c.append.ensures.len, c.append.ensures.capacity);

@@ -1,4 +1,4 @@
-use Rattle.std.proofs.Common.{◌≡◌, ℕ, ◌+◌, ◌≤◌, List, [], refl, sym, ap, subst, ◌∙◌, arith}
+use Rattle.std.proofs.Common.{◌≡◌, ℕ, List, [], sym, ap, subst, ◌∙◌, arith}
 use Rattle.std.specs.Global.{Vec}
 use Rattle.request_book.specs.declared.journal.Entry.{Entry}
 use Rattle.request_book.specs.declared.state.State.{State}
@@ -15,7 +15,7 @@ invariant_of-self c =
     let view : ℕ → State → List Entry → BookView = λ n base es. record { nodes = b.nodes.keys; wait = b.wait; first = n; base = base; entries = es; state = state_of b.register; spare = 0 } in
     let before : BookView = record { nodes = b.nodes.keys; wait = b.wait; first = b.first; base = b.base; entries = b.entries.items; state = state_of b.register; spare = b.reserved } in
     let base : c.replace-base.new.dest ≡ state_of b.register =
-        c.replace-base.ensures.after ∙ c.in_ok-state.ensures ∙ sym (ap (λ (v : BookView). v.state) c.self.view_is) in
+    c.replace-base.ensures.after ∙ c.in_ok-state.ensures ∙ sym (ap (λ (v : BookView). v.state) c.self.view_is) in
     let entries : c.replace-entries.new.dest.items ≡ [] = ap (λ (v : Vec Entry). v.items) c.replace-entries.ensures.after ∙ c.new.ensures.items in
     let first = c.replace-first.new.dest in
     record {

@@ -1,9 +1,9 @@
-use Rattle.std.proofs.Common.{◌≡◌, ℕ, ◌≤◌, List, [], Option, None, map, refl, sym, ap, subst, ◌∙◌, arith}
+use Rattle.std.proofs.Common.{ℕ, [], map, sym, ap, subst, ◌∙◌, arith}
 use Rattle.std.specs.Prelude.{option_and_then}
 use Rattle.batch_snapshot.specs.declared.vehicle.Vehicle.{Vehicle}
 use Rattle.request_book.specs.declared.rider.BookRider.{BookRider}
 use Rattle.request_book.specs.Keyed.{look_up, KeysRise, KeysDiffer}
-use Rattle.request_book.specs.Register.{pool_id, IsIndexed}
+use Rattle.request_book.specs.Register.{pool_id}
 use Rattle.request_book.specs.State.{find_rider}
 use Rattle.request_book.proofs.KeyedLemmas.{look_up-nil, KeysDiffer-from_rise}
 use Rattle.request_book.proofs.register.Register.of.Goals as goal
@@ -28,6 +28,6 @@ returns-clause-indexed c = record {
   vehicles = c.requires;
   pool_rise = subst (KeysRise (λ (n : ℕ). n)) (sym c.in_ok-pool.ensures.items) nothing-rises;
   pool = λ id. ap (look_up (λ (n : ℕ). n) id) c.in_ok-pool.ensures.items ∙ look_up-nil (λ (n : ℕ). n) id
-    ∙ sym (ap (λ rs. option_and_then pool_id (find_rider id rs)) c.new.ensures.items ∙ ap (option_and_then pool_id) (look_up-nil (λ (r : BookRider). r.id) id));
+      ∙ sym (ap (λ rs. option_and_then pool_id (find_rider id rs)) c.new.ensures.items ∙ ap (option_and_then pool_id) (look_up-nil (λ (r : BookRider). r.id) id));
   pool_room = omega (arith, c.in_ok-pool.ensures.capacity);
 }

@@ -1,10 +1,9 @@
-use Rattle.std.proofs.Common.{◌≡◌, ℕ, ◌+◌, Result, Ok, Err, refl, sym, ap, subst, ◌∙◌}
+use Rattle.std.proofs.Common.{◌≡◌, Result, Ok, Err, sym, ap, ◌∙◌}
 use Rattle.std.specs.Prelude.{IfOk}
 use Rattle.pool_base.specs.declared.memory.OutOfMemory.{OutOfMemory}
 use Rattle.request_book.specs.declared.command.Command.TheVariants.{Seal}
 use Rattle.request_book.specs.declared.reply.Reply.{Reply}
-use Rattle.request_book.specs.declared.state.State.{State}
-use Rattle.request_book.specs.Register.{state_of, HasRoom}
+use Rattle.request_book.specs.Register.{state_of}
 use Rattle.request_book.specs.Step.{step}
 use Rattle.request_book.proofs.IndexLemmas.{less-room}
 use Rattle.request_book.proofs.register.Register.run.Goals as goal
