@@ -75,7 +75,7 @@ module _ (nodes : List ℕ) (vehicles : List Vehicle) (fleet : IsFleet vehicles)
   nobody k [] e = look_up-nil (λ (p : Passenger). p.rider) k
   nobody k (p ∷ ps) e = absurd (omega (arith, e))
 
-  opening-consistent : IsConsistent (opening vehicles)
+  pub opening-consistent : IsConsistent (opening vehicles)
   unfolding KeysDiffer look_up
   opening-consistent = record {
     vehicle_count = fleet.count;

@@ -8,3 +8,5 @@ pub mod BatchLemmas
 pub mod ConsistentLemmas
 pub mod NamedLemmas
 pub mod BookLemmas
+pub mod LawLemmas
+pub mod TestLemmas

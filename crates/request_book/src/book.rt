@@ -62,6 +62,19 @@ impl Book {
         ensures { IfOk result (λ book. book ≡ record { nodes = network.now.nodes; wait = wait; first = 0; base = opening fleet; entries = []; state = opening fleet; spare = 0 }) }
     {
         let nodes = listed_nodes(alloc, network)?;
+        Book::over(alloc, nodes, fleet, wait)
+    }
+
+    /// The book of a fleet over these nodes.
+    pub(crate) fn over(
+        alloc: Global,
+        nodes: IndexSet<NodeId>,
+        fleet: Fleet,
+        wait: u32,
+    ) -> Result<Book, OutOfMemory>
+        requires { All (λ v. IsNode nodes.keys v.node) fleet }
+        ensures { IfOk result (λ book. book ≡ record { nodes = nodes.keys; wait = wait; first = 0; base = opening fleet; entries = []; state = opening fleet; spare = 0 }) }
+    {
         let vehicles = fleet.into_vehicles();
         let base = opening(alloc, copied_vehicles(alloc, &vehicles)?);
         let register = Register::of(alloc, vehicles)?;
