@@ -1,12 +1,11 @@
 -- The batch of a seal: what it shows, and what it keeps.
-use Rattle.std.proofs.Common.{◌≡◌, ◌≢◌, ℕ, zero, suc, ◌+◌, ◌<◌, ◌≤◌, Bool, true, false, cond, leb, ltb, eqb, ◌&&◌, List, [], ◌∷◌, ◌++◌, length, get_or, map, Option, Some, None, refl, sym, ap, subst, ◌∙◌, inl, inr, arith}
+use Rattle.std.proofs.Common.{◌≡◌, ℕ, zero, suc, ◌+◌, ◌<◌, ◌≤◌, Bool, true, false, cond, leb, ltb, eqb, ◌&&◌, List, [], ◌∷◌, ◌++◌, length, map, Option, Some, None, refl, sym, ap, subst, ◌∙◌, inl, inr, arith}
 use Rattle.std.specs.Prelude.{is_some, option_map, option_and_then, count_by, slice_index}
-use Rattle.std.specs.List.{filter_map, cons_option, flat_map, All}
+use Rattle.std.specs.List.{filter_map, cons_option, All}
 use Rattle.std.specs.List.Sorted.{IsStrictlyIncreasing}
-use Rattle.std.proofs.lemmas.Bool.{cases_eq, cases_Bool, eq-eqb, ne_eqb, leb-true, true≢false}
+use Rattle.std.proofs.lemmas.Bool.{cases_eq, ne_eqb, leb-true, true≢false}
 use Rattle.std.proofs.lemmas.List.{length-map}
 use Rattle.std.proofs.lemmas.List.Sums.{sum_by-cons}
-use Rattle.batch_snapshot.specs.Batch.{Batch}
 use Rattle.batch_snapshot.specs.Kept.{IsKept, IsOnce, riders_aboard}
 use Rattle.batch_snapshot.specs.declared.passenger.Passenger.{Passenger}
 use Rattle.batch_snapshot.specs.declared.promise.Promise.{Promise}
@@ -16,12 +15,12 @@ use Rattle.request_book.specs.declared.rider.BookRider.{BookRider}
 use Rattle.request_book.specs.declared.rider.Status.{Status}
 use Rattle.request_book.specs.declared.rider.Status.TheVariants.{Waiting, Promised, Aboard, Cancelled, Delivered, Expired}
 use Rattle.request_book.specs.declared.state.State.{State}
-use Rattle.request_book.specs.Consistent.{AreConsistent, IsConsistent, seat_in}
+use Rattle.request_book.specs.Consistent.{IsConsistent, seat_in}
 use Rattle.request_book.specs.Keyed.{look_up, changed_in_turn, by_key, KeysRise, KeysDiffer, AllAbove}
 use Rattle.request_book.specs.Register.{pool_id}
 use Rattle.request_book.specs.Rider.{is_active, pool_promise, vehicle_of, shown, with_status, passenger_of}
 use Rattle.request_book.specs.Sealing.{is_over, after_seal, over_id, asking, batch_of}
-use Rattle.request_book.specs.State.{find_rider, find_vehicle, find_passenger, pool_count}
+use Rattle.request_book.specs.State.{find_rider, find_vehicle, find_passenger}
 use Rattle.request_book.proofs.IndexLemmas.{IsPool, pool_id-keeps}
 use Rattle.request_book.proofs.SealLemmas.{changed_in_turn-marked, marked, map-agree}
 use Rattle.request_book.proofs.KeyedLemmas.{look_up-here, look_up-there, look_up-nil, look_up-key, look_up-at, look_up-filter_map, KeysDiffer-filter_map, KeysDiffer-from_rise, by_key-order, filter_map-by_key, made-rise, made-found, look_up-map, length-by_key, length-filter_map, All-from_look_up, All-look_up}
@@ -90,13 +89,13 @@ module _ (wait now : ℕ) where
     pub batch-riders : filter_map (λ id. option_and_then (λ r. asking now (after_seal wait now r)) (find_rider id riders)) pool ≡ by_key (λ r. r.id) (filter_map (asking now) (map (after_seal wait now) riders))
     batch-riders =
         filter_map-by_key (λ (r : BookRider). r.id) (λ (y : Rider). y.id) shows (λ r y e. (shown-is r y e).id) pool riders up differ
-          (λ k r y found e. active-listed k r found (shown-is r y e).active)
+        (λ k r y found e. active-listed k r found (shown-is r y e).active)
         ∙ sym (ap (by_key (λ (y : Rider). y.id)) (filter_map-map (asking now) (after_seal wait now) riders))
 
     pub batch-expired : filter_map (λ id. option_and_then (over_id wait now) (find_rider id riders)) pool ≡ by_key (λ id. id) (filter_map (over_id wait now) riders)
     batch-expired =
         filter_map-by_key (λ (r : BookRider). r.id) (λ n. n) (over_id wait now) (λ r n e. (over-is r n e).0) pool riders up differ
-          (λ k r n found e. active-listed k r found (over-is r n e).1)
+        (λ k r n found e. active-listed k r found (over-is r n e).1)
 
 -- a test that asks for more passes fewer
 pub count_by-le : {X : Type 0} (p q : X → Bool) → ((x : X) → p x ≡ true → q x ≡ true) → (xs : List X) → count_by p xs ≤ count_by q xs
@@ -147,16 +146,17 @@ look_up-append_none : (k : ℕ) (xs ys : List ℕ) → look_up (λ n. n) k xs �
 look_up-append_none k [] ys a b = b
 look_up-append_none k (x ∷ xs) ys a b =
     elim (cases_eq x k) [
-      inl e ↦ let found = look_up-here (λ n. n) k x xs e in absurd cc
-    | inr ne ↦ look_up-there (λ n. n) k x (xs ++ ys) ne ∙ look_up-append_none k xs ys (sym (look_up-there (λ n. n) k x xs ne) ∙ a) b
+      | inl e ↦ let found = look_up-here (λ n. n) k x xs e in absurd cc
+      | inr ne ↦ look_up-there (λ n. n) k x (xs ++ ys) ne ∙ look_up-append_none k xs ys (sym (look_up-there (λ n. n) k x xs ne) ∙ a) b
     ]
 
 differ-append : (xs ys : List ℕ) → KeysDiffer (λ n. n) xs → KeysDiffer (λ n. n) ys → ((k : ℕ) → look_up (λ n. n) k xs ≡ Some k → look_up (λ n. n) k ys ≡ None) → KeysDiffer (λ n. n) (xs ++ ys)
 unfolding KeysDiffer
 differ-append [] ys d e apart = e
-differ-append (x ∷ xs) ys d e apart =
-    (look_up-append_none x xs ys d.0 (apart x (look_up-here (λ n. n) x x xs refl)),
-      differ-append xs ys d.1 e (λ k found. apart k (look_up-there (λ n. n) k x xs (λ s. let none = subst (λ j. look_up (λ n. n) j xs ≡ None) s d.0 in absurd cc) ∙ found)))
+differ-append (x ∷ xs) ys d e apart = (
+  look_up-append_none x xs ys d.0 (apart x (look_up-here (λ n. n) x x xs refl)),
+  differ-append xs ys d.1 e (λ k found. apart k (look_up-there (λ n. n) k x xs (λ s. let none = subst (λ j. look_up (λ n. n) j xs ≡ None) s d.0 in absurd cc) ∙ found)),
+)
 
 -- keys as numbers
 module _ {X : Type 0} (key : X → ℕ) where
@@ -164,8 +164,8 @@ module _ {X : Type 0} (key : X → ℕ) where
   look_up-keys k [] = look_up-nil (λ n. n) k ∙ ap (option_map key) (sym (look_up-nil key k))
   look_up-keys k (x ∷ xs) =
       elim (cases_eq (key x) k) [
-        inl e ↦ look_up-here (λ n. n) k (key x) (map key xs) e ∙ ap (option_map key) (sym (look_up-here key k x xs e))
-      | inr ne ↦ look_up-there (λ n. n) k (key x) (map key xs) ne ∙ look_up-keys k xs ∙ ap (option_map key) (sym (look_up-there key k x xs ne))
+        | inl e ↦ look_up-here (λ n. n) k (key x) (map key xs) e ∙ ap (option_map key) (sym (look_up-here key k x xs e))
+        | inr ne ↦ look_up-there (λ n. n) k (key x) (map key xs) ne ∙ look_up-keys k xs ∙ ap (option_map key) (sym (look_up-there key k x xs ne))
       ]
 
   differ-keys : (xs : List X) → KeysDiffer key xs → KeysDiffer (λ n. n) (map key xs)
@@ -187,8 +187,8 @@ module _ (riders : List BookRider) where
       seat r None f = absurd cc
       seat r (Some v) f =
           elim (cases_eq v y) [
-            inl same ↦ let off = ne_eqb v x (λ g. ne (sym g ∙ same)) in (let none : None ≡ Some p = sym (ap (λ b. cond b (Some (passenger_of r)) None) off) ∙ f in absurd cc)
-          | inr other ↦ ap (λ b. cond b (Some (passenger_of r)) None) (ne_eqb v y other)
+            | inl same ↦ let off = ne_eqb v x (λ g. ne (sym g ∙ same)) in (let none : None ≡ Some p = sym (ap (λ b. cond b (Some (passenger_of r)) None) off) ∙ f in absurd cc)
+            | inr other ↦ ap (λ b. cond b (Some (passenger_of r)) None) (ne_eqb v y other)
           ]
 
       by : (o : Option BookRider) → option_and_then (seat_in x) o ≡ Some p → option_and_then (seat_in y) o ≡ None
@@ -201,10 +201,10 @@ module _ (riders : List BookRider) where
   nobody k (v ∷ vs) d seated none =
       let here = look_up-here (λ (u : Vehicle). u.id) v.id v vs refl in
       look_up-append_none k (map (λ p. p.rider) v.aboard.items) (riders_aboard vs)
-        (look_up-keys (λ (p : Passenger). p.rider) k v.aboard.items ∙ ap (option_map (λ (p : Passenger). p.rider)) (seated v.id v k here ∙ none v.id v here))
-        (nobody k vs d.1
-          (λ x u j found. seated x u j (later x u found))
-          (λ x u found. none x u (later x u found)))
+      (look_up-keys (λ (p : Passenger). p.rider) k v.aboard.items ∙ ap (option_map (λ (p : Passenger). p.rider)) (seated v.id v k here ∙ none v.id v here))
+      (nobody k vs d.1
+      (λ x u j found. seated x u j (later x u found))
+      (λ x u found. none x u (later x u found)))
     where
       later : (x : ℕ) (u : Vehicle) → find_vehicle x vs ≡ Some u → find_vehicle x (v ∷ vs) ≡ Some u
       later x u found = look_up-there (λ (u : Vehicle). u.id) x v vs (λ e. let none = subst (λ j. find_vehicle j vs ≡ None) e d.0 in absurd cc) ∙ found
@@ -215,10 +215,10 @@ module _ (riders : List BookRider) where
   aboard-differ (v ∷ vs) d seated each =
       let here = look_up-here (λ (u : Vehicle). u.id) v.id v vs refl in
       differ-append (map (λ p. p.rider) v.aboard.items) (riders_aboard vs)
-        (differ-keys (λ (p : Passenger). p.rider) v.aboard.items (each v.id v here))
-        (aboard-differ vs d.1 (λ x u j found. seated x u j (later x u found)) (λ x u found. each x u (later x u found)))
-        (λ k found. nobody k vs d.1 (λ x u j at. seated x u j (later x u at))
-          (λ x u at. elsewhere k (find_passenger k v.aboard.items) refl found x u at))
+      (differ-keys (λ (p : Passenger). p.rider) v.aboard.items (each v.id v here))
+      (aboard-differ vs d.1 (λ x u j found. seated x u j (later x u found)) (λ x u found. each x u (later x u found)))
+      (λ k found. nobody k vs d.1 (λ x u j at. seated x u j (later x u at))
+      (λ x u at. elsewhere k (find_passenger k v.aboard.items) refl found x u at))
     where
       later : (x : ℕ) (u : Vehicle) → find_vehicle x vs ≡ Some u → find_vehicle x (v ∷ vs) ≡ Some u
       later x u found = look_up-there (λ (u : Vehicle). u.id) x v vs (λ e. let none = subst (λ j. find_vehicle j vs ≡ None) e d.0 in absurd cc) ∙ found
@@ -291,10 +291,10 @@ module _ (wait now : ℕ) (s : State) (kept : IsConsistent s) where
   batch-once =
       let vehicles = KeysDiffer-from_rise (λ (v : Vehicle). v.id) s.vehicles kept.vehicles_rise in
       once_from_differ (map (λ r. r.id) batch-list ++ riders_aboard s.vehicles)
-        (differ-append (map (λ r. r.id) batch-list) (riders_aboard s.vehicles)
-          (differ-keys (λ (y : Rider). y.id) batch-list (KeysDiffer-from_rise (λ (y : Rider). y.id) batch-list batch-rise))
-          (aboard-differ s.riders s.vehicles vehicles batch-seated (λ x v found. All-look_up (λ (v : Vehicle). v.id) (λ (u : Vehicle). KeysDiffer (λ p. p.rider) u.aboard.items) x s.vehicles v kept.passengers found))
-          (λ k found. nobody s.riders k s.vehicles vehicles batch-seated (λ x v at. waiting k (look_up (λ (y : Rider). y.id) k batch-list) refl found x)))
+      (differ-append (map (λ r. r.id) batch-list) (riders_aboard s.vehicles)
+      (differ-keys (λ (y : Rider). y.id) batch-list (KeysDiffer-from_rise (λ (y : Rider). y.id) batch-list batch-rise))
+      (aboard-differ s.riders s.vehicles vehicles batch-seated (λ x v found. All-look_up (λ (v : Vehicle). v.id) (λ (u : Vehicle). KeysDiffer (λ p. p.rider) u.aboard.items) x s.vehicles v kept.passengers found))
+      (λ k found. nobody s.riders k s.vehicles vehicles batch-seated (λ x v at. waiting k (look_up (λ (y : Rider). y.id) k batch-list) refl found x)))
     where
       waiting : (k : ℕ) (o : Option Rider) → look_up (λ r. r.id) k batch-list ≡ o → look_up (λ n. n) k (map (λ r. r.id) batch-list) ≡ Some k → (x : ℕ) → option_and_then (seat_in x) (find_rider k s.riders) ≡ None
       waiting k None e found x = let none = look_up-keys (λ (y : Rider). y.id) k batch-list ∙ ap (option_map (λ (y : Rider). y.id)) e in absurd cc

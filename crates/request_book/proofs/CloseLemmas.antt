@@ -1,7 +1,6 @@
 -- What a close makes of the riders.
 use Rattle.std.proofs.Common.{◌≡◌, ℕ, zero, suc, ◌+◌, ◌<◌, ◌≤◌, Bool, true, false, cond, eqb, ◌&&◌, List, [], ◌∷◌, ◌++◌, length, get_or, drop, map, Option, Some, None, Result, Ok, Err, Equal, Less, Greater, refl, sym, ap, subst, ◌∙◌, inl, inr, arith}
-use Rattle.std.specs.Prelude.{is_some, is_ok, option_map, option_and_then, unwrap_or}
-use Rattle.std.specs.List.{flat_map}
+use Rattle.std.specs.Prelude.{is_some, is_ok, option_map, unwrap_or}
 use Rattle.std.specs.List.Sorted.{IsBinarySearchResult, IsSearchInRange, IsSortedBy}
 use Rattle.std.specs.Ordering.{nat_cmp, is_lt}
 use Rattle.std.specs.Cmp.{nat_cmp_total}
@@ -10,7 +9,6 @@ use Rattle.std.proofs.lemmas.Bool.Decides.{nat_tests}
 use Rattle.std.proofs.lemmas.List.{at_drop_more, drop_all, append-nil, append_assoc}
 use Rattle.std.proofs.lemmas.List.Sorted.{searchable_from_sorted}
 use Rattle.batch_snapshot.specs.declared.rider.Rider.{Rider}
-use Rattle.batch_snapshot.specs.declared.promise.Promise.{Promise}
 use Rattle.request_book.specs.declared.outcome.ChosenTrip.{ChosenTrip}
 use Rattle.request_book.specs.declared.outcome.PlannedStop.{PlannedStop}
 use Rattle.request_book.specs.declared.rider.BookRider.{BookRider}
@@ -68,10 +66,10 @@ module _ {X : Type 0} (key : X → ℕ) where
       let sorted : IsSortedBy (λ a c. is_lt (nat_cmp (key a) (key c))) xs = λ j d low high. not_lt (key (get_or xs (j + 1) d)) (key (get_or xs j d)) (keys-next xs j d up high) in
       let parts = at (searchable_from_sorted nat_cmp_total key xs k sorted) in
       sym (ap is_some (nowhere k xs (λ j d within e.
-        elim (cases_lt j i) [
-          inl low ↦ (let lt = below_by_cmp _ k (parts.0 j d (omega arith) low) in omega (arith, lt, e))
+      elim (cases_lt j i) [
+        | inl low ↦ (let lt = below_by_cmp _ k (parts.0 j d (omega arith) low) in omega (arith, lt, e))
         | inr high ↦ (let gt = above_by_cmp _ k (parts.1 j d high within) in omega (arith, gt, e))
-        ])))
+      ])))
 
 -- who waits again keeps their id, and waits again at once
 pub waits_again-id : (r : BookRider) → (waits_again r).id ≡ r.id
@@ -104,8 +102,8 @@ released batch riders = changed_in_turn-marked (λ r. r.id) waits_again waits_ag
     listed k [] = ap is_some (look_up-nil (λ n. n) k) ∙ sym (ap is_some (look_up-nil (λ (r : Rider). r.id) k))
     listed k (r ∷ rs) =
         elim (cases_eq r.id k) [
-          inl e ↦ ap is_some (look_up-here (λ n. n) k r.id (map (λ r. r.id) rs) e) ∙ sym (ap is_some (look_up-here (λ (r : Rider). r.id) k r rs e))
-        | inr ne ↦ ap is_some (look_up-there (λ n. n) k r.id (map (λ r. r.id) rs) ne) ∙ listed k rs ∙ sym (ap is_some (look_up-there (λ (r : Rider). r.id) k r rs ne))
+          | inl e ↦ ap is_some (look_up-here (λ n. n) k r.id (map (λ r. r.id) rs) e) ∙ sym (ap is_some (look_up-here (λ (r : Rider). r.id) k r rs e))
+          | inr ne ↦ ap is_some (look_up-there (λ n. n) k r.id (map (λ r. r.id) rs) ne) ∙ listed k rs ∙ sym (ap is_some (look_up-there (λ (r : Rider). r.id) k r rs ne))
         ]
 
     both : (r : BookRider) (a l : Bool) → cond l (cond a (with_status Waiting r) r) r ≡ cond (a && l) (with_status Waiting r) r
@@ -146,14 +144,14 @@ module _ (batch : List Rider) (ps : List Pick) (p : Pick) where
           → cond (eqb (cond (a && l) (with_status (planned_status ps r.id) r) r).id p.rider) (takes_promise batch p (cond (a && l) (with_status (planned_status ps r.id) r) r)) (cond (a && l) (with_status (planned_status ps r.id) r) r) ≡ cond (a && l) (with_status (planned_status (ps ++ p ∷ []) r.id) r) r
       by true true ea el =
           elim (cases_eq r.id p.rider) [
-            inl same ↦
-              ap (λ b. cond b (takes_promise batch p (with_status (planned_status ps r.id) r)) (with_status (planned_status ps r.id) r)) (eq-eqb r.id p.rider same)
-              ∙ ap (λ l. cond (l && is_waiting (planned_status ps r.id)) (with_status (Promised p.promise) r) (with_status (planned_status ps r.id) r)) (ap (in_batch batch) (sym same) ∙ el)
-              ∙ push (is_waiting (planned_status ps r.id))
-              ∙ ap (λ s. with_status s r) (taken r r.id (sym same))
-          | inr ne ↦
-              ap (λ b. cond b (takes_promise batch p (with_status (planned_status ps r.id) r)) (with_status (planned_status ps r.id) r)) (ne_eqb r.id p.rider ne)
-              ∙ ap (λ s. with_status s r) (sym (planned-other r.id (λ e. ne (sym e))))
+            | inl same ↦
+                ap (λ b. cond b (takes_promise batch p (with_status (planned_status ps r.id) r)) (with_status (planned_status ps r.id) r)) (eq-eqb r.id p.rider same)
+                ∙ ap (λ l. cond (l && is_waiting (planned_status ps r.id)) (with_status (Promised p.promise) r) (with_status (planned_status ps r.id) r)) (ap (in_batch batch) (sym same) ∙ el)
+                ∙ push (is_waiting (planned_status ps r.id))
+                ∙ ap (λ s. with_status s r) (taken r r.id (sym same))
+            | inr ne ↦
+                ap (λ b. cond b (takes_promise batch p (with_status (planned_status ps r.id) r)) (with_status (planned_status ps r.id) r)) (ne_eqb r.id p.rider ne)
+                ∙ ap (λ s. with_status s r) (sym (planned-other r.id (λ e. ne (sym e))))
           ]
         where
           push : (b : Bool) → cond b (with_status (Promised p.promise) r) (with_status (planned_status ps r.id) r) ≡ with_status (cond b (Promised p.promise) (planned_status ps r.id)) r
@@ -161,10 +159,10 @@ module _ (batch : List Rider) (ps : List Pick) (p : Pick) where
           push false = refl
       by true false ea el =
           elim (cases_eq r.id p.rider) [
-            inl same ↦
-              ap (λ b. cond b (takes_promise batch p r) r) (eq-eqb r.id p.rider same)
-              ∙ ap (λ l. cond (l && is_waiting r.status) (with_status (Promised p.promise) r) r) (ap (in_batch batch) (sym same) ∙ el)
-          | inr ne ↦ ap (λ b. cond b (takes_promise batch p r) r) (ne_eqb r.id p.rider ne)
+            | inl same ↦
+                ap (λ b. cond b (takes_promise batch p r) r) (eq-eqb r.id p.rider same)
+                ∙ ap (λ l. cond (l && is_waiting r.status) (with_status (Promised p.promise) r) r) (ap (in_batch batch) (sym same) ∙ el)
+            | inr ne ↦ ap (λ b. cond b (takes_promise batch p r) r) (ne_eqb r.id p.rider ne)
           ]
       by false true ea el = off ea
         where

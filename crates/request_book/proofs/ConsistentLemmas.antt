@@ -24,8 +24,8 @@ use Rattle.request_book.specs.declared.rider.Status.TheVariants.{Waiting, Promis
 use Rattle.request_book.specs.declared.state.State.{State}
 use Rattle.request_book.specs.Closing.{Pick, after_answer, after_plan, closed_state, in_batch, picks, planned_status}
 use Rattle.request_book.specs.Consistent.{AreConsistent, IsConsistent, seat_in}
-use Rattle.request_book.specs.Keyed.{look_up, changed_at, without, KeysRise, KeysDiffer}
-use Rattle.request_book.specs.Refusals.{first_of, unknown_vehicle, unknown_rider, unknown_node, is_aboard, has_ended, not_promised, not_aboard, time_back, vehicle_full, seat_refusal, not_this_batch}
+use Rattle.request_book.specs.Keyed.{changed_at, without, KeysRise, KeysDiffer}
+use Rattle.request_book.specs.Refusals.{first_of, unknown_vehicle, unknown_rider, is_aboard, has_ended, not_promised, not_aboard, time_back, vehicle_full, seat_refusal, not_this_batch}
 use Rattle.request_book.specs.Rider.{is_active, vehicle_of, with_status, passenger_of}
 use Rattle.request_book.specs.Sealing.{is_over, after_seal, one_more, sealed_state}
 use Rattle.request_book.specs.State.{find_rider, find_vehicle, find_passenger, pool_count}
@@ -90,8 +90,8 @@ unfolding KeysDiffer without
 KeysDiffer-without key k [] d = tt
 KeysDiffer-without key k (x ∷ xs) d =
     elim (cases_eq (key x) k) [
-      inl e ↦ rw (eq-eqb (key x) k e) (KeysDiffer-without key k xs d.1)
-    | inr ne ↦ rw (ne_eqb (key x) k ne) (look_up-without_there key k (key x) xs (λ e. ne (sym e)) ∙ d.0, KeysDiffer-without key k xs d.1)
+      | inl e ↦ rw (eq-eqb (key x) k e) (KeysDiffer-without key k xs d.1)
+      | inr ne ↦ rw (ne_eqb (key x) k ne) (look_up-without_there key k (key x) xs (λ e. ne (sym e)) ∙ d.0, KeysDiffer-without key k xs d.1)
     ]
 
 persons-without : (k : ℕ) (xs : List Passenger) → sum_by (λ p. p.party) (without (λ p. p.rider) k xs) ≤ sum_by (λ p. p.party) xs
@@ -99,8 +99,8 @@ unfolding without
 persons-without k [] = omega arith
 persons-without k (x ∷ xs) =
     elim (cases_eq x.rider k) [
-      inl e ↦ rw (eq-eqb x.rider k e) (omega (arith, sum_by-cons (λ (p : Passenger). p.party) x xs, persons-without k xs))
-    | inr ne ↦ rw (ne_eqb x.rider k ne) (omega (arith, sum_by-cons (λ (p : Passenger). p.party) x xs, sum_by-cons (λ (p : Passenger). p.party) x (without (λ p. p.rider) k xs), persons-without k xs))
+      | inl e ↦ rw (eq-eqb x.rider k e) (omega (arith, sum_by-cons (λ (p : Passenger). p.party) x xs, persons-without k xs))
+      | inr ne ↦ rw (ne_eqb x.rider k ne) (omega (arith, sum_by-cons (λ (p : Passenger). p.party) x xs, sum_by-cons (λ (p : Passenger). p.party) x (without (λ p. p.rider) k xs), persons-without k xs))
     ]
 
 -- a rider of another status
@@ -182,9 +182,9 @@ module _ (riders : List BookRider) (vehicles : List Vehicle) (kept : AreConsiste
       same : (x j : ℕ) → seated x j riders ≡ seated x j (changed_at (λ r. r.id) k (with_status GivenUp) riders)
       same x j =
           elim (cases_eq k j) [
-            inl e ↦ subst (λ i. seated x i riders ≡ seated x i (changed_at (λ r. r.id) k (with_status GivenUp) riders)) e
-              (ap (option_and_then (seat_in x)) found ∙ seatless r x (free r.status on) ∙ sym (changed-here riders k GivenUp x r found))
-          | inr ne ↦ sym (changed-there riders k GivenUp x j ne)
+            | inl e ↦ subst (λ i. seated x i riders ≡ seated x i (changed_at (λ r. r.id) k (with_status GivenUp) riders)) e
+                (ap (option_and_then (seat_in x)) found ∙ seatless r x (free r.status on) ∙ sym (changed-here riders k GivenUp x r found))
+            | inr ne ↦ sym (changed-there riders k GivenUp x j ne)
           ]
 
   placed_at : (x node time : ℕ) → AreConsistent riders (changed_at (λ v. v.id) x (stands_at node time) vehicles)
@@ -206,9 +206,9 @@ module _ (riders : List BookRider) (vehicles : List Vehicle) (kept : AreConsiste
       same : (y k : ℕ) → held y k (changed_at (λ v. v.id) x (stands_at node time) vehicles) ≡ held y k vehicles
       same y k =
           elim (cases_eq x y) [
-            inl e ↦ subst (λ j. held j k (changed_at (λ v. v.id) x (stands_at node time) vehicles) ≡ held j k vehicles) e
-              (ap (option_and_then (λ (v : Vehicle). find_passenger k v.aboard.items)) (look_up-changed_here (λ (v : Vehicle). v.id) x (stands_at node time) (λ v. refl) vehicles) ∙ by k (find_vehicle x vehicles))
-          | inr ne ↦ moved-there vehicles x (stands_at node time) (λ v. refl) y k ne
+            | inl e ↦ subst (λ j. held j k (changed_at (λ v. v.id) x (stands_at node time) vehicles) ≡ held j k vehicles) e
+                (ap (option_and_then (λ (v : Vehicle). find_passenger k v.aboard.items)) (look_up-changed_here (λ (v : Vehicle). v.id) x (stands_at node time) (λ v. refl) vehicles) ∙ by k (find_vehicle x vehicles))
+            | inr ne ↦ moved-there vehicles x (stands_at node time) (λ v. refl) y k ne
           ]
 
   submitted : (r : BookRider) → r.status ≡ Waiting → find_rider r.id riders ≡ None → pool_count riders < 1000 → length riders < 100000 → AreConsistent (riders ++ r ∷ []) vehicles
@@ -230,9 +230,9 @@ module _ (riders : List BookRider) (vehicles : List Vehicle) (kept : AreConsiste
       same : (x k : ℕ) → seated x k riders ≡ seated x k (riders ++ r ∷ [])
       same x k =
           elim (cases_eq r.id k) [
-            inl e ↦ subst (λ j. seated x j riders ≡ seated x j (riders ++ r ∷ [])) e
-              (ap (option_and_then (seat_in x)) new ∙ sym (ap (option_and_then (seat_in x)) (look_up-push_here (λ (q : BookRider). q.id) r.id r riders refl new) ∙ seatless r x (ap vehicle_of waits)))
-          | inr ne ↦ sym (ap (option_and_then (seat_in x)) (look_up-push_there (λ (q : BookRider). q.id) k r riders ne))
+            | inl e ↦ subst (λ j. seated x j riders ≡ seated x j (riders ++ r ∷ [])) e
+                (ap (option_and_then (seat_in x)) new ∙ sym (ap (option_and_then (seat_in x)) (look_up-push_here (λ (q : BookRider). q.id) r.id r riders refl new) ∙ seatless r x (ap vehicle_of waits)))
+            | inr ne ↦ sym (ap (option_and_then (seat_in x)) (look_up-push_there (λ (q : BookRider). q.id) k r riders ne))
           ]
 
   module _ (x : ℕ) (v : Vehicle) (r : BookRider) (time : ℕ) (at : find_vehicle x vehicles ≡ Some v) (found : find_rider r.id riders ≡ Some r) where
@@ -245,13 +245,13 @@ module _ (riders : List BookRider) (vehicles : List Vehicle) (kept : AreConsiste
     picked : is_active r.status ≡ true → persons_aboard v + r.party ≤ v.seats → AreConsistent boarded with_one
     picked on fit =
         restatus r.id (Aboard x) refl with_one
-          (length-changed_at (λ (v : Vehicle). v.id) x (takes_in r time) vehicles)
-          (KeysRise-changed_at (λ (v : Vehicle). v.id) x (takes_in r time) (λ v. refl) vehicles kept.vehicles_rise)
-          (All-changed_at (λ (v : Vehicle). v.id) HasSeats x (takes_in r time) vehicles differ kept.seats (λ u here has.
-            record { some = has.some; most = has.most; enough = omega (arith, fits u here, sum_by_push (λ (p : Passenger). p.party) u.aboard.items (passenger_of r)) }))
-          (All-changed_at (λ (v : Vehicle). v.id) HasEachOnce x (takes_in r time) vehicles differ kept.passengers (λ u here has.
-            KeysDiffer-push (λ (p : Passenger). p.rider) (passenger_of r) u.aboard.items has (absent u here)))
-          aboard
+        (length-changed_at (λ (v : Vehicle). v.id) x (takes_in r time) vehicles)
+        (KeysRise-changed_at (λ (v : Vehicle). v.id) x (takes_in r time) (λ v. refl) vehicles kept.vehicles_rise)
+        (All-changed_at (λ (v : Vehicle). v.id) HasSeats x (takes_in r time) vehicles differ kept.seats (λ u here has.
+        record { some = has.some; most = has.most; enough = omega (arith, fits u here, sum_by_push (λ (p : Passenger). p.party) u.aboard.items (passenger_of r)) }))
+        (All-changed_at (λ (v : Vehicle). v.id) HasEachOnce x (takes_in r time) vehicles differ kept.passengers (λ u here has.
+        KeysDiffer-push (λ (p : Passenger). p.rider) (passenger_of r) u.aboard.items has (absent u here)))
+        aboard
       where
         fits : (u : Vehicle) → find_vehicle x vehicles ≡ Some u → persons_aboard u + r.party ≤ u.seats
         fits u here = let is : v ≡ u = cc in subst (λ w. persons_aboard w + r.party ≤ w.seats) is fit
@@ -262,20 +262,20 @@ module _ (riders : List BookRider) (vehicles : List Vehicle) (kept : AreConsiste
         here : (k : ℕ) → held x k with_one ≡ seated x k boarded
         here k =
             moved-here vehicles x (takes_in r time) (λ v. refl) k v at ∙ elim (cases_eq r.id k) [
-              inl e ↦ subst (λ j. find_passenger j (v.aboard.items ++ passenger_of r ∷ []) ≡ seated x j boarded) e
-                (look_up-push_here (λ (p : Passenger). p.rider) r.id (passenger_of r) v.aboard.items refl (absent v at)
+              | inl e ↦ subst (λ j. find_passenger j (v.aboard.items ++ passenger_of r ∷ []) ≡ seated x j boarded) e
+                  (look_up-push_here (λ (p : Passenger). p.rider) r.id (passenger_of r) v.aboard.items refl (absent v at)
                   ∙ sym (changed-here riders r.id (Aboard x) x r found ∙ ap (λ b. cond b (Some (passenger_of r)) None) (eq-eqb x x refl)))
-            | inr ne ↦
-                look_up-push_there (λ (p : Passenger). p.rider) k (passenger_of r) v.aboard.items ne ∙ held-is x k v at ∙ sym (changed-there riders r.id (Aboard x) x k ne)
+              | inr ne ↦
+                  look_up-push_there (λ (p : Passenger). p.rider) k (passenger_of r) v.aboard.items ne ∙ held-is x k v at ∙ sym (changed-there riders r.id (Aboard x) x k ne)
             ]
 
         there : (y k : ℕ) → (x ≡ y → ⊥) → held y k with_one ≡ seated y k boarded
         there y k ne =
             moved-there vehicles x (takes_in r time) (λ v. refl) y k ne ∙ kept.aboard y k ∙ elim (cases_eq r.id k) [
-              inl e ↦ subst (λ j. seated y j riders ≡ seated y j boarded) e
-                (ap (option_and_then (seat_in y)) found ∙ seatless r y (free r.status on)
+              | inl e ↦ subst (λ j. seated y j riders ≡ seated y j boarded) e
+                  (ap (option_and_then (seat_in y)) found ∙ seatless r y (free r.status on)
                   ∙ sym (changed-here riders r.id (Aboard x) y r found ∙ seated_elsewhere (with_status (Aboard x) r) y x refl ne))
-            | inr other ↦ sym (changed-there riders r.id (Aboard x) y k other)
+              | inr other ↦ sym (changed-there riders r.id (Aboard x) y k other)
             ]
 
         aboard : (y k : ℕ) → held y k with_one ≡ seated y k boarded
@@ -290,29 +290,29 @@ module _ (riders : List BookRider) (vehicles : List Vehicle) (kept : AreConsiste
     dropped : vehicle_of r.status ≡ Some x → AreConsistent delivered without_one
     dropped in' =
         restatus r.id Delivered refl without_one
-          (length-changed_at (λ (v : Vehicle). v.id) x (lets_out r time) vehicles)
-          (KeysRise-changed_at (λ (v : Vehicle). v.id) x (lets_out r time) (λ v. refl) vehicles kept.vehicles_rise)
-          (All-changed_at (λ (v : Vehicle). v.id) HasSeats x (lets_out r time) vehicles differ kept.seats (λ u here has.
-            record { some = has.some; most = has.most; enough = omega (arith, has.enough, persons-without r.id u.aboard.items) }))
-          (All-changed_at (λ (v : Vehicle). v.id) HasEachOnce x (lets_out r time) vehicles differ kept.passengers (λ u here has.
-            KeysDiffer-without (λ (p : Passenger). p.rider) r.id u.aboard.items has))
-          aboard
+        (length-changed_at (λ (v : Vehicle). v.id) x (lets_out r time) vehicles)
+        (KeysRise-changed_at (λ (v : Vehicle). v.id) x (lets_out r time) (λ v. refl) vehicles kept.vehicles_rise)
+        (All-changed_at (λ (v : Vehicle). v.id) HasSeats x (lets_out r time) vehicles differ kept.seats (λ u here has.
+        record { some = has.some; most = has.most; enough = omega (arith, has.enough, persons-without r.id u.aboard.items) }))
+        (All-changed_at (λ (v : Vehicle). v.id) HasEachOnce x (lets_out r time) vehicles differ kept.passengers (λ u here has.
+        KeysDiffer-without (λ (p : Passenger). p.rider) r.id u.aboard.items has))
+        aboard
       where
         here : (k : ℕ) → held x k without_one ≡ seated x k delivered
         here k =
             moved-here vehicles x (lets_out r time) (λ v. refl) k v at ∙ elim (cases_eq r.id k) [
-              inl e ↦ subst (λ j. find_passenger j (without (λ p. p.rider) r.id v.aboard.items) ≡ seated x j delivered) e
-                (look_up-without_here (λ (p : Passenger). p.rider) r.id v.aboard.items ∙ sym (changed-here riders r.id Delivered x r found))
-            | inr ne ↦
-                look_up-without_there (λ (p : Passenger). p.rider) r.id k v.aboard.items ne ∙ held-is x k v at ∙ sym (changed-there riders r.id Delivered x k ne)
+              | inl e ↦ subst (λ j. find_passenger j (without (λ p. p.rider) r.id v.aboard.items) ≡ seated x j delivered) e
+                  (look_up-without_here (λ (p : Passenger). p.rider) r.id v.aboard.items ∙ sym (changed-here riders r.id Delivered x r found))
+              | inr ne ↦
+                  look_up-without_there (λ (p : Passenger). p.rider) r.id k v.aboard.items ne ∙ held-is x k v at ∙ sym (changed-there riders r.id Delivered x k ne)
             ]
 
         there : (y k : ℕ) → (x ≡ y → ⊥) → held y k without_one ≡ seated y k delivered
         there y k ne =
             moved-there vehicles x (lets_out r time) (λ v. refl) y k ne ∙ kept.aboard y k ∙ elim (cases_eq r.id k) [
-              inl e ↦ subst (λ j. seated y j riders ≡ seated y j delivered) e
-                (ap (option_and_then (seat_in y)) found ∙ seated_elsewhere r y x in' ne ∙ sym (changed-here riders r.id Delivered y r found))
-            | inr other ↦ sym (changed-there riders r.id Delivered y k other)
+              | inl e ↦ subst (λ j. seated y j riders ≡ seated y j delivered) e
+                  (ap (option_and_then (seat_in y)) found ∙ seated_elsewhere r y x in' ne ∙ sym (changed-here riders r.id Delivered y r found))
+              | inr other ↦ sym (changed-there riders r.id Delivered y k other)
             ]
 
         aboard : (y k : ℕ) → held y k without_one ≡ seated y k delivered
@@ -363,7 +363,7 @@ submit-consistent : (nodes : List ℕ) (s : State) (r : BookRider) → r.status 
 unfolding submit_step
 submit-consistent nodes s r waits kept =
     answer-keeps IsConsistent s (submit_refusal nodes s r) Accepted (record s { riders = s.riders ++ r ∷ [] }) kept
-      (λ none. let fits = submit-fits nodes s r none in submitted s.riders s.vehicles kept r waits fits.0 fits.1 (submit-below nodes s r none))
+    (λ none. let fits = submit-fits nodes s r none in submitted s.riders s.vehicles kept r waits fits.0 fits.1 (submit-below nodes s r none))
 
 cancel-consistent : (s : State) (rider : ℕ) → IsConsistent s → IsConsistent (cancel_step s rider).0
 unfolding cancel_step
@@ -415,7 +415,7 @@ pickup-consistent s vehicle rider time kept =
     answer-keeps IsConsistent s _ Picked (picked_up s (find_rider rider s.riders) vehicle time) kept (λ none. by (find_vehicle vehicle s.vehicles) (find_rider rider s.riders) refl refl none)
   where
     by : (o : Option Vehicle) (p : Option BookRider) → find_vehicle vehicle s.vehicles ≡ o → find_rider rider s.riders ≡ p
-      → first_of (unknown_vehicle o ∷ unknown_rider p ∷ is_aboard p ∷ has_ended p ∷ not_promised p vehicle ∷ time_back o time ∷ vehicle_full o p ∷ []) ≡ None → IsConsistent (picked_up s p vehicle time)
+        → first_of (unknown_vehicle o ∷ unknown_rider p ∷ is_aboard p ∷ has_ended p ∷ not_promised p vehicle ∷ time_back o time ∷ vehicle_full o p ∷ []) ≡ None → IsConsistent (picked_up s p vehicle time)
     by o None e f none = kept
     by None (Some r) e f none = let refused = (first_of-none _ _ none).0 in absurd cc
     by (Some v) (Some r) e f none =
@@ -428,14 +428,14 @@ dropoff-consistent s vehicle rider time kept =
     answer-keeps IsConsistent s _ Dropped (dropped_off s (find_rider rider s.riders) vehicle time) kept (λ none. by (find_vehicle vehicle s.vehicles) (find_rider rider s.riders) refl refl none)
   where
     by : (o : Option Vehicle) (p : Option BookRider) → find_vehicle vehicle s.vehicles ≡ o → find_rider rider s.riders ≡ p
-      → first_of (unknown_vehicle o ∷ unknown_rider p ∷ not_aboard p vehicle ∷ time_back o time ∷ []) ≡ None → IsConsistent (dropped_off s p vehicle time)
+        → first_of (unknown_vehicle o ∷ unknown_rider p ∷ not_aboard p vehicle ∷ time_back o time ∷ []) ≡ None → IsConsistent (dropped_off s p vehicle time)
     by o None e f none = kept
     by None (Some r) e f none = let refused = (first_of-none _ _ none).0 in absurd cc
     by (Some v) (Some r) e f none =
         let a = first_of-none _ _ (first_of-none _ _ (first_of-none _ _ none).1).1 in
         dropped s.riders s.vehicles kept vehicle v r time e
-          (subst (λ k. find_rider k s.riders ≡ Some r) (sym (look_up-key (λ (r : BookRider). r.id) rider s.riders r f)) f)
-          (carried vehicle r.status a.0)
+        (subst (λ k. find_rider k s.riders ≡ Some r) (sym (look_up-key (λ (r : BookRider). r.id) rider s.riders r f)) f)
+        (carried vehicle r.status a.0)
 
 seal-consistent : (wait : ℕ) (s : State) (now : ℕ) → IsConsistent s → IsConsistent (seal_step wait s now).0
 unfolding seal_step sealed_state

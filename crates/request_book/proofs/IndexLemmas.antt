@@ -1,12 +1,13 @@
 -- What a register finds after a change.
-use Rattle.std.proofs.Common.{◌≡◌, ℕ, ◌+◌, ◌<◌, ◌≤◌, Bool, true, false, cond, List, [], ◌∷◌, ◌++◌, length, get_or, set, map, Option, Some, None, refl, sym, ap, subst, ◌∙◌, inl, inr, arith}
-use Rattle.std.specs.Prelude.{is_some, option_map, option_and_then, vec_capacity, count_by}
+use Rattle.std.proofs.Common.{◌≡◌, ℕ, ◌+◌, ◌<◌, Bool, true, false, cond, List, [], ◌∷◌, ◌++◌, length, get_or, set, map, Option, Some, None, refl, sym, ap, subst, ◌∙◌, inl, inr, arith}
+use Rattle.std.specs.Prelude.{is_some, option_map, option_and_then, count_by}
 use Rattle.std.specs.List.{filter_map}
 use Rattle.std.proofs.lemmas.Bool.{cases_eq}
 use Rattle.request_book.specs.declared.rider.BookRider.{BookRider}
 use Rattle.request_book.specs.declared.rider.Status.{Status}
 use Rattle.request_book.specs.Keyed.{look_up, changed_at, without, placed, by_key, KeysRise, KeysDiffer}
-use Rattle.request_book.specs.Register.{pool_id}
+use Rattle.request_book.specs.declared.register.Register.{Register}
+use Rattle.request_book.specs.Register.{pool_id, HasRoom}
 use Rattle.request_book.specs.Rider.{is_active, with_status}
 use Rattle.request_book.specs.State.{find_rider, find_vehicle, pool_count}
 use Rattle.batch_snapshot.specs.declared.vehicle.Vehicle.{Vehicle}
@@ -27,13 +28,13 @@ pool_id-inactive r e = rw e refl
 pub IsPool-without : (pool : List ℕ) (riders : List BookRider) (rider : ℕ) (status : Status) → is_active status ≡ false → IsPool pool riders → IsPool (without (λ id. id) rider pool) (changed_at (λ r. r.id) rider (with_status status) riders)
 IsPool-without pool riders rider status off is id =
     elim (cases_eq rider id) [
-      inl same ↦
-        let gone : look_up (λ n. n) id (without (λ n. n) rider pool) ≡ None = subst (λ j. look_up (λ n. n) j (without (λ n. n) rider pool) ≡ None) same (look_up-without_here (λ n. n) rider pool) in
-        let now : find_rider id (changed_at (λ r. r.id) rider (with_status status) riders) ≡ option_map (with_status status) (find_rider id riders) =
-            subst (λ j. find_rider j (changed_at (λ r. r.id) rider (with_status status) riders) ≡ option_map (with_status status) (find_rider j riders)) same (look_up-changed_here (λ r. r.id) rider (with_status status) (λ r. refl) riders) in
-        gone ∙ sym (ap (option_and_then pool_id) now ∙ out (find_rider id riders))
-    | inr other ↦
-        look_up-without_there (λ n. n) rider id pool other ∙ is id ∙ ap (option_and_then pool_id) (sym (look_up-changed_there (λ r. r.id) rider id (with_status status) (λ r. refl) riders other))
+      | inl same ↦
+          let gone : look_up (λ n. n) id (without (λ n. n) rider pool) ≡ None = subst (λ j. look_up (λ n. n) j (without (λ n. n) rider pool) ≡ None) same (look_up-without_here (λ n. n) rider pool) in
+          let now : find_rider id (changed_at (λ r. r.id) rider (with_status status) riders) ≡ option_map (with_status status) (find_rider id riders) =
+          subst (λ j. find_rider j (changed_at (λ r. r.id) rider (with_status status) riders) ≡ option_map (with_status status) (find_rider j riders)) same (look_up-changed_here (λ r. r.id) rider (with_status status) (λ r. refl) riders) in
+          gone ∙ sym (ap (option_and_then pool_id) now ∙ out (find_rider id riders))
+      | inr other ↦
+          look_up-without_there (λ n. n) rider id pool other ∙ is id ∙ ap (option_and_then pool_id) (sym (look_up-changed_there (λ r. r.id) rider id (with_status status) (λ r. refl) riders other))
     ]
   where
     out : (o : Option BookRider) → option_and_then pool_id (option_map (with_status status) o) ≡ None
@@ -44,12 +45,12 @@ IsPool-without pool riders rider status off is id =
 pub IsPool-outside : (pool : List ℕ) (riders : List BookRider) (rider : ℕ) (status : Status) → is_active status ≡ false → option_and_then pool_id (find_rider rider riders) ≡ None → IsPool pool riders → IsPool pool (changed_at (λ r. r.id) rider (with_status status) riders)
 IsPool-outside pool riders rider status off out is id =
     elim (cases_eq rider id) [
-      inl same ↦
-        let now : find_rider id (changed_at (λ r. r.id) rider (with_status status) riders) ≡ option_map (with_status status) (find_rider id riders) =
-            subst (λ j. find_rider j (changed_at (λ r. r.id) rider (with_status status) riders) ≡ option_map (with_status status) (find_rider j riders)) same (look_up-changed_here (λ r. r.id) rider (with_status status) (λ r. refl) riders) in
-        is id ∙ subst (λ j. option_and_then pool_id (find_rider j riders) ≡ None) same out ∙ sym (ap (option_and_then pool_id) now ∙ gone (find_rider id riders))
-    | inr other ↦
-        is id ∙ ap (option_and_then pool_id) (sym (look_up-changed_there (λ r. r.id) rider id (with_status status) (λ r. refl) riders other))
+      | inl same ↦
+          let now : find_rider id (changed_at (λ r. r.id) rider (with_status status) riders) ≡ option_map (with_status status) (find_rider id riders) =
+          subst (λ j. find_rider j (changed_at (λ r. r.id) rider (with_status status) riders) ≡ option_map (with_status status) (find_rider j riders)) same (look_up-changed_here (λ r. r.id) rider (with_status status) (λ r. refl) riders) in
+          is id ∙ subst (λ j. option_and_then pool_id (find_rider j riders) ≡ None) same out ∙ sym (ap (option_and_then pool_id) now ∙ gone (find_rider id riders))
+      | inr other ↦
+          is id ∙ ap (option_and_then pool_id) (sym (look_up-changed_there (λ r. r.id) rider id (with_status status) (λ r. refl) riders other))
     ]
   where
     gone : (o : Option BookRider) → option_and_then pool_id (option_map (with_status status) o) ≡ None
@@ -60,11 +61,11 @@ IsPool-outside pool riders rider status off out is id =
 pub IsPool-placed : (pool : List ℕ) (riders : List BookRider) (new : BookRider) → is_active new.status ≡ true → find_rider new.id riders ≡ None → IsPool pool riders → IsPool (placed (λ id. id) new.id pool) (riders ++ new ∷ [])
 IsPool-placed pool riders new on none is id =
     elim (cases_eq new.id id) [
-      inl same ↦
-        let absent : find_rider id riders ≡ None = subst (λ j. find_rider j riders ≡ None) same none in
-        look_up-placed_here (λ n. n) id new.id pool same (is id ∙ ap (option_and_then pool_id) absent) ∙ sym (ap (option_and_then pool_id) (look_up-push_here (λ r. r.id) id new riders same absent) ∙ rw on refl)
-    | inr other ↦
-        look_up-placed_there (λ n. n) id new.id pool other ∙ is id ∙ ap (option_and_then pool_id) (sym (look_up-push_there (λ r. r.id) id new riders other))
+      | inl same ↦
+          let absent : find_rider id riders ≡ None = subst (λ j. find_rider j riders ≡ None) same none in
+          look_up-placed_here (λ n. n) id new.id pool same (is id ∙ ap (option_and_then pool_id) absent) ∙ sym (ap (option_and_then pool_id) (look_up-push_here (λ r. r.id) id new riders same absent) ∙ rw on refl)
+      | inr other ↦
+          look_up-placed_there (λ n. n) id new.id pool other ∙ is id ∙ ap (option_and_then pool_id) (sym (look_up-push_there (λ r. r.id) id new riders other))
     ]
 
 pub pool_id-keeps : (r : BookRider) (id : ℕ) → pool_id r ≡ Some id → id ≡ r.id
@@ -105,3 +106,10 @@ IsPool-map f keeps stays pool riders is id = is id ∙ sym (ap (option_and_then 
     by : (o : Option BookRider) → option_and_then pool_id (option_map f o) ≡ option_and_then pool_id o
     by None = refl
     by (Some r) = stays r
+
+-- room
+pub less-room : (n : ℕ) (g : Register) → HasRoom (n + 1) g → HasRoom n g
+less-room n g room = record { riders = omega (arith, room.riders); ids = omega (arith, room.ids) }
+
+pub no-room : (g : Register) → HasRoom 0 g
+no-room g = record { riders = omega (arith, g.riders.ok.1); ids = omega arith }

@@ -6,3 +6,7 @@ pub mod SealLemmas
 pub mod CloseLemmas
 pub mod BatchLemmas
 pub mod ConsistentLemmas
+pub mod NamedLemmas
+pub mod BookLemmas
+pub mod LawLemmas
+pub mod TestLemmas

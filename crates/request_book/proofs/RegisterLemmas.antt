@@ -60,7 +60,7 @@ module _ (xs : List ℕ) (x : ℕ) (rise : KeysRise (λ n. n) xs) where
   without_sought i answer =
       let at = sought (Err i) answer in
       without-absent xs x (look_up-nowhere xs x (λ k in' e.
-        elim (cases_lt k i) [ inl low ↦ omega (arith, at.1 k low) | inr high ↦ omega (arith, at.2 k high in') ]))
+      elim (cases_lt k i) [ inl low ↦ omega (arith, at.1 k low) | inr high ↦ omega (arith, at.2 k high in') ]))
 
   pub present_sought : (i : ℕ) → IsBinarySearchResult (λ y. nat_cmp y x) xs (Ok i) → look_up (λ n. n) x xs ≡ Some x
   present_sought i answer =

@@ -1,13 +1,13 @@
 -- What a seal makes of the riders and the pool.
-use Rattle.std.proofs.Common.{◌≡◌, ℕ, zero, suc, ◌+◌, ◌<◌, ◌≤◌, Bool, true, false, cond, eqb, List, [], ◌∷◌, ◌++◌, length, get_or, take, drop, map, Option, Some, None, refl, sym, ap, subst, ◌∙◌, inl, inr, arith}
-use Rattle.std.specs.Prelude.{is_some, option_map, option_and_then}
+use Rattle.std.proofs.Common.{◌≡◌, ℕ, ◌+◌, ◌<◌, ◌≤◌, Bool, true, false, cond, eqb, List, [], ◌∷◌, ◌++◌, length, get_or, take, drop, map, Option, Some, None, refl, sym, ap, subst, ◌∙◌, inl, inr}
+use Rattle.std.specs.Prelude.{is_some}
 use Rattle.std.specs.List.{filter_map, cons_option}
 use Rattle.std.specs.Option.{option_to_list}
 use Rattle.std.proofs.lemmas.Bool.{cases_eq, eq-eqb, ne_eqb}
-use Rattle.std.proofs.lemmas.List.{take_more, at_drop_more, drop_all, append-nil}
+use Rattle.std.proofs.lemmas.List.{take_more, at_drop_more, drop_all}
 use Rattle.std.proofs.lemmas.List.Elements.{filter_map-append}
-use Rattle.request_book.specs.Keyed.{look_up, changed_at, changed_in_turn, by_key, KeysRise, KeysDiffer}
-use Rattle.request_book.proofs.KeyedLemmas.{look_up-here, look_up-there, look_up-nil, change}
+use Rattle.request_book.specs.Keyed.{look_up, changed_at, changed_in_turn, KeysDiffer}
+use Rattle.request_book.proofs.KeyedLemmas.{look_up-here, look_up-there, look_up-nil}
 
 pub filter_map-more : {X Y : Type 0} (h : X → Option Y) (xs : List X) (i : ℕ) (d : X) → i < length xs → filter_map h (take (i + 1) xs) ≡ filter_map h (take i xs) ++ option_to_list (h (get_or xs i d))
 filter_map-more {Y = Y} h xs i d in' =
@@ -43,13 +43,13 @@ module _ {X : Type 0} (key : X → ℕ) (f : X → X) where
       one : (x : X) → marked ks (cond (eqb (key x) k) (f x) x) ≡ marked (k ∷ ks) x
       one x =
           elim (cases_eq (key x) k) [
-            inl e ↦
-              ap (λ b. marked ks (cond b (f x) x)) (eq-eqb (key x) k e)
-              ∙ either (is_some (look_up (λ j. j) (key (f x)) ks))
-              ∙ sym (ap (λ o. cond (is_some o) (f x) x) (look_up-here (λ j. j) (key x) k ks (sym e)))
-          | inr ne ↦
-              ap (λ b. marked ks (cond b (f x) x)) (ne_eqb (key x) k ne)
-              ∙ sym (ap (λ o. cond (is_some o) (f x) x) (look_up-there (λ j. j) (key x) k ks (λ s. ne (sym s))))
+            | inl e ↦
+                ap (λ b. marked ks (cond b (f x) x)) (eq-eqb (key x) k e)
+                ∙ either (is_some (look_up (λ j. j) (key (f x)) ks))
+                ∙ sym (ap (λ o. cond (is_some o) (f x) x) (look_up-here (λ j. j) (key x) k ks (sym e)))
+            | inr ne ↦
+                ap (λ b. marked ks (cond b (f x) x)) (ne_eqb (key x) k ne)
+                ∙ sym (ap (λ o. cond (is_some o) (f x) x) (look_up-there (λ j. j) (key x) k ks (λ s. ne (sym s))))
           ]
         where
           either : (b : Bool) → cond b (f (f x)) (f x) ≡ f x
@@ -67,5 +67,5 @@ map-agree key f g [] differ same = refl
 map-agree key f g (x ∷ xs) differ same =
     let head = same (key x) x (look_up-here key (key x) x xs refl) in
     let tail = map-agree key f g xs differ.1 (λ k y found.
-      same k y (look_up-there key k x xs (λ e. let none = subst (λ j. look_up key j xs ≡ None) e differ.0 in absurd cc) ∙ found)) in
+    same k y (look_up-there key k x xs (λ e. let none = subst (λ j. look_up key j xs ≡ None) e differ.0 in absurd cc) ∙ found)) in
     cc

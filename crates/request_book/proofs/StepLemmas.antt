@@ -1,6 +1,5 @@
 -- How the steps go on from their refusals.
-use Rattle.std.proofs.Common.{◌≡◌, ℕ, ◌+◌, ◌<◌, ◌≤◌, Bool, true, false, cond, leb, List, [], ◌∷◌, ◌++◌, length, get_or, Option, Some, None, refl, sym, ap, subst, ◌∙◌, inl, inr, arith}
-use Rattle.std.specs.Prelude.{is_some, option_map, option_and_then}
+use Rattle.std.proofs.Common.{◌≡◌, ℕ, ◌<◌, Bool, true, false, cond, leb, List, [], ◌∷◌, ◌++◌, length, get_or, Option, Some, None, refl, sym, ap, ◌∙◌, arith}
 use Rattle.std.proofs.lemmas.Bool.{leb-false}
 use Rattle.batch_snapshot.specs.declared.vehicle.Vehicle.{Vehicle}
 use Rattle.batch_snapshot.specs.Batch.{Batch}
@@ -8,16 +7,14 @@ use Rattle.request_book.specs.declared.outcome.Answer.{Answer}
 use Rattle.request_book.specs.Closing.{after_answer, closed_state}
 use Rattle.request_book.specs.Sealing.{one_more, sealed_state}
 use Rattle.request_book.specs.declared.reply.BookRefusal.{BookRefusal}
-use Rattle.request_book.specs.declared.reply.Reply.{Reply}
 use Rattle.request_book.specs.declared.reply.Reply.TheVariants.{Refused, Accepted, Cancelled, Placed, Picked, Dropped, Sealed, Closed}
 use Rattle.request_book.specs.declared.reply.BookRefusal.TheVariants.{UnknownRider, UnknownVehicle, PoolFull}
 use Rattle.request_book.specs.declared.rider.BookRider.{BookRider}
 use Rattle.request_book.specs.declared.rider.Status.{Status}
 use Rattle.request_book.specs.declared.rider.Status.TheVariants.{Waiting, Promised, Aboard, Cancelled as GivenUp, Delivered, Expired}
 use Rattle.request_book.specs.declared.state.State.{State}
-use Rattle.request_book.specs.Keyed.{changed_at}
 use Rattle.request_book.specs.Register.{pool_id}
-use Rattle.request_book.specs.Rider.{is_active, pool_promise}
+use Rattle.request_book.specs.Rider.{is_active}
 use Rattle.request_book.specs.Refusals.{first_of, duplicate_rider, aboard_refusal, ended_refusal, promise_refusal, seat_refusal, time_back, vehicle_full, unknown_node, not_this_batch}
 use Rattle.request_book.specs.State.{find_rider, find_vehicle, pool_count}
 use Rattle.request_book.specs.Step.{answer, rider_becomes, vehicle_becomes, stands_at, takes_in, lets_out, submit_refusal, submit_step, cancel_step, report_step, pickup_step, dropoff_step, seal_refusal, seal_step, close_step}

@@ -1,4 +1,4 @@
-use Rattle.std.specs.Prelude.{◌≡◌, ℕ, ◌≤◌, ◌==◌, true, List, length, Option, None, Some, is_some, option_map, option_and_then, if◌then◌else◌}
+use Rattle.std.specs.Prelude.{◌≡◌, ℕ, ◌≤◌, ◌==◌, true, List, length, Option, None, Some, option_and_then, if◌then◌else◌, is_some, option_map}
 use Rattle.std.specs.List.{All}
 use Rattle.batch_snapshot.specs.Batch.{Batch}
 use Rattle.batch_snapshot.specs.Points.{named_nodes}
@@ -6,6 +6,7 @@ use Rattle.batch_snapshot.specs.Vehicle.{HasSeats}
 use Rattle.batch_snapshot.specs.declared.vehicle.Vehicle.{Vehicle}
 use Rattle.batch_snapshot.specs.declared.passenger.Passenger.{Passenger}
 use Rattle.request_book.specs.declared.rider.BookRider.{BookRider}
+use Rattle.request_book.specs.declared.rider.Status.{Status}
 use Rattle.request_book.specs.declared.state.State.{State}
 use Rattle.request_book.specs.Keyed.{KeysRise, KeysDiffer}
 use Rattle.request_book.specs.Rider.{vehicle_of, passenger_of}
@@ -42,3 +43,11 @@ pub record NamesNodes (nodes : List ℕ) (s : State) : Type 0 where
   pub riders : All (λ r. IsNode nodes r.origin × IsNode nodes r.destination) s.riders
   pub vehicles : All (λ v. IsNode nodes v.node) s.vehicles
   pub sealed : (b : Batch) → s.sealed ≡ Some b → All (IsNode nodes) (named_nodes b)
+
+-- the rider is in the list of the vehicle
+abbrev pub IsPassenger : State → ℕ → ℕ → Type 0
+IsPassenger s vehicle rider = is_some (option_and_then (λ v. find_passenger rider v.aboard.items) (find_vehicle vehicle s.vehicles)) ≡ true
+
+-- the status of the rider
+abbrev pub status_in : State → ℕ → Option Status
+status_in s rider = option_map (λ r. r.status) (find_rider rider s.riders)

@@ -1,5 +1,5 @@
 -- Lists whose elements have a number as their key.
-use Rattle.std.specs.Prelude.{◌≡◌, ℕ, ◌==◌, ◌<◌, List, [], ◌∷◌, Option, None, Some, find, map, filter, not, nat_lt, if◌then◌else◌}
+use Rattle.std.specs.Prelude.{◌≡◌, ℕ, ◌==◌, ◌<◌, List, [], ◌∷◌, Option, None, find, map, filter, not, nat_lt, if◌then◌else◌}
 
 module _ {X : Type 0} (key : X → ℕ) where
   -- the first element of this key

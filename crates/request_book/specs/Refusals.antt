@@ -1,6 +1,6 @@
 -- The refusals of the book, each exactly where it holds. What a rider or a vehicle that isn't there
 -- would answer is left to the refusal that says so.
-use Rattle.std.specs.Prelude.{ℕ, ◌==◌, ◌+◌, ◌&&◌, List, [], ◌∷◌, length, Option, None, Some, option_map, option_and_then, nat_lt, nat_le, if◌then◌else◌}
+use Rattle.std.specs.Prelude.{ℕ, ◌==◌, ◌+◌, List, [], ◌∷◌, length, Option, None, Some, option_map, option_and_then, nat_lt, nat_le, if◌then◌else◌}
 use Rattle.batch_snapshot.specs.Batch.{Batch}
 use Rattle.batch_snapshot.specs.Vehicle.{persons_aboard}
 use Rattle.batch_snapshot.specs.declared.vehicle.Vehicle.{Vehicle}

@@ -1,4 +1,4 @@
-use Rattle.std.specs.Prelude.{◌≡◌, ℕ, ◌+◌, ◌≤◌, List, Option, Some, None, map, option_and_then, vec_len, vec_capacity, if◌then◌else◌}
+use Rattle.std.specs.Prelude.{◌≡◌, ℕ, ◌+◌, ◌≤◌, Option, Some, None, map, option_and_then, vec_len, vec_capacity, if◌then◌else◌}
 use Rattle.indexmap.specs.IndexSet.{spare}
 use Rattle.request_book.specs.declared.register.Register.{Register}
 use Rattle.request_book.specs.declared.rider.BookRider.{BookRider}

@@ -1,6 +1,6 @@
 -- The step table: how the book answers each command, and what changes. Refusals are tried in the order
 -- in which they stand; the first that holds is the reply, and nothing changes.
-use Rattle.std.specs.Prelude.{ℕ, ◌==◌, List, [], ◌∷◌, ◌++◌, Option, None, Some, filter, not}
+use Rattle.std.specs.Prelude.{ℕ, List, [], ◌∷◌, ◌++◌, Option, None, Some}
 use Rattle.batch_snapshot.specs.declared.vehicle.Vehicle.{Vehicle}
 use Rattle.request_book.specs.declared.outcome.Answer.{Answer}
 use Rattle.request_book.specs.declared.command.Command.{Command}
@@ -65,14 +65,14 @@ unfoldable pub cancel_step : State → ℕ → State × Reply
 cancel_step s rider =
     let r = find_rider rider s.riders in
     answer s (first_of (unknown_rider r ∷ is_aboard r ∷ has_ended r ∷ []))
-      Cancelled (rider_becomes s rider GivenUp)
+    Cancelled (rider_becomes s rider GivenUp)
 
 -- a vehicle is at a node
 unfoldable pub report_step : List ℕ → State → ℕ → ℕ → ℕ → State × Reply
 report_step nodes s vehicle node time =
     let v = find_vehicle vehicle s.vehicles in
     answer s (first_of (unknown_vehicle v ∷ unknown_node nodes node ∷ time_back v time ∷ []))
-      Placed (vehicle_becomes s vehicle (stands_at node time))
+    Placed (vehicle_becomes s vehicle (stands_at node time))
 
 -- a vehicle picks up the rider who is promised to it
 unfoldable pub pickup_step : State → ℕ → ℕ → ℕ → State × Reply
@@ -80,7 +80,7 @@ pickup_step s vehicle rider time =
     let v = find_vehicle vehicle s.vehicles in
     let r = find_rider rider s.riders in
     answer s (first_of (unknown_vehicle v ∷ unknown_rider r ∷ is_aboard r ∷ has_ended r ∷ not_promised r vehicle ∷ time_back v time ∷ vehicle_full v r ∷ []))
-      Picked (picked_up s r vehicle time)
+    Picked (picked_up s r vehicle time)
 
 -- a vehicle drops its passenger
 unfoldable pub dropoff_step : State → ℕ → ℕ → ℕ → State × Reply
@@ -88,7 +88,7 @@ dropoff_step s vehicle rider time =
     let v = find_vehicle vehicle s.vehicles in
     let r = find_rider rider s.riders in
     answer s (first_of (unknown_vehicle v ∷ unknown_rider r ∷ not_aboard r vehicle ∷ time_back v time ∷ []))
-      Dropped (dropped_off s r vehicle time)
+    Dropped (dropped_off s r vehicle time)
 
 -- why a seal is refused
 abbrev pub seal_refusal : State → ℕ → Option BookRefusal

@@ -36,12 +36,7 @@ impl Register {
 }
 
 /// Gives the riders of a batch what an answer gives them.
-fn settle(
-    riders: &mut Vec<BookRider>,
-    ids: &IndexSet<RiderId>,
-    batch: &[Rider],
-    answer: &Answer,
-)
+fn settle(riders: &mut Vec<BookRider>, ids: &IndexSet<RiderId>, batch: &[Rider], answer: &Answer)
     requires ids { ids.now.keys ≡ map (λ r. r.id) riders.old.items }
     requires differ { KeysDiffer (λ r. r.id) riders.old.items }
     requires rise { KeysRise (λ r. r.id) batch.now }
@@ -173,5 +168,7 @@ fn in_batch(batch: &[Rider], rider: RiderId) -> bool
     requires { KeysRise (λ r. r.id) batch.now }
     ensures { result ≡ in_batch batch.now rider }
 {
-    batch.binary_search_by_key(&rider, |listed| listed.id).is_ok()
+    batch
+        .binary_search_by_key(&rider, |listed| listed.id)
+        .is_ok()
 }

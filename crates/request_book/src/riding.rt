@@ -12,10 +12,10 @@ ghost use Rattle.request_book.specs.Consistent.{IsConsistent};
 ghost use Rattle.request_book.specs.Step.{rider_becomes, stands_at, takes_in, lets_out, submit_refusal, submit_step, cancel_step, report_step, pickup_step, dropoff_step};
 
 use crate::refusals::{
-    book_full, duplicate_rider, first_of, has_ended, is_aboard, not_aboard, not_promised, pool_full, same_place,
-    time_back, unknown_node, vehicle_full,
+    book_full, duplicate_rider, first_of, has_ended, is_aboard, not_aboard, not_promised,
+    pool_full, same_place, time_back, unknown_node, vehicle_full,
 };
-use crate::register::{add, change_status, Register};
+use crate::register::{Register, add, change_status};
 use crate::reply::{BookRefusal, Reply};
 use crate::rider::{BookRider, Status};
 use batch_snapshot::{Passenger, Vehicle};
@@ -108,7 +108,10 @@ impl Register {
         let Some(at) = self.vehicle_at(vehicle) else {
             return Reply::Refused(BookRefusal::UnknownVehicle);
         };
-        let refusals = [unknown_node(nodes, node), time_back(&self.vehicles[at], time)];
+        let refusals = [
+            unknown_node(nodes, node),
+            time_back(&self.vehicles[at], time),
+        ];
         match first_of(&refusals) {
             Some(refusal) => Reply::Refused(refusal),
             None => {

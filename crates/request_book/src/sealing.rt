@@ -11,8 +11,8 @@ ghost use Rattle.request_book.specs.Consistent.{IsConsistent};
 ghost use Rattle.request_book.specs.Sealing.{is_over, over_id, asking, after_seal, one_more, batch_of};
 ghost use Rattle.request_book.specs.Step.{seal_refusal, seal_step};
 
-use crate::refusals::{batch_open, clock_back, first_of, POOL};
-use crate::register::{change_status, Register};
+use crate::refusals::{POOL, batch_open, clock_back, first_of};
+use crate::register::{Register, change_status};
 use crate::reply::{BookRefusal, Reply};
 use crate::rider::{BookRider, Status};
 use batch_snapshot::{Promise, Rider, Snapshot, Vehicle};
@@ -25,15 +25,17 @@ impl Register {
     pub fn seal_refusal(&self, second: Second) -> Option<BookRefusal>
         ensures { result ≡ seal_refusal (state_of self.now) second }
     {
-        let refusals = [
-            batch_open(&self.sealed),
-            clock_back(self.last_seal, second),
-        ];
+        let refusals = [batch_open(&self.sealed), clock_back(self.last_seal, second)];
         first_of(&refusals)
     }
 
     /// The snapshot that a seal at this second makes.
-    pub fn snapshot(&self, alloc: Global, wait: u32, second: Second) -> Result<Snapshot, OutOfMemory>
+    pub fn snapshot(
+        &self,
+        alloc: Global,
+        wait: u32,
+        second: Second,
+    ) -> Result<Snapshot, OutOfMemory>
         requires indexed { IsIndexed self.now }
         requires consistent { IsConsistent (state_of self.now) }
         ensures { IfOk result (λ s. s ≡ batch_of wait (state_of self.now) second) }
@@ -189,11 +191,7 @@ fn show(
     Ok(())
 }
 
-fn show_asking(
-    list: &mut Vec<Rider>,
-    rider: &BookRider,
-    second: Second,
-) -> Result<(), OutOfMemory>
+fn show_asking(list: &mut Vec<Rider>, rider: &BookRider, second: Second) -> Result<(), OutOfMemory>
     ensures { OnOk result (list.new.items ≡ list.old.items ++ option_to_list (asking second rider.now)) }
 {
     if rider.time <= second {

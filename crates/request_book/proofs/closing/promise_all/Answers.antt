@@ -1,4 +1,4 @@
-use Rattle.std.proofs.Common.{◌≡◌, ◌+◌, ◌≤◌, length, drop, sym, ap, ◌∙◌, arith}
+use Rattle.std.proofs.Common.{◌+◌, drop, sym, ap, ◌∙◌, arith}
 use Rattle.request_book.specs.declared.outcome.ChosenTrip.{ChosenTrip}
 use Rattle.request_book.specs.Closing.{promised_in_turn, picks, trip_picks}
 use Rattle.request_book.proofs.CloseLemmas.{trips-more, trips-all}
@@ -16,9 +16,9 @@ loop-trip-preserved c =
     record {
       turn =
           ap (promised_in_turn batch (picks (drop (i + 1) xs)))
-            (e.promised
-              ∙ ap (λ l. promised_in_turn batch (trip_picks t.vehicle l) rs) c.as_slice.ensures.value
-              ∙ ap (λ (u : ChosenTrip). promised_in_turn batch (trip_picks u.vehicle u.stops.items) rs) c.trip-item.is)
+          (e.promised
+          ∙ ap (λ l. promised_in_turn batch (trip_picks t.vehicle l) rs) c.as_slice.ensures.value
+          ∙ ap (λ (u : ChosenTrip). promised_in_turn batch (trip_picks u.vehicle u.stops.items) rs) c.trip-item.is)
           ∙ trips-more batch xs i t rs c.loop-trip-test.true ∙ inv.turn;
       ids = e.ids;
       differ = e.differ;

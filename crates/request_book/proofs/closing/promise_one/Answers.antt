@@ -1,4 +1,4 @@
-use Rattle.std.proofs.Common.{◌≡◌, Bool, cond, ◌&&◌, get_or, set, Some, None, sym, ap, ◌∙◌}
+use Rattle.std.proofs.Common.{Bool, cond, ◌&&◌, set, Some, None, sym, ap, ◌∙◌}
 use Rattle.request_book.specs.declared.rider.BookRider.{BookRider}
 use Rattle.request_book.specs.declared.rider.Status.TheVariants.{Promised}
 use Rattle.request_book.specs.Closing.{Pick, takes_promise}

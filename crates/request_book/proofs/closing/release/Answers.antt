@@ -1,4 +1,4 @@
-use Rattle.std.proofs.Common.{◌≡◌, ◌+◌, ◌≤◌, length, get_or, drop, map, refl, sym, ap, subst, ◌∙◌, arith}
+use Rattle.std.proofs.Common.{◌+◌, drop, map, sym, ap, subst, ◌∙◌, arith}
 use Rattle.std.proofs.lemmas.List.{at_drop_more, drop_all}
 use Rattle.request_book.specs.Closing.{waits_again}
 use Rattle.request_book.specs.Keyed.{changed_at, changed_in_turn, KeysDiffer}

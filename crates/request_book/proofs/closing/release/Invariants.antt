@@ -10,5 +10,5 @@ invariant-loop-rider l = record {
   ids : l.ids.keys ≡ map (λ r. r.id) l.riders.items;
   differ : KeysDiffer (λ r. r.id) l.riders.items;
   len : vec_len l.riders ≡ vec_len l.initial.riders;
-  capacity : vec_capacity l.riders ≡ vec_capacity l.initial.riders
+  capacity : vec_capacity l.riders ≡ vec_capacity l.initial.riders;
 }

@@ -1,5 +1,4 @@
-use Rattle.std.proofs.Common.{◌≡◌, ◌<◌, List, length, get_or, set, Some, None, sym, ap, ◌∙◌, subst}
-use Rattle.request_book.specs.Keyed.{changed_at}
+use Rattle.std.proofs.Common.{◌≡◌, get_or, set, Some, None, sym, ap, ◌∙◌}
 use Rattle.request_book.specs.Rider.{with_status}
 use Rattle.request_book.proofs.KeyedLemmas.{set-changed_at, changed_at-absent}
 use Rattle.request_book.proofs.RegisterLemmas.{found_by_keys, named_by_keys, eqb_comm}

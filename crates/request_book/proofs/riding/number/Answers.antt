@@ -1,5 +1,5 @@
-use Rattle.std.proofs.Common.{◌≡◌, ℕ, ◌++◌, ◌∷◌, [], List, Bool, true, false, eqb, Result, Ok, Err, cond, sym, ap, ◌∙◌}
-use Rattle.std.specs.Prelude.{IsOk, IfOk, is_ok}
+use Rattle.std.proofs.Common.{◌≡◌, ◌++◌, ◌∷◌, [], false, eqb, Result, Ok, Err, ◌∙◌}
+use Rattle.std.specs.Prelude.{IsOk, IfOk}
 use Rattle.std.specs.List.{list_any}
 use Rattle.std.proofs.lemmas.Bool.{cond-false, false≢true}
 use Rattle.request_book.proofs.RegisterLemmas.{eqb_comm, list_any-agree}

@@ -1,4 +1,4 @@
-use Rattle.std.proofs.Common.{◌≡◌, ◌≤◌, eqb, false, length, get_or, sym, ap, ◌∙◌, arith}
+use Rattle.std.proofs.Common.{◌≡◌, eqb, false, sym, ap, ◌∙◌, arith}
 use Rattle.std.proofs.lemmas.Bool.{eqb-false}
 use Rattle.request_book.proofs.RegisterLemmas.{look_up-drop_more, look_up-drop_all}
 use Rattle.request_book.proofs.riding.seat_of.Goals as goal
@@ -10,7 +10,7 @@ loop-seat-preserved c =
     let p = c.index-aboard-seat.result in
     let apart : eqb p.rider c.args.rider ≡ false = sym c.eq.ensures ∙ c.if-eq.false in
     look_up-drop_more (λ q. q.rider) c.args.rider i xs p c.loop-seat-test.true
-      (λ e. eqb-false p.rider c.args.rider apart (ap (λ q. q.rider) c.index-aboard-seat.is ∙ e))
+    (λ e. eqb-false p.rider c.args.rider apart (ap (λ q. q.rider) c.index-aboard-seat.is ∙ e))
     ∙ c.loop-seat.invariant
 
 pub returns : goal.returns

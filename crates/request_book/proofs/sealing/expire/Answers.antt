@@ -1,4 +1,4 @@
-use Rattle.std.proofs.Common.{◌≡◌, ◌+◌, ◌≤◌, length, get_or, drop, map, refl, sym, ap, subst, ◌∙◌, arith}
+use Rattle.std.proofs.Common.{◌+◌, drop, map, refl, sym, ap, subst, ◌∙◌, arith}
 use Rattle.request_book.specs.Keyed.{changed_at, changed_in_turn, KeysDiffer}
 use Rattle.request_book.specs.Rider.{with_status}
 use Rattle.request_book.specs.declared.rider.Status.TheVariants.{Expired}

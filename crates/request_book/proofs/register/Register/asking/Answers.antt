@@ -1,4 +1,4 @@
-use Rattle.std.proofs.Common.{◌≡◌, ℕ, ◌+◌, ◌≤◌, List, ◌++◌, Option, length, get_or, take, sym, ap, ◌∙◌, arith}
+use Rattle.std.proofs.Common.{◌≡◌, ℕ, ◌++◌, Option, get_or, take, sym, ap, ◌∙◌, arith}
 use Rattle.std.specs.Prelude.{option_and_then}
 use Rattle.std.specs.List.{filter_map}
 use Rattle.std.specs.Option.{option_to_list}
@@ -17,7 +17,7 @@ loop-id-preserved c =
     let i = c.loop-id.id-index in
     let x = c.id-item.result in
     let h : option_and_then (λ r. asking c.args.second (after_seal c.args.wait c.args.second r)) c.rider.result ≡ made (get_or xs i x) =
-        ap (option_and_then (λ r. asking c.args.second (after_seal c.args.wait c.args.second r))) c.rider.ensures ∙ ap made c.id-item.is in
+    ap (option_and_then (λ r. asking c.args.second (after_seal c.args.wait c.args.second r))) c.rider.ensures ∙ ap made c.id-item.is in
     c.in_ok-show.ensures ∙ ap (λ ys. ys ++ option_to_list (option_and_then (λ r. asking c.args.second (after_seal c.args.wait c.args.second r)) c.rider.result)) c.loop-id.invariant
     ∙ ap (λ o. filter_map made (take i xs) ++ option_to_list o) h ∙ sym (filter_map-more made xs i x c.loop-id-test.true)
 

@@ -1,5 +1,4 @@
-use Rattle.std.proofs.Common.{◌≡◌, List, [], ◌∷◌, Option, Some, None, sym, ap, ◌∙◌}
-use Rattle.request_book.specs.declared.reply.BookRefusal.{BookRefusal}
+use Rattle.std.proofs.Common.{◌≡◌, [], ◌∷◌, Some, None, sym, ap, ◌∙◌}
 use Rattle.request_book.specs.declared.reply.Reply.{Reply}
 use Rattle.request_book.specs.declared.reply.Reply.TheVariants.{Cancelled}
 use Rattle.request_book.specs.declared.state.State.{State}

@@ -1,8 +1,7 @@
-use Rattle.std.proofs.Common.{◌≡◌, ℕ, ◌<◌, ◌≤◌, List, [], ◌∷◌, Option, Some, None, length, get_or, set, map, refl, sym, ap, subst, ◌∙◌, arith}
+use Rattle.std.proofs.Common.{◌≡◌, List, [], ◌∷◌, Some, None, set, map, refl, sym, ap, subst, ◌∙◌}
 use Rattle.std.specs.Prelude.{option_and_then}
 use Rattle.std.proofs.lemmas.List.Elements.{All-get_or}
 use Rattle.batch_snapshot.specs.declared.vehicle.Vehicle.{Vehicle}
-use Rattle.request_book.specs.declared.reply.BookRefusal.{BookRefusal}
 use Rattle.request_book.specs.declared.reply.Reply.{Reply}
 use Rattle.request_book.specs.declared.reply.Reply.TheVariants.{Dropped}
 use Rattle.request_book.specs.declared.rider.BookRider.{BookRider}
@@ -59,7 +58,7 @@ returns-in-None-clause-stepped c =
     let d = c.index_mut.result.now in
     let vs = g.vehicles.items in
     let changed : set vs c.in-Some.at c.let_out.new.vehicle ≡ changed_at (λ u. u.id) c.args.vehicle f vs =
-        ap (λ x. set vs c.in-Some.at x) (c.let_out.ensures ∙ ap f c.index_mut.ensures.value) ∙ vehicle-set f c.args.vehicle c.in-Some.at vs d c.requires.indexed.vehicles c.in-Some.ensures.0 c.in-Some.ensures.1 in
+    ap (λ x. set vs c.in-Some.at x) (c.let_out.ensures ∙ ap f c.index_mut.ensures.value) ∙ vehicle-set f c.args.vehicle c.in-Some.at vs d c.requires.indexed.vehicles c.in-Some.ensures.0 c.in-Some.ensures.1 in
     let Made : Type 0 = State × Reply in
     let make : List BookRider → List Vehicle → Made = λ rs us. (record s { riders = rs; vehicles = us }, Dropped) in
     ap (λ rs. make rs (set vs c.in-Some.at c.let_out.new.vehicle)) c.change_status.ensures.changed
@@ -78,10 +77,10 @@ returns-in-None-clause-indexed c =
     let known : find_rider c.args.rider g.riders.items ≡ Some r = sym c.rider.ensures ∙ c.in-Some-rider.is in
     let off = aboard_left c.args.vehicle r.status (sym c.not_aboard.ensures ∙ (first_of-none c.not_aboard.result (c.time_back.result ∷ []) (sym c.first_of.ensures ∙ c.in-None.is)).0) in
     let outside : option_and_then pool_id (find_rider r.id g.riders.items) ≡ None =
-        ap (λ k. option_and_then pool_id (find_rider k g.riders.items)) (look_up-key (λ x. x.id) c.args.rider g.riders.items r known) ∙ ap (option_and_then pool_id) known ∙ pool_id-inactive r off in
+    ap (λ k. option_and_then pool_id (find_rider k g.riders.items)) (look_up-key (λ x. x.id) c.args.rider g.riders.items r known) ∙ ap (option_and_then pool_id) known ∙ pool_id-inactive r off in
     let riders = c.change_status.ensures.changed in
     let changed : set vs c.in-Some.at c.let_out.new.vehicle ≡ changed_at (λ u. u.id) c.args.vehicle f vs =
-        ap (λ x. set vs c.in-Some.at x) (c.let_out.ensures ∙ ap f c.index_mut.ensures.value) ∙ vehicle-set f c.args.vehicle c.in-Some.at vs d h.vehicles c.in-Some.ensures.0 c.in-Some.ensures.1 in
+    ap (λ x. set vs c.in-Some.at x) (c.let_out.ensures ∙ ap f c.index_mut.ensures.value) ∙ vehicle-set f c.args.vehicle c.in-Some.at vs d h.vehicles c.in-Some.ensures.0 c.in-Some.ensures.1 in
     record {
       ids = h.ids ∙ sym (ap (map (λ x. x.id)) riders ∙ map-changed_at (λ x. x.id) r.id status (λ x. refl) g.riders.items);
       vehicle_ids = h.vehicle_ids ∙ sym (ap (map (λ u. u.id)) changed ∙ map-changed_at (λ u. u.id) c.args.vehicle f (λ u. refl) vs);

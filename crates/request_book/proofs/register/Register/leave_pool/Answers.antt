@@ -1,4 +1,4 @@
-use Rattle.std.proofs.Common.{◌≡◌, ◌≤◌, refl, sym, ap, ◌∙◌, arith}
+use Rattle.std.proofs.Common.{refl, sym, ◌∙◌, arith}
 use Rattle.request_book.specs.Rider.{with_status}
 use Rattle.request_book.proofs.KeyedLemmas.{KeysDiffer-changed_at, KeysRise-without, map-changed_at}
 use Rattle.request_book.proofs.IndexLemmas.{IsPool-without}

@@ -1,9 +1,8 @@
-use Rattle.std.proofs.Common.{◌≡◌, ℕ, ◌+◌, ◌≤◌, List, ◌++◌, Option, length, get_or, take, sym, ap, ◌∙◌, arith}
+use Rattle.std.proofs.Common.{◌≡◌, ℕ, ◌+◌, ◌++◌, Option, get_or, take, sym, ap, ◌∙◌, arith}
 use Rattle.std.specs.Prelude.{option_and_then}
 use Rattle.std.specs.List.{filter_map}
 use Rattle.std.specs.Option.{option_to_list}
 use Rattle.std.proofs.lemmas.List.{take_all}
-use Rattle.request_book.specs.Register.{pool_id}
 use Rattle.request_book.specs.Sealing.{over_id}
 use Rattle.request_book.specs.State.{find_rider}
 use Rattle.request_book.proofs.SealLemmas.{filter_map-more}
@@ -18,7 +17,7 @@ loop-id-preserved c =
     let x = c.id-item.result in
     let h : c.if_over.result ≡ made (get_or xs i x) = c.if_over.ensures ∙ ap (option_and_then (over_id c.args.wait c.args.second)) c.rider.ensures ∙ ap made c.id-item.is in
     let items : c.push_some.new.list.items ≡ filter_map made (take (i + 1) xs) =
-        c.in_ok-push_some.ensures.ok ∙ ap (λ ys. ys ++ option_to_list c.if_over.result) c.loop-id.invariant ∙ ap (λ o. filter_map made (take i xs) ++ option_to_list o) h ∙ sym (filter_map-more made xs i x c.loop-id-test.true) in
+    c.in_ok-push_some.ensures.ok ∙ ap (λ ys. ys ++ option_to_list c.if_over.result) c.loop-id.invariant ∙ ap (λ o. filter_map made (take i xs) ++ option_to_list o) h ∙ sym (filter_map-more made xs i x c.loop-id-test.true) in
     items
 
 pub returns : goal.returns

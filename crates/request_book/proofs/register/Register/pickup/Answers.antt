@@ -1,9 +1,8 @@
-use Rattle.std.proofs.Common.{◌≡◌, ℕ, ◌<◌, ◌≤◌, List, [], ◌∷◌, Option, Some, None, length, get_or, set, map, refl, sym, ap, subst, ◌∙◌, arith}
+use Rattle.std.proofs.Common.{◌≡◌, ◌<◌, ◌≤◌, List, [], ◌∷◌, Some, None, length, get_or, set, map, refl, sym, ap, subst, ◌∙◌, arith}
 use Rattle.std.proofs.lemmas.Option.{MatchOption-at_none}
 use Rattle.std.proofs.lemmas.List.Elements.{All-get_or}
 use Rattle.batch_snapshot.specs.Vehicle.{HasSeats}
 use Rattle.batch_snapshot.specs.declared.vehicle.Vehicle.{Vehicle}
-use Rattle.request_book.specs.declared.reply.BookRefusal.{BookRefusal}
 use Rattle.request_book.specs.declared.reply.Reply.{Reply}
 use Rattle.request_book.specs.declared.reply.Reply.TheVariants.{Picked}
 use Rattle.request_book.specs.declared.rider.BookRider.{BookRider}
@@ -55,7 +54,7 @@ returns-in-Some-first_of-clause-stepped c =
     let e4 = c.time_back.ensures in
     let e5 : c.vehicle_full.result ≡ vehicle_full (Some v) (Some r) = c.vehicle_full.ensures.seats in
     let list : (c.is_aboard.result ∷ c.has_ended.result ∷ c.not_promised.result ∷ c.time_back.result ∷ c.vehicle_full.result ∷ [])
-        ≡ (aboard_refusal r.status ∷ ended_refusal r.status ∷ promise_refusal c.args.vehicle r.status ∷ time_back (Some v) c.args.time ∷ vehicle_full (Some v) (Some r) ∷ []) = cc in
+    ≡ (aboard_refusal r.status ∷ ended_refusal r.status ∷ promise_refusal c.args.vehicle r.status ∷ time_back (Some v) c.args.time ∷ vehicle_full (Some v) (Some r) ∷ []) = cc in
     pickup-known (state_of c.args.self.now) c.args.vehicle c.args.rider c.args.time v r (Some c.in-Some-first_of.refusal) found known (sym c.in-Some-first_of.is ∙ c.first_of.ensures ∙ ap first_of list)
 
 pub returns-in-None-clause-stepped : goal.returns-in-None-clause-stepped
@@ -72,12 +71,12 @@ returns-in-None-clause-stepped c =
     let e4 = c.time_back.ensures in
     let e5 : c.vehicle_full.result ≡ vehicle_full (Some v) (Some r) = c.vehicle_full.ensures.seats in
     let list : (c.is_aboard.result ∷ c.has_ended.result ∷ c.not_promised.result ∷ c.time_back.result ∷ c.vehicle_full.result ∷ [])
-        ≡ (aboard_refusal r.status ∷ ended_refusal r.status ∷ promise_refusal c.args.vehicle r.status ∷ time_back (Some v) c.args.time ∷ vehicle_full (Some v) (Some r) ∷ []) = cc in
+    ≡ (aboard_refusal r.status ∷ ended_refusal r.status ∷ promise_refusal c.args.vehicle r.status ∷ time_back (Some v) c.args.time ∷ vehicle_full (Some v) (Some r) ∷ []) = cc in
     let f = takes_in r c.args.time in
     let d = c.index_mut.result.now in
     let vs = g.vehicles.items in
     let changed : set vs c.in-Some.at c.take_in.new.vehicle ≡ changed_at (λ u. u.id) c.args.vehicle f vs =
-        ap (λ x. set vs c.in-Some.at x) (c.take_in.ensures ∙ ap f c.index_mut.ensures.value) ∙ vehicle-set f c.args.vehicle c.in-Some.at vs d c.requires.indexed.vehicles c.in-Some.ensures.0 c.in-Some.ensures.1 in
+    ap (λ x. set vs c.in-Some.at x) (c.take_in.ensures ∙ ap f c.index_mut.ensures.value) ∙ vehicle-set f c.args.vehicle c.in-Some.at vs d c.requires.indexed.vehicles c.in-Some.ensures.0 c.in-Some.ensures.1 in
     let Made : Type 0 = State × Reply in
     let make : List BookRider → List Vehicle → Made = λ rs us. (record s { riders = rs; vehicles = us }, Picked) in
     ap (λ rs. make rs (set vs c.in-Some.at c.take_in.new.vehicle)) c.change_status.ensures.changed
@@ -96,7 +95,7 @@ returns-in-None-clause-indexed c =
     let riders = c.change_status.ensures.changed in
     let pool = c.leave.ensures.items in
     let changed : set vs c.in-Some.at c.take_in.new.vehicle ≡ changed_at (λ u. u.id) c.args.vehicle f vs =
-        ap (λ x. set vs c.in-Some.at x) (c.take_in.ensures ∙ ap f c.index_mut.ensures.value) ∙ vehicle-set f c.args.vehicle c.in-Some.at vs d h.vehicles c.in-Some.ensures.0 c.in-Some.ensures.1 in
+    ap (λ x. set vs c.in-Some.at x) (c.take_in.ensures ∙ ap f c.index_mut.ensures.value) ∙ vehicle-set f c.args.vehicle c.in-Some.at vs d h.vehicles c.in-Some.ensures.0 c.in-Some.ensures.1 in
     record {
       ids = h.ids ∙ sym (ap (map (λ x. x.id)) riders ∙ map-changed_at (λ x. x.id) r.id status (λ x. refl) g.riders.items);
       vehicle_ids = h.vehicle_ids ∙ sym (ap (map (λ u. u.id)) changed ∙ map-changed_at (λ u. u.id) c.args.vehicle f (λ u. refl) vs);

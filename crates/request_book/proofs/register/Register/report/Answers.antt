@@ -1,6 +1,5 @@
-use Rattle.std.proofs.Common.{◌≡◌, List, [], ◌∷◌, Option, Some, None, get_or, set, map, refl, sym, ap, subst, ◌∙◌}
+use Rattle.std.proofs.Common.{◌≡◌, List, [], ◌∷◌, Some, None, set, map, refl, sym, ap, subst, ◌∙◌}
 use Rattle.batch_snapshot.specs.declared.vehicle.Vehicle.{Vehicle}
-use Rattle.request_book.specs.declared.reply.BookRefusal.{BookRefusal}
 use Rattle.request_book.specs.declared.reply.Reply.{Reply}
 use Rattle.request_book.specs.declared.reply.Reply.TheVariants.{Placed}
 use Rattle.request_book.specs.declared.state.State.{State}
@@ -38,7 +37,7 @@ returns-in-None-clause-stepped c =
     let d = c.index_mut.result.now in
     let vs = g.vehicles.items in
     let changed : set vs c.in-Some.at c.stand.new.vehicle ≡ changed_at (λ u. u.id) c.args.vehicle f vs =
-        ap (λ x. set vs c.in-Some.at x) (c.stand.ensures ∙ ap f c.index_mut.ensures.value) ∙ vehicle-set f c.args.vehicle c.in-Some.at vs d c.requires.vehicles c.in-Some.ensures.0 c.in-Some.ensures.1 in
+    ap (λ x. set vs c.in-Some.at x) (c.stand.ensures ∙ ap f c.index_mut.ensures.value) ∙ vehicle-set f c.args.vehicle c.in-Some.at vs d c.requires.vehicles c.in-Some.ensures.0 c.in-Some.ensures.1 in
     let Made : Type 0 = State × Reply in
     let pair : List Vehicle → Made = λ us. (record (state_of g) { vehicles = us }, Placed) in
     ap pair changed ∙ report-known (state_of g) c.args.nodes.now.keys c.args.vehicle c.args.node c.args.time v None found (sym c.in-None.is ∙ c.first_of.ensures ∙ ap first_of list)
@@ -51,7 +50,7 @@ returns-in-None-clause-indexed c =
     let d = c.index_mut.result.now in
     let vs = g.vehicles.items in
     let changed : set vs c.in-Some.at c.stand.new.vehicle ≡ changed_at (λ u. u.id) c.args.vehicle f vs =
-        ap (λ x. set vs c.in-Some.at x) (c.stand.ensures ∙ ap f c.index_mut.ensures.value) ∙ vehicle-set f c.args.vehicle c.in-Some.at vs d h.vehicles c.in-Some.ensures.0 c.in-Some.ensures.1 in
+    ap (λ x. set vs c.in-Some.at x) (c.stand.ensures ∙ ap f c.index_mut.ensures.value) ∙ vehicle-set f c.args.vehicle c.in-Some.at vs d h.vehicles c.in-Some.ensures.0 c.in-Some.ensures.1 in
     record {
       ids = h.ids;
       vehicle_ids = h.vehicle_ids ∙ sym (ap (map (λ u. u.id)) changed ∙ map-changed_at (λ u. u.id) c.args.vehicle f (λ u. refl) vs);

@@ -1,17 +1,14 @@
-use Rattle.std.proofs.Common.{◌≡◌, ◌≤◌, ℕ, List, Option, Some, None, map, refl, sym, ap, subst, ◌∙◌, arith}
-use Rattle.std.specs.Prelude.{option_and_then}
-use Rattle.std.specs.List.{filter_map}
+use Rattle.std.proofs.Common.{◌≡◌, ℕ, List, Some, None, map, sym, ap, subst, ◌∙◌}
 use Rattle.batch_snapshot.specs.Batch.{Batch}
 use Rattle.request_book.specs.declared.reply.Reply.{Reply}
 use Rattle.request_book.specs.declared.reply.Reply.TheVariants.{Sealed}
 use Rattle.request_book.specs.declared.rider.BookRider.{BookRider}
 use Rattle.request_book.specs.declared.rider.Status.TheVariants.{Expired}
 use Rattle.request_book.specs.declared.state.State.{State}
-use Rattle.request_book.specs.Keyed.{changed_in_turn, by_key, KeysDiffer, KeysRise}
-use Rattle.request_book.specs.Register.{state_of, pool_id}
+use Rattle.request_book.specs.Keyed.{changed_in_turn, KeysDiffer, KeysRise}
+use Rattle.request_book.specs.Register.{state_of}
 use Rattle.request_book.specs.Rider.{with_status}
-use Rattle.request_book.specs.Sealing.{one_more, over_id, after_seal, batch_of, sealed_state}
-use Rattle.request_book.specs.State.{find_rider}
+use Rattle.request_book.specs.Sealing.{one_more, after_seal, batch_of, sealed_state}
 use Rattle.request_book.proofs.BatchLemmas.{expired-map, after_seal-id, staying-rise, staying-pool}
 use Rattle.request_book.proofs.IndexLemmas.{IsPool-same}
 use Rattle.request_book.proofs.KeyedLemmas.{KeysDiffer-map, map-keys}

@@ -1,4 +1,4 @@
-use Rattle.std.proofs.Common.{◌≡◌, ℕ, ◌+◌, ◌≤◌, List, ◌++◌, Option, length, get_or, take, sym, ap, ◌∙◌, arith}
+use Rattle.std.proofs.Common.{◌≡◌, ℕ, ◌+◌, ◌++◌, Option, get_or, take, sym, ap, ◌∙◌, arith}
 use Rattle.std.specs.Prelude.{option_and_then}
 use Rattle.std.specs.List.{filter_map}
 use Rattle.std.specs.Option.{option_to_list}
@@ -18,7 +18,7 @@ loop-id-preserved c =
     let x = c.id-item.result in
     let h : c.if_staying.result ≡ made (get_or xs i x) = c.if_staying.ensures ∙ ap (option_and_then ((λ r. pool_id (after_seal c.args.wait c.args.second r)))) c.rider.ensures ∙ ap made c.id-item.is in
     let items : c.push_some.new.list.items ≡ filter_map made (take (i + 1) xs) =
-        c.in_ok-push_some.ensures.ok ∙ ap (λ ys. ys ++ option_to_list c.if_staying.result) c.loop-id.invariant.0 ∙ ap (λ o. filter_map made (take i xs) ++ option_to_list o) h ∙ sym (filter_map-more made xs i x c.loop-id-test.true) in
+    c.in_ok-push_some.ensures.ok ∙ ap (λ ys. ys ++ option_to_list c.if_staying.result) c.loop-id.invariant.0 ∙ ap (λ o. filter_map made (take i xs) ++ option_to_list o) h ∙ sym (filter_map-more made xs i x c.loop-id-test.true) in
     (items, omega (arith, c.loop-id.invariant.1, c.in_ok-push_some.ensures.capacity))
 
 pub returns-clause-ids : goal.returns-clause-ids

@@ -1,5 +1,5 @@
-use Rattle.std.proofs.Common.{◌≡◌, ℕ, ◌<◌, ◌≤◌, List, [], ◌∷◌, ◌++◌, Bool, true, false, Option, Some, None, length, map, refl, sym, ap, subst, ◌∙◌, arith}
-use Rattle.std.specs.Prelude.{vec_len, vec_capacity, is_some, option_and_then, ◌==◌}
+use Rattle.std.proofs.Common.{ℕ, List, [], ◌∷◌, ◌++◌, Bool, Some, None, map, refl, sym, ap, subst, ◌∙◌, arith}
+use Rattle.std.specs.Prelude.{is_some, option_and_then, ◌==◌}
 use Rattle.std.specs.List.{list_any}
 use Rattle.std.proofs.lemmas.List.{map-append}
 use Rattle.request_book.specs.declared.reply.Reply.{Reply}
@@ -9,7 +9,6 @@ use Rattle.request_book.specs.declared.state.State.{State}
 use Rattle.request_book.specs.Keyed.{KeysDiffer, KeysRise}
 use Rattle.request_book.specs.Register.{state_of, pool_id}
 use Rattle.request_book.specs.Rider.{is_active}
-use Rattle.request_book.specs.State.{find_rider, pool_count}
 use Rattle.request_book.proofs.KeyedLemmas.{look_up-list_any, KeysDiffer-push, KeysRise-placed}
 use Rattle.request_book.proofs.IndexLemmas.{IsPool-placed, IsPool-same, length-pool}
 use Rattle.request_book.proofs.StepLemmas.{submit-fits, submit-known}

@@ -1,4 +1,4 @@
-use Rattle.std.proofs.Common.{◌≡◌, ℕ, List, [], ◌∷◌, Option, Some, None, refl, sym, ap, ◌∙◌, arith}
+use Rattle.std.proofs.Common.{◌≡◌, ℕ, [], ◌∷◌, Option, Some, None, ap, ◌∙◌, arith}
 use Rattle.std.specs.Prelude.{vec_len, nat_le, length, if◌then◌else◌}
 use Rattle.request_book.specs.declared.reply.BookRefusal.{BookRefusal}
 use Rattle.request_book.specs.declared.reply.BookRefusal.TheVariants.{PoolFull, BookFull}
@@ -24,5 +24,5 @@ returns c =
     let e5 : c.pool_full.result ≡ pool_full g.riders.items = c.pool_full.ensures ∙ ap full (c.len.ensures ∙ pool) in
     let e6 : c.book_full.result ≡ book_full g.riders.items = c.book_full.ensures ∙ ap most (c.len-2.ensures ∙ riders) in
     let list : (c.duplicate_rider.result ∷ c.unknown_node.result ∷ c.unknown_node-2.result ∷ c.same_place.result ∷ c.pool_full.result ∷ c.book_full.result ∷ [])
-        ≡ (duplicate_rider (find_rider r.id g.riders.items) ∷ unknown_node nodes r.origin ∷ unknown_node nodes r.destination ∷ same_place r.origin r.destination ∷ pool_full g.riders.items ∷ book_full g.riders.items ∷ []) = cc in
+    ≡ (duplicate_rider (find_rider r.id g.riders.items) ∷ unknown_node nodes r.origin ∷ unknown_node nodes r.destination ∷ same_place r.origin r.destination ∷ pool_full g.riders.items ∷ book_full g.riders.items ∷ []) = cc in
     c.first_of.ensures ∙ ap first_of list

@@ -1,0 +1,5 @@
+use Rattle.request_book.proofs.LawLemmas.{rounds-join}
+use Rattle.request_book.proofs.laws.rounds_join.Goals as goal
+
+pub returns : goal.returns
+returns c = rounds-join
