@@ -1,0 +1,5 @@
+use Rattle.travel_times.specs.Table.{AreRows}
+use Rattle.travel_times.proofs.plain.cells_of.Given as goal
+
+abbrev pub invariant-loop-start : goal.invariant-loop-start
+invariant-loop-start l = AreRows l.network.arcs l.points 0 l.start-index l.cells.items

@@ -1,0 +1,16 @@
+//! Shortest times between the points of a batch, exact over all walks of the road network.
+//!
+//! `times_between` runs one search with a priority queue for each point, rows in parallel. Its table has, for
+//! each two points, the least seconds over all walks, and says so exactly where there is none.
+#![tactic(auto)]
+
+mod plain;
+mod ring;
+mod rows;
+mod search;
+mod table;
+#[cfg(test)]
+mod tests;
+
+pub use plain::times_by_repeated_relaxation;
+pub use table::{are_known, times_between};

@@ -1,0 +1,131 @@
+ghost use Rattle.std.specs.Prelude.{◌≡◌, ℕ, ◌+◌, ◌<◌, ◌≤◌, true, false, All, IfOk, IfSome, IfNone, OnOk, length, replicate, slice_index};
+ghost use Rattle.pool_base.specs.TravelTime.{longest};
+ghost use Rattle.road_network.specs.Walk.{IsTimeBetween};
+ghost use Rattle.travel_times.specs.Search.{IsTaken, Relaxes, waits};
+
+use crate::ring::Ring;
+use pool_base::{OutOfMemory, Times};
+use road_network::{Hop, Network};
+use std::alloc::Global;
+
+/// No travel time is longer: a shortest walk has at most 99,999 arcs of 10,000 seconds.
+pub const LONGEST: u32 = 1_000_000_000;
+
+/// The work space of a search, made once for a piece of work and used for each of its rows.
+#[derive(Drop)]
+pub struct Search {
+    /// By node: the least seconds found so far, `NEVER` where no walk was found.
+    pub seconds: Vec<u32>,
+    /// By node: whether its seconds fell since its arcs were relaxed.
+    pub waiting: Vec<bool>,
+    /// The nodes that wait, the nearest first.
+    pub ring: Ring,
+}
+
+impl Search {
+    pub fn new(alloc: Global, nodes: usize) -> Result<Search, OutOfMemory>
+        ensures seconds { IfOk result (λ s. length s.seconds.items ≡ nodes) }
+        ensures waiting { IfOk result (λ s. length s.waiting.items ≡ nodes) }
+    {
+        Ok(Search {
+            seconds: vec![in alloc; Times::NEVER; nodes]?,
+            waiting: vec![in alloc; false; nodes]?,
+            ring: Ring::new(alloc)?,
+        })
+    }
+
+    /// Forgets what was found.
+    fn reset(&mut self)
+        ensures seconds { self.new.seconds.items ≡ replicate (length self.old.seconds.items) u32.MAX }
+        ensures waiting { self.new.waiting.items ≡ replicate (length self.old.waiting.items) false }
+    {
+        self.seconds.fill(Times::NEVER);
+        self.waiting.fill(false);
+    }
+
+    /// Finds the least seconds from one node to every node (Dijkstra 1959, with a ring of buckets by Dial 1969).
+    pub fn run(&mut self, network: &Network, start: usize) -> Result<(), OutOfMemory>
+        requires seconds { length self.old.seconds.items ≡ length network.now.nodes }
+        requires waiting { length self.old.waiting.items ≡ length network.now.nodes }
+        requires start { start < length network.now.nodes }
+        ensures seconds { OnOk result (length self.new.seconds.items ≡ length network.now.nodes) }
+        ensures waiting { OnOk result (length self.new.waiting.items ≡ length network.now.nodes) }
+        ensures times { OnOk result ((goal : ℕ) → goal < length network.now.nodes → IsTimeBetween network.now.arcs start goal (slice_index self.new.seconds.items goal)) }
+    {
+        let _nodes = network.node_count();
+        self.reset();
+        self.seconds[start] = 0;
+        self.waiting[start] = true;
+        self.ring.push(start as u32, 0)?;
+        while let Some(node) = next_waiting(&mut self.ring, &mut self.waiting) {
+            let here = self.seconds[node];
+            relax(
+                network.arcs_from(node),
+                here,
+                &mut self.seconds,
+                &mut self.waiting,
+                &mut self.ring,
+            )?;
+        }
+        Ok(())
+    }
+}
+
+/// Takes a node that waits: the ring's next, or any, should the ring be empty before.
+fn next_waiting(ring: &mut Ring, waiting: &mut [bool]) -> Option<usize>
+    ensures length { length waiting.new ≡ length waiting.old }
+    ensures some { IfSome result (IsTaken waiting.old waiting.new) }
+    ensures none { IfNone result ((node : ℕ) → waits waiting.new node ≡ false) }
+    ensures unchanged { IfNone result (waiting.new ≡ waiting.old) }
+{
+    while let Some(node) = ring.pop() {
+        let node = node as usize;
+        if node < waiting.len() && waiting[node] {
+            waiting[node] = false;
+            return Some(node);
+        }
+    }
+    let node = first_waiting(waiting)?;
+    waiting[node] = false;
+    Some(node)
+}
+
+/// The first node that waits.
+pub fn first_waiting(waiting: &[bool]) -> Option<usize>
+    ensures some { IfSome result (λ node. (node < length waiting.now) × (waits waiting.now node ≡ true)) }
+    ensures none { IfNone result ((node : ℕ) → waits waiting.now node ≡ false) }
+{
+    for (node, waits) in waiting.iter().enumerate() {
+        if *waits {
+            return Some(node);
+        }
+    }
+    None
+}
+
+/// Relaxes the arcs of a node: where one gives fewer seconds, these are noted, and the node at its end waits.
+fn relax(
+    hops: &[Hop],
+    here: u32,
+    seconds: &mut [u32],
+    waiting: &mut [bool],
+    ring: &mut Ring,
+) -> Result<(), OutOfMemory>
+    requires few { length seconds.old ≤ 100000 }
+    requires lengths { length waiting.old ≡ length seconds.old }
+    requires short { here ≤ longest }
+    requires hops { All (λ hop. (hop.to < length seconds.old) × (hop.seconds ≤ 10000)) hops.now }
+    ensures relaxes { OnOk result (Relaxes hops.now (length hops.now) here seconds.old waiting.old seconds.new waiting.new) }
+    ensures seconds_length { length seconds.new ≡ length seconds.old }
+    ensures waiting_length { length waiting.new ≡ length waiting.old }
+{
+    for hop in hops {
+        let through = here + hop.seconds;
+        if through < seconds[hop.to] && through <= LONGEST {
+            seconds[hop.to] = through;
+            waiting[hop.to] = true;
+            ring.push(hop.to as u32, through)?;
+        }
+    }
+    Ok(())
+}

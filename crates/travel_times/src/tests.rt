@@ -1,0 +1,142 @@
+use crate::{are_known, times_between, times_by_repeated_relaxation};
+use pool_base::{NodeId, OutOfMemory, Times, put_number};
+use pool_io::rows;
+use road_network::{Network, read_network};
+use std::alloc::Global;
+use std::process::Abort;
+use std::test::Fail;
+use std::thread::Threads;
+
+// A one-way arc, two arcs between nodes 2 and 3, an arc from 3 to itself, arcs of no seconds, and nodes 6 and 7 apart.
+const TOWN: &[u8] =
+    b"from,to,seconds\n1,2,60\n2,3,50\n2,3,20\n3,3,5\n3,4,0\n4,3,0\n4,1,7\n5,1,9\n6,7,1\n";
+
+// The network of a file.
+fn read(rt: &impl Abort, alloc: Global, text: &[u8]) -> Network {
+    let table = rows(alloc, text, b"from,to,seconds").expect(rt, "rows under the header");
+    read_network(alloc, &table).expect(rt, "a network")
+}
+
+// The nodes named 1 to `count`.
+fn nodes_to(alloc: Global, rt: &impl Abort, count: u64) -> Result<Vec<NodeId>, Fail> {
+    let mut nodes = Vec::new(alloc);
+    for name in 1..=count {
+        nodes.push(NodeId::new(name).expect(rt, "a node's name"))?;
+    }
+    Ok(nodes)
+}
+
+// The table, where all nodes are known.
+fn fast(
+    rt: &(impl Threads + Sync),
+    alloc: Global,
+    network: &Network,
+    nodes: &[NodeId],
+) -> Option<Result<Times, OutOfMemory>> {
+    if nodes.len() <= 12_500 && are_known(network, nodes) {
+        Some(times_between(rt, alloc, network, nodes))
+    } else {
+        None
+    }
+}
+
+fn plain(alloc: Global, network: &Network, nodes: &[NodeId]) -> Option<Result<Times, OutOfMemory>> {
+    if nodes.len() <= 12_500 && are_known(network, nodes) {
+        Some(times_by_repeated_relaxation(alloc, network, nodes))
+    } else {
+        None
+    }
+}
+
+#[test]
+fn shortest_walks_of_a_town(rt: HostRuntime) -> Result<(), Fail> {
+    let network = read(&rt, rt.alloc(), TOWN);
+    let nodes = nodes_to(rt.alloc(), &rt, 7)?;
+    let times = fast(&rt, rt.alloc(), &network, &nodes).ok_or("an unknown node")??;
+    const N: u32 = Times::NEVER;
+    let expected = [
+        [0, 60, 80, 80, N, N, N],
+        [27, 0, 20, 20, N, N, N],
+        [7, 67, 0, 0, N, N, N],
+        [7, 67, 0, 0, N, N, N],
+        [9, 69, 89, 89, 0, N, N],
+        [N, N, N, N, N, 0, 1],
+        [N, N, N, N, N, N, 0],
+    ];
+    assert_eq!(rt; times.len(), 7);
+    for a in 0..7 {
+        for b in 0..7 {
+            assert_eq!(rt; times.seconds(a, b), expected[a][b], "from {a} to {b}");
+        }
+    }
+    Ok(())
+}
+
+// A square grid of nodes, numbered from 1, row by row, with arcs of different seconds that lead right, down and,
+// from every third node, back left.
+fn grid(alloc: Global, side: u64) -> Result<Vec<u8>, Fail> {
+    let mut text = Vec::from_slice(alloc, b"from,to,seconds\n")?;
+    for row in 0..side {
+        for column in 0..side {
+            let node = row.wrapping_mul(side).wrapping_add(column).wrapping_add(1);
+            if column.wrapping_add(1) < side {
+                put_arc(&mut text, node, node.wrapping_add(1))?;
+            }
+            if row.wrapping_add(1) < side {
+                put_arc(&mut text, node, node.wrapping_add(side))?;
+            }
+            if node % 3 == 0 && column > 0 {
+                put_arc(&mut text, node, node.wrapping_sub(1))?;
+            }
+        }
+    }
+    Ok(text)
+}
+
+fn put_arc(text: &mut Vec<u8>, from: u64, to: u64) -> Result<(), Fail> {
+    put_number(text, from)?;
+    text.push(b',')?;
+    put_number(text, to)?;
+    text.push(b',')?;
+    put_number(
+        text,
+        from.wrapping_mul(7919)
+            .wrapping_add(to.wrapping_mul(104_729))
+            % 10_001,
+    )?;
+    text.push(b'\n')?;
+    Ok(())
+}
+
+#[test]
+fn threads_agree_with_repeated_relaxation(rt: HostRuntime) -> Result<(), Fail> {
+    let network = read(&rt, rt.alloc(), &grid(rt.alloc(), 15)?);
+    let nodes = nodes_to(rt.alloc(), &rt, 225)?;
+    let fast = fast(&rt, rt.alloc(), &network, &nodes).ok_or("an unknown node")??;
+    let plain = plain(rt.alloc(), &network, &nodes).ok_or("an unknown node")??;
+    assert_eq!(rt; fast.len(), 225);
+    assert_eq!(rt; plain.len(), 225);
+    for a in 0..225 {
+        for b in 0..225 {
+            assert_eq!(rt; fast.seconds(a, b), plain.seconds(a, b), "from {a} to {b}");
+        }
+    }
+    Ok(())
+}
+
+#[test]
+fn answers_with_memory(rt: HostRuntime) -> Result<(), Fail> {
+    let network = read(&rt, rt.alloc(), b"from,to,seconds\n1,2,10000\n");
+    let nodes = nodes_to(rt.alloc(), &rt, 2)?;
+    assert!(rt;
+        fast(&rt, rt.alloc(), &network, &nodes)
+            .ok_or("an unknown node")?
+            .is_ok()
+    );
+    assert!(rt;
+        plain(rt.alloc(), &network, &nodes)
+            .ok_or("an unknown node")?
+            .is_ok()
+    );
+    Ok(())
+}
