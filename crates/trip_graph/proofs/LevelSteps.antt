@@ -1,0 +1,132 @@
+use Rattle.std.proofs.Common.{◌≡◌, ℕ, ◌+◌, ◌<◌, ◌≤◌, inl, inr, List, [], ◌∷◌, ◌++◌, length, get_or, refl, subst, arith}
+use Rattle.std.proofs.lemmas.Bool.{cases_lt}
+use Rattle.std.proofs.lemmas.List.{length-map, length-append, get_or_append_left, get_or_push, get_or-map}
+use Rattle.std.proofs.lemmas.List.Sums.{sum_by_push}
+use Rattle.stop_orders.specs.declared.settled.Settled.{Settled}
+use Rattle.trip_growth.specs.declared.trip_of.TripOf.{TripOf}
+use Rattle.trip_growth.specs.Trip.{ComesBefore}
+use Rattle.trip_growth.specs.Level.{trips_of, HasMoreThan}
+use Rattle.trip_growth.specs.Rows.{CanServe, CostsLeast, AreRowsOfSize}
+use Rattle.trip_graph.specs.Levels.{AreSomeRows, IsLevelUpTo, HasMoreOfSize, AreLevels, HasMoreRows, row_total, level_total}
+
+none_before : (a b : List ℕ) → length a ≡ 0 → length b ≡ 0 → ComesBefore a b → ⊥
+none_before [] b p q (inl h) = absurd (omega arith)
+none_before [] b p q (inr h) = h.1
+none_before (x ∷ xs) b p q h = absurd (omega arith)
+
+pub total_more : (lists : List (List TripOf)) (rows : List TripOf) → row_total (lists ++ rows ∷ []) ≡ row_total lists + length rows
+total_more lists rows = sum_by_push (λ (r : List TripOf). length r) lists rows
+
+pub total_level : (levels : List (List (List TripOf))) (lists : List (List TripOf)) → level_total (levels ++ lists ∷ []) ≡ level_total levels + row_total lists
+total_level levels lists = sum_by_push row_total levels lists
+
+module _ (tau : ℕ → ℕ → ℕ) (settled : Settled) where
+  pub few_empty : (v : ℕ) (rows : List TripOf) → AreRowsOfSize tau settled v 0 rows → length rows ≤ 1
+  few_empty v rows own =
+      elim (cases_lt 1 (length rows)) as (λ _. length rows ≤ 1) [
+        | inl more ↦
+            let f : TripOf → List ℕ = λ row. row.riders.items in
+            let whole : length (trips_of rows) ≡ length rows = length-map rows f in
+            let d : TripOf = record { riders = record { items = [] }; cost = 0 } in
+            let first : length (get_or (trips_of rows) 0 []) ≡ 0 = rw (get_or-map f rows 0 d [] (omega arith)) (own.sized 0 d (omega arith)) in
+            let second : length (get_or (trips_of rows) 1 []) ≡ 0 = rw (get_or-map f rows 1 d [] (omega arith)) (own.sized 1 d more) in
+            absurd (none_before (get_or (trips_of rows) 0 []) (get_or (trips_of rows) 1 []) first second (own.rising 0 1 (omega arith) (omega arith)))
+        | inr ge ↦ omega arith
+      ]
+
+  pub some_rows : (v size : ℕ) (rows : List TripOf) → AreRowsOfSize tau settled v size rows → AreSomeRows tau settled v size rows
+  some_rows v size rows own = record { right = own.right; sized = own.sized; rising = own.rising }
+
+  pub level_none : (size : ℕ) → IsLevelUpTo tau settled size 0 []
+  level_none size = record { total = refl; each = λ v lt. absurd (omega arith) }
+
+  pub level_more : (size n : ℕ) (lists : List (List TripOf)) (rows : List TripOf) → IsLevelUpTo tau settled size n lists → AreRowsOfSize tau settled n size rows
+      → IsLevelUpTo tau settled size (n + 1) (lists ++ rows ∷ [])
+  level_more size n lists rows level own =
+      record {
+        total = (let a = length-append lists (rows ∷ []) in let b = level.total in omega arith);
+        each = λ v lt. elim (cases_lt v n) as (λ _. AreRowsOfSize tau settled v size (get_or (lists ++ rows ∷ []) v [])) [
+          | inl less ↦ rw (get_or_append_left lists (rows ∷ []) [] v (let b = level.total in omega arith)) (level.each v less)
+          | inr ge ↦
+              let e : n ≡ v = omega arith in
+              subst (λ (w : ℕ). AreRowsOfSize tau settled w size (get_or (lists ++ rows ∷ []) w [])) e (rw (get_or_push lists rows [] n level.total) own)
+        ];
+      }
+
+  -- some rows of one vehicle more, which together with those before are more than the room
+  pub more_than_room : (size room n : ℕ) (lists : List (List TripOf)) (rows : List TripOf) → IsLevelUpTo tau settled size n lists → AreSomeRows tau settled n size rows
+      → n < length settled.vehicles → room < row_total lists + length rows → HasMoreOfSize tau settled size room
+  more_than_room size room n lists rows level own lt more =
+      record {
+        lists = lists ++ rows ∷ [];
+        few = (let a = length-append lists (rows ∷ []) in let b = level.total in omega arith);
+        each = λ v less. elim (cases_lt v n) as (λ _. AreSomeRows tau settled v size (get_or (lists ++ rows ∷ []) v [])) [
+          | inl lower ↦ rw (get_or_append_left lists (rows ∷ []) [] v (let b = level.total in omega arith)) (some_rows v size (get_or lists v []) (level.each v lower))
+          | inr ge ↦
+              let e : n ≡ v = (let a = length-append lists (rows ∷ []) in let b = level.total in omega arith) in
+              subst (λ (w : ℕ). AreSomeRows tau settled w size (get_or (lists ++ rows ∷ []) w [])) e (rw (get_or_push lists rows [] n level.total) own)
+        ];
+        more = rw (total_more lists rows) more;
+      }
+
+  -- the vehicle alone has more rows than there is room left
+  pub more_than_left : (size room left n : ℕ) (lists : List (List TripOf)) → IsLevelUpTo tau settled size n lists
+      → HasMoreThan (CanServe tau settled n) (CostsLeast tau settled n) size left → n < length settled.vehicles → room ≤ row_total lists + left → HasMoreOfSize tau settled size room
+  more_than_left size room left n lists level more lt enough =
+      more_than_room size room n lists more.rows level (record { right = more.right; sized = more.sized; rising = more.rising }) lt (let m = more.more in omega arith)
+
+  pub levels_one : (lists : List (List TripOf)) → IsLevelUpTo tau settled 0 (length settled.vehicles) lists → AreLevels tau settled 1 (lists ∷ [])
+  levels_one lists level =
+      record {
+        count = refl;
+        each = λ k lt. let e : 0 ≡ k = omega arith in subst (λ (j : ℕ). IsLevelUpTo tau settled j (length settled.vehicles) (get_or (lists ∷ []) j [])) e level;
+      }
+
+  pub levels_more : (sizes : ℕ) (levels : List (List (List TripOf))) (lists : List (List TripOf)) → AreLevels tau settled sizes levels → IsLevelUpTo tau settled sizes (length settled.vehicles) lists
+      → AreLevels tau settled (sizes + 1) (levels ++ lists ∷ [])
+  levels_more sizes levels lists all level =
+      record {
+        count = (let a = length-append levels (lists ∷ []) in let b = all.count in omega arith);
+        each = λ k lt. elim (cases_lt k sizes) as (λ _. IsLevelUpTo tau settled k (length settled.vehicles) (get_or (levels ++ lists ∷ []) k [])) [
+          | inl less ↦ rw (get_or_append_left levels (lists ∷ []) [] k (let b = all.count in omega arith)) (all.each k less)
+          | inr ge ↦
+              let e : sizes ≡ k = omega arith in
+              subst (λ (j : ℕ). IsLevelUpTo tau settled j (length settled.vehicles) (get_or (levels ++ lists ∷ []) j [])) e (rw (get_or_push levels lists [] sizes all.count) level)
+        ];
+      }
+
+  pub more_of_first : (most room : ℕ) (lists : List (List TripOf)) → IsLevelUpTo tau settled 0 (length settled.vehicles) lists → room < row_total lists → HasMoreRows tau settled most room
+  more_of_first most room lists level more =
+      record {
+        levels = lists ∷ [];
+        sizes = omega arith;
+        few = λ k lt. let e : 0 ≡ k = omega arith in subst (λ (j : ℕ). length (get_or (lists ∷ []) j []) ≤ length settled.vehicles) e (let t = level.total in omega arith);
+        each = λ k v lt less. let e : 0 ≡ k = omega arith in
+            subst (λ (j : ℕ). v < length (get_or (lists ∷ []) j []) → AreSomeRows tau settled v j (get_or (get_or (lists ∷ []) j []) v [])) e
+            (λ h. some_rows v 0 (get_or lists v []) (level.each v (let t = level.total in omega arith))) less;
+        more = omega arith;
+      }
+
+  pub more_of_next : (most room left sizes : ℕ) (levels : List (List (List TripOf))) → AreLevels tau settled sizes levels → HasMoreOfSize tau settled sizes left → sizes ≤ most
+      → room ≤ level_total levels + left → HasMoreRows tau settled most room
+  more_of_next most room left sizes levels all more below enough =
+      let n = length settled.vehicles in
+      record {
+        levels = levels ++ more.lists ∷ [];
+        sizes = (let a = length-append levels (more.lists ∷ []) in let b = all.count in omega arith);
+        few = λ k lt. elim (cases_lt k sizes) as (λ _. length (get_or (levels ++ more.lists ∷ []) k []) ≤ n) [
+          | inl less ↦ rw (get_or_append_left levels (more.lists ∷ []) [] k (let b = all.count in omega arith)) (let t = (all.each k less).total in omega arith)
+          | inr ge ↦
+              let e : sizes ≡ k = (let a = length-append levels (more.lists ∷ []) in let b = all.count in omega arith) in
+              subst (λ (j : ℕ). length (get_or (levels ++ more.lists ∷ []) j []) ≤ n) e (rw (get_or_push levels more.lists [] sizes all.count) more.few)
+        ];
+        each = λ k v lt. elim (cases_lt k sizes) as (λ _. v < length (get_or (levels ++ more.lists ∷ []) k []) → AreSomeRows tau settled v k (get_or (get_or (levels ++ more.lists ∷ []) k []) v [])) [
+          | inl less ↦ rw (get_or_append_left levels (more.lists ∷ []) [] k (let b = all.count in omega arith))
+              (λ h. some_rows v k (get_or (get_or levels k []) v []) ((all.each k less).each v (let t = (all.each k less).total in omega arith)))
+          | inr ge ↦
+              let e : sizes ≡ k = (let a = length-append levels (more.lists ∷ []) in let b = all.count in omega arith) in
+              subst (λ (j : ℕ). v < length (get_or (levels ++ more.lists ∷ []) j []) → AreSomeRows tau settled v j (get_or (get_or (levels ++ more.lists ∷ []) j []) v [])) e
+              (rw (get_or_push levels more.lists [] sizes all.count) (more.each v))
+        ];
+        more = rw (total_level levels more.lists) (let m = more.more in omega arith);
+      }

@@ -1,0 +1,15 @@
+use Rattle.std.proofs.Common.{◌≡◌, ◌+◌, ◌-◌, ◌≤◌, length}
+use Rattle.pool_base.specs.Times.{travel_time}
+use Rattle.trip_graph.specs.Levels.{IsLevelUpTo, row_total}
+use Rattle.trip_graph.proofs.levels.next_level.Given as goal
+
+abbrev pub invariant-runs : goal.invariant-runs
+invariant-runs l = record {
+  level : IsLevelUpTo (travel_time l.times) l.settled (l.size + 1) (length l.lists.items) l.lists.items;
+  counted : l.total ≡ row_total l.lists.items;
+  fits : l.total ≤ l.room;
+  within : length l.lists.items ≤ length l.below;
+}
+
+abbrev pub decreases-runs : goal.decreases-runs
+decreases-runs l = length l.below - length l.lists.items

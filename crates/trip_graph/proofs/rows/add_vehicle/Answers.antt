@@ -1,0 +1,27 @@
+use Rattle.std.proofs.Common.{◌≡◌, ℕ, ◌+◌, ◌<◌, List, [], ◌∷◌, ◌++◌, length, get_or, map, take, sym, ap, ◌∙◌, subst}
+use Rattle.std.proofs.lemmas.List.{take_more, get_or_default, flat_map_more}
+use Rattle.trip_growth.specs.declared.trip_of.TripOf.{TripOf}
+use Rattle.plan_rules.specs.declared.row.TripRow.{TripRow}
+use Rattle.trip_graph.specs.Rows.{trip_row, vehicle_rows}
+use Rattle.trip_graph.proofs.rows.add_vehicle.Goals as goal
+
+rows_more : (levels : List (List (List TripOf))) (i v : ℕ) (lists : List (List TripOf)) (trips : List TripOf) (before rows : List TripRow)
+    → i < length levels → v < length lists → lists ≡ get_or levels i lists → trips ≡ get_or lists v trips
+    → rows ≡ before ++ vehicle_rows (take i levels) v → rows ++ map (trip_row v) trips ≡ before ++ vehicle_rows (take (i + 1) levels) v
+rows_more levels i v lists trips before rows lt less at own so_far =
+    let f : List (List TripOf) → List TripRow = λ ls. map (trip_row v) (get_or ls v []) in
+    let read : trips ≡ get_or lists v [] = own ∙ get_or_default lists v trips [] less in
+    let more : take (i + 1) levels ≡ take i levels ++ lists ∷ [] = take_more levels i lists lt ∙ ap (λ (l : List (List TripOf)). take i levels ++ l ∷ []) (sym at) in
+    rw (so_far, more) (ap (λ (t : List TripOf). (before ++ vehicle_rows (take i levels) v) ++ map (trip_row v) t) read ∙ flat_map_more f before (take i levels) lists)
+
+pub loop-level-preserved : goal.loop-level-preserved
+loop-level-preserved c =
+    let levels = c.args.levels.now in
+    let i = c.loop-level.level-index in
+    let lists = c.level-item.result in
+    let trips = c.index-as_slice-vehicle.result in
+    let within : c.args.vehicle < length lists =
+    subst (λ (l : List (List TripOf)). c.args.vehicle < length l) (get_or_default levels i [] lists c.loop-level-test.true ∙ sym c.level-item.is) (c.requires i c.loop-level-test.true) in
+    let own : trips ≡ get_or lists c.args.vehicle trips = c.index-as_slice-vehicle.is ∙ ap (λ (l : List (List TripOf)). get_or l c.args.vehicle trips) c.as_slice.ensures in
+    c.in_ok-add_trips.ensures ∙ ap (λ (t : List TripOf). c.loop-level.rows.items ++ map (trip_row c.args.vehicle) t) c.rows.ensures
+    ∙ rows_more levels i c.args.vehicle lists trips c.args.rows.now.items c.loop-level.rows.items c.loop-level-test.true within c.level-item.is own c.loop-level.invariant

@@ -1,0 +1,70 @@
+ghost use Rattle.std.specs.Prelude.{◌≡◌, ◌+◌, ◌<◌, ◌≤◌, IfOk, length};
+ghost use Rattle.pool_base.specs.Times.{point_count, travel_time};
+ghost use Rattle.stop_orders.specs.Settled.{IsSound};
+ghost use Rattle.trip_graph.specs.Levels.{AreLevels, level_total};
+ghost use Rattle.trip_graph.specs.Answer.{IsAnswer, IsTripGraphOf, AreRowsOf, HoldRows};
+
+use crate::all_levels::all_levels;
+use crate::answer::GraphAnswer;
+use crate::rows::{add_vehicle, held_row};
+use pair_graph::{rider_rider, rider_vehicle};
+use plan_rules::{TripGraph, TripRow};
+use pool_base::{OutOfMemory, Sequence, Times};
+use rider_limits::Settings;
+use std::alloc::Global;
+use stop_orders::Settled;
+use trip_growth::VehicleTrips;
+
+/// The three graphs of a batch: which vehicle can serve which rider, which two riders could share an empty
+/// vehicle, and which vehicle can serve which trips of at most `settings.trip` riders, at which least
+/// delays; `Overflow` exactly where there are more rows than `settings.pairs`.
+pub fn grow_graph(
+    alloc: Global,
+    settled: &Settled,
+    times: &Times,
+    settings: &Settings,
+) -> Result<GraphAnswer, OutOfMemory>
+    requires { IsSound settings.now.trip (point_count times.now) (travel_time times.now) settled.now }
+    ensures { IfOk result (IsAnswer settings.entry.now (travel_time times.entry.now) settled.entry.now) }
+{
+    let rr = rider_rider(alloc, settled, times)?;
+    let room = u64::from(settings.pairs);
+    let Some(levels) = all_levels(alloc, settled, times, &rr, settings.trip, room)? else {
+        return Ok(GraphAnswer::Overflow);
+    };
+    let rv = rider_vehicle(alloc, settled, times)?;
+    let graph = graph_of(alloc, settled, times, settings, &levels)?;
+    Ok(GraphAnswer::Graph {
+        graph,
+        rv: Sequence::of(rv),
+        rr,
+    })
+}
+
+/// The graph of these levels, with the row that each vehicle holds.
+fn graph_of(
+    alloc: Global,
+    settled: &Settled,
+    times: &Times,
+    settings: &Settings,
+    levels: &[Sequence<VehicleTrips>],
+) -> Result<TripGraph, OutOfMemory>
+    requires sound { IsSound settings.now.trip (point_count times.now) (travel_time times.now) settled.now }
+    requires levels { AreLevels (travel_time times.now) settled.now (settings.now.trip + 1) levels.now }
+    requires few { level_total levels.now ≤ settings.now.pairs }
+    ensures { IfOk result (IsTripGraphOf settings.entry.now (travel_time times.entry.now) settled.entry.now) }
+{
+    let vehicles = settled.vehicles.as_slice();
+    let mut rows = Vec::new(alloc);
+    let mut held = Vec::with_capacity(alloc, vehicles.len())?;
+    for vehicle in 0..vehicles.len() {
+        let from = rows.len();
+        add_vehicle(levels, vehicle, &mut rows)?;
+        held.push(held_row(&rows, from, &vehicles[vehicle]))?;
+    }
+    let riders = settled.riders.as_slice().len();
+    match TripGraph::new(alloc, vehicles.len(), riders, settings.penalty, rows, held) {
+        Ok(graph) => Ok(graph),
+        Err(_) => Err(OutOfMemory),
+    }
+}

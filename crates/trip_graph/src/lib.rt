@@ -1,0 +1,16 @@
+//! The trip graph of a batch: which vehicle can serve which trips, at which least delays.
+//!
+//! It is grown size by size over all vehicles, and it is exact: the edges between vehicles and riders, the
+//! edges between riders, and the rows, none missing and none twice; or there are more rows than allowed.
+#![tactic(auto)]
+
+mod all_levels;
+mod answer;
+mod graph_growth;
+mod level_rows;
+mod levels;
+mod pieces;
+mod rows;
+
+pub use answer::GraphAnswer;
+pub use graph_growth::grow_graph;
