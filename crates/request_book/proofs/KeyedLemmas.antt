@@ -1,7 +1,8 @@
 -- What the words on lists with keys come to.
-use Rattle.std.proofs.Common.{◌≡◌, ◌≢◌, ℕ, zero, suc, ◌+◌, ◌<◌, ◌≤◌, Bool, true, false, cond, eqb, ltb, not, List, [], ◌∷◌, ◌++◌, length, get_or, set, map, take, drop, Option, None, Some, refl, sym, ap, subst, ◌∙◌, inl, inr, arith}
-use Rattle.std.specs.Prelude.{find, filter, option_map, option_and_then, position, is_some, ◌||◌, count_by}
+use Rattle.std.proofs.Common.{◌≡◌, ℕ, zero, suc, ◌+◌, ◌<◌, ◌≤◌, Bool, cond, eqb, ltb, List, [], ◌∷◌, ◌++◌, length, get_or, set, map, take, Option, None, Some, refl, sym, ap, subst, ◌∙◌, inl, inr, arith}
+use Rattle.std.specs.Prelude.{option_map, option_and_then, position, is_some, ◌||◌, count_by}
 use Rattle.std.specs.List.{filter_map, cons_option, list_any, All, insert, remove}
+use Rattle.std.specs.List.Sorted.{IsStrictlyIncreasing}
 use Rattle.std.proofs.lemmas.List.{length-map}
 use Rattle.std.proofs.lemmas.List.Quantifiers.{position-Some}
 use Rattle.std.proofs.lemmas.List.Sums.{sum_by-cons}
@@ -27,8 +28,8 @@ module _ {X : Type 0} (key : X → ℕ) where
   look_up-key k [] x e = let n = look_up-nil k in absurd cc
   look_up-key k (y ∷ ys) x e =
       elim (cases_eq (key y) k) [
-        inl same ↦ let here = look_up-here k y ys same in let is : y ≡ x = cc in (sym (ap key is) ∙ same)
-      | inr ne ↦ look_up-key k ys x (sym (look_up-there k y ys ne) ∙ e)
+        | inl same ↦ let here = look_up-here k y ys same in let is : y ≡ x = cc in (sym (ap key is) ∙ same)
+        | inr ne ↦ look_up-key k ys x (sym (look_up-there k y ys ne) ∙ e)
       ]
 
   pub AllAbove-lower : (j k : ℕ) (xs : List X) → j ≤ k → AllAbove key k xs → AllAbove key j xs
@@ -65,30 +66,30 @@ module _ {X : Type 0} (key : X → ℕ) where
       let here = look_up-here (key x) x xs refl in
       let there = look_up-here (key y) y ys refl in
       elim (cases_order (key x) (key y)) [
-        inl e ↦
-          let at = look_up-here (key x) y ys (sym e) in
-          let both = same (key x) in
-          let head : x ≡ y = cc in
-          let rest : (k : ℕ) → look_up key k xs ≡ look_up key k ys =
-              λ k. elim (cases_eq (key x) k) [
-                inl is ↦
+        | inl e ↦
+            let at = look_up-here (key x) y ys (sym e) in
+            let both = same (key x) in
+            let head : x ≡ y = cc in
+            let rest : (k : ℕ) → look_up key k xs ≡ look_up key k ys =
+            λ k. elim (cases_eq (key x) k) [
+              | inl is ↦
                   look_up-below k (key x) xs (omega arith) up.0 ∙ sym (look_up-below k (key y) ys (omega arith) vp.0)
               | inr ne ↦
                   sym (look_up-there k x xs ne) ∙ same k ∙ look_up-there k y ys (λ f. ne (e ∙ f))
-              ] in
-          let tail = same_from_look_up xs ys up.1 vp.1 rest in
-          cc
-      | inr o ↦
-          elim o [
-            inl lt ↦
-              let none = look_up-below (key x) (key x) (y ∷ ys) (omega arith) (lt, AllAbove-lower (key x) (key y) ys (omega arith) vp.0) in
-              let both = same (key x) in
-              absurd cc
-          | inr gt ↦
-              let none = look_up-below (key y) (key y) (x ∷ xs) (omega arith) (gt, AllAbove-lower (key y) (key x) xs (omega arith) up.0) in
-              let both = same (key y) in
-              absurd cc
-          ]
+            ] in
+            let tail = same_from_look_up xs ys up.1 vp.1 rest in
+            cc
+        | inr o ↦
+            elim o [
+              | inl lt ↦
+                  let none = look_up-below (key x) (key x) (y ∷ ys) (omega arith) (lt, AllAbove-lower (key x) (key y) ys (omega arith) vp.0) in
+                  let both = same (key x) in
+                  absurd cc
+              | inr gt ↦
+                  let none = look_up-below (key y) (key y) (x ∷ xs) (omega arith) (gt, AllAbove-lower (key y) (key x) xs (omega arith) up.0) in
+                  let both = same (key y) in
+                  absurd cc
+            ]
       ]
 
   placed-first : (x y : X) (ys : List X) → key x < key y → placed key x (y ∷ ys) ≡ x ∷ y ∷ ys
@@ -107,26 +108,26 @@ module _ {X : Type 0} (key : X → ℕ) where
   look_up-placed_here k x [] e none = rw placed-nil (look_up-here k x [] e)
   look_up-placed_here k x (y ∷ ys) e none =
       elim (cases_lt (key x) (key y)) [
-        inl lt ↦ rw (placed-first x y ys lt) (look_up-here k x (y ∷ ys) e)
-      | inr le ↦
-          elim (cases_eq (key y) k) [
-            inl same ↦ let found = look_up-here k y ys same in absurd cc
-          | inr ne ↦
-              rw (placed-later x y ys le) (look_up-there k y (placed key x ys) ne ∙ look_up-placed_here k x ys e (sym (look_up-there k y ys ne) ∙ none))
-          ]
+        | inl lt ↦ rw (placed-first x y ys lt) (look_up-here k x (y ∷ ys) e)
+        | inr le ↦
+            elim (cases_eq (key y) k) [
+              | inl same ↦ let found = look_up-here k y ys same in absurd cc
+              | inr ne ↦
+                  rw (placed-later x y ys le) (look_up-there k y (placed key x ys) ne ∙ look_up-placed_here k x ys e (sym (look_up-there k y ys ne) ∙ none))
+            ]
       ]
 
   pub look_up-placed_there : (k : ℕ) (x : X) (xs : List X) → (key x ≡ k → ⊥) → look_up key k (placed key x xs) ≡ look_up key k xs
   look_up-placed_there k x [] ne = rw placed-nil (look_up-there k x [] ne)
   look_up-placed_there k x (y ∷ ys) ne =
       elim (cases_lt (key x) (key y)) [
-        inl lt ↦ rw (placed-first x y ys lt) (look_up-there k x (y ∷ ys) ne)
-      | inr le ↦
-          elim (cases_eq (key y) k) [
-            inl same ↦ rw (placed-later x y ys le) (look_up-here k y (placed key x ys) same ∙ sym (look_up-here k y ys same))
-          | inr other ↦
-              rw (placed-later x y ys le) (look_up-there k y (placed key x ys) other ∙ look_up-placed_there k x ys ne ∙ sym (look_up-there k y ys other))
-          ]
+        | inl lt ↦ rw (placed-first x y ys lt) (look_up-there k x (y ∷ ys) ne)
+        | inr le ↦
+            elim (cases_eq (key y) k) [
+              | inl same ↦ rw (placed-later x y ys le) (look_up-here k y (placed key x ys) same ∙ sym (look_up-here k y ys same))
+              | inr other ↦
+                  rw (placed-later x y ys le) (look_up-there k y (placed key x ys) other ∙ look_up-placed_there k x ys ne ∙ sym (look_up-there k y ys other))
+            ]
       ]
 
   AllAbove-placed : (k : ℕ) (x : X) (xs : List X) → k < key x → AllAbove key k xs → AllAbove key k (placed key x xs)
@@ -134,8 +135,8 @@ module _ {X : Type 0} (key : X → ℕ) where
   AllAbove-placed k x [] lt all = rw placed-nil (lt, tt)
   AllAbove-placed k x (y ∷ ys) lt all =
       elim (cases_lt (key x) (key y)) [
-        inl first ↦ rw (placed-first x y ys first) (lt, all)
-      | inr later ↦ rw (placed-later x y ys later) (all.0, AllAbove-placed k x ys lt all.1)
+        | inl first ↦ rw (placed-first x y ys first) (lt, all)
+        | inr later ↦ rw (placed-later x y ys later) (all.0, AllAbove-placed k x ys lt all.1)
       ]
 
   pub KeysRise-placed : (x : X) (xs : List X) → KeysRise key xs → look_up key (key x) xs ≡ None → KeysRise key (placed key x xs)
@@ -143,15 +144,15 @@ module _ {X : Type 0} (key : X → ℕ) where
   KeysRise-placed x [] up none = rw placed-nil (tt, tt)
   KeysRise-placed x (y ∷ ys) up none =
       elim (cases_order (key x) (key y)) [
-        inl same ↦ let found = look_up-here (key x) y ys (sym same) in absurd cc
-      | inr o ↦
-          elim o [
-            inl lt ↦ rw (placed-first x y ys lt) ((lt, AllAbove-lower (key x) (key y) ys (omega arith) up.0), up)
-          | inr gt ↦
-              let other : key y ≡ key x → ⊥ = λ e. omega arith in
-              let later : key y ≤ key x = omega arith in
-              rw (placed-later x y ys later) (AllAbove-placed (key y) x ys gt up.0, KeysRise-placed x ys up.1 (sym (look_up-there (key x) y ys other) ∙ none))
-          ]
+        | inl same ↦ let found = look_up-here (key x) y ys (sym same) in absurd cc
+        | inr o ↦
+            elim o [
+              | inl lt ↦ rw (placed-first x y ys lt) ((lt, AllAbove-lower (key x) (key y) ys (omega arith) up.0), up)
+              | inr gt ↦
+                  let other : key y ≡ key x → ⊥ = λ e. omega arith in
+                  let later : key y ≤ key x = omega arith in
+                  rw (placed-later x y ys later) (AllAbove-placed (key y) x ys gt up.0, KeysRise-placed x ys up.1 (sym (look_up-there (key x) y ys other) ∙ none))
+            ]
       ]
 
   -- ys is xs by rising key: it rises, and the same is found in it
@@ -168,17 +169,17 @@ module _ {X : Type 0} (key : X → ℕ) where
       record {
         rise = KeysRise-placed x (by_key key xs) rest.rise none;
         found = λ k. elim (cases_eq (key x) k) [
-            inl e ↦ look_up-placed_here k x (by_key key xs) e (subst (λ j. look_up key j (by_key key xs) ≡ None) e none) ∙ sym (look_up-here k x xs e)
+          | inl e ↦ look_up-placed_here k x (by_key key xs) e (subst (λ j. look_up key j (by_key key xs) ≡ None) e none) ∙ sym (look_up-here k x xs e)
           | inr ne ↦ look_up-placed_there k x (by_key key xs) ne ∙ rest.found k ∙ sym (look_up-there k x xs ne)
-          ];
+        ];
       }
 
   length-placed : (x : X) (xs : List X) → length (placed key x xs) ≡ length xs + 1
   length-placed x [] = rw placed-nil (omega arith)
   length-placed x (y ∷ ys) =
       elim (cases_lt (key x) (key y)) [
-        inl lt ↦ rw (placed-first x y ys lt) (omega arith)
-      | inr le ↦ rw (placed-later x y ys le) (omega (arith, length-placed x ys))
+        | inl lt ↦ rw (placed-first x y ys lt) (omega arith)
+        | inr le ↦ rw (placed-later x y ys le) (omega (arith, length-placed x ys))
       ]
 
   pub length-by_key : (xs : List X) → length (by_key key xs) ≡ length xs
@@ -191,24 +192,24 @@ module _ {X : Type 0} (key : X → ℕ) where
   look_up-push_here k x [] e none = look_up-here k x [] e
   look_up-push_here k x (y ∷ ys) e none =
       elim (cases_eq (key y) k) [
-        inl same ↦ let found = look_up-here k y ys same in absurd cc
-      | inr ne ↦ look_up-there k y (ys ++ x ∷ []) ne ∙ look_up-push_here k x ys e (sym (look_up-there k y ys ne) ∙ none)
+        | inl same ↦ let found = look_up-here k y ys same in absurd cc
+        | inr ne ↦ look_up-there k y (ys ++ x ∷ []) ne ∙ look_up-push_here k x ys e (sym (look_up-there k y ys ne) ∙ none)
       ]
 
   pub look_up-push_there : (k : ℕ) (x : X) (xs : List X) → (key x ≡ k → ⊥) → look_up key k (xs ++ x ∷ []) ≡ look_up key k xs
   look_up-push_there k x [] ne = look_up-there k x [] ne
   look_up-push_there k x (y ∷ ys) ne =
       elim (cases_eq (key y) k) [
-        inl same ↦ look_up-here k y (ys ++ x ∷ []) same ∙ sym (look_up-here k y ys same)
-      | inr other ↦ look_up-there k y (ys ++ x ∷ []) other ∙ look_up-push_there k x ys ne ∙ sym (look_up-there k y ys other)
+        | inl same ↦ look_up-here k y (ys ++ x ∷ []) same ∙ sym (look_up-here k y ys same)
+        | inr other ↦ look_up-there k y (ys ++ x ∷ []) other ∙ look_up-push_there k x ys ne ∙ sym (look_up-there k y ys other)
       ]
 
   pub look_up-push_found : (k : ℕ) (x y : X) (xs : List X) → look_up key k xs ≡ Some y → look_up key k (xs ++ x ∷ []) ≡ Some y
   look_up-push_found k x y [] found = let none = look_up-nil k in absurd cc
   look_up-push_found k x y (z ∷ zs) found =
       elim (cases_eq (key z) k) [
-        inl same ↦ look_up-here k z (zs ++ x ∷ []) same ∙ sym (look_up-here k z zs same) ∙ found
-      | inr other ↦ look_up-there k z (zs ++ x ∷ []) other ∙ look_up-push_found k x y zs (sym (look_up-there k z zs other) ∙ found)
+        | inl same ↦ look_up-here k z (zs ++ x ∷ []) same ∙ sym (look_up-here k z zs same) ∙ found
+        | inr other ↦ look_up-there k z (zs ++ x ∷ []) other ∙ look_up-push_found k x y zs (sym (look_up-there k z zs other) ∙ found)
       ]
 
   pub KeysDiffer-push : (x : X) (xs : List X) → KeysDiffer key xs → look_up key (key x) xs ≡ None → KeysDiffer key (xs ++ x ∷ [])
@@ -223,8 +224,8 @@ module _ {X : Type 0} (key : X → ℕ) where
   look_up-map f keeps k [] = rw (look_up-nil k) refl
   look_up-map f keeps k (x ∷ xs) =
       elim (cases_eq (key x) k) [
-        inl e ↦ look_up-here k (f x) (map f xs) (keeps x ∙ e) ∙ ap (option_map f) (sym (look_up-here k x xs e))
-      | inr ne ↦ look_up-there k (f x) (map f xs) (λ e. ne (sym (keeps x) ∙ e)) ∙ look_up-map f keeps k xs ∙ ap (option_map f) (sym (look_up-there k x xs ne))
+        | inl e ↦ look_up-here k (f x) (map f xs) (keeps x ∙ e) ∙ ap (option_map f) (sym (look_up-here k x xs e))
+        | inr ne ↦ look_up-there k (f x) (map f xs) (λ e. ne (sym (keeps x) ∙ e)) ∙ look_up-map f keeps k xs ∙ ap (option_map f) (sym (look_up-there k x xs ne))
       ]
 
   pub KeysDiffer-map : (f : X → X) (keeps : (x : X) → key (f x) ≡ key x) (xs : List X) → KeysDiffer key xs → KeysDiffer key (map f xs)
@@ -249,8 +250,8 @@ module _ {X : Type 0} (key : X → ℕ) where
   look_up-without_here k [] = look_up-nil k
   look_up-without_here k (x ∷ xs) =
       elim (cases_eq (key x) k) [
-        inl e ↦ rw (eq-eqb (key x) k e) (look_up-without_here k xs)
-      | inr ne ↦ rw (ne_eqb (key x) k ne) (look_up-there k x (without key k xs) ne ∙ look_up-without_here k xs)
+        | inl e ↦ rw (eq-eqb (key x) k e) (look_up-without_here k xs)
+        | inr ne ↦ rw (ne_eqb (key x) k ne) (look_up-there k x (without key k xs) ne ∙ look_up-without_here k xs)
       ]
 
   pub look_up-without_there : (k j : ℕ) (xs : List X) → (k ≡ j → ⊥) → look_up key j (without key k xs) ≡ look_up key j xs
@@ -258,12 +259,12 @@ module _ {X : Type 0} (key : X → ℕ) where
   look_up-without_there k j [] ne = refl
   look_up-without_there k j (x ∷ xs) ne =
       elim (cases_eq (key x) k) [
-        inl e ↦ rw (eq-eqb (key x) k e) (look_up-without_there k j xs ne ∙ sym (look_up-there j x xs (λ f. ne (sym e ∙ f))))
-      | inr other ↦
-          rw (ne_eqb (key x) k other) (elim (cases_eq (key x) j) [
-            inl same ↦ look_up-here j x (without key k xs) same ∙ sym (look_up-here j x xs same)
-          | inr off ↦ look_up-there j x (without key k xs) off ∙ look_up-without_there k j xs ne ∙ sym (look_up-there j x xs off)
-          ])
+        | inl e ↦ rw (eq-eqb (key x) k e) (look_up-without_there k j xs ne ∙ sym (look_up-there j x xs (λ f. ne (sym e ∙ f))))
+        | inr other ↦
+            rw (ne_eqb (key x) k other) (elim (cases_eq (key x) j) [
+              | inl same ↦ look_up-here j x (without key k xs) same ∙ sym (look_up-here j x xs same)
+              | inr off ↦ look_up-there j x (without key k xs) off ∙ look_up-without_there k j xs ne ∙ sym (look_up-there j x xs off)
+            ])
       ]
 
   -- whether something is found, as a test of the keys
@@ -271,9 +272,9 @@ module _ {X : Type 0} (key : X → ℕ) where
   look_up-list_any k t tests [] = rw (look_up-nil k) refl
   look_up-list_any k t tests (x ∷ xs) =
       elim (cases_eq (key x) k) [
-        inl e ↦ rw (look_up-here k x xs e) (ap (λ b. b || list_any t (map key xs)) (tests (key x) ∙ eq-eqb (key x) k e))
-      | inr ne ↦
-          rw (look_up-there k x xs ne) (ap (λ b. b || list_any t (map key xs)) (tests (key x) ∙ ne_eqb (key x) k ne) ∙ look_up-list_any k t tests xs)
+        | inl e ↦ rw (look_up-here k x xs e) (ap (λ b. b || list_any t (map key xs)) (tests (key x) ∙ eq-eqb (key x) k e))
+        | inr ne ↦
+            rw (look_up-there k x xs ne) (ap (λ b. b || list_any t (map key xs)) (tests (key x) ∙ ne_eqb (key x) k ne) ∙ look_up-list_any k t tests xs)
       ]
 
   -- the element at a place is found by its key
@@ -286,6 +287,15 @@ module _ {X : Type 0} (key : X → ℕ) where
       let none = differ.0 in
       look_up-there (key (get_or xs i d)) x xs (λ e. let found = subst (λ k. look_up key k xs ≡ None) e none in absurd cc) ∙ at
 
+  -- before its own place an element isn't found
+  pub look_up-take : (i : ℕ) (xs : List X) (d : X) → KeysDiffer key xs → i < length xs → look_up key (key (get_or xs i d)) (take i xs) ≡ None
+  unfolding KeysDiffer
+  look_up-take i [] d differ in' = absurd (omega arith)
+  look_up-take zero (x ∷ xs) d differ in' = look_up-nil (key x)
+  look_up-take (suc i) (x ∷ xs) d differ in' =
+      let at = look_up-at i xs d differ.1 (omega arith) in
+      look_up-there (key (get_or xs i d)) x (take i xs) (λ e. let found = subst (λ k. look_up key k xs ≡ None) e differ.0 in absurd cc) ∙ look_up-take i xs d differ.1 (omega arith)
+
   key-get_or : (i : ℕ) (xs : List X) (d : X) → i < length xs → get_or (map key xs) i (key d) ≡ key (get_or xs i d)
   key-get_or i [] d in' = absurd (omega arith)
   key-get_or zero (x ∷ xs) d in' = refl
@@ -296,8 +306,8 @@ module _ {X : Type 0} (key : X → ℕ) where
   look_up-position k t tests xs i differ at =
       let within : i < length xs = omega (arith, length-map xs key, (position-Some t (map key xs) i 0 at).0) in
       let named : (d : X) → key (get_or xs i d) ≡ k =
-          λ d. let passes = (position-Some t (map key xs) i (key d) at).1 in
-            sym (key-get_or i xs d within) ∙ eqb-true _ k (sym (tests _) ∙ passes) in
+      λ d. let passes = (position-Some t (map key xs) i (key d) at).1 in
+      sym (key-get_or i xs d within) ∙ eqb-true _ k (sym (tests _) ∙ passes) in
       (within, λ d. subst (λ j. look_up key j xs ≡ Some (get_or xs i d)) (named d) (look_up-at i xs d differ within), named)
 
   changed_at-here : (k : ℕ) (f : X → X) (x : X) (xs : List X) → key x ≡ k → changed_at key k f (x ∷ xs) ≡ f x ∷ changed_at key k f xs
@@ -314,8 +324,8 @@ module _ {X : Type 0} (key : X → ℕ) where
   changed_at-absent k f [] none = refl
   changed_at-absent k f (x ∷ xs) none =
       elim (cases_eq (key x) k) [
-        inl e ↦ let found = look_up-here k x xs e in absurd cc
-      | inr ne ↦ rw (ne_eqb (key x) k ne) (ap (λ ys. x ∷ ys) (changed_at-absent k f xs (sym (look_up-there k x xs ne) ∙ none)))
+        | inl e ↦ let found = look_up-here k x xs e in absurd cc
+        | inr ne ↦ rw (ne_eqb (key x) k ne) (ap (λ ys. x ∷ ys) (changed_at-absent k f xs (sym (look_up-there k x xs ne) ∙ none)))
       ]
 
   -- a write at a place changes the element of that key
@@ -330,7 +340,7 @@ module _ {X : Type 0} (key : X → ℕ) where
       let other : key x ≡ k → ⊥ = λ s. let none = subst (λ j. look_up key j xs ≡ None) (s ∙ sym e) differ.0 in absurd cc in
       rw (ne_eqb (key x) k other) (ap (λ ys. x ∷ ys) (set-changed_at f k i xs d differ.1 (omega arith) e))
 
-  change : (k : ℕ) → (X → X) → X → X
+  pub change : (k : ℕ) → (X → X) → X → X
   change k f x = cond (eqb (key x) k) (f x) x
 
   change-keeps : (k : ℕ) (f : X → X) → ((x : X) → key (f x) ≡ key x) → (x : X) → key (change k f x) ≡ key x
@@ -379,8 +389,8 @@ module _ {X : Type 0} (key : X → ℕ) where
   All-look_up P k [] x all found = let none = look_up-nil k in absurd cc
   All-look_up P k (y ∷ ys) x all found =
       elim (cases_eq (key y) k) [
-        inl e ↦ let here = look_up-here k y ys e in let is : y ≡ x = cc in subst P is (All-head P y ys all)
-      | inr ne ↦ All-look_up P k ys x (All-tail P y ys all) (sym (look_up-there k y ys ne) ∙ found)
+        | inl e ↦ let here = look_up-here k y ys e in let is : y ≡ x = cc in subst P is (All-head P y ys all)
+        | inr ne ↦ All-look_up P k ys x (All-tail P y ys all) (sym (look_up-there k y ys ne) ∙ found)
       ]
 
   pub All-from_look_up : (P : X → Type 0) (xs : List X) → KeysDiffer key xs → ((k : ℕ) (x : X) → look_up key k xs ≡ Some x → P x) → All P xs
@@ -388,19 +398,19 @@ module _ {X : Type 0} (key : X → ℕ) where
   All-from_look_up P [] d each = All-nil P
   All-from_look_up P (x ∷ xs) d each =
       All-cons P x xs (each (key x) x (look_up-here (key x) x xs refl))
-        (All-from_look_up P xs d.1 (λ k y found.
-          each k y (look_up-there k x xs (λ e. let none = subst (λ j. look_up key j xs ≡ None) e d.0 in absurd cc) ∙ found)))
+      (All-from_look_up P xs d.1 (λ k y found.
+      each k y (look_up-there k x xs (λ e. let none = subst (λ j. look_up key j xs ≡ None) e d.0 in absurd cc) ∙ found)))
 
   pub All-changed_at : (P : X → Type 0) (k : ℕ) (f : X → X) (xs : List X) → KeysDiffer key xs → All P xs → ((x : X) → look_up key k xs ≡ Some x → P x → P (f x)) → All P (changed_at key k f xs)
   unfolding changed_at KeysDiffer
   All-changed_at P k f [] d all each = All-nil P
   All-changed_at P k f (x ∷ xs) d all each =
       let tail : All P (changed_at key k f xs) =
-          All-changed_at P k f xs d.1 (All-tail P x xs all) (λ y found p.
-            each y (look_up-there k x xs (λ e. let none = subst (λ j. look_up key j xs ≡ None) e d.0 in absurd cc) ∙ found) p) in
+      All-changed_at P k f xs d.1 (All-tail P x xs all) (λ y found p.
+      each y (look_up-there k x xs (λ e. let none = subst (λ j. look_up key j xs ≡ None) e d.0 in absurd cc) ∙ found) p) in
       elim (cases_eq (key x) k) [
-        inl e ↦ subst (All P) (sym (changed_at-here k f x xs e)) (All-cons P (f x) (changed_at key k f xs) (each x (look_up-here k x xs e) (All-head P x xs all)) tail)
-      | inr ne ↦ subst (All P) (sym (changed_at-there k f x xs ne)) (All-cons P x (changed_at key k f xs) (All-head P x xs all) tail)
+        | inl e ↦ subst (All P) (sym (changed_at-here k f x xs e)) (All-cons P (f x) (changed_at key k f xs) (each x (look_up-here k x xs e) (All-head P x xs all)) tail)
+        | inr ne ↦ subst (All P) (sym (changed_at-there k f x xs ne)) (All-cons P x (changed_at key k f xs) (All-head P x xs all) tail)
       ]
 
 -- a list that is made element by element, where a made element keeps the key
@@ -431,15 +441,15 @@ module _ {X Y : Type 0} (key : X → ℕ) (name : Y → ℕ) (h : X → Option Y
       by : (o : Option Y) → h x ≡ o → look_up name k (filter_map h xs) ≡ option_and_then h (look_up key k xs) → look_up name k (cons_option o (filter_map h xs)) ≡ option_and_then h (look_up key k (x ∷ xs))
       by None e rest =
           elim (cases_eq (key x) k) [
-            inl same ↦
-              rw (look_up-here key k x xs same) (rest ∙ ap (option_and_then h) (subst (λ j. look_up key j xs ≡ None) same d.0) ∙ sym e)
-          | inr ne ↦ rw (look_up-there key k x xs ne) rest
+            | inl same ↦
+                rw (look_up-here key k x xs same) (rest ∙ ap (option_and_then h) (subst (λ j. look_up key j xs ≡ None) same d.0) ∙ sym e)
+            | inr ne ↦ rw (look_up-there key k x xs ne) rest
           ]
       by (Some y) e rest =
           elim (cases_eq (key x) k) [
-            inl same ↦ rw (look_up-here key k x xs same) (look_up-here name k y (filter_map h xs) (keeps x y e ∙ same) ∙ sym e)
-          | inr ne ↦
-              rw (look_up-there key k x xs ne) (look_up-there name k y (filter_map h xs) (λ s. ne (sym (keeps x y e) ∙ s)) ∙ rest)
+            | inl same ↦ rw (look_up-here key k x xs same) (look_up-here name k y (filter_map h xs) (keeps x y e ∙ same) ∙ sym e)
+            | inr ne ↦
+                rw (look_up-there key k x xs ne) (look_up-there name k y (filter_map h xs) (λ s. ne (sym (keeps x y e) ∙ s)) ∙ rest)
           ]
 
   pub KeysDiffer-filter_map : (xs : List X) → KeysDiffer key xs → KeysDiffer name (filter_map h xs)
@@ -455,7 +465,7 @@ module _ {X Y : Type 0} (key : X → ℕ) (name : Y → ℕ) (h : X → Option Y
 module _ {X Y : Type 0} (key : X → ℕ) (name : Y → ℕ) (h : X → Option Y) (keeps : (x : X) (y : Y) → h x ≡ Some y → name y ≡ key x)
     (ids : List ℕ) (xs : List X) (up : KeysRise (λ id. id) ids) (differ : KeysDiffer key xs)
     (listed : (k : ℕ) (x : X) (y : Y) → look_up key k xs ≡ Some x → h x ≡ Some y → look_up (λ id. id) k ids ≡ Some k) where
-  abbrev made : ℕ → Option Y
+  abbrev pub made : ℕ → Option Y
   made k = option_and_then h (look_up key k xs)
 
   made-named : (k : ℕ) (y : Y) → made k ≡ Some y → name y ≡ k
@@ -480,16 +490,22 @@ module _ {X Y : Type 0} (key : X → ℕ) (name : Y → ℕ) (h : X → Option Y
       by None e = none e (look_up key k xs) refl
       by (Some j) e = ap made (look_up-key (λ id. id) k ids j e)
 
+  pub made-rise : KeysRise name (filter_map made ids)
+  made-rise = KeysRise-filter_map (λ id. id) name made made-named ids up
+
+  pub made-found : (k : ℕ) → look_up name k (filter_map made ids) ≡ made k
+  made-found k = look_up-filter_map (λ id. id) name made made-named k ids (KeysDiffer-from_rise (λ id. id) ids up) ∙ made-listed k
+
   pub filter_map-by_key : filter_map made ids ≡ by_key name (filter_map h xs)
   filter_map-by_key =
       let order = by_key-order name (filter_map h xs) (KeysDiffer-filter_map key name h keeps xs differ) in
       same_from_look_up name (filter_map made ids) (by_key name (filter_map h xs))
-        (KeysRise-filter_map (λ id. id) name made made-named ids up)
-        order.rise
-        (λ k. look_up-filter_map (λ id. id) name made made-named k ids (KeysDiffer-from_rise (λ id. id) ids up)
-          ∙ made-listed k
-          ∙ sym (look_up-filter_map key name h keeps k xs differ)
-          ∙ sym (order.found k))
+      (KeysRise-filter_map (λ id. id) name made made-named ids up)
+      order.rise
+      (λ k. look_up-filter_map (λ id. id) name made made-named k ids (KeysDiffer-from_rise (λ id. id) ids up)
+      ∙ made-listed k
+      ∙ sym (look_up-filter_map key name h keeps k xs differ)
+      ∙ sym (order.found k))
 
 -- how many are made
 pub length-filter_map : {X Y : Type 0} (h : X → Option Y) (xs : List X) → length (filter_map h xs) ≡ count_by (λ x. is_some (h x)) xs
@@ -529,14 +545,20 @@ module _ where
       let le' : y ≤ x = omega arith in
       rw (le-ltb x y le') (ap (λ zs. y ∷ zs) (insert-placed ys i x (omega arith) (λ k h. low (suc k) (omega arith)) (λ k h l. high (suc k) (omega arith) (omega arith))))
 
-  without-absent : (xs : List ℕ) (x : ℕ) → look_up (λ n. n) x xs ≡ None → without (λ n. n) x xs ≡ xs
+  pub without-absent : (xs : List ℕ) (x : ℕ) → look_up (λ n. n) x xs ≡ None → without (λ n. n) x xs ≡ xs
   unfolding without
   without-absent [] x none = refl
   without-absent (y ∷ ys) x none =
       elim (cases_eq y x) [
-        inl e ↦ let found = look_up-here (λ n. n) x y ys e in absurd cc
-      | inr ne ↦ rw (ne_eqb y x ne) (ap (λ zs. y ∷ zs) (without-absent ys x (sym (look_up-there (λ n. n) x y ys ne) ∙ none)))
+        | inl e ↦ let found = look_up-here (λ n. n) x y ys e in absurd cc
+        | inr ne ↦ rw (ne_eqb y x ne) (ap (λ zs. y ∷ zs) (without-absent ys x (sym (look_up-there (λ n. n) x y ys ne) ∙ none)))
       ]
+
+  -- a number that stands at no place isn't found
+  pub look_up-nowhere : (xs : List ℕ) (x : ℕ) → ((k : ℕ) → k < length xs → get_or xs k 0 ≡ x → ⊥) → look_up (λ n. n) x xs ≡ None
+  look_up-nowhere [] x none = look_up-nil (λ n. n) x
+  look_up-nowhere (y ∷ ys) x none =
+      look_up-there (λ n. n) x y ys (none 0 (omega arith)) ∙ look_up-nowhere ys x (λ k in' e. none (suc k) (omega arith) e)
 
   -- a number taken out at its place
   pub remove-without : (xs : List ℕ) (i x : ℕ) → KeysDiffer (λ n. n) xs → i < length xs → get_or xs i 0 ≡ x → remove xs i ≡ without (λ n. n) x xs
@@ -551,13 +573,22 @@ module _ where
       rw (ne_eqb y x other) (ap (λ zs. y ∷ zs) (remove-without ys i x d.1 (omega arith) at))
 
 module _ {X : Type 0} (key : X → ℕ) where
+  pub without_key-absent : (k : ℕ) (xs : List X) → look_up key k xs ≡ None → without key k xs ≡ xs
+  unfolding without
+  without_key-absent k [] none = refl
+  without_key-absent k (x ∷ xs) none =
+      elim (cases_eq (key x) k) [
+        | inl e ↦ let found = look_up-here key k x xs e in absurd cc
+        | inr ne ↦ rw (ne_eqb (key x) k ne) (ap (λ ys. x ∷ ys) (without_key-absent k xs (sym (look_up-there key k x xs ne) ∙ none)))
+      ]
+
   AllAbove-without : (k j : ℕ) (xs : List X) → AllAbove key k xs → AllAbove key k (without key j xs)
   unfolding AllAbove without
   AllAbove-without k j [] all = tt
   AllAbove-without k j (x ∷ xs) all =
       elim (cases_eq (key x) j) [
-        inl e ↦ rw (eq-eqb (key x) j e) (AllAbove-without k j xs all.1)
-      | inr ne ↦ rw (ne_eqb (key x) j ne) (all.0, AllAbove-without k j xs all.1)
+        | inl e ↦ rw (eq-eqb (key x) j e) (AllAbove-without k j xs all.1)
+        | inr ne ↦ rw (ne_eqb (key x) j ne) (all.0, AllAbove-without k j xs all.1)
       ]
 
   pub KeysRise-without : (j : ℕ) (xs : List X) → KeysRise key xs → KeysRise key (without key j xs)
@@ -565,8 +596,8 @@ module _ {X : Type 0} (key : X → ℕ) where
   KeysRise-without j [] up = tt
   KeysRise-without j (x ∷ xs) up =
       elim (cases_eq (key x) j) [
-        inl e ↦ rw (eq-eqb (key x) j e) (KeysRise-without j xs up.1)
-      | inr ne ↦ rw (ne_eqb (key x) j ne) (AllAbove-without (key x) j xs up.0, KeysRise-without j xs up.1)
+        | inl e ↦ rw (eq-eqb (key x) j e) (KeysRise-without j xs up.1)
+        | inr ne ↦ rw (ne_eqb (key x) j ne) (AllAbove-without (key x) j xs up.0, KeysRise-without j xs up.1)
       ]
 
   pub KeysDiffer-without : (j : ℕ) (xs : List X) → KeysDiffer key xs → KeysDiffer key (without key j xs)
@@ -574,7 +605,34 @@ module _ {X : Type 0} (key : X → ℕ) where
   KeysDiffer-without j [] d = tt
   KeysDiffer-without j (x ∷ xs) d =
       elim (cases_eq (key x) j) [
-        inl e ↦ rw (eq-eqb (key x) j e) (KeysDiffer-without j xs d.1)
-      | inr ne ↦
-          rw (ne_eqb (key x) j ne) (look_up-without_there key j (key x) xs (λ s. ne (sym s)) ∙ d.0, KeysDiffer-without j xs d.1)
+        | inl e ↦ rw (eq-eqb (key x) j e) (KeysDiffer-without j xs d.1)
+        | inr ne ↦
+            rw (ne_eqb (key x) j ne) (look_up-without_there key j (key x) xs (λ s. ne (sym s)) ∙ d.0, KeysDiffer-without j xs d.1)
       ]
+
+  -- rising keys, from the numbers that rise
+  all-above-from : (k : ℕ) (xs : List X) → ((j : ℕ) → j < length xs → k < get_or (map key xs) j 0) → AllAbove key k xs
+  unfolding AllAbove
+  all-above-from k [] above = tt
+  all-above-from k (x ∷ xs) above = (above 0 (omega arith), all-above-from k xs (λ j in'. above (suc j) (omega arith)))
+
+  pub rise_from_increasing : (xs : List X) → IsStrictlyIncreasing (map key xs) → KeysRise key xs
+  unfolding KeysRise
+  rise_from_increasing [] up = tt
+  rise_from_increasing (x ∷ xs) up = (
+    all-above-from (key x) xs (λ j in'. far j in'),
+    rise_from_increasing xs (λ k in'. let same : suc k + 1 ≡ suc (k + 1) = omega arith in let next : get_or (map key (x ∷ xs)) (suc k) 0 < get_or (map key (x ∷ xs)) (suc k + 1) 0 = up (suc k) (omega arith) in rw same at next),
+  )
+    where
+      far : (j : ℕ) → j < length xs → key x < get_or (map key xs) j 0
+      far zero in' = up 0 (omega (arith, length-map xs key))
+      far (suc j) in' =
+          let before = far j (omega arith) in
+          let same : suc j + 1 ≡ suc (suc j) = omega arith in
+          let next : get_or (map key (x ∷ xs)) (suc j) 0 < get_or (map key (x ∷ xs)) (suc j + 1) 0 = up (suc j) (omega (arith, length-map xs key)) in
+          let after : get_or (map key (x ∷ xs)) (suc j) 0 < get_or (map key (x ∷ xs)) (suc (suc j)) 0 = rw same at next in
+          omega (arith, before, after)
+
+  pub map-keys : (f : X → X) → ((x : X) → key (f x) ≡ key x) → (xs : List X) → map key (map f xs) ≡ map key xs
+  map-keys f keeps [] = refl
+  map-keys f keeps (x ∷ xs) = let head = keeps x in let tail = map-keys f keeps xs in cc

@@ -3,7 +3,6 @@ use Rattle.std.specs.List.{list_any}
 use Rattle.batch_snapshot.specs.declared.passenger.Passenger.{Passenger}
 use Rattle.batch_snapshot.specs.declared.vehicle.Vehicle.{Vehicle}
 use Rattle.request_book.specs.declared.rider.BookRider.{BookRider}
-use Rattle.request_book.specs.declared.state.State.{State}
 use Rattle.request_book.specs.Keyed.{look_up}
 use Rattle.request_book.specs.Rider.{is_active}
 

@@ -13,7 +13,9 @@ pub enum Command {
         party: Party,
     },
     /// A rider who isn't aboard yet gives up.
-    Cancel { rider: RiderId },
+    Cancel {
+        rider: RiderId,
+    },
     /// A vehicle is at a node.
     Report {
         vehicle: VehicleId,
@@ -33,7 +35,12 @@ pub enum Command {
         time: Second,
     },
     /// A batch is sealed: riders whose wait is over expire, and the others are put into a snapshot.
-    Seal { now: Second },
+    Seal {
+        now: Second,
+    },
     /// The sealed batch ends with its outcome.
-    Close { batch: u64, outcome: Outcome },
+    Close {
+        batch: u64,
+        outcome: Outcome,
+    },
 }

@@ -1,5 +1,5 @@
 -- Names and their indexes in a list of nodes.
-use Rattle.std.proofs.Common.{◌≡◌, ℕ, ◌<◌, ◌≤◌, eqb, true, false, Bool, List, length, get_or, Option, Some, None, slice_get, position, refl, sym, ap, ◌∙◌, arith}
+use Rattle.std.proofs.Common.{◌≡◌, ℕ, ◌<◌, eqb, true, false, List, length, get_or, Option, Some, None, slice_get, position, refl, sym, ap, ◌∙◌, arith}
 use Rattle.std.specs.Prelude.{All, Contains, IfSome, nat_lt}
 use Rattle.std.specs.List.{IsDistinct, list_any, position_or_len}
 use Rattle.std.proofs.lemmas.Bool.{cases_Bool}
@@ -11,7 +11,7 @@ use Rattle.std.proofs.lemmas.List.Elements.{All-push}
 use Rattle.std.proofs.lemmas.Map.Keys.{any_passes_from_place, apart_from_distinct}
 use Rattle.road_network.specs.Reading.{with_node}
 use Rattle.road_network.proofs.Numbering.{any_found}
-use Rattle.std.proofs.Common.{inl, inr, ◌⊎◌}
+use Rattle.std.proofs.Common.{inl, inr}
 
 same_name : (a b : ℕ) → eqb a b ≡ true → b ≡ a
 same_name a b e = grind (arith, nat_tests)

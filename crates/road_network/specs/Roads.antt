@@ -1,4 +1,4 @@
-use Rattle.std.specs.Prelude.{◌≡◌, ℕ, zero, suc, ◌<◌, ◌≤◌, ◌==◌, List, [], ◌++◌, All, length, filter, nat_eq}
+use Rattle.std.specs.Prelude.{ℕ, zero, suc, ◌<◌, ◌≤◌, ◌==◌, List, [], ◌++◌, All, length, filter, nat_eq}
 use Rattle.std.specs.List.{IsDistinct, position_or_len}
 use Rattle.road_network.specs.Walk.{Arc}
 use Rattle.road_network.specs.declared.hop.Hop.{Hop}

@@ -1,4 +1,4 @@
-use Rattle.std.proofs.Common.{◌≡◌, ℕ, ◌<◌, List, [], Bor, length, get_or, map}
+use Rattle.std.proofs.Common.{◌≡◌, ℕ, ◌<◌, List, [], Bor, get_or, map}
 use Rattle.csv.specs.Records.{fields_of}
 use Rattle.pool_io.proofs.records.is_header.Given as goal
 

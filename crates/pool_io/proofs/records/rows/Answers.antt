@@ -1,8 +1,8 @@
-use Rattle.std.proofs.Common.{◌≡◌, ℕ, List, [], ◌∷◌, ◌++◌, Ok, Bor, length, map, refl, sym, ap, ◌∙◌, arith}
+use Rattle.std.proofs.Common.{◌≡◌, ℕ, List, [], ◌∷◌, Bor, length, map, refl, sym, ◌∙◌, arith}
 use Rattle.std.proofs.lemmas.Bool.{false≢true}
 use Rattle.std.proofs.lemmas.List.{length-map}
 use Rattle.csv.specs.Records.{fields_of}
-use Rattle.pool_io.specs.Table.{header_fields, records_of, is_record}
+use Rattle.pool_io.specs.Table.{header_fields}
 use Rattle.pool_io.proofs.RecordList.{records_of-begin}
 use Rattle.pool_io.proofs.IsRecord.{is_record-other}
 use Rattle.pool_io.proofs.UnderHeader.{table_under, refused_under}

@@ -1,7 +1,6 @@
-use Rattle.std.proofs.Common.{◌≡◌, ◌≢◌, ℕ, ◌+◌, ◌*◌, ◌^◌, ◌<◌, List, [], ◌∷◌, ◌++◌, Ok, length, refl, sym, ap, subst, ◌∙◌, arith, length-append, add-one}
+use Rattle.std.proofs.Common.{◌≡◌, ◌≢◌, ◌+◌, ◌*◌, ◌∷◌, length, arith, length-append, add-one}
 use Rattle.csv.specs.Records.{fields_of}
-use Rattle.pool_io.specs.Table.{cut_rows, even_rows, records_of}
-use Rattle.pool_io.specs.Progress.{HasRead}
+use Rattle.pool_io.specs.Table.{cut_rows}
 use Rattle.pool_io.proofs.CutRows.{cut_rows-append}
 use Rattle.pool_io.proofs.EvenRows.{even_rows-all, even_rows-uneven}
 use Rattle.pool_io.proofs.records.rows_after.Goals as goal

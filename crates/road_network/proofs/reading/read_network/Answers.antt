@@ -1,13 +1,11 @@
-use Rattle.std.proofs.Common.{◌≡◌, ◌≢◌, ℕ, ◌+◌, ◌<◌, ◌≤◌, List, [], Ok, Err, true, length, get_or, take, drop, map, refl, sym, ap, ◌∙◌, arith}
-use Rattle.std.specs.Prelude.{All}
+use Rattle.std.proofs.Common.{◌≡◌, ◌+◌, ◌<◌, ◌≤◌, [], Ok, true, length, take, map, sym, ap, ◌∙◌, arith}
 use Rattle.std.specs.Result.{is_ok}
 use Rattle.std.proofs.lemmas.List.{take_all}
 use Rattle.std.proofs.lemmas.List.Elements.{All-more, All-same}
 use Rattle.std.proofs.lemmas.Result.{err_from_is_err_and}
 use Rattle.pool_io.specs.Table.{record_at}
-use Rattle.road_network.specs.Walk.{Arc}
-use Rattle.road_network.specs.Roads.{IsArcAmong, Roads, by_start, most_nodes, most_arcs, greatest_name, longest_arc}
-use Rattle.road_network.specs.Reading.{arc_in, nodes_of, roads_of, seconds_in, with_row}
+use Rattle.road_network.specs.Roads.{IsArcAmong, most_nodes, most_arcs, greatest_name, longest_arc}
+use Rattle.road_network.specs.Reading.{arc_in, seconds_in, with_row}
 use Rattle.road_network.specs.declared.fault.NetworkFault.TheVariants.{TooManyNodes}
 use Rattle.road_network.proofs.Names.{All-with_node}
 use Rattle.road_network.proofs.Refusals.{first_refusal-next, first_refusal-field, first_refusal-nodes, first_refusal-end, network_of-refused, network_of-accepted, network_of-too_many}

@@ -1,4 +1,4 @@
-use Rattle.std.proofs.Common.{◌≡◌, ℕ, get_or, ap, ◌∙◌}
+use Rattle.std.proofs.Common.{◌≡◌, get_or, ◌∙◌}
 use Rattle.road_network.proofs.Names.{position-own}
 use Rattle.road_network.proofs.network.Network.node_at.Goals as goal
 

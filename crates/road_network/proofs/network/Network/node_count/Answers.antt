@@ -1,4 +1,4 @@
-use Rattle.std.proofs.Common.{length, sym, ◌∙◌, arith, refl}
+use Rattle.std.proofs.Common.{length, arith}
 use Rattle.road_network.proofs.Stored.{length-stored_arcs, All-stored_arcs}
 use Rattle.road_network.proofs.network.Network.node_count.Goals as goal
 

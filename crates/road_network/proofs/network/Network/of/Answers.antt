@@ -1,7 +1,7 @@
-use Rattle.std.proofs.Common.{◌≡◌, List, length, ap, arith}
+use Rattle.std.proofs.Common.{List, length, ap, arith}
 use Rattle.road_network.specs.Walk.{Arc}
 use Rattle.road_network.specs.Roads.{Roads}
-use Rattle.road_network.proofs.Sorted.{EndsAt, IsStored-sorted, stored_arcs-sorted}
+use Rattle.road_network.proofs.Sorted.{IsStored-sorted, stored_arcs-sorted}
 use Rattle.road_network.proofs.network.Network.of.Goals as goal
 
 pub invariant_of-result : goal.invariant_of-result
