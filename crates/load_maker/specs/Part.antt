@@ -2,6 +2,8 @@ use Rattle.std.specs.Prelude.{◌≡◌, ℕ, zero, suc, ◌%◌, List, [], ◌+
 use Rattle.rand_core.specs.Stream.{Stream, next_u64}
 use Rattle.rand_core.specs.Steps.{stream_of}
 use Rattle.rand_xoshiro.specs.SplitMix64.{splitmix_steps}
+use Rattle.load_maker.specs.declared.row.Field.{Field}
+use Rattle.load_maker.specs.Row.{rows_text}
 
 -- the draws of a SplitMix64 generator with this state
 abbrev pub draws_of : ℕ → Stream
@@ -11,17 +13,17 @@ draws_of state = stream_of splitmix_steps state
 unfoldable pub draw : ℕ → Stream → ℕ × Stream
 draw n s = ((next_u64 s).0 % n, (next_u64 s).1)
 
--- a part of a text, and the draws that it leaves
+-- rows, and the draws that they leave
 abbrev pub Part : Type 0
-Part = Stream → List ℕ × Stream
+Part = Stream → List (List Field) × Stream
 
--- no text, and no draw
+-- no row, and no draw
 abbrev pub nothing : Part
 nothing s = ([], s)
 
--- a text without a draw
-abbrev pub plain : List ℕ → Part
-plain text s = (text, s)
+-- rows without a draw
+abbrev pub plain : List (List Field) → Part
+plain rows s = (rows, s)
 
 -- one part behind another
 abbrev pub both : Part → Part → Part
@@ -38,7 +40,7 @@ each parts (suc n) s =
     let here = parts n before.1 in
     (before.0 ++ here.0, here.1)
 
--- a part was written behind a text, with these draws before and after
+-- the rows of a part were written behind a text, with these draws before and after
 pub record Writes (part : Part) (old new : List ℕ) (before after : Stream) : Type 0 where
-  pub text : new ≡ old ++ (part before).0
+  pub text : new ≡ old ++ rows_text (part before).0
   pub left : after ≡ (part before).1

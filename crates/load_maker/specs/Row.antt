@@ -1,5 +1,6 @@
 use Rattle.std.specs.Prelude.{ℕ, List, [], ◌∷◌, ◌++◌, codes}
 use Rattle.std.specs.Fmt.{decimal}
+use Rattle.std.specs.List.{flat_map}
 use Rattle.load_maker.specs.declared.row.Field.{Field}
 use Rattle.load_maker.specs.declared.row.Field.TheVariants.{Number, Report, Submit, Seal, Empty}
 
@@ -16,3 +17,11 @@ abbrev pub row_text : List Field → List ℕ
 row_text [] = []
 row_text (field ∷ []) = field_text field ++ 10 ∷ []
 row_text (field ∷ next ∷ fields) = field_text field ++ 44 ∷ row_text (next ∷ fields)
+
+-- rows, one behind another
+abbrev pub rows_text : List (List Field) → List ℕ
+rows_text rows = flat_map row_text rows
+
+-- a text: its header line, then its rows
+abbrev pub text_under : List ℕ → List (List Field) → List ℕ
+text_under header rows = header ++ 10 ∷ rows_text rows

@@ -28,7 +28,7 @@ fn put_vehicle(
     )
 }
 
-/// The header and the vehicles.
+/// The vehicles.
 pub(crate) fn put_fleet(
     text: &mut Vec<u8>,
     rng: &mut SplitMix64,
@@ -36,7 +36,6 @@ pub(crate) fn put_fleet(
 ) -> Result<(), OutOfMemory>
     ensures { OnOk result (Writes (fleet_part shape.now) text.old.items text.new.items (draws_of rng.old) (draws_of rng.new)) }
 {
-    text.extend_from_slice(b"vehicle,seats,node,second\n")?;
     for n in 0..u64::from(shape.vehicles) {
         put_vehicle(text, rng, shape, n + 1)?;
     }

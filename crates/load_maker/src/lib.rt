@@ -12,6 +12,7 @@ mod row;
 mod script;
 
 pub use made::{Made, make};
+pub use row::Field;
 
 #[cfg(test)]
 mod tests;

@@ -58,11 +58,11 @@ pub fn make(alloc: Global, shape: &LoadShape) -> Result<Made, OutOfMemory>
     ensures { IfOk result (λ made. made ≡ texts_of shape.now) }
 {
     let mut rng = SplitMix64::seed_from_u64(shape.seed);
-    let mut network = Vec::new(alloc);
+    let mut network = Vec::from_slice(alloc, b"from,to,seconds\n")?;
     put_network(&mut network, &mut rng, shape)?;
-    let mut fleet = Vec::new(alloc);
+    let mut fleet = Vec::from_slice(alloc, b"vehicle,seats,node,second\n")?;
     put_fleet(&mut fleet, &mut rng, shape)?;
-    let mut script = Vec::new(alloc);
+    let mut script = Vec::from_slice(alloc, b"round,lane,command,a,b,c,d\n")?;
     put_script(&mut script, &mut rng, shape)?;
     Ok(Made {
         network,

@@ -86,7 +86,7 @@ fn put_row_arcs(
     Ok(())
 }
 
-/// The header and the arcs of the square.
+/// The arcs of the square.
 pub(crate) fn put_network(
     text: &mut Vec<u8>,
     rng: &mut SplitMix64,
@@ -94,7 +94,6 @@ pub(crate) fn put_network(
 ) -> Result<(), OutOfMemory>
     ensures { OnOk result (Writes (network_part shape.now) text.old.items text.new.items (draws_of rng.old) (draws_of rng.new)) }
 {
-    text.extend_from_slice(b"from,to,seconds\n")?;
     let side = u64::from(shape.side);
     for i in 0..side {
         put_row_arcs(text, rng, side, i)?;

@@ -3,9 +3,9 @@ ghost use Rattle.load_maker.specs.Row.{field_text, row_text};
 
 use pool_base::{OutOfMemory, put_number};
 
-/// A field of a row.
+/// A field of a made row.
 #[derive(Clone, Copy, Debug)]
-pub(crate) enum Field {
+pub enum Field {
     Number(u64),
     Report,
     Submit,

@@ -1,6 +1,7 @@
 ghost use Rattle.std.specs.Prelude.{◌≡◌, ◌<◌, ◌≤◌, ◌^◌, ◌++◌, OnOk};
+ghost use Rattle.load_maker.specs.Row.{row_text};
 ghost use Rattle.load_maker.specs.Part.{draws_of, Writes};
-ghost use Rattle.load_maker.specs.Texts.{report_row, all_reports, reports, other_than, submit_row, submits, seal_text, batch_rows, script_part};
+ghost use Rattle.load_maker.specs.Texts.{report_row, all_reports, reports, other_than, submit_row, submits, seal_row, batch_rows, script_part};
 
 use crate::draw::{draw, draw_node};
 use crate::row::{Field, put_row};
@@ -116,10 +117,9 @@ fn put_submits(
     Ok(())
 }
 
-#[tactic(auto, unfolding(crate::specs::Texts::seal_text))]
 fn put_seal(text: &mut Vec<u8>, k: u64) -> Result<(), OutOfMemory>
     requires { k < 100 }
-    ensures { OnOk result (text.new.items ≡ text.old.items ++ seal_text k) }
+    ensures { OnOk result (text.new.items ≡ text.old.items ++ row_text (seal_row k)) }
 {
     put_row(
         text,
@@ -149,7 +149,7 @@ fn put_batch(
     put_seal(text, k)
 }
 
-/// The header and the batches.
+/// The batches.
 pub(crate) fn put_script(
     text: &mut Vec<u8>,
     rng: &mut SplitMix64,
@@ -157,7 +157,6 @@ pub(crate) fn put_script(
 ) -> Result<(), OutOfMemory>
     ensures { OnOk result (Writes (script_part shape.now) text.old.items text.new.items (draws_of rng.old) (draws_of rng.new)) }
 {
-    text.extend_from_slice(b"round,lane,command,a,b,c,d\n")?;
     for k in 0..u64::from(shape.rounds) {
         put_batch(text, rng, shape, k)?;
     }

@@ -15,6 +15,6 @@ returns c =
     let v = draws_of c.put_fleet.new.rng in
     let w = draws_of c.put_script.new.rng in
     texts_of-written shape c.seed_from_u64-rng.result network fleet script u v w c.seed_from_u64-rng.ensures.same
-    (subst (λ (old : List ℕ). Writes (network_part shape) old network s u) c.new-network.ensures.items c.in_ok-put_network.ensures)
-    (subst (λ (old : List ℕ). Writes (fleet_part shape) old fleet u v) c.new-fleet.ensures.items c.in_ok-put_fleet.ensures)
-    (subst (λ (old : List ℕ). Writes (script_part shape) old script v w) c.new-script.ensures.items c.in_ok-put_script.ensures)
+    (subst (λ (old : List ℕ). Writes (network_part shape) old network s u) c.in_ok-network.ensures.items c.in_ok-put_network.ensures)
+    (subst (λ (old : List ℕ). Writes (fleet_part shape) old fleet u v) c.in_ok-fleet.ensures.items c.in_ok-put_fleet.ensures)
+    (subst (λ (old : List ℕ). Writes (script_part shape) old script v w) c.in_ok-script.ensures.items c.in_ok-put_script.ensures)

@@ -1,6 +1,7 @@
+use Rattle.std.proofs.Common.{[], ◌∷◌}
 use Rattle.std.proofs.lemmas.Result.{on_ok_weaker}
 use Rattle.load_maker.specs.Part.{draws_of, plain, both}
-use Rattle.load_maker.specs.Texts.{reports, submits, seal_text, batch_rows}
+use Rattle.load_maker.specs.Texts.{reports, submits, seal_row, batch_rows}
 use Rattle.load_maker.proofs.PartLemmas.{Writes-plain, Writes-both}
 use Rattle.load_maker.proofs.script.put_batch.Goals as goal
 
@@ -17,6 +18,6 @@ returns c =
     let t = draws_of c.put_reports.new.rng in
     let u = draws_of c.put_submits.new.rng in
     on_ok_weaker c.put_seal.result (λ sealed.
-    Writes-both (reports shape k) (both (submits shape k) (plain (seal_text k))) text first third s t u c.in_ok-put_reports.ensures
-    (Writes-both (submits shape k) (plain (seal_text k)) first second third t u u c.in_ok-put_submits.ensures (Writes-plain (seal_text k) second third u sealed)))
+    Writes-both (reports shape k) (both (submits shape k) (plain (seal_row k ∷ []))) text first third s t u c.in_ok-put_reports.ensures
+    (Writes-both (submits shape k) (plain (seal_row k ∷ [])) first second third t u u c.in_ok-put_submits.ensures (Writes-plain (seal_row k) second third u sealed)))
     c.put_seal.ensures
