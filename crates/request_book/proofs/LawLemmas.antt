@@ -93,14 +93,14 @@ passengers-exactly s vehicle rider kept =
 saturating : (most first a b both : ℕ) → both ≡ a + b → min (min (first + a) most + b) most ≡ min (first + both) most
 saturating most first a b both e =
     elim (cases_lt most (first + a)) [
-      inl lt ↦
-        let here : most ≤ first + a = omega (arith, lt) in
-        let there : most ≤ most + b = omega arith in
-        let all : most ≤ first + both = omega (arith, lt, e) in
-        ap (λ n. min (n + b) most) (min-eq_right here) ∙ min-eq_right there ∙ sym (min-eq_right all)
-    | inr le ↦
-        let sum : first + a + b ≡ first + both = omega (arith, e) in
-        ap (λ n. min (n + b) most) (min-eq_left le) ∙ ap (λ n. min n most) sum
+      | inl lt ↦
+          let here : most ≤ first + a = omega (arith, lt) in
+          let there : most ≤ most + b = omega arith in
+          let all : most ≤ first + both = omega (arith, lt, e) in
+          ap (λ n. min (n + b) most) (min-eq_right here) ∙ min-eq_right there ∙ sym (min-eq_right all)
+      | inr le ↦
+          let sum : first + a + b ≡ first + both = omega (arith, e) in
+          ap (λ n. min (n + b) most) (min-eq_left le) ∙ ap (λ n. min n most) sum
     ]
 
 pub positions-count : (first : ℕ) (round later : List Entry) → next_position (next_position first round) later ≡ next_position first (round ++ later)

@@ -9,4 +9,3 @@ pub mod ConsistentLemmas
 pub mod NamedLemmas
 pub mod BookLemmas
 pub mod LawLemmas
-pub mod TestLemmas

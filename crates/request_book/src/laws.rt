@@ -33,7 +33,7 @@ pub fn riders_have_one_status()
 pub fn passengers_are_who_is_aboard()
     ensures { (nodes : List ℕ) (wait : ℕ) (vehicles : List Vehicle) (entries : List Entry) (vehicle rider : ℕ) → IsFleet vehicles
         → IsPassenger (state_after nodes wait (opening vehicles) entries) vehicle rider
-          ↔ (status_in (state_after nodes wait (opening vehicles) entries) rider ≡ Some (Aboard vehicle)) }
+        ↔ (status_in (state_after nodes wait (opening vehicles) entries) rider ≡ Some (Aboard vehicle)) }
 {}
 
 /// In every state of a run no vehicle has more persons aboard than seats.

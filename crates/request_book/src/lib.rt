@@ -20,15 +20,13 @@ mod riding;
 mod running;
 mod sealing;
 mod state;
-#[cfg(test)]
-mod tests;
 
 pub use book::Book;
 pub use command::Command;
 pub use journal::{Entry, Journal};
 pub use laws::{
-    passengers_are_who_is_aboard, positions_count_entries, refused_commands_change_nothing, riders_have_one_status,
-    rounds_join, seats_always_suffice,
+    passengers_are_who_is_aboard, positions_count_entries, refused_commands_change_nothing,
+    riders_have_one_status, rounds_join, seats_always_suffice,
 };
 pub use outcome::{
     Answer, ChosenTrip, LateVehicle, MoveLine, Outcome, Planned, PlannedStop, RowLine,
