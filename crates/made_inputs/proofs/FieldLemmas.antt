@@ -1,0 +1,93 @@
+use Rattle.std.proofs.Common.{◌≡◌, ℕ, suc, ◌<◌, ◌≤◌, ◌^◌, false, cond, List, [], ◌∷◌, ◌++◌, Some, map, length, decimal, refl, sym, ap, ◌∙◌, arith}
+use Rattle.std.specs.List.{list_any}
+use Rattle.std.proofs.lemmas.Bool.{ne_eqb, or_from}
+use Rattle.std.proofs.lemmas.List.{append-nil, append_assoc}
+use Rattle.std.proofs.lemmas.Str.Parse.{IsNumeralModel, numerals_by_fold, tells_by_index}
+use Rattle.std.proofs.lemmas.Fmt.{decimal_nonempty, digits_decimal, digits_value-decimal}
+use Rattle.csv.specs.Machine.{next_record}
+use Rattle.csv.specs.Reading.{default_config}
+use Rattle.csv.specs.Writing.{default_writer, field_text as written, fields_text, needs_byte, quoted, is_blank, row_text as written_row}
+use Rattle.csv.specs.declared.parser.State.TheVariants as st
+use Rattle.csv.proofs.RoundTrip.{read-write-many}
+use Rattle.pool_base.specs.Number.{IsDigit, AllDigits, value_after, IsNumeralOf}
+use Rattle.pool_base.specs.Numeral.{number_up_to}
+use Rattle.pool_base.proofs.NumeralLemmas.{is_numeral-digits, number_up_to-given}
+use Rattle.load_maker.specs.declared.row.Field.{Field}
+use Rattle.load_maker.specs.declared.row.Field.TheVariants.{Number, Report, Submit, Seal, Empty}
+use Rattle.load_maker.specs.Row.{field_text, row_text}
+
+-- numerals are read as std reads them
+own : IsNumeralModel AllDigits (value_after 0)
+own = numerals_by_fold AllDigits tells_by_index value_after (record { empty = λ n. refl; more = λ n c cs _. refl })
+
+-- what is written for a number is a numeral of it
+pub numeral : (n : ℕ) → n < 2 ^ 64 → IsNumeralOf n (decimal n)
+numeral n small =
+    let some : 0 < length (decimal n) = decimal_nonempty n small in
+    record {
+      some = λ e. let f : List ℕ → ℕ = length in let zero_long : length (decimal n) ≡ 0 = rw e in omega arith;
+      digits = digits_decimal own n small;
+      value = digits_value-decimal own n small;
+    }
+
+-- a number's text is read as the number
+pub number_up_to-decimal : (most n : ℕ) → n ≤ most → most < 2 ^ 64 → number_up_to most (decimal n) ≡ Some n
+number_up_to-decimal most n within small =
+    let is = numeral n (omega arith) in
+    number_up_to-given most (decimal n) (is_numeral-digits (decimal n) is.some is.digits) (omega (arith, is.value))
+    ∙ ap (λ v. Some v) is.value
+
+-- the number of a field is a number of the files
+abbrev pub Fits : Field → Type 0
+Fits (Number n) = n ≤ 1000000000
+Fits Report = Unit {0}
+Fits Submit = Unit {0}
+Fits Seal = Unit {0}
+Fits Empty = Unit {0}
+
+abbrev pub AllFit : List Field → Type 0
+AllFit [] = Unit {0}
+AllFit (field ∷ fields) = Fits field × AllFit fields
+
+digit_is_plain : (c : ℕ) → IsDigit c → needs_byte default_writer c ≡ false
+digit_is_plain c digit =
+    let low : 48 ≤ c = digit.0 in
+    rw (ne_eqb c 44 (λ e. omega arith), ne_eqb c 34 (λ e. omega arith), ne_eqb c 13 (λ e. omega arith), ne_eqb c 10 (λ e. omega arith)) refl
+
+digits_are_plain : (cs : List ℕ) → AllDigits cs → list_any (needs_byte default_writer) cs ≡ false
+digits_are_plain [] digits = refl
+digits_are_plain (c ∷ cs) digits =
+    or_from (needs_byte default_writer c) (list_any (needs_byte default_writer) cs) (digit_is_plain c (digits 0 (omega arith)))
+    (digits_are_plain cs (λ k within. digits (suc k) (omega arith)))
+
+field_is_plain : (field : Field) → Fits field → list_any (needs_byte default_writer) (field_text field) ≡ false
+field_is_plain (Number n) fits = digits_are_plain (decimal n) (numeral n (omega arith)).digits
+field_is_plain Report fits = refl
+field_is_plain Submit fits = refl
+field_is_plain Seal fits = refl
+field_is_plain Empty fits = refl
+
+written_as : (field : Field) → Fits field → written default_writer (field_text field) ≡ field_text field
+written_as field fits = ap (λ b. cond b (quoted default_writer (field_text field)) (field_text field)) (field_is_plain field fits)
+
+rest_written : (field : Field) (fields : List Field) → AllFit (field ∷ fields) → 44 ∷ row_text (field ∷ fields) ≡ fields_text default_writer (map field_text (field ∷ fields)) ++ 10 ∷ []
+unfolding fields_text
+rest_written field [] fit =
+    ap (λ (t : List ℕ). 44 ∷ (t ++ 10 ∷ [])) (sym (written_as field fit.0) ∙ sym (append-nil (written default_writer (field_text field))))
+rest_written field (next ∷ fields) fit =
+    ap (λ (t : List ℕ). 44 ∷ (field_text field ++ t)) (rest_written next fields fit.1)
+    ∙ ap (λ (t : List ℕ). 44 ∷ (t ++ (fields_text default_writer (map field_text (next ∷ fields)) ++ 10 ∷ []))) (sym (written_as field fit.0))
+    ∙ ap (λ (t : List ℕ). 44 ∷ t) (sym (append_assoc (written default_writer (field_text field)) (fields_text default_writer (map field_text (next ∷ fields))) (10 ∷ [])))
+
+row_written : (first second : Field) (fields : List Field) → AllFit (first ∷ second ∷ fields) → row_text (first ∷ second ∷ fields) ≡ written_row default_writer (map field_text (first ∷ second ∷ fields))
+unfolding is_blank
+row_written first second fields fit =
+    ap (λ (t : List ℕ). field_text first ++ t) (rest_written second fields fit.1)
+    ∙ ap (λ (t : List ℕ). t ++ (fields_text default_writer (map field_text (second ∷ fields)) ++ 10 ∷ [])) (sym (written_as first fit.0))
+    ∙ sym (append_assoc (written default_writer (field_text first)) (fields_text default_writer (map field_text (second ∷ fields))) (10 ∷ []))
+
+-- a row of two fields or more is read as its fields
+pub row_read : (first second : Field) (fields : List Field) (tail : List ℕ) → AllFit (first ∷ second ∷ fields) → next_record default_config st.StartRecord [] [] (row_text (first ∷ second ∷ fields) ++ tail) ≡ Some (map field_text (first ∷ second ∷ fields), st.StartRecord, tail)
+row_read first second fields tail fit =
+    ap (λ (t : List ℕ). next_record default_config st.StartRecord [] [] (t ++ tail)) (row_written first second fields fit)
+    ∙ read-write-many (field_text first) (field_text second) (map field_text fields) tail

@@ -1,0 +1,6 @@
+pub mod FieldLemmas
+pub mod TextLemmas
+pub mod NetworkLemmas
+pub mod NodeLemmas
+pub mod FleetLemmas
+pub mod ShapeLemmas

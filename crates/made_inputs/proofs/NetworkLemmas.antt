@@ -1,0 +1,188 @@
+use Rattle.std.proofs.Common.{◌≡◌, ℕ, zero, suc, ◌+◌, ◌*◌, ◌<◌, ◌≤◌, ◌%◌, ◌^◌, Bool, true, false, cond, ltb, List, [], ◌∷◌, ◌++◌, Some, None, Ok, Err, map, length, decimal, ◌-◌, ◌==◌, refl, sym, ap, subst, ◌∙◌, arith}
+use Rattle.std.specs.List.{list_any}
+use Rattle.std.specs.Option.{option_or}
+use Rattle.std.proofs.lemmas.Bool.{le-ltb}
+use Rattle.std.proofs.lemmas.List.{length-append, length-map}
+use Rattle.std.proofs.lemmas.Nat.{mod_below}
+use Rattle.std.proofs.Math.Nat.{mul-le-mul, suc-mul}
+use Rattle.rand_core.specs.Stream.{Stream, next_u64}
+use Rattle.pool_base.specs.Numeral.{number_up_to}
+use Rattle.road_network.specs.Roads.{most_nodes, most_arcs, longest_arc, greatest_name}
+use Rattle.road_network.specs.Reading.{with_node, with_row, name_in, roads_of, field_refusal, row_refusal, first_refusal, unless_refused, network_of}
+use Rattle.road_network.specs.declared.fault.NetworkFault.TheVariants.{TooManyArcs, TooManyNodes}
+use Rattle.rider_limits.specs.declared.load_shape.LoadShape.{LoadShape}
+use Rattle.load_maker.specs.declared.row.Field.{Field}
+use Rattle.load_maker.specs.declared.row.Field.TheVariants as field
+use Rattle.load_maker.specs.Part.{draws_of, draw, Part, nothing, both, each}
+use Rattle.load_maker.specs.Texts.{node_id, arcs_between, arcs_right, arcs_down, arcs_of_row, network_part}
+use Rattle.made_inputs.proofs.FieldLemmas.{AllFit, number_up_to-decimal}
+use Rattle.made_inputs.proofs.TextLemmas.{fields_of, RowsFit}
+
+-- a row of an arc: two names of nodes, and its seconds
+pub record IsArc (row : List Field) : Type 0 where
+  pub from : ℕ
+  pub to : ℕ
+  pub seconds : ℕ
+  pub is : row ≡ field.Number from ∷ field.Number to ∷ field.Number seconds ∷ []
+  pub from_small : from ≤ greatest_name
+  pub to_small : to ≤ greatest_name
+  pub short : seconds ≤ longest_arc
+
+abbrev pub AllArcs : List (List Field) → Type 0
+AllArcs [] = Unit {0}
+AllArcs (row ∷ rows) = IsArc row × AllArcs rows
+
+AllArcs-append : (xs ys : List (List Field)) → AllArcs xs → AllArcs ys → AllArcs (xs ++ ys)
+AllArcs-append [] ys left right = right
+AllArcs-append (row ∷ xs) ys left right = (left.0, AllArcs-append xs ys left.1 right)
+
+-- a part of so many rows of arcs at the most
+pub record IsArcs (most : ℕ) (part : Part) : Type 0 where
+  pub arcs : (s : Stream) → AllArcs (part s).0
+  pub few : (s : Stream) → length (part s).0 ≤ most
+
+IsArcs-nothing : (most : ℕ) → IsArcs most nothing
+IsArcs-nothing most = record { arcs = λ s. tt; few = λ s. omega arith }
+
+IsArcs-both : (m n : ℕ) (first second : Part) → IsArcs m first → IsArcs n second → IsArcs (m + n) (both first second)
+IsArcs-both m n first second here rest = record {
+  arcs = λ s. AllArcs-append (first s).0 (second (first s).1).0 (here.arcs s) (rest.arcs (first s).1);
+  few = λ s.
+      let one : length (first s).0 ≤ m = here.few s in
+      let two : length (second (first s).1).0 ≤ n = rest.few (first s).1 in
+      omega (arith, one, two, length-append (first s).0 (second (first s).1).0);
+}
+
+IsArcs-each : (most : ℕ) (parts : ℕ → Part) (n : ℕ) → ((k : ℕ) → k < n → IsArcs most (parts k)) → IsArcs (n * most) (each parts n)
+IsArcs-each most parts zero all = record { arcs = λ s. tt; few = λ s. omega arith }
+IsArcs-each most parts (suc n) all =
+    let before : IsArcs (n * most) (each parts n) = IsArcs-each most parts n (λ k below. all k (omega arith)) in
+    let here : IsArcs most (parts n) = all n (omega arith) in
+    record {
+      arcs = λ s. AllArcs-append (each parts n s).0 (parts n (each parts n s).1).0 (before.arcs s) (here.arcs (each parts n s).1);
+      few = λ s.
+          let one : length (each parts n s).0 ≤ n * most = before.few s in
+          let two : length (parts n (each parts n s).1).0 ≤ most = here.few (each parts n s).1 in
+          let size : suc n * most ≡ n * most + most = suc-mul n most in
+          omega (arith, one, two, size, length-append (each parts n s).0 (parts n (each parts n s).1).0);
+    }
+
+IsArcs-cond : (most : ℕ) (c : Bool) (yes_part no_part : Part) → IsArcs most yes_part → IsArcs most no_part → IsArcs most (cond c yes_part no_part)
+IsArcs-cond most true yes_part no_part yes_is no_is = yes_is
+IsArcs-cond most false yes_part no_part yes_is no_is = no_is
+
+IsArcs-between : (a b : ℕ) → a ≤ greatest_name → b ≤ greatest_name → IsArcs 2 (arcs_between a b)
+unfolding arcs_between draw
+IsArcs-between a b a_small b_small = record {
+  arcs = λ s.
+      let time : ℕ = 20 + (next_u64 s).0 % 41 in
+      let short : time ≤ longest_arc = (let below : (next_u64 s).0 % 41 < 41 = mod_below (next_u64 s).0 41 (omega arith) in omega (arith, below)) in (
+        record { from = a; to = b; seconds = time; is = refl; from_small = a_small; to_small = b_small; short = short },
+        (
+          record { from = b; to = a; seconds = time; is = refl; from_small = b_small; to_small = a_small; short = short },
+          tt,
+        ),
+      );
+  few = λ s. omega arith;
+}
+
+pub node_small : (side i j : ℕ) → side ≤ 100 → i ≤ side → j ≤ side → node_id side i j ≤ greatest_name
+node_small side i j small row column =
+    let low : i ≤ 100 = omega arith in
+    let area : i * side ≤ 100 * 100 = mul-le-mul low small in
+    omega (arith, area)
+
+IsArcs-node : (side i j : ℕ) → side ≤ 100 → i < side → j < side → IsArcs 4 (both (arcs_right side i j) (arcs_down side i j))
+unfolding arcs_right arcs_down
+IsArcs-node side i j small row column =
+    let here : node_id side i j ≤ greatest_name = node_small side i j small (omega arith) (omega arith) in
+    let right : node_id side i (j + 1) ≤ greatest_name = node_small side i (j + 1) small (omega arith) (omega arith) in
+    let below : node_id side (i + 1) j ≤ greatest_name = node_small side (i + 1) j small (omega arith) (omega arith) in
+    IsArcs-both 2 2 (arcs_right side i j) (arcs_down side i j)
+    (IsArcs-cond 2 (ltb (j + 1) side) (arcs_between (node_id side i j) (node_id side i (j + 1))) nothing (IsArcs-between (node_id side i j) (node_id side i (j + 1)) here right) (IsArcs-nothing 2))
+    (IsArcs-cond 2 (ltb (i + 1) side) (arcs_between (node_id side i j) (node_id side (i + 1) j)) nothing (IsArcs-between (node_id side i j) (node_id side (i + 1) j) here below) (IsArcs-nothing 2))
+
+IsArcs-row : (side i : ℕ) → side ≤ 100 → i < side → IsArcs (side * 4) (arcs_of_row side i)
+unfolding arcs_of_row
+IsArcs-row side i small row = IsArcs-each 4 (λ j. both (arcs_right side i j) (arcs_down side i j)) side (λ j column. IsArcs-node side i j small row column)
+
+IsArcs-network : (shape : LoadShape) → shape.side ≤ 100 → IsArcs (shape.side * (shape.side * 4)) (network_part shape)
+unfolding network_part
+IsArcs-network shape small = IsArcs-each (shape.side * 4) (arcs_of_row shape.side) shape.side (λ i row. IsArcs-row shape.side i small row)
+
+-- rows of arcs have three fields, whose numbers are numbers of the files
+rows_fit : (rows : List (List Field)) → AllArcs rows → RowsFit 3 rows
+rows_fit [] all = tt
+rows_fit (row ∷ rows) all =
+    let arc : IsArc row = all.0 in
+    let size : length row ≡ 3 = ap length arc.is in
+    let short : arc.seconds ≤ 10000 = arc.short in
+    let fits : AllFit row = subst AllFit (sym arc.is) (arc.from_small, (arc.to_small, (omega arith, tt))) in
+    (size, fits, rows_fit rows all.1)
+
+-- no field of an arc is refused
+no_field : (number a b t : ℕ) → a ≤ greatest_name → b ≤ greatest_name → t ≤ longest_arc → field_refusal number (fields_of (field.Number a ∷ field.Number b ∷ field.Number t ∷ [])) ≡ None
+unfolding field_refusal
+no_field number a b t a_small b_small short =
+    let one : number_up_to greatest_name (decimal a) ≡ Some a = number_up_to-decimal greatest_name a a_small (omega arith) in
+    let two : number_up_to greatest_name (decimal b) ≡ Some b = number_up_to-decimal greatest_name b b_small (omega arith) in
+    let three : number_up_to (2 ^ 64 - 1) (decimal t) ≡ Some t = number_up_to-decimal (2 ^ 64 - 1) t (omega arith) (omega arith) in
+    rw (one, two, three, le-ltb longest_arc t short) refl
+
+no_field_of : (number : ℕ) (row : List Field) → IsArc row → field_refusal number (fields_of row) ≡ None
+no_field_of number row arc =
+    ap (λ (fields : List Field). field_refusal number (fields_of fields)) arc.is
+    ∙ no_field number arc.from arc.to arc.seconds arc.from_small arc.to_small arc.short
+
+one_more_by : (nodes : List ℕ) (name : ℕ) (c : Bool) → length (cond c nodes (nodes ++ name ∷ [])) ≤ length nodes + 1
+one_more_by nodes name true = omega arith
+one_more_by nodes name false = omega (arith, length-append nodes (name ∷ []))
+
+one_more : (nodes : List ℕ) (name : ℕ) → length (with_node nodes name) ≤ length nodes + 1
+one_more nodes name = one_more_by nodes name (list_any (λ node. name == node) nodes)
+
+two_more : (nodes : List ℕ) (fields : List (List ℕ)) → length (with_row nodes fields) ≤ length nodes + 2
+two_more nodes fields =
+    let first : length (with_node nodes (name_in fields 0)) ≤ length nodes + 1 = one_more nodes (name_in fields 0) in
+    let second : length (with_row nodes fields) ≤ length (with_node nodes (name_in fields 0)) + 1 = one_more (with_node nodes (name_in fields 0)) (name_in fields 1) in
+    omega (arith, first, second)
+
+no_row : (number : ℕ) (nodes : List ℕ) (fields : List (List ℕ)) → field_refusal number fields ≡ None → length (with_row nodes fields) ≤ most_nodes → row_refusal number nodes fields ≡ None
+no_row number nodes fields fine few =
+    ap (λ o. option_or o (cond (ltb most_nodes (length (with_row nodes fields))) (Some (TooManyNodes number)) None)) fine
+    ∙ ap (λ b. cond b (Some (TooManyNodes number)) None) (le-ltb most_nodes (length (with_row nodes fields)) few)
+
+-- no row of arcs is refused, where the rows are few
+no_refusal : (number : ℕ) (nodes : List ℕ) (rows : List (List Field)) → AllArcs rows → length nodes + 2 * length rows ≤ most_nodes → first_refusal number nodes (map fields_of rows) ≡ None
+unfolding first_refusal
+no_refusal number nodes [] all few = refl
+no_refusal number nodes (row ∷ rows) all few =
+    let more : length (with_row nodes (fields_of row)) ≤ length nodes + 2 = two_more nodes (fields_of row) in
+    let size : length (row ∷ rows) ≡ suc (length rows) = refl in
+    let here : row_refusal number nodes (fields_of row) ≡ None = no_row number nodes (fields_of row) (no_field_of number row all.0) (omega (arith, more, few, size)) in
+    ap (λ o. option_or o (first_refusal (number + 1) (with_row nodes (fields_of row)) (map fields_of rows))) here
+    ∙ no_refusal (number + 1) (with_row nodes (fields_of row)) rows all.1 (omega (arith, more, few, size))
+
+network_given : (rows : List (List Field)) → AllArcs rows → length rows ≤ 40000 → network_of (map fields_of rows) ≡ Ok (roads_of (map fields_of rows))
+unfolding network_of
+network_given rows all few =
+    let size : length (map fields_of rows) ≡ length rows = length-map rows fields_of in
+    ap (λ b. cond b (Err TooManyArcs) (unless_refused (first_refusal 1 [] (map fields_of rows)) (roads_of (map fields_of rows)))) (le-ltb most_arcs (length (map fields_of rows)) (omega (arith, size, few)))
+    ∙ ap (λ o. unless_refused o (roads_of (map fields_of rows))) (no_refusal 1 [] rows all (omega (arith, few)))
+
+-- the rows of the network of a shape
+abbrev pub network_rows : LoadShape → List (List Field)
+network_rows shape = (network_part shape (draws_of shape.seed)).0
+
+network_few : (shape : LoadShape) → shape.side ≤ 100 → length (network_rows shape) ≤ 40000
+network_few shape small =
+    let most : length (network_rows shape) ≤ shape.side * (shape.side * 4) = (IsArcs-network shape small).few (draws_of shape.seed) in
+    let inner : shape.side * 4 ≤ 400 = omega (arith, small) in
+    let area : shape.side * (shape.side * 4) ≤ 100 * 400 = mul-le-mul small inner in
+    omega (arith, most, area)
+
+-- the rows of a shape's network give a network
+pub network_accepted : (shape : LoadShape) → shape.side ≤ 100 → RowsFit 3 (network_rows shape) × (network_of (map fields_of (network_rows shape)) ≡ Ok (roads_of (map fields_of (network_rows shape))))
+network_accepted shape small =
+    let all : AllArcs (network_rows shape) = (IsArcs-network shape small).arcs (draws_of shape.seed) in
+    (rows_fit (network_rows shape) all, network_given (network_rows shape) all (network_few shape small))

@@ -1,0 +1,165 @@
+use Rattle.std.proofs.Common.{◌≡◌, ℕ, zero, suc, ◌+◌, ◌*◌, ◌/◌, ◌%◌, ◌<◌, ◌≤◌, ◌==◌, Bool, true, false, ◌||◌, cond, ltb, List, [], ◌∷◌, ◌++◌, Some, map, fold, decimal, unwrap_or, refl, sym, ap, subst, ◌∙◌, arith}
+use Rattle.std.specs.List.{list_any}
+use Rattle.std.proofs.lemmas.Bool.{lt-ltb, ltb-false, ltb-true, eq-eqb, eqb-true, false≢true}
+use Rattle.std.proofs.lemmas.List.Folds.{list_any-append}
+use Rattle.std.proofs.lemmas.Nat.{mod_below, div-add-mod'}
+use Rattle.std.proofs.Math.Bool.{or-true}
+use Rattle.std.proofs.Math.Nat.{div-lt_iff_lt-mul}
+use Rattle.rand_core.specs.Stream.{Stream}
+use Rattle.pool_base.specs.Numeral.{number_up_to}
+use Rattle.road_network.specs.Roads.{greatest_name}
+use Rattle.road_network.specs.Reading.{with_node, with_row, name_in, nodes_of}
+use Rattle.fleet_state.specs.Vehicle.{has_node}
+use Rattle.rider_limits.specs.declared.load_shape.LoadShape.{LoadShape}
+use Rattle.load_maker.specs.declared.row.Field.{Field}
+use Rattle.load_maker.specs.declared.row.Field.TheVariants as field
+use Rattle.load_maker.specs.Part.{draws_of, draw, Part, nothing, both, each}
+use Rattle.load_maker.specs.Texts.{node_id, arcs_between, arcs_right, arcs_down, arcs_of_row, network_part}
+use Rattle.made_inputs.proofs.FieldLemmas.{number_up_to-decimal}
+use Rattle.made_inputs.proofs.TextLemmas.{fields_of}
+use Rattle.made_inputs.proofs.NetworkLemmas.{network_rows, node_small}
+
+-- whether a row's arc starts at a node
+abbrev pub starts_at : ℕ → List Field → Bool
+starts_at n row = name_in (fields_of row) 0 == n
+
+-- a part that names a node, whatever the draws
+abbrev pub Naming : ℕ → Part → Type 0
+Naming n part = (s : Stream) → list_any (starts_at n) (part s).0 ≡ true
+
+Naming-left : (n : ℕ) (first second : Part) → Naming n first → Naming n (both first second)
+Naming-left n first second here s =
+    list_any-append (starts_at n) (first s).0 (second (first s).1).0
+    ∙ ap (λ b. b || list_any (starts_at n) (second (first s).1).0) (here s)
+
+Naming-right : (n : ℕ) (first second : Part) → Naming n second → Naming n (both first second)
+Naming-right n first second rest s =
+    list_any-append (starts_at n) (first s).0 (second (first s).1).0
+    ∙ ap (λ b. list_any (starts_at n) (first s).0 || b) (rest (first s).1)
+    ∙ or-true (list_any (starts_at n) (first s).0)
+
+Naming-last : (n : ℕ) (parts : ℕ → Part) (k m : ℕ) → k ≡ m → Naming n (parts k) → Naming n (parts m)
+Naming-last n parts k m same is = subst (λ i. Naming n (parts i)) same is
+
+Naming-each_by : (n : ℕ) (parts : ℕ → Part) (k m : ℕ) (below : Bool) → ltb k m ≡ below → k < suc m → (k < m → Naming n (each parts m)) → Naming n (parts k) → Naming n (both (each parts m) (parts m))
+Naming-each_by n parts k m true e inside before is = Naming-left n (each parts m) (parts m) (before (ltb-true k m e))
+Naming-each_by n parts k m false e inside before is =
+    let last : m ≤ k = ltb-false k m e in
+    Naming-right n (each parts m) (parts m) (Naming-last n parts k m (omega (arith, last, inside)) is)
+
+Naming-each : (n : ℕ) (parts : ℕ → Part) (k count : ℕ) → k < count → Naming n (parts k) → Naming n (each parts count)
+Naming-each n parts k zero inside is = absurd (omega arith)
+Naming-each n parts k (suc m) inside is = λ s. Naming-each_by n parts k m (ltb k m) refl inside (λ below. Naming-each n parts k m below is) is s
+
+Naming-where : (n : ℕ) (c : Bool) (part other : Part) → c ≡ true → Naming n part → Naming n (cond c part other)
+Naming-where n true part other e is = is
+Naming-where n false part other e is = absurd (false≢true e)
+
+starts : (a b t n : ℕ) → a ≤ greatest_name → a ≡ n → starts_at n (field.Number a ∷ field.Number b ∷ field.Number t ∷ []) ≡ true
+starts a b t n small same =
+    let is : number_up_to greatest_name (decimal a) ≡ Some a = number_up_to-decimal greatest_name a small (omega arith) in
+    ap (λ o. unwrap_or o 0 == n) is ∙ eq-eqb a n same
+
+Naming-first : (a b n : ℕ) → a ≤ greatest_name → a ≡ n → Naming n (arcs_between a b)
+unfolding arcs_between
+Naming-first a b n small same s =
+    let t : ℕ = 20 + (draw 41 s).0 in
+    ap (λ c. c || (starts_at n (field.Number b ∷ field.Number a ∷ field.Number t ∷ []) || false)) (starts a b t n small same)
+
+Naming-second : (a b n : ℕ) → b ≤ greatest_name → b ≡ n → Naming n (arcs_between a b)
+unfolding arcs_between
+Naming-second a b n small same s =
+    let t : ℕ = 20 + (draw 41 s).0 in
+    ap (λ c. starts_at n (field.Number a ∷ field.Number b ∷ field.Number t ∷ []) || (c || false)) (starts b a t n small same)
+    ∙ or-true (starts_at n (field.Number a ∷ field.Number b ∷ field.Number t ∷ []))
+
+Naming-row_last : (side i j k : ℕ) → j ≡ k + 1 → side ≤ 100 → i < side → j < side → Naming (node_id side i j) (arcs_of_row side i)
+unfolding arcs_of_row arcs_right
+Naming-row_last side i j k next small row column =
+    let n : ℕ = node_id side i j in
+    let same : node_id side i (k + 1) ≡ n = ap (λ x. node_id side i x) (sym next) in
+    let fits : node_id side i (k + 1) ≤ greatest_name = node_small side i (k + 1) small (omega arith) (omega arith) in
+    let here : Naming n (arcs_between (node_id side i k) (node_id side i (k + 1))) = Naming-second (node_id side i k) (node_id side i (k + 1)) n fits same in
+    Naming-each n (λ x. both (arcs_right side i x) (arcs_down side i x)) k side (omega arith)
+    (Naming-left n (arcs_right side i k) (arcs_down side i k)
+    (Naming-where n (ltb (k + 1) side) (arcs_between (node_id side i k) (node_id side i (k + 1))) nothing (lt-ltb (k + 1) side (omega arith)) here))
+
+Naming-row_by : (side i j : ℕ) (more : Bool) → ltb (j + 1) side ≡ more → 2 ≤ side → side ≤ 100 → i < side → j < side → Naming (node_id side i j) (arcs_of_row side i)
+unfolding arcs_of_row arcs_right
+Naming-row_by side i j true e two small row column =
+    let n : ℕ = node_id side i j in
+    let here : Naming n (arcs_between n (node_id side i (j + 1))) = Naming-first n (node_id side i (j + 1)) n (node_small side i j small (omega arith) (omega arith)) refl in
+    Naming-each n (λ k. both (arcs_right side i k) (arcs_down side i k)) j side column
+    (Naming-left n (arcs_right side i j) (arcs_down side i j)
+    (Naming-where n (ltb (j + 1) side) (arcs_between n (node_id side i (j + 1))) nothing e here))
+Naming-row_by side i zero false e two small row column = (let last : side ≤ 0 + 1 = ltb-false (0 + 1) side e in absurd (omega (arith, last, two)))
+Naming-row_by side i (suc k) false e two small row column = Naming-row_last side i (suc k) k (omega arith) small row column
+
+-- a row of the square names each of its nodes
+Naming-row : (side i j : ℕ) → 2 ≤ side → side ≤ 100 → i < side → j < side → Naming (node_id side i j) (arcs_of_row side i)
+Naming-row side i j two small row column = Naming-row_by side i j (ltb (j + 1) side) refl two small row column
+
+Naming-network : (shape : LoadShape) (i j : ℕ) → 2 ≤ shape.side → shape.side ≤ 100 → i < shape.side → j < shape.side → Naming (node_id shape.side i j) (network_part shape)
+unfolding network_part
+Naming-network shape i j two small row column =
+    Naming-each (node_id shape.side i j) (arcs_of_row shape.side) i shape.side row (Naming-row shape.side i j two small row column)
+
+Naming-number : (shape : LoadShape) (m : ℕ) → 2 ≤ shape.side → shape.side ≤ 100 → m < shape.side * shape.side → Naming (1 + m) (network_part shape)
+Naming-number shape m two small inside =
+    let side : ℕ = shape.side in
+    let row : m / side < side = (div-lt_iff_lt-mul {k = side} {x = m} {y = side} (omega arith)).1 inside in
+    let column : m % side < side = mod_below m side (omega arith) in
+    let whole : m / side * side + m % side ≡ m = div-add-mod' m side in
+    subst (λ n. Naming n (network_part shape)) (omega (arith, whole)) (Naming-network shape (m / side) (m % side) two small row column)
+
+-- a node that was there is there
+kept_by : (nodes : List ℕ) (name n : ℕ) (c : Bool) → has_node nodes n ≡ true → has_node (cond c nodes (nodes ++ name ∷ [])) n ≡ true
+kept_by nodes name n true there = there
+kept_by nodes name n false there =
+    list_any-append (λ x. x == n) nodes (name ∷ []) ∙ ap (λ b. b || list_any (λ x. x == n) (name ∷ [])) there
+
+kept : (nodes : List ℕ) (name n : ℕ) → has_node nodes n ≡ true → has_node (with_node nodes name) n ≡ true
+kept nodes name n there = kept_by nodes name n (list_any (λ node. name == node) nodes) there
+
+kept_fold : (nodes : List ℕ) (rows : List (List (List ℕ))) (n : ℕ) → has_node nodes n ≡ true → has_node (fold with_row nodes rows) n ≡ true
+kept_fold nodes [] n there = there
+kept_fold nodes (fields ∷ rows) n there =
+    kept_fold (with_row nodes fields) rows n (kept (with_node nodes (name_in fields 0)) (name_in fields 1) n (kept nodes (name_in fields 0) n there))
+
+-- the two ways to ask for a node
+other_way_by : (node : ℕ) (nodes : List ℕ) (n : ℕ) (c : Bool) → (n == node) ≡ c → (list_any (λ x. n == x) nodes ≡ true → has_node nodes n ≡ true) → (c || list_any (λ x. n == x) nodes) ≡ true → has_node (node ∷ nodes) n ≡ true
+other_way_by node nodes n true e rest is = ap (λ b. b || has_node nodes n) (eq-eqb node n (sym (eqb-true n node e)))
+other_way_by node nodes n false e rest is = ap (λ b. (node == n) || b) (rest is) ∙ or-true (node == n)
+
+other_way : (nodes : List ℕ) (n : ℕ) → list_any (λ node. n == node) nodes ≡ true → has_node nodes n ≡ true
+other_way [] n is = absurd (false≢true is)
+other_way (node ∷ nodes) n is = other_way_by node nodes n (n == node) refl (other_way nodes n) is
+
+added_by : (nodes : List ℕ) (n : ℕ) (c : Bool) → list_any (λ node. n == node) nodes ≡ c → has_node (cond c nodes (nodes ++ n ∷ [])) n ≡ true
+added_by nodes n true e = other_way nodes n e
+added_by nodes n false e =
+    list_any-append (λ x. x == n) nodes (n ∷ [])
+    ∙ ap (λ b. list_any (λ x. x == n) nodes || (b || false)) (eq-eqb n n refl)
+    ∙ or-true (list_any (λ x. x == n) nodes)
+
+added : (nodes : List ℕ) (n : ℕ) → has_node (with_node nodes n) n ≡ true
+added nodes n = added_by nodes n (list_any (λ node. n == node) nodes) refl
+
+row_named : (nodes : List ℕ) (fields : List (List ℕ)) (n : ℕ) → name_in fields 0 ≡ n → has_node (with_row nodes fields) n ≡ true
+row_named nodes fields n is =
+    kept (with_node nodes (name_in fields 0)) (name_in fields 1) n
+    (subst (λ name. has_node (with_node nodes name) n ≡ true) (sym is) (added nodes n))
+
+-- a node that a row names is among the nodes
+named_by : (nodes : List ℕ) (row : List Field) (rows : List (List Field)) (n : ℕ) (c : Bool) → starts_at n row ≡ c → (list_any (starts_at n) rows ≡ true → has_node (fold with_row (with_row nodes (fields_of row)) (map fields_of rows)) n ≡ true) → (c || list_any (starts_at n) rows) ≡ true → has_node (fold with_row nodes (map fields_of (row ∷ rows))) n ≡ true
+named_by nodes row rows n true e rest is =
+    kept_fold (with_row nodes (fields_of row)) (map fields_of rows) n (row_named nodes (fields_of row) n (eqb-true (name_in (fields_of row) 0) n e))
+named_by nodes row rows n false e rest is = rest is
+
+named : (nodes : List ℕ) (rows : List (List Field)) (n : ℕ) → list_any (starts_at n) rows ≡ true → has_node (fold with_row nodes (map fields_of rows)) n ≡ true
+named nodes [] n is = absurd (false≢true is)
+named nodes (row ∷ rows) n is = named_by nodes row rows n (starts_at n row) refl (named (with_row nodes (fields_of row)) rows n) is
+
+-- each number of the square is a node of the network
+pub node_known : (shape : LoadShape) (m : ℕ) → 2 ≤ shape.side → shape.side ≤ 100 → m < shape.side * shape.side → has_node (nodes_of (map fields_of (network_rows shape))) (1 + m) ≡ true
+node_known shape m two small inside = named [] (network_rows shape) (1 + m) (Naming-number shape m two small inside (draws_of shape.seed))

@@ -1,0 +1,99 @@
+use Rattle.std.proofs.Common.{◌≡◌, ◌≢◌, ℕ, zero, suc, ◌+◌, ◌<◌, ◌≤◌, true, not, cond, eqb, List, [], ◌∷◌, ◌++◌, Some, None, Ok, Err, map, length, refl, ap, ◌∙◌, add-one, arith}
+use Rattle.std.specs.List.{position_from}
+use Rattle.std.specs.Option.{option_map_or}
+use Rattle.std.proofs.lemmas.Bool.{eq-eqb}
+use Rattle.std.proofs.lemmas.List.{length-append, length-map}
+use Rattle.csv.specs.Machine.{next_record}
+use Rattle.csv.specs.Reading.{default_config, records_from, records_next, records, strip_bom}
+use Rattle.csv.specs.declared.parser.State.TheVariants as st
+use Rattle.pool_io.specs.declared.records.RowFault.TheVariants.{Header, UnequalLength}
+use Rattle.pool_io.specs.Table.{header_fields, is_record, even_rows, rows_under, records_of, table_of}
+use Rattle.load_maker.specs.declared.row.Field.{Field}
+use Rattle.load_maker.specs.Row.{field_text, row_text, rows_text, text_under}
+use Rattle.load_maker.specs.Texts.{network_header, fleet_header, script_header}
+use Rattle.made_inputs.proofs.FieldLemmas.{AllFit, row_read}
+
+-- the texts of a row's fields
+abbrev pub fields_of : List Field → List (List ℕ)
+fields_of row = map field_text row
+
+-- rows of so many fields, whose numbers are numbers of the files
+abbrev pub RowsFit : ℕ → List (List Field) → Type 0
+RowsFit k [] = Unit {0}
+RowsFit k (row ∷ rows) = (length row ≡ k) × AllFit row × RowsFit k rows
+
+pub RowsFit-append : (k : ℕ) (xs ys : List (List Field)) → RowsFit k xs → RowsFit k ys → RowsFit k (xs ++ ys)
+RowsFit-append k [] ys left right = right
+RowsFit-append k (row ∷ xs) ys left right = (left.0, left.1, RowsFit-append k xs ys left.2 right)
+
+some_byte : (fields : List Field) → fields ≢ [] → 1 ≤ length (row_text fields)
+some_byte [] some = absurd (some refl)
+some_byte (field ∷ []) some = omega (arith, length-append (field_text field) (10 ∷ []))
+some_byte (field ∷ next ∷ fields) some = omega (arith, length-append (field_text field) (44 ∷ row_text (next ∷ fields)))
+
+rows_long : (k : ℕ) (rows : List (List Field)) → 2 ≤ k → RowsFit k rows → length rows ≤ length (rows_text rows)
+rows_long k [] two fit = omega arith
+rows_long k (row ∷ rows) two fit =
+    let size : length row ≡ k = fit.0 in
+    let one : 1 ≤ length (row_text row) = some_byte row (λ e. let none : length row ≡ 0 = ap length e in omega arith) in
+    let rest : length rows ≤ length (rows_text rows) = rows_long k rows two fit.2 in
+    omega (arith, one, rest, length-append (row_text row) (rows_text rows))
+
+-- rows are read as their fields
+rows_read : (k n : ℕ) (rows : List (List Field)) → 2 ≤ k → length rows < n → RowsFit k rows → records_from default_config n st.StartRecord (rows_text rows) ≡ map fields_of rows
+unfolding records_from next_record
+rows_read k zero rows two fuel fit = absurd (omega arith)
+rows_read k (suc n) [] two fuel fit = refl
+rows_read k (suc n) ([] ∷ rows) two fuel fit = (let size : 0 ≡ k = fit.0 in absurd (omega arith))
+rows_read k (suc n) ((first ∷ []) ∷ rows) two fuel fit = (let size : suc 0 ≡ k = fit.0 in absurd (omega arith))
+rows_read k (suc n) ((first ∷ second ∷ fields) ∷ rows) two fuel fit =
+    ap (records_next (records_from default_config n)) (row_read first second fields (rows_text rows) fit.1)
+    ∙ ap (λ (rs : List (List (List ℕ))). fields_of (first ∷ second ∷ fields) ∷ rs) (rows_read k n rows two (omega arith) fit.2)
+
+-- rows of one length are even
+even : (k row : ℕ) (rows : List (List Field)) → RowsFit k rows → position_from (λ fields. not (eqb (length fields) k)) row (map fields_of rows) ≡ None
+even k row [] fit = refl
+even k row (fields ∷ rows) fit =
+    let size : length (fields_of fields) ≡ k = length-map fields field_text ∙ fit.0 in
+    ap (λ b. cond (not b) (Some row) (position_from (λ fs. not (eqb (length fs) k)) (row + 1) (map fields_of rows))) (eq-eqb (length (fields_of fields)) k size)
+    ∙ even k (row + 1) rows fit.2
+
+-- a header line that is read as its fields
+pub record IsHeader (header : List ℕ) (k : ℕ) : Type 0 where
+  pub read : (tail : List ℕ) → next_record default_config st.StartRecord [] [] (header ++ 10 ∷ tail) ≡ Some (header_fields header, st.StartRecord, tail)
+  pub marked : (tail : List ℕ) → strip_bom (header ++ 10 ∷ tail) ≡ header ++ 10 ∷ tail
+  pub same : is_record (header_fields header) (header_fields header) ≡ true
+  pub columns : length (header_fields header) ≡ k
+
+pub IsHeader-network : IsHeader network_header 3
+unfolding next_record strip_bom
+IsHeader-network = record { read = λ tail. refl; marked = λ tail. refl; same = refl; columns = refl }
+
+pub IsHeader-fleet : IsHeader fleet_header 4
+unfolding next_record strip_bom
+IsHeader-fleet = record { read = λ tail. refl; marked = λ tail. refl; same = refl; columns = refl }
+
+pub IsHeader-script : IsHeader script_header 7
+unfolding next_record strip_bom
+IsHeader-script = record { read = λ tail. refl; marked = λ tail. refl; same = refl; columns = refl }
+
+records_of-under : (header : List ℕ) (k : ℕ) (rows : List (List Field)) → IsHeader header k → 2 ≤ k → RowsFit k rows → records_of (text_under header rows) ≡ header_fields header ∷ map fields_of rows
+unfolding records_from
+records_of-under header k rows is two fit =
+    let text : List ℕ = text_under header rows in
+    let size : length text ≡ length header + suc (length (rows_text rows)) = length-append header (10 ∷ rows_text rows) in
+    let long : length rows ≤ length (rows_text rows) = rows_long k rows two fit in
+    ap (records default_config) (is.marked (rows_text rows))
+    ∙ ap (λ n. records_from default_config n st.StartRecord text) (add-one (length text))
+    ∙ ap (records_next (records_from default_config (length text))) (is.read (rows_text rows))
+    ∙ ap (λ (rs : List (List (List ℕ))). header_fields header ∷ rs) (rows_read k (length text) rows two (omega (arith, size, long)) fit)
+
+-- a made text is read as its rows
+pub table_of-under : (header : List ℕ) (k : ℕ) (rows : List (List Field)) → IsHeader header k → 2 ≤ k → RowsFit k rows → table_of header (text_under header rows) ≡ Ok (record { columns = k; records = map fields_of rows })
+table_of-under header k rows is two fit =
+    let names : List (List ℕ) = header_fields header in
+    let made : List (List (List ℕ)) = map fields_of rows in
+    ap (rows_under names) (records_of-under header k rows is two fit)
+    ∙ ap (λ b. cond b (even_rows (length names) made) (Err (Header (length names)))) is.same
+    ∙ ap (λ n. even_rows n made) is.columns
+    ∙ ap (λ o. option_map_or (λ row. Err (UnequalLength row)) o (Ok (record { columns = k; records = made }))) (even k 1 rows fit)
