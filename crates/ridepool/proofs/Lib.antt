@@ -1,0 +1,3 @@
+pub mod ExitLemmas
+pub mod TableLemmas
+pub mod WriteLemmas
