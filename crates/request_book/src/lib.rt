@@ -6,11 +6,16 @@
 //! of the journal and changes nothing else.
 #![tactic(auto)]
 
+mod closing;
 mod command;
 mod journal;
 mod outcome;
+mod refusals;
+mod register;
 mod reply;
 mod rider;
+mod riding;
+mod sealing;
 mod state;
 
 pub use command::Command;

@@ -39,7 +39,7 @@ pub struct Planned {
     pub cost: u64,
     /// No lawful plan costs less.
     pub bound: i128,
-    /// What shows the bound.
+    /// The search tree that shows the bound.
     pub tree: Tree,
 }
 
