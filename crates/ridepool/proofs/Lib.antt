@@ -1,3 +1,1 @@
-pub mod ExitLemmas
-pub mod TableLemmas
-pub mod WriteLemmas
+pub mod ReadingLemmas

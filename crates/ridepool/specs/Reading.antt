@@ -5,7 +5,7 @@ use Rattle.fleet_state.specs.Fleet.{fleet_of}
 use Rattle.fleet_state.specs.declared.fault.FleetFault.{FleetFault}
 use Rattle.fleet_state.specs.declared.fault.FleetFault.TheVariants.{OutOfMemory as NoMemoryForFleet}
 use Rattle.pool_base.specs.declared.which.Which.{Which}
-use Rattle.pool_base.specs.declared.which.Which.TheVariants as which
+use Rattle.pool_base.specs.declared.which.Which.TheVariants as file
 use Rattle.pool_io.specs.Faults.{Rose}
 use Rattle.pool_io.specs.Table.{Table, table_of}
 use Rattle.pool_io.specs.declared.input.Input.{Input}
@@ -73,24 +73,24 @@ IsReadingFault s which _ = ⊥
 -- why there is no network
 abbrev pub IsNetworkFault : SeenSource → RunStatus → Type 0
 IsNetworkFault s (Network fault) = Gives s (λ bytes. network_in bytes ≡ Err fault)
-IsNetworkFault s (TooLong which) = IsReadingFault s which.Network (TooLong which)
-IsNetworkFault s (ReadFault which) = IsReadingFault s which.Network (ReadFault which)
+IsNetworkFault s (TooLong which) = IsReadingFault s file.Network (TooLong which)
+IsNetworkFault s (ReadFault which) = IsReadingFault s file.Network (ReadFault which)
 IsNetworkFault s OutOfMemory = Unit {0}
 IsNetworkFault s _ = ⊥
 
 -- why there is no fleet
 abbrev pub IsFleetFault : SeenSource → List ℕ → RunStatus → Type 0
 IsFleetFault s nodes (Fleet fault) = Gives s (λ bytes. fleet_in nodes bytes ≡ Err fault)
-IsFleetFault s nodes (TooLong which) = IsReadingFault s which.Fleet (TooLong which)
-IsFleetFault s nodes (ReadFault which) = IsReadingFault s which.Fleet (ReadFault which)
+IsFleetFault s nodes (TooLong which) = IsReadingFault s file.Fleet (TooLong which)
+IsFleetFault s nodes (ReadFault which) = IsReadingFault s file.Fleet (ReadFault which)
 IsFleetFault s nodes OutOfMemory = Unit {0}
 IsFleetFault s nodes _ = ⊥
 
 -- why there is no script
 abbrev pub IsScriptFault : SeenSource → RunStatus → Type 0
 IsScriptFault s (Script fault) = Gives s (λ bytes. script_in bytes ≡ Err fault)
-IsScriptFault s (TooLong which) = IsReadingFault s which.Script (TooLong which)
-IsScriptFault s (ReadFault which) = IsReadingFault s which.Script (ReadFault which)
+IsScriptFault s (TooLong which) = IsReadingFault s file.Script (TooLong which)
+IsScriptFault s (ReadFault which) = IsReadingFault s file.Script (ReadFault which)
 IsScriptFault s OutOfMemory = Unit {0}
 IsScriptFault s _ = ⊥
 
