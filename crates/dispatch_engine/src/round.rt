@@ -1,4 +1,5 @@
 ghost use Rattle.std.specs.Prelude.{◌≡◌, ◌↔◌, [], IsTrue, IfOk, OnOk};
+ghost use Rattle.request_book.specs.Book.{IsBook};
 ghost use Rattle.dispatch_engine.specs.Run.{IsPlainRound, IsRoundRun, IsSameRun, TakesRound, journal_of};
 
 use crate::lane::{are_plain, run_lane};
@@ -27,6 +28,7 @@ pub fn run_round(book: Book, round: &Round) -> Result<Book, OutOfMemory>
     requires plain { IsPlainRound round.now }
     ensures run { IfOk result (λ after. IsRoundRun book.nodes book.wait round.now (journal_of after)) }
     ensures same { IfOk result (λ after. IsSameRun book after) }
+    ensures kept { IfOk result IsBook }
 {
     let mut book = book;
     run_lanes(&mut book, round)?;
