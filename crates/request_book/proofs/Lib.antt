@@ -5,3 +5,4 @@ pub mod IndexLemmas
 pub mod SealLemmas
 pub mod CloseLemmas
 pub mod BatchLemmas
+pub mod ConsistentLemmas

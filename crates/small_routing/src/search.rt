@@ -1,29 +1,85 @@
-ghost use Rattle.std.specs.Prelude.{◌≡◌, ◌+◌, ◌≤◌, List, IfOk, IfSome, IfNone};
+ghost use Rattle.std.specs.Prelude.{◌≡◌, ◌+◌, ◌<◌, ◌≤◌, ◌↔◌, All, IfOk, IsFalse, IsTrue, OnOk, length};
 ghost use Rattle.pool_base.specs.Times.{point_count, travel_time};
-ghost use Rattle.stop_orders.specs.declared.stop.Stop.{Stop};
-ghost use Rattle.stop_orders.specs.Task.{IsTask, Serves, order_delay};
+ghost use Rattle.stop_orders.specs.Task.{IsOrderOf};
+ghost use Rattle.stop_orders.specs.Done.{left_count};
+ghost use Rattle.stop_orders.specs.Plain.{IsFound, NoneBetter};
+ghost use Rattle.small_routing.specs.Label.{IsRoutable, IsSmall, rider_count, passenger_count};
+ghost use Rattle.small_routing.specs.Kept.{labels_of};
+ghost use Rattle.small_routing.specs.Search.{LeadsTo, IsSettled, Searched};
 
-use pool_base::{OutOfMemory, Steps, Times};
-use std::alloc::Global;
-use std::sync::ledger::Ledger;
-use stop_orders::{Route, Task, least_over_all_orders};
+use crate::ahead::look_ahead;
+use crate::candidate::candidates_after;
+use crate::kept::Kept;
+use crate::label::Label;
+use arrayvec::ArrayVec;
+use pool_base::{OutOfMemory, Times};
+use stop_orders::{Route, Stop, Task};
 
-/// The least delay of an order that serves the task, and an order that has it; `None` exactly where no
-/// order serves. It counts one step.
-pub fn least_delay<L: Ledger>(
-    _alloc: Global,
+/// Tries all ways on from a label, depth first and the soonest stop first. A label is left where someone
+/// can't be served any more, where no way on can be better than what was found, or where a label from
+/// which all ways on were tried dominates it.
+pub fn search(
     task: &Task,
     times: &Times,
-    steps: &mut Steps<L>,
-) -> Result<Option<Route>, OutOfMemory>
-    requires valid { IsTask (point_count times.now) task.now }
-    ensures serves { IfOk result (λ found. IfSome found (λ route. Serves (travel_time times.now) task.now route.stops.items)) }
-    ensures delay { IfOk result (λ found. IfSome found (λ route. route.delay ≡ order_delay (travel_time times.now) task.now route.stops.items)) }
-    ensures least { IfOk result (λ found. IfSome found (λ route. (stops : List Stop) → Serves (travel_time times.now) task.now stops
-        → route.delay ≤ order_delay (travel_time times.now) task.now stops)) }
-    ensures none { IfOk result (λ found. IfNone found ((stops : List Stop) → Serves (travel_time times.now) task.now stops → ⊥)) }
-    ensures step { steps.new ≡ steps.old + 1 }
+    label: &Label,
+    path: &mut ArrayVec<Stop, 22>,
+    best: &mut Option<Route>,
+    kept: &mut Kept,
+) -> Result<(), OutOfMemory>
+    requires valid { IsRoutable (point_count times.now) task.now }
+    requires leads { LeadsTo (travel_time times.now) task.now path.old.items label.now }
+    requires small { IsSmall (point_count times.now) (left_count (rider_count task.now) (passenger_count task.now) label.now.done) label.now }
+    requires room { length path.old.items + left_count (rider_count task.now) (passenger_count task.now) label.now.done ≤ 22 }
+    requires found { IsFound (travel_time times.now) task.now best.old }
+    requires settled { All (IsSettled (point_count times.now) (travel_time times.now) task.now best.old) (labels_of kept.old) }
+    ensures path { OnOk result (path.new.items ≡ path.old.items) }
+    ensures searched { OnOk result (Searched (point_count times.now) (travel_time times.now) task.now label.now best.old best.new (labels_of kept.new)) }
 {
-    steps.tick();
-    Ok(least_over_all_orders(task, times))
+    if label.done.is_all(task.riders.len(), task.aboard.len()) {
+        if is_better(label.delay, best) {
+            *best = Some(Route {
+                stops: copy_of(path),
+                delay: label.delay,
+            });
+        }
+        return Ok(());
+    }
+    let Some(ahead) = look_ahead(task, times, label) else {
+        return Ok(());
+    };
+    if !is_better(label.delay + ahead, best) {
+        return Ok(());
+    }
+    if kept.dominates(times, label) {
+        return Ok(());
+    }
+    let candidates = candidates_after(task, times, label);
+    for candidate in candidates.as_slice() {
+        let next = candidate.label;
+        path.push(candidate.stop);
+        search(task, times, &next, path, best, kept)?;
+        path.pop();
+    }
+    kept.keep(*label)
+}
+
+/// Whether this delay is less than that of what was found.
+fn is_better(delay: u64, best: &Option<Route>) -> bool
+    ensures { IsFalse result ↔ NoneBetter best.now delay }
+{
+    match best {
+        None => true,
+        Some(route) => delay < route.delay,
+    }
+}
+
+fn copy_of(stops: &[Stop]) -> ArrayVec<Stop, 22>
+    requires { length stops.now ≤ 22 }
+    ensures { result.items ≡ stops.now }
+{
+    let mut copy = ArrayVec::new();
+    for stop in stops {
+        copy.push(*stop);
+    }
+    copy
 }

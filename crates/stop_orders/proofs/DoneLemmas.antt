@@ -182,7 +182,7 @@ IsOrder-from_none riders passengers stops c = record {
   known = c.known;
 }
 
-sum_below-le : (f g : ℕ → ℕ) (n : ℕ) → ((k : ℕ) → k < n → g k ≤ f k) → sum_below g n ≤ sum_below f n
+pub sum_below-le : (f g : ℕ → ℕ) (n : ℕ) → ((k : ℕ) → k < n → g k ≤ f k) → sum_below g n ≤ sum_below f n
 sum_below-le f g zero h = omega arith
 sum_below-le f g (suc n) h =
     let rest = sum_below-le f g n (λ k b. h k (omega arith)) in

@@ -4,3 +4,5 @@ pub mod PairLemmas
 pub mod VisitLemmas
 pub mod ScanLemmas
 pub mod PlainLemmas
+pub mod DeletionLemmas
+pub mod TripLemmas

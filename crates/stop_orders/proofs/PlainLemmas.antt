@@ -9,8 +9,8 @@ use Rattle.stop_orders.specs.declared.visit.Visit.{Visit}
 use Rattle.stop_orders.specs.Visit.{place_of, room_after, Reaches, ServesFrom}
 use Rattle.stop_orders.specs.Order.{IsKnown, IsOrder}
 use Rattle.stop_orders.specs.Task.{IsTask, IsOrderOf, Serves, ReachesAll, order_delay, free_seats, visits_of}
-use Rattle.stop_orders.specs.Done.{bit_of, has, with_stop, Completes, IsNext, IsAllDone, left_count}
-use Rattle.stop_orders.specs.Plain.{stop_with, IsFound, NoneBetter, StaysGood, MakesOrders, AllTried}
+use Rattle.stop_orders.specs.Done.{stop_with, bit_of, has, with_stop, Completes, IsNext, IsAllDone, left_count}
+use Rattle.stop_orders.specs.Plain.{IsFound, NoneBetter, StaysGood, MakesOrders, AllTried}
 use Rattle.stop_orders.proofs.DoneLemmas.{Completes-front, Completes-back, Completes-nil, IsAllDone-from_nil, Completes-none, IsOrder-from_none, left_count-falls, left_count-most}
 
 -- what serves reaches all its places
@@ -42,7 +42,7 @@ stop_with-bit_of riders passengers done few seated (Alight j) next =
     let e : 12 + j - 12 ≡ j = omega arith in
     (rw (le-ltb (12 + j) 6 (omega arith), le-ltb (12 + j) 12 (omega arith), e) refl, omega (arith, next.0))
 
-append_one : (path : List Stop) (s : Stop) (rest : List Stop) → (path ++ s ∷ []) ++ rest ≡ path ++ s ∷ rest
+pub append_one : (path : List Stop) (s : Stop) (rest : List Stop) → (path ++ s ∷ []) ++ rest ≡ path ++ s ∷ rest
 append_one path s rest = append_assoc path (s ∷ []) rest
 
 module _ (task : Task) (few : length task.riders.items ≤ 6) where

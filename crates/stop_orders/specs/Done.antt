@@ -1,4 +1,4 @@
-use Rattle.std.specs.Prelude.{◌≡◌, ◌==◌, ℕ, zero, suc, ◌+◌, ◌^◌, ◌<◌, Bool, true, false, bit_or, List, [], ◌∷◌, length, filter}
+use Rattle.std.specs.Prelude.{◌≡◌, ◌==◌, ℕ, zero, suc, ◌+◌, ◌-◌, ◌^◌, ◌<◌, nat_lt, if◌then◌else◌, Bool, true, false, bit_or, List, [], ◌∷◌, length, filter}
 use Rattle.std.specs.Int.{bit_at}
 use Rattle.std.specs.List.{AllByRecursion}
 use Rattle.stop_orders.specs.declared.stop.Stop.{Stop}
@@ -10,6 +10,10 @@ abbrev pub bit_of : Stop → ℕ
 bit_of (Pick i) = i
 bit_of (Drop i) = 6 + i
 bit_of (Alight j) = 12 + j
+
+-- the stop with this bit
+abbrev pub stop_with : ℕ → Stop
+stop_with k = if nat_lt k 6 then Pick k else (if nat_lt k 12 then Drop (k - 6) else Alight (k - 12))
 
 -- whether the stop with this bit is in the set
 unfoldable pub has : ℕ → ℕ → Bool

@@ -1,4 +1,4 @@
-use Rattle.std.specs.Prelude.{ℕ, ◌-◌, ◌<◌, ◌≤◌, not, nat_lt, if◌then◌else◌, List, [], ◌∷◌, length, map, filter, remove, slice_index}
+use Rattle.std.specs.Prelude.{ℕ, ◌-◌, ◌<◌, ◌≤◌, not, nat_lt, if◌then◌else◌, List, [], ◌∷◌, length, map, filter, remove}
 use Rattle.pool_base.specs.TravelTime.{IsTravelTime}
 use Rattle.stop_orders.specs.declared.stop.Stop.{Stop}
 use Rattle.stop_orders.specs.declared.stop.Stop.TheVariants.{Pick, Drop, Alight}
@@ -73,9 +73,21 @@ SubTripsCostNoMore = (k points : ℕ) (tau : ℕ → ℕ → ℕ) (settled : Set
     → IsLeastDelay tau (trip_task settled v trip) cost → IsLeastDelay tau (trip_task settled v (remove trip i)) less
     → less ≤ cost
 
--- where a vehicle serves a trip, any two of its riders are an edge between riders
-abbrev pub PairsOfTripsAreEdges : Type 0
-PairsOfTripsAreEdges = (k points : ℕ) (tau : ℕ → ℕ → ℕ) (settled : Settled) (v : ℕ) (trip : List ℕ) (i j : ℕ)
+-- where a vehicle serves a trip of two riders, they are an edge between riders
+abbrev pub PairsAreEdges : Type 0
+PairsAreEdges = (k points : ℕ) (tau : ℕ → ℕ → ℕ) (settled : Settled) (v a b : ℕ)
     → IsTravelTime points tau → IsSound k points tau settled → v < length settled.vehicles
-    → IsTrip (length settled.riders) trip → length trip ≤ 6 → i < j → j < length trip
-    → IsServable tau (trip_task settled v trip) → IsRrEdge tau settled (slice_index trip i) (slice_index trip j)
+    → IsTrip (length settled.riders) (a ∷ b ∷ [])
+    → IsServable tau (trip_task settled v (a ∷ b ∷ [])) → IsRrEdge tau settled a b
+
+-- the delay of a serving order is at most 158,400 seconds: 7,200 for each stop
+abbrev pub DelaysAreSmall : Type 0
+DelaysAreSmall = (k points : ℕ) (tau : ℕ → ℕ → ℕ) (settled : Settled) (v : ℕ) (trip : List ℕ) (stops : List Stop)
+    → IsSound k points tau settled → v < length settled.vehicles
+    → IsTrip (length settled.riders) trip → length trip ≤ 6
+    → Serves tau (trip_task settled v trip) stops → order_delay tau (trip_task settled v trip) stops ≤ 158400
+
+-- what is sound for trips of some size is sound for larger ones
+abbrev pub SoundForLarger : Type 0
+SoundForLarger = (k n points : ℕ) (tau : ℕ → ℕ → ℕ) (settled : Settled) → k ≤ n
+    → IsSound k points tau settled → IsSound n points tau settled

@@ -1,14 +1,9 @@
-use Rattle.std.specs.Prelude.{◌≡◌, ℕ, ◌+◌, ◌-◌, ◌<◌, ◌≤◌, nat_lt, if◌then◌else◌, List, ◌++◌, Option, None, Some, length}
+use Rattle.std.specs.Prelude.{◌≡◌, ℕ, ◌≤◌, List, ◌++◌, Option, None, Some, length}
 use Rattle.stop_orders.specs.declared.route.Route.{Route}
 use Rattle.stop_orders.specs.declared.stop.Stop.{Stop}
-use Rattle.stop_orders.specs.declared.stop.Stop.TheVariants.{Pick, Drop, Alight}
 use Rattle.stop_orders.specs.declared.task.Task.{Task}
 use Rattle.stop_orders.specs.Done.{Completes}
 use Rattle.stop_orders.specs.Task.{IsOrderOf, Serves, order_delay}
-
--- the stop with this bit
-abbrev pub stop_with : ℕ → Stop
-stop_with k = if nat_lt k 6 then Pick k else (if nat_lt k 12 then Drop (k - 6) else Alight (k - 12))
 
 -- what was found serves, with its delay
 abbrev pub IsFound : (ℕ → ℕ → ℕ) → Task → Option Route → Type 0

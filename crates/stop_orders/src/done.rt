@@ -1,6 +1,6 @@
 ghost use Rattle.std.specs.Prelude.{◌≡◌, ℕ, ◌+◌, ◌<◌, ◌≤◌, ◌↔◌, true, IsTrue};
 ghost use Rattle.stop_orders.specs.Order.{IsKnown};
-ghost use Rattle.stop_orders.specs.Done.{has, with_bit, with_stop, IsNext, IsAllDone};
+ghost use Rattle.stop_orders.specs.Done.{stop_with, has, with_bit, with_stop, IsNext, IsAllDone};
 
 use crate::Stop;
 use std::marker::Model;
@@ -81,6 +81,11 @@ impl Done {
         }
     }
 
+    /// A number that spreads the sets, for tables of them.
+    pub fn hash(self) -> u32 {
+        self.bits.wrapping_mul(2_654_435_761) >> 8
+    }
+
     /// Whether the stop is one of so many riders and passengers and may come next.
     pub fn is_next(self, riders: usize, passengers: usize, stop: Stop) -> bool
         requires riders { riders ≤ 6 }
@@ -134,5 +139,18 @@ impl Done {
             }
         }
         true
+    }
+}
+
+/// The stop with this bit: riders' pickups from 0, their drop-offs from 6, passengers from 12.
+pub fn stop_of(bit: u8) -> Stop
+    ensures { result ≡ stop_with bit }
+{
+    if bit < 6 {
+        Stop::Pick(bit)
+    } else if bit < 12 {
+        Stop::Drop(bit - 6)
+    } else {
+        Stop::Alight(bit - 12)
     }
 }

@@ -6,6 +6,7 @@
 #![tactic(auto)]
 
 mod done;
+pub mod laws;
 mod leg;
 mod order;
 mod pair_list;
@@ -22,7 +23,7 @@ mod trip;
 mod validity;
 mod visit;
 
-pub use done::Done;
+pub use done::{Done, stop_of};
 pub use leg::Leg;
 pub use order::is_order;
 pub use pair_list::PairList;
@@ -38,3 +39,6 @@ pub use task::Task;
 pub use trip::task_of;
 pub use validity::is_valid;
 pub use visit::Visit;
+
+#[cfg(test)]
+mod tests;

@@ -3,8 +3,9 @@ ghost use Rattle.pool_base.specs.Times.{point_count, travel_time};
 ghost use Rattle.stop_orders.specs.declared.stop.Stop.{Stop as OneStop};
 ghost use Rattle.stop_orders.specs.Task.{IsTask, IsOrderOf, Serves, order_delay};
 ghost use Rattle.stop_orders.specs.Done.{left_count};
-ghost use Rattle.stop_orders.specs.Plain.{stop_with, IsFound, StaysGood, NoneBetter, MakesOrders, AllTried};
+ghost use Rattle.stop_orders.specs.Plain.{IsFound, StaysGood, NoneBetter, MakesOrders, AllTried};
 
+use crate::done::stop_of;
 use crate::{Done, Route, Stop, Task, delay_of, serves};
 use arrayvec::ArrayVec;
 use pool_base::Times;
@@ -56,19 +57,6 @@ fn try_rests(
             try_rests(task, times, done.with(stop), path, best);
             path.pop();
         }
-    }
-}
-
-/// The k-th of all stops that there may be.
-fn stop_of(k: u8) -> Stop
-    ensures { result ≡ stop_with k }
-{
-    if k < 6 {
-        Stop::Pick(k)
-    } else if k < 12 {
-        Stop::Drop(k - 6)
-    } else {
-        Stop::Alight(k - 12)
     }
 }
 

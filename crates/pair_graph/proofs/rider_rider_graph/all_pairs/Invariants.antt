@@ -1,0 +1,6 @@
+use Rattle.pool_base.specs.Times.{travel_time}
+use Rattle.pair_graph.specs.RrGraph.{IsRrGraphUpTo}
+use Rattle.pair_graph.proofs.rider_rider_graph.all_pairs.Given as goal
+
+abbrev pub invariant-loop-first : goal.invariant-loop-first
+invariant-loop-first g l = IsRrGraphUpTo (travel_time l.times) l.settled l.first 0 l.pairs.items

@@ -1,0 +1,16 @@
+use Rattle.std.proofs.Common.{length, ap, arith}
+use Rattle.pool_base.specs.Times.{travel_time}
+use Rattle.stop_orders.specs.Settled.{IsRvEdge}
+use Rattle.pair_graph.specs.declared.rv_edge.RvEdge.{RvEdge}
+use Rattle.pair_graph.specs.RvGraph.{pair_of, no_edge}
+use Rattle.pair_graph.proofs.Listing.{lists_next}
+use Rattle.pair_graph.proofs.Graphs.{rv_lists, rv_upto}
+use Rattle.pair_graph.proofs.rider_vehicle_graph.add_vehicle.Goals as goal
+
+pub returns : goal.returns
+returns g c =
+    let tau = travel_time c.args.times.now in let settled = c.args.settled.now in
+    let all = ap length c.as_slice-rider-end.ensures in
+    rv_upto tau settled _ 0 c.loop-rider.edges.items
+    (lists_next RvEdge pair_of (λ v r. record { vehicle = v; rider = r }) no_edge (IsRvEdge tau settled) c.args.vehicle c.loop-rider.rider c.loop-rider.edges.items
+    (λ d e. let under = e.rider in omega arith) (rv_lists tau settled c.args.vehicle c.loop-rider.rider c.loop-rider.edges.items c.loop-rider.invariant))

@@ -1,0 +1,166 @@
+ghost use Rattle.std.specs.Prelude.{◌≡◌, ◌+◌, ◌<◌, ◌≤◌, min, ◌⊎◌, IfOk, OnOk, MatchBool, length};
+ghost use Rattle.pool_base.specs.Times.{point_count, travel_time};
+ghost use Rattle.stop_orders.specs.Task.{IsTask, IsServable};
+ghost use Rattle.stop_orders.specs.Settled.{IsSound, IsRrEdge, rider_at, pair_task};
+ghost use Rattle.pair_graph.specs.RrGraph.{IsRrGraph, IsRrGraphUpTo};
+
+use arrayvec::ArrayVec;
+use pool_base::{OutOfMemory, Steps, Times};
+use small_routing::least_delay;
+use std::alloc::Global;
+use std::marker::Brand;
+use std::sync::ledger::{Blank, Ledger};
+use stop_orders::{PairList, Settled, Task};
+
+/// The edges between riders: exactly the pairs, the first below the second, that an empty vehicle serves
+/// which is ready at the batch's second at the origin of one of the two, with the most seats of the fleet;
+/// by first, then second.
+pub fn rider_rider(alloc: Global, settled: &Settled, times: &Times) -> Result<PairList, OutOfMemory>
+    requires { IsSound 6 (point_count times.now) (travel_time times.now) settled.now }
+    ensures { IfOk result (IsRrGraph (travel_time times.entry.now) settled.entry.now) }
+{
+    let pairs = all_pairs::<Brand>(alloc, settled, times, Blank::new(1))?;
+    Ok(PairList::of(pairs))
+}
+
+fn all_pairs<L: Ledger>(
+    alloc: Global,
+    settled: &Settled,
+    times: &Times,
+    blank: Blank,
+) -> Result<Vec<(usize, usize)>, OutOfMemory>
+    requires sound { IsSound 6 (point_count times.now) (travel_time times.now) settled.now }
+    requires name { blank.name ≡ L.name }
+    requires parts { blank.parts ≡ L.parts }
+    requires share { 0 < blank.parts }
+    ensures { IfOk result (λ pairs. IsRrGraph (travel_time times.entry.now) settled.entry.now pairs.items) }
+{
+    let mut steps = Steps::<L>::new(blank);
+    let mut pairs = Vec::new(alloc);
+    for first in 0..settled.riders.as_slice().len() {
+        add_first(alloc, settled, times, first, &mut pairs, &mut steps)?;
+    }
+    Ok(pairs)
+}
+
+/// Puts the pairs of one rider and a later one behind those found before.
+fn add_first<L: Ledger>(
+    alloc: Global,
+    settled: &Settled,
+    times: &Times,
+    first: usize,
+    pairs: &mut Vec<(usize, usize)>,
+    steps: &mut Steps<L>,
+) -> Result<(), OutOfMemory>
+    requires sound { IsSound 6 (point_count times.now) (travel_time times.now) settled.now }
+    requires first { first < length settled.now.riders }
+    requires upto { IsRrGraphUpTo (travel_time times.now) settled.now first 0 pairs.old.items }
+    ensures { OnOk result (IsRrGraphUpTo (travel_time times.entry.now) settled.entry.now (first + 1) 0 pairs.new.items) }
+{
+    for second in first + 1..settled.riders.as_slice().len() {
+        add_pair(alloc, settled, times, first, second, pairs, steps)?;
+    }
+    Ok(())
+}
+
+/// Puts the pair, if it is an edge, behind those before it.
+fn add_pair<L: Ledger>(
+    alloc: Global,
+    settled: &Settled,
+    times: &Times,
+    first: usize,
+    second: usize,
+    pairs: &mut Vec<(usize, usize)>,
+    steps: &mut Steps<L>,
+) -> Result<(), OutOfMemory>
+    requires sound { IsSound 6 (point_count times.now) (travel_time times.now) settled.now }
+    requires below { first < second }
+    requires within { second < length settled.now.riders }
+    requires upto { IsRrGraphUpTo (travel_time times.now) settled.now first second pairs.old.items }
+    ensures { OnOk result (IsRrGraphUpTo (travel_time times.entry.now) settled.entry.now first (second + 1) pairs.new.items) }
+{
+    if !is_edge(alloc, settled, times, first, second, steps)? {
+        return Ok(());
+    }
+    pairs.push((first, second))?;
+    Ok(())
+}
+
+/// Whether the two riders are an edge.
+fn is_edge<L: Ledger>(
+    alloc: Global,
+    settled: &Settled,
+    times: &Times,
+    first: usize,
+    second: usize,
+    steps: &mut Steps<L>,
+) -> Result<bool, OutOfMemory>
+    requires sound { IsSound 6 (point_count times.now) (travel_time times.now) settled.now }
+    requires below { first < second }
+    requires within { second < length settled.now.riders }
+    ensures { IfOk result (λ edge. MatchBool edge (IsRrEdge (travel_time times.entry.now) settled.entry.now first second)
+        (IsRrEdge (travel_time times.entry.now) settled.entry.now first second → ⊥)) }
+{
+    // Whoever gets in first finds seats in an empty vehicle, or nobody does.
+    if settled.most_seats < smaller_party(settled, first, second) {
+        return Ok(false);
+    }
+    let one = settled.riders.as_slice()[first].leg.origin;
+    if starts_at(alloc, settled, times, one, first, second, steps)? {
+        return Ok(true);
+    }
+    let other = settled.riders.as_slice()[second].leg.origin;
+    starts_at(alloc, settled, times, other, first, second, steps)
+}
+
+/// How many persons the smaller party of two riders has.
+fn smaller_party(settled: &Settled, first: usize, second: usize) -> u8
+    requires first { first < length settled.now.riders }
+    requires second { second < length settled.now.riders }
+    ensures value { result ≡ min (rider_at settled.entry.now first).leg.party (rider_at settled.entry.now second).leg.party }
+    ensures some { 1 ≤ result }
+{
+    let one = settled.riders.as_slice()[first].leg.party;
+    let other = settled.riders.as_slice()[second].leg.party;
+    one.get().min(other.get())
+}
+
+/// Whether an empty vehicle that is ready now at this place serves both.
+fn starts_at<L: Ledger>(
+    alloc: Global,
+    settled: &Settled,
+    times: &Times,
+    place: usize,
+    first: usize,
+    second: usize,
+    steps: &mut Steps<L>,
+) -> Result<bool, OutOfMemory>
+    requires valid { IsTask (point_count times.now) (pair_task settled.now place first second) }
+    requires below { first < second }
+    requires within { second < length settled.now.riders }
+    ensures { IfOk result (λ serves. MatchBool serves (IsServable (travel_time times.entry.now) (pair_task settled.entry.now place first second))
+        (IsServable (travel_time times.entry.now) (pair_task settled.entry.now place first second) → ⊥)) }
+{
+    let task = task_of_pair(settled, place, first, second);
+    let route = least_delay(alloc, &task, times, steps)?;
+    Ok(route.is_some())
+}
+
+/// The task of the two riders, and an empty vehicle that is ready now at this place.
+fn task_of_pair(settled: &Settled, place: usize, first: usize, second: usize) -> Task
+    requires below { first < second }
+    requires within { second < length settled.now.riders }
+    ensures { result ≡ pair_task settled.entry.now place first second }
+{
+    let mut riders = ArrayVec::new();
+    riders.push(settled.riders.as_slice()[first].leg);
+    riders.push(settled.riders.as_slice()[second].leg);
+    Task {
+        start: place,
+        ready: settled.now,
+        dwell: settled.dwell,
+        seats: settled.most_seats,
+        aboard: ArrayVec::new(),
+        riders,
+    }
+}

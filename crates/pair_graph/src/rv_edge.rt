@@ -1,0 +1,6 @@
+/// The vehicle can serve the rider alone. Both are numbers of a settled batch.
+#[derive(Clone, Copy, Debug, PartialEq, Eq)]
+pub struct RvEdge {
+    pub vehicle: usize,
+    pub rider: usize,
+}

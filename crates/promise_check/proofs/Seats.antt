@@ -1,0 +1,76 @@
+use Rattle.std.proofs.Common.{◌≡◌, ℕ, ◌+◌, ◌<◌, ◌≤◌, min, List, [], ◌∷◌, ◌++◌, length, map, get_or, Some, None, Option, ap, ◌∙◌, arith, zero-add}
+use Rattle.std.specs.List.{All, sum_by}
+use Rattle.std.specs.Option.{option_map_or}
+use Rattle.std.proofs.lemmas.List.{length-map, get_or-map}
+use Rattle.std.proofs.lemmas.List.Sums.{sum_by-append}
+use Rattle.batch_snapshot.specs.declared.rider.Rider.{Rider}
+use Rattle.batch_snapshot.specs.declared.promise.Promise.{Promise}
+use Rattle.stop_orders.specs.declared.leg.Leg.{Leg}
+use Rattle.stop_orders.specs.declared.settled_rider.SettledRider.{SettledRider}
+use Rattle.stop_orders.specs.declared.settled_vehicle.SettledVehicle.{SettledVehicle}
+use Rattle.stop_orders.specs.Task.{IsLeg, IsTask}
+use Rattle.stop_orders.specs.Settled.{no_rider}
+use Rattle.std.proofs.lemmas.Option.{slice_get-get_or}
+use Rattle.rider_limits.specs.declared.settings.Settings.{Settings}
+use Rattle.promise_check.specs.Requests.{request_at, no_request, ArePlain, CanBeKept}
+use Rattle.promise_check.specs.Promised.{promised_limit, kept_leg, kept_legs, vehicle_task}
+
+pub sum_by_push : {X : Type 0} (f : X → ℕ) (xs : List X) (y : X) → sum_by f (xs ++ y ∷ []) ≡ sum_by f xs + f y
+sum_by_push f xs y = sum_by-append f xs (y ∷ []) ∙ ap (λ (n : ℕ). sum_by f xs + n) (zero-add (f y))
+
+limit_under : (wait time : ℕ) (promise : Option Promise) → option_map_or (λ p. min p.pickup (time + wait)) promise (time + wait) ≤ time + wait
+limit_under wait time None = omega arith
+limit_under wait time (Some p) = omega arith
+
+-- a promise never comes after the wait
+pub promised_limit_under : (wait : ℕ) (r : Rider) → promised_limit wait r ≤ r.time + wait
+promised_limit_under wait r = limit_under wait r.time r.promise
+
+pub kept_leg_valid : (points wait : ℕ) (request : Rider) (leg : Leg) → CanBeKept points wait request leg → IsLeg points (kept_leg wait request leg)
+kept_leg_valid points wait request leg can =
+    let valid = can.valid in
+    record {
+      origin = valid.origin;
+      destination = valid.destination;
+      latest_pickup = (let under = promised_limit_under wait request in let most = valid.latest_pickup in let is = can.latest in omega arith);
+      ideal = valid.ideal;
+      latest_dropoff = valid.latest_dropoff;
+      someone = valid.someone;
+      party = valid.party;
+    }
+
+-- all legs of a list that is made of valid ones are valid
+pub legs_valid : (points : ℕ) (f : ℕ → Leg) (trip : List ℕ) → All (λ k. IsLeg points (f k)) trip → All (IsLeg points) (map f trip)
+legs_valid points f trip h k d lt =
+    let within : k < length trip = (let n = length-map trip f in omega arith) in
+    rw (get_or-map f trip k 0 d within) (h k 0 within)
+
+pub kept_legs_valid : (points wait : ℕ) (requests : List Rider) (riders : List SettledRider) (trip : List ℕ)
+    → ((k : ℕ) → k < length requests → CanBeKept points wait (request_at requests k) (get_or riders k no_rider).leg)
+    → All (λ k. k < length requests) trip → All (IsLeg points) (kept_legs wait requests riders trip)
+kept_legs_valid points wait requests riders trip can within =
+    legs_valid points (λ k. kept_leg wait (request_at requests k) (get_or riders k no_rider).leg) trip
+    (λ k d lt. kept_leg_valid points wait (request_at requests (get_or trip k d)) (get_or riders (get_or trip k d) no_rider).leg (can (get_or trip k d) (within k d lt)))
+
+-- a vehicle's task with valid legs is valid
+pub task_with_legs : (points dwell : ℕ) (v : SettledVehicle) (legs : List Leg) → IsTask points (vehicle_task dwell v []) → All (IsLeg points) legs → length legs ≤ 6
+    → IsTask points (vehicle_task dwell v legs)
+task_with_legs points dwell v legs task valid few =
+    record {
+      start = task.start;
+      ready = task.ready;
+      dwell = task.dwell;
+      seats = task.seats;
+      seated = task.seated;
+      passenger_count = task.passenger_count;
+      rider_count = few;
+      passengers = task.passengers;
+      riders = valid;
+    }
+
+-- a plain rider's leg can have its pickup changed
+pub plain_can_be_kept : (settings : Settings) (points : List ℕ) (tau : ℕ → ℕ → ℕ) (requests : List Rider) (riders : List SettledRider) → ArePlain settings points tau requests riders
+    → (k : ℕ) → k < length requests → CanBeKept (length points) settings.wait (request_at requests k) (get_or riders k no_rider).leg
+plain_can_be_kept settings points tau requests riders plain k h =
+    let one = plain.each k (request_at requests k) (slice_get-get_or requests k no_request h) in
+    record { valid = one.valid; latest = one.leg.latest_pickup }

@@ -1,0 +1,28 @@
+use Rattle.std.proofs.Common.{◌<◌, ◌≤◌, ℕ, List, length, sym, ap, ◌∙◌, subst, arith}
+use Rattle.std.specs.List.{All}
+use Rattle.std.proofs.lemmas.List.{length-map}
+use Rattle.pool_base.specs.Times.{point_count}
+use Rattle.stop_orders.specs.declared.leg.Leg.{Leg}
+use Rattle.stop_orders.specs.Task.{IsTask}
+use Rattle.stop_orders.specs.Settled.{no_rider}
+use Rattle.std.proofs.Common.{slice_index_or}
+use Rattle.promise_check.specs.Requests.{request_at}
+use Rattle.promise_check.specs.Promised.{kept_leg, kept_legs, vehicle_task}
+use Rattle.promise_check.proofs.Promises.{promised_trip}
+use Rattle.promise_check.proofs.Seats.{kept_legs_valid, task_with_legs}
+use Rattle.promise_check.proofs.settled_vehicles.held_riders.Goals as goal
+
+pub legs_as_promised-legs-requires-clause-within : goal.legs_as_promised-legs-requires-clause-within
+legs_as_promised-legs-requires-clause-within c =
+    subst (λ (t : List ℕ). All (λ k. k < length c.args.requests.now) t) (sym (c.as_slice.ensures.value ∙ c.in-Some.ensures.0))
+    (promised_trip c.args.vehicle.now.id c.args.requests.now).within
+
+pub can_serve-requires : goal.can_serve-requires
+can_serve-requires c =
+    let points = point_count c.args.times.now in let wait = c.args.settings.now.wait in let requests = c.args.requests.now in let plain = c.args.plain.now in
+    let trip = c.as_slice.result.now in let dwell = c.args.settings.now.dwell in let v = c.args.vehicle.now in
+    let within = subst (λ (t : List ℕ). All (λ k. k < length requests) t) (sym (c.as_slice.ensures.value ∙ c.in-Some.ensures.0)) (promised_trip v.id requests).within in
+    let few : length (kept_legs wait requests plain trip) ≤ 6 =
+    (let n = length-map trip (λ (k : ℕ). kept_leg wait (request_at requests k) (slice_index_or plain k no_rider).leg) in let most = c.as_slice.ensures.fits in omega arith) in
+    let valid = task_with_legs points dwell v (kept_legs wait requests plain trip) c.requires.valid (kept_legs_valid points wait requests plain trip c.requires.legs within) few in
+    subst (IsTask points) (sym (c.task_with-task.ensures ∙ ap (λ (legs : List Leg). vehicle_task dwell v legs) c.legs_as_promised-legs.ensures)) valid

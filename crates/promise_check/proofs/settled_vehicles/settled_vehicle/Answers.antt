@@ -1,0 +1,13 @@
+use Rattle.std.proofs.Common.{◌<◌, ℕ, length, sym, subst}
+use Rattle.pool_base.specs.Times.{travel_time}
+use Rattle.stop_orders.specs.Settled.{no_rider}
+use Rattle.std.proofs.Common.{slice_index_or}
+use Rattle.promise_check.specs.Requests.{CanBeKept, request_at}
+use Rattle.promise_check.proofs.Seats.{plain_can_be_kept}
+use Rattle.promise_check.proofs.settled_vehicles.settled_vehicle.Goals as goal
+
+pub held_riders-requires-clause-legs : goal.held_riders-requires-clause-legs
+held_riders-requires-clause-legs c =
+    subst (λ (n : ℕ). (k : ℕ) → k < length c.args.requests.now → CanBeKept n c.args.settings.now.wait (request_at c.args.requests.now k) (slice_index_or c.args.plain.now k no_rider).leg)
+    (sym c.requires.table)
+    (plain_can_be_kept c.args.settings.now c.args.points.now (travel_time c.args.times.now) c.args.requests.now c.args.plain.now c.requires.plain)

@@ -1,0 +1,14 @@
+use Rattle.std.proofs.Common.{◌≡◌, ℕ, ◌<◌, length, Some, slice_index_or}
+use Rattle.std.specs.List.{slice_get}
+use Rattle.pool_base.specs.Times.{travel_time}
+use Rattle.batch_snapshot.specs.declared.vehicle.Vehicle.{Vehicle}
+use Rattle.stop_orders.specs.Settled.{no_vehicle}
+use Rattle.promise_check.specs.Settling.{IsSettledVehicle}
+use Rattle.promise_check.proofs.settled_vehicles.settled_vehicles.Given as goal
+
+abbrev pub invariant-loop-vehicle : goal.invariant-loop-vehicle
+invariant-loop-vehicle l = record {
+  count : length l.settled.items ≡ l.vehicle-index;
+  each : (k : ℕ) (x : Vehicle) → k < l.vehicle-index → slice_get l.vehicles k ≡ Some x
+      → IsSettledVehicle l.settings l.points (travel_time l.times) l.now l.requests l.plain x (slice_index_or l.settled.items k no_vehicle);
+}

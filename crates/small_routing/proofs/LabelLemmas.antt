@@ -1,0 +1,115 @@
+use Rattle.std.proofs.Common.{◌≡◌, ℕ, zero, suc, ◌+◌, ◌-◌, ◌*◌, ◌<◌, ◌≤◌, Bool, true, false, List, [], ◌∷◌, ◌++◌, length, refl, sym, ap, ◌∙◌, subst, arith, inl, inr}
+use Rattle.std.specs.Prelude.{All}
+use Rattle.std.proofs.lemmas.List.Elements.{All-weaker}
+use Rattle.pool_base.specs.TravelTime.{never, longest, IsTravelTime}
+use Rattle.stop_orders.specs.declared.leg.Leg.{Leg}
+use Rattle.stop_orders.specs.declared.task.Task.{Task}
+use Rattle.stop_orders.specs.declared.stop.Stop.{Stop}
+use Rattle.stop_orders.specs.declared.stop.Stop.TheVariants.{Pick, Drop, Alight}
+use Rattle.stop_orders.specs.declared.visit.Visit.{Visit}
+use Rattle.stop_orders.specs.declared.visit.Visit.TheVariants.{Pickup, Dropoff}
+use Rattle.stop_orders.specs.Order.{IsKnown}
+use Rattle.stop_orders.specs.Visit.{place_of, latest_of, boarding_of, room_after, lateness, ServesFrom, delay_from}
+use Rattle.stop_orders.specs.Task.{no_leg, IsLeg, IsTask, leg_at, visit_at, visits_of, free_seats, IsOrderOf, order_delay, Serves}
+use Rattle.stop_orders.specs.Done.{with_stop, IsNext, Completes, left_count}
+use Rattle.stop_orders.specs.Plain.{MakesOrders}
+use Rattle.stop_orders.proofs.DoneLemmas.{left_count-falls, left_count-most, Completes-none}
+use Rattle.stop_orders.proofs.PlainLemmas.{MakesOrders-next, MakesOrders-none, append_one}
+use Rattle.small_routing.specs.declared.label.Label.{Label}
+use Rattle.small_routing.specs.Label.{IsRoutable, IsRoutableLeg, rider_count, passenger_count, first_label, second_at, CanVisit, next_label, GoesOn, rest_delay, IsSmall}
+use Rattle.small_routing.specs.Search.{LeadsTo}
+
+routable_leg : (points : ℕ) (leg : Leg) → IsLeg points leg → IsRoutableLeg points leg
+routable_leg points leg h = record { origin = h.origin; destination = h.destination; party = h.party }
+
+-- a valid task can be searched
+pub routable : (points : ℕ) (task : Task) → IsTask points task → IsRoutable points task
+routable points task valid = record {
+  start = valid.start;
+  ready = valid.ready;
+  dwell = valid.dwell;
+  seats = valid.seats;
+  seated = valid.seated;
+  passenger_count = valid.passenger_count;
+  rider_count = valid.rider_count;
+  passengers = All-weaker (IsLeg points) (IsRoutableLeg points) (routable_leg points) task.aboard.items valid.passengers;
+  riders = All-weaker (IsLeg points) (IsRoutableLeg points) (routable_leg points) task.riders.items valid.riders;
+}
+
+-- who may come next is known
+pub known_next : (riders passengers done : ℕ) (s : Stop) → IsNext riders passengers done s → IsKnown riders passengers s
+known_next riders passengers done (Pick i) next = next.0
+known_next riders passengers done (Drop i) next = next.0
+known_next riders passengers done (Alight j) next = next.0
+
+lateness-most : (v : Visit) (second : ℕ) → lateness v second ≤ second
+lateness-most (Pickup place latest party) second = omega arith
+lateness-most (Dropoff place latest ideal party) second = omega arith
+
+module _ (points : ℕ) (tau : ℕ → ℕ → ℕ) (t : IsTravelTime points tau) (task : Task) (valid : IsRoutable points task) where
+  place_in : (s : Stop) → IsKnown (rider_count task) (passenger_count task) s → place_of (visit_at task s) < points
+  place_in (Pick i) h = (valid.riders i no_leg h).origin
+  place_in (Drop i) h = (valid.riders i no_leg h).destination
+  place_in (Alight j) h = (valid.passengers j no_leg h).destination
+
+  room_most : (s : Stop) → IsKnown (rider_count task) (passenger_count task) s → (room : ℕ) → room_after (visit_at task s) room ≤ room + 6
+  room_most (Pick i) h room = omega arith
+  room_most (Drop i) h room = omega (arith, (valid.riders i no_leg h).party)
+  room_most (Alight j) h room = omega (arith, (valid.passengers j no_leg h).party)
+
+  -- the numbers stay small
+  pub small_next : (label : Label) (s : Stop) (left less : ℕ) → IsSmall points left label → less + 1 ≤ left → IsNext (rider_count task) (passenger_count task) label.done s → CanVisit tau task label s
+      → IsSmall points less (next_label tau task label s)
+  small_next label s left less small fall next can =
+      let known = known_next (rider_count task) (passenger_count task) label.done s next in
+      let hop : tau label.place (place_of (visit_at task s)) ≤ longest = t.range label.place (place_of (visit_at task s)) can.0 in
+      let late = lateness-most (visit_at task s) (second_at tau task label s) in
+      let room = room_most s known label.room in
+      record {
+        place = place_in s known;
+        free = omega (arith, small.free, fall, hop, valid.dwell);
+        room = omega (arith, small.room, fall, room);
+        delay = omega (arith, small.delay, small.free, fall, hop, late);
+      }
+
+  -- one more stop leads to the next label
+  pub leads_next : (label : Label) (path : List Stop) (s : Stop) → LeadsTo tau task path label → IsNext (rider_count task) (passenger_count task) label.done s → CanVisit tau task label s
+      → LeadsTo tau task (path ++ s ∷ []) (next_label tau task label s)
+  leads_next label path s leads next can = record {
+    orders = MakesOrders-next task valid.rider_count label.done path s next leads.orders;
+    serves = λ rest h. subst (λ stops. ServesFrom tau task.dwell task.start task.ready (free_seats task) (visits_of task stops)) (sym (append_one path s rest)) (leads.serves (s ∷ rest) (can.0, can.1, can.2, h));
+    delays = λ rest.
+        let whole : order_delay tau task (path ++ s ∷ rest) ≡ label.delay + rest_delay tau task label (s ∷ rest) = leads.delays (s ∷ rest) in
+        let same : label.delay + rest_delay tau task label (s ∷ rest) ≡ (next_label tau task label s).delay + rest_delay tau task (next_label tau task label s) rest = omega arith in
+        ap (λ stops. order_delay tau task stops) (append_one path s rest) ∙ whole ∙ same;
+  }
+
+  -- the first label
+  pub small_first : (done room : ℕ) → done ≡ 0 → room ≡ free_seats task → IsSmall points (left_count (rider_count task) (passenger_count task) done) (record { done = done; place = task.start; free = task.ready; room = room; delay = 0 })
+  small_first done room e f =
+      let most = left_count-most (rider_count task) (passenger_count task) done in
+      record {
+        place = valid.start;
+        free = omega (arith, most, valid.ready, valid.rider_count, valid.passenger_count);
+        room = omega (arith, most, f, valid.seats, valid.rider_count, valid.passenger_count);
+        delay = omega (arith, most, valid.rider_count, valid.passenger_count);
+      }
+
+  pub left_first : (done : ℕ) (path : List Stop) → path ≡ [] → length path + left_count (rider_count task) (passenger_count task) done ≤ 22
+  left_first done path e =
+      let most = left_count-most (rider_count task) (passenger_count task) done in
+      let none : length path ≡ 0 = ap length e in
+      omega (arith, most, none, valid.rider_count, valid.passenger_count)
+
+  leads_from_none : LeadsTo tau task [] (first_label task)
+  leads_from_none = record {
+    orders = MakesOrders-none task;
+    serves = λ rest h. h;
+    delays = λ rest. omega arith;
+  }
+
+  pub leads_first : (done room : ℕ) (path : List Stop) → done ≡ 0 → room ≡ free_seats task → path ≡ [] → LeadsTo tau task path (record { done = done; place = task.start; free = task.ready; room = room; delay = 0 })
+  leads_first done room path e f p =
+      subst (λ xs. LeadsTo tau task xs (record { done = done; place = task.start; free = task.ready; room = room; delay = 0 })) (sym p)
+      (subst (λ n. LeadsTo tau task [] (record { done = n; place = task.start; free = task.ready; room = room; delay = 0 })) (sym e)
+      (subst (λ n. LeadsTo tau task [] (record { done = 0; place = task.start; free = task.ready; room = n; delay = 0 })) (sym f) leads_from_none))

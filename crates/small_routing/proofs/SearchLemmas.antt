@@ -1,0 +1,148 @@
+use Rattle.std.proofs.Common.{◌≡◌, ◌↔◌, ℕ, zero, suc, ◌+◌, ◌-◌, ◌<◌, ◌≤◌, Bool, true, false, List, [], ◌∷◌, ◌++◌, length, map, get_or, take, Option, Some, None, refl, sym, ap, ◌∙◌, subst, arith, inl, inr}
+use Rattle.std.specs.Prelude.{All, Contains, IsFalse}
+use Rattle.std.proofs.lemmas.Bool.{cases_lt, false≢true}
+use Rattle.std.proofs.lemmas.List.{append-nil}
+use Rattle.std.proofs.lemmas.List.Elements.{All-weaker, All-more, All-map, All-contains, All-push}
+use Rattle.pool_base.specs.TravelTime.{never, longest, IsTravelTime}
+use Rattle.stop_orders.specs.declared.route.Route.{Route}
+use Rattle.stop_orders.specs.declared.task.Task.{Task}
+use Rattle.stop_orders.specs.declared.stop.Stop.{Stop}
+use Rattle.stop_orders.specs.Visit.{place_of, lateness, ServesFrom}
+use Rattle.stop_orders.specs.Task.{visit_at, visits_of, free_seats, IsOrderOf, order_delay, Serves}
+use Rattle.stop_orders.specs.Done.{bit_of, IsNext, IsAllDone, Completes}
+use Rattle.stop_orders.specs.Plain.{IsFound, NoneBetter, StaysGood}
+use Rattle.stop_orders.proofs.ClockLemmas.{AtLeastAsSoon, soon_over, ServesFrom-soon}
+use Rattle.stop_orders.proofs.DoneLemmas.{IsAllDone-from_nil, Completes-none}
+use Rattle.stop_orders.proofs.PlainLemmas.{MakesOrders-all, rest_of_all, stop_with-bit_of}
+use Rattle.small_routing.specs.declared.label.Label.{Label}
+use Rattle.small_routing.specs.declared.candidate.Candidate.{Candidate}
+use Rattle.small_routing.specs.Label.{IsRoutable, rider_count, passenger_count, second_at, CanVisit, next_label, GoesOn, rest_delay}
+use Rattle.small_routing.specs.Ahead.{RiderCan, PassengerCan, least_ahead}
+use Rattle.small_routing.specs.Kept.{no_label, Dominates, IsDominated, IsPlaced}
+use Rattle.small_routing.specs.Search.{LeadsTo, IsExhausted, IsTried, IsSettled, AreCandidates, Searched}
+use Rattle.small_routing.proofs.AheadLemmas.{is_ahead, goes_on_next}
+
+-- a greater delay is no better either
+NoneBetter-more : (best : Option Route) (a b : ℕ) → a ≤ b → NoneBetter best a → NoneBetter best b
+NoneBetter-more None a b h n = n
+NoneBetter-more (Some route) a b h n = omega arith
+
+-- a better route stays good
+good_better : (best : Option Route) (route : Route) → (NoneBetter best route.delay → ⊥) → StaysGood best (Some route)
+good_better None route worse = λ d n. absurd n
+good_better (Some old) route worse = λ d n. elim (cases_lt route.delay old.delay) [ inl less ↦ omega arith | inr more ↦ absurd (worse more) ]
+
+-- what was settled stays so
+pub settled_good : (points : ℕ) (tau : ℕ → ℕ → ℕ) (task : Task) (old new : Option Route) (labels : List Label) → StaysGood old new → All (IsSettled points tau task old) labels → All (IsSettled points tau task new) labels
+settled_good points tau task old new labels good = All-weaker (IsSettled points tau task old) (IsSettled points tau task new) (λ label s. record {
+  placed = s.placed;
+  exhausted = λ rest way. good (label.delay + rest_delay tau task label rest) (s.exhausted rest way);
+}) labels
+
+module _ (points : ℕ) (tau : ℕ → ℕ → ℕ) (t : IsTravelTime points tau) (task : Task) (valid : IsRoutable points task) where
+  -- where all are dropped, the delay is that of the label
+  exhausted_all : (label : Label) (best : Option Route) → IsAllDone (rider_count task) (passenger_count task) label.done → NoneBetter best label.delay → IsExhausted tau task best label
+  exhausted_all label best all none = λ rest way.
+      let e : rest ≡ [] = rest_of_all (rider_count task) (passenger_count task) label.done valid.rider_count all rest way.completes in
+      let same : label.delay ≡ label.delay + rest_delay tau task label [] = omega arith in
+      subst (λ stops. NoneBetter best (label.delay + rest_delay tau task label stops)) (sym e) (subst (λ d. NoneBetter best d) same none)
+
+  -- a better order was found
+  pub searched_better : (path stops : List Stop) (label : Label) (old : Option Route) (route : Route) (labels : List Label) → LeadsTo tau task path label → IsAllDone (rider_count task) (passenger_count task) label.done
+      → route.stops.items ≡ path → route.delay ≡ label.delay → (NoneBetter old label.delay → ⊥) → All (IsSettled points tau task old) labels → Searched points tau task label old (Some route) labels
+  searched_better path stops label old route labels leads all same delay worse settled =
+      let order = MakesOrders-all task valid.rider_count label.done path all leads.orders in
+      let in_time = subst (λ xs. ServesFrom tau task.dwell task.start task.ready (free_seats task) (visits_of task xs)) (append-nil path) (leads.serves [] tt) in
+      let serves : Serves tau task path = record { order = order; in_time = in_time } in
+      let total : order_delay tau task path ≡ label.delay + rest_delay tau task label [] = ap (λ xs. order_delay tau task xs) (sym (append-nil path)) ∙ leads.delays [] in
+      let cost : route.delay ≡ order_delay tau task path = omega (arith, delay, total) in
+      let worse_than : NoneBetter old route.delay → ⊥ = λ n. worse (subst (λ d. NoneBetter old d) delay n) in
+      let good = good_better old route worse_than in
+      let here : route.delay ≤ label.delay = omega (arith, delay) in
+      record {
+        found = (subst (λ xs. Serves tau task xs) (sym same) serves, subst (λ xs. route.delay ≡ order_delay tau task xs) (sym same) cost);
+        good = good;
+        exhausted = exhausted_all label (Some route) all here;
+        settled = settled_good points tau task old (Some route) labels good settled;
+      }
+
+  -- what was found is as good
+  pub searched_no_better : (label : Label) (best : Option Route) (labels : List Label) → IsFound tau task best → IsExhausted tau task best label → All (IsSettled points tau task best) labels → Searched points tau task label best best labels
+  searched_no_better label best labels found exhausted settled = record { found = found; good = λ d n. n; exhausted = exhausted; settled = settled }
+
+  pub searched_all : (label : Label) (best : Option Route) (labels : List Label) → IsFound tau task best → IsAllDone (rider_count task) (passenger_count task) label.done → NoneBetter best label.delay
+      → All (IsSettled points tau task best) labels → Searched points tau task label best best labels
+  searched_all label best labels found all none settled = searched_no_better label best labels found (exhausted_all label best all none) settled
+
+  -- where not even at once all can be served
+  pub exhausted_none : (label : Label) (best : Option Route)
+      → (((i : ℕ) → i < rider_count task → RiderCan tau task label i) → ((j : ℕ) → j < passenger_count task → PassengerCan tau task label j) → ⊥) → IsExhausted tau task best label
+  exhausted_none label best hopeless = λ rest way.
+      let ahead = is_ahead points tau t task valid.rider_count rest label way in
+      absurd (hopeless ahead.riders ahead.passengers)
+
+  -- where no way on can be better
+  pub exhausted_bound : (label : Label) (best : Option Route) (ahead : ℕ) → ahead ≡ least_ahead tau task label → NoneBetter best (label.delay + ahead) → IsExhausted tau task best label
+  exhausted_bound label best ahead is none = λ rest way.
+      let least = (is_ahead points tau t task valid.rider_count rest label way).least in
+      NoneBetter-more best (label.delay + ahead) (label.delay + rest_delay tau task label rest) (omega (arith, is, least)) none
+
+  -- where a settled label dominates
+  pub exhausted_dominated : (label : Label) (best : Option Route) (labels : List Label) → IsDominated tau labels label → All (IsSettled points tau task best) labels → IsExhausted tau task best label
+  exhausted_dominated label best labels dominated settled = λ rest way.
+      let kept = get_or labels dominated.0 no_label in
+      let d = dominated.2 in
+      let soon = soon_over points tau t kept.place kept.free label.place label.free d.reach d.soon in
+      let same = ServesFrom-soon tau task.dwell (visits_of task rest) kept.place kept.free kept.room label.place label.free label.room soon d.room way.serves in
+      let there : GoesOn tau task kept rest = record { completes = subst (λ n. Completes (rider_count task) (passenger_count task) n rest) (sym d.done) way.completes; serves = same.0 } in
+      NoneBetter-more best (kept.delay + rest_delay tau task kept rest) (label.delay + rest_delay tau task label rest) (omega (arith, same.1, d.delay)) ((settled dominated.0 no_label dominated.1).exhausted rest there)
+
+  -- a stop whose next label was searched was tried
+  pub tried_searched : (label next : Label) (s : Stop) (old new : Option Route) (labels : List Label) → next ≡ next_label tau task label s → Searched points tau task next old new labels → IsTried tau task new label s
+  tried_searched label next s old new labels e searched = λ rest way.
+      let on = goes_on_next points tau t task valid.rider_count label s rest way in
+      let there = searched.exhausted rest (subst (λ n. GoesOn tau task n rest) (sym e) on.2) in
+      let here = subst (λ n. NoneBetter new (n.delay + rest_delay tau task n rest)) e there in
+      let same : (next_label tau task label s).delay + rest_delay tau task (next_label tau task label s) rest ≡ label.delay + rest_delay tau task label (s ∷ rest) = omega arith in
+      subst (λ d. NoneBetter new d) same here
+
+  -- where all candidates were tried
+  pub exhausted_tried : (label : Label) (best : Option Route) (candidates : List Candidate) → (IsAllDone (rider_count task) (passenger_count task) label.done → ⊥) → AreCandidates tau task label 22 candidates
+      → All (λ c. IsTried tau task best label c.stop) candidates → IsExhausted tau task best label
+  exhausted_tried label best candidates more are tried [] way = absurd (more (IsAllDone-from_nil (rider_count task) (passenger_count task) label.done way.completes))
+  exhausted_tried label best candidates more are tried (s ∷ rest) way =
+      let on = goes_on_next points tau t task valid.rider_count label s rest way in
+      let bit = (stop_with-bit_of (rider_count task) (passenger_count task) label.done valid.rider_count valid.passenger_count s on.0).1 in
+      let listed = are.whole s on.0 bit on.1 in
+      All-contains (IsTried tau task best label) (map (λ c. c.stop) candidates) s (All-map (IsTried tau task best label) (λ c. c.stop) candidates tried) listed rest way
+
+-- what holds in the loop over the candidates
+pub record TriesAll (points : ℕ) (tau : ℕ → ℕ → ℕ) (task : Task) (label : Label) (path now : List Stop) (first best : Option Route) (labels : List Label) (done : List Candidate) : Type 0 where
+  pub same : now ≡ path
+  pub found : IsFound tau task best
+  pub good : StaysGood first best
+  pub settled : All (IsSettled points tau task best) labels
+  pub tried : All (λ c. IsTried tau task best label c.stop) done
+
+pub tries_more : (points : ℕ) (tau : ℕ → ℕ → ℕ) (task : Task) (label next : Label) (path before after : List Stop) (first old new : Option Route) (labels more : List Label) (candidates : List Candidate) (i : ℕ) (c : Candidate)
+    → i < length candidates → c ≡ get_or candidates i c → after ≡ path → Searched points tau task next old new more → IsTried tau task new label c.stop
+    → TriesAll points tau task label path before first old labels (take i candidates) → TriesAll points tau task label path after first new more (take (i + 1) candidates)
+tries_more points tau task label next path before after first old new labels more candidates i c h read same searched here so_far = record {
+  same = same;
+  found = searched.found;
+  good = λ d n. searched.good d (so_far.good d n);
+  settled = searched.settled;
+  tried = All-more (λ c. IsTried tau task new label c.stop) candidates i c h
+      (All-weaker (λ c. IsTried tau task old label c.stop) (λ c. IsTried tau task new label c.stop) (λ c tried rest way. searched.good (label.delay + rest_delay tau task label (c.stop ∷ rest)) (tried rest way)) (take i candidates) so_far.tried)
+      (subst (λ c. IsTried tau task new label c.stop) read here);
+}
+
+-- what the whole search says of the task
+pub least_none : (points : ℕ) (tau : ℕ → ℕ → ℕ) (task : Task) (done room : ℕ) (best : Option Route) → done ≡ 0 → room ≡ free_seats task
+    → IsExhausted tau task best (record { done = done; place = task.start; free = task.ready; room = room; delay = 0 }) → (stops : List Stop) → Serves tau task stops → NoneBetter best (order_delay tau task stops)
+least_none points tau task done room best e f exhausted = λ stops serves.
+    let start = subst (λ n. IsExhausted tau task best (record { done = 0; place = task.start; free = task.ready; room = n; delay = 0 })) f
+    (subst (λ n. IsExhausted tau task best (record { done = n; place = task.start; free = task.ready; room = room; delay = 0 })) e exhausted) in
+    let way : GoesOn tau task (record { done = 0; place = task.start; free = task.ready; room = free_seats task; delay = 0 }) stops = record { completes = Completes-none (rider_count task) (passenger_count task) stops serves.order; serves = serves.in_time } in
+    let same : 0 + order_delay tau task stops ≡ order_delay tau task stops = omega arith in
+    subst (λ d. NoneBetter best d) same (start stops way)

@@ -1,0 +1,138 @@
+use Rattle.std.proofs.Common.{◌≡◌, ℕ, ◌<◌, ◌≤◌, ◌+◌, ◌∷◌, ◌++◌, [], List, length, get_or, take, length-append, Result, Ok, Err, OnOk, refl, subst, sym, ap, ◌∙◌, arith}
+use Rattle.std.specs.Prelude.{All}
+use Rattle.std.proofs.lemmas.Bool.{true≢false}
+use Rattle.std.proofs.lemmas.List.{take_all}
+use Rattle.std.proofs.lemmas.List.Elements.{All-push}
+use Rattle.pool_base.specs.Times.{point_count, travel_time}
+use Rattle.stop_orders.specs.Done.{IsAllDone, with_stop, left_count}
+use Rattle.stop_orders.specs.Plain.{NoneBetter}
+use Rattle.stop_orders.proofs.DoneLemmas.{left_count-falls}
+use Rattle.stop_orders.proofs.PlainLemmas.{IsAllDone-at, IsAllDone-not_at, path_back}
+use Rattle.small_routing.specs.declared.label.Label.{Label}
+use Rattle.small_routing.specs.declared.candidate.Candidate.{Candidate}
+use Rattle.small_routing.specs.Label.{rider_count, passenger_count, next_label, IsSmall}
+use Rattle.small_routing.specs.Kept.{labels_of, IsPlaced}
+use Rattle.small_routing.specs.Search.{LeadsTo, IsCandidate, AreCandidates, IsTried, IsSettled, IsExhausted, Searched}
+use Rattle.small_routing.proofs.LabelLemmas.{small_next, leads_next}
+use Rattle.small_routing.proofs.SearchLemmas.{searched_better, searched_all, searched_no_better, exhausted_none, exhausted_bound, exhausted_dominated, exhausted_tried, tried_searched, tries_more}
+use Rattle.small_routing.proofs.search.+search.Goals as goal
+
+-- an element of the slice is one of the candidates
+candidate_at : (P : Candidate → Type 0) (items slice : List Candidate) (i : ℕ) (c : Candidate) → slice ≡ items → i < length slice → c ≡ get_or slice i c → All P items → P c
+candidate_at P items slice i c e h read all = subst P (sym read) (subst (λ xs. All P xs) (sym e) all i c h)
+
+on_ok : {A E : Type 0} (r : Result A E) (P Q : Type 0) → (P → Q) → OnOk r P → OnOk r Q
+on_ok (Ok x) P Q f p = f p
+on_ok (Err e) P Q f p = tt
+
+pub returns-then-is_better-clause-searched : goal.returns-then-is_better-clause-searched
+returns-then-is_better-clause-searched t c =
+    let task = c.args.task.now in
+    let label = c.args.label.now in
+    let all = IsAllDone-at _ _ (rider_count task) (passenger_count task) label.done c.len.ensures.value c.len-2.ensures.value (c.is_all.ensures.0 c.if-is_all.true) in
+    let same : c.copy_of.result.items ≡ c.args.path.now.items = c.copy_of.ensures ∙ c.deref.ensures.0 in
+    searched_better (point_count c.args.times.now) (travel_time c.args.times.now) c.args.times.now.table.times task c.requires.valid c.args.path.now.items c.args.path.now.items label c.args.best.now
+    (record { stops = c.copy_of.result; delay = label.delay }) (labels_of c.args.kept.now) c.requires.leads all same refl (λ n. true≢false (sym c.if-is_better.true ∙ c.is_better.ensures.1 n)) c.requires.settled
+
+pub returns-in_default-clause-searched : goal.returns-in_default-clause-searched
+returns-in_default-clause-searched t c =
+    searched_no_better (point_count c.args.times.now) (travel_time c.args.times.now) c.args.times.now.table.times c.args.task.now c.requires.valid c.args.label.now c.args.best.now (labels_of c.args.kept.now) c.requires.found
+    (exhausted_none (point_count c.args.times.now) (travel_time c.args.times.now) c.args.times.now.table.times c.args.task.now c.requires.valid c.args.label.now c.args.best.now c.in_default.ensures.none) c.requires.settled
+
+pub returns-then-not-is_better-clause-searched : goal.returns-then-not-is_better-clause-searched
+returns-then-not-is_better-clause-searched t c =
+    searched_no_better (point_count c.args.times.now) (travel_time c.args.times.now) c.args.times.now.table.times c.args.task.now c.requires.valid c.args.label.now c.args.best.now (labels_of c.args.kept.now) c.requires.found
+    (exhausted_bound (point_count c.args.times.now) (travel_time c.args.times.now) c.args.times.now.table.times c.args.task.now c.requires.valid c.args.label.now c.args.best.now c.in-Some.ahead c.in-Some.ensures.bound (c.is_better-2.ensures.0 c.if-not-is_better.true)) c.requires.settled
+
+pub returns-then-dominates-clause-searched : goal.returns-then-dominates-clause-searched
+returns-then-dominates-clause-searched t c =
+    searched_no_better (point_count c.args.times.now) (travel_time c.args.times.now) c.args.times.now.table.times c.args.task.now c.requires.valid c.args.label.now c.args.best.now (labels_of c.args.kept.now) c.requires.found
+    (exhausted_dominated (point_count c.args.times.now) (travel_time c.args.times.now) c.args.times.now.table.times c.args.task.now c.requires.valid c.args.label.now c.args.best.now (labels_of c.args.kept.now) (c.dominates.ensures c.if-dominates.true) c.requires.settled) c.requires.settled
+
+pub push-requires : goal.push-requires
+push-requires t c =
+    let task = c.args.task.now in
+    let label = c.args.label.now in
+    let is = candidate_at (IsCandidate (travel_time c.args.times.now) task label) c.candidates_after-candidates.result.items c.as_slice-candidate-items.result.now c.loop-candidate.candidate-index c.candidate-item.result
+    c.as_slice-candidate-items.ensures.value c.loop-candidate-test.true c.candidate-item.is c.candidates_after-candidates.ensures.each in
+    let fall = left_count-falls (rider_count task) (passenger_count task) label.done c.requires.valid.rider_count c.candidate-item.result.stop is.next in
+    let same : length c.loop-candidate.path.items ≡ length c.args.path.now.items = ap length c.loop-candidate.invariant.same in
+    let room : length c.loop-candidate.path.items < 22 = omega (arith, c.requires.room, fall, same) in
+    (omega arith, room)
+
+pub search-requires : goal.search-requires
+search-requires t c =
+    let task = c.args.task.now in
+    let label = c.args.label.now in
+    let tau = travel_time c.args.times.now in
+    let points = point_count c.args.times.now in
+    let time = c.args.times.now.table.times in
+    let candidate = c.candidate-item.result in
+    let s = candidate.stop in
+    let is = candidate_at (IsCandidate tau task label) c.candidates_after-candidates.result.items c.as_slice-candidate-items.result.now c.loop-candidate.candidate-index c.candidate-item.result
+    c.as_slice-candidate-items.ensures.value c.loop-candidate-test.true c.candidate-item.is c.candidates_after-candidates.ensures.each in
+    let fall = left_count-falls (rider_count task) (passenger_count task) label.done c.requires.valid.rider_count s is.next in
+    let pushed : c.push.new.self.items ≡ c.args.path.now.items ++ s ∷ [] = c.push.ensures.items ∙ ap (λ xs. xs ++ s ∷ []) c.loop-candidate.invariant.same in
+    let longer : length c.push.new.self.items ≡ length c.args.path.now.items + 1 = ap length pushed ∙ length-append c.args.path.now.items (s ∷ []) in
+    let left : left_count (rider_count task) (passenger_count task) candidate.label.done + 1 ≤ left_count (rider_count task) (passenger_count task) label.done =
+    subst (λ l. left_count (rider_count task) (passenger_count task) l.done + 1 ≤ left_count (rider_count task) (passenger_count task) label.done) (sym is.after) fall in
+    let measure = c.decreases in
+    let less : left_count (rider_count task) (passenger_count task) candidate.label.done < t = omega (arith, left, measure) in
+    let leads = leads_next points tau time task c.requires.valid label c.args.path.now.items s c.requires.leads is.next is.can in
+    let small = small_next points tau time task c.requires.valid label s (left_count (rider_count task) (passenger_count task) label.done) (left_count (rider_count task) (passenger_count task) (with_stop label.done s)) c.requires.small fall is.next is.can in (
+      less,
+      (
+        c.requires.valid,
+        (
+          subst (λ p. LeadsTo tau task p candidate.label) (sym pushed) (subst (λ l. LeadsTo tau task (c.args.path.now.items ++ s ∷ []) l) (sym is.after) leads),
+          (
+            subst (λ l. IsSmall points (left_count (rider_count task) (passenger_count task) l.done) l) (sym is.after) small,
+            (
+              omega (arith, left, longer, c.requires.room),
+              (c.loop-candidate.invariant.found, c.loop-candidate.invariant.settled),
+            ),
+          ),
+        ),
+      ),
+    )
+
+pub loop-candidate-preserved : goal.loop-candidate-preserved
+loop-candidate-preserved t c =
+    let task = c.args.task.now in
+    let label = c.args.label.now in
+    let tau = travel_time c.args.times.now in
+    let points = point_count c.args.times.now in
+    let time = c.args.times.now.table.times in
+    let path = c.args.path.now.items in
+    let candidate = c.candidate-item.result in
+    let s = candidate.stop in
+    let is = candidate_at (IsCandidate tau task label) c.candidates_after-candidates.result.items c.as_slice-candidate-items.result.now c.loop-candidate.candidate-index c.candidate-item.result
+    c.as_slice-candidate-items.ensures.value c.loop-candidate-test.true c.candidate-item.is c.candidates_after-candidates.ensures.each in
+    let pushed : c.push.new.self.items ≡ path ++ s ∷ [] = c.push.ensures.items ∙ ap (λ xs. xs ++ s ∷ []) c.loop-candidate.invariant.same in
+    let back = path_back path c.search.new.path.items c.pop.new.self.items s (c.in_ok-search.ensures.path ∙ pushed) c.pop.ensures.rest in
+    let searched = c.in_ok-search.ensures.searched in
+    let tried = tried_searched points tau time task c.requires.valid label candidate.label s c.loop-candidate.best c.search.new.best (labels_of c.search.new.kept) is.after searched in
+    tries_more points tau task label candidate.label path c.loop-candidate.path.items c.pop.new.self.items c.args.best.now c.loop-candidate.best c.search.new.best (labels_of c.loop-candidate.kept) (labels_of c.search.new.kept)
+    c.as_slice-candidate-items.result.now c.loop-candidate.candidate-index candidate c.loop-candidate-test.true c.candidate-item.is back searched tried c.loop-candidate.invariant
+
+pub returns-clause-searched : goal.returns-clause-searched
+returns-clause-searched t c =
+    let task = c.args.task.now in
+    let label = c.args.label.now in
+    let tau = travel_time c.args.times.now in
+    let points = point_count c.args.times.now in
+    let time = c.args.times.now.table.times in
+    let more = IsAllDone-not_at _ _ _ (rider_count task) (passenger_count task) label.done c.len.ensures.value c.len-2.ensures.value c.is_all.ensures c.if-is_all.false in
+    let inv = c.loop-candidate.invariant in
+    let best = c.loop-candidate.best in
+    let tried = subst (λ xs. All (λ c. IsTried tau task best label c.stop) xs) (take_all c.loop-candidate.candidate-index c.as_slice-candidate-items.result.now c.loop-candidate-test.false ∙ c.as_slice-candidate-items.ensures.value) inv.tried in
+    let exhausted = exhausted_tried points tau time task c.requires.valid label best c.candidates_after-candidates.result.items more c.candidates_after-candidates.ensures tried in
+    let free : label.free ≤ 30000000000 = omega (arith, c.requires.small.free) in
+    let placed : IsPlaced points label = record { place = c.requires.small.place; free = free } in
+    let settled : IsSettled points tau task best label = record { placed = placed; exhausted = exhausted } in
+    on_ok c.keep.result (labels_of c.keep.new.self ≡ labels_of c.loop-candidate.kept ++ label ∷ []) (Searched points tau task label c.args.best.now best (labels_of c.keep.new.self)) (λ e. record {
+      found = inv.found;
+      good = inv.good;
+      exhausted = exhausted;
+      settled = subst (λ ls. All (IsSettled points tau task best) ls) (sym e) (All-push (IsSettled points tau task best) (labels_of c.loop-candidate.kept) label inv.settled settled);
+    }) c.keep.ensures

@@ -1,0 +1,52 @@
+use Rattle.std.specs.Prelude.{◌≡◌, ℕ, ◌+◌, ◌<◌, ◌≤◌, All, Contains, List, ◌∷◌, ◌++◌, Option, length, map}
+use Rattle.stop_orders.specs.declared.route.Route.{Route}
+use Rattle.stop_orders.specs.declared.task.Task.{Task}
+use Rattle.stop_orders.specs.declared.stop.Stop.{Stop}
+use Rattle.stop_orders.specs.Visit.{ServesFrom}
+use Rattle.stop_orders.specs.Task.{IsOrderOf, visits_of, free_seats, order_delay}
+use Rattle.stop_orders.specs.Done.{bit_of, IsNext, left_count}
+use Rattle.stop_orders.specs.Plain.{IsFound, NoneBetter, StaysGood, MakesOrders}
+use Rattle.small_routing.specs.declared.label.Label.{Label}
+use Rattle.small_routing.specs.declared.candidate.Candidate.{Candidate}
+use Rattle.small_routing.specs.Label.{rider_count, passenger_count, CanVisit, next_label, GoesOn, rest_delay}
+use Rattle.small_routing.specs.Kept.{IsPlaced}
+
+-- these stops lead to the label: whatever goes on from it goes on from them
+pub record LeadsTo (tau : ℕ → ℕ → ℕ) (task : Task) (path : List Stop) (label : Label) : Type 0 where
+  pub orders : MakesOrders task label.done path
+  pub serves : (rest : List Stop) → ServesFrom tau task.dwell label.place label.free label.room (visits_of task rest)
+      → ServesFrom tau task.dwell task.start task.ready (free_seats task) (visits_of task (path ++ rest))
+  pub delays : (rest : List Stop) → order_delay tau task (path ++ rest) ≡ label.delay + rest_delay tau task label rest
+
+-- no way on from the label is better than what was found
+abbrev pub IsExhausted : (ℕ → ℕ → ℕ) → Task → Option Route → Label → Type 0
+IsExhausted tau task best label = (rest : List Stop) → GoesOn tau task label rest → NoneBetter best (label.delay + rest_delay tau task label rest)
+
+-- no way on from the label by this stop is better than what was found
+abbrev pub IsTried : (ℕ → ℕ → ℕ) → Task → Option Route → Label → Stop → Type 0
+IsTried tau task best label stop = (rest : List Stop) → GoesOn tau task label (stop ∷ rest) → NoneBetter best (label.delay + rest_delay tau task label (stop ∷ rest))
+
+-- a label that is kept: no way on from it is better than what was found
+pub record IsSettled (points : ℕ) (tau : ℕ → ℕ → ℕ) (task : Task) (best : Option Route) (label : Label) : Type 0 where
+  pub placed : IsPlaced points label
+  pub exhausted : IsExhausted tau task best label
+
+-- a stop that may come next and can be served, with the label after it
+pub record IsCandidate (tau : ℕ → ℕ → ℕ) (task : Task) (label : Label) (candidate : Candidate) : Type 0 where
+  pub next : IsNext (rider_count task) (passenger_count task) label.done candidate.stop
+  pub can : CanVisit tau task label candidate.stop
+  pub after : candidate.label ≡ next_label tau task label candidate.stop
+
+-- the candidates are all stops that may come next and can be served, up to a bit
+pub record AreCandidates (tau : ℕ → ℕ → ℕ) (task : Task) (label : Label) (bits : ℕ) (candidates : List Candidate) : Type 0 where
+  pub few : length candidates ≤ bits
+  pub each : All (IsCandidate tau task label) candidates
+  pub whole : (s : Stop) → IsNext (rider_count task) (passenger_count task) label.done s → bit_of s < bits → CanVisit tau task label s
+      → Contains (map (λ candidate. candidate.stop) candidates) s
+
+-- what a search from a label leaves: what was found is right, as good as before, and no way on is better
+pub record Searched (points : ℕ) (tau : ℕ → ℕ → ℕ) (task : Task) (label : Label) (old new : Option Route) (labels : List Label) : Type 0 where
+  pub found : IsFound tau task new
+  pub good : StaysGood old new
+  pub exhausted : IsExhausted tau task new label
+  pub settled : All (IsSettled points tau task new) labels

@@ -1,0 +1,83 @@
+ghost use Rattle.std.specs.Prelude.{◌≡◌, ◌+◌, ◌≤◌, List, IfOk, IfSome, IfNone};
+ghost use Rattle.pool_base.specs.Times.{point_count, travel_time};
+ghost use Rattle.stop_orders.specs.declared.stop.Stop.{Stop as OneStop};
+ghost use Rattle.stop_orders.specs.Task.{IsTask, Serves, order_delay, free_seats};
+ghost use Rattle.small_routing.specs.Label.{IsRoutable};
+
+use crate::Workspace;
+use crate::kept::Kept;
+use crate::label::Label;
+use crate::search::search;
+use arrayvec::ArrayVec;
+use pool_base::{OutOfMemory, Steps, Times};
+use std::alloc::Global;
+use std::sync::ledger::Ledger;
+use stop_orders::{Done, Route, Task, first_position_of};
+
+/// The least delay of an order that serves the task, and an order that has it; `None` exactly where no
+/// order serves. It counts one step.
+pub fn least_delay<L: Ledger>(
+    alloc: Global,
+    task: &Task,
+    times: &Times,
+    steps: &mut Steps<L>,
+) -> Result<Option<Route>, OutOfMemory>
+    requires valid { IsTask (point_count times.now) task.now }
+    ensures serves { IfOk result (λ found. IfSome found (λ route. Serves (travel_time times.now) task.now route.stops.items)) }
+    ensures delay { IfOk result (λ found. IfSome found (λ route. route.delay ≡ order_delay (travel_time times.now) task.now route.stops.items)) }
+    ensures least { IfOk result (λ found. IfSome found (λ route. (stops : List OneStop) → Serves (travel_time times.now) task.now stops
+        → route.delay ≤ order_delay (travel_time times.now) task.now stops)) }
+    ensures none { IfOk result (λ found. IfNone found ((stops : List OneStop) → Serves (travel_time times.now) task.now stops → ⊥)) }
+    ensures step { steps.new ≡ steps.old + 1 }
+{
+    least_delay_with(&mut Workspace::new(alloc), task, times, steps)
+}
+
+/// `least_delay` in the room of earlier searches.
+pub fn least_delay_with<L: Ledger>(
+    workspace: &mut Workspace,
+    task: &Task,
+    times: &Times,
+    steps: &mut Steps<L>,
+) -> Result<Option<Route>, OutOfMemory>
+    requires valid { IsTask (point_count times.now) task.now }
+    ensures serves { IfOk result (λ found. IfSome found (λ route. Serves (travel_time times.now) task.now route.stops.items)) }
+    ensures delay { IfOk result (λ found. IfSome found (λ route. route.delay ≡ order_delay (travel_time times.now) task.now route.stops.items)) }
+    ensures least { IfOk result (λ found. IfSome found (λ route. (stops : List OneStop) → Serves (travel_time times.now) task.now stops
+        → route.delay ≤ order_delay (travel_time times.now) task.now stops)) }
+    ensures none { IfOk result (λ found. IfNone found ((stops : List OneStop) → Serves (travel_time times.now) task.now stops → ⊥)) }
+    ensures step { steps.new ≡ steps.old + 1 }
+{
+    steps.tick();
+    let first = first_position_of(task, times.len());
+    least_route(&mut workspace.kept, task, times, first.room)
+}
+
+/// The same for any limits.
+pub(crate) fn least_route(
+    kept: &mut Kept,
+    task: &Task,
+    times: &Times,
+    room: u32,
+) -> Result<Option<Route>, OutOfMemory>
+    requires valid { IsRoutable (point_count times.now) task.now }
+    requires room { room ≡ free_seats task.now }
+    ensures serves { IfOk result (λ found. IfSome found (λ route. Serves (travel_time times.now) task.now route.stops.items)) }
+    ensures delay { IfOk result (λ found. IfSome found (λ route. route.delay ≡ order_delay (travel_time times.now) task.now route.stops.items)) }
+    ensures least { IfOk result (λ found. IfSome found (λ route. (stops : List OneStop) → Serves (travel_time times.now) task.now stops
+        → route.delay ≤ order_delay (travel_time times.now) task.now stops)) }
+    ensures none { IfOk result (λ found. IfNone found ((stops : List OneStop) → Serves (travel_time times.now) task.now stops → ⊥)) }
+{
+    kept.begin(task.riders.len() * 2 + task.aboard.len())?;
+    let label = Label {
+        done: Done::none(),
+        place: task.start,
+        free: task.ready,
+        room,
+        delay: 0,
+    };
+    let mut path = ArrayVec::new();
+    let mut best = None;
+    search(task, times, &label, &mut path, &mut best, kept)?;
+    Ok(best)
+}

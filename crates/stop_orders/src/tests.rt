@@ -1,0 +1,212 @@
+//! Worked orders on a line of five places, 60 seconds between neighbours.
+use super::*;
+use arrayvec::ArrayVec;
+use pool_base::{Party, Times};
+use std::alloc::Global;
+use std::process::Abort;
+use std::test::Fail;
+
+fn line(alloc: Global) -> Result<Times, Fail> {
+    let cells = vec![in alloc;
+        0, 60, 120, 180, 240, 60, 0, 60, 120, 180, 120, 60, 0, 60, 120, 180, 120, 60, 0, 60, 240,
+        180, 120, 60, 0,
+    ]?;
+    Ok(Times::checked(5, cells)?)
+}
+
+/// A rider who was asked for at second 0, waits at most 120 seconds and is delayed by at most 300.
+fn leg(origin: usize, destination: usize, ideal: u64, party: Party) -> Leg {
+    Leg {
+        origin,
+        destination,
+        latest_pickup: 120,
+        ideal,
+        latest_dropoff: ideal.saturating_add(300),
+        party,
+    }
+}
+
+fn vehicle(ready: u64, dwell: u16, seats: u8) -> Task {
+    Task {
+        start: 0,
+        ready,
+        dwell,
+        seats,
+        aboard: ArrayVec::new(),
+        riders: ArrayVec::new(),
+    }
+}
+
+/// Rider 0 from place 1 to place 3, rider 1 from place 2 to place 4, and a vehicle at place 0.
+fn two(dwell: u16, seats: u8, party: Party) -> Task {
+    let mut task = vehicle(0, dwell, seats);
+    task.riders = ArrayVec::new();
+    let _first = task.riders.try_push(leg(1, 3, 120, party));
+    let _second = task.riders.try_push(leg(2, 4, 120, Party::ONE));
+    task
+}
+
+/// The order serves, with these seconds and this delay.
+fn check(rt: &impl Abort, task: &Task, times: &Times, stops: &[Stop], seconds: &[u64], delay: u64) {
+    assert!(rt; is_valid(task, times.len()));
+    assert!(rt; is_order(task, stops));
+    assert!(rt; serves(task, times, stops));
+    assert_eq!(rt; delay_of(task, times, stops), Some(delay));
+    assert_eq!(rt; stops.len(), seconds.len());
+    for k in 0..stops.len() {
+        assert_eq!(rt; stop_second(task, times, stops, k), Some(seconds[k]));
+    }
+}
+
+fn check_not(rt: &impl Abort, task: &Task, times: &Times, stops: &[Stop]) {
+    assert!(rt; is_valid(task, times.len()));
+    assert!(rt; !serves(task, times, stops));
+}
+
+#[test]
+fn riders_pooled_and_in_turn(rt: HostRuntime) -> Result<(), Fail> {
+    let times = line(rt.alloc())?;
+    let pooled = [Stop::Pick(0), Stop::Pick(1), Stop::Drop(0), Stop::Drop(1)];
+    check(
+        &rt,
+        &two(0, 2, Party::ONE),
+        &times,
+        &pooled,
+        &[60, 120, 180, 240],
+        180,
+    );
+    // One seat is one too few for both, and a party of two fills both seats.
+    check_not(&rt, &two(0, 1, Party::ONE), &times, &pooled);
+    let pair = Party::new(2).ok_or("a party")?;
+    check_not(&rt, &two(0, 2, pair), &times, &pooled);
+    // A dwell of 10 seconds brings the second pickup to second 130.
+    check_not(&rt, &two(10, 2, Party::ONE), &times, &pooled);
+    let mut task = vehicle(0, 0, 1);
+    let _first = task.riders.try_push(leg(0, 1, 60, Party::ONE));
+    let _second = task.riders.try_push(leg(1, 2, 60, Party::ONE));
+    check(
+        &rt,
+        &task,
+        &times,
+        &[Stop::Pick(0), Stop::Drop(0), Stop::Pick(1), Stop::Drop(1)],
+        &[0, 60, 60, 120],
+        60,
+    );
+    Ok(())
+}
+
+#[test]
+fn limits_to_the_second(rt: HostRuntime) -> Result<(), Fail> {
+    let times = line(rt.alloc())?;
+    let alone = [Stop::Pick(0), Stop::Drop(0)];
+    let mut task = vehicle(0, 10, 4);
+    let _rider = task.riders.try_push(Leg {
+        latest_pickup: 60,
+        latest_dropoff: 190,
+        ..leg(1, 3, 120, Party::ONE)
+    });
+    check(&rt, &task, &times, &alone, &[60, 190], 70);
+    let mut early = vehicle(0, 10, 4);
+    let _rider = early.riders.try_push(Leg {
+        latest_pickup: 59,
+        ..leg(1, 3, 120, Party::ONE)
+    });
+    check_not(&rt, &early, &times, &alone);
+    let mut late = vehicle(0, 10, 4);
+    let _rider = late.riders.try_push(Leg {
+        latest_dropoff: 189,
+        ..leg(1, 3, 120, Party::ONE)
+    });
+    check_not(&rt, &late, &times, &alone);
+    // A passenger who can no longer be dropped in time.
+    let mut aboard = vehicle(200, 0, 4);
+    let _passenger = aboard.aboard.try_push(Leg {
+        latest_dropoff: 340,
+        ..leg(0, 4, 240, Party::ONE)
+    });
+    check_not(&rt, &aboard, &times, &[Stop::Alight(0)]);
+    assert!(rt; is_valid(&aboard, times.len()));
+    assert!(rt; is_order(&aboard, &[Stop::Alight(0)]));
+    assert_eq!(rt; delay_of(&aboard, &times, &[Stop::Alight(0)]), Some(200));
+    Ok(())
+}
+
+#[test]
+fn out_of_reach(rt: HostRuntime) -> Result<(), Fail> {
+    let cells = vec![in rt.alloc(); 0, 60, Times::NEVER, 0]?;
+    let times = Times::checked(2, cells)?;
+    let mut task = vehicle(0, 0, 4);
+    let _rider = task.riders.try_push(leg(1, 0, 0, Party::ONE));
+    let stops = [Stop::Pick(0), Stop::Drop(0)];
+    check_not(&rt, &task, &times, &stops);
+    assert!(rt; is_valid(&task, times.len()));
+    assert!(rt; is_order(&task, &stops));
+    assert_eq!(rt; stop_second(&task, &times, &stops, 0), Some(60));
+    assert_eq!(rt; stop_second(&task, &times, &stops, 1), None);
+    assert_eq!(rt; delay_of(&task, &times, &stops), None);
+    assert!(rt; least_over_all_orders(&task, &times).is_none());
+    Ok(())
+}
+
+#[test]
+fn lists_that_are_no_order(rt: HostRuntime) {
+    let task = two(0, 2, Party::ONE);
+    assert!(rt; !is_order(&task, &[Stop::Pick(0), Stop::Drop(0)]));
+    assert!(rt;
+        !is_order(
+            &task,
+            &[
+                Stop::Pick(0),
+                Stop::Pick(0),
+                Stop::Drop(0),
+                Stop::Pick(1),
+                Stop::Drop(1)
+            ]
+        )
+    );
+    assert!(rt;
+        !is_order(
+            &task,
+            &[Stop::Drop(0), Stop::Pick(0), Stop::Pick(1), Stop::Drop(1)]
+        )
+    );
+    assert!(rt;
+        !is_order(
+            &task,
+            &[
+                Stop::Pick(0),
+                Stop::Drop(0),
+                Stop::Pick(1),
+                Stop::Drop(1),
+                Stop::Alight(0)
+            ]
+        )
+    );
+    assert!(rt;
+        !is_order(
+            &task,
+            &[
+                Stop::Pick(0),
+                Stop::Drop(0),
+                Stop::Pick(1),
+                Stop::Drop(1),
+                Stop::Pick(2),
+                Stop::Drop(2)
+            ]
+        )
+    );
+}
+
+#[test]
+fn least_of_two_orders(rt: HostRuntime) -> Result<(), Fail> {
+    let times = line(rt.alloc())?;
+    let task = two(0, 2, Party::ONE);
+    assert!(rt; is_valid(&task, times.len()));
+    let best = least_over_all_orders(&task, &times).ok_or("an order")?;
+    assert_eq!(rt; best.delay, 180);
+    assert_eq!(rt;
+        best.stops.as_slice(),
+        [Stop::Pick(0), Stop::Pick(1), Stop::Drop(0), Stop::Drop(1)].as_slice()
+    );
+    Ok(())
+}

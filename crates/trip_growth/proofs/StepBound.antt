@@ -1,0 +1,46 @@
+use Rattle.std.proofs.Common.{◌≡◌, ℕ, ◌+◌, ◌*◌, ◌≤◌, List, ◌++◌, length, subst, arith}
+use Rattle.std.proofs.lemmas.List.{length-append}
+use Rattle.stop_orders.specs.declared.settled.Settled.{Settled}
+use Rattle.trip_growth.specs.Rows.{CanServe, CostsLeast, AreRowsOfSize, AreRowsUpTo, TakesSteps}
+use Rattle.trip_growth.specs.declared.trip_of.TripOf.{TripOf}
+use Rattle.trip_growth.proofs.Joined.{AreSmaller, smaller_joined, smaller_all}
+
+one_for_each : (x y n a b : ℕ) → a ≤ b + (x * n + 1) + y * n → a ≤ b + ((x + y) * (n + 1) + 1)
+one_for_each x y n a b h = omega arith
+
+module _ (tau : ℕ → ℕ → ℕ) (settled : Settled) (v : ℕ) (size : ℕ) (xs ys : List TripOf)
+    (small : AreSmaller (CanServe tau settled v) (CostsLeast tau settled v) size xs) (level : AreRowsOfSize tau settled v size ys) where
+  -- the searches made so far, against the rows so far
+  pub steps_so_far : (most room before after : ℕ) → size ≤ most → length xs + length ys ≤ room + 1
+      → after ≤ before + (length xs * length settled.riders + 1) + length ys * length settled.riders
+      → TakesSteps tau settled v most room before after
+  steps_so_far most room before after h few taken =
+      let both = smaller_joined (CanServe tau settled v) (CostsLeast tau settled v) size xs ys small level in
+      let n : length (xs ++ ys) ≡ length xs + length ys = length-append xs ys in
+      record {
+        rows = xs ++ ys;
+        right = both.right;
+        sized = λ k d lt. let s = both.sized k d lt in omega arith;
+        rising = both.rising;
+        few = omega arith;
+        taken = rw n (one_for_each (length xs) (length ys) (length settled.riders) after before taken);
+      }
+
+  -- the steps of another level
+  pub more_steps : (before after : ℕ) → after ≤ before + (length xs * length settled.riders + 1) + length ys * length settled.riders
+      → after ≤ before + (length (xs ++ ys) * length settled.riders + 1)
+  more_steps before after h =
+      let n : length (xs ++ ys) ≡ length xs + length ys = length-append xs ys in
+      rw n (regrouped (length xs) (length ys) (length settled.riders) after before h)
+    where
+      regrouped : (x y n a b : ℕ) → a ≤ b + (x * n + 1) + y * n → a ≤ b + ((x + y) * n + 1)
+      regrouped x y n a b h = omega arith
+
+  -- all rows, where this size is the last
+  pub rows_of_all : (most room : ℕ) (rows : List TripOf) → size ≡ most → rows ≡ xs ++ ys → length xs + length ys ≤ room
+      → AreRowsUpTo tau settled v most rows × (length rows ≤ room)
+  rows_of_all most room rows e is few =
+      let n : length (xs ++ ys) ≡ length xs + length ys = length-append xs ys in
+      let all : AreRowsUpTo tau settled v size (xs ++ ys) =
+      smaller_all (CanServe tau settled v) (CostsLeast tau settled v) size (xs ++ ys) (smaller_joined (CanServe tau settled v) (CostsLeast tau settled v) size xs ys small level) in
+      rw is (subst (λ (k : ℕ). AreRowsUpTo tau settled v k (xs ++ ys)) e all, omega arith)

@@ -1,0 +1,18 @@
+use Rattle.pool_base.specs.Times.{point_count, travel_time}
+use Rattle.trip_growth.proofs.Rule.{rule_of, edge_of}
+use Rattle.trip_growth.proofs.level_growth.grow_level.Goals as goal
+
+pub grow_size-requires-clause-can : goal.grow_size-requires-clause-can
+grow_size-requires-clause-can g c =
+    let points = point_count c.args.times.now in let tau = travel_time c.args.times.now in let settled = c.args.settled.now in
+    record {
+      sound = c.requires.sound;
+      vehicle = c.requires.vehicle;
+      rule = rule_of points tau settled c.args.vehicle c.args.times.now.table.times c.requires.sound c.requires.vehicle;
+      edges = λ a b s. c.requires.pairs a b (edge_of points tau settled c.args.vehicle c.args.times.now.table.times c.requires.sound c.requires.vehicle a b s);
+    }
+
+pub grow_size-requires-clause-below : goal.grow_size-requires-clause-below
+grow_size-requires-clause-below g c =
+    let below = c.requires.below in
+    rw c.rows.ensures (record { served = λ k d h. (below.right k d h).served; sized = below.sized; rising = below.rising; whole = below.whole })

@@ -1,0 +1,23 @@
+use Rattle.std.specs.Prelude.{ℕ, ◌<◌, List, [], ◌∷◌, length, Contains}
+use Rattle.pool_base.specs.Times.{point_count, travel_time}
+use Rattle.stop_orders.specs.Settled.{IsSound}
+use Rattle.trip_growth.specs.declared.growth.Growth.{Growth}
+use Rattle.trip_growth.specs.Rows.{CanServe, CostsLeast}
+use Rattle.trip_growth.specs.Level.{IsTripRule}
+
+abbrev pub rider_count : Growth → ℕ
+rider_count growth = length growth.settled.now.riders
+
+-- the vehicle of the growth can serve the trip
+abbrev pub serves : Growth → List ℕ → Type 0
+serves growth trip = CanServe (travel_time growth.times.now) growth.settled.now growth.vehicle trip
+
+abbrev pub costs : Growth → List ℕ → ℕ → Type 0
+costs growth trip cost = CostsLeast (travel_time growth.times.now) growth.settled.now growth.vehicle trip cost
+
+-- what growth works on goes together, and obeys the laws on smaller trips and pairs
+pub record CanGrow (growth : Growth) : Type 0 where
+  pub sound : IsSound 6 (point_count growth.times.now) (travel_time growth.times.now) growth.settled.now
+  pub vehicle : growth.vehicle < length growth.settled.now.vehicles
+  pub rule : IsTripRule (rider_count growth) (serves growth)
+  pub edges : (a b : ℕ) → serves growth (a ∷ b ∷ []) → Contains growth.pairs.now (a, b)

@@ -1,0 +1,4 @@
+pub mod Trip
+pub mod Level
+pub mod Rows
+pub mod Growth
