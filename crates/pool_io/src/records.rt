@@ -38,8 +38,10 @@ fn reader_of(alloc: Global, bytes: &[u8]) -> Reader<&[u8]>
 
 // Reads the next record. In memory nothing but want of memory can fail, so each failure is answered so.
 fn read_next(reader: &mut Reader<&[u8]>, row: &mut ByteRecord) -> Result<bool, RowFault>
-    ensures next { IfOk result (λ found. (bytes : List ℕ) (rows : List (List (List ℕ))) → HasRead bytes rows reader.old
-        → MatchBool found (HasRead bytes (rows ++ fields_of row.new ∷ []) reader.new) (records_of bytes ≡ rows)) }
+    ensures next { IfOk result (λ found. (bytes : List ℕ) (rows : List (List (List ℕ)))
+        → HasRead bytes rows reader.old
+        → MatchBool found (HasRead bytes (rows ++ fields_of row.new ∷ []) reader.new)
+        (records_of bytes ≡ rows)) }
     ensures no_memory { IfErr result (λ fault. fault ≡ RowFault.OutOfMemory) }
 {
     let Ok(found) = reader.read_byte_record(row) else {
@@ -96,10 +98,14 @@ fn append_fields(fields: &mut ByteRecord, row: &ByteRecord) -> Result<(), RowFau
 // The rows after the first record, each of so many fields.
 fn rows_after(alloc: Global, reader: &mut Reader<&[u8]>, columns: usize) -> Result<Rows, RowFault>
     ensures columns { IfOk result (λ table. table.columns ≡ columns) }
-    ensures table { IfOk result (λ table. (bytes : List ℕ) (first : List (List ℕ)) → HasRead bytes (first ∷ []) reader.old
-        → (rows : List (List (List ℕ))) × (records_of bytes ≡ first ∷ rows) × (even_rows columns rows ≡ Ok table)) }
-    ensures refused { IfErr result (λ fault. fault ≢ RowFault.OutOfMemory → (bytes : List ℕ) (first : List (List ℕ)) → HasRead bytes (first ∷ []) reader.old
-        → (rows : List (List (List ℕ))) × (records_of bytes ≡ first ∷ rows) × (even_rows columns rows ≡ Err fault)) }
+    ensures table { IfOk result (λ table. (bytes : List ℕ) (first : List (List ℕ))
+        → HasRead bytes (first ∷ []) reader.old
+        → (rows : List (List (List ℕ))) × (records_of bytes ≡ first ∷ rows)
+        × (even_rows columns rows ≡ Ok table)) }
+    ensures refused { IfErr result (λ fault. fault ≢ RowFault.OutOfMemory
+        → (bytes : List ℕ) (first : List (List ℕ)) → HasRead bytes (first ∷ []) reader.old
+        → (rows : List (List (List ℕ))) × (records_of bytes ≡ first ∷ rows)
+        × (even_rows columns rows ≡ Err fault)) }
 {
     let mut row = ByteRecord::new(alloc);
     let mut fields = ByteRecord::new(alloc);
@@ -123,7 +129,8 @@ fn rows_after(alloc: Global, reader: &mut Reader<&[u8]>, columns: usize) -> Resu
 pub fn rows(alloc: Global, bytes: &[u8], header: &[u8]) -> Result<Rows, RowFault>
     ensures columns { IfOk result (λ table. table.columns ≡ length (header_fields header.now)) }
     ensures table { IfOk result (λ table. table_of header.now bytes.now ≡ Ok table) }
-    ensures refused { IfErr result (λ fault. fault ≢ RowFault.OutOfMemory → table_of header.now bytes.now ≡ Err fault) }
+    ensures refused { IfErr result
+        (λ fault. fault ≢ RowFault.OutOfMemory → table_of header.now bytes.now ≡ Err fault) }
 {
     let Ok(words) = words_of(alloc, header) else {
         return Err(RowFault::OutOfMemory);

@@ -29,11 +29,13 @@ nodes_of rows = fold with_row [] rows
 
 -- a row's arc between the indexes of its nodes
 abbrev pub arc_in : List ℕ → List (List ℕ) → Arc
-arc_in nodes fields = record { from = index_in nodes (name_in fields 0); to = index_in nodes (name_in fields 1); seconds = seconds_in fields }
+arc_in nodes fields =
+    record { from = index_in nodes (name_in fields 0); to = index_in nodes (name_in fields 1); seconds = seconds_in fields }
 
 -- the network of rows that are accepted
 abbrev pub roads_of : List (List (List ℕ)) → Roads
-roads_of rows = record { nodes = nodes_of rows; arcs = by_start (length (nodes_of rows)) (map (arc_in (nodes_of rows)) rows) }
+roads_of rows =
+    record { nodes = nodes_of rows; arcs = by_start (length (nodes_of rows)) (map (arc_in (nodes_of rows)) rows) }
 
 -- why the fields of a row are refused, if they are; rows and columns count from 1
 unfoldable pub field_refusal : ℕ → List (List ℕ) → Option NetworkFault
@@ -52,7 +54,8 @@ row_refusal row nodes fields =
 -- the first refusal among the rows from this number on, after the nodes of the rows before them
 unfoldable pub first_refusal : ℕ → List ℕ → List (List (List ℕ)) → Option NetworkFault
 first_refusal row nodes [] = None
-first_refusal row nodes (fields ∷ rows) = option_or (row_refusal row nodes fields) (first_refusal (row + 1) (with_row nodes fields) rows)
+first_refusal row nodes (fields ∷ rows) =
+    option_or (row_refusal row nodes fields) (first_refusal (row + 1) (with_row nodes fields) rows)
 
 -- the network, where nothing is refused
 abbrev pub unless_refused : Option NetworkFault → Roads → Result Roads NetworkFault
@@ -61,4 +64,5 @@ unless_refused (Some fault) roads = Err fault
 
 -- the network that rows give, or their first refusal
 unfoldable pub network_of : List (List (List ℕ)) → Result Roads NetworkFault
-network_of rows = if nat_lt most_arcs (length rows) then Err TooManyArcs else unless_refused (first_refusal 1 [] rows) (roads_of rows)
+network_of rows =
+    if nat_lt most_arcs (length rows) then Err TooManyArcs else unless_refused (first_refusal 1 [] rows) (roads_of rows)

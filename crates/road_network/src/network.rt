@@ -36,7 +36,10 @@ impl Model for Network {
 
     ghost Value = { Roads };
 
-    ghost view = { λ a. record { nodes = a.names.keys; arcs = stored_arcs (length a.names.keys) a.ends.items a.hops.items } };
+    ghost view = { λ a. record {
+      nodes = a.names.keys;
+      arcs = stored_arcs (length a.names.keys) a.ends.items a.hops.items;
+    } };
 
     ghost invariant = { λ a. IsStored a.names.keys a.ends.items a.hops.items };
 }
@@ -52,7 +55,8 @@ impl Network {
         requires few_arcs { length arcs.now ≤ most_arcs }
         requires names { All (λ name. name ≤ greatest_name) names.keys }
         requires among { All (IsArcAmong (length names.keys)) arcs.now }
-        ensures { IfOk result (λ network. network ≡ record { nodes = names.keys; arcs = by_start (length names.keys) arcs.now }) }
+        ensures { IfOk result (λ network. network
+            ≡ record { nodes = names.keys; arcs = by_start (length names.keys) arcs.now }) }
     {
         let (ends, hops) = sort_by_start(alloc, names.len(), arcs)?;
         Ok(Network { names, ends, hops })

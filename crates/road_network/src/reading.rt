@@ -32,9 +32,12 @@ fn read_row(rows: &Rows, row: usize) -> Result<NamedArc, NetworkFault>
     requires columns { rows.now.columns ≡ 3 }
     requires row { row < length rows.now.records }
     requires few { row < 400000 }
-    ensures accepted { IfOk result (λ arc. (field_refusal (row + 1) (record_at rows.now row) ≡ None) × (arc.from ≡ name_in (record_at rows.now row) 0)
-        × (arc.to ≡ name_in (record_at rows.now row) 1) × (arc.seconds ≡ seconds_in (record_at rows.now row))) }
-    ensures small { IfOk result (λ arc. (arc.from ≤ greatest_name) × (arc.to ≤ greatest_name) × (arc.seconds ≤ longest_arc)) }
+    ensures accepted { IfOk result (λ arc. (field_refusal (row + 1) (record_at rows.now row) ≡ None)
+        × (arc.from ≡ name_in (record_at rows.now row) 0)
+        × (arc.to ≡ name_in (record_at rows.now row) 1)
+        × (arc.seconds ≡ seconds_in (record_at rows.now row))) }
+    ensures small { IfOk result (λ arc. (arc.from ≤ greatest_name) × (arc.to ≤ greatest_name)
+        × (arc.seconds ≤ longest_arc)) }
     ensures refused { IfErr result (λ fault. field_refusal (row + 1) (record_at rows.now row) ≡ Some fault) }
 {
     let number = row as u64 + 1;
@@ -87,7 +90,8 @@ fn number_node(nodes: &mut IndexSet<u32>, name: u32) -> Result<usize, NetworkFau
 pub fn read_network(alloc: Global, rows: &Rows) -> Result<Network, NetworkFault>
     requires { rows.now.columns ≡ 3 }
     ensures network { IfOk result (λ network. network_of rows.now.records ≡ Ok network) }
-    ensures refused { IfErr result (λ fault. fault ≢ NetworkFault.OutOfMemory → network_of rows.now.records ≡ Err fault) }
+    ensures refused { IfErr result
+        (λ fault. fault ≢ NetworkFault.OutOfMemory → network_of rows.now.records ≡ Err fault) }
     ensures every_row { IfOk result (λ network. length network.arcs ≡ length rows.now.records) }
 {
     if rows.len() > MOST_ARCS {
