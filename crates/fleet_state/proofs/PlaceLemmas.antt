@@ -1,4 +1,4 @@
-use Rattle.std.proofs.Common.{◌≡◌, ◌≢◌, ℕ, zero, suc, ◌+◌, ◌-◌, ◌<◌, ◌≤◌, Bool, true, false, ◌||◌, ◌&&◌, cond, eqb, nat_lt, List, [], ◌∷◌, ◌++◌, map, length, get_or, take, drop, refl, sym, ap, subst, ◌∙◌, inl, inr, arith}
+use Rattle.std.proofs.Common.{◌≡◌, ◌≢◌, ℕ, zero, suc, ◌+◌, ◌-◌, ◌<◌, ◌≤◌, Bool, true, false, ◌||◌, ◌&&◌, eqb, nat_lt, List, [], ◌∷◌, ◌++◌, map, length, get_or, take, drop, refl, sym, ap, subst, ◌∙◌, inl, inr, arith}
 use Rattle.std.specs.List.{All, AllWithin, insert, list_any, prefix_len}
 use Rattle.std.specs.List.Sorted.{IsStrictlyIncreasing, IsNonDecreasingBy, IsPartitionPoint}
 use Rattle.std.proofs.lemmas.Bool.{cases_order, cases_lt, cases_eq, cond-true, cond-false, ltb-true, ltb-false, lt-ltb, eq-eqb, ne_eqb, and_parts, and_from, both_ways}
@@ -10,7 +10,7 @@ use Rattle.batch_snapshot.specs.declared.vehicle.Vehicle.{Vehicle}
 use Rattle.batch_snapshot.specs.Vehicle.{HasSeats}
 use Rattle.batch_snapshot.specs.Kept.{IsFleet}
 use Rattle.fleet_state.specs.Vehicle.{empty_vehicle}
-use Rattle.fleet_state.specs.Place.{has_vehicle, stands_at, place_of, IsPlaceOf}
+use Rattle.fleet_state.specs.Place.{has_vehicle, stands_at, IsPlaceOf}
 
 swapped : (a b c : Bool) → (a || (b || c)) ≡ (b || (a || c))
 swapped true true c = refl
