@@ -6,7 +6,8 @@ use Rattle.std.proofs.lemmas.Bool.{cases_eq}
 use Rattle.request_book.specs.declared.rider.BookRider.{BookRider}
 use Rattle.request_book.specs.declared.rider.Status.{Status}
 use Rattle.request_book.specs.Keyed.{look_up, changed_at, without, placed, by_key, KeysRise, KeysDiffer}
-use Rattle.request_book.specs.Register.{pool_id}
+use Rattle.request_book.specs.declared.register.Register.{Register}
+use Rattle.request_book.specs.Register.{pool_id, HasRoom}
 use Rattle.request_book.specs.Rider.{is_active, with_status}
 use Rattle.request_book.specs.State.{find_rider, find_vehicle, pool_count}
 use Rattle.batch_snapshot.specs.declared.vehicle.Vehicle.{Vehicle}
@@ -105,3 +106,10 @@ IsPool-map f keeps stays pool riders is id = is id ∙ sym (ap (option_and_then 
     by : (o : Option BookRider) → option_and_then pool_id (option_map f o) ≡ option_and_then pool_id o
     by None = refl
     by (Some r) = stays r
+
+-- room
+pub less-room : (n : ℕ) (g : Register) → HasRoom (n + 1) g → HasRoom n g
+less-room n g room = record { riders = omega (arith, room.riders); ids = omega (arith, room.ids) }
+
+pub no-room : (g : Register) → HasRoom 0 g
+no-room g = record { riders = omega (arith, g.riders.ok.1); ids = omega arith }

@@ -287,6 +287,15 @@ module _ {X : Type 0} (key : X → ℕ) where
       let none = differ.0 in
       look_up-there (key (get_or xs i d)) x xs (λ e. let found = subst (λ k. look_up key k xs ≡ None) e none in absurd cc) ∙ at
 
+  -- before its own place an element isn't found
+  pub look_up-take : (i : ℕ) (xs : List X) (d : X) → KeysDiffer key xs → i < length xs → look_up key (key (get_or xs i d)) (take i xs) ≡ None
+  unfolding KeysDiffer
+  look_up-take i [] d differ in' = absurd (omega arith)
+  look_up-take zero (x ∷ xs) d differ in' = look_up-nil (key x)
+  look_up-take (suc i) (x ∷ xs) d differ in' =
+      let at = look_up-at i xs d differ.1 (omega arith) in
+      look_up-there (key (get_or xs i d)) x (take i xs) (λ e. let found = subst (λ k. look_up key k xs ≡ None) e differ.0 in absurd cc) ∙ look_up-take i xs d differ.1 (omega arith)
+
   key-get_or : (i : ℕ) (xs : List X) (d : X) → i < length xs → get_or (map key xs) i (key d) ≡ key (get_or xs i d)
   key-get_or i [] d in' = absurd (omega arith)
   key-get_or zero (x ∷ xs) d in' = refl

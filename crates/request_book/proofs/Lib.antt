@@ -6,3 +6,5 @@ pub mod SealLemmas
 pub mod CloseLemmas
 pub mod BatchLemmas
 pub mod ConsistentLemmas
+pub mod NamedLemmas
+pub mod BookLemmas

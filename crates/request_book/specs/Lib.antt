@@ -9,3 +9,4 @@ pub mod Step
 pub mod Replay
 pub mod Consistent
 pub mod Book
+pub mod Stored

@@ -6,6 +6,7 @@
 //! of the journal and changes nothing else.
 #![tactic(auto)]
 
+mod book;
 mod closing;
 mod command;
 mod journal;
@@ -15,9 +16,11 @@ mod register;
 mod reply;
 mod rider;
 mod riding;
+mod running;
 mod sealing;
 mod state;
 
+pub use book::Book;
 pub use command::Command;
 pub use journal::{Entry, Journal};
 pub use outcome::{
