@@ -1,7 +1,8 @@
 -- What a book has taken, command by command and lane by lane.
-use Rattle.std.proofs.Common.{◌≡◌, ◌≢◌, ℕ, ◌+◌, ◌<◌, ◌≤◌, Bool, true, false, cond, eqb, List, [], ◌∷◌, ◌++◌, length, refl, sym, ap, subst, ◌∙◌, append_assoc, append-nil, inl, inr, arith}
-use Rattle.std.specs.Prelude.{◌⊎◌, slice_index_or}
-use Rattle.std.proofs.lemmas.Bool.{cases_eq, eq-eqb, ne_eqb}
+use Rattle.std.proofs.Common.{◌≡◌, ◌≢◌, ℕ, zero, suc, ◌+◌, ◌<◌, ◌≤◌, Bool, true, false, cond, eqb, List, [], ◌∷◌, ◌++◌, length, get_or, refl, sym, ap, subst, ◌∙◌, append_assoc, append-nil, add-one, take, inl, inr, arith}
+use Rattle.std.specs.Prelude.{◌⊎◌}
+use Rattle.std.proofs.Math.Seq.{take-suc}
+use Rattle.std.proofs.lemmas.Bool.{cases_eq, cases_lt, eq-eqb, ne_eqb, false≢true, true≢false}
 use Rattle.request_book.specs.Book.{BookView, IsApplied, IsBook}
 use Rattle.request_book.specs.declared.command.Command.{Command}
 use Rattle.request_book.specs.declared.journal.Entry.{Entry}
@@ -12,11 +13,12 @@ use Rattle.dispatch_engine.specs.Run.{of_lane, commands_of, IsRoundRun, IsSameRu
 -- a lane's commands of entries and of more
 asked-append : (lane : ℕ) (xs ys : List Entry) → commands_of (of_lane lane (xs ++ ys)) ≡ commands_of (of_lane lane xs) ++ commands_of (of_lane lane ys)
 asked-append lane [] ys = refl
-asked-append lane (e ∷ xs) ys = by (eqb e.lane lane)
+asked-append lane (e ∷ xs) ys = by (eqb e.lane lane) (asked-append lane xs ys)
   where
-    by : (b : Bool) → commands_of (cond b (e ∷ of_lane lane (xs ++ ys)) (of_lane lane (xs ++ ys))) ≡ commands_of (cond b (e ∷ of_lane lane xs) (of_lane lane xs)) ++ commands_of (of_lane lane ys)
-    by true = ap (λ t. e.command ∷ t) (asked-append lane xs ys)
-    by false = asked-append lane xs ys
+    by : (b : Bool) → commands_of (of_lane lane (xs ++ ys)) ≡ commands_of (of_lane lane xs) ++ commands_of (of_lane lane ys)
+        → commands_of (cond b (e ∷ of_lane lane (xs ++ ys)) (of_lane lane (xs ++ ys))) ≡ commands_of (cond b (e ∷ of_lane lane xs) (of_lane lane xs)) ++ commands_of (of_lane lane ys)
+    by true rest = ap (λ t. e.command ∷ t) rest
+    by false rest = rest
 
 -- one entry, seen from its lane and from another
 asked-here : (e : Entry) → commands_of (of_lane e.lane (e ∷ [])) ≡ e.command ∷ []
@@ -24,14 +26,14 @@ asked-here e = by (eqb e.lane e.lane) (eq-eqb e.lane e.lane refl)
   where
     by : (b : Bool) → b ≡ true → commands_of (cond b (e ∷ []) []) ≡ e.command ∷ []
     by true h = refl
-    by false h = absurd h
+    by false h = absurd (false≢true h)
 
 asked-there : (e : Entry) (lane : ℕ) → lane ≢ e.lane → commands_of (of_lane lane (e ∷ [])) ≡ []
 asked-there e lane differs = by (eqb e.lane lane) (ne_eqb e.lane lane (λ same. differs (sym same)))
   where
     by : (b : Bool) → b ≡ false → commands_of (cond b (e ∷ []) []) ≡ []
     by false h = refl
-    by true h = absurd h
+    by true h = absurd (true≢false h)
 
 pub same_run : (b : BookView) → IsSameRun b b
 same_run b = record { nodes = refl; wait = refl; first = refl; base = refl }
@@ -100,18 +102,26 @@ lanes_more a b c round lane sixteen p q =
         (q.mine ∙ ap (λ t. t ++ lane_at round lane) (p.untaken lane (omega arith)))
     by other below (inr differs) = q.others other differs ∙ p.taken other (omega (arith, below, differs))
 
+-- past the end there is the default
+get_or-past : {X : Type 0} (xs : List X) (i : ℕ) (d : X) → length xs ≤ i → get_or xs i d ≡ d
+get_or-past [] i d past = refl
+get_or-past (x ∷ xs) zero d past = absurd (omega (arith, past))
+get_or-past (x ∷ xs) (suc i) d past = get_or-past xs i d (omega (arith, past))
+
 -- all sixteen lanes are taken
 pub lanes_all : (a b : BookView) (round : NumberedLanes) → HasTakenLanes a round 16 b → TakesRound a round b
 lanes_all a b round p = record { same = p.same; lanes = λ lane. by lane (cases_lt lane 16) }
   where
     by : (lane : ℕ) → (lane < 16) ⊎ (16 ≤ lane) → commands_of (of_lane lane b.entries) ≡ lane_at round lane
     by lane (inl below) = p.taken lane below
-    by lane (inr past) = p.untaken lane past ∙ sym (outside lane past)
-    outside : (lane : ℕ) → 16 ≤ lane → lane_at round lane ≡ []
-    outside lane past = slice_index_or-out round.lanes lane [] (omega (arith, past, p.sixteen (omega arith)))
+    by lane (inr past) = p.untaken lane past ∙ sym (get_or-past round.lanes lane [] (omega (arith, past, p.sixteen (omega arith))))
 
 -- a round taken by a book without an entry is a run
 pub run_from_taken : (a b : BookView) (round : NumberedLanes) → TakesRound a round b → IsBook b → IsRoundRun a.nodes a.wait round (journal_of b)
 run_from_taken a b round p kept =
     let P : List ℕ → ℕ → Type 0 = λ ns w. IsRoundRun ns w round (journal_of b) in
     subst (λ ns. P ns a.wait) p.same.nodes (subst (λ w. P b.nodes w) p.same.wait (record { replies = kept.replies; lanes = p.lanes }))
+
+-- items up to the next one
+pub take_next : {X : Type 0} (xs : List X) (i : ℕ) (x : X) → i < length xs → x ≡ get_or xs i x → take i xs ++ x ∷ [] ≡ take (i + 1) xs
+take_next xs i x within is = ap (λ y. take i xs ++ y ∷ []) is ∙ sym (rw add-one (take-suc xs i x within))

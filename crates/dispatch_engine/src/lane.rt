@@ -101,6 +101,8 @@ fn run_command(book: &mut Book, lane: u8, command: &Command) -> Result<(), OutOf
     requires { is_plain command.now ≡ true }
     ensures { OnOk result (TakesCommands book.old lane (command.now ∷ []) book.new) }
 {
-    book.apply(lane, copied(command))?;
-    Ok(())
+    match book.apply(lane, copied(command)) {
+        Ok(_reply) => Ok(()),
+        Err(fault) => Err(fault),
+    }
 }

@@ -39,7 +39,7 @@ pub fn run_round(book: Book, round: &Round) -> Result<Book, OutOfMemory>
 fn run_lanes(book: &mut Book, round: &Round) -> Result<(), OutOfMemory>
     requires empty { book.old.entries ≡ [] }
     requires plain { IsPlainRound round.now }
-    ensures lanes { OnOk result (TakesRound book.old round.now book.new) }
+    ensures { OnOk result (TakesRound book.old round.now book.new) }
 {
     for lane in 0..16 {
         run_lane(book, lane as u8, round.lane(lane))?;

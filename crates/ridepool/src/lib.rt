@@ -6,11 +6,11 @@
 #![tactic(auto)]
 
 mod reading;
-// mod run;
+mod run;
 mod status;
 mod text;
-// mod writing;
+mod writing;
 
-// pub use run::ridepool;
+pub use run::ridepool;
 pub use status::{Part, RunStatus};
 pub use text::fault_text;

@@ -1,4 +1,5 @@
-ghost use Rattle.std.specs.Prelude.{◌≡◌, ◌≤◌, Ok, IfOk, IfErr, IfSome, codes};
+ghost use Rattle.std.specs.Prelude.{◌≡◌, ◌≤◌, All, Ok, IfOk, IfErr, IfSome, codes};
+ghost use Rattle.request_book.specs.Consistent.{IsNode};
 ghost use Rattle.ridepool.specs.Reading.{network_in, fleet_in, script_in, SeenSource, Gives, IsReadingFault, IsNetworkFault, IsFleetFault, IsScriptFault, RefusesNetwork, RefusesFleet, RefusesRounds, in_rows, own_fault};
 ghost use Rattle.pool_io.specs.Table.{table_of};
 ghost use Rattle.script_rows.specs.Script.{script_of};
@@ -51,6 +52,7 @@ pub(crate) fn fleet_from<S: Source>(
     network: &Network,
 ) -> Result<Fleet, RunStatus>
     ensures fleet { IfOk result (λ fleet. IfSome (S.left source.old) (λ told. fleet_in network.now.nodes told ≡ Ok fleet)) }
+    ensures named { IfOk result (All (λ vehicle. IsNode network.now.nodes vehicle.node)) }
     ensures cause { IfErr result (IsFleetFault (record { told = S.left source.old; taken_before = S.taken source.old; taken_after = S.taken source.new; faults_before = S.faults source.old; faults_after = S.faults source.new }) network.now.nodes) }
     ensures never_falls { S.faults source.old ≤ S.faults source.new }
 {
@@ -87,6 +89,7 @@ fn accept_network(alloc: Global, bytes: &[u8]) -> Result<Network, RunStatus>
 #[tactic(auto, unfolding(crate::specs::Reading::fleet_in))]
 fn accept_fleet(alloc: Global, bytes: &[u8], network: &Network) -> Result<Fleet, RunStatus>
     ensures fleet { IfOk result (λ fleet. fleet_in network.now.nodes bytes.now ≡ Ok fleet) }
+    ensures named { IfOk result (All (λ vehicle. IsNode network.now.nodes vehicle.node)) }
     ensures refused { IfErr result (RefusesFleet network.now.nodes bytes.now) }
 {
     match rows(alloc, bytes, b"vehicle,seats,node,second") {
