@@ -1,7 +1,7 @@
 -- Leaf values, term by term.
-use Rattle.std.proofs.Common.{◌≡◌, ◌≢◌, ◌==◌, ◌⊎◌, ◌&&◌, ℕ, zero, suc, ◌+◌, ◌-◌, ◌*◌, ◌<◌, ◌≤◌, Bool, true, false, cond, List, [], ◌∷◌, length, get_or, drop, Option, Some, None, ℤ, pos, neg_ℤ, ◌+ℤ◌, ◌-ℤ◌, ◌≤ℤ◌, refl, sym, ap, ◌∙◌, subst, arith, ne_eqb, eq-eqb}
+use Rattle.std.proofs.Common.{◌≡◌, ◌≢◌, ◌==◌, ◌⊎◌, ◌&&◌, ℕ, zero, suc, ◌+◌, ◌-◌, ◌*◌, ◌<◌, ◌≤◌, Bool, true, false, cond, List, [], ◌∷◌, length, get_or, drop, Option, Some, None, ℤ, pos, neg_ℤ, ◌+ℤ◌, ◌-ℤ◌, ◌≤ℤ◌, refl, sym, ap, ◌∙◌, subst, ⊎_elim, arith, ne_eqb, eq-eqb}
 use Rattle.std.proofs.lemmas.Int.{ints}
-use Rattle.std.proofs.lemmas.Bool.{and_left, and_right, and_from, cond-true, cond-false}
+use Rattle.std.proofs.lemmas.Bool.{cases_lt, and_left, and_right, and_from, cond-true, cond-false}
 use Rattle.std.proofs.lemmas.List.{at_drop_more, at_drop_all}
 use Rattle.plan_rules.specs.Sums.{least_below, lesser, int_sum_below}
 use Rattle.plan_rules.specs.Graph.{Graph, row_at, vehicle_at, IsStartOf}
@@ -47,13 +47,24 @@ none_after g usable f v end next =
 
 -- one more row of the vehicle
 pub least_taken : (g : Graph) (usable : Usable) (f : ℕ → ℤ) (v k : ℕ) (o : Option ℤ) (z : ℤ) → vehicle_at g k ≡ v → usable k ≡ true → o ≡ least_below k (is_usable_by g usable v) f → z ≡ f k → Some (lesser o z) ≡ least_below (k + 1) (is_usable_by g usable v) f
-least_taken g usable f v k o z own yes e value =
+least_taken g usable f v k o z own may e value =
     ap (λ (p : Option ℤ). Some (lesser p z)) e ∙ ap (λ (w : ℤ). Some (lesser (least_below k (is_usable_by g usable v) f) w)) value
       ∙ sym (least_below_more k (is_usable_by g usable v) f
           ∙ cond-true (is_usable_by g usable v k) (Some (lesser (least_below k (is_usable_by g usable v) f) (f k))) (least_below k (is_usable_by g usable v) f)
-              (and_from (vehicle_at g k == v) (usable k) (eq-eqb (vehicle_at g k) v own) yes))
+              (and_from (vehicle_at g k == v) (usable k) (eq-eqb (vehicle_at g k) v own) may))
 
 pub least_passed : (g : Graph) (usable : Usable) (f : ℕ → ℤ) (v k : ℕ) (o : Option ℤ) → usable k ≡ false → o ≡ least_below k (is_usable_by g usable v) f → o ≡ least_below (k + 1) (is_usable_by g usable v) f
-least_passed g usable f v k o no e =
+least_passed g usable f v k o out e =
     e ∙ sym (least_below_more k (is_usable_by g usable v) f
-      ∙ cond-false (is_usable_by g usable v k) (Some (lesser (least_below k (is_usable_by g usable v) f) (f k))) (least_below k (is_usable_by g usable v) f) (and_right (vehicle_at g k == v) (usable k) no))
+      ∙ cond-false (is_usable_by g usable v k) (Some (lesser (least_below k (is_usable_by g usable v) f) (f k))) (least_below k (is_usable_by g usable v) f) (and_right (vehicle_at g k == v) (usable k) out))
+
+-- a vehicle's rows don't end before they start
+pub starts_rise : (g : Graph) (v start end : ℕ) → IsStartOf g v start → IsStartOf g (v + 1) end → start ≤ end
+starts_rise g v start end first second =
+    ⊎_elim
+      (λ (cross : end < start).
+        let below : vehicle_at g end < v = first.below end cross in
+        let above : v + 1 ≤ vehicle_at g end = second.above end (omega arith) (omega (arith, first.within)) in
+        absurd (omega arith))
+      (λ (low : start ≤ end). low)
+      (cases_lt end start)

@@ -1,5 +1,6 @@
-use Rattle.std.specs.Prelude.{ℕ, ◌*◌, ℤ, pos, neg_ℤ, ◌-ℤ◌, ◌≤ℤ◌, List}
-use Rattle.plan_rules.specs.Multipliers.{multiplier_sum}
+use Rattle.std.specs.Prelude.{◌≡◌, ℕ, ◌*◌, ◌<◌, ℤ, pos, neg_ℤ, ◌-ℤ◌, ◌≤ℤ◌, List, length, slice_index_or}
+use Rattle.plan_rules.specs.Graph.{Graph}
+use Rattle.plan_rules.specs.Multipliers.{Usable, multiplier_sum, least_cost}
 use Rattle.plan_rules.specs.declared.row.TripRow.{TripRow}
 
 -- a number of which n may be added up
@@ -14,3 +15,19 @@ IsSmall z = IsSmallSum 1 z
 -- what a row costs, less the multipliers of its riders
 abbrev pub reduced_cost_of : TripRow → List ℤ → ℤ
 reduced_cost_of row ms = pos (1024 * row.cost) -ℤ multiplier_sum ms row.riders.items
+
+-- the cost of a row
+pub record IsCost (z : ℤ) : Type 0 where
+  pub low : pos 0 ≤ℤ z
+  pub high : z ≤ℤ pos 1000000000
+
+-- a multiplier that a single pass makes
+pub record IsModest (z : ℤ) : Type 0 where
+  pub low : neg_ℤ (pos 8000000000000) ≤ℤ z
+  pub high : z ≤ℤ pos 1024000000000
+
+-- the v-th is the least cost of the usable rows of vehicle v
+pub record HasLeastCosts (g : Graph) (usable : Usable) (costs : List ℤ) : Type 0 where
+  pub sized : length costs ≡ g.vehicles
+  pub value : (v : ℕ) → v < g.vehicles → slice_index_or costs v (pos 0) ≡ least_cost g usable v
+  pub costs_of_rows : (v : ℕ) → v < g.vehicles → IsCost (slice_index_or costs v (pos 0))

@@ -5,6 +5,9 @@
 //! keeps the best multipliers that a leaf value has judged.
 #![tactic(auto)]
 
+mod first_fit_pass;
+mod cheapest;
 mod value;
 
+pub use first_fit_pass::first_fit;
 pub use value::leaf_value;

@@ -50,7 +50,7 @@ fn vehicle_part(graph: &TripGraph, allowed: &[bool], multipliers: &[i64], vehicl
     least.unwrap_or(0)
 }
 
-fn lesser_of(least: Option<i128>, value: i128) -> i128
+pub fn lesser_of(least: Option<i128>, value: i128) -> i128
     requires least { IfSome least IsSmall }
     requires value { IsSmall value }
     ensures value { result ≡ lesser least value }
@@ -72,7 +72,7 @@ fn reduced_cost(row: &TripRow, multipliers: &[i64]) -> i128
     1024 * row.cost as i128 - sum_of_multipliers(multipliers, row.riders.as_slice())
 }
 
-fn sum_of_multipliers(multipliers: &[i64], riders: &[usize]) -> i128
+pub fn sum_of_multipliers(multipliers: &[i64], riders: &[usize]) -> i128
     requires few { length riders.now ≤ 6 }
     requires riders { All (λ r. r < length multipliers.now) riders.now }
     ensures value { result ≡ multiplier_sum multipliers.now riders.now }

@@ -8,3 +8,5 @@ pub mod DualityLemmas
 pub mod TreeLemmas
 pub mod PathLemmas
 pub mod HeldLemmas
+pub mod ReadLemmas
+pub mod UsableLemmas

@@ -1,13 +1,12 @@
 -- What is read of rows so far, and where it ends.
-use Rattle.std.proofs.Common.{◌≡◌, ◌≢◌, ℕ, ◌+◌, ◌*◌, ◌<◌, ◌==◌, List, [], ◌∷◌, ◌++◌, Ok, Err, Some, not, true, false, length, refl, sym, ap, subst, ◌∙◌, arith, append_assoc}
+use Rattle.std.proofs.Common.{◌≡◌, ◌≢◌, ℕ, ◌+◌, ◌*◌, ◌==◌, List, [], ◌∷◌, ◌++◌, Ok, Err, not, true, length, refl, ap, ◌∙◌, arith, append_assoc}
 use Rattle.std.proofs.lemmas.Bool.Decides.{nat_tests}
 use Rattle.std.specs.Borrow.{Bor}
 use Rattle.csv.specs.declared.reader.Reader.{Reader}
-use Rattle.pool_io.specs.Table.{Table, cut_rows, even_rows, records_of}
+use Rattle.pool_io.specs.Table.{cut_rows, even_rows, records_of}
 use Rattle.pool_io.specs.Progress.{HasRead}
-use Rattle.pool_io.specs.declared.records.RowFault.{RowFault}
 use Rattle.pool_io.specs.declared.records.RowFault.TheVariants.{UnequalLength}
-use Rattle.pool_io.proofs.CutRows.{position_from-cut_rows, position_from-first, length-cut_rows, cut_rows-append}
+use Rattle.pool_io.proofs.CutRows.{position_from-cut_rows, position_from-first, length-cut_rows}
 use Rattle.pool_io.proofs.RecordList.{records_of-begin}
 
 -- no row is uneven

@@ -1,5 +1,5 @@
 -- The field that a record gives at a place.
-use Rattle.std.proofs.Common.{◌≡◌, ℕ, ◌<◌, List, [], Option, Some, None, Bor, length, get_or, refl, sym, ◌∙◌}
+use Rattle.std.proofs.Common.{◌≡◌, ℕ, ◌<◌, List, [], Option, Some, None, Bor, length, get_or, refl, sym}
 use Rattle.std.specs.Prelude.{option_map, IsSome}
 use Rattle.csv.specs.Records.{field_at}
 use Rattle.csv.proofs.RecordFacts.{field-get, field-there}

@@ -6,3 +6,4 @@ pub mod NextRecord
 pub mod IsRecord
 pub mod EvenRows
 pub mod UnderHeader
+pub mod TableLemmas

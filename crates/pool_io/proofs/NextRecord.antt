@@ -1,9 +1,8 @@
 -- How one more read of a record goes on.
-use Rattle.std.proofs.Common.{◌≡◌, ℕ, List, [], ◌∷◌, ◌++◌, Option, Some, None, Bool, true, false, Bor, inl, inr, refl, sym, ◌∙◌, ◌⊎◌}
+use Rattle.std.proofs.Common.{◌≡◌, ℕ, List, [], ◌∷◌, ◌++◌, Some, Bool, true, false, Bor, inl, ◌∙◌}
 use Rattle.std.specs.Prelude.{MatchBool}
-use Rattle.csv.specs.Reading.{Reached, Ready, ReadRecord, default_config, source_of, strip_bom}
+use Rattle.csv.specs.Reading.{ReadRecord, default_config, strip_bom}
 use Rattle.csv.specs.declared.reader.Reader.{Reader}
-use Rattle.csv.specs.declared.reader.Trim.TheVariants as trim
 use Rattle.csv.specs.declared.parser.State.TheVariants as st
 use Rattle.csv.proofs.ReadFacts.{rows-end, rows-more}
 use Rattle.pool_io.specs.Table.{records_of}

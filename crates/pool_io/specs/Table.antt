@@ -1,4 +1,4 @@
-use Rattle.std.specs.Prelude.{ℕ, zero, suc, ◌+◌, ◌==◌, ◌&&◌, Bool, not, if◌then◌else◌, List, [], ◌∷◌, ◌++◌, length, take, drop, slice_index_or, Option, Some, None, Result, Ok, Err}
+use Rattle.std.specs.Prelude.{ℕ, zero, suc, ◌==◌, Bool, not, if◌then◌else◌, List, [], ◌∷◌, length, take, drop, slice_index_or, Result, Ok, Err}
 use Rattle.std.specs.List.{slice_split, position_from}
 use Rattle.std.specs.Option.{option_map_or}
 use Rattle.std.specs.Str.{bytes_eq}
@@ -37,12 +37,14 @@ is_record fields others = pointwise bytes_eq fields others
 -- the rows, or the first with another number of fields; rows count from 1
 abbrev pub even_rows : ℕ → List (List (List ℕ)) → Result Table RowFault
 even_rows columns rows =
-    option_map_or (λ row. Err (UnequalLength row)) (position_from (λ fields. not (length fields == columns)) 1 rows) (Ok (record { columns = columns; records = rows }))
+    option_map_or (λ row. Err (UnequalLength row)) (position_from (λ fields. not (length fields == columns)) 1 rows)
+    (Ok (record { columns = columns; records = rows }))
 
 -- what records give under a header: the rows after the first record, which is the header
 abbrev pub rows_under : List (List ℕ) → List (List (List ℕ)) → Result Table RowFault
 rows_under names [] = Err (Header 0)
-rows_under names (first ∷ rows) = if is_record first names then even_rows (length names) rows else Err (Header (length first))
+rows_under names (first ∷ rows) =
+    if is_record first names then even_rows (length names) rows else Err (Header (length first))
 
 -- the table that bytes hold under a header line, or the first refusal
 abbrev pub table_of : List ℕ → List ℕ → Result Table RowFault

@@ -23,7 +23,13 @@ impl Model for MemorySink {
 
     ghost Value = { Outlet };
 
-    ghost view = { λ s. record { written = s.written.items; most = s.most; fail = s.fail.items; calls = s.calls; faults = s.faults } };
+    ghost view = { λ s. record {
+      written = s.written.items;
+      most = s.most;
+      fail = s.fail.items;
+      calls = s.calls;
+      faults = s.faults;
+    } };
 
     ghost invariant = { λ s. 1 ≤ s.most };
 }
@@ -64,9 +70,14 @@ impl Sink for MemorySink {
         ensures fault { IsErrOf result SinkFault.Failed → Rose self.old.faults self.new.faults }
         ensures never_falls { self.old.faults ≤ self.new.faults }
         ensures planned { IsErrOf result SinkFault.Failed ↔ Contains self.old.fail self.old.calls }
-        ensures took { IfOk result (λ n. self.new ≡ record self.old { written = self.old.written ++ take (min self.old.most (length piece.now)) piece.now; calls = one_more self.old.calls }) }
-        ensures failed { IsErrOf result SinkFault.Failed → self.new ≡ record self.old { calls = one_more self.old.calls; faults = one_more self.old.faults } }
-        ensures no_memory { IsErrOf result SinkFault.OutOfMemory → self.new ≡ record self.old { calls = one_more self.old.calls } }
+        ensures took { IfOk result (λ n. self.new ≡ record self.old {
+          written = self.old.written ++ take (min self.old.most (length piece.now)) piece.now;
+          calls = one_more self.old.calls;
+        }) }
+        ensures failed { IsErrOf result SinkFault.Failed
+            → self.new ≡ record self.old { calls = one_more self.old.calls; faults = one_more self.old.faults } }
+        ensures no_memory { IsErrOf result SinkFault.OutOfMemory
+            → self.new ≡ record self.old { calls = one_more self.old.calls } }
     {
         let call = self.calls;
         self.calls = call.saturating_add(1);

@@ -23,7 +23,14 @@ impl Model for MemorySource {
 
     ghost Value = { Supply };
 
-    ghost view = { λ s. record { left = drop s.taken s.bytes.items; taken = s.taken; most = s.most; fail = s.fail.items; calls = s.calls; faults = s.faults } };
+    ghost view = { λ s. record {
+      left = drop s.taken s.bytes.items;
+      taken = s.taken;
+      most = s.most;
+      fail = s.fail.items;
+      calls = s.calls;
+      faults = s.faults;
+    } };
 
     ghost invariant = { λ s. (s.taken ≤ length s.bytes.items) × (1 ≤ s.most) };
 }
@@ -33,7 +40,14 @@ impl MemorySource {
     /// stands in `fail` fail.
     pub fn new(bytes: Vec<u8>, most: usize, fail: Vec<u64>) -> MemorySource
         requires { 1 ≤ most }
-        ensures { result ≡ record { left = bytes.items; taken = 0; most = most; fail = fail.items; calls = 0; faults = 0 } }
+        ensures { result ≡ record {
+          left = bytes.items;
+          taken = 0;
+          most = most;
+          fail = fail.items;
+          calls = 0;
+          faults = 0;
+        } }
     {
         MemorySource {
             bytes,
@@ -61,10 +75,18 @@ impl Source for MemorySource {
         ensures fault { OnErr result (Rose self.old.faults self.new.faults) }
         ensures never_falls { self.old.faults ≤ self.new.faults }
         ensures planned { IsErr result ↔ Contains self.old.fail self.old.calls }
-        ensures count { IfOk result (λ n. n ≡ min self.old.most (min (length buffer.new) (length self.old.left))) }
+        ensures count { IfOk result
+            (λ n. n ≡ min self.old.most (min (length buffer.new) (length self.old.left))) }
         ensures after { MatchResult result
-            (λ n. self.new ≡ record self.old { left = drop n self.old.left; taken = self.old.taken + n; calls = one_more self.old.calls })
-            (λ _. self.new ≡ record self.old { calls = one_more self.old.calls; faults = one_more self.old.faults }) }
+            (λ n. self.new ≡ record self.old {
+              left = drop n self.old.left;
+              taken = self.old.taken + n;
+              calls = one_more self.old.calls;
+            })
+            (λ _. self.new ≡ record self.old {
+              calls = one_more self.old.calls;
+              faults = one_more self.old.faults;
+            }) }
     {
         let call = self.calls;
         self.calls = call.saturating_add(1);

@@ -73,7 +73,8 @@ pub fn read_all<S: Source>(alloc: Global, source: &mut S, limit: u64) -> Result<
     // Whatever the answer, the bytes that were taken are gone from those still to come.
     ensures moved { (count : ℕ) × (count ≤ limit + 1) × (S.taken source.new ≡ S.taken source.old + count)
         × Loses (S.left source.old) (S.left source.new) count }
-    ensures too_long { IsErrOf result (ReadAll.TooLong limit) ↔ (S.taken source.new ≡ S.taken source.old + (limit + 1)) }
+    ensures too_long { IsErrOf result (ReadAll.TooLong limit)
+        ↔ (S.taken source.new ≡ S.taken source.old + (limit + 1)) }
     ensures its_limit { (bound : ℕ) → IsErrOf result (ReadAll.TooLong bound) → bound ≡ limit }
     ensures fault { IsErrOf result ReadAll.ReadFault → Rose (S.faults source.old) (S.faults source.new) }
     ensures never_falls { S.faults source.old ≤ S.faults source.new }

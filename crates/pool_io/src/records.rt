@@ -37,37 +37,39 @@ fn reader_of(alloc: Global, bytes: &[u8]) -> Reader<&[u8]>
 }
 
 // Reads the next record. In memory nothing but want of memory can fail, so each failure is answered so.
-fn read_next(reader: &mut Reader<&[u8]>, record: &mut ByteRecord) -> Result<bool, RowFault>
-    ensures next { IfOk result (λ found. (bytes : List ℕ) (rows : List (List (List ℕ))) → HasRead bytes rows reader.old
-        → MatchBool found (HasRead bytes (rows ++ fields_of record.new ∷ []) reader.new) (records_of bytes ≡ rows)) }
+fn read_next(reader: &mut Reader<&[u8]>, row: &mut ByteRecord) -> Result<bool, RowFault>
+    ensures next { IfOk result (λ found. (bytes : List ℕ) (rows : List (List (List ℕ)))
+        → HasRead bytes rows reader.old
+        → MatchBool found (HasRead bytes (rows ++ fields_of row.new ∷ []) reader.new)
+        (records_of bytes ≡ rows)) }
     ensures no_memory { IfErr result (λ fault. fault ≡ RowFault.OutOfMemory) }
 {
-    let Ok(found) = reader.read_byte_record(record) else {
+    let Ok(found) = reader.read_byte_record(row) else {
         return Err(RowFault::OutOfMemory);
     };
     Ok(found)
 }
 
 // Whether the field at this place is the word.
-fn is_field(record: &ByteRecord, place: usize, word: &[u8]) -> bool
-    requires { place < length (fields_of record.now) }
-    ensures { IsTrue result ↔ (slice_index_or (fields_of record.now) place [] ≡ word.now) }
+fn is_field(row: &ByteRecord, place: usize, word: &[u8]) -> bool
+    requires { place < length (fields_of row.now) }
+    ensures { IsTrue result ↔ (slice_index_or (fields_of row.now) place [] ≡ word.now) }
 {
-    match record.get(place) {
+    match row.get(place) {
         Some(field) => field == word,
         None => false,
     }
 }
 
 // Whether a record's fields are these words.
-fn is_header(record: &ByteRecord, words: &[&[u8]]) -> bool
-    ensures { IsTrue result ↔ (fields_of record.now ≡ map (λ word. word.now) words.now) }
+fn is_header(row: &ByteRecord, words: &[&[u8]]) -> bool
+    ensures { IsTrue result ↔ (fields_of row.now ≡ map (λ word. word.now) words.now) }
 {
-    if record.len() != words.len() {
+    if row.len() != words.len() {
         return false;
     }
     for place in 0..words.len() {
-        if !is_field(record, place, words[place]) {
+        if !is_field(row, place, words[place]) {
             return false;
         }
     }
@@ -75,41 +77,47 @@ fn is_header(record: &ByteRecord, words: &[&[u8]]) -> bool
 }
 
 // Adds a record's fields to a list of fields.
-fn append_fields(fields: &mut ByteRecord, record: &ByteRecord) -> Result<(), RowFault>
+fn append_fields(fields: &mut ByteRecord, row: &ByteRecord) -> Result<(), RowFault>
     requires { partial_of fields.old ≡ [] }
-    ensures added { OnOk result (fields_of fields.new ≡ fields_of fields.old ++ fields_of record.now) }
+    ensures added { OnOk result (fields_of fields.new ≡ fields_of fields.old ++ fields_of row.now) }
     ensures closed { OnOk result (partial_of fields.new ≡ []) }
     ensures small { OnOk result (length (fields_of fields.new) < 2 ^ 64) }
     ensures no_memory { IfErr result (λ fault. fault ≡ RowFault.OutOfMemory) }
 {
-    for place in 0..record.len() {
-        let field = record.get(place).unwrap();
+    for place in 0..row.len() {
+        let field = row.get(place).unwrap();
         if fields.push_field(field).is_err() {
             return Err(RowFault::OutOfMemory);
         }
     }
+    // A length is a `usize`, so the fields can be counted.
     let _count = fields.len();
     Ok(())
 }
 
 // The rows after the first record, each of so many fields.
 fn rows_after(alloc: Global, reader: &mut Reader<&[u8]>, columns: usize) -> Result<Rows, RowFault>
-    ensures table { IfOk result (λ table. (bytes : List ℕ) (first : List (List ℕ)) → HasRead bytes (first ∷ []) reader.old
-        → (rows : List (List (List ℕ))) × (records_of bytes ≡ first ∷ rows) × (even_rows columns rows ≡ Ok table)) }
-    ensures refused { IfErr result (λ fault. fault ≢ RowFault.OutOfMemory → (bytes : List ℕ) (first : List (List ℕ)) → HasRead bytes (first ∷ []) reader.old
-        → (rows : List (List (List ℕ))) × (records_of bytes ≡ first ∷ rows) × (even_rows columns rows ≡ Err fault)) }
+    ensures columns { IfOk result (λ table. table.columns ≡ columns) }
+    ensures table { IfOk result (λ table. (bytes : List ℕ) (first : List (List ℕ))
+        → HasRead bytes (first ∷ []) reader.old
+        → (rows : List (List (List ℕ))) × (records_of bytes ≡ first ∷ rows)
+        × (even_rows columns rows ≡ Ok table)) }
+    ensures refused { IfErr result (λ fault. fault ≢ RowFault.OutOfMemory
+        → (bytes : List ℕ) (first : List (List ℕ)) → HasRead bytes (first ∷ []) reader.old
+        → (rows : List (List (List ℕ))) × (records_of bytes ≡ first ∷ rows)
+        × (even_rows columns rows ≡ Err fault)) }
 {
-    let mut record = ByteRecord::new(alloc);
+    let mut row = ByteRecord::new(alloc);
     let mut fields = ByteRecord::new(alloc);
     'records: for count in 0..u64::MAX {
-        let found = read_next(reader, &mut record)?;
+        let found = read_next(reader, &mut row)?;
         if !found {
             return Ok(Rows::of(columns, count as usize, fields));
         }
-        if record.len() != columns {
+        if row.len() != columns {
             return Err(RowFault::UnequalLength { row: count + 1 });
         }
-        append_fields(&mut fields, &record)?;
+        append_fields(&mut fields, &row)?;
     }
     Err(RowFault::OutOfMemory)
 }
@@ -119,21 +127,23 @@ fn rows_after(alloc: Global, reader: &mut Reader<&[u8]>, columns: usize) -> Resu
 /// The header is its fields between commas; the first record must have as many fields, each equal to it
 /// byte for byte, and every later record must have as many. Linear in the bytes.
 pub fn rows(alloc: Global, bytes: &[u8], header: &[u8]) -> Result<Rows, RowFault>
+    ensures columns { IfOk result (λ table. table.columns ≡ length (header_fields header.now)) }
     ensures table { IfOk result (λ table. table_of header.now bytes.now ≡ Ok table) }
-    ensures refused { IfErr result (λ fault. fault ≢ RowFault.OutOfMemory → table_of header.now bytes.now ≡ Err fault) }
+    ensures refused { IfErr result
+        (λ fault. fault ≢ RowFault.OutOfMemory → table_of header.now bytes.now ≡ Err fault) }
 {
     let Ok(words) = words_of(alloc, header) else {
         return Err(RowFault::OutOfMemory);
     };
     let mut reader = reader_of(alloc, bytes);
-    let mut record = ByteRecord::new(alloc);
-    let found = read_next(&mut reader, &mut record)?;
+    let mut row = ByteRecord::new(alloc);
+    let found = read_next(&mut reader, &mut row)?;
     if !found {
         return Err(RowFault::Header { fields: 0 });
     }
-    if !is_header(&record, words.as_slice()) {
+    if !is_header(&row, words.as_slice()) {
         return Err(RowFault::Header {
-            fields: record.len() as u64,
+            fields: row.len() as u64,
         });
     }
     rows_after(alloc, &mut reader, words.len())

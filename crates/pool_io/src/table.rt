@@ -20,9 +20,13 @@ impl Model for Rows {
 
     ghost Value = { Table };
 
-    ghost view = { λ a. record { columns = a.columns; records = cut_rows a.count a.columns (fields_of a.fields) } };
+    ghost view = { λ a. record {
+      columns = a.columns;
+      records = cut_rows a.count a.columns (fields_of a.fields);
+    } };
 
-    ghost invariant = { λ a. (length (fields_of a.fields) ≡ a.count * a.columns) × (a.count * a.columns < 2 ^ 64) };
+    ghost invariant = { λ a. (length (fields_of a.fields) ≡ a.count * a.columns)
+        × (a.count * a.columns < 2 ^ 64) };
 }
 
 impl Rows {

@@ -1,9 +1,8 @@
-use Rattle.std.proofs.Common.{◌≡◌, ◌≢◌, ℕ, ◌+◌, ◌-◌, ◌*◌, ◌<◌, ◌≤◌, ◌⊎◌, List, length, slice_index, get_or, set, refl, sym, ap, ◌∙◌, inl, inr, ⊎_elim, arith}
+use Rattle.std.proofs.Common.{◌≡◌, ◌≢◌, ℕ, ◌+◌, ◌<◌, ◌≤◌, List, length, slice_index, set, sym, ap, ◌∙◌, ⊎_elim, arith}
 use Rattle.std.proofs.lemmas.Bool.{cases_eq, cases_lt}
 use Rattle.std.proofs.lemmas.List.{length-set, get_or-set_same, get_or-set_other}
-use Rattle.rebalancing.specs.Potentials.{pair_worth}
 use Rattle.rebalancing.specs.Prices.{IsPriced}
-use Rattle.rebalancing.specs.SearchTree.{IsGrown, IsReached, IsCheapest, IsOpen}
+use Rattle.rebalancing.specs.SearchTree.{IsGrown, IsReached, IsOpen}
 
 module _ {n m : ℕ} {w : ℕ → ℕ → ℕ} {k : ℕ} {a b q p r c parent place : List ℕ} {rider position v : ℕ} (between : IsOpen n m w k a b q p r c parent place rider position) (ev : slice_index r position ≡ v) where
   v_within : v < n
@@ -40,9 +39,9 @@ module _ {n m : ℕ} {w : ℕ → ℕ → ℕ} {k : ℕ} {a b q p r c parent pla
       ⊎_elim
       (λ (e : i ≡ v). rw (e, q_at) p_at)
       (λ (ne : i ≢ v).
-        let same : slice_index (set q v rider) i ≡ slice_index q i = q_other i ne in
-        let was : slice_index q i < m = rw same at h in
-        rw same (p_other (slice_index q i) (between.apart i hi was) ∙ between.forth i hi was))
+      let same : slice_index (set q v rider) i ≡ slice_index q i = q_other i ne in
+      let was : slice_index q i < m = rw same at h in
+      rw same (p_other (slice_index q i) (between.apart i hi was) ∙ between.forth i hi was))
       (cases_eq i v)
 
   joined_free_vehicle : (i : ℕ) → i < n → i < k → m ≤ slice_index (set q v rider) i → slice_index a i ≡ 0
@@ -69,22 +68,22 @@ module _ {n m : ℕ} {w : ℕ → ℕ → ℕ} {k : ℕ} {a b q p r c parent pla
         tight = joined_tight;
         forth = joined_forth;
         back = λ j hj h. ⊎_elim
-          (λ (e : j ≡ rider). rw (e, p_at) q_at)
-          (λ (ne : j ≢ rider).
+            (λ (e : j ≡ rider). rw (e, p_at) q_at)
+            (λ (ne : j ≢ rider).
             let same : slice_index (set p rider v) j ≡ slice_index p j = p_other j ne in
             let was : slice_index p j < n = rw same at h in
             let back : slice_index q (slice_index p j) ≡ j = between.back j hj ne was in
             let other : slice_index p j ≢ v = λ e. let at : slice_index q k ≡ j = sym (ap (slice_index q) (e ∙ root)) ∙ back in let free : m ≤ slice_index q k = between.root_free in omega arith in
             rw same (q_other (slice_index p j) other ∙ back))
-          (cases_eq j rider);
+            (cases_eq j rider);
         free_rider = λ j hj free. ⊎_elim
-          (λ (e : j ≡ rider). let is : slice_index (set p rider v) j ≡ v = rw e p_at in let h : v < n = v_within in absurd (omega arith))
-          (λ (ne : j ≢ rider). between.free_rider j hj ne (rw (p_other j ne) at free))
-          (cases_eq j rider);
+            (λ (e : j ≡ rider). let is : slice_index (set p rider v) j ≡ v = rw e p_at in let h : v < n = v_within in absurd (omega arith))
+            (λ (ne : j ≢ rider). between.free_rider j hj ne (rw (p_other j ne) at free))
+            (cases_eq j rider);
         free_vehicle = λ i hi lt free. ⊎_elim
-          (λ (e : i ≡ v). let is : slice_index (set q v rider) i ≡ rider = rw e q_at in let h : rider < m = between.rider_within in absurd (omega arith))
-          (λ (ne : i ≢ v). let below : i < k = omega arith in joined_free_vehicle i hi below free)
-          (cases_eq i v);
+            (λ (e : i ≡ v). let is : slice_index (set q v rider) i ≡ rider = rw e q_at in let h : rider < m = between.rider_within in absurd (omega arith))
+            (λ (ne : i ≢ v). let below : i < k = omega arith in joined_free_vehicle i hi below free)
+            (cases_eq i v);
         waiting = λ i hi le. let ne : i ≢ v = λ e. omega arith in rw (q_other i ne) (between.waiting i hi le);
         waiting_price = between.waiting_price;
       }
@@ -102,17 +101,17 @@ module _ {n m : ℕ} {w : ℕ → ℕ → ℕ} {k : ℕ} {a b q p r c parent pla
     other_vehicle t lt e =
         ⊎_elim
         (λ (pt : 0 < t).
-          let mine : slice_index q v ≡ slice_index c t = ap (slice_index q) (sym e) ∙ between.partner t pt (omega arith) in
-          let same : slice_index c t ≡ slice_index c position = sym mine ∙ v_rider ∙ sym eu in
-          let is : t ≡ position = sym (between.placed t pt (omega arith)) ∙ ap (slice_index place) same ∙ between.placed position pp (omega arith) in
-          omega arith)
+        let mine : slice_index q v ≡ slice_index c t = ap (slice_index q) (sym e) ∙ between.partner t pt (omega arith) in
+        let same : slice_index c t ≡ slice_index c position = sym mine ∙ v_rider ∙ sym eu in
+        let is : t ≡ position = sym (between.placed t pt (omega arith)) ∙ ap (slice_index place) same ∙ between.placed position pp (omega arith) in
+        omega arith)
         (λ (zt : t ≤ 0).
-          let z : t ≡ 0 = omega arith in
-          let is : v ≡ k = sym e ∙ ap (slice_index r) z ∙ between.root in
-          let at : slice_index q k ≡ u = rw is at v_rider in
-          let free : m ≤ slice_index q k = between.root_free in
-          let h : u < m = u_within in
-          omega arith)
+        let z : t ≡ 0 = omega arith in
+        let is : v ≡ k = sym e ∙ ap (slice_index r) z ∙ between.root in
+        let at : slice_index q k ≡ u = rw is at v_rider in
+        let free : m ≤ slice_index q k = between.root_free in
+        let h : u < m = u_within in
+        omega arith)
         (cases_lt 0 t)
 
     not_root : k ≢ v
@@ -151,32 +150,32 @@ module _ {n m : ℕ} {w : ℕ → ℕ → ℕ} {k : ℕ} {a b q p r c parent pla
           tight = joined_tight;
           forth = joined_forth;
           apart = λ i hi h. ⊎_elim
-            (λ (e : i ≡ v) (f : slice_index (set q v rider) i ≡ u).
+              (λ (e : i ≡ v) (f : slice_index (set q v rider) i ≡ u).
               let is : slice_index (set q v rider) i ≡ rider = rw e q_at in
               between.apart v v_within (let z : slice_index q v ≡ u = v_rider in let hu : u < m = u_within in omega arith) (v_rider ∙ sym f ∙ is))
-            (λ (ne : i ≢ v) (f : slice_index (set q v rider) i ≡ u).
+              (λ (ne : i ≢ v) (f : slice_index (set q v rider) i ≡ u).
               let was : slice_index q i ≡ u = sym (q_other i ne) ∙ f in
               let hu : u < m = u_within in
               let z : slice_index q v ≡ u = v_rider in
               ne (sym (between.forth i hi (omega arith)) ∙ ap (slice_index p) (was ∙ sym v_rider) ∙ between.forth v v_within (omega arith)))
-            (cases_eq i v);
+              (cases_eq i v);
           back = λ j hj away h. ⊎_elim
-            (λ (e : j ≡ rider). rw (e, p_at) q_at)
-            (λ (ne : j ≢ rider).
+              (λ (e : j ≡ rider). rw (e, p_at) q_at)
+              (λ (ne : j ≢ rider).
               let same : slice_index (set p rider v) j ≡ slice_index p j = p_other j ne in
               let was : slice_index p j < n = rw same at h in
               let back : slice_index q (slice_index p j) ≡ j = between.back j hj ne was in
               let other : slice_index p j ≢ v = λ e. away (sym back ∙ ap (slice_index q) e ∙ v_rider) in
               rw same (q_other (slice_index p j) other ∙ back))
-            (cases_eq j rider);
+              (cases_eq j rider);
           free_rider = λ j hj away free. ⊎_elim
-            (λ (e : j ≡ rider). let is : slice_index (set p rider v) j ≡ v = rw e p_at in let h : v < n = v_within in absurd (omega arith))
-            (λ (ne : j ≢ rider). between.free_rider j hj ne (rw (p_other j ne) at free))
-            (cases_eq j rider);
+              (λ (e : j ≡ rider). let is : slice_index (set p rider v) j ≡ v = rw e p_at in let h : v < n = v_within in absurd (omega arith))
+              (λ (ne : j ≢ rider). between.free_rider j hj ne (rw (p_other j ne) at free))
+              (cases_eq j rider);
           free_vehicle = joined_free_vehicle;
           waiting = λ i hi le.
-            let ne : i ≢ v = λ e. let at : slice_index q i ≡ u = ap (slice_index q) e ∙ v_rider in let free : m ≤ slice_index q i = between.waiting i hi le in let h : u < m = u_within in omega arith in
-            rw (q_other i ne) (between.waiting i hi le);
+              let ne : i ≢ v = λ e. let at : slice_index q i ≡ u = ap (slice_index q) e ∙ v_rider in let free : m ≤ slice_index q i = between.waiting i hi le in let h : u < m = u_within in omega arith in
+              rw (q_other i ne) (between.waiting i hi le);
           waiting_price = between.waiting_price;
         }
 
@@ -203,8 +202,8 @@ module _ {n m : ℕ} {w : ℕ → ℕ → ℕ} {k : ℕ} {a b q p r c parent pla
         edge = λ t pt le. grown.edge t pt (omega arith);
         placed = λ t pt le. grown.placed t pt (omega arith);
         last_edge =
-          let is : w (slice_index r (slice_index po rider)) rider + slice_index ta rider ≡ slice_index a (slice_index r (slice_index po rider)) + slice_index b rider + lowered = reached.exactly rider hr out in
-          omega arith;
+            let is : w (slice_index r (slice_index po rider)) rider + slice_index ta rider ≡ slice_index a (slice_index r (slice_index po rider)) + slice_index b rider + lowered = reached.exactly rider hr out in
+            omega arith;
         q_most = priced.q_most;
         p_most = priced.p_most;
         a_most = priced.a_most;
@@ -268,13 +267,13 @@ module _ {n m : ℕ} {w : ℕ → ℕ → ℕ} {k : ℕ} {a b q p r c parent pla
     released_other t lt e =
         ⊎_elim
         (λ (pt : 0 < t).
-          let mine : slice_index q v ≡ slice_index c t = ap (slice_index q) (sym e) ∙ grown.partner t pt (omega arith) in
-          let same : slice_index c t ≡ slice_index c position = sym mine ∙ rv_rider ∙ sym eu in
-          let is : t ≡ position = sym (grown.placed t pt (omega arith)) ∙ ap (slice_index place) same ∙ grown.placed position pp hp in
-          omega arith)
+        let mine : slice_index q v ≡ slice_index c t = ap (slice_index q) (sym e) ∙ grown.partner t pt (omega arith) in
+        let same : slice_index c t ≡ slice_index c position = sym mine ∙ rv_rider ∙ sym eu in
+        let is : t ≡ position = sym (grown.placed t pt (omega arith)) ∙ ap (slice_index place) same ∙ grown.placed position pp hp in
+        omega arith)
         (λ (zt : t ≤ 0).
-          let z : t ≡ 0 = omega arith in
-          released_root (sym grown.root ∙ ap (slice_index r) (sym z) ∙ e))
+        let z : t ≡ 0 = omega arith in
+        released_root (sym grown.root ∙ ap (slice_index r) (sym z) ∙ e))
         (cases_lt 0 t)
 
     -- a vehicle that is matched after the release is another, and was matched so before
@@ -310,16 +309,16 @@ module _ {n m : ℕ} {w : ℕ → ℕ → ℕ} {k : ℕ} {a b q p r c parent pla
           tight = λ i hi h. let same : slice_index (set q v m) i ≡ slice_index q i = left_other i (still i h) in rw same (priced.tight i hi (rw same at h));
           forth = λ i hi h. let same : slice_index (set q v m) i ≡ slice_index q i = left_other i (still i h) in rw same (priced.forth i hi (rw same at h));
           apart = λ i hi h f.
-            let ne : i ≢ v = still i h in
-            let same : slice_index (set q v m) i ≡ slice_index q i = left_other i ne in
-            let was : slice_index q i ≡ u = sym same ∙ f in
-            let hu : u < m = ru_within in
-            let z : slice_index q v ≡ u = rv_rider in
-            ne (sym (priced.forth i hi (omega arith)) ∙ ap (slice_index p) (was ∙ sym rv_rider) ∙ priced.forth v rv_within (omega arith));
+              let ne : i ≢ v = still i h in
+              let same : slice_index (set q v m) i ≡ slice_index q i = left_other i ne in
+              let was : slice_index q i ≡ u = sym same ∙ f in
+              let hu : u < m = ru_within in
+              let z : slice_index q v ≡ u = rv_rider in
+              ne (sym (priced.forth i hi (omega arith)) ∙ ap (slice_index p) (was ∙ sym rv_rider) ∙ priced.forth v rv_within (omega arith));
           back = λ j hj away h.
-            let back : slice_index q (slice_index p j) ≡ j = priced.back j hj h in
-            let other : slice_index p j ≢ v = λ e. away (sym back ∙ ap (slice_index q) e ∙ rv_rider) in
-            left_other (slice_index p j) other ∙ back;
+              let back : slice_index q (slice_index p j) ≡ j = priced.back j hj h in
+              let other : slice_index p j ≢ v = λ e. away (sym back ∙ ap (slice_index q) e ∙ rv_rider) in
+              left_other (slice_index p j) other ∙ back;
           free_rider = λ j hj away free. priced.free_rider j hj free;
           free_vehicle = λ i hi lt free. ⊎_elim (λ (e : i ≡ v). ap (slice_index a) e ∙ zero_price) (λ (ne : i ≢ v). priced.free_vehicle i hi lt (rw (left_other i ne) at free)) (cases_eq i v);
           waiting = λ i hi le. ⊎_elim (λ (e : i ≡ v). rw (e, left_at) (omega arith)) (λ (ne : i ≢ v). rw (left_other i ne) (priced.waiting i hi le)) (cases_eq i v);

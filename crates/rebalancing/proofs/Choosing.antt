@@ -1,8 +1,8 @@
-use Rattle.std.proofs.Common.{◌≡◌, ◌≢◌, ℕ, ◌+◌, ◌-◌, ◌<◌, ◌≤◌, ◌⊎◌, List, [], ◌∷◌, ◌++◌, length, slice_index, get_or, map, All, AllPairs, Any, Contains, sum_by, ℤ, pos, neg_ℤ, ◌+ℤ◌, ◌-ℤ◌, ◌≤ℤ◌, refl, sym, ap, ◌∙◌, ⊎_elim, arith}
+use Rattle.std.proofs.Common.{◌≡◌, ◌≢◌, ℕ, ◌+◌, ◌<◌, ◌≤◌, List, [], ◌∷◌, ◌++◌, length, slice_index, get_or, map, All, Any, sum_by, ℤ, pos, neg_ℤ, ◌+ℤ◌, ◌-ℤ◌, ◌≤ℤ◌, refl, sym, ap, ◌∙◌, ⊎_elim, arith}
 use Rattle.std.proofs.lemmas.Bool.{cases_eq, cases_lt, lt-ltb, le-ltb}
 use Rattle.std.proofs.lemmas.Int.{ints}
 use Rattle.std.proofs.lemmas.List.{length-map, get_or-map}
-use Rattle.std.proofs.lemmas.List.Elements.{All-push, All-weaker, Contains-append_left, Contains-push}
+use Rattle.std.proofs.lemmas.List.Elements.{All-push, Contains-append_left, Contains-push}
 use Rattle.std.proofs.lemmas.List.Quantifiers.{all_pairs_push}
 use Rattle.pool_base.specs.TravelTime.{never}
 use Rattle.rebalancing.specs.declared.matching.Matching.{Matching}
@@ -19,24 +19,24 @@ IsChosen-skip s i pairs none chosen = record {
   sound = λ k d h. let p = chosen.sound k d h in (let lt : (get_or pairs k d).0 < i = p.0 in omega arith, p.1, p.2, p.3);
   rising = chosen.rising;
   complete = λ v hv matched weighs. ⊎_elim
-    (λ (e : v ≡ i). let nothing : weight_in s v (slice_index s.rider_of.items v) ≡ 0 = rw e (none (rw e at matched)) in absurd (omega arith))
-    (λ (ne : v ≢ i). let lt : v < i = omega arith in chosen.complete v lt matched weighs)
-    (cases_eq v i);
+      (λ (e : v ≡ i). let nothing : weight_in s v (slice_index s.rider_of.items v) ≡ 0 = rw e (none (rw e at matched)) in absurd (omega arith))
+      (λ (ne : v ≢ i). let lt : v < i = omega arith in chosen.complete v lt matched weighs)
+      (cases_eq v i);
 }
 
 -- a vehicle's pair is taken
-pub IsChosen-push : (s : Matching) (i r : ℕ) (pairs : List (ℕ × ℕ)) → r < s.riders → slice_index s.rider_of.items i ≡ r → 0 < weight_in s i r → IsChosen s i pairs → IsChosen s (i + 1) (pairs ++ (i , r) ∷ [])
+pub IsChosen-push : (s : Matching) (i r : ℕ) (pairs : List (ℕ × ℕ)) → r < s.riders → slice_index s.rider_of.items i ≡ r → 0 < weight_in s i r → IsChosen s i pairs → IsChosen s (i + 1) (pairs ++ (i, r) ∷ [])
 IsChosen-push s i r pairs hr is weighs chosen =
     let P : ℕ × ℕ → Type 0 = λ p. (p.0 < i + 1) × (p.1 < s.riders) × (slice_index s.rider_of.items p.0 ≡ p.1) × (0 < weight_in s p.0 p.1) in
     let R : ℕ × ℕ → ℕ × ℕ → Type 0 = λ p q. p.0 < q.0 in
     let old : All P pairs = λ k d h. let p = chosen.sound k d h in (let lt : (get_or pairs k d).0 < i = p.0 in omega arith, p.1, p.2, p.3) in
     record {
-      sound = All-push P pairs (i , r) old (omega arith, hr, is, weighs);
-      rising = all_pairs_push R pairs (i , r) chosen.rising (λ k d h. (chosen.sound k d h).0);
+      sound = All-push P pairs (i, r) old (omega arith, hr, is, weighs);
+      rising = all_pairs_push R pairs (i, r) chosen.rising (λ k d h. (chosen.sound k d h).0);
       complete = λ v hv matched weighs'. ⊎_elim
-        (λ (e : v ≡ i). rw (e, is) (Contains-push pairs (i , r)))
-        (λ (ne : v ≢ i). let lt : v < i = omega arith in Contains-append_left pairs ((i , r) ∷ []) (v , slice_index s.rider_of.items v) (chosen.complete v lt matched weighs'))
-        (cases_eq v i);
+          (λ (e : v ≡ i). rw (e, is) (Contains-push pairs (i, r)))
+          (λ (ne : v ≢ i). let lt : v < i = omega arith in Contains-append_left pairs ((i, r) ∷ []) (v, slice_index s.rider_of.items v) (chosen.complete v lt matched weighs'))
+          (cases_eq v i);
     }
 
 -- a weight is at most a pair's worth, and together with the seconds exactly that where there is a way
@@ -87,22 +87,22 @@ module _ (tau : ℕ → ℕ → ℕ) (idle wanted : List ℕ) (s : Matching) (pa
     reachable = way;
     once_from = λ i j d lt h e. let less : (get_or pairs i d).0 < (get_or pairs j d).0 = chosen.rising i j d lt h in omega arith;
     once_to = λ i j d lt h e.
-      let hi : i < length pairs = omega arith in
-      let first = chosen.sound i d hi in
-      let second = chosen.sound j d h in
-      let less : (get_or pairs i d).0 < (get_or pairs j d).0 = chosen.rising i j d lt h in
-      let back : (k : ℕ) → (hk : k < length pairs) → slice_index s.vehicle_of.items (get_or pairs k d).1 ≡ (get_or pairs k d).0 = λ k hk.
+        let hi : i < length pairs = omega arith in
+        let first = chosen.sound i d hi in
+        let second = chosen.sound j d h in
+        let less : (get_or pairs i d).0 < (get_or pairs j d).0 = chosen.rising i j d lt h in
+        let back : (k : ℕ) → (hk : k < length pairs) → slice_index s.vehicle_of.items (get_or pairs k d).1 ≡ (get_or pairs k d).0 = λ k hk.
         let p = chosen.sound k d hk in
         rw p.2 at (priced.forth (get_or pairs k d).0 p.0 (rw p.2 p.1)) in
-      let same : (get_or pairs i d).0 ≡ (get_or pairs j d).0 = sym (back i hi) ∙ ap (slice_index s.vehicle_of.items) e ∙ back j h in
-      omega arith;
+        let same : (get_or pairs i d).0 ≡ (get_or pairs j d).0 = sym (back i hi) ∙ ap (slice_index s.vehicle_of.items) e ∙ back j h in
+        omega arith;
   }
 
   pub total-chosen : sum_by (seconds_in s) pairs ≡ total_of tau idle wanted pairs
   total-chosen = sum_by_same (seconds_in s) (seconds_of tau idle wanted) pairs (λ k d h.
-    let is : weight_in s (get_or pairs k d).0 (get_or pairs k d).1 ≡ weight_of (seconds_of tau idle wanted (get_or pairs k d)) = weight_is k d h in
-    let worth : weight_of (seconds_of tau idle wanted (get_or pairs k d)) + seconds_of tau idle wanted (get_or pairs k d) ≡ pair_worth = weight_of-is _ (way k d h) in
-    omega arith)
+      let is : weight_in s (get_or pairs k d).0 (get_or pairs k d).1 ≡ weight_of (seconds_of tau idle wanted (get_or pairs k d)) = weight_is k d h in
+      let worth : weight_of (seconds_of tau idle wanted (get_or pairs k d)) + seconds_of tau idle wanted (get_or pairs k d) ≡ pair_worth = weight_of-is _ (way k d h) in
+      omega arith)
 
   -- the negated price of a place
   from_at : (i : ℕ) → i < length idle → potential (map negated s.vehicle_price.items) i ≡ negated (slice_index s.vehicle_price.items i)
@@ -118,13 +118,13 @@ module _ (tau : ℕ → ℕ → ℕ) (idle wanted : List ℕ) (s : Matching) (pa
       let rider : ℕ = slice_index s.rider_of.items i in
       ⊎_elim
       (λ (matched : slice_index s.rider_of.items i < s.riders). ⊎_elim
-        (λ (weighs : 0 < weight_in s i (slice_index s.rider_of.items i)).
-          let c = chosen.complete i hi matched weighs in
-          absurd (unchosen (c.0, (i , slice_index s.rider_of.items i), c.1, c.2, refl)))
-        (λ (nothing : weight_in s i (slice_index s.rider_of.items i) ≤ 0).
-          let tight : slice_index s.vehicle_price.items i + slice_index s.rider_price.items (slice_index s.rider_of.items i) ≡ weight_in s i (slice_index s.rider_of.items i) = priced.tight i hi matched in
-          omega arith)
-        (cases_lt 0 (weight_in s i (slice_index s.rider_of.items i))))
+      (λ (weighs : 0 < weight_in s i (slice_index s.rider_of.items i)).
+      let c = chosen.complete i hi matched weighs in
+      absurd (unchosen (c.0, (i, slice_index s.rider_of.items i), c.1, c.2, refl)))
+      (λ (nothing : weight_in s i (slice_index s.rider_of.items i) ≤ 0).
+      let tight : slice_index s.vehicle_price.items i + slice_index s.rider_price.items (slice_index s.rider_of.items i) ≡ weight_in s i (slice_index s.rider_of.items i) = priced.tight i hi matched in
+      omega arith)
+      (cases_lt 0 (weight_in s i (slice_index s.rider_of.items i))))
       (λ (free : s.riders ≤ slice_index s.rider_of.items i). priced.free_vehicle i hi hi free)
       (cases_lt (slice_index s.rider_of.items i) s.riders)
 
@@ -133,16 +133,16 @@ module _ (tau : ℕ → ℕ → ℕ) (idle wanted : List ℕ) (s : Matching) (pa
       let hj : j < s.riders = rw riders h in
       ⊎_elim
       (λ (matched : slice_index s.vehicle_of.items j < s.vehicles).
-        let back : slice_index s.rider_of.items (slice_index s.vehicle_of.items j) ≡ j = priced.back j hj matched in
-        ⊎_elim
-        (λ (weighs : 0 < weight_in s (slice_index s.vehicle_of.items j) (slice_index s.rider_of.items (slice_index s.vehicle_of.items j))).
-          let c = chosen.complete (slice_index s.vehicle_of.items j) matched (rw back hj) weighs in
-          absurd (unchosen (c.0, (slice_index s.vehicle_of.items j , slice_index s.rider_of.items (slice_index s.vehicle_of.items j)), c.1, c.2, back)))
-        (λ (nothing : weight_in s (slice_index s.vehicle_of.items j) (slice_index s.rider_of.items (slice_index s.vehicle_of.items j)) ≤ 0).
-          let tight : slice_index s.vehicle_price.items (slice_index s.vehicle_of.items j) + slice_index s.rider_price.items (slice_index s.rider_of.items (slice_index s.vehicle_of.items j)) ≡ weight_in s (slice_index s.vehicle_of.items j) (slice_index s.rider_of.items (slice_index s.vehicle_of.items j)) = priced.tight (slice_index s.vehicle_of.items j) matched (rw back hj) in
-          let there : slice_index s.rider_price.items (slice_index s.rider_of.items (slice_index s.vehicle_of.items j)) ≡ 0 = omega arith in
-          rw back at there)
-        (cases_lt 0 (weight_in s (slice_index s.vehicle_of.items j) (slice_index s.rider_of.items (slice_index s.vehicle_of.items j)))))
+      let back : slice_index s.rider_of.items (slice_index s.vehicle_of.items j) ≡ j = priced.back j hj matched in
+      ⊎_elim
+      (λ (weighs : 0 < weight_in s (slice_index s.vehicle_of.items j) (slice_index s.rider_of.items (slice_index s.vehicle_of.items j))).
+      let c = chosen.complete (slice_index s.vehicle_of.items j) matched (rw back hj) weighs in
+      absurd (unchosen (c.0, (slice_index s.vehicle_of.items j, slice_index s.rider_of.items (slice_index s.vehicle_of.items j)), c.1, c.2, back)))
+      (λ (nothing : weight_in s (slice_index s.vehicle_of.items j) (slice_index s.rider_of.items (slice_index s.vehicle_of.items j)) ≤ 0).
+      let tight : slice_index s.vehicle_price.items (slice_index s.vehicle_of.items j) + slice_index s.rider_price.items (slice_index s.rider_of.items (slice_index s.vehicle_of.items j)) ≡ weight_in s (slice_index s.vehicle_of.items j) (slice_index s.rider_of.items (slice_index s.vehicle_of.items j)) = priced.tight (slice_index s.vehicle_of.items j) matched (rw back hj) in
+      let there : slice_index s.rider_price.items (slice_index s.rider_of.items (slice_index s.vehicle_of.items j)) ≡ 0 = omega arith in
+      rw back at there)
+      (cases_lt 0 (weight_in s (slice_index s.vehicle_of.items j) (slice_index s.rider_of.items (slice_index s.vehicle_of.items j)))))
       (λ (free : s.vehicles ≤ slice_index s.vehicle_of.items j). priced.free_rider j hj free)
       (cases_lt (slice_index s.vehicle_of.items j) s.vehicles)
 
@@ -153,17 +153,17 @@ module _ (tau : ℕ → ℕ → ℕ) (idle wanted : List ℕ) (s : Matching) (pa
     from_at_most_0 = λ i h. rw (from_at i h) (negated-most _);
     to_at_most_0 = λ j h. rw (to_at j h) (negated-most _);
     at_most = λ i j hi hj reach.
-      let cover : weight_in s i j ≤ slice_index s.vehicle_price.items i + slice_index s.rider_price.items j = priced.covers i j (rw vehicles hi) (rw riders hj) in
-      let is : weight_in s i j ≡ weight_of (seconds_of tau idle wanted (i , j)) = weights i j hi hj in
-      let worth : weight_of (seconds_of tau idle wanted (i , j)) + seconds_of tau idle wanted (i , j) ≡ pair_worth = weight_of-is _ reach in
-      rw (from_at i hi, to_at j hj) (negated-at_most (slice_index s.vehicle_price.items i) (slice_index s.rider_price.items j) (seconds_of tau idle wanted (i , j)) pair_worth (omega arith));
+        let cover : weight_in s i j ≤ slice_index s.vehicle_price.items i + slice_index s.rider_price.items j = priced.covers i j (rw vehicles hi) (rw riders hj) in
+        let is : weight_in s i j ≡ weight_of (seconds_of tau idle wanted (i, j)) = weights i j hi hj in
+        let worth : weight_of (seconds_of tau idle wanted (i, j)) + seconds_of tau idle wanted (i, j) ≡ pair_worth = weight_of-is _ reach in
+        rw (from_at i hi, to_at j hj) (negated-at_most (slice_index s.vehicle_price.items i) (slice_index s.rider_price.items j) (seconds_of tau idle wanted (i, j)) pair_worth (omega arith));
     equal = λ k d h.
-      let p : ℕ × ℕ = get_or pairs k d in
-      let sound = chosen.sound k d h in
-      let tight : slice_index s.vehicle_price.items (get_or pairs k d).0 + slice_index s.rider_price.items (get_or pairs k d).1 ≡ weight_in s (get_or pairs k d).0 (get_or pairs k d).1 = rw sound.2 at (priced.tight (get_or pairs k d).0 sound.0 (rw sound.2 sound.1)) in
-      let is : weight_in s (get_or pairs k d).0 (get_or pairs k d).1 ≡ weight_of (seconds_of tau idle wanted (get_or pairs k d)) = weight_is k d h in
-      let worth : weight_of (seconds_of tau idle wanted (get_or pairs k d)) + seconds_of tau idle wanted (get_or pairs k d) ≡ pair_worth = weight_of-is _ (way k d h) in
-      rw (from_at _ (within k d h).0, to_at _ (within k d h).1) (negated-equal (slice_index s.vehicle_price.items (get_or pairs k d).0) (slice_index s.rider_price.items (get_or pairs k d).1) (seconds_of tau idle wanted (get_or pairs k d)) pair_worth (omega arith));
+        let p : ℕ × ℕ = get_or pairs k d in
+        let sound = chosen.sound k d h in
+        let tight : slice_index s.vehicle_price.items (get_or pairs k d).0 + slice_index s.rider_price.items (get_or pairs k d).1 ≡ weight_in s (get_or pairs k d).0 (get_or pairs k d).1 = rw sound.2 at (priced.tight (get_or pairs k d).0 sound.0 (rw sound.2 sound.1)) in
+        let is : weight_in s (get_or pairs k d).0 (get_or pairs k d).1 ≡ weight_of (seconds_of tau idle wanted (get_or pairs k d)) = weight_is k d h in
+        let worth : weight_of (seconds_of tau idle wanted (get_or pairs k d)) + seconds_of tau idle wanted (get_or pairs k d) ≡ pair_worth = weight_of-is _ (way k d h) in
+        rw (from_at _ (within k d h).0, to_at _ (within k d h).1) (negated-equal (slice_index s.vehicle_price.items (get_or pairs k d).0) (slice_index s.rider_price.items (get_or pairs k d).1) (seconds_of tau idle wanted (get_or pairs k d)) pair_worth (omega arith));
     from_unmatched = λ i h unchosen. from_at i h ∙ ap negated (from_free i h unchosen);
     to_unmatched = λ j h unchosen. to_at j h ∙ ap negated (to_free j h unchosen);
   }

@@ -1,4 +1,4 @@
-use Rattle.std.proofs.Common.{◌≡◌, ◌≢◌, ℕ, ◌+◌, ◌-◌, ◌*◌, ◌<◌, ◌≤◌, ◌⊎◌, List, [], ◌∷◌, ◌++◌, length, slice_index, get_or, set, replicate, refl, sym, ap, ◌∙◌, inl, inr, ⊎_elim, arith}
+use Rattle.std.proofs.Common.{◌≡◌, ◌≢◌, ℕ, ◌+◌, ◌*◌, ◌<◌, ◌≤◌, ◌⊎◌, List, [], ◌∷◌, ◌++◌, length, slice_index, set, replicate, refl, sym, ap, ◌∙◌, inl, inr, ⊎_elim, arith}
 use Rattle.std.proofs.lemmas.Bool.{cases_eq, cases_lt}
 use Rattle.std.proofs.lemmas.List.{length-set, get_or-set_same, get_or-set_other, get_or_append_left, get_or_push, length_push, get_or-replicate, length-replicate}
 use Rattle.rebalancing.specs.Potentials.{pair_worth}
@@ -11,10 +11,10 @@ pub b_most : {n m : ℕ} {w : ℕ → ℕ → ℕ} {done next : ℕ} {a b q p : 
 b_most {n} {m} {w} {done} {next} {a} {b} {q} {p} priced j hj =
     ⊎_elim
     (λ (matched : slice_index p j < n).
-      let back : slice_index q (slice_index p j) ≡ j = priced.back j hj matched in
-      let tight : slice_index a (slice_index p j) + slice_index b j ≡ w (slice_index p j) j = rw back at (priced.tight (slice_index p j) matched (rw back hj)) in
-      let light : w (slice_index p j) j ≤ pair_worth = priced.light (slice_index p j) j matched hj in
-      omega arith)
+    let back : slice_index q (slice_index p j) ≡ j = priced.back j hj matched in
+    let tight : slice_index a (slice_index p j) + slice_index b j ≡ w (slice_index p j) j = rw back at (priced.tight (slice_index p j) matched (rw back hj)) in
+    let light : w (slice_index p j) j ≤ pair_worth = priced.light (slice_index p j) j matched hj in
+    omega arith)
     (λ (free : n ≤ slice_index p j). let is : slice_index b j ≡ 0 = priced.free_rider j hj free in omega arith)
     (cases_lt (slice_index p j) n)
 
@@ -64,17 +64,17 @@ module _ {n m : ℕ} {w : ℕ → ℕ → ℕ} {k : ℕ} {a b q p : List ℕ} (p
       → Relaxes row b place (slice_index a k) 0 ta po ta' po' → IsReached m w a b (k ∷ []) place ta' po' 0
   IsReached-root {row} {place} {ta} {po} {ta'} {po'} {huge} row_length ta_length po_length weights far large relaxes =
       let from : (j : ℕ) → j < m → slice_index place j ≡ 0 → (w k j + slice_index ta' j ≡ slice_index a k + slice_index b j) × (slice_index po' j ≡ 0) = λ j hj out.
-        let weight : slice_index row j ≡ w k j = weights j hj in
-        ⊎_elim
-        (λ (new : (slice_index row j + slice_index ta' j ≡ slice_index a k + slice_index b j) × (slice_index po' j ≡ 0)). (rw weight at new.0, new.1))
-        (λ (old : (slice_index ta' j ≡ slice_index ta j) × (slice_index po' j ≡ slice_index po j)).
-          let bound : slice_index row j + slice_index ta' j ≤ slice_index a k + slice_index b j = relaxes.bounded j (rw row_length hj) out in
-          let is : slice_index ta' j ≡ slice_index ta j = old.0 in
-          let at : slice_index ta j ≡ huge = far j hj in
-          let price : slice_index b j ≤ pair_worth = b_most priced j hj in
-          let root_price : slice_index a k ≤ pair_worth = priced.a_most k hk in
-          absurd (omega arith))
-        (relaxes.from j (rw row_length hj) out)
+      let weight : slice_index row j ≡ w k j = weights j hj in
+      ⊎_elim
+      (λ (new : (slice_index row j + slice_index ta' j ≡ slice_index a k + slice_index b j) × (slice_index po' j ≡ 0)). (rw weight at new.0, new.1))
+      (λ (old : (slice_index ta' j ≡ slice_index ta j) × (slice_index po' j ≡ slice_index po j)).
+      let bound : slice_index row j + slice_index ta' j ≤ slice_index a k + slice_index b j = relaxes.bounded j (rw row_length hj) out in
+      let is : slice_index ta' j ≡ slice_index ta j = old.0 in
+      let at : slice_index ta j ≡ huge = far j hj in
+      let price : slice_index b j ≤ pair_worth = b_most priced j hj in
+      let root_price : slice_index a k ≤ pair_worth = priced.a_most k hk in
+      absurd (omega arith))
+      (relaxes.from j (rw row_length hj) out)
       in
       record {
         tight_length = relaxes.tight_length ∙ ta_length;
@@ -143,69 +143,69 @@ module _ {n m : ℕ} {w : ℕ → ℕ → ℕ} {k : ℕ} {a b q p r c parent pla
     partner = λ t pt ht. ⊎_elim (λ (lt : t < length r). rw (r_old t lt, c_old t lt) (grown.partner t pt lt)) (λ (e : t ≡ length r). rw (e, r_new, c_new) (rw ev at (priced.back j hj matched))) (positions t ht);
     earlier = λ t pt ht. ⊎_elim (λ (lt : t < length r). rw (parent_old t lt) (grown.earlier t pt lt)) (λ (e : t ≡ length r). rw (e, parent_new) (reached.of_within j hj out)) (positions t ht);
     edge = λ t pt ht. ⊎_elim
-      (λ (lt : t < length r).
+        (λ (lt : t < length r).
         let before : slice_index parent t < length r = let h : slice_index parent t < t = grown.earlier t pt lt in omega arith in
         rw (parent_old t lt, r_old (slice_index parent t) before, c_old t lt) (grown.edge t pt lt))
-      (λ (e : t ≡ length r).
+        (λ (e : t ≡ length r).
         let before : slice_index po j < length r = reached.of_within j hj out in
         let exactly : w (slice_index r (slice_index po j)) j + slice_index ta j ≡ slice_index a (slice_index r (slice_index po j)) + slice_index b j + lowered = reached.exactly j hj out in
         rw (e, parent_new, r_old (slice_index po j) before, c_new) (omega arith))
-      (positions t ht);
+        (positions t ht);
     placed = λ t pt ht. ⊎_elim
-      (λ (lt : t < length r).
+        (λ (lt : t < length r).
         let at : slice_index place (slice_index c t) ≡ t = grown.placed t pt lt in
         let other : slice_index c t ≢ j = λ e. let same : slice_index place (slice_index c t) ≡ slice_index place j = ap (slice_index place) e in omega arith in
         rw (c_old t lt) (place_other (slice_index c t) other ∙ at))
-      (λ (e : t ≡ length r). rw (e, c_new) place_new)
-      (positions t ht);
+        (λ (e : t ≡ length r). rw (e, c_new) place_new)
+        (positions t ht);
     place_most = λ i hi. ⊎_elim
-      (λ (e : i ≡ j). rw (e, place_new) (omega (arith, length_push r v)))
-      (λ (ne : i ≢ j). let is : slice_index (set place j (length r)) i ≡ slice_index place i = place_other i ne in let h : slice_index place i < length r = grown.place_most i hi in omega (arith, length_push r v))
-      (cases_eq i j);
+        (λ (e : i ≡ j). rw (e, place_new) (omega (arith, length_push r v)))
+        (λ (ne : i ≢ j). let is : slice_index (set place j (length r)) i ≡ slice_index place i = place_other i ne in let h : slice_index place i < length r = grown.place_most i hi in omega (arith, length_push r v))
+        (cases_eq i j);
     found = λ i hi pp. ⊎_elim
-      (λ (e : i ≡ j). rw (e, place_new) c_new)
-      (λ (ne : i ≢ j).
+        (λ (e : i ≡ j). rw (e, place_new) c_new)
+        (λ (ne : i ≢ j).
         let is : slice_index (set place j (length r)) i ≡ slice_index place i = place_other i ne in
         rw (is, c_old (slice_index place i) (grown.place_most i hi)) (grown.found i hi (rw is at pp)))
-      (cases_eq i j);
+        (cases_eq i j);
   }
 
   pub IsReached-more : {row ta' po' : List ℕ} → length row ≡ m → ((i : ℕ) → i < m → slice_index row i ≡ w v i) → Relaxes row b (set place j (length r)) (slice_index a v + lowered) (length r) ta po ta' po'
       → IsReached m w a b (r ++ v ∷ []) (set place j (length r)) ta' po' lowered
   IsReached-more {row} {ta'} {po'} row_length weights relaxes =
       let near : (i : ℕ) → i < m → slice_index (set place j (length r)) i ≡ 0 → w v i + slice_index ta' i ≤ slice_index a v + lowered + slice_index b i =
-        λ i hi away. rw (weights i hi) at (relaxes.bounded i (rw row_length hi) away) in
+      λ i hi away. rw (weights i hi) at (relaxes.bounded i (rw row_length hi) away) in
       record {
         tight_length = relaxes.tight_length ∙ reached.tight_length;
         of_length = relaxes.parent_length ∙ reached.of_length;
         not_past = λ i hi away. ⊎_elim
-          (λ (new : (slice_index row i + slice_index ta' i ≡ slice_index a v + lowered + slice_index b i) × (slice_index po' i ≡ length r)).
+            (λ (new : (slice_index row i + slice_index ta' i ≡ slice_index a v + lowered + slice_index b i) × (slice_index po' i ≡ length r)).
             let weight : slice_index row i ≡ w v i = weights i hi in
             let cover : w v i ≤ slice_index a v + slice_index b i = priced.covers v i v_within hi in
             let is : slice_index row i + slice_index ta' i ≡ slice_index a v + lowered + slice_index b i = new.0 in
             omega arith)
-          (λ old. rw old.0 (reached.not_past i hi (outside i away)))
-          (relaxes.from i (rw row_length hi) away);
+            (λ old. rw old.0 (reached.not_past i hi (outside i away)))
+            (relaxes.from i (rw row_length hi) away);
         of_within = λ i hi away. ⊎_elim
-          (λ new. rw new.1 (omega (arith, length_push r v)))
-          (λ old. rw old.1 (let h : slice_index po i < length r = reached.of_within i hi (outside i away) in omega (arith, length_push r v)))
-          (relaxes.from i (rw row_length hi) away);
+            (λ new. rw new.1 (omega (arith, length_push r v)))
+            (λ old. rw old.1 (let h : slice_index po i < length r = reached.of_within i hi (outside i away) in omega (arith, length_push r v)))
+            (relaxes.from i (rw row_length hi) away);
         no_earlier = λ i t hi away ht. ⊎_elim
-          (λ (lt : t < length r).
+            (λ (lt : t < length r).
             let was : w (slice_index r t) i + slice_index ta i ≤ slice_index a (slice_index r t) + slice_index b i + lowered = reached.no_earlier i t hi (outside i away) lt in
             let less : slice_index ta' i ≤ slice_index ta i = relaxes.no_later i (rw row_length hi) away in
             rw (r_old t lt) (omega arith))
-          (λ (e : t ≡ length r). let here : w v i + slice_index ta' i ≤ slice_index a v + lowered + slice_index b i = near i hi away in rw (e, r_new) (omega arith))
-          (positions t ht);
+            (λ (e : t ≡ length r). let here : w v i + slice_index ta' i ≤ slice_index a v + lowered + slice_index b i = near i hi away in rw (e, r_new) (omega arith))
+            (positions t ht);
         exactly = λ i hi away. ⊎_elim
-          (λ (new : (slice_index row i + slice_index ta' i ≡ slice_index a v + lowered + slice_index b i) × (slice_index po' i ≡ length r)).
+            (λ (new : (slice_index row i + slice_index ta' i ≡ slice_index a v + lowered + slice_index b i) × (slice_index po' i ≡ length r)).
             let weight : slice_index row i ≡ w v i = weights i hi in
             let is : slice_index row i + slice_index ta' i ≡ slice_index a v + lowered + slice_index b i = new.0 in
             rw (new.1, r_new) (omega arith))
-          (λ (old : (slice_index ta' i ≡ slice_index ta i) × (slice_index po' i ≡ slice_index po i)).
+            (λ (old : (slice_index ta' i ≡ slice_index ta i) × (slice_index po' i ≡ slice_index po i)).
             let h : slice_index po i < length r = reached.of_within i hi (outside i away) in
             rw (old.0, old.1, r_old (slice_index po i) h) (reached.exactly i hi (outside i away)))
-          (relaxes.from i (rw row_length hi) away);
+            (relaxes.from i (rw row_length hi) away);
       }
 
   -- the new vehicle is the cheapest, or the old one stays so
@@ -213,9 +213,9 @@ module _ {n m : ℕ} {w : ℕ → ℕ → ℕ} {k : ℕ} {a b q p r c parent pla
   IsCheapest-new less = record {
     within = omega (arith, length_push r v);
     least = λ t ht. rw r_new (⊎_elim
-      (λ (lt : t < length r). let was : slice_index a (slice_index r cheapest) ≤ slice_index a (slice_index r t) = cheap.least t lt in rw (r_old t lt) (omega arith))
-      (λ (e : t ≡ length r). rw (e, r_new) (omega arith))
-      (positions t ht));
+        (λ (lt : t < length r). let was : slice_index a (slice_index r cheapest) ≤ slice_index a (slice_index r t) = cheap.least t lt in rw (r_old t lt) (omega arith))
+        (λ (e : t ≡ length r). rw (e, r_new) (omega arith))
+        (positions t ht));
     fallen = cheap.fallen;
   }
 
@@ -223,9 +223,9 @@ module _ {n m : ℕ} {w : ℕ → ℕ → ℕ} {k : ℕ} {a b q p r c parent pla
   IsCheapest-old le = record {
     within = let h : cheapest < length r = cheap.within in omega (arith, length_push r v);
     least = λ t ht. rw (r_old cheapest cheap.within) (⊎_elim
-      (λ (lt : t < length r). rw (r_old t lt) (cheap.least t lt))
-      (λ (e : t ≡ length r). rw (e, r_new) le)
-      (positions t ht));
+        (λ (lt : t < length r). rw (r_old t lt) (cheap.least t lt))
+        (λ (e : t ≡ length r). rw (e, r_new) le)
+        (positions t ht));
     fallen = cheap.fallen;
   }
 

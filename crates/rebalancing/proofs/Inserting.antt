@@ -1,4 +1,4 @@
-use Rattle.std.proofs.Common.{◌≡◌, ℕ, ◌+◌, ◌-◌, ◌<◌, ◌≤◌, ◌⊎◌, List, length, slice_index, set, count_by, ◌==◌, refl, sym, ap, ◌∙◌, arith}
+use Rattle.std.proofs.Common.{ℕ, ◌+◌}
 use Rattle.rebalancing.specs.declared.matching.Matching.{Matching}
 use Rattle.rebalancing.specs.declared.tree.Tree.{Tree}
 use Rattle.rebalancing.specs.Prices.{IsPricedMatching, IsSized, IsSameProblem}

@@ -1,11 +1,11 @@
-use Rattle.std.proofs.Common.{◌≡◌, ◌≢◌, ℕ, zero, suc, ◌+◌, ◌-◌, ◌*◌, ◌<◌, ◌≤◌, List, length, get_or, map, replicate, All, AllPairs, Any, sum, sum_by, ℤ, pos, negsuc, neg_ℤ, ◌+ℤ◌, ◌-ℤ◌, ◌≤ℤ◌, refl, sym, ap, ◌∙◌, arith}
+use Rattle.std.proofs.Common.{◌≡◌, ℕ, suc, ◌+◌, ◌*◌, ◌<◌, ◌≤◌, List, length, get_or, map, replicate, All, Any, sum, sum_by, ℤ, pos, negsuc, neg_ℤ, ◌+ℤ◌, ◌-ℤ◌, ◌≤ℤ◌, refl, ap, ◌∙◌, arith}
 use Rattle.std.proofs.lemmas.Int.{ints}
 use Rattle.std.proofs.lemmas.List.{length-map, get_or-map, length-replicate, get_or-replicate}
 use Rattle.std.proofs.lemmas.List.Sums.{sum_by-le}
 use Rattle.pool_base.specs.TravelTime.{never, longest}
 use Rattle.rebalancing.specs.Matching.{seconds_of, total_of, IsMatching, IsBestMatching}
 use Rattle.rebalancing.specs.Potentials.{pair_worth, potential, ArePotentials}
-use Rattle.rebalancing.proofs.PlaceSums.{sum_by_same, sum_over_different, sum_over_covering, sum_at_least, sum_exactly}
+use Rattle.rebalancing.proofs.PlaceSums.{sum_over_different, sum_over_covering, sum_at_least, sum_exactly}
 
 -- as many ones
 abbrev ones_of : ℕ → List ℕ
@@ -34,7 +34,7 @@ IsMatching-short tau from to pairs m =
 pub record ArePrices (tau : ℕ → ℕ → ℕ) (from to : List ℕ) (pairs : List (ℕ × ℕ)) (a b : List ℕ) : Type 0 where
   pub a_length : length a ≡ length from
   pub b_length : length b ≡ length to
-  pub at_least : (i j : ℕ) → i < length from → j < length to → seconds_of tau from to (i , j) < never → pair_worth ≤ seconds_of tau from to (i , j) + get_or a i 0 + get_or b j 0
+  pub at_least : (i j : ℕ) → i < length from → j < length to → seconds_of tau from to (i, j) < never → pair_worth ≤ seconds_of tau from to (i, j) + get_or a i 0 + get_or b j 0
   pub equal : All (λ (p : ℕ × ℕ). pair_worth ≡ seconds_of tau from to p + get_or a p.0 0 + get_or b p.1 0) pairs
   pub a_unmatched : (i : ℕ) → i < length a → (Any (λ (p : ℕ × ℕ). p.0 ≡ i) pairs → ⊥) → get_or a i 0 ≡ 0
   pub b_unmatched : (j : ℕ) → j < length b → (Any (λ (p : ℕ × ℕ). p.1 ≡ j) pairs → ⊥) → get_or b j 0 ≡ 0
@@ -68,12 +68,12 @@ pub best_by_prices : (tau : ℕ → ℕ → ℕ) (from to : List ℕ) (pairs : L
 best_by_prices tau from to pairs a b range few m prices = record {
   matching = m;
   most_pairs = λ other n.
-    let gain : length other * pair_worth + total_of tau from to pairs ≤ total_of tau from to other + length pairs * pair_worth = gains_no_more tau from to pairs other a b prices n in
-    let short : total_of tau from to other < pair_worth = total_short tau from to other range few n in
-    omega arith;
+      let gain : length other * pair_worth + total_of tau from to pairs ≤ total_of tau from to other + length pairs * pair_worth = gains_no_more tau from to pairs other a b prices n in
+      let short : total_of tau from to other < pair_worth = total_short tau from to other range few n in
+      omega arith;
   least_total = λ other n e.
-    let gain : length other * pair_worth + total_of tau from to pairs ≤ total_of tau from to other + length pairs * pair_worth = gains_no_more tau from to pairs other a b prices n in
-    omega arith;
+      let gain : length other * pair_worth + total_of tau from to pairs ≤ total_of tau from to other + length pairs * pair_worth = gains_no_more tau from to pairs other a b prices n in
+      omega arith;
 }
 
 -- how far a number is below zero
@@ -108,13 +108,13 @@ ArePrices-from_potentials tau from to pairs u v m p =
       b_length = length-map v fall_of ∙ p.to_length;
       at_least = λ i j hi hj reach. rw (u_at i hi, v_at j hj) (falls_cover (potential u i) (potential v j) _ _ (p.from_at_most_0 i hi) (p.to_at_most_0 j hj) (p.at_most i j hi hj reach));
       equal = λ k d h.
-        let hi = (m.within k d h).0 in
-        let hj = (m.within k d h).1 in
-        rw (u_at _ hi, v_at _ hj) (falls_equal _ _ _ _ (p.from_at_most_0 _ hi) (p.to_at_most_0 _ hj) (p.equal k d h));
+          let hi = (m.within k d h).0 in
+          let hj = (m.within k d h).1 in
+          rw (u_at _ hi, v_at _ hj) (falls_equal _ _ _ _ (p.from_at_most_0 _ hi) (p.to_at_most_0 _ hj) (p.equal k d h));
       a_unmatched = λ i h no.
-        let hi : i < length from = rw (length-map u fall_of, p.from_length) at h in
-        u_at i hi ∙ ap fall_of (p.from_unmatched i hi no);
+          let hi : i < length from = rw (length-map u fall_of, p.from_length) at h in
+          u_at i hi ∙ ap fall_of (p.from_unmatched i hi no);
       b_unmatched = λ j h no.
-        let hj : j < length to = rw (length-map v fall_of, p.to_length) at h in
-        v_at j hj ∙ ap fall_of (p.to_unmatched j hj no);
+          let hj : j < length to = rw (length-map v fall_of, p.to_length) at h in
+          v_at j hj ∙ ap fall_of (p.to_unmatched j hj no);
     }

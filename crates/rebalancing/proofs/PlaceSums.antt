@@ -30,9 +30,9 @@ pub set_0-le : (a : List ℕ) (i k : ℕ) → get_or (set a i 0) k 0 ≤ get_or 
 set_0-le a i k =
     ⊎_elim
     (λ (e : k ≡ i). ⊎_elim
-        (λ (within : i < length a). let is : get_or (set a i 0) k 0 ≡ 0 = rw e (get_or-set_same a i 0 0 within) in omega arith)
-        (λ (past : length a ≤ i). rw (set_past a i 0 past) (omega arith))
-        (cases_lt i (length a)))
+    (λ (within : i < length a). let is : get_or (set a i 0) k 0 ≡ 0 = rw e (get_or-set_same a i 0 0 within) in omega arith)
+    (λ (past : length a ≤ i). rw (set_past a i 0 past) (omega arith))
+    (cases_lt i (length a)))
     (λ (other : k ≢ i). rw (get_or-set_other a i k 0 0 other) (omega arith))
     (cases_eq k i)
 
@@ -57,12 +57,12 @@ sum_over_covering f [] a covered =
     omega arith
 sum_over_covering {X} f (x ∷ xs) a covered =
     let rest_covered : (i : ℕ) → i < length (set a (f x) 0) → (Any (λ y. f y ≡ i) xs → ⊥) → get_or (set a (f x) 0) i 0 ≡ 0 =
-        λ i h no.
-        let within : i < length a = rw length-set at h in
-        ⊎_elim
-        (λ (e : i ≡ f x). rw e (get_or-set_same a (f x) 0 0 (rw e at within)))
-        (λ (other : i ≢ f x). get_or-set_other a (f x) i 0 0 other ∙ covered i within (λ any. ⊎_elim (λ p. other (sym p)) no (Any-split (λ y. f y ≡ i) x xs any)))
-        (cases_eq i (f x))
+    λ i h no.
+    let within : i < length a = rw length-set at h in
+    ⊎_elim
+    (λ (e : i ≡ f x). rw e (get_or-set_same a (f x) 0 0 (rw e at within)))
+    (λ (other : i ≢ f x). get_or-set_other a (f x) i 0 0 other ∙ covered i within (λ any. ⊎_elim (λ p. other (sym p)) no (Any-split (λ y. f y ≡ i) x xs any)))
+    (cases_eq i (f x))
     in
     let rest : sum (set a (f x) 0) ≤ sum_by (λ y. get_or (set a (f x) 0) (f y) 0) xs = sum_over_covering f xs (set a (f x) 0) rest_covered in
     let less : sum_by (λ y. get_or (set a (f x) 0) (f y) 0) xs ≤ sum_by (λ y. get_or a (f y) 0) xs = sum_by-le-sum_by (λ (y : X). get_or (set a (f x) 0) (f y) 0) (λ (y : X). get_or a (f y) 0) xs (λ y. set_0-le a (f x) (f y)) in

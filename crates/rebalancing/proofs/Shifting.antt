@@ -1,4 +1,4 @@
-use Rattle.std.proofs.Common.{◌≡◌, ◌≢◌, ℕ, ◌+◌, ◌-◌, ◌*◌, ◌<◌, ◌≤◌, ◌⊎◌, List, length, slice_index, get_or, refl, sym, ap, ◌∙◌, inl, inr, ⊎_elim, arith}
+use Rattle.std.proofs.Common.{◌≡◌, ◌≢◌, ℕ, ◌+◌, ◌<◌, ◌≤◌, ◌⊎◌, List, length, slice_index, sym, ap, ◌∙◌, inl, inr, ⊎_elim, arith}
 use Rattle.std.proofs.lemmas.Bool.{cases_eq, cases_lt}
 use Rattle.rebalancing.specs.Potentials.{pair_worth}
 use Rattle.rebalancing.specs.Prices.{IsPriced}
@@ -11,15 +11,15 @@ module _ {n m : ℕ} {w : ℕ → ℕ → ℕ} {k : ℕ} {a b q p r c parent pla
   out_of_tree i other out t ht e =
       ⊎_elim
       (λ (pt : 0 < t).
-        let rider : slice_index q i ≡ slice_index c t = ap (slice_index q) (sym e) ∙ grown.partner t pt ht in
-        let within : slice_index c t < m = grown.rider t pt ht in
-        let zero_at : slice_index place (slice_index q i) ≡ 0 = out (omega arith) in
-        let at : slice_index place (slice_index c t) ≡ t = grown.placed t pt ht in
-        let same : slice_index place (slice_index q i) ≡ slice_index place (slice_index c t) = ap (slice_index place) rider in
-        absurd (omega arith))
+      let rider : slice_index q i ≡ slice_index c t = ap (slice_index q) (sym e) ∙ grown.partner t pt ht in
+      let within : slice_index c t < m = grown.rider t pt ht in
+      let zero_at : slice_index place (slice_index q i) ≡ 0 = out (omega arith) in
+      let at : slice_index place (slice_index c t) ≡ t = grown.placed t pt ht in
+      let same : slice_index place (slice_index q i) ≡ slice_index place (slice_index c t) = ap (slice_index place) rider in
+      absurd (omega arith))
       (λ (le : t ≤ 0).
-        let first : t ≡ 0 = omega arith in
-        other (sym e ∙ ap (slice_index r) first ∙ grown.root))
+      let first : t ≡ 0 = omega arith in
+      other (sym e ∙ ap (slice_index r) first ∙ grown.root))
       (cases_lt 0 t)
 
   -- a vehicle is at some position of the tree, or at none
@@ -28,19 +28,19 @@ module _ {n m : ℕ} {w : ℕ → ℕ → ℕ} {k : ℕ} {a b q p r c parent pla
       ⊎_elim
       (λ (e : i ≡ k). inl (0, grown.rooted, grown.root ∙ sym e))
       (λ (other : i ≢ k). ⊎_elim
-        (λ (matched : slice_index q i < m). ⊎_elim
-          (λ (inside : 0 < slice_index place (slice_index q i)).
-            let t = slice_index place (slice_index q i) in
-            let ht : slice_index place (slice_index q i) < length r = grown.place_most (slice_index q i) matched in
-            let rider : slice_index c (slice_index place (slice_index q i)) ≡ slice_index q i = grown.found (slice_index q i) matched inside in
-            let partner : slice_index q (slice_index r t) ≡ slice_index q i = grown.partner t inside ht ∙ rider in
-            let own : slice_index p (slice_index q (slice_index r t)) ≡ slice_index r t = priced.forth (slice_index r t) (grown.vehicle t ht) (rw partner matched) in
-            let its : slice_index p (slice_index q i) ≡ i = priced.forth i hi matched in
-            inl (t, ht, sym own ∙ ap (slice_index p) partner ∙ its))
-          (λ (outside : slice_index place (slice_index q i) ≤ 0). inr (out_of_tree i other (λ _. omega arith)))
-          (cases_lt 0 (slice_index place (slice_index q i))))
-        (λ (free : m ≤ slice_index q i). inr (out_of_tree i other (λ h. absurd (omega arith))))
-        (cases_lt (slice_index q i) m))
+      (λ (matched : slice_index q i < m). ⊎_elim
+      (λ (inside : 0 < slice_index place (slice_index q i)).
+      let t = slice_index place (slice_index q i) in
+      let ht : slice_index place (slice_index q i) < length r = grown.place_most (slice_index q i) matched in
+      let rider : slice_index c (slice_index place (slice_index q i)) ≡ slice_index q i = grown.found (slice_index q i) matched inside in
+      let partner : slice_index q (slice_index r t) ≡ slice_index q i = grown.partner t inside ht ∙ rider in
+      let own : slice_index p (slice_index q (slice_index r t)) ≡ slice_index r t = priced.forth (slice_index r t) (grown.vehicle t ht) (rw partner matched) in
+      let its : slice_index p (slice_index q i) ≡ i = priced.forth i hi matched in
+      inl (t, ht, sym own ∙ ap (slice_index p) partner ∙ its))
+      (λ (outside : slice_index place (slice_index q i) ≤ 0). inr (out_of_tree i other (λ _. omega arith)))
+      (cases_lt 0 (slice_index place (slice_index q i))))
+      (λ (free : m ≤ slice_index q i). inr (out_of_tree i other (λ h. absurd (omega arith))))
+      (cases_lt (slice_index q i) m))
       (cases_eq i k)
 
   -- a rider outside the tree is at no position
@@ -72,13 +72,13 @@ module _ {n m : ℕ} {w : ℕ → ℕ → ℕ} {k : ℕ} {a b q p r c parent pla
   vehicles_differ s t hs ht e =
       ⊎_elim
       (λ (ps : 0 < s). ⊎_elim
-        (λ (pt : 0 < t). riders_differ s t ps pt hs ht (sym (grown.partner s ps hs) ∙ ap (slice_index q) e ∙ grown.partner t pt ht))
-        (λ (zt : t ≤ 0). let z : t ≡ 0 = omega arith in absurd (root_apart s ps hs (sym (ap (slice_index r) z) ∙ sym e)))
-        (cases_lt 0 t))
+      (λ (pt : 0 < t). riders_differ s t ps pt hs ht (sym (grown.partner s ps hs) ∙ ap (slice_index q) e ∙ grown.partner t pt ht))
+      (λ (zt : t ≤ 0). let z : t ≡ 0 = omega arith in absurd (root_apart s ps hs (sym (ap (slice_index r) z) ∙ sym e)))
+      (cases_lt 0 t))
       (λ (zs : s ≤ 0). ⊎_elim
-        (λ (pt : 0 < t). let z : s ≡ 0 = omega arith in absurd (root_apart t pt ht (sym (ap (slice_index r) z) ∙ e)))
-        (λ (zt : t ≤ 0). omega arith)
-        (cases_lt 0 t))
+      (λ (pt : 0 < t). let z : s ≡ 0 = omega arith in absurd (root_apart t pt ht (sym (ap (slice_index r) z) ∙ e)))
+      (λ (zt : t ≤ 0). omega arith)
+      (cases_lt 0 t))
       (cases_lt 0 s)
 
   module _ {ta po a' b' : List ℕ} {cheapest lowered by : ℕ} (reached : IsReached m w a b r place ta po lowered) (cheap : IsCheapest k a r cheapest lowered)
@@ -90,29 +90,29 @@ module _ {n m : ℕ} {w : ℕ → ℕ → ℕ} {k : ℕ} {a b q p r c parent pla
         let cover : w i j ≤ slice_index a i + slice_index b j = priced.covers i j hi hj in
         ⊎_elim
         (λ (vehicle : (t : ℕ) × (t < length r) × (slice_index r t ≡ i)).
-          let t = vehicle.0 in
-          let fell : slice_index a' i + by ≡ slice_index a i = rw vehicle.2 at (fall.inside t vehicle.1) in
-          ⊎_elim
-          (λ (rider : (s : ℕ) × (0 < s) × (s < length r) × (slice_index c s ≡ j)).
-            let rose : slice_index b' j ≡ slice_index b j + by = rw rider.3 at (rise.inside rider.0 rider.1 (rw grown.c_length rider.2)) in
-            omega arith)
-          (λ (outside : slice_index place j ≤ 0).
-            let out : slice_index place j ≡ 0 = omega arith in
-            let same : slice_index b' j ≡ slice_index b j = rise.outside j (λ s ps hs. rider_outside j out s ps (rw grown.c_length at hs)) in
-            let bound : w i j + slice_index ta j ≤ slice_index a i + slice_index b j + lowered = rw vehicle.2 at (reached.no_earlier j t hj out vehicle.1) in
-            let later : lowered + by ≤ slice_index ta j = near j hj out in
-            omega arith)
-          (⊎_elim (λ (inside : 0 < slice_index place j). inl (slice_index place j, inside, grown.place_most j hj, grown.found j hj inside)) (λ h. inr h) (cases_lt 0 (slice_index place j))))
+        let t = vehicle.0 in
+        let fell : slice_index a' i + by ≡ slice_index a i = rw vehicle.2 at (fall.inside t vehicle.1) in
+        ⊎_elim
+        (λ (rider : (s : ℕ) × (0 < s) × (s < length r) × (slice_index c s ≡ j)).
+        let rose : slice_index b' j ≡ slice_index b j + by = rw rider.3 at (rise.inside rider.0 rider.1 (rw grown.c_length rider.2)) in
+        omega arith)
+        (λ (outside : slice_index place j ≤ 0).
+        let out : slice_index place j ≡ 0 = omega arith in
+        let same : slice_index b' j ≡ slice_index b j = rise.outside j (λ s ps hs. rider_outside j out s ps (rw grown.c_length at hs)) in
+        let bound : w i j + slice_index ta j ≤ slice_index a i + slice_index b j + lowered = rw vehicle.2 at (reached.no_earlier j t hj out vehicle.1) in
+        let later : lowered + by ≤ slice_index ta j = near j hj out in
+        omega arith)
+        (⊎_elim (λ (inside : 0 < slice_index place j). inl (slice_index place j, inside, grown.place_most j hj, grown.found j hj inside)) (λ h. inr h) (cases_lt 0 (slice_index place j))))
         (λ (outside : (t : ℕ) → t < length r → slice_index r t ≢ i).
-          let same_price : slice_index a' i ≡ slice_index a i = fall.outside i outside in
-          ⊎_elim
-          (λ (rider : (s : ℕ) × (0 < s) × (s < length r) × (slice_index c s ≡ j)).
-            let rose : slice_index b' j ≡ slice_index b j + by = rw rider.3 at (rise.inside rider.0 rider.1 (rw grown.c_length rider.2)) in
-            omega arith)
-          (λ (out : (s : ℕ) → 0 < s → s < length r → slice_index c s ≢ j).
-            let same : slice_index b' j ≡ slice_index b j = rise.outside j (λ s ps hs. out s ps (rw grown.c_length at hs)) in
-            omega arith)
-          (rider_cases j hj))
+        let same_price : slice_index a' i ≡ slice_index a i = fall.outside i outside in
+        ⊎_elim
+        (λ (rider : (s : ℕ) × (0 < s) × (s < length r) × (slice_index c s ≡ j)).
+        let rose : slice_index b' j ≡ slice_index b j + by = rw rider.3 at (rise.inside rider.0 rider.1 (rw grown.c_length rider.2)) in
+        omega arith)
+        (λ (out : (s : ℕ) → 0 < s → s < length r → slice_index c s ≢ j).
+        let same : slice_index b' j ≡ slice_index b j = rise.outside j (λ s ps hs. out s ps (rw grown.c_length at hs)) in
+        omega arith)
+        (rider_cases j hj))
         (vehicle_cases i hi)
 
     -- a matched pair is in the tree as a whole, or not at all
@@ -121,28 +121,28 @@ module _ {n m : ℕ} {w : ℕ → ℕ → ℕ} {k : ℕ} {a b q p r c parent pla
         let tight : slice_index a i + slice_index b (slice_index q i) ≡ w i (slice_index q i) = priced.tight i hi matched in
         ⊎_elim
         (λ (vehicle : (t : ℕ) × (t < length r) × (slice_index r t ≡ i)).
-          let t = vehicle.0 in
-          let ht : vehicle.0 < length r = vehicle.1 in
-          let fell : slice_index a' i + by ≡ slice_index a i = rw vehicle.2 at (fall.inside t vehicle.1) in
-          ⊎_elim
-          (λ (pt : 0 < vehicle.0).
-            let rider : slice_index q i ≡ slice_index c t = ap (slice_index q) (sym vehicle.2) ∙ grown.partner t pt ht in
-            let rose : slice_index b' (slice_index c t) ≡ slice_index b (slice_index c t) + by = rise.inside t pt (rw grown.c_length ht) in
-            let rose_there : slice_index b' (slice_index q i) ≡ slice_index b (slice_index q i) + by = rw rider rose in
-            omega arith)
-          (λ (zt : vehicle.0 ≤ 0).
-            let z : vehicle.0 ≡ 0 = omega arith in
-            let is : i ≡ k = sym vehicle.2 ∙ ap (slice_index r) z ∙ grown.root in
-            let free : m ≤ slice_index q i = rw is grown.root_free in
-            absurd (omega arith))
-          (cases_lt 0 vehicle.0))
+        let t = vehicle.0 in
+        let ht : vehicle.0 < length r = vehicle.1 in
+        let fell : slice_index a' i + by ≡ slice_index a i = rw vehicle.2 at (fall.inside t vehicle.1) in
+        ⊎_elim
+        (λ (pt : 0 < vehicle.0).
+        let rider : slice_index q i ≡ slice_index c t = ap (slice_index q) (sym vehicle.2) ∙ grown.partner t pt ht in
+        let rose : slice_index b' (slice_index c t) ≡ slice_index b (slice_index c t) + by = rise.inside t pt (rw grown.c_length ht) in
+        let rose_there : slice_index b' (slice_index q i) ≡ slice_index b (slice_index q i) + by = rw rider rose in
+        omega arith)
+        (λ (zt : vehicle.0 ≤ 0).
+        let z : vehicle.0 ≡ 0 = omega arith in
+        let is : i ≡ k = sym vehicle.2 ∙ ap (slice_index r) z ∙ grown.root in
+        let free : m ≤ slice_index q i = rw is grown.root_free in
+        absurd (omega arith))
+        (cases_lt 0 vehicle.0))
         (λ (outside : (t : ℕ) → t < length r → slice_index r t ≢ i).
-          let same_price : slice_index a' i ≡ slice_index a i = fall.outside i outside in
-          let rider_out : (s : ℕ) → 0 < s → s < length r → slice_index c s ≢ slice_index q i = λ s ps hs e.
-            let partner : slice_index q (slice_index r s) ≡ slice_index q i = grown.partner s ps hs ∙ e in
-            outside s hs (sym (priced.forth (slice_index r s) (grown.vehicle s hs) (rw partner matched)) ∙ ap (slice_index p) partner ∙ priced.forth i hi matched) in
-          let same : slice_index b' (slice_index q i) ≡ slice_index b (slice_index q i) = rise.outside (slice_index q i) (λ s ps hs. rider_out s ps (rw grown.c_length at hs)) in
-          omega arith)
+        let same_price : slice_index a' i ≡ slice_index a i = fall.outside i outside in
+        let rider_out : (s : ℕ) → 0 < s → s < length r → slice_index c s ≢ slice_index q i = λ s ps hs e.
+        let partner : slice_index q (slice_index r s) ≡ slice_index q i = grown.partner s ps hs ∙ e in
+        outside s hs (sym (priced.forth (slice_index r s) (grown.vehicle s hs) (rw partner matched)) ∙ ap (slice_index p) partner ∙ priced.forth i hi matched) in
+        let same : slice_index b' (slice_index q i) ≡ slice_index b (slice_index q i) = rise.outside (slice_index q i) (λ s ps hs. rider_out s ps (rw grown.c_length at hs)) in
+        omega arith)
         (vehicle_cases i hi)
 
     -- what is unmatched isn't in the tree, but for the root
@@ -158,24 +158,24 @@ module _ {n m : ℕ} {w : ℕ → ℕ → ℕ} {k : ℕ} {a b q p r c parent pla
       q_most = priced.q_most;
       p_most = priced.p_most;
       a_most = λ i hi.
-        let was : slice_index a i ≤ pair_worth = priced.a_most i hi in
-        ⊎_elim
-        (λ (vehicle : (t : ℕ) × (t < length r) × (slice_index r t ≡ i)). let fell : slice_index a' i + by ≡ slice_index a i = rw vehicle.2 at (fall.inside vehicle.0 vehicle.1) in omega arith)
-        (λ outside. let same : slice_index a' i ≡ slice_index a i = fall.outside i outside in omega arith)
-        (vehicle_cases i hi);
+          let was : slice_index a i ≤ pair_worth = priced.a_most i hi in
+          ⊎_elim
+          (λ (vehicle : (t : ℕ) × (t < length r) × (slice_index r t ≡ i)). let fell : slice_index a' i + by ≡ slice_index a i = rw vehicle.2 at (fall.inside vehicle.0 vehicle.1) in omega arith)
+          (λ outside. let same : slice_index a' i ≡ slice_index a i = fall.outside i outside in omega arith)
+          (vehicle_cases i hi);
       light = priced.light;
       covers = shifted_covers;
       tight = shifted_tight;
       forth = priced.forth;
       back = priced.back;
       free_rider = λ j hj free.
-        let out : (s : ℕ) → 0 < s → s < length c → slice_index c s ≢ j = λ s ps hs e.
+          let out : (s : ℕ) → 0 < s → s < length c → slice_index c s ≢ j = λ s ps hs e.
           let hr : s < length r = rw grown.c_length at hs in
           let partner : slice_index q (slice_index r s) ≡ j = grown.partner s ps hr ∙ e in
           let own : slice_index p j ≡ slice_index r s = ap (slice_index p) (sym partner) ∙ priced.forth (slice_index r s) (grown.vehicle s hr) (rw partner hj) in
           let within : slice_index r s < n = grown.vehicle s hr in
           absurd (omega arith) in
-        rise.outside j out ∙ priced.free_rider j hj free;
+          rise.outside j out ∙ priced.free_rider j hj free;
       free_vehicle = λ i hi lt free. unmatched_outside i hi (λ e. absurd (omega arith)) free ∙ priced.free_vehicle i hi lt free;
       waiting = priced.waiting;
       waiting_price = λ i hi le. unmatched_outside i hi (λ e. absurd (omega arith)) (priced.waiting i hi le) ∙ priced.waiting_price i hi le;
@@ -194,11 +194,11 @@ module _ {n m : ℕ} {w : ℕ → ℕ → ℕ} {k : ℕ} {a b q p r c parent pla
       partner = grown.partner;
       earlier = grown.earlier;
       edge = λ t pt ht.
-        let before : slice_index parent t < t = grown.earlier t pt ht in
-        let was : slice_index a (slice_index r (slice_index parent t)) + slice_index b (slice_index c t) ≡ w (slice_index r (slice_index parent t)) (slice_index c t) = grown.edge t pt ht in
-        let fell : slice_index a' (slice_index r (slice_index parent t)) + by ≡ slice_index a (slice_index r (slice_index parent t)) = fall.inside (slice_index parent t) (omega arith) in
-        let rose : slice_index b' (slice_index c t) ≡ slice_index b (slice_index c t) + by = rise.inside t pt (rw grown.c_length ht) in
-        omega arith;
+          let before : slice_index parent t < t = grown.earlier t pt ht in
+          let was : slice_index a (slice_index r (slice_index parent t)) + slice_index b (slice_index c t) ≡ w (slice_index r (slice_index parent t)) (slice_index c t) = grown.edge t pt ht in
+          let fell : slice_index a' (slice_index r (slice_index parent t)) + by ≡ slice_index a (slice_index r (slice_index parent t)) = fall.inside (slice_index parent t) (omega arith) in
+          let rose : slice_index b' (slice_index c t) ≡ slice_index b (slice_index c t) + by = rise.inside t pt (rw grown.c_length ht) in
+          omega arith;
       placed = grown.placed;
       place_most = grown.place_most;
       found = grown.found;
@@ -211,28 +211,28 @@ module _ {n m : ℕ} {w : ℕ → ℕ → ℕ} {k : ℕ} {a b q p r c parent pla
       not_past = near;
       of_within = reached.of_within;
       no_earlier = λ j t hj out ht.
-        let was : w (slice_index r t) j + slice_index ta j ≤ slice_index a (slice_index r t) + slice_index b j + lowered = reached.no_earlier j t hj out ht in
-        let fell : slice_index a' (slice_index r t) + by ≡ slice_index a (slice_index r t) = fall.inside t ht in
-        let same : slice_index b' j ≡ slice_index b j = rise.outside j (λ s ps hs. rider_outside j out s ps (rw grown.c_length at hs)) in
-        omega arith;
+          let was : w (slice_index r t) j + slice_index ta j ≤ slice_index a (slice_index r t) + slice_index b j + lowered = reached.no_earlier j t hj out ht in
+          let fell : slice_index a' (slice_index r t) + by ≡ slice_index a (slice_index r t) = fall.inside t ht in
+          let same : slice_index b' j ≡ slice_index b j = rise.outside j (λ s ps hs. rider_outside j out s ps (rw grown.c_length at hs)) in
+          omega arith;
       exactly = λ j hj out.
-        let ht : slice_index po j < length r = reached.of_within j hj out in
-        let was : w (slice_index r (slice_index po j)) j + slice_index ta j ≡ slice_index a (slice_index r (slice_index po j)) + slice_index b j + lowered = reached.exactly j hj out in
-        let fell : slice_index a' (slice_index r (slice_index po j)) + by ≡ slice_index a (slice_index r (slice_index po j)) = fall.inside (slice_index po j) ht in
-        let same : slice_index b' j ≡ slice_index b j = rise.outside j (λ s ps hs. rider_outside j out s ps (rw grown.c_length at hs)) in
-        omega arith;
+          let ht : slice_index po j < length r = reached.of_within j hj out in
+          let was : w (slice_index r (slice_index po j)) j + slice_index ta j ≡ slice_index a (slice_index r (slice_index po j)) + slice_index b j + lowered = reached.exactly j hj out in
+          let fell : slice_index a' (slice_index r (slice_index po j)) + by ≡ slice_index a (slice_index r (slice_index po j)) = fall.inside (slice_index po j) ht in
+          let same : slice_index b' j ≡ slice_index b j = rise.outside j (λ s ps hs. rider_outside j out s ps (rw grown.c_length at hs)) in
+          omega arith;
     }
 
     pub IsCheapest-shifted : IsCheapest k a' r cheapest (lowered + by)
     IsCheapest-shifted = record {
       within = cheap.within;
       least = λ t ht.
-        let was : slice_index a (slice_index r cheapest) ≤ slice_index a (slice_index r t) = cheap.least t ht in
-        let fell : slice_index a' (slice_index r t) + by ≡ slice_index a (slice_index r t) = fall.inside t ht in
-        let fell_there : slice_index a' (slice_index r cheapest) + by ≡ slice_index a (slice_index r cheapest) = fall.inside cheapest cheap.within in
-        omega arith;
+          let was : slice_index a (slice_index r cheapest) ≤ slice_index a (slice_index r t) = cheap.least t ht in
+          let fell : slice_index a' (slice_index r t) + by ≡ slice_index a (slice_index r t) = fall.inside t ht in
+          let fell_there : slice_index a' (slice_index r cheapest) + by ≡ slice_index a (slice_index r cheapest) = fall.inside cheapest cheap.within in
+          omega arith;
       fallen =
-        let was : slice_index a k + lowered ≡ pair_worth = cheap.fallen in
-        let fell : slice_index a' k + by ≡ slice_index a k = rw grown.root at (fall.inside 0 grown.rooted) in
-        omega arith;
+          let was : slice_index a k + lowered ≡ pair_worth = cheap.fallen in
+          let fell : slice_index a' k + by ≡ slice_index a k = rw grown.root at (fall.inside 0 grown.rooted) in
+          omega arith;
     }

@@ -1,7 +1,6 @@
-use Rattle.std.proofs.Common.{◌≡◌, ◌≢◌, ℕ, ◌+◌, ◌-◌, ◌<◌, ◌≤◌, ◌⊎◌, List, length, slice_index, get_or, set, refl, sym, ap, ◌∙◌, inl, inr, ⊎_elim, arith}
-use Rattle.std.proofs.lemmas.Bool.{cases_eq, cases_lt}
+use Rattle.std.proofs.Common.{◌≡◌, ◌≢◌, ℕ, ◌+◌, ◌-◌, ◌<◌, ◌≤◌, List, length, slice_index, set, sym, ap, ◌∙◌, ⊎_elim, arith}
+use Rattle.std.proofs.lemmas.Bool.{cases_eq}
 use Rattle.std.proofs.lemmas.List.{length-set, get_or-set_same, get_or-set_other}
-use Rattle.rebalancing.specs.Relaxation.{Falls, Rises}
 
 -- the prices of the first i vehicles have fallen
 pub record IsFalling (vehicles : List ℕ) (by i : ℕ) (old new : List ℕ) : Type 0 where
@@ -30,17 +29,17 @@ IsFalling-more vs by i v old new within distinct enough hi is inv =
     record {
       same_length = length-set new v _ ∙ inv.same_length;
       before = λ t ht lt. ⊎_elim
-        (λ (e : t ≡ i). let at : slice_index vs t ≡ v = ap (slice_index vs) e ∙ sym is in rw at (omega arith))
-        (λ (ne : t ≢ i).
+          (λ (e : t ≡ i). let at : slice_index vs t ≡ v = ap (slice_index vs) e ∙ sym is in rw at (omega arith))
+          (λ (ne : t ≢ i).
           let other : slice_index vs t ≢ v = λ e. ne (distinct t i ht hi (e ∙ is)) in
           rw (get_or-set_other new v (slice_index vs t) (slice_index new v - by) 0 other) (inv.before t ht (omega arith)))
-        (cases_eq t i);
+          (cases_eq t i);
       after = λ t ht le.
-        let other : slice_index vs t ≢ v = λ e. let same : t ≡ i = distinct t i ht hi (e ∙ is) in omega arith in
-        rw (get_or-set_other new v (slice_index vs t) (slice_index new v - by) 0 other) (inv.after t ht (omega arith));
+          let other : slice_index vs t ≢ v = λ e. let same : t ≡ i = distinct t i ht hi (e ∙ is) in omega arith in
+          rw (get_or-set_other new v (slice_index vs t) (slice_index new v - by) 0 other) (inv.after t ht (omega arith));
       outside = λ j out.
-        let other : j ≢ v = λ e. out i hi (sym (e ∙ is)) in
-        rw (get_or-set_other new v j (slice_index new v - by) 0 other) (inv.outside j out);
+          let other : j ≢ v = λ e. out i hi (sym (e ∙ is)) in
+          rw (get_or-set_other new v j (slice_index new v - by) 0 other) (inv.outside j out);
     }
 
 pub IsRising-more : (vs : List ℕ) (by i v : ℕ) (old new : List ℕ)
@@ -54,15 +53,15 @@ IsRising-more vs by i v old new within distinct pi hi is inv =
     record {
       same_length = length-set new v _ ∙ inv.same_length;
       before = λ t pt ht lt. ⊎_elim
-        (λ (e : t ≡ i). let at : slice_index vs t ≡ v = ap (slice_index vs) e ∙ sym is in rw at (omega arith))
-        (λ (ne : t ≢ i).
+          (λ (e : t ≡ i). let at : slice_index vs t ≡ v = ap (slice_index vs) e ∙ sym is in rw at (omega arith))
+          (λ (ne : t ≢ i).
           let other : slice_index vs t ≢ v = λ e. ne (distinct t i pt pi ht hi (e ∙ is)) in
           rw (get_or-set_other new v (slice_index vs t) (slice_index new v + by) 0 other) (inv.before t pt ht (omega arith)))
-        (cases_eq t i);
+          (cases_eq t i);
       after = λ t pt ht le.
-        let other : slice_index vs t ≢ v = λ e. let same : t ≡ i = distinct t i pt pi ht hi (e ∙ is) in omega arith in
-        rw (get_or-set_other new v (slice_index vs t) (slice_index new v + by) 0 other) (inv.after t pt ht (omega arith));
+          let other : slice_index vs t ≢ v = λ e. let same : t ≡ i = distinct t i pt pi ht hi (e ∙ is) in omega arith in
+          rw (get_or-set_other new v (slice_index vs t) (slice_index new v + by) 0 other) (inv.after t pt ht (omega arith));
       outside = λ j out.
-        let other : j ≢ v = λ e. out i pi hi (sym (e ∙ is)) in
-        rw (get_or-set_other new v j (slice_index new v + by) 0 other) (inv.outside j out);
+          let other : j ≢ v = λ e. out i pi hi (sym (e ∙ is)) in
+          rw (get_or-set_other new v j (slice_index new v + by) 0 other) (inv.outside j out);
     }

@@ -9,7 +9,7 @@ ghost use Rattle.rebalancing.specs.Chosen.{IsChosen, seconds_in};
 use crate::matching::Matching;
 use crate::moves::{Moves, Pairs, Potentials};
 use crate::tree::Tree;
-use crate::weights::{weights_of, PAIR_WORTH};
+use crate::weights::{PAIR_WORTH, weights_of};
 use pool_base::{OutOfMemory, Times};
 use std::alloc::Global;
 
@@ -17,7 +17,12 @@ use std::alloc::Global;
 ///
 /// The Hungarian method (Kuhn 1955; Munkres 1957) by augmenting walks with potentials (Jonker and Volgenant 1987): the
 /// vehicles are tried one after the other. A vehicle's search grows a tree of tight pairs while its prices fall.
-pub fn rebalance(alloc: Global, idle: &[usize], wanted: &[usize], times: &Times) -> Result<Moves, OutOfMemory>
+pub fn rebalance(
+    alloc: Global,
+    idle: &[usize],
+    wanted: &[usize],
+    times: &Times,
+) -> Result<Moves, OutOfMemory>
     requires few_idle { length idle.now ≤ 500 }
     requires few_wanted { length wanted.now ≤ 1000 }
     requires idle_places { All (λ place. place < point_count times.now) idle.now }
@@ -42,7 +47,12 @@ pub fn rebalance(alloc: Global, idle: &[usize], wanted: &[usize], times: &Times)
 }
 
 /// The matching with every vehicle tried.
-fn matched(alloc: Global, vehicles: usize, riders: usize, weights: Vec<u64>) -> Result<Matching, OutOfMemory>
+fn matched(
+    alloc: Global,
+    vehicles: usize,
+    riders: usize,
+    weights: Vec<u64>,
+) -> Result<Matching, OutOfMemory>
     requires few_vehicles { vehicles ≤ 500 }
     requires few_riders { riders ≤ 1000 }
     requires table { length weights.items ≡ vehicles * riders }
@@ -102,4 +112,3 @@ fn negated(alloc: Global, prices: &[u64]) -> Result<Vec<i64>, OutOfMemory>
     }
     Ok(potentials)
 }
-

@@ -8,6 +8,8 @@ mod best_moves;
 mod law;
 mod matching;
 mod moves;
+#[cfg(test)]
+mod tests;
 mod tree;
 mod weights;
 

@@ -4,7 +4,7 @@ ghost use Rattle.rebalancing.specs.Weights.{weight_at};
 ghost use Rattle.rebalancing.specs.Prices.{IsPricedMatching, IsSized, IsSameProblem, weight_in};
 ghost use Rattle.rebalancing.specs.SearchTree.{HasRoom, IsNearest, IsOpenMatching, IsSearchTree, root_of};
 
-use crate::tree::{cheaper, lower, raise, relax, Tree};
+use crate::tree::{Tree, cheaper, lower, raise, relax};
 use crate::weights::PAIR_WORTH;
 use pool_base::OutOfMemory;
 use std::alloc::Global;
@@ -29,7 +29,12 @@ pub struct Matching {
 
 impl Matching {
     /// No pair, before any vehicle was tried.
-    pub fn new(alloc: Global, vehicles: usize, riders: usize, weights: Vec<u64>) -> Result<Matching, OutOfMemory>
+    pub fn new(
+        alloc: Global,
+        vehicles: usize,
+        riders: usize,
+        weights: Vec<u64>,
+    ) -> Result<Matching, OutOfMemory>
         requires light { (i j : ℕ) → i < vehicles → j < riders → weight_at weights.items riders i j ≤ pair_worth }
         ensures vehicles { IfOk result (λ s. s.vehicles ≡ vehicles) }
         ensures riders { IfOk result (λ s. s.riders ≡ riders) }

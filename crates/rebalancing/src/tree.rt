@@ -79,7 +79,15 @@ impl Tree {
 
 /// Takes into account the vehicle at a position: `row` has the weights of its pairs, and `offset` is its price plus the
 /// fall so far. Answers the rider outside the tree that is tight first, and the number of riders where there is none.
-pub fn relax(tight_at: &mut [u64], parent_of: &mut [usize], place: &[usize], row: &[u64], rider_price: &[u64], offset: u64, position: usize) -> usize
+pub fn relax(
+    tight_at: &mut [u64],
+    parent_of: &mut [usize],
+    place: &[usize],
+    row: &[u64],
+    rider_price: &[u64],
+    offset: u64,
+    position: usize,
+) -> usize
     requires lengths { (length tight_at.old ≡ length row.now) × (length parent_of.old ≡ length row.now) × (length place.now ≡ length row.now) × (length rider_price.now ≡ length row.now) }
     requires covers { (j : ℕ) → j < length row.now → slice_index row.now j ≤ offset + slice_index rider_price.now j }
     requires fits { (j : ℕ) → j < length row.now → offset + slice_index rider_price.now j < 2 ^ 64 }

@@ -20,7 +20,12 @@ fn weight(seconds: u32) -> u64
 }
 
 /// Appends the weights of one vehicle's pairs.
-fn push_row(weights: &mut Vec<u64>, place: usize, wanted: &[usize], times: &Times) -> Result<(), OutOfMemory>
+fn push_row(
+    weights: &mut Vec<u64>,
+    place: usize,
+    wanted: &[usize],
+    times: &Times,
+) -> Result<(), OutOfMemory>
     requires from { place < point_count times.now }
     requires to { All (λ other. other < point_count times.now) wanted.now }
     ensures { OnOk result (weights.new.items ≡ weights.old.items ++ map (λ other. weight_of (travel_time times.now place other)) wanted.now) }
@@ -32,7 +37,12 @@ fn push_row(weights: &mut Vec<u64>, place: usize, wanted: &[usize], times: &Time
 }
 
 /// The weights of all pairs, row by row, flat, so that the search reads one row in order.
-pub fn weights_of(alloc: Global, idle: &[usize], wanted: &[usize], times: &Times) -> Result<Vec<u64>, OutOfMemory>
+pub fn weights_of(
+    alloc: Global,
+    idle: &[usize],
+    wanted: &[usize],
+    times: &Times,
+) -> Result<Vec<u64>, OutOfMemory>
     requires few_idle { length idle.now ≤ 500 }
     requires few_wanted { length wanted.now ≤ 1000 }
     requires from { All (λ place. place < point_count times.now) idle.now }

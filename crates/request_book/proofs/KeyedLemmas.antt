@@ -2,6 +2,7 @@
 use Rattle.std.proofs.Common.{◌≡◌, ◌≢◌, ℕ, zero, suc, ◌+◌, ◌<◌, ◌≤◌, Bool, true, false, cond, eqb, ltb, not, List, [], ◌∷◌, ◌++◌, length, get_or, set, map, take, drop, Option, None, Some, refl, sym, ap, subst, ◌∙◌, inl, inr, arith}
 use Rattle.std.specs.Prelude.{find, filter, option_map, option_and_then, position, is_some, ◌||◌, count_by}
 use Rattle.std.specs.List.{filter_map, cons_option, list_any, All, insert, remove}
+use Rattle.std.specs.List.Sorted.{IsStrictlyIncreasing}
 use Rattle.std.proofs.lemmas.List.{length-map}
 use Rattle.std.proofs.lemmas.List.Quantifiers.{position-Some}
 use Rattle.std.proofs.lemmas.List.Sums.{sum_by-cons}
@@ -286,6 +287,15 @@ module _ {X : Type 0} (key : X → ℕ) where
       let none = differ.0 in
       look_up-there (key (get_or xs i d)) x xs (λ e. let found = subst (λ k. look_up key k xs ≡ None) e none in absurd cc) ∙ at
 
+  -- before its own place an element isn't found
+  pub look_up-take : (i : ℕ) (xs : List X) (d : X) → KeysDiffer key xs → i < length xs → look_up key (key (get_or xs i d)) (take i xs) ≡ None
+  unfolding KeysDiffer
+  look_up-take i [] d differ in' = absurd (omega arith)
+  look_up-take zero (x ∷ xs) d differ in' = look_up-nil (key x)
+  look_up-take (suc i) (x ∷ xs) d differ in' =
+      let at = look_up-at i xs d differ.1 (omega arith) in
+      look_up-there (key (get_or xs i d)) x (take i xs) (λ e. let found = subst (λ k. look_up key k xs ≡ None) e differ.0 in absurd cc) ∙ look_up-take i xs d differ.1 (omega arith)
+
   key-get_or : (i : ℕ) (xs : List X) (d : X) → i < length xs → get_or (map key xs) i (key d) ≡ key (get_or xs i d)
   key-get_or i [] d in' = absurd (omega arith)
   key-get_or zero (x ∷ xs) d in' = refl
@@ -330,7 +340,7 @@ module _ {X : Type 0} (key : X → ℕ) where
       let other : key x ≡ k → ⊥ = λ s. let none = subst (λ j. look_up key j xs ≡ None) (s ∙ sym e) differ.0 in absurd cc in
       rw (ne_eqb (key x) k other) (ap (λ ys. x ∷ ys) (set-changed_at f k i xs d differ.1 (omega arith) e))
 
-  change : (k : ℕ) → (X → X) → X → X
+  pub change : (k : ℕ) → (X → X) → X → X
   change k f x = cond (eqb (key x) k) (f x) x
 
   change-keeps : (k : ℕ) (f : X → X) → ((x : X) → key (f x) ≡ key x) → (x : X) → key (change k f x) ≡ key x
@@ -455,7 +465,7 @@ module _ {X Y : Type 0} (key : X → ℕ) (name : Y → ℕ) (h : X → Option Y
 module _ {X Y : Type 0} (key : X → ℕ) (name : Y → ℕ) (h : X → Option Y) (keeps : (x : X) (y : Y) → h x ≡ Some y → name y ≡ key x)
     (ids : List ℕ) (xs : List X) (up : KeysRise (λ id. id) ids) (differ : KeysDiffer key xs)
     (listed : (k : ℕ) (x : X) (y : Y) → look_up key k xs ≡ Some x → h x ≡ Some y → look_up (λ id. id) k ids ≡ Some k) where
-  abbrev made : ℕ → Option Y
+  abbrev pub made : ℕ → Option Y
   made k = option_and_then h (look_up key k xs)
 
   made-named : (k : ℕ) (y : Y) → made k ≡ Some y → name y ≡ k
@@ -479,6 +489,12 @@ module _ {X Y : Type 0} (key : X → ℕ) (name : Y → ℕ) (h : X → Option Y
       by : (o : Option ℕ) → look_up (λ id. id) k ids ≡ o → option_and_then made o ≡ made k
       by None e = none e (look_up key k xs) refl
       by (Some j) e = ap made (look_up-key (λ id. id) k ids j e)
+
+  pub made-rise : KeysRise name (filter_map made ids)
+  made-rise = KeysRise-filter_map (λ id. id) name made made-named ids up
+
+  pub made-found : (k : ℕ) → look_up name k (filter_map made ids) ≡ made k
+  made-found k = look_up-filter_map (λ id. id) name made made-named k ids (KeysDiffer-from_rise (λ id. id) ids up) ∙ made-listed k
 
   pub filter_map-by_key : filter_map made ids ≡ by_key name (filter_map h xs)
   filter_map-by_key =
@@ -529,7 +545,7 @@ module _ where
       let le' : y ≤ x = omega arith in
       rw (le-ltb x y le') (ap (λ zs. y ∷ zs) (insert-placed ys i x (omega arith) (λ k h. low (suc k) (omega arith)) (λ k h l. high (suc k) (omega arith) (omega arith))))
 
-  without-absent : (xs : List ℕ) (x : ℕ) → look_up (λ n. n) x xs ≡ None → without (λ n. n) x xs ≡ xs
+  pub without-absent : (xs : List ℕ) (x : ℕ) → look_up (λ n. n) x xs ≡ None → without (λ n. n) x xs ≡ xs
   unfolding without
   without-absent [] x none = refl
   without-absent (y ∷ ys) x none =
@@ -537,6 +553,12 @@ module _ where
         inl e ↦ let found = look_up-here (λ n. n) x y ys e in absurd cc
       | inr ne ↦ rw (ne_eqb y x ne) (ap (λ zs. y ∷ zs) (without-absent ys x (sym (look_up-there (λ n. n) x y ys ne) ∙ none)))
       ]
+
+  -- a number that stands at no place isn't found
+  pub look_up-nowhere : (xs : List ℕ) (x : ℕ) → ((k : ℕ) → k < length xs → get_or xs k 0 ≡ x → ⊥) → look_up (λ n. n) x xs ≡ None
+  look_up-nowhere [] x none = look_up-nil (λ n. n) x
+  look_up-nowhere (y ∷ ys) x none =
+      look_up-there (λ n. n) x y ys (none 0 (omega arith)) ∙ look_up-nowhere ys x (λ k in' e. none (suc k) (omega arith) e)
 
   -- a number taken out at its place
   pub remove-without : (xs : List ℕ) (i x : ℕ) → KeysDiffer (λ n. n) xs → i < length xs → get_or xs i 0 ≡ x → remove xs i ≡ without (λ n. n) x xs
@@ -551,6 +573,15 @@ module _ where
       rw (ne_eqb y x other) (ap (λ zs. y ∷ zs) (remove-without ys i x d.1 (omega arith) at))
 
 module _ {X : Type 0} (key : X → ℕ) where
+  pub without_key-absent : (k : ℕ) (xs : List X) → look_up key k xs ≡ None → without key k xs ≡ xs
+  unfolding without
+  without_key-absent k [] none = refl
+  without_key-absent k (x ∷ xs) none =
+      elim (cases_eq (key x) k) [
+        inl e ↦ let found = look_up-here key k x xs e in absurd cc
+      | inr ne ↦ rw (ne_eqb (key x) k ne) (ap (λ ys. x ∷ ys) (without_key-absent k xs (sym (look_up-there key k x xs ne) ∙ none)))
+      ]
+
   AllAbove-without : (k j : ℕ) (xs : List X) → AllAbove key k xs → AllAbove key k (without key j xs)
   unfolding AllAbove without
   AllAbove-without k j [] all = tt
@@ -578,3 +609,29 @@ module _ {X : Type 0} (key : X → ℕ) where
       | inr ne ↦
           rw (ne_eqb (key x) j ne) (look_up-without_there key j (key x) xs (λ s. ne (sym s)) ∙ d.0, KeysDiffer-without j xs d.1)
       ]
+
+  -- rising keys, from the numbers that rise
+  all-above-from : (k : ℕ) (xs : List X) → ((j : ℕ) → j < length xs → k < get_or (map key xs) j 0) → AllAbove key k xs
+  unfolding AllAbove
+  all-above-from k [] above = tt
+  all-above-from k (x ∷ xs) above = (above 0 (omega arith), all-above-from k xs (λ j in'. above (suc j) (omega arith)))
+
+  pub rise_from_increasing : (xs : List X) → IsStrictlyIncreasing (map key xs) → KeysRise key xs
+  unfolding KeysRise
+  rise_from_increasing [] up = tt
+  rise_from_increasing (x ∷ xs) up =
+      (all-above-from (key x) xs (λ j in'. far j in'),
+        rise_from_increasing xs (λ k in'. let same : suc k + 1 ≡ suc (k + 1) = omega arith in let next : get_or (map key (x ∷ xs)) (suc k) 0 < get_or (map key (x ∷ xs)) (suc k + 1) 0 = up (suc k) (omega arith) in rw same at next))
+    where
+      far : (j : ℕ) → j < length xs → key x < get_or (map key xs) j 0
+      far zero in' = up 0 (omega (arith, length-map xs key))
+      far (suc j) in' =
+          let before = far j (omega arith) in
+          let same : suc j + 1 ≡ suc (suc j) = omega arith in
+          let next : get_or (map key (x ∷ xs)) (suc j) 0 < get_or (map key (x ∷ xs)) (suc j + 1) 0 = up (suc j) (omega (arith, length-map xs key)) in
+          let after : get_or (map key (x ∷ xs)) (suc j) 0 < get_or (map key (x ∷ xs)) (suc (suc j)) 0 = rw same at next in
+          omega (arith, before, after)
+
+  pub map-keys : (f : X → X) → ((x : X) → key (f x) ≡ key x) → (xs : List X) → map key (map f xs) ≡ map key xs
+  map-keys f keeps [] = refl
+  map-keys f keeps (x ∷ xs) = let head = keeps x in let tail = map-keys f keeps xs in cc

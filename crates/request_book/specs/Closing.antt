@@ -11,8 +11,8 @@ use Rattle.request_book.specs.declared.rider.BookRider.{BookRider}
 use Rattle.request_book.specs.declared.rider.Status.{Status}
 use Rattle.request_book.specs.declared.rider.Status.TheVariants.{Waiting, Promised}
 use Rattle.request_book.specs.declared.state.State.{State}
-use Rattle.request_book.specs.Keyed.{look_up}
-use Rattle.request_book.specs.Rider.{is_active, with_status}
+use Rattle.request_book.specs.Keyed.{look_up, changed_at}
+use Rattle.request_book.specs.Rider.{is_active, is_waiting, with_status}
 
 -- a pick stop: whom it picks, and what it promises
 pub record Pick : Type 0 where
@@ -41,11 +41,24 @@ in_batch riders id = is_some (look_up (λ r. r.id) id riders)
 abbrev pub after_plan : List Rider → List Pick → BookRider → BookRider
 after_plan riders ps r = if is_active r.status && in_batch riders r.id then with_status (planned_status ps r.id) r else r
 
--- the riders after an answer for the sealed batch
-unfoldable pub after_answer : Batch → Answer → List BookRider → List BookRider
-after_answer b Overflow riders = riders
-after_answer b (Planned plan) riders = map (after_plan b.riders (picks plan.chosen)) riders
+-- the riders after an answer for a batch of these riders
+unfoldable pub after_answer : List Rider → Answer → List BookRider → List BookRider
+after_answer batch Overflow riders = riders
+after_answer batch (Planned plan) riders = map (after_plan batch (picks plan.chosen)) riders
 
 -- the state after the close of the sealed batch
 unfoldable pub closed_state : State → Answer → State
-closed_state s answer = elim s.sealed [ None ↦ s | Some b ↦ record s { riders = after_answer b answer s.riders; sealed = None } ]
+closed_state s answer = elim s.sealed [ None ↦ s | Some b ↦ record s { riders = after_answer b.riders answer s.riders; sealed = None } ]
+
+-- a rider of the pool waits again
+abbrev pub waits_again : BookRider → BookRider
+waits_again r = if is_active r.status then with_status Waiting r else r
+
+-- the rider, where a pick stop is theirs: who is in the snapshot and waits is promised
+abbrev pub takes_promise : List Rider → Pick → BookRider → BookRider
+takes_promise riders p r = if in_batch riders p.rider && is_waiting r.status then with_status (Promised p.promise) r else r
+
+-- the riders after these pick stops, one after another
+unfoldable pub promised_in_turn : List Rider → List Pick → List BookRider → List BookRider
+promised_in_turn riders [] rs = rs
+promised_in_turn riders (p ∷ ps) rs = promised_in_turn riders ps (changed_at (λ r. r.id) p.rider (takes_promise riders p) rs)

@@ -1,9 +1,9 @@
 use Rattle.std.specs.Prelude.{◌≡◌, ℕ, ◌≤◌, ◌==◌, true, List, length, Option, None, Some, is_some, option_map, option_and_then, if◌then◌else◌}
 use Rattle.std.specs.List.{All}
 use Rattle.batch_snapshot.specs.Batch.{Batch}
-use Rattle.batch_snapshot.specs.Kept.{IsKept}
-use Rattle.batch_snapshot.specs.Snapshot.{named_nodes}
+use Rattle.batch_snapshot.specs.Points.{named_nodes}
 use Rattle.batch_snapshot.specs.Vehicle.{HasSeats}
+use Rattle.batch_snapshot.specs.declared.vehicle.Vehicle.{Vehicle}
 use Rattle.batch_snapshot.specs.declared.passenger.Passenger.{Passenger}
 use Rattle.request_book.specs.declared.rider.BookRider.{BookRider}
 use Rattle.request_book.specs.declared.state.State.{State}
@@ -15,21 +15,23 @@ use Rattle.request_book.specs.State.{find_rider, find_vehicle, find_passenger, p
 abbrev pub seat_in : ℕ → BookRider → Option Passenger
 seat_in vehicle r = option_and_then (λ v. if v == vehicle then Some (passenger_of r) else None) (vehicle_of r.status)
 
--- what every state of a book keeps
-pub record IsConsistent (s : State) : Type 0 where
-  pub vehicle_count : length s.vehicles ≤ 500
-  pub rider_count : length s.riders ≤ 100000
-  pub pool : pool_count s.riders ≤ 1000
+-- what the riders and the vehicles of a book keep
+pub record AreConsistent (riders : List BookRider) (vehicles : List Vehicle) : Type 0 where
+  pub vehicle_count : length vehicles ≤ 500
+  pub rider_count : length riders ≤ 100000
+  pub pool : pool_count riders ≤ 1000
   -- each rider and each vehicle stands once; vehicles by rising id
-  pub riders : KeysDiffer (λ r. r.id) s.riders
-  pub vehicles : KeysRise (λ v. v.id) s.vehicles
-  -- no party is empty
-  pub parties : All (λ r. 1 ≤ r.party) s.riders
+  pub riders_differ : KeysDiffer (λ r. r.id) riders
+  pub vehicles_rise : KeysRise (λ v. v.id) vehicles
   -- no vehicle has more persons than seats, nor a passenger twice
-  pub seats : All HasSeats s.vehicles
-  pub passengers : All (λ v. KeysDiffer (λ p. p.rider) v.aboard.items) s.vehicles
+  pub seats : All HasSeats vehicles
+  pub passengers : All (λ v. KeysDiffer (λ p. p.rider) v.aboard.items) vehicles
   -- a rider is in the list of exactly the vehicle that their status names
-  pub aboard : (vehicle rider : ℕ) → option_and_then (λ v. find_passenger rider v.aboard.items) (find_vehicle vehicle s.vehicles) ≡ option_and_then (seat_in vehicle) (find_rider rider s.riders)
+  pub aboard : (vehicle rider : ℕ) → option_and_then (λ v. find_passenger rider v.aboard.items) (find_vehicle vehicle vehicles) ≡ option_and_then (seat_in vehicle) (find_rider rider riders)
+
+-- what every state of a book keeps
+abbrev pub IsConsistent : State → Type 0
+IsConsistent s = AreConsistent s.riders s.vehicles
 
 -- the node is one of the network's
 abbrev pub IsNode : List ℕ → ℕ → Type 0
@@ -39,3 +41,4 @@ IsNode nodes node = has_node nodes node ≡ true
 pub record NamesNodes (nodes : List ℕ) (s : State) : Type 0 where
   pub riders : All (λ r. IsNode nodes r.origin × IsNode nodes r.destination) s.riders
   pub vehicles : All (λ v. IsNode nodes v.node) s.vehicles
+  pub sealed : (b : Batch) → s.sealed ≡ Some b → All (IsNode nodes) (named_nodes b)

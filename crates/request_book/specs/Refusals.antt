@@ -90,7 +90,7 @@ not_promised r vehicle = option_and_then (λ r. promise_refusal vehicle r.status
 
 -- the rider's party doesn't fit into the seats beside the persons aboard
 abbrev pub vehicle_full : Option Vehicle → Option BookRider → Option BookRefusal
-vehicle_full v r = option_and_then (λ v. option_and_then (λ r. if nat_lt v.seats (persons_aboard v + r.party) then Some VehicleFull else None) r) v
+vehicle_full v r = option_and_then (λ v. option_and_then (λ r. if nat_le (persons_aboard v + r.party) v.seats then None else Some VehicleFull) r) v
 
 -- the rider isn't aboard of this vehicle
 abbrev pub seat_refusal : ℕ → Status → Option BookRefusal

@@ -1,4 +1,4 @@
-use Rattle.std.specs.Prelude.{ℕ, Bool, ◌==◌, Option, None, Some, is_some, option_map, option_and_then, nat_le, if◌then◌else◌}
+use Rattle.std.specs.Prelude.{ℕ, Bool, true, false, ◌==◌, Option, None, Some, is_some, option_map, option_and_then, nat_le, if◌then◌else◌}
 use Rattle.batch_snapshot.specs.declared.passenger.Passenger.{Passenger}
 use Rattle.batch_snapshot.specs.declared.promise.Promise.{Promise}
 use Rattle.batch_snapshot.specs.declared.rider.Rider.{Rider}
@@ -18,6 +18,15 @@ pool_promise Expired = None
 -- the rider is in the pool: waiting, or promised to a vehicle
 abbrev pub is_active : Status → Bool
 is_active status = is_some (pool_promise status)
+
+-- the rider waits, with no promise
+abbrev pub is_waiting : Status → Bool
+is_waiting Waiting = true
+is_waiting (Promised p) = false
+is_waiting (Aboard v) = false
+is_waiting Cancelled = false
+is_waiting Delivered = false
+is_waiting Expired = false
 
 -- the vehicle that the rider is aboard of
 abbrev pub vehicle_of : Status → Option ℕ

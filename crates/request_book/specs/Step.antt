@@ -28,31 +28,37 @@ answer s None reply next = (next, reply)
 abbrev pub rider_becomes : State → ℕ → Status → State
 rider_becomes s rider status = record s { riders = changed_at (λ r. r.id) rider (with_status status) s.riders }
 
--- the state with a vehicle at a node, at a second
-abbrev pub vehicle_stands : State → ℕ → ℕ → ℕ → State
-vehicle_stands s vehicle node time = record s { vehicles = changed_at (λ v. v.id) vehicle (λ v. record v { node = node; time = time }) s.vehicles }
+-- the state with a change of a vehicle
+abbrev pub vehicle_becomes : State → ℕ → (Vehicle → Vehicle) → State
+vehicle_becomes s vehicle change = record s { vehicles = changed_at (λ v. v.id) vehicle change s.vehicles }
 
--- the state with one more passenger of a vehicle, and one passenger less
-abbrev pub gets_in : State → ℕ → BookRider → State
-gets_in s vehicle r = record s { vehicles = changed_at (λ v. v.id) vehicle (λ v. record v { aboard = record { items = v.aboard.items ++ passenger_of r ∷ [] } }) s.vehicles }
+-- the vehicle is at a node, at a second
+abbrev pub stands_at : ℕ → ℕ → Vehicle → Vehicle
+stands_at node time v = record v { node = node; time = time }
 
-abbrev pub gets_out : State → ℕ → ℕ → State
-gets_out s vehicle rider = record s { vehicles = changed_at (λ v. v.id) vehicle (λ v. record v { aboard = record { items = without (λ p. p.rider) rider v.aboard.items } }) s.vehicles }
+-- the rider is the vehicle's last passenger, and the vehicle is at the rider's origin
+abbrev pub takes_in : BookRider → ℕ → Vehicle → Vehicle
+takes_in r time v = record v { node = r.origin; time = time; aboard = record { items = v.aboard.items ++ passenger_of r ∷ [] } }
+
+-- the rider leaves the passengers, the others keep their order, and the vehicle is at the rider's destination
+abbrev pub lets_out : BookRider → ℕ → Vehicle → Vehicle
+lets_out r time v = record v { node = r.destination; time = time; aboard = record { items = without (λ p. p.rider) r.id v.aboard.items } }
 
 -- the change of a pickup, and of a drop-off
 abbrev pub picked_up : State → Option BookRider → ℕ → ℕ → State
 picked_up s None vehicle time = s
-picked_up s (Some r) vehicle time = vehicle_stands (gets_in (rider_becomes s r.id (Aboard vehicle)) vehicle r) vehicle r.origin time
+picked_up s (Some r) vehicle time = vehicle_becomes (rider_becomes s r.id (Aboard vehicle)) vehicle (takes_in r time)
 
 abbrev pub dropped_off : State → Option BookRider → ℕ → ℕ → State
 dropped_off s None vehicle time = s
-dropped_off s (Some r) vehicle time = vehicle_stands (gets_out (rider_becomes s r.id Delivered) vehicle r.id) vehicle r.destination time
+dropped_off s (Some r) vehicle time = vehicle_becomes (rider_becomes s r.id Delivered) vehicle (lets_out r time)
 
 -- a rider asks: added last, waiting
+abbrev pub submit_refusal : List ℕ → State → BookRider → Option BookRefusal
+submit_refusal nodes s r = first_of (duplicate_rider (find_rider r.id s.riders) ∷ unknown_node nodes r.origin ∷ unknown_node nodes r.destination ∷ same_place r.origin r.destination ∷ pool_full s.riders ∷ book_full s.riders ∷ [])
+
 unfoldable pub submit_step : List ℕ → State → BookRider → State × Reply
-submit_step nodes s r =
-    answer s (first_of (duplicate_rider (find_rider r.id s.riders) ∷ unknown_node nodes r.origin ∷ unknown_node nodes r.destination ∷ same_place r.origin r.destination ∷ pool_full s.riders ∷ book_full s.riders ∷ []))
-      Accepted (record s { riders = s.riders ++ r ∷ [] })
+submit_step nodes s r = answer s (submit_refusal nodes s r) Accepted (record s { riders = s.riders ++ r ∷ [] })
 
 -- a rider gives up
 unfoldable pub cancel_step : State → ℕ → State × Reply
@@ -66,7 +72,7 @@ unfoldable pub report_step : List ℕ → State → ℕ → ℕ → ℕ → Stat
 report_step nodes s vehicle node time =
     let v = find_vehicle vehicle s.vehicles in
     answer s (first_of (unknown_vehicle v ∷ unknown_node nodes node ∷ time_back v time ∷ []))
-      Placed (vehicle_stands s vehicle node time)
+      Placed (vehicle_becomes s vehicle (stands_at node time))
 
 -- a vehicle picks up the rider who is promised to it
 unfoldable pub pickup_step : State → ℕ → ℕ → ℕ → State × Reply

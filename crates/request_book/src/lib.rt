@@ -6,13 +6,21 @@
 //! of the journal and changes nothing else.
 #![tactic(auto)]
 
+mod book;
+mod closing;
 mod command;
 mod journal;
 mod outcome;
+mod refusals;
+mod register;
 mod reply;
 mod rider;
+mod riding;
+mod running;
+mod sealing;
 mod state;
 
+pub use book::Book;
 pub use command::Command;
 pub use journal::{Entry, Journal};
 pub use outcome::{

@@ -1,4 +1,5 @@
 use arrayvec::ArrayVec;
+use plan_rules::Tree;
 use pool_base::{NodeId, RiderId, Sequence, VehicleId};
 
 /// What came of a sealed batch. The book doesn't judge it.
@@ -38,6 +39,8 @@ pub struct Planned {
     pub cost: u64,
     /// No lawful plan costs less.
     pub bound: i128,
+    /// The search tree that shows the bound.
+    pub tree: Tree,
 }
 
 /// A trip that a vehicle can serve, with its least delay in seconds.

@@ -3,5 +3,6 @@ use Rattle.std.specs.Prelude.{ℕ}
 use Rattle.seat_lock.specs.declared.counter.Addition.{Addition}
 use Rattle.seat_lock.specs.declared.logged.Entry.{Entry}
 
+-- what was added, by whom, and the count after it
 abbrev pub entry_of : Addition → Entry ℕ ℕ
 entry_of a = record { lane = a.lane; call = a.amount; reply = a.count }

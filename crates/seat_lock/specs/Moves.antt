@@ -37,6 +37,7 @@ module _ {B C R : Type 0} where
     pub now : m' ≡ (in_turn x entries (length entries) v, (0, Some value) ∷ [])
 
   module _ {Root : Type 0} (root : B → Root) (log : B → List (Entry C R)) (spare : B → ℕ) where
+    -- what a look tells at each stage of the seat
     abbrev pub LooksAt : Me (Option B) (View B C R) → ℕ → Me (Option B) (View B C R) → Stage C R → Type 0
     LooksAt m n m' Idle = Unit {0}
     LooksAt m n m' (Waiting x) = (x % 2 ^ 64 ≡ n → TakesTurn root log spare m.0 x m') × (x % 2 ^ 64 ≢ n → m' ≡ m)
@@ -47,6 +48,7 @@ module _ {B C R : Type 0} where
     looked st m n m' = LooksAt m n m' m.0.stage
 
   module _ (log : B → List (Entry C R)) where
+    -- what a note tells, by the start, the value held, the claims and the stage
     abbrev pub NotesAt : Option B → Option B → List (Claim C R) → Stage C R → ℕ → Me (Option B) (View B C R) → Type 0
     NotesAt (Some start) (Some b) (c ∷ cs) (InTurn x entries) n m' =
         (n ≡ length entries)

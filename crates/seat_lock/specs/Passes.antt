@@ -11,6 +11,7 @@ use Rattle.seat_lock.specs.Views.{claim}
 use Rattle.seat_lock.specs.Rule.{Claimed, Laned}
 
 module _ {B C R : Type 0} where
+  -- a pass that has made no call
   abbrev pub new_pass : TableId → B → ℕ → PassValue B C R
   new_pass table start lane = record { table = table; start = Some start; lane = lane; calls = []; seen = 0 }
 
@@ -18,6 +19,7 @@ module _ {B C R : Type 0} where
   abbrev pub AreReturned : TableId → List (PassValue B C R) → Type 0
   AreReturned table passes = All (λ p. p.table ≡ table) passes
 
+  -- what the pass claims
   abbrev pub claim_of : PassValue B C R → Claim C R
   claim_of p = claim p.lane p.calls
 

@@ -35,6 +35,7 @@ module _ {C R : Type 0} where
   abbrev pub lane_weight : (ℕ → ℕ) → List (Claim C R) → ℕ
   lane_weight h claims = total (λ c. h c.lane) claims
 
+  -- the seat's turn has come
   abbrev pub IsInTurn : Stage C R → Type 0
   IsInTurn Idle = ⊥
   IsInTurn (Waiting x) = ⊥
@@ -85,6 +86,7 @@ pub record IsOut {B C R : Type 0} (homes : List (maybe.Option (Option B))) (view
   pub at : get_elem? views who ≡ some view
   pub turn : IsInTurn view.stage
 
+-- the whole rule, for a lock that was started with this value and so many lanes
 pub record Kept {B C R Root : Type 0} (root : B → Root) (log : B → List (Entry C R)) (spare : B → ℕ) (start : B) (lanes : ℕ) (s : State (Option B) (View B C R)) : Type 0 where
   pub drawn : ℕ
   pub served : ℕ

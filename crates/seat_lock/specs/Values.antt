@@ -22,6 +22,7 @@ pub record PassValue (B C R : Type 0) : Type 0 where
 abbrev pub calls_of : {C R : Type 0} → ℕ → List (Entry C R) → List (ℕ × Entry C R)
 calls_of lane log = filter (λ p. p.1.lane == lane) (enumerate_from 0 log)
 
+-- a call of a lane with its reply
 abbrev pub entry : {C R : Type 0} → ℕ → C → R → Entry C R
 entry lane call reply = record { lane = lane; call = call; reply = reply }
 

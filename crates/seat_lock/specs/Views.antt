@@ -9,6 +9,7 @@ use Rattle.seat_lock.specs.declared.view.Stage.TheVariants.{Idle, InTurn}
 use Rattle.seat_lock.specs.Values.{PassValue}
 
 module _ {C R : Type 0} where
+  -- a lane with its calls
   abbrev pub claim : ℕ → List (ℕ × Entry C R) → Claim C R
   claim lane calls = record { lane = lane; calls = calls }
 
@@ -22,15 +23,18 @@ module _ {C R : Type 0} where
   fresh_claims lane zero = []
   fresh_claims lane (suc n) = claim lane [] ∷ fresh_claims (suc lane) n
 
+  -- the first claim alone, if there is one
   abbrev pub first_claim : List (Claim C R) → List (Claim C R)
   first_claim [] = []
   first_claim (c ∷ cs) = c ∷ []
 
+  -- the claims after the first
   abbrev pub other_claims : List (Claim C R) → List (Claim C R)
   other_claims [] = []
   other_claims (c ∷ cs) = cs
 
 module _ {B C R : Type 0} where
+  -- the view at another stage, or with other claims
   abbrev pub with_stage : Stage C R → View B C R → View B C R
   with_stage stage v = record { start = v.start; claims = v.claims; seen = v.seen; stage = stage }
 
@@ -49,9 +53,11 @@ module _ {B C R : Type 0} where
   abbrev pub lanes_view : B → ℕ → ℕ → View B C R
   lanes_view start lane left = record { start = Some start; claims = fresh_claims lane left; seen = 0; stage = Idle }
 
+  -- the first seat claims all lanes
   abbrev pub first_view : B → ℕ → View B C R
   first_view start lanes = lanes_view start 0 lanes
 
+  -- a seat that was joined into another knows nothing
   abbrev pub spent_view : View B C R
   spent_view = record { start = None; claims = []; seen = 0; stage = Idle }
 
@@ -66,6 +72,7 @@ module _ {B C R : Type 0} where
   abbrev pub lanes_joined : View B C R → View B C R → View B C R
   lanes_joined v w = with_claims (w.claims ++ v.claims) v
 
+  -- what contracts see of a pass with this seat
   abbrev pub pass_value : Seat (Option B) (View B C R) → ℕ → PassValue B C R
   pass_value s lane = record { table = s.table_id; start = s.me.0.start; lane = lane; calls = calls_in s.me.0.claims; seen = s.me.0.seen }
 

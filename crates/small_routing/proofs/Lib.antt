@@ -1,3 +1,4 @@
 pub mod AheadLemmas
 pub mod LabelLemmas
 pub mod SearchLemmas
+pub mod UnlimitedLemmas

@@ -2,3 +2,4 @@ pub mod Label
 pub mod Ahead
 pub mod Kept
 pub mod Search
+pub mod Unlimited

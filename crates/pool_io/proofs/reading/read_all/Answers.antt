@@ -1,4 +1,4 @@
-use Rattle.std.proofs.Common.{ℕ, ◌≡◌, ◌+◌, ◌≤◌, arith, take, length, sym, ◌∙◌}
+use Rattle.std.proofs.Common.{◌+◌, ◌≤◌, arith, take, length, ◌∙◌}
 use Rattle.std.proofs.lemmas.List.{length-take-le}
 use Rattle.std.proofs.KnownBytes.{Consumes-kept}
 use Rattle.pool_io.proofs.Pieces.{Consumes-take}

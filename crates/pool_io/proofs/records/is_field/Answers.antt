@@ -1,4 +1,3 @@
-use Rattle.std.proofs.Common.{ℕ, ◌≡◌, List, [], get_or, rules, sym}
 use Rattle.std.proofs.lemmas.Slice.Eq.{bytes_eq-Decides}
 use Rattle.csv.specs.Records.{fields_of}
 use Rattle.pool_io.proofs.FieldGet.{field_is, field_is_none}
@@ -6,9 +5,9 @@ use Rattle.pool_io.proofs.records.is_field.Goals as goal
 
 pub returns-in-Some : goal.returns-in-Some
 returns-in-Some c =
-    let at = field_is c.get.result c.in-Some.field (fields_of c.args.record.now) c.args.place c.in-Some.is c.get.ensures.value in
+    let at = field_is c.get.result c.in-Some.field (fields_of c.args.row.now) c.args.place c.in-Some.is c.get.ensures.value in
     let d = bytes_eq-Decides c.in-Some.field.now c.args.word.now in
     rw (at, c.eq.ensures) d
 
 pub returns-in-None : goal.returns-in-None
-returns-in-None c = absurd (field_is_none c.get.result (fields_of c.args.record.now) c.args.place c.requires c.in-None.is c.get.ensures.value)
+returns-in-None c = absurd (field_is_none c.get.result (fields_of c.args.row.now) c.args.place c.requires c.in-None.is c.get.ensures.value)

@@ -1,9 +1,9 @@
-use Rattle.std.proofs.Common.{◌≡◌, ℕ, List, [], Bor, length, get_or, map, refl, arith}
+use Rattle.std.proofs.Common.{◌≡◌, ℕ, List, [], Bor, length, map, refl, arith}
 use Rattle.std.proofs.lemmas.List.{ext_get_or, length-map}
 use Rattle.csv.specs.Records.{fields_of}
 use Rattle.pool_io.proofs.records.is_header.Goals as goal
 
 pub returns : goal.returns
 returns c =
-    let long : length (fields_of c.args.record.now) ≡ length (map (λ (word : Bor (List ℕ)). word.now) c.args.words.now) = rw length-map (omega arith) in
-    (λ _. ext_get_or [] (fields_of c.args.record.now) (map (λ (word : Bor (List ℕ)). word.now) c.args.words.now) long (λ k below. c.loop-place.invariant k (omega (arith, below))), λ _. refl)
+    let long : length (fields_of c.args.row.now) ≡ length (map (λ (word : Bor (List ℕ)). word.now) c.args.words.now) = rw length-map (omega arith) in
+    (λ _. ext_get_or [] (fields_of c.args.row.now) (map (λ (word : Bor (List ℕ)). word.now) c.args.words.now) long (λ k below. c.loop-place.invariant k (omega (arith, below))), λ _. refl)

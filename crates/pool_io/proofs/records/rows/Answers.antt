@@ -1,8 +1,8 @@
-use Rattle.std.proofs.Common.{◌≡◌, ℕ, List, [], ◌∷◌, ◌++◌, Ok, Bor, length, map, refl, sym, ap, ◌∙◌, arith}
+use Rattle.std.proofs.Common.{◌≡◌, ℕ, List, [], ◌∷◌, Bor, length, map, refl, sym, ◌∙◌, arith}
 use Rattle.std.proofs.lemmas.Bool.{false≢true}
 use Rattle.std.proofs.lemmas.List.{length-map}
 use Rattle.csv.specs.Records.{fields_of}
-use Rattle.pool_io.specs.Table.{header_fields, records_of, is_record}
+use Rattle.pool_io.specs.Table.{header_fields}
 use Rattle.pool_io.proofs.RecordList.{records_of-begin}
 use Rattle.pool_io.proofs.IsRecord.{is_record-other}
 use Rattle.pool_io.proofs.UnderHeader.{table_under, refused_under}
@@ -16,10 +16,10 @@ returns-then-not-found-clause-refused c known =
 pub returns-then-not-is_header-clause-refused : goal.returns-then-not-is_header-clause-refused
 returns-then-not-is_header-clause-refused c known =
     let next = rw c.if-not-found.false at (c.in_ok-found.ensures.next c.args.bytes.now [] c.reader_of-reader.ensures) in
-    let all = records_of-begin c.args.bytes.now (fields_of c.read_next.new.record ∷ []) c.read_next.new.reader.state next.rest next.reached in
+    let all = records_of-begin c.args.bytes.now (fields_of c.read_next.new.row ∷ []) c.read_next.new.reader.state next.rest next.reached in
     let words : map (λ (word : Bor (List ℕ)). word.now) c.as_slice.result.now ≡ header_fields c.args.header.now = rw c.as_slice.ensures.value c.in-Ok.ensures in
-    let differ : fields_of c.read_next.new.record ≡ header_fields c.args.header.now → ⊥ = λ e. false≢true (sym c.if-not-is_header.true ∙ c.is_header.ensures.1 (e ∙ sym words)) in
-    rw (all.1, is_record-other (fields_of c.read_next.new.record) (header_fields c.args.header.now) differ, c.len.ensures) refl
+    let differ : fields_of c.read_next.new.row ≡ header_fields c.args.header.now → ⊥ = λ e. false≢true (sym c.if-not-is_header.true ∙ c.is_header.ensures.1 (e ∙ sym words)) in
+    rw (all.1, is_record-other (fields_of c.read_next.new.row) (header_fields c.args.header.now) differ, c.len.ensures) refl
 
 pub returns-clause-table : goal.returns-clause-table
 returns-clause-table c =

@@ -1,7 +1,6 @@
-use Rattle.std.proofs.Common.{◌≡◌, ◌≢◌, ℕ, ◌+◌, ◌*◌, ◌^◌, ◌<◌, List, [], ◌∷◌, ◌++◌, Ok, length, refl, sym, ap, subst, ◌∙◌, arith, length-append, add-one}
+use Rattle.std.proofs.Common.{◌≡◌, ◌≢◌, ◌+◌, ◌*◌, ◌∷◌, length, arith, length-append, add-one}
 use Rattle.csv.specs.Records.{fields_of}
-use Rattle.pool_io.specs.Table.{cut_rows, even_rows, records_of}
-use Rattle.pool_io.specs.Progress.{HasRead}
+use Rattle.pool_io.specs.Table.{cut_rows}
 use Rattle.pool_io.proofs.CutRows.{cut_rows-append}
 use Rattle.pool_io.proofs.EvenRows.{even_rows-all, even_rows-uneven}
 use Rattle.pool_io.proofs.records.rows_after.Goals as goal
@@ -16,13 +15,13 @@ pub returns-then-len-columns-clause-refused : goal.returns-then-len-columns-clau
 returns-then-len-columns-clause-refused c known bytes first read =
     let inv = c.records.invariant in
     let next = rw c.if-not-found.false at (c.in_ok-found.ensures.next bytes (first ∷ cut_rows c.records.count c.args.columns (fields_of c.records.fields)) (inv.3 bytes first read)) in
-    let uneven : length (fields_of c.read_next.new.record) ≢ c.args.columns = rw c.len.ensures at c.if-len-columns.true in
-    even_rows-uneven bytes first (fields_of c.read_next.new.record) c.args.columns c.records.count (fields_of c.records.fields) c.read_next.new.reader inv.0 uneven next
+    let uneven : length (fields_of c.read_next.new.row) ≢ c.args.columns = rw c.len.ensures at c.if-len-columns.true in
+    even_rows-uneven bytes first (fields_of c.read_next.new.row) c.args.columns c.records.count (fields_of c.records.fields) c.read_next.new.reader inv.0 uneven next
 
 pub records-preserved : goal.records-preserved
 records-preserved c =
     let inv = c.records.invariant in
-    let even : length (fields_of c.read_next.new.record) ≡ c.args.columns = rw c.len.ensures at c.if-len-columns.false in
+    let even : length (fields_of c.read_next.new.row) ≡ c.args.columns = rw c.len.ensures at c.if-len-columns.false in
     let added = c.in_ok-append_fields.ensures.added in
     let flat : length (fields_of c.append_fields.new.fields) ≡ (c.records.count + 1) * c.args.columns = rw (added, length-append) (omega arith) in (
       flat,
@@ -30,5 +29,5 @@ records-preserved c =
       c.in_ok-append_fields.ensures.closed,
       λ bytes first read.
           let next = rw c.if-not-found.false at (c.in_ok-found.ensures.next bytes (first ∷ cut_rows c.records.count c.args.columns (fields_of c.records.fields)) (inv.3 bytes first read)) in
-          rw (added, add-one, cut_rows-append c.records.count c.args.columns (fields_of c.records.fields) (fields_of c.read_next.new.record) inv.0 even) next,
+          rw (added, add-one, cut_rows-append c.records.count c.args.columns (fields_of c.records.fields) (fields_of c.read_next.new.row) inv.0 even) next,
     )

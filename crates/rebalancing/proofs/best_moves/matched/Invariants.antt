@@ -1,4 +1,3 @@
-use Rattle.std.proofs.Common.{◌≡◌}
 use Rattle.rebalancing.specs.Prices.{IsPricedMatching, IsSized, IsSameProblem}
 use Rattle.rebalancing.specs.SearchTree.{HasRoom}
 use Rattle.rebalancing.proofs.best_moves.matched.Given as goal

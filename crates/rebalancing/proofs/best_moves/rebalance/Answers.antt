@@ -1,10 +1,8 @@
-use Rattle.std.proofs.Common.{◌≡◌, ℕ, ◌+◌, ◌*◌, ◌<◌, ◌≤◌, List, length, slice_index, map, ℤ, pos, neg_ℤ, sum_by, refl, sym, ap, ◌∙◌, arith}
+use Rattle.std.proofs.Common.{◌≡◌, ℕ, ◌<◌, ◌≤◌, length, slice_index, map, pos, neg_ℤ, ◌∙◌, arith}
 use Rattle.pool_base.specs.Times.{travel_time}
 use Rattle.rebalancing.specs.Weights.{weight_of}
 use Rattle.rebalancing.specs.Prices.{IsPricedMatching, weight_in}
-use Rattle.rebalancing.specs.Chosen.{IsChosen}
-use Rattle.rebalancing.specs.Matching.{IsMatching, IsBestMatching}
-use Rattle.rebalancing.specs.Potentials.{ArePotentials}
+use Rattle.rebalancing.specs.Matching.{IsMatching}
 use Rattle.rebalancing.proofs.Choosing.{IsMatching-chosen, total-chosen, ArePotentials-chosen}
 use Rattle.rebalancing.proofs.MatchingLaw.{IsMatching-short, best_by_prices, ArePrices-from_potentials}
 use Rattle.rebalancing.proofs.best_moves.rebalance.Goals as goal
@@ -14,7 +12,7 @@ seconds_of_pairs-total-requires-clause-few c =
     let s = c.in_ok-matching.matching in
     let tau = travel_time c.args.times.now in
     let weights : (i j : ℕ) → i < length c.args.idle.now → j < length c.args.wanted.now → weight_in s i j ≡ weight_of (tau (slice_index c.args.idle.now i) (slice_index c.args.wanted.now j)) =
-        λ i j hi hj. rw (c.in_ok-matching.ensures.weights, c.in_ok-matching.ensures.riders) (c.in_ok-weights.ensures.weights i j hi hj) in
+    λ i j hi hj. rw (c.in_ok-matching.ensures.weights, c.in_ok-matching.ensures.riders) (c.in_ok-weights.ensures.weights i j hi hj) in
     let priced : IsPricedMatching s.vehicles s.vehicles s = rw (← c.in_ok-matching.ensures.vehicles) at c.in_ok-matching.ensures.priced in
     let matching : IsMatching tau c.args.idle.now c.args.wanted.now c.in_ok-pairs.pairs.items = IsMatching-chosen tau c.args.idle.now c.args.wanted.now s c.in_ok-pairs.pairs.items c.in_ok-matching.ensures.vehicles c.in_ok-matching.ensures.riders weights priced c.in_ok-pairs.ensures in
     let short : length c.in_ok-pairs.pairs.items ≤ length c.args.idle.now = IsMatching-short tau c.args.idle.now c.args.wanted.now c.in_ok-pairs.pairs.items matching in
@@ -28,24 +26,24 @@ returns-clause-best c =
     let pairs = c.in_ok-pairs.pairs.items in
     let tau = travel_time c.args.times.now in
     let weights : (i j : ℕ) → i < length c.args.idle.now → j < length c.args.wanted.now → weight_in s i j ≡ weight_of (tau (slice_index c.args.idle.now i) (slice_index c.args.wanted.now j)) =
-        λ i j hi hj. rw (c.in_ok-matching.ensures.weights, c.in_ok-matching.ensures.riders) (c.in_ok-weights.ensures.weights i j hi hj) in
+    λ i j hi hj. rw (c.in_ok-matching.ensures.weights, c.in_ok-matching.ensures.riders) (c.in_ok-weights.ensures.weights i j hi hj) in
     let priced : IsPricedMatching s.vehicles s.vehicles s = rw (← c.in_ok-matching.ensures.vehicles) at c.in_ok-matching.ensures.priced in
     let matching : IsMatching tau idle wanted pairs = IsMatching-chosen tau idle wanted s pairs c.in_ok-matching.ensures.vehicles c.in_ok-matching.ensures.riders weights priced c.in_ok-pairs.ensures in
     let potentials = ArePotentials-chosen tau idle wanted s pairs c.in_ok-matching.ensures.vehicles c.in_ok-matching.ensures.riders weights priced c.in_ok-pairs.ensures in
     rw c.of.ensures
     (best_by_prices tau idle wanted pairs _ _ (λ a b h. c.args.times.now.table.times.range a b h) c.requires.few_idle matching
-      (ArePrices-from_potentials tau idle wanted pairs _ _ matching potentials))
+    (ArePrices-from_potentials tau idle wanted pairs _ _ matching potentials))
 
 pub returns-clause-total : goal.returns-clause-total
 returns-clause-total c =
     let s = c.in_ok-matching.matching in
     let tau = travel_time c.args.times.now in
     let weights : (i j : ℕ) → i < length c.args.idle.now → j < length c.args.wanted.now → weight_in s i j ≡ weight_of (tau (slice_index c.args.idle.now i) (slice_index c.args.wanted.now j)) =
-        λ i j hi hj. rw (c.in_ok-matching.ensures.weights, c.in_ok-matching.ensures.riders) (c.in_ok-weights.ensures.weights i j hi hj) in
+    λ i j hi hj. rw (c.in_ok-matching.ensures.weights, c.in_ok-matching.ensures.riders) (c.in_ok-weights.ensures.weights i j hi hj) in
     let priced : IsPricedMatching s.vehicles s.vehicles s = rw (← c.in_ok-matching.ensures.vehicles) at c.in_ok-matching.ensures.priced in
     rw c.of.ensures
     (rw c.deref.ensures.value at c.seconds_of_pairs-total.ensures
-      ∙ total-chosen tau c.args.idle.now c.args.wanted.now s c.in_ok-pairs.pairs.items c.in_ok-matching.ensures.vehicles c.in_ok-matching.ensures.riders weights priced c.in_ok-pairs.ensures)
+    ∙ total-chosen tau c.args.idle.now c.args.wanted.now s c.in_ok-pairs.pairs.items c.in_ok-matching.ensures.vehicles c.in_ok-matching.ensures.riders weights priced c.in_ok-pairs.ensures)
 
 pub returns-clause-potentials : goal.returns-clause-potentials
 returns-clause-potentials c =
@@ -55,7 +53,7 @@ returns-clause-potentials c =
     let pairs = c.in_ok-pairs.pairs.items in
     let tau = travel_time c.args.times.now in
     let weights : (i j : ℕ) → i < length c.args.idle.now → j < length c.args.wanted.now → weight_in s i j ≡ weight_of (tau (slice_index c.args.idle.now i) (slice_index c.args.wanted.now j)) =
-        λ i j hi hj. rw (c.in_ok-matching.ensures.weights, c.in_ok-matching.ensures.riders) (c.in_ok-weights.ensures.weights i j hi hj) in
+    λ i j hi hj. rw (c.in_ok-matching.ensures.weights, c.in_ok-matching.ensures.riders) (c.in_ok-weights.ensures.weights i j hi hj) in
     let priced : IsPricedMatching s.vehicles s.vehicles s = rw (← c.in_ok-matching.ensures.vehicles) at c.in_ok-matching.ensures.priced in
     let from : c.of-2.result ≡ map (λ (p : ℕ). neg_ℤ (pos p)) s.vehicle_price.items = c.of-2.ensures ∙ rw c.deref-2.ensures.value at c.in_ok-from.ensures in
     let to : c.of-3.result ≡ map (λ (p : ℕ). neg_ℤ (pos p)) s.rider_price.items = c.of-3.ensures ∙ rw c.deref-3.ensures.value at c.in_ok-to.ensures in

@@ -1,4 +1,3 @@
-use Rattle.std.proofs.Common.{◌≡◌, ℕ, ◌+◌, ◌<◌, ◌≤◌, length, slice_index}
 use Rattle.rebalancing.proofs.TreePrices.{IsFalling}
 use Rattle.rebalancing.proofs.tree.lower.Given as goal
 

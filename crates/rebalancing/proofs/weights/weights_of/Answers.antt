@@ -1,4 +1,4 @@
-use Rattle.std.proofs.Common.{◌≡◌, ℕ, ◌+◌, ◌*◌, ◌<◌, ◌++◌, length, map, slice_index, refl, ap, ◌∙◌, arith}
+use Rattle.std.proofs.Common.{ℕ, length, map, slice_index}
 use Rattle.std.proofs.lemmas.List.{length-map, get_or-map}
 use Rattle.pool_base.specs.Times.{travel_time}
 use Rattle.rebalancing.specs.Weights.{weight_of}
@@ -13,7 +13,7 @@ loop-place-preserved c =
     let row = map (λ (other : ℕ). weight_of (tau (slice_index c.args.idle.now n) other)) wanted in
     rw c.in_ok-push_row.ensures
     (rows_more c.loop-place.weights.items row n (length wanted) (λ i j. weight_of (tau (slice_index c.args.idle.now i) (slice_index wanted j)))
-      c.loop-place.invariant.0
-      (length-map wanted (λ (other : ℕ). weight_of (tau (slice_index c.args.idle.now n) other)))
-      c.loop-place.invariant.1
-      (λ j h. get_or-map (λ (other : ℕ). weight_of (tau (slice_index c.args.idle.now n) other)) wanted j 0 0 h))
+    c.loop-place.invariant.0
+    (length-map wanted (λ (other : ℕ). weight_of (tau (slice_index c.args.idle.now n) other)))
+    c.loop-place.invariant.1
+    (λ j h. get_or-map (λ (other : ℕ). weight_of (tau (slice_index c.args.idle.now n) other)) wanted j 0 0 h))

@@ -1,4 +1,4 @@
-use Rattle.std.proofs.Common.{ℕ, ◌<◌, ◌+◌, ◌*◌, ◌∙◌, length, sym, arith}
+use Rattle.std.proofs.Common.{◌<◌, ◌+◌, ◌*◌, ◌∙◌, length, sym, arith}
 use Rattle.std.proofs.lemmas.Nat.{mul-add-lt}
 use Rattle.csv.specs.Records.{fields_of}
 use Rattle.pool_io.proofs.CutRows.{length-cut_rows, cut_rows-field}

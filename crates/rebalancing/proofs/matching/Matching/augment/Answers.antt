@@ -1,4 +1,4 @@
-use Rattle.std.proofs.Common.{◌≡◌, ℕ, ◌+◌, ◌<◌, ◌≤◌, length, slice_index, refl, sym, ap, ◌∙◌, arith}
+use Rattle.std.proofs.Common.{◌≡◌, ◌<◌, length, slice_index, sym, ap, ◌∙◌, arith}
 use Rattle.std.proofs.lemmas.List.{get_or_read}
 use Rattle.rebalancing.proofs.Augmenting.{IsPriced-closed, IsOpen-step}
 use Rattle.rebalancing.proofs.matching.Matching.augment.Goals as goal
@@ -14,13 +14,14 @@ loop-position-preserved c =
     let parent_within : c.loop-position.position < length c.args.tree.now.parents.items = let e : length c.args.tree.now.parents.items ≡ length c.args.tree.now.vehicles.items = between.parent_length in omega arith in
     let vehicle : slice_index t.vehicles.items position ≡ c.index.result.now = sym (get_or_read t.vehicles.items position c.index.result.now within c.index.ensures 0) in
     let rider : slice_index t.riders.items position ≡ c.index-rider.result.now = sym (get_or_read t.riders.items position c.index-rider.result.now c_within c.index-rider.ensures 0) in
-    let parent : c.index-position.result.now ≡ slice_index t.parents.items position = get_or_read t.parents.items position c.index-position.result.now parent_within c.index-position.ensures 0 in
-    (rw (c.join.ensures.partners_alone, c.join.ensures.rider_of, c.join.ensures.vehicle_of, parent) (IsOpen-step between vehicle rider (omega (arith, c.loop-position-test.true))),
-    record {
-      vehicles = ap (λ x. x.vehicles) c.join.ensures.partners_alone ∙ c.loop-position.invariant.1.vehicles;
-      riders = ap (λ x. x.riders) c.join.ensures.partners_alone ∙ c.loop-position.invariant.1.riders;
-      weights = ap (λ x. x.weights) c.join.ensures.partners_alone ∙ c.loop-position.invariant.1.weights;
-    })
+    let parent : c.index-position.result.now ≡ slice_index t.parents.items position = get_or_read t.parents.items position c.index-position.result.now parent_within c.index-position.ensures 0 in (
+      rw (c.join.ensures.partners_alone, c.join.ensures.rider_of, c.join.ensures.vehicle_of, parent) (IsOpen-step between vehicle rider (omega (arith, c.loop-position-test.true))),
+      record {
+        vehicles = ap (λ x. x.vehicles) c.join.ensures.partners_alone ∙ c.loop-position.invariant.1.vehicles;
+        riders = ap (λ x. x.riders) c.join.ensures.partners_alone ∙ c.loop-position.invariant.1.riders;
+        weights = ap (λ x. x.weights) c.join.ensures.partners_alone ∙ c.loop-position.invariant.1.weights;
+      },
+    )
 
 pub returns-clause-priced : goal.returns-clause-priced
 returns-clause-priced c =

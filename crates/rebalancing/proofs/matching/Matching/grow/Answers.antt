@@ -1,4 +1,4 @@
-use Rattle.std.proofs.Common.{◌≡◌, ℕ, ◌+◌, ◌*◌, ◌<◌, ◌≤◌, ◌⊎◌, List, [], ◌∷◌, ◌++◌, length, slice_index, get_or, set, refl, sym, ap, ◌∙◌, inl, inr, ⊎_elim, arith}
+use Rattle.std.proofs.Common.{◌≡◌, ◌+◌, ◌<◌, ◌≤◌, [], ◌∷◌, ◌++◌, length, slice_index, set, refl, sym, ◌∙◌, ⊎_elim, arith}
 use Rattle.std.proofs.lemmas.List.{with_items_is, get_or_read, get_or_append_left, get_or_push}
 use Rattle.rebalancing.specs.Prices.{weight_in}
 use Rattle.rebalancing.specs.Relaxation.{Relaxes, IsCheaper}
@@ -49,21 +49,21 @@ returns-clause-tree c =
     let riders : c.push-2.new.self.items ≡ t.riders.items ++ j ∷ [] = c.in_ok-push-2.ensures.items in
     let parents : c.push-3.new.self.items ≡ t.parents.items ++ slice_index t.parent_of.items j ∷ [] = rw reached_from at c.in_ok-push-3.ensures.items in
     let relaxes : Relaxes c.row.result.now s.rider_price.items (set t.place.items j (length r)) (slice_index s.vehicle_price.items v + t.lowered) (length r) t.tight_at.items t.parent_of.items c.relax.new.tight_at c.relax.new.parent_of =
-        rw (price, c.deref_mut.ensures.value, c.deref_mut-2.ensures.value, c.deref-3.ensures.value, c.deref-4.ensures.value, position) at c.relax.ensures.relaxes in
+    rw (price, c.deref_mut.ensures.value, c.deref_mut-2.ensures.value, c.deref-3.ensures.value, c.deref-4.ensures.value, position) at c.relax.ensures.relaxes in
     let tight_length : length c.relax.new.tight_at ≡ t.tight_at.len = omega (arith, relaxes.tight_length, t.tight_at.ok.0) in
     let of_length : length c.relax.new.parent_of ≡ t.parent_of.len = omega (arith, relaxes.parent_length, t.parent_of.ok.0) in
     let cheaper : IsCheaper s.vehicle_price.items (r ++ v ∷ []) t.cheapest (length r) c.cheaper-tree.result = rw (c.deref.ensures.value, c.deref-2.ensures.value, vehicles, position) at c.cheaper-tree.ensures in
     let old : slice_index (r ++ v ∷ []) t.cheapest ≡ slice_index r t.cheapest = get_or_append_left r (v ∷ []) 0 t.cheapest tree.cheapest.within in
     let new : slice_index (r ++ v ∷ []) (length r) ≡ v = get_or_push r v 0 (length r) refl in
     let cheapest : IsCheapest (root_of t) s.vehicle_price.items (r ++ v ∷ []) c.cheaper-tree.result t.lowered = ⊎_elim
-        (λ (is : (c.cheaper-tree.result ≡ length r) × (slice_index s.vehicle_price.items (slice_index (r ++ v ∷ []) (length r)) < slice_index s.vehicle_price.items (slice_index (r ++ v ∷ []) t.cheapest))).
-          rw is.0 (IsCheapest-new priced tree.grown tree.reached tree.cheapest c.requires.within c.requires.outside c.requires.tight c.requires.matched ev (rw (new, old) at is.1)))
-        (λ (is : (c.cheaper-tree.result ≡ t.cheapest) × (slice_index s.vehicle_price.items (slice_index (r ++ v ∷ []) t.cheapest) ≤ slice_index s.vehicle_price.items (slice_index (r ++ v ∷ []) (length r)))).
-          rw is.0 (IsCheapest-old priced tree.grown tree.reached tree.cheapest c.requires.within c.requires.outside c.requires.tight c.requires.matched ev (rw (new, old) at is.1)))
-        cheaper in
+    (λ (is : (c.cheaper-tree.result ≡ length r) × (slice_index s.vehicle_price.items (slice_index (r ++ v ∷ []) (length r)) < slice_index s.vehicle_price.items (slice_index (r ++ v ∷ []) t.cheapest))).
+    rw is.0 (IsCheapest-new priced tree.grown tree.reached tree.cheapest c.requires.within c.requires.outside c.requires.tight c.requires.matched ev (rw (new, old) at is.1)))
+    (λ (is : (c.cheaper-tree.result ≡ t.cheapest) × (slice_index s.vehicle_price.items (slice_index (r ++ v ∷ []) t.cheapest) ≤ slice_index s.vehicle_price.items (slice_index (r ++ v ∷ []) (length r)))).
+    rw is.0 (IsCheapest-old priced tree.grown tree.reached tree.cheapest c.requires.within c.requires.outside c.requires.tight c.requires.matched ev (rw (new, old) at is.1)))
+    cheaper in
     record {
       grown = rw (vehicles, riders, parents, position) (IsGrown-more priced tree.grown tree.reached tree.cheapest c.requires.within c.requires.outside c.requires.tight c.requires.matched ev);
       reached = rw (vehicles, with_items_is t.tight_at c.relax.new.tight_at tight_length, with_items_is t.parent_of c.relax.new.parent_of of_length, position)
-        (IsReached-more priced tree.grown tree.reached tree.cheapest c.requires.within c.requires.outside c.requires.tight c.requires.matched ev c.row.ensures.length c.row.ensures.weights relaxes);
+          (IsReached-more priced tree.grown tree.reached tree.cheapest c.requires.within c.requires.outside c.requires.tight c.requires.matched ev c.row.ensures.length c.row.ensures.weights relaxes);
       cheapest = rw vehicles cheapest;
     }

@@ -1,4 +1,4 @@
-use Rattle.std.proofs.Common.{◌≡◌, ℕ, ◌+◌, ◌*◌, ◌<◌, ◌≤◌, ◌==◌, ◌⊎◌, cond, List, length, slice_index, get_or, set, sum_by, count_by, refl, sym, ap, ◌∙◌, ⊎_elim, arith}
+use Rattle.std.proofs.Common.{◌≡◌, ℕ, ◌+◌, ◌<◌, ◌≤◌, ◌==◌, cond, length, slice_index, set, count_by, sym, ap, ⊎_elim, arith}
 use Rattle.std.proofs.lemmas.Bool.{cases_lt, ne_eqb}
 use Rattle.std.proofs.lemmas.List.{get_or_read}
 use Rattle.std.proofs.lemmas.List.Sums.{sum_by-set}
@@ -20,9 +20,9 @@ augment-requires c =
     let less : c.slack-slack.result < c.index-price.result.now = c.if-price-slack.false in
     let tight_length : length t.tight_at.items ≡ s.riders = inv.tree.reached.tight_length in
     let within : c.search.nearest < c.search.self.riders = ⊎_elim
-        (λ (h : c.search.nearest < c.search.self.riders). h)
-        (λ (h : c.search.self.riders ≤ c.search.nearest). let huge : c.slack-slack.result ≡ 18446744073709551615 = c.slack-slack.ensures.none (omega arith) in absurd (omega arith))
-        (cases_lt c.search.nearest c.search.self.riders) in
+    (λ (h : c.search.nearest < c.search.self.riders). h)
+    (λ (h : c.search.self.riders ≤ c.search.nearest). let huge : c.slack-slack.result ≡ 18446744073709551615 = c.slack-slack.ensures.none (omega arith) in absurd (omega arith))
+    (cases_lt c.search.nearest c.search.self.riders) in
     let slack : t.lowered + c.slack-slack.result ≡ slice_index t.tight_at.items c.search.nearest = c.slack-slack.ensures.some (omega arith) in
     let within' : c.search.nearest < shift.new.self.riders = rw shift.ensures.prices_alone within in
     let tight : slice_index shift.new.tree.tight_at.items c.search.nearest ≡ shift.new.tree.lowered = rw shift.ensures.lowered_alone (sym slack) in
@@ -49,14 +49,14 @@ search-smaller c =
     let less : c.slack-slack.result < c.index-price.result.now = c.if-price-slack.false in
     let tight_length : length t.tight_at.items ≡ s.riders = inv.tree.reached.tight_length in
     let within : c.search.nearest < c.search.self.riders = ⊎_elim
-        (λ (h : c.search.nearest < c.search.self.riders). h)
-        (λ (h : c.search.self.riders ≤ c.search.nearest). let huge : c.slack-slack.result ≡ 18446744073709551615 = c.slack-slack.ensures.none (omega arith) in absurd (omega arith))
-        (cases_lt c.search.nearest c.search.self.riders) in
+    (λ (h : c.search.nearest < c.search.self.riders). h)
+    (λ (h : c.search.self.riders ≤ c.search.nearest). let huge : c.slack-slack.result ≡ 18446744073709551615 = c.slack-slack.ensures.none (omega arith) in absurd (omega arith))
+    (cases_lt c.search.nearest c.search.self.riders) in
     let places : c.grow.new.tree.place.items ≡ set t.place.items c.search.nearest (length t.vehicles.items) = rw shift.ensures.lowered_alone at grow.place in
     let was : slice_index t.place.items c.search.nearest ≡ 0 = inv.next.outside within in
     let positive : 0 < length t.vehicles.items = inv.tree.grown.rooted in
     let written : count_by (λ x. x == 0) (set t.place.items c.search.nearest (length t.vehicles.items)) + cond (slice_index t.place.items c.search.nearest == 0) 1 0 ≡ count_by (λ x. x == 0) t.place.items + cond (length t.vehicles.items == 0) 1 0 =
-        sum_by-set (λ (x : ℕ). cond (x == 0) 1 0) t.place.items c.search.nearest (length t.vehicles.items) 0 (rw inv.tree.grown.place_length within) in
+    sum_by-set (λ (x : ℕ). cond (x == 0) 1 0) t.place.items c.search.nearest (length t.vehicles.items) 0 (rw inv.tree.grown.place_length within) in
     let counted : count_by (λ x. x == 0) (set t.place.items c.search.nearest (length t.vehicles.items)) + 1 ≡ count_by (λ x. x == 0) t.place.items + 0 =
-        rw (was, ne_eqb (length t.vehicles.items) 0 (λ e. omega arith)) at written in
+    rw (was, ne_eqb (length t.vehicles.items) 0 (λ e. omega arith)) at written in
     rw places (omega (arith, counted))

@@ -1,6 +1,4 @@
-use Rattle.std.proofs.Common.{ℕ, ◌+◌, ◌==◌, count_by}
-use Rattle.rebalancing.specs.Prices.{IsPricedMatching, IsSized, IsSameProblem}
-use Rattle.rebalancing.specs.SearchTree.{IsNearest, IsSearchTree}
+use Rattle.std.proofs.Common.{◌==◌, count_by}
 use Rattle.rebalancing.proofs.Inserting.{IsSearching}
 use Rattle.rebalancing.proofs.matching.Matching.insert.Given as goal
 

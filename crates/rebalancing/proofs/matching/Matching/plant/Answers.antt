@@ -1,7 +1,5 @@
-use Rattle.std.proofs.Common.{◌≡◌, ℕ, ◌+◌, ◌*◌, ◌<◌, ◌≤◌, List, [], ◌∷◌, ◌++◌, length, slice_index, get_or, replicate, refl, sym, ap, ◌∙◌, rules, arith}
+use Rattle.std.proofs.Common.{◌≡◌, ℕ, [], ◌∷◌, length, slice_index, replicate, arith}
 use Rattle.std.proofs.lemmas.List.{with_items_is, get_or_read, get_or-replicate, length-replicate}
-use Rattle.rebalancing.specs.Prices.{weight_in}
-use Rattle.rebalancing.specs.Potentials.{pair_worth}
 use Rattle.rebalancing.specs.Relaxation.{Relaxes}
 use Rattle.rebalancing.proofs.Growing.{IsGrown-root, IsReached-root, IsCheapest-root}
 use Rattle.rebalancing.proofs.matching.Matching.plant.Goals as goal
@@ -20,7 +18,7 @@ returns-clause-tree c =
     let far : c.clear.new.self.tight_at.items ≡ replicate s.riders 18446744073709551615 = rw c.requires.room.tight_at at c.clear.ensures.tight_at in
     let price : c.index.result.now ≡ slice_index s.vehicle_price.items k = get_or_read s.vehicle_price.items k c.index.result.now (rw priced.a_length hk) c.index.ensures 0 in
     let relaxes : Relaxes c.row.result.now s.rider_price.items c.clear.new.self.place.items (slice_index s.vehicle_price.items k) 0 c.clear.new.self.tight_at.items c.clear.new.self.parent_of.items c.relax.new.tight_at c.relax.new.parent_of =
-        rw (price, c.deref_mut.ensures.value, c.deref_mut-2.ensures.value, c.deref.ensures.value, c.deref-2.ensures.value) at c.relax.ensures.relaxes in
+    rw (price, c.deref_mut.ensures.value, c.deref_mut-2.ensures.value, c.deref.ensures.value, c.deref-2.ensures.value) at c.relax.ensures.relaxes in
     let tight_length : length c.relax.new.tight_at ≡ c.clear.new.self.tight_at.len = omega (arith, relaxes.tight_length, c.clear.new.self.tight_at.ok.0) in
     let of_length : length c.relax.new.parent_of ≡ c.clear.new.self.parent_of.len = omega (arith, relaxes.parent_length, c.clear.new.self.parent_of.ok.0) in
     let far_length : length c.clear.new.self.tight_at.items ≡ s.riders = rw far (length-replicate {A = ℕ} s.riders 18446744073709551615) in
@@ -28,6 +26,6 @@ returns-clause-tree c =
     record {
       grown = rw (vehicles, riders, parents, place) (IsGrown-root priced hk);
       reached = rw (vehicles, with_items_is c.clear.new.self.tight_at c.relax.new.tight_at tight_length, with_items_is c.clear.new.self.parent_of c.relax.new.parent_of of_length, c.clear.ensures.lowered)
-        (IsReached-root priced hk {huge = 18446744073709551615} c.row.ensures.length far_length po_length c.row.ensures.weights (λ j hj. rw far (get_or-replicate {A = ℕ} s.riders j 18446744073709551615 0 hj)) (omega arith) relaxes);
+          (IsReached-root priced hk {huge = 18446744073709551615} c.row.ensures.length far_length po_length c.row.ensures.weights (λ j hj. rw far (get_or-replicate {A = ℕ} s.riders j 18446744073709551615 0 hj)) (omega arith) relaxes);
       cheapest = rw (vehicles, c.clear.ensures.cheapest, c.clear.ensures.lowered) (IsCheapest-root priced hk);
     }

@@ -1,7 +1,7 @@
-use Rattle.std.proofs.Common.{◌≡◌, ℕ, length, slice_index, ◌∙◌, arith}
+use Rattle.std.proofs.Common.{◌≡◌, length, arith}
 use Rattle.std.proofs.lemmas.List.{with_items_is}
 use Rattle.rebalancing.specs.Relaxation.{Falls, Rises}
-use Rattle.rebalancing.proofs.Shifting.{vehicles_differ, riders_differ, IsPriced-shifted, IsGrown-shifted, IsReached-shifted, IsCheapest-shifted}
+use Rattle.rebalancing.proofs.Shifting.{vehicles_differ, IsPriced-shifted, IsGrown-shifted, IsReached-shifted, IsCheapest-shifted}
 use Rattle.rebalancing.proofs.matching.Matching.shift.Goals as goal
 
 pub lower-requires-clause-distinct : goal.lower-requires-clause-distinct

@@ -1,0 +1,3 @@
+pub mod ValueLemmas
+pub mod MarkLemmas
+pub mod WalkLemmas

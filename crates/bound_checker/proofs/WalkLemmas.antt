@@ -1,0 +1,83 @@
+-- A walk through a tree.
+use Rattle.std.proofs.Common.{◌≡◌, ◌⊎◌, ℕ, ◌+◌, ◌<◌, ◌≤◌, Bool, true, false, not, List, [], ◌∷◌, ◌++◌, length, get_or, take, slice_get, Option, Some, None, ℤ, MatchBool, Vec, Global, refl, sym, ap, ◌∙◌, subst, inl, inr, ⊎_elim, arith}
+use Rattle.std.specs.Vec.{with_items}
+use Rattle.std.proofs.lemmas.Bool.{cases_eq}
+use Rattle.std.proofs.lemmas.List.{with_items_is, take_more, get_or_push, get_or_append_left, length_push}
+use Rattle.plan_rules.specs.Graph.{Graph, IsRowOf}
+use Rattle.plan_rules.specs.Multipliers.{Usable}
+use Rattle.plan_rules.specs.Tree.{every_row, Reads, Place, places, places_from, least_leaf, with_leaf}
+use Rattle.plan_rules.specs.Path.{Standing, standing_of, root, decided, IsPathOf}
+use Rattle.plan_rules.specs.declared.node.Node.{Node}
+use Rattle.plan_rules.specs.declared.node.Node.TheVariants.{Branch, Leaf, Dead}
+use Rattle.plan_rules.specs.declared.path.Decision.{Decision}
+use Rattle.plan_rules.proofs.PathLemmas.{standing_start, standing_push}
+use Rattle.plan_rules.proofs.ReadLemmas.{reads_push, places_push, least_leaf_push}
+use Rattle.bound_checker.specs.declared.fault.CheckFault.{CheckFault}
+use Rattle.bound_checker.specs.declared.fault.CheckFault.TheVariants.{BadBranch, BadLeaf, BadDead, Unfinished, Extra, OutOfMemory}
+use Rattle.bound_checker.specs.Fault.{IsFaultOf, IsReached}
+use Rattle.bound_checker.specs.Visit.{coming_of, IsNodeFault}
+
+-- what is to come after an end
+pub coming_left : (g : Graph) (b : Bool) (old new : List Decision) → MatchBool b ((standing_of g old).coming ≡ (standing_of g new).usable ∷ (standing_of g new).coming) ((standing_of g old).coming ≡ []) → coming_of g (not b) new ≡ (standing_of g old).coming
+coming_left g true old new h = sym h
+coming_left g false old new h = sym h
+
+-- what is to come at the first subtree of a branch
+pub coming_entered : (g : Graph) (old new : List Decision) (v k : ℕ) → new ≡ old ++ record { vehicle = v; row = k; alone = true } ∷ [] → (standing_of g new).usable ∷ (standing_of g new).coming ≡ (decided g (standing_of g old) (record { vehicle = v; row = k; alone = true })).usable ∷ (decided g (standing_of g old) (record { vehicle = v; row = k; alone = true })).coming
+coming_entered g old new v k e =
+    ap (λ (p : List Decision). (standing_of g p).usable ∷ (standing_of g p).coming) e
+      ∙ ap (λ (s : Standing). s.usable ∷ s.coming) (standing_push g old (record { vehicle = v; row = k; alone = true }))
+
+pub path_push : (g : Graph) (path : List Decision) (e : Decision) → IsPathOf g path → (e.vehicle < g.vehicles) × IsRowOf g e.vehicle e.row → IsPathOf g (path ++ e ∷ [])
+path_push g path e before here k d l =
+    ⊎_elim
+      (λ (last : k ≡ length path). subst (λ (q : Decision). (q.vehicle < g.vehicles) × IsRowOf g q.vehicle q.row) (sym (get_or_push path e d k (sym last))) here)
+      (λ (other : k ≡ length path → ⊥).
+        let low : k < length path = omega (arith, l, length_push path e) in
+        subst (λ (q : Decision). (q.vehicle < g.vehicles) × IsRowOf g q.vehicle q.row) (sym (get_or_append_left path (e ∷ []) d k low)) (before k d low))
+      (cases_eq k (length path))
+
+pub path_none : (g : Graph) (path : List Decision) → path ≡ [] → IsPathOf g path
+path_none g path e = subst (IsPathOf g) (sym e) (λ k d l. absurd (omega (arith, l)))
+
+pub coming_start : (g : Graph) (path : List Decision) → path ≡ [] → (every_row ∷ []) ≡ coming_of g false path
+coming_start g path e = sym (ap (λ (p : List Decision). (standing_of g p).usable ∷ (standing_of g p).coming) e ∙ ap (λ (s : Standing). s.usable ∷ s.coming) (standing_start g))
+
+-- a fault of the node where the walk stands is one of the tree
+pub fault_here : (g : Graph) (nodes : List Node) (i : ℕ) (usable : Usable) (later : List Usable) (node : Node) (f : CheckFault) → Reads g (every_row ∷ []) (take i nodes) (usable ∷ later) → i < length nodes → slice_get nodes i ≡ Some node → IsNodeFault usable g node i f → IsFaultOf g nodes f
+fault_here g nodes i usable later node (BadBranch j) reads within here h =
+    let k = h.1 in
+    record {
+      usable = usable;
+      later = later;
+      vehicle = k.0;
+      row = k.1;
+      reached = subst (λ (q : ℕ). IsReached g nodes q (usable ∷ later) (Branch (k.0) (k.1))) (sym (h.0)) (record { before = reads; within = within; here = here ∙ ap Some (k.2) });
+      wrong = k.3
+    }
+fault_here g nodes i usable later node (BadLeaf j) reads within here h =
+    let k = h.1 in
+    record {
+      usable = usable;
+      later = later;
+      multipliers = k.0;
+      reached = subst (λ (q : ℕ). IsReached g nodes q (usable ∷ later) (Leaf (k.0))) (sym (h.0)) (record { before = reads; within = within; here = here ∙ ap Some (k.1) });
+      wrong = k.2
+    }
+fault_here g nodes i usable later node (BadDead j) reads within here h = record {
+    usable = usable;
+    later = later;
+    reached = subst (λ (q : ℕ). IsReached g nodes q (usable ∷ later) Dead) (sym (h.0)) (record { before = reads; within = within; here = here ∙ ap Some (h.1) });
+    wrong = h.2
+  }
+fault_here g nodes i usable later node Unfinished reads within here h = absurd h
+fault_here g nodes i usable later node (Extra j) reads within here h = absurd h
+fault_here g nodes i usable later node OutOfMemory reads within here h = tt
+
+-- one more node, and what its leaf shows
+pub least_more : (g : Graph) (nodes : List Node) (i : ℕ) (node : Node) (usable : Usable) (later : List Usable) (old new : Option ℤ) → take (i + 1) nodes ≡ take i nodes ++ node ∷ [] → Reads g (every_row ∷ []) (take i nodes) (usable ∷ later) → old ≡ least_leaf g (places g (take i nodes)) → new ≡ with_leaf g usable node old → new ≡ least_leaf g (places g (take (i + 1) nodes))
+least_more g nodes i node usable later old new more reads before here =
+    here ∙ ap (with_leaf g usable node) before
+      ∙ sym (ap (λ (xs : List Node). least_leaf g (places g xs)) more
+          ∙ ap (least_leaf g) (places_push g (take i nodes) node (every_row ∷ []) usable later reads)
+          ∙ least_leaf_push g (places g (take i nodes)) (record { node = node; usable = usable }))

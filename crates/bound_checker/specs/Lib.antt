@@ -1,0 +1,3 @@
+pub mod Fault
+pub mod Size
+pub mod Visit

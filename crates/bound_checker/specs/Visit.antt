@@ -1,0 +1,54 @@
+use Rattle.std.specs.Prelude.{◌≡◌, ◌≢◌, ℕ, ℤ, ◌<◌, Bool, true, false, IsTrue, List, [], ◌∷◌, length, slice_index_or, Option, MatchOption}
+use Rattle.plan_rules.specs.Graph.{Graph, has_rider}
+use Rattle.plan_rules.specs.Multipliers.{Usable}
+use Rattle.plan_rules.specs.Tree.{MayUse, IsSoleRow, CanBranch, IsDeadEnd, IsSoundNode, coming_after, with_leaf}
+use Rattle.plan_rules.specs.Path.{standing_of, IsPathOf}
+use Rattle.plan_rules.specs.declared.node.Node.{Node}
+use Rattle.plan_rules.specs.declared.node.Node.TheVariants.{Branch, Leaf, Dead}
+use Rattle.bound_checker.specs.declared.walk.Walk.{Walk}
+use Rattle.bound_checker.specs.declared.fault.CheckFault.{CheckFault}
+use Rattle.bound_checker.specs.declared.fault.CheckFault.TheVariants.{BadBranch, BadLeaf, BadDead, Unfinished, Extra, OutOfMemory}
+use Rattle.plan_rules.specs.declared.path.Decision.{Decision}
+
+-- the marked riders are those of the usable ones among the first n rows
+pub record MarksUsable (g : Graph) (usable : Usable) (n : ℕ) (marks : List Bool) : Type 0 where
+  pub from_row : (r : ℕ) → slice_index_or marks r false ≡ true → (k : ℕ) × (k < n) × IsTrue (usable k) × IsTrue (has_rider g k r)
+  pub of_row : (k r : ℕ) → k < n → IsTrue (usable k) → IsTrue (has_rider g k r) → slice_index_or marks r false ≡ true
+
+-- the marked riders are those of the sole rows of the first n vehicles, and no two of these rows share one
+pub record MarksSole (g : Graph) (usable : Usable) (n : ℕ) (marks : List Bool) : Type 0 where
+  pub from_sole : (r : ℕ) → slice_index_or marks r false ≡ true → (v : ℕ) × (k : ℕ) × (v < n) × IsSoleRow g usable v k × IsTrue (has_rider g k r)
+  pub of_sole : (v k r : ℕ) → v < n → IsSoleRow g usable v k → IsTrue (has_rider g k r) → slice_index_or marks r false ≡ true
+  pub apart : (v w j k r : ℕ) → v < n → w < n → v ≢ w → IsSoleRow g usable v j → IsSoleRow g usable w k → IsTrue (has_rider g j r) → IsTrue (has_rider g k r) → ⊥
+
+-- of the rows below n this is the only one that the vehicle may use, or there is none
+abbrev pub IsOnlyOf : Graph → Usable → ℕ → ℕ → Option ℕ → Type 0
+IsOnlyOf g usable v n sole =
+    MatchOption sole ((j : ℕ) → j < n → MayUse g usable v j → ⊥) (λ k. (k < n) × MayUse g usable v k × ((j : ℕ) → j < n → MayUse g usable v j → j ≡ k))
+
+-- the subtrees that a walk has before it: none once the tree has ended
+abbrev pub coming_of : Graph → Bool → List Decision → List Usable
+coming_of g true path = []
+coming_of g false path = (standing_of g path).usable ∷ (standing_of g path).coming
+
+-- the walk stands in the graph, and its work space has the right size
+pub record IsReady (g : Graph) (walk : Walk) : Type 0 where
+  pub path : IsPathOf g walk.path
+  pub usable : length walk.usable.items ≡ length g.rows
+  pub marks : length walk.marks.items ≡ g.riders
+
+-- the node is sound, the walk goes on to what comes after it, and notes what a leaf shows
+pub record IsVisit (g : Graph) (node : Node) (old new : Walk) : Type 0 where
+  pub sound : IsSoundNode g (standing_of g old.path).usable node
+  pub coming : coming_of g new.ended new.path ≡ coming_after g (standing_of g old.path).usable node (standing_of g old.path).coming
+  pub least : new.least ≡ with_leaf g (standing_of g old.path).usable node old.least
+  pub ready : IsReady g new
+
+-- why the node is refused
+abbrev pub IsNodeFault : Usable → Graph → Node → ℕ → CheckFault → Type 0
+IsNodeFault usable g node place (BadBranch i) = (i ≡ place) × ((v : ℕ) × (k : ℕ) × (node ≡ Branch v k) × (CanBranch g usable v k → ⊥))
+IsNodeFault usable g node place (BadLeaf i) = (i ≡ place) × ((ms : List ℤ) × (node ≡ Leaf ms) × (length ms ≡ g.riders → ⊥))
+IsNodeFault usable g node place (BadDead i) = (i ≡ place) × (node ≡ Dead) × (IsDeadEnd g usable → ⊥)
+IsNodeFault usable g node place Unfinished = ⊥
+IsNodeFault usable g node place (Extra i) = ⊥
+IsNodeFault usable g node place OutOfMemory = Unit {0}

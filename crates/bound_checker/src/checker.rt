@@ -1,0 +1,41 @@
+ghost use Rattle.std.specs.Prelude.{◌≡◌, ℕ, OnOk, IfOk, IfErr};
+ghost use Rattle.plan_rules.specs.Plan.{IsBound};
+ghost use Rattle.plan_rules.specs.Tree.{IsSoundTree, tree_value};
+ghost use Rattle.bound_checker.specs.Fault.{IsFaultOf};
+
+use crate::fault::CheckFault;
+use crate::walk::Walk;
+use plan_rules::{Path, Tree, TripGraph};
+use std::alloc::Global;
+
+/// The value of a sound tree, in seconds: no lawful plan costs less. `CheckFault` names the first node
+/// that is wrong.
+pub fn check(alloc: Global, graph: &TripGraph, tree: &Tree) -> Result<i128, CheckFault>
+    ensures sound { OnOk result (IsSoundTree graph.now tree.now) }
+    ensures value { IfOk result (λ bound. bound ≡ tree_value graph.now tree.now) }
+    ensures bound { IfOk result (IsBound graph.now) }
+    ensures fault { IfErr result (IsFaultOf graph.now tree.now) }
+{
+    let usable = vec![in alloc; true; graph.rows().len()]?;
+    let marks = vec![in alloc; false; graph.rider_count()]?;
+    let mut walk = Walk {
+        path: Path::new(alloc),
+        ended: false,
+        least: None,
+        usable,
+        marks,
+    };
+    for (place, node) in tree.nodes().iter().enumerate() {
+        if walk.ended {
+            return Err(CheckFault::Extra { node: place as u64 });
+        }
+        match walk.visit(graph, node, place) {
+            Ok(()) => {}
+            Err(fault) => return Err(fault),
+        }
+    }
+    if !walk.ended {
+        return Err(CheckFault::Unfinished);
+    }
+    Ok(walk.least.unwrap_or(0))
+}

@@ -1,0 +1,7 @@
+use Rattle.std.proofs.Common.{◌≡◌, ◌++◌, take}
+use Rattle.std.specs.List.{flat_map}
+use Rattle.dispatch_report.specs.Words.{spaced}
+use Rattle.dispatch_report.proofs.words.put_riders.Given as goal
+
+abbrev pub invariant-loop-rider : goal.invariant-loop-rider
+invariant-loop-rider l = l.line.items ≡ l.initial.line.items ++ flat_map spaced (take l.rider-index l.riders)

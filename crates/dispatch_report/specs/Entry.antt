@@ -1,0 +1,75 @@
+-- The line of a journal's entry: its position, its lane, the command with its fields, and the reply.
+use Rattle.std.specs.Prelude.{ℕ, ◌==◌, List, [], ◌++◌, Option, None, Some, codes, decimal, if◌then◌else◌}
+use Rattle.dispatch_report.specs.Words.{spaced}
+use Rattle.request_book.specs.declared.command.Command.{Command}
+use Rattle.request_book.specs.declared.command.Command.TheVariants.{Submit, Cancel, Report, Pickup, Dropoff, Seal, Close}
+use Rattle.request_book.specs.declared.journal.Entry.{Entry}
+use Rattle.request_book.specs.declared.reply.BookRefusal.{BookRefusal}
+use Rattle.request_book.specs.declared.reply.BookRefusal.TheVariants.{DuplicateRider, UnknownNode, SamePlace, PoolFull, BookFull, UnknownRider, IsAboard, Ended, UnknownVehicle, TimeBack, NotPromised, VehicleFull, NotAboard, BatchOpen, ClockBack, NotThisBatch}
+use Rattle.request_book.specs.declared.reply.Reply.{Reply}
+use Rattle.request_book.specs.declared.reply.Reply.TheVariants.{Accepted, Cancelled, Placed, Picked, Dropped, Sealed, Closed, Refused}
+use Rattle.request_book.specs.declared.rider.Status.{Status}
+use Rattle.request_book.specs.declared.rider.Status.TheVariants.{Waiting, Promised, Aboard, Cancelled as GivenUp, Delivered, Expired}
+
+-- the party where it isn't one person
+abbrev pub party_text : ℕ → List ℕ
+party_text persons = if persons == 1 then [] else spaced persons
+
+-- a command with its fields
+abbrev pub command_text : Command → List ℕ
+command_text (Submit rider origin destination time party) =
+    codes "submit" ++ spaced rider ++ spaced origin ++ spaced destination ++ spaced time ++ party_text party
+command_text (Cancel rider) = codes "cancel" ++ spaced rider
+command_text (Report vehicle node time) = codes "report" ++ spaced vehicle ++ spaced node ++ spaced time
+command_text (Pickup vehicle rider time) = codes "pickup" ++ spaced vehicle ++ spaced rider ++ spaced time
+command_text (Dropoff vehicle rider time) = codes "dropoff" ++ spaced vehicle ++ spaced rider ++ spaced time
+command_text (Seal now) = codes "seal" ++ spaced now
+command_text (Close batch outcome) = codes "close" ++ spaced batch
+
+-- the word of a status
+abbrev pub status_text : Status → List ℕ
+status_text Waiting = codes "waiting"
+status_text (Promised p) = codes "promised"
+status_text (Aboard v) = codes "aboard"
+status_text GivenUp = codes "cancelled"
+status_text Delivered = codes "delivered"
+status_text Expired = codes "expired"
+
+-- a space and a number, or `none`
+abbrev pub spaced_or_none : Option ℕ → List ℕ
+spaced_or_none None = codes " none"
+spaced_or_none (Some n) = spaced n
+
+-- the words of a refusal
+abbrev pub refusal_text : BookRefusal → List ℕ
+refusal_text DuplicateRider = codes "duplicate-rider"
+refusal_text UnknownNode = codes "unknown-node"
+refusal_text SamePlace = codes "same-place"
+refusal_text PoolFull = codes "pool-full"
+refusal_text BookFull = codes "book-full"
+refusal_text UnknownRider = codes "unknown-rider"
+refusal_text (IsAboard vehicle) = codes "is-aboard" ++ spaced vehicle
+refusal_text (Ended status) = codes "ended " ++ status_text status
+refusal_text UnknownVehicle = codes "unknown-vehicle"
+refusal_text (TimeBack last) = codes "time-back" ++ spaced last
+refusal_text (NotPromised holder) = codes "not-promised" ++ spaced_or_none holder
+refusal_text VehicleFull = codes "vehicle-full"
+refusal_text NotAboard = codes "not-aboard"
+refusal_text (BatchOpen batch) = codes "batch-open" ++ spaced batch
+refusal_text (ClockBack last) = codes "clock-back" ++ spaced last
+refusal_text (NotThisBatch current) = codes "not-this-batch" ++ spaced_or_none current
+
+-- the words of a reply
+abbrev pub reply_text : Reply → List ℕ
+reply_text Accepted = codes "accepted"
+reply_text Cancelled = codes "cancelled"
+reply_text Placed = codes "placed"
+reply_text Picked = codes "picked"
+reply_text Dropped = codes "dropped"
+reply_text (Sealed batch) = codes "sealed" ++ spaced batch
+reply_text Closed = codes "closed"
+reply_text (Refused refusal) = codes "refused " ++ refusal_text refusal
+
+-- the line of an entry at its position
+abbrev pub entry_line : ℕ → Entry → List ℕ
+entry_line position e = decimal position ++ spaced e.lane ++ codes " " ++ command_text e.command ++ codes " " ++ reply_text e.reply

@@ -1,0 +1,6 @@
+pub mod Lines
+pub mod Words
+pub mod Entry
+pub mod Block
+pub mod Round
+pub mod Head

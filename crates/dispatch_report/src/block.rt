@@ -1,0 +1,412 @@
+ghost use Rattle.std.specs.Prelude.{◌≡◌, ◌≤◌, ◌++◌, ◌∷◌, [], List, ℕ, OnOk, map, codes, length, Bool};
+ghost use Rattle.std.specs.Result.{IsErrOf};
+ghost use Rattle.dispatch_report.specs.Block.{stop_text, stops_text, expired_line, lapsed_line, late_order, late_line, rv_line, rr_line, row_line, trip_line, out_line, move_line, vehicle_of_row, node_line, graph_lines, plan_lines, bound_lines, tree_lines, answer_lines, block_lines};
+ghost use Rattle.dispatch_report.specs.Lines.{TakesLines};
+ghost use Rattle.dispatch_report.specs.Words.{spaced, spaced_signed};
+ghost use Rattle.pool_io.specs.Faults.{Rose};
+
+use crate::fault::ReportFault;
+use crate::lines::{Line, write_line, write_lines, write_list};
+use crate::words::{put_multipliers, put_riders, put_spaced, put_spaced_signed};
+use plan_rules::{Node, Tree};
+use pool_base::{OutOfMemory, RiderId, VehicleId, put_number};
+use pool_io::Sink;
+use request_book::{
+    Answer, ChosenTrip, LateVehicle, MoveLine, Outcome, Planned, PlannedStop, RowLine,
+};
+
+/// Writes the block of a closed batch.
+pub(crate) fn write_block<K: Sink>(
+    sink: &mut K,
+    line: &mut Vec<u8>,
+    batch: u64,
+    outcome: &Outcome,
+    proof: bool,
+) -> Result<(), ReportFault>
+    requires { line.old.items ≡ [] }
+    ensures lines { TakesLines (K.written sink.old) (K.written sink.new) (block_lines proof batch outcome.now) result }
+    ensures empty { OnOk result (line.new.items ≡ []) }
+    ensures fault { IsErrOf result ReportFault.WriteFault → Rose (K.faults sink.old) (K.faults sink.new) }
+    ensures never_falls { K.faults sink.old ≤ K.faults sink.new }
+{
+    write_number(sink, line, b"batch", batch)?;
+    write_list(sink, line, &Expired, &outcome.expired)?;
+    write_answer(sink, line, &outcome.answer, proof)?;
+    write_words(sink, line, b"end")?;
+    Ok(())
+}
+
+fn write_answer<K: Sink>(
+    sink: &mut K,
+    line: &mut Vec<u8>,
+    answer: &Answer,
+    proof: bool,
+) -> Result<(), ReportFault>
+    requires { line.old.items ≡ [] }
+    ensures lines { TakesLines (K.written sink.old) (K.written sink.new) (answer_lines proof answer.now) result }
+    ensures empty { OnOk result (line.new.items ≡ []) }
+    ensures fault { IsErrOf result ReportFault.WriteFault → Rose (K.faults sink.old) (K.faults sink.new) }
+    ensures never_falls { K.faults sink.old ≤ K.faults sink.new }
+{
+    match answer {
+        Answer::Overflow => write_words(sink, line, b"overflow"),
+        Answer::Planned(plan) => {
+            write_graphs(sink, line, plan)?;
+            write_plan(sink, line, plan)?;
+            write_bound(sink, line, plan)?;
+            write_tree(sink, line, plan, proof)?;
+            Ok(())
+        }
+    }
+}
+
+fn write_graphs<K: Sink>(
+    sink: &mut K,
+    line: &mut Vec<u8>,
+    plan: &Planned,
+) -> Result<(), ReportFault>
+    requires { line.old.items ≡ [] }
+    ensures lines { TakesLines (K.written sink.old) (K.written sink.new) (graph_lines plan.now) result }
+    ensures empty { OnOk result (line.new.items ≡ []) }
+    ensures fault { IsErrOf result ReportFault.WriteFault → Rose (K.faults sink.old) (K.faults sink.new) }
+    ensures never_falls { K.faults sink.old ≤ K.faults sink.new }
+{
+    write_list(sink, line, &Lapsed, &plan.lapsed)?;
+    write_list(sink, line, &Late, &plan.late)?;
+    write_list(sink, line, &Rv, &plan.rv)?;
+    write_list(sink, line, &Rr, &plan.rr)?;
+    write_list(sink, line, &Row, &plan.rows)?;
+    Ok(())
+}
+
+fn write_plan<K: Sink>(sink: &mut K, line: &mut Vec<u8>, plan: &Planned) -> Result<(), ReportFault>
+    requires { line.old.items ≡ [] }
+    ensures lines { TakesLines (K.written sink.old) (K.written sink.new) (plan_lines plan.now) result }
+    ensures empty { OnOk result (line.new.items ≡ []) }
+    ensures fault { IsErrOf result ReportFault.WriteFault → Rose (K.faults sink.old) (K.faults sink.new) }
+    ensures never_falls { K.faults sink.old ≤ K.faults sink.new }
+{
+    write_list(sink, line, &Trip, &plan.chosen)?;
+    write_list(sink, line, &Out, &plan.left)?;
+    write_list(sink, line, &Move, &plan.moves)?;
+    Ok(())
+}
+
+fn write_bound<K: Sink>(sink: &mut K, line: &mut Vec<u8>, plan: &Planned) -> Result<(), ReportFault>
+    requires { line.old.items ≡ [] }
+    ensures lines { TakesLines (K.written sink.old) (K.written sink.new) (bound_lines plan.now) result }
+    ensures empty { OnOk result (line.new.items ≡ []) }
+    ensures fault { IsErrOf result ReportFault.WriteFault → Rose (K.faults sink.old) (K.faults sink.new) }
+    ensures never_falls { K.faults sink.old ≤ K.faults sink.new }
+{
+    write_number(sink, line, b"cost", plan.cost)?;
+    write_signed(sink, line, b"bound", &plan.bound)?;
+    write_nodes(sink, line, &plan.tree)?;
+    Ok(())
+}
+
+fn write_nodes<K: Sink>(sink: &mut K, line: &mut Vec<u8>, tree: &Tree) -> Result<(), ReportFault>
+    requires { line.old.items ≡ [] }
+    ensures lines { TakesLines (K.written sink.old) (K.written sink.new) ((codes "nodes" ++ spaced (length tree.now)) ∷ []) result }
+    ensures empty { OnOk result (line.new.items ≡ []) }
+    ensures fault { IsErrOf result ReportFault.WriteFault → Rose (K.faults sink.old) (K.faults sink.new) }
+    ensures never_falls { K.faults sink.old ≤ K.faults sink.new }
+{
+    write_number(sink, line, b"nodes", tree.nodes().len() as u64)
+}
+
+fn write_tree<K: Sink>(
+    sink: &mut K,
+    line: &mut Vec<u8>,
+    plan: &Planned,
+    proof: bool,
+) -> Result<(), ReportFault>
+    requires { line.old.items ≡ [] }
+    ensures lines { TakesLines (K.written sink.old) (K.written sink.new) (tree_lines proof plan.now) result }
+    ensures empty { OnOk result (line.new.items ≡ []) }
+    ensures fault { IsErrOf result ReportFault.WriteFault → Rose (K.faults sink.old) (K.faults sink.new) }
+    ensures never_falls { K.faults sink.old ≤ K.faults sink.new }
+{
+    if proof {
+        write_lines(
+            sink,
+            line,
+            &TreeNode {
+                rows: plan.rows.as_slice(),
+            },
+            plan.tree.nodes(),
+        )
+    } else {
+        Ok(())
+    }
+}
+
+/// Writes a line of these words.
+pub(crate) fn write_words<K: Sink>(
+    sink: &mut K,
+    line: &mut Vec<u8>,
+    words: &[u8],
+) -> Result<(), ReportFault>
+    requires { line.old.items ≡ [] }
+    ensures lines { TakesLines (K.written sink.old) (K.written sink.new) (words.now ∷ []) result }
+    ensures empty { OnOk result (line.new.items ≡ []) }
+    ensures fault { IsErrOf result ReportFault.WriteFault → Rose (K.faults sink.old) (K.faults sink.new) }
+    ensures never_falls { K.faults sink.old ≤ K.faults sink.new }
+{
+    put_words(line, words)?;
+    write_line(sink, line)
+}
+
+/// Writes a line of a word and a number.
+pub(crate) fn write_number<K: Sink>(
+    sink: &mut K,
+    line: &mut Vec<u8>,
+    word: &[u8],
+    number: u64,
+) -> Result<(), ReportFault>
+    requires { line.old.items ≡ [] }
+    ensures lines { TakesLines (K.written sink.old) (K.written sink.new) ((word.now ++ spaced number) ∷ []) result }
+    ensures empty { OnOk result (line.new.items ≡ []) }
+    ensures fault { IsErrOf result ReportFault.WriteFault → Rose (K.faults sink.old) (K.faults sink.new) }
+    ensures never_falls { K.faults sink.old ≤ K.faults sink.new }
+{
+    put_number_line(line, word, number)?;
+    write_line(sink, line)
+}
+
+fn write_signed<K: Sink>(
+    sink: &mut K,
+    line: &mut Vec<u8>,
+    word: &[u8],
+    number: &i128,
+) -> Result<(), ReportFault>
+    requires { line.old.items ≡ [] }
+    ensures lines { TakesLines (K.written sink.old) (K.written sink.new) ((word.now ++ spaced_signed number.now) ∷ []) result }
+    ensures empty { OnOk result (line.new.items ≡ []) }
+    ensures fault { IsErrOf result ReportFault.WriteFault → Rose (K.faults sink.old) (K.faults sink.new) }
+    ensures never_falls { K.faults sink.old ≤ K.faults sink.new }
+{
+    put_signed_line(line, word, number)?;
+    write_line(sink, line)
+}
+
+fn put_number_line(line: &mut Vec<u8>, word: &[u8], number: u64) -> Result<(), OutOfMemory>
+    ensures { OnOk result (line.new.items ≡ line.old.items ++ (word.now ++ spaced number)) }
+{
+    line.extend_from_slice(word)?;
+    put_spaced(line, number)
+}
+
+fn put_signed_line(line: &mut Vec<u8>, word: &[u8], number: &i128) -> Result<(), OutOfMemory>
+    ensures { OnOk result (line.new.items ≡ line.old.items ++ (word.now ++ spaced_signed number.now)) }
+{
+    line.extend_from_slice(word)?;
+    put_spaced_signed(line, *number)
+}
+
+fn put_words(line: &mut Vec<u8>, words: &[u8]) -> Result<(), OutOfMemory>
+    ensures { OnOk result (line.new.items ≡ line.old.items ++ words.now) }
+{
+    line.extend_from_slice(words)?;
+    Ok(())
+}
+
+fn put_rider(line: &mut Vec<u8>, word: &[u8], rider: RiderId) -> Result<(), OutOfMemory>
+    ensures { OnOk result (line.new.items ≡ line.old.items ++ (word.now ++ spaced rider)) }
+{
+    put_number_line(line, word, u64::from(rider.get()))
+}
+
+#[derive(Drop)]
+struct Expired;
+
+impl Line for Expired {
+    type Item = RiderId;
+
+    ghost text = { λ _ rider. expired_line rider };
+
+    fn put(&self, line: &mut Vec<u8>, rider: &RiderId) -> Result<(), OutOfMemory> {
+        put_rider(line, b"expired", *rider)
+    }
+}
+
+#[derive(Drop)]
+struct Lapsed;
+
+impl Line for Lapsed {
+    type Item = RiderId;
+
+    ghost text = { λ _ rider. lapsed_line rider };
+
+    fn put(&self, line: &mut Vec<u8>, rider: &RiderId) -> Result<(), OutOfMemory> {
+        put_rider(line, b"lapsed", *rider)
+    }
+}
+
+#[derive(Drop)]
+struct Out;
+
+impl Line for Out {
+    type Item = RiderId;
+
+    ghost text = { λ _ rider. out_line rider };
+
+    fn put(&self, line: &mut Vec<u8>, rider: &RiderId) -> Result<(), OutOfMemory> {
+        put_rider(line, b"out", *rider)
+    }
+}
+
+#[derive(Drop)]
+struct Late;
+
+impl Line for Late {
+    type Item = LateVehicle;
+
+    ghost text = { λ _ late. late_line late };
+
+    fn put(&self, line: &mut Vec<u8>, late: &LateVehicle) -> Result<(), OutOfMemory> {
+        line.extend_from_slice(b"late")?;
+        put_spaced(line, u64::from(late.vehicle.get()))?;
+        put_late_order(line, late)
+    }
+}
+
+fn put_late_order(line: &mut Vec<u8>, late: &LateVehicle) -> Result<(), OutOfMemory>
+    ensures { OnOk result (line.new.items ≡ line.old.items ++ late_order late.now) }
+{
+    match &late.stops {
+        None => put_words(line, b" none"),
+        Some(stops) => {
+            put_spaced(line, late.delay)?;
+            put_stops(line, stops.as_slice())
+        }
+    }
+}
+
+#[derive(Drop)]
+struct Rv;
+
+impl Line for Rv {
+    type Item = (VehicleId, RiderId);
+
+    ghost text = { λ _ edge. rv_line edge };
+
+    fn put(&self, line: &mut Vec<u8>, edge: &(VehicleId, RiderId)) -> Result<(), OutOfMemory> {
+        put_number_line(line, b"rv", u64::from(edge.0.get()))?;
+        put_spaced(line, u64::from(edge.1.get()))
+    }
+}
+
+#[derive(Drop)]
+struct Rr;
+
+impl Line for Rr {
+    type Item = (RiderId, RiderId);
+
+    ghost text = { λ _ edge. rr_line edge };
+
+    fn put(&self, line: &mut Vec<u8>, edge: &(RiderId, RiderId)) -> Result<(), OutOfMemory> {
+        put_number_line(line, b"rr", u64::from(edge.0.get()))?;
+        put_spaced(line, u64::from(edge.1.get()))
+    }
+}
+
+#[derive(Drop)]
+struct Row;
+
+impl Line for Row {
+    type Item = RowLine;
+
+    ghost text = { λ _ row. row_line row };
+
+    fn put(&self, line: &mut Vec<u8>, row: &RowLine) -> Result<(), OutOfMemory> {
+        put_number_line(line, b"row", u64::from(row.vehicle.get()))?;
+        put_spaced(line, row.cost)?;
+        put_riders(line, row.riders.as_slice())
+    }
+}
+
+#[derive(Drop)]
+struct Trip;
+
+impl Line for Trip {
+    type Item = ChosenTrip;
+
+    ghost text = { λ _ trip. trip_line trip };
+
+    fn put(&self, line: &mut Vec<u8>, trip: &ChosenTrip) -> Result<(), OutOfMemory> {
+        put_number_line(line, b"trip", u64::from(trip.vehicle.get()))?;
+        put_spaced(line, trip.cost)?;
+        put_stops(line, trip.stops.as_slice())
+    }
+}
+
+#[derive(Drop)]
+struct Move;
+
+impl Line for Move {
+    type Item = MoveLine;
+
+    ghost text = { λ _ m. move_line m };
+
+    fn put(&self, line: &mut Vec<u8>, item: &MoveLine) -> Result<(), OutOfMemory> {
+        put_number_line(line, b"move", u64::from(item.vehicle.get()))?;
+        put_spaced(line, u64::from(item.rider.get()))?;
+        put_spaced(line, u64::from(item.seconds))
+    }
+}
+
+/// A node of a tree, beside the rows that its branches name.
+#[derive(Drop)]
+struct TreeNode<'a> {
+    rows: &'a [RowLine],
+}
+
+impl<'a> Line for TreeNode<'a> {
+    type Item = Node;
+
+    ghost text = { λ kind node. node_line kind.rows.now node };
+
+    fn put(&self, line: &mut Vec<u8>, node: &Node) -> Result<(), OutOfMemory> {
+        match node {
+            Node::Branch { row, .. } => {
+                put_number_line(line, b"branch", row_vehicle(self.rows, *row))?;
+                put_spaced(line, u64::from(*row))
+            }
+            Node::Leaf { multipliers } => {
+                line.extend_from_slice(b"leaf")?;
+                put_multipliers(line, multipliers.as_slice())
+            }
+            Node::Dead => put_words(line, b"dead"),
+        }
+    }
+}
+
+fn row_vehicle(rows: &[RowLine], row: u32) -> u64
+    ensures { result ≡ vehicle_of_row rows.now row }
+{
+    match rows.get(row as usize) {
+        Some(line) => u64::from(line.vehicle.get()),
+        None => 0,
+    }
+}
+
+fn put_stops(line: &mut Vec<u8>, stops: &[PlannedStop]) -> Result<(), OutOfMemory>
+    ensures { OnOk result (line.new.items ≡ line.old.items ++ stops_text stops.now) }
+{
+    for stop in stops {
+        put_stop(line, stop)?;
+    }
+    Ok(())
+}
+
+fn put_stop(line: &mut Vec<u8>, stop: &PlannedStop) -> Result<(), OutOfMemory>
+    ensures { OnOk result (line.new.items ≡ line.old.items ++ stop_text stop.now) }
+{
+    put_words(line, if stop.pick { b" pick:" } else { b" drop:" })?;
+    put_number(line, u64::from(stop.rider.get()))?;
+    line.extend_from_slice(b"@")?;
+    put_number(line, u64::from(stop.node.get()))?;
+    line.extend_from_slice(b":")?;
+    put_number(line, stop.second)
+}

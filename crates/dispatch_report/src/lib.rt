@@ -1,0 +1,18 @@
+//! The texts that the program writes: the head of a report, a round with its batches, and the end.
+//!
+//! Every text is a list of lines, and each call says which lines the sink has taken: all of them, or with
+//! an error a beginning that isn't the whole. At most one line is kept in memory at a time.
+#![tactic(auto)]
+
+mod block;
+mod entry;
+mod fault;
+mod head;
+mod lines;
+mod reply;
+mod round;
+mod words;
+
+pub use fault::ReportFault;
+pub use head::write_head;
+pub use round::{write_end, write_round};

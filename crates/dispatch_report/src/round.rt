@@ -1,0 +1,176 @@
+ghost use Rattle.std.specs.Prelude.{◌≡◌, ◌≤◌, ◌++◌, ◌∷◌, [], OnOk, OnErr, codes};
+ghost use Rattle.std.specs.Io.KnownBytes.{Appends};
+ghost use Rattle.std.specs.Result.{IsErrOf};
+ghost use Rattle.dispatch_report.specs.Entry.{entry_line};
+ghost use Rattle.dispatch_report.specs.Lines.{TakesLines};
+ghost use Rattle.dispatch_report.specs.Round.{closed_block, entry_block, entry_lines, entries_lines, round_text, end_text};
+ghost use Rattle.dispatch_report.specs.Words.{spaced};
+ghost use Rattle.pool_io.specs.Faults.{Rose};
+ghost use Rattle.pool_io.specs.Sink.{AppendsPart};
+
+use crate::block::{write_block, write_number};
+use crate::entry::put_entry;
+use crate::fault::ReportFault;
+use crate::lines::write_line;
+use pool_io::Sink;
+use request_book::{Command, Entry, Journal, Outcome, Reply};
+use std::alloc::Global;
+
+/// Writes the text of a round: its number, each entry, and after a close the block of its batch, with the
+/// search tree where `proof` is set.
+///
+/// After either fault a part of the text was written, from its front and not the whole.
+pub fn write_round<K: Sink>(
+    alloc: Global,
+    sink: &mut K,
+    number: u32,
+    journal: &Journal,
+    proof: bool,
+) -> Result<(), ReportFault>
+    ensures whole { OnOk result (Appends (K.written sink.old) (K.written sink.new) (round_text number proof journal.now)) }
+    ensures part { OnErr result (AppendsPart (K.written sink.old) (K.written sink.new) (round_text number proof journal.now)) }
+    ensures fault { IsErrOf result ReportFault.WriteFault → Rose (K.faults sink.old) (K.faults sink.new) }
+    ensures never_falls { K.faults sink.old ≤ K.faults sink.new }
+{
+    let mut line = Vec::new(alloc);
+    write_round_line(sink, &mut line, number)?;
+    write_journal(sink, &mut line, journal, proof)?;
+    Ok(())
+}
+
+/// Writes the last line of a report.
+///
+/// After either fault a part of the text was written, from its front and not the whole.
+pub fn write_end<K: Sink>(alloc: Global, sink: &mut K, entries: u64) -> Result<(), ReportFault>
+    ensures whole { OnOk result (Appends (K.written sink.old) (K.written sink.new) (end_text entries)) }
+    ensures part { OnErr result (AppendsPart (K.written sink.old) (K.written sink.new) (end_text entries)) }
+    ensures fault { IsErrOf result ReportFault.WriteFault → Rose (K.faults sink.old) (K.faults sink.new) }
+    ensures never_falls { K.faults sink.old ≤ K.faults sink.new }
+{
+    let mut line = Vec::new(alloc);
+    write_number(sink, &mut line, b"done", entries)
+}
+
+fn write_round_line<K: Sink>(
+    sink: &mut K,
+    line: &mut Vec<u8>,
+    number: u32,
+) -> Result<(), ReportFault>
+    requires { line.old.items ≡ [] }
+    ensures lines { TakesLines (K.written sink.old) (K.written sink.new) ((codes "round" ++ spaced number) ∷ []) result }
+    ensures empty { OnOk result (line.new.items ≡ []) }
+    ensures fault { IsErrOf result ReportFault.WriteFault → Rose (K.faults sink.old) (K.faults sink.new) }
+    ensures never_falls { K.faults sink.old ≤ K.faults sink.new }
+{
+    write_number(sink, line, b"round", u64::from(number))
+}
+
+fn write_journal<K: Sink>(
+    sink: &mut K,
+    line: &mut Vec<u8>,
+    journal: &Journal,
+    proof: bool,
+) -> Result<(), ReportFault>
+    requires { line.old.items ≡ [] }
+    ensures lines { TakesLines (K.written sink.old) (K.written sink.new) (entries_lines proof journal.now.first journal.now.entries) result }
+    ensures empty { OnOk result (line.new.items ≡ []) }
+    ensures fault { IsErrOf result ReportFault.WriteFault → Rose (K.faults sink.old) (K.faults sink.new) }
+    ensures never_falls { K.faults sink.old ≤ K.faults sink.new }
+{
+    write_entries(sink, line, journal.first, journal.entries.as_slice(), proof)
+}
+
+fn write_entries<K: Sink>(
+    sink: &mut K,
+    line: &mut Vec<u8>,
+    first: u64,
+    entries: &[Entry],
+    proof: bool,
+) -> Result<(), ReportFault>
+    requires { line.old.items ≡ [] }
+    ensures lines { TakesLines (K.written sink.old) (K.written sink.new) (entries_lines proof first entries.now) result }
+    ensures empty { OnOk result (line.new.items ≡ []) }
+    ensures fault { IsErrOf result ReportFault.WriteFault → Rose (K.faults sink.old) (K.faults sink.new) }
+    ensures never_falls { K.faults sink.old ≤ K.faults sink.new }
+{
+    let mut position = first;
+    for entry in entries {
+        write_entry(sink, line, position, entry, proof)?;
+        position = position.saturating_add(1);
+    }
+    Ok(())
+}
+
+fn write_entry<K: Sink>(
+    sink: &mut K,
+    line: &mut Vec<u8>,
+    position: u64,
+    entry: &Entry,
+    proof: bool,
+) -> Result<(), ReportFault>
+    requires { line.old.items ≡ [] }
+    ensures lines { TakesLines (K.written sink.old) (K.written sink.new) (entry_lines proof position entry.now) result }
+    ensures empty { OnOk result (line.new.items ≡ []) }
+    ensures fault { IsErrOf result ReportFault.WriteFault → Rose (K.faults sink.old) (K.faults sink.new) }
+    ensures never_falls { K.faults sink.old ≤ K.faults sink.new }
+{
+    write_entry_line(sink, line, position, entry)?;
+    write_entry_block(sink, line, entry, proof)?;
+    Ok(())
+}
+
+fn write_entry_line<K: Sink>(
+    sink: &mut K,
+    line: &mut Vec<u8>,
+    position: u64,
+    entry: &Entry,
+) -> Result<(), ReportFault>
+    requires { line.old.items ≡ [] }
+    ensures lines { TakesLines (K.written sink.old) (K.written sink.new) (entry_line position entry.now ∷ []) result }
+    ensures empty { OnOk result (line.new.items ≡ []) }
+    ensures fault { IsErrOf result ReportFault.WriteFault → Rose (K.faults sink.old) (K.faults sink.new) }
+    ensures never_falls { K.faults sink.old ≤ K.faults sink.new }
+{
+    put_entry(line, position, entry)?;
+    write_line(sink, line)
+}
+
+fn write_entry_block<K: Sink>(
+    sink: &mut K,
+    line: &mut Vec<u8>,
+    entry: &Entry,
+    proof: bool,
+) -> Result<(), ReportFault>
+    requires { line.old.items ≡ [] }
+    ensures lines { TakesLines (K.written sink.old) (K.written sink.new) (entry_block proof entry.now.command entry.now.reply) result }
+    ensures empty { OnOk result (line.new.items ≡ []) }
+    ensures fault { IsErrOf result ReportFault.WriteFault → Rose (K.faults sink.old) (K.faults sink.new) }
+    ensures never_falls { K.faults sink.old ≤ K.faults sink.new }
+{
+    match &entry.command {
+        Command::Close { batch, outcome } => {
+            write_closed(sink, line, *batch, outcome, entry.reply, proof)
+        }
+        _ => Ok(()),
+    }
+}
+
+fn write_closed<K: Sink>(
+    sink: &mut K,
+    line: &mut Vec<u8>,
+    batch: u64,
+    outcome: &Outcome,
+    reply: Reply,
+    proof: bool,
+) -> Result<(), ReportFault>
+    requires { line.old.items ≡ [] }
+    ensures lines { TakesLines (K.written sink.old) (K.written sink.new) (closed_block proof batch outcome.now reply) result }
+    ensures empty { OnOk result (line.new.items ≡ []) }
+    ensures fault { IsErrOf result ReportFault.WriteFault → Rose (K.faults sink.old) (K.faults sink.new) }
+    ensures never_falls { K.faults sink.old ≤ K.faults sink.new }
+{
+    match reply {
+        Reply::Closed => write_block(sink, line, batch, outcome, proof),
+        _ => Ok(()),
+    }
+}

@@ -1,0 +1,131 @@
+//! The first-fit multipliers: one pass over the riders.
+ghost use Rattle.std.specs.Prelude.{◌≡◌, ◌*◌, ◌<◌, ◌≤◌, ℕ, All, IfOk, IfSome, length, slice_index_or, ℤ, pos, neg_ℤ, ◌≤ℤ◌, ◌-ℤ◌, ◌*ℤ◌};
+ghost use Rattle.plan_rules.specs.Sums.{lesser};
+ghost use Rattle.plan_rules.specs.Multipliers.{usable_of, first_fit, first_fit_of, room_at, multiplier_at, multiplier_sum};
+ghost use Rattle.dual_bound.specs.Size.{IsCost, IsModest, HasLeastCosts};
+
+use crate::cheapest::least_costs;
+use plan_rules::{Multipliers, TripGraph, TripRow};
+use pool_base::OutOfMemory;
+use std::alloc::Global;
+
+/// For each rider by rising index the least of the penalty and, over the allowed rows that have her, of
+/// what the row costs above its vehicle's cheapest allowed one, less the multipliers of its earlier
+/// riders, in 1/1024 second.
+pub fn first_fit(alloc: Global, graph: &TripGraph, allowed: &[bool]) -> Result<Multipliers, OutOfMemory>
+    requires { length allowed.now ≡ length graph.now.rows }
+    ensures value { IfOk result (λ ms. ms ≡ first_fit graph.now (usable_of allowed.now)) }
+    ensures len { IfOk result (λ ms. length ms ≡ graph.now.riders) }
+{
+    let costs = least_costs(alloc, graph, allowed)?;
+    let mut multipliers: Vec<i64> = vec![in alloc; 0; graph.rider_count()]?;
+    fit(graph, allowed, &costs, &mut multipliers);
+    Ok(Multipliers::of(multipliers))
+}
+
+/// Writes each rider's multiplier in place of a 0.
+fn fit(graph: &TripGraph, allowed: &[bool], costs: &[i64], multipliers: &mut [i64])
+    requires allowed { length allowed.now ≡ length graph.now.rows }
+    requires costs { HasLeastCosts graph.now (usable_of allowed.now) costs.now }
+    requires multipliers { length multipliers.old ≡ graph.now.riders }
+    requires none { (r : ℕ) → multiplier_at multipliers.old r ≡ pos 0 }
+    ensures value { multipliers.new ≡ first_fit graph.now (usable_of allowed.now) }
+    ensures len { length multipliers.new ≡ length multipliers.old }
+{
+    for rider in 0..multipliers.len() {
+        let next = first_fit_at(graph, allowed, costs, multipliers, rider);
+        multipliers[rider] = next;
+    }
+}
+
+/// The next rider's multiplier, where those of later riders are still 0.
+fn first_fit_at(
+    graph: &TripGraph,
+    allowed: &[bool],
+    costs: &[i64],
+    multipliers: &[i64],
+    rider: usize,
+) -> i64
+    requires allowed { length allowed.now ≡ length graph.now.rows }
+    requires costs { HasLeastCosts graph.now (usable_of allowed.now) costs.now }
+    requires multipliers { length multipliers.now ≡ graph.now.riders }
+    requires modest { (r : ℕ) → IsModest (multiplier_at multipliers.now r) }
+    ensures value { result ≡ first_fit_of graph.now (usable_of allowed.now) multipliers.now rider }
+    ensures modest { IsModest result }
+{
+    let rows = graph.rows();
+    let mut least: Option<i64> = None;
+    for row in 0..rows.len() {
+        if allowed[row] && rows[row].riders.as_slice().contains(&rider) {
+            least = Some(lesser_room(least, room_of(graph, allowed, costs, multipliers, row)));
+        }
+    }
+    lesser_room(least, 1024 * graph.penalty() as i64)
+}
+
+fn lesser_room(least: Option<i64>, room: i64) -> i64
+    requires least { IfSome least (λ z. neg_ℤ (pos 8000000000000) ≤ℤ z) }
+    requires room { neg_ℤ (pos 8000000000000) ≤ℤ room }
+    ensures value { result ≡ lesser least room }
+    ensures low { neg_ℤ (pos 8000000000000) ≤ℤ result }
+    ensures high { result ≤ℤ room }
+{
+    match least {
+        None => room,
+        Some(other) => other.min(room),
+    }
+}
+
+/// What the row costs above its vehicle's cheapest allowed one, less its riders' multipliers.
+fn room_of(
+    graph: &TripGraph,
+    allowed: &[bool],
+    costs: &[i64],
+    multipliers: &[i64],
+    row: usize,
+) -> i64
+    requires costs { HasLeastCosts graph.now (usable_of allowed.now) costs.now }
+    requires multipliers { length multipliers.now ≡ graph.now.riders }
+    requires modest { (r : ℕ) → IsModest (multiplier_at multipliers.now r) }
+    requires row { row < length graph.now.rows }
+    ensures value { result ≡ room_at graph.now (usable_of allowed.now) multipliers.now row }
+    ensures low { neg_ℤ (pos 8000000000000) ≤ℤ result }
+{
+    let trip = &graph.rows()[row];
+    room_within(trip, cost_of_vehicle(costs, trip.vehicle), multipliers)
+}
+
+fn cost_of_vehicle(costs: &[i64], vehicle: usize) -> i64
+    requires { vehicle < length costs.now }
+    ensures { result ≡ slice_index_or costs.now vehicle (pos 0) }
+{
+    costs[vehicle]
+}
+
+fn room_within(trip: &TripRow, least: i64, multipliers: &[i64]) -> i64
+    requires few { length trip.now.riders.items ≤ 6 }
+    requires cheap { trip.now.cost ≤ 1000000000 }
+    requires riders { All (λ r. r < length multipliers.now) trip.now.riders.items }
+    requires modest { (r : ℕ) → IsModest (multiplier_at multipliers.now r) }
+    requires least { IsCost least }
+    ensures value { result ≡ pos 1024 *ℤ (pos trip.now.cost -ℤ least) -ℤ multiplier_sum multipliers.now trip.now.riders.items }
+    ensures low { neg_ℤ (pos 8000000000000) ≤ℤ result }
+{
+    let sum = sum_of_modest(multipliers, trip.riders.as_slice());
+    1024 * (trip.cost as i64 - least) - sum
+}
+
+fn sum_of_modest(multipliers: &[i64], riders: &[usize]) -> i64
+    requires few { length riders.now ≤ 6 }
+    requires riders { All (λ r. r < length multipliers.now) riders.now }
+    requires modest { (r : ℕ) → IsModest (multiplier_at multipliers.now r) }
+    ensures value { result ≡ multiplier_sum multipliers.now riders.now }
+    ensures low { neg_ℤ (pos (6 * 8000000000000)) ≤ℤ result }
+    ensures high { result ≤ℤ pos (6 * 1024000000000) }
+{
+    let mut sum: i64 = 0;
+    for rider in riders {
+        sum += multipliers[*rider];
+    }
+    sum
+}

@@ -1,0 +1,3 @@
+pub mod Vehicle
+pub mod Place
+pub mod Fleet

@@ -1,0 +1,8 @@
+use Rattle.std.proofs.Common.{◌+◌}
+use Rattle.load_maker.specs.Part.{draws_of, each, Writes}
+use Rattle.load_maker.specs.Texts.{vehicle_row}
+use Rattle.load_maker.proofs.fleet.put_fleet.Given as goal
+
+abbrev pub invariant-loop-n : goal.invariant-loop-n
+invariant-loop-n l =
+    Writes (each (λ n. vehicle_row l.shape (n + 1)) l.n) l.initial.text.items l.text.items (draws_of l.initial.rng) (draws_of l.rng)

@@ -1,0 +1,18 @@
+use Rattle.std.proofs.Common.{◌≡◌, ℕ, ◌++◌, ◌∷◌, [], ap, ◌∙◌, rules}
+use Rattle.std.proofs.lemmas.Result.{on_ok_weaker}
+use Rattle.rand_core.specs.Stream.{Stream}
+use Rattle.load_maker.specs.declared.row.Field.TheVariants.{Number}
+use Rattle.load_maker.specs.Row.{row_text}
+use Rattle.load_maker.specs.Part.{draws_of}
+use Rattle.load_maker.specs.Texts.{drawn_node, vehicle_row}
+use Rattle.load_maker.proofs.fleet.put_vehicle.Goals as goal
+
+pub returns : goal.returns
+unfolding vehicle_row
+returns c =
+    let side : c.from.result ≡ c.args.shape.now.side = search rules in
+    let drawn = c.draw_node-node.ensures.drawn ∙ ap (λ n. drawn_node n (draws_of c.args.rng.now)) side in
+    on_ok_weaker c.put_row.result (λ written. record {
+      text = written ∙ ap (λ (p : ℕ × Stream). c.args.text.now.items ++ row_text (Number c.args.v ∷ Number 4 ∷ Number p.0 ∷ Number 0 ∷ [])) drawn;
+      left = ap (λ (p : ℕ × Stream). p.1) drawn;
+    }) c.put_row.ensures

@@ -1,0 +1,26 @@
+use Rattle.std.proofs.Common.{ℕ, ◌+◌, List, ◌++◌, ◌∷◌, [], ap, ◌∙◌}
+use Rattle.std.proofs.lemmas.List.{append_assoc}
+use Rattle.std.proofs.lemmas.Result.{on_ok_weaker}
+use Rattle.rand_core.specs.Stream.{Stream}
+use Rattle.load_maker.specs.declared.row.Field.TheVariants.{Number}
+use Rattle.load_maker.specs.Row.{row_text}
+use Rattle.load_maker.specs.Texts.{arcs_between}
+use Rattle.load_maker.proofs.network.put_arcs.Goals as goal
+
+arc : ℕ → ℕ → ℕ → List ℕ
+arc a b n = row_text (Number a ∷ Number b ∷ Number (20 + n) ∷ [])
+
+pub returns : goal.returns
+unfolding arcs_between arc
+returns c =
+    let text = c.args.text.now.items in
+    let a = c.args.a in
+    let b = c.args.b in
+    let n = c.draw-seconds.result in
+    let drawn = c.draw-seconds.ensures.drawn in
+    on_ok_weaker c.put_row-2.result (λ written. record {
+      text =
+          written ∙ ap (λ t. t ++ arc b a n) c.in_ok-put_row.ensures ∙ append_assoc text (arc a b n) (arc b a n)
+          ∙ ap (λ (p : ℕ × Stream). text ++ (arc a b p.0 ++ arc b a p.0)) drawn;
+      left = ap (λ (p : ℕ × Stream). p.1) drawn;
+    }) c.put_row-2.ensures

@@ -1,0 +1,28 @@
+use Rattle.std.proofs.Common.{◌≡◌, ◌+◌, cond, sym, ap, ◌∙◌}
+use Rattle.std.proofs.lemmas.Bool.{lt-ltb, le-ltb}
+use Rattle.std.proofs.lemmas.Result.{on_ok_weaker}
+use Rattle.load_maker.specs.Part.{draws_of, nothing}
+use Rattle.load_maker.specs.Texts.{node_id, arcs_between, arcs_down}
+use Rattle.load_maker.proofs.PartLemmas.{Writes-nothing, Writes-same}
+use Rattle.load_maker.proofs.network.put_down.Goals as goal
+
+pub returns-then-i-side : goal.returns-then-i-side
+unfolding arcs_down
+returns-then-i-side c =
+    let side = c.args.side in
+    let from = c.node_id.result in
+    let to = c.node_id-then-i-side.result in
+    let here = arcs_between (node_id side c.args.i c.args.j) (node_id side (c.args.i + 1) c.args.j) in
+    let same : arcs_between from to ≡ arcs_down side c.args.i c.args.j =
+    ap (λ a. arcs_between a to) c.node_id.ensures ∙ ap (arcs_between (node_id side c.args.i c.args.j)) c.node_id-then-i-side.ensures
+    ∙ sym (ap (λ b. cond b here nothing) (lt-ltb (c.args.i + 1) side c.if-i-side.true)) in
+    on_ok_weaker c.put_arcs.result (λ writes. Writes-same (arcs_between from to) (arcs_down side c.args.i c.args.j) c.args.text.now.items c.put_arcs.new.text.items (draws_of c.args.rng.now) (draws_of c.put_arcs.new.rng) same writes) c.put_arcs.ensures
+
+pub returns : goal.returns
+unfolding arcs_down
+returns c =
+    let side = c.args.side in
+    let here = arcs_between (node_id side c.args.i c.args.j) (node_id side (c.args.i + 1) c.args.j) in
+    Writes-same nothing (arcs_down side c.args.i c.args.j) c.args.text.now.items c.args.text.now.items (draws_of c.args.rng.now) (draws_of c.args.rng.now)
+    (sym (ap (λ b. cond b here nothing) (le-ltb (c.args.i + 1) side c.if-i-side.false)))
+    (Writes-nothing c.args.text.now.items (draws_of c.args.rng.now))

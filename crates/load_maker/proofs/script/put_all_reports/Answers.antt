@@ -1,0 +1,12 @@
+use Rattle.std.proofs.Common.{◌≡◌, ◌+◌, rules, arith}
+use Rattle.load_maker.specs.Part.{draws_of}
+use Rattle.load_maker.specs.Texts.{report_row, all_reports}
+use Rattle.load_maker.proofs.PartLemmas.{Writes-each_all}
+use Rattle.load_maker.proofs.script.put_all_reports.Goals as goal
+
+pub returns : goal.returns
+unfolding all_reports
+returns c =
+    let size : c.from-n-end.result ≡ c.args.shape.now.vehicles = search rules in
+    Writes-each_all (λ n. report_row c.args.shape.now c.args.k (n + 1)) c.loop-n.n c.args.shape.now.vehicles
+    c.args.text.now.items c.loop-n.text.items (draws_of c.args.rng.now) (draws_of c.loop-n.rng) (omega (arith, size)) c.loop-n.invariant

@@ -1,0 +1,3 @@
+pub mod Row
+pub mod Part
+pub mod Texts

@@ -1,0 +1,102 @@
+use Rattle.std.specs.Prelude.{ℕ, ◌+◌, ◌-◌, ◌*◌, ◌%◌, List, [], ◌∷◌, ◌++◌, codes, nat_lt, if◌then◌else◌}
+use Rattle.rand_core.specs.Stream.{Stream}
+use Rattle.rider_limits.specs.declared.load_shape.LoadShape.{LoadShape}
+use Rattle.load_maker.specs.declared.row.Field.TheVariants.{Number, Report, Submit, Seal, Empty}
+use Rattle.load_maker.specs.Row.{row_text}
+use Rattle.load_maker.specs.Part.{draws_of, draw, Part, nothing, plain, both, each}
+
+-- the id of the node in a row and a column of a square, both from 0
+abbrev pub node_id : ℕ → ℕ → ℕ → ℕ
+node_id side i j = i * side + j + 1
+
+-- a node of the square that is drawn, and the draws that are left
+unfoldable pub drawn_node : ℕ → Stream → ℕ × Stream
+drawn_node side s = (1 + (draw (side * side) s).0, (draw (side * side) s).1)
+
+-- two arcs of one drawn time, there and back
+unfoldable pub arcs_between : ℕ → ℕ → Part
+arcs_between a b s =
+    let time = draw 41 s in
+    (row_text (Number a ∷ Number b ∷ Number (20 + time.0) ∷ []) ++ row_text (Number b ∷ Number a ∷ Number (20 + time.0) ∷ []), time.1)
+
+-- the arcs between a node and the next of its row
+unfoldable pub arcs_right : ℕ → ℕ → ℕ → Part
+arcs_right side i j = if nat_lt (j + 1) side then arcs_between (node_id side i j) (node_id side i (j + 1)) else nothing
+
+-- the arcs between a node and the next of its column
+unfoldable pub arcs_down : ℕ → ℕ → ℕ → Part
+arcs_down side i j = if nat_lt (i + 1) side then arcs_between (node_id side i j) (node_id side (i + 1) j) else nothing
+
+-- the arcs of a row of the square
+unfoldable pub arcs_of_row : ℕ → ℕ → Part
+arcs_of_row side i = each (λ j. both (arcs_right side i j) (arcs_down side i j)) side
+
+-- the network: its header, then the arcs of the square
+unfoldable pub network_part : LoadShape → Part
+network_part shape = both (plain (codes "from,to,seconds" ++ 10 ∷ [])) (each (arcs_of_row shape.side) shape.side)
+
+-- a vehicle of four seats at a drawn node
+unfoldable pub vehicle_row : LoadShape → ℕ → Part
+vehicle_row shape v s =
+    let node = drawn_node shape.side s in
+    (row_text (Number v ∷ Number 4 ∷ Number node.0 ∷ Number 0 ∷ []), node.1)
+
+-- the fleet: its header, then the vehicles, from 1
+unfoldable pub fleet_part : LoadShape → Part
+fleet_part shape = both (plain (codes "vehicle,seats,node,second" ++ 10 ∷ [])) (each (λ n. vehicle_row shape (n + 1)) shape.vehicles)
+
+-- a vehicle is reported at a drawn node
+unfoldable pub report_row : LoadShape → ℕ → ℕ → Part
+report_row shape k v s =
+    let node = drawn_node shape.side s in
+    (row_text (Number (2 * k) ∷ Number 0 ∷ Report ∷ Number v ∷ Number node.0 ∷ Number (60 * k) ∷ Empty ∷ []), node.1)
+
+-- every vehicle is reported
+unfoldable pub all_reports : LoadShape → ℕ → Part
+all_reports shape k = each (λ n. report_row shape k (n + 1)) shape.vehicles
+
+-- every vehicle is reported before each batch but the first
+unfoldable pub reports : LoadShape → ℕ → Part
+reports shape k = if nat_lt 0 k then all_reports shape k else nothing
+
+-- the node that a number below a square's nodes names, the origin left out
+abbrev pub other_than : ℕ → ℕ → ℕ
+other_than origin n = if nat_lt n origin then n else n + 1
+
+-- a request between two drawn nodes, which are not the same, at a drawn second
+unfoldable pub submit_row : LoadShape → ℕ → ℕ → Part
+submit_row shape k m s =
+    let origin = drawn_node shape.side s in
+    let other = draw (shape.side * shape.side - 1) origin.1 in
+    let second = draw 60 other.1 in
+    (row_text (Number (2 * k) ∷ Number (1 + m % 3) ∷ Submit ∷ Number (k * shape.riders + m) ∷ Number origin.0 ∷ Number (other_than origin.0 (1 + other.0)) ∷ Number (60 * k + second.0) ∷ []), second.1)
+
+-- the requests of a batch, from 1
+unfoldable pub submits : LoadShape → ℕ → Part
+submits shape k = each (λ n. submit_row shape k (n + 1)) shape.riders
+
+-- the seal of a batch
+unfoldable pub seal_text : ℕ → List ℕ
+seal_text k = row_text (Number (2 * k + 1) ∷ Number 0 ∷ Seal ∷ Number (60 * (k + 1)) ∷ Empty ∷ Empty ∷ Empty ∷ [])
+
+-- the rows of a batch: reports, requests, the seal
+unfoldable pub batch_rows : LoadShape → ℕ → Part
+batch_rows shape k = both (reports shape k) (both (submits shape k) (plain (seal_text k)))
+
+-- the script: its header, then the batches
+unfoldable pub script_part : LoadShape → Part
+script_part shape = both (plain (codes "round,lane,command,a,b,c,d" ++ 10 ∷ [])) (each (batch_rows shape) shape.rounds)
+
+-- three texts
+pub record Texts : Type 0 where
+  pub network : List ℕ
+  pub fleet : List ℕ
+  pub script : List ℕ
+
+-- the texts of a made workload, by the draws of its seed, in this order
+unfoldable pub texts_of : LoadShape → Texts
+texts_of shape =
+    let network = network_part shape (draws_of shape.seed) in
+    let fleet = fleet_part shape network.1 in
+    let script = script_part shape fleet.1 in
+    record { network = network.0; fleet = fleet.0; script = script.0 }

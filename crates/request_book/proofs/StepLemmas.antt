@@ -1,0 +1,161 @@
+-- How the steps go on from their refusals.
+use Rattle.std.proofs.Common.{◌≡◌, ℕ, ◌+◌, ◌<◌, ◌≤◌, Bool, true, false, cond, leb, List, [], ◌∷◌, ◌++◌, length, get_or, Option, Some, None, refl, sym, ap, subst, ◌∙◌, inl, inr, arith}
+use Rattle.std.specs.Prelude.{is_some, option_map, option_and_then}
+use Rattle.std.proofs.lemmas.Bool.{leb-false}
+use Rattle.batch_snapshot.specs.declared.vehicle.Vehicle.{Vehicle}
+use Rattle.batch_snapshot.specs.Batch.{Batch}
+use Rattle.request_book.specs.declared.outcome.Answer.{Answer}
+use Rattle.request_book.specs.Closing.{after_answer, closed_state}
+use Rattle.request_book.specs.Sealing.{one_more, sealed_state}
+use Rattle.request_book.specs.declared.reply.BookRefusal.{BookRefusal}
+use Rattle.request_book.specs.declared.reply.Reply.{Reply}
+use Rattle.request_book.specs.declared.reply.Reply.TheVariants.{Refused, Accepted, Cancelled, Placed, Picked, Dropped, Sealed, Closed}
+use Rattle.request_book.specs.declared.reply.BookRefusal.TheVariants.{UnknownRider, UnknownVehicle, PoolFull}
+use Rattle.request_book.specs.declared.rider.BookRider.{BookRider}
+use Rattle.request_book.specs.declared.rider.Status.{Status}
+use Rattle.request_book.specs.declared.rider.Status.TheVariants.{Waiting, Promised, Aboard, Cancelled as GivenUp, Delivered, Expired}
+use Rattle.request_book.specs.declared.state.State.{State}
+use Rattle.request_book.specs.Keyed.{changed_at}
+use Rattle.request_book.specs.Register.{pool_id}
+use Rattle.request_book.specs.Rider.{is_active, pool_promise}
+use Rattle.request_book.specs.Refusals.{first_of, duplicate_rider, aboard_refusal, ended_refusal, promise_refusal, seat_refusal, time_back, vehicle_full, unknown_node, not_this_batch}
+use Rattle.request_book.specs.State.{find_rider, find_vehicle, pool_count}
+use Rattle.request_book.specs.Step.{answer, rider_becomes, vehicle_becomes, stands_at, takes_in, lets_out, submit_refusal, submit_step, cancel_step, report_step, pickup_step, dropoff_step, seal_refusal, seal_step, close_step}
+
+-- where the first refusal of a list is none, none of them holds
+pub first_of-none : (o : Option BookRefusal) (rest : List (Option BookRefusal)) → first_of (o ∷ rest) ≡ None → (o ≡ None) × (first_of rest ≡ None)
+unfolding first_of
+first_of-none None rest none = (refl, none)
+first_of-none (Some r) rest none = absurd cc
+
+pub first_of-alone : (o : Option BookRefusal) → first_of (o ∷ []) ≡ o
+unfolding first_of
+first_of-alone None = refl
+first_of-alone (Some r) = refl
+
+-- who is neither aboard nor ended is in the pool
+pub active_left : (s : Status) → aboard_refusal s ≡ None → ended_refusal s ≡ None → is_active s ≡ true
+active_left Waiting a e = refl
+active_left (Promised p) a e = refl
+active_left (Aboard v) a e = absurd cc
+active_left GivenUp a e = absurd cc
+active_left Delivered a e = absurd cc
+active_left Expired a e = absurd cc
+
+-- who is aboard isn't in the pool
+pub aboard_left : (vehicle : ℕ) (s : Status) → seat_refusal vehicle s ≡ None → is_active s ≡ false
+aboard_left vehicle Waiting e = absurd cc
+aboard_left vehicle (Promised p) e = absurd cc
+aboard_left vehicle (Aboard v) e = refl
+aboard_left vehicle GivenUp e = absurd cc
+aboard_left vehicle Delivered e = absurd cc
+aboard_left vehicle Expired e = absurd cc
+
+pub pool_id-active : (r : BookRider) (id : ℕ) → is_active r.status ≡ true → r.id ≡ id → pool_id r ≡ Some id
+pool_id-active r id active e = rw active (ap Some e)
+
+pub fifth-none : (a b d e f : Option BookRefusal) → first_of (a ∷ b ∷ d ∷ e ∷ f ∷ []) ≡ None → f ≡ None
+fifth-none a b d e f none =
+    (first_of-none f [] (first_of-none e (f ∷ []) (first_of-none d (e ∷ f ∷ []) (first_of-none b (d ∷ e ∷ f ∷ []) (first_of-none a (b ∷ d ∷ e ∷ f ∷ []) none).1).1).1).1).0
+
+-- a request that isn't refused is of a new rider, and the pool isn't full
+pub submit-fits : (nodes : List ℕ) (s : State) (r : BookRider) → submit_refusal nodes s r ≡ None → (find_rider r.id s.riders ≡ None) × (pool_count s.riders < 1000)
+submit-fits nodes s r none =
+    let a = first_of-none _ _ none in
+    let b = first_of-none _ _ a.1 in
+    let d = first_of-none _ _ b.1 in
+    let e = first_of-none _ _ d.1 in
+    let f = first_of-none _ _ e.1 in
+    (fresh (find_rider r.id s.riders) a.0, below (pool_count s.riders) f.0)
+  where
+    fresh : (o : Option BookRider) → duplicate_rider o ≡ None → o ≡ None
+    fresh None e = refl
+    fresh (Some x) e = absurd cc
+
+    below : (n : ℕ) → cond (leb 1000 n) (Some PoolFull) None ≡ None → n < 1000
+    below n e = by (leb 1000 n) refl e
+      where
+        by : (b : Bool) → leb 1000 n ≡ b → cond b (Some PoolFull) None ≡ None → n < 1000
+        by true f g = absurd cc
+        by false f g = leb-false 1000 n f
+
+pub submit-known : (nodes : List ℕ) (s : State) (r : BookRider) (o : Option BookRefusal) → o ≡ submit_refusal nodes s r → answer s o Accepted (record s { riders = s.riders ++ r ∷ [] }) ≡ submit_step nodes s r
+unfolding submit_step
+submit-known nodes s r o e = rw e refl
+
+-- seals and closes
+pub seal-known : (wait : ℕ) (s : State) (now : ℕ) (o : Option BookRefusal) → o ≡ seal_refusal s now → answer s o (Sealed (one_more s.batches)) (sealed_state wait s now) ≡ seal_step wait s now
+unfolding seal_step
+seal-known wait s now o e = rw e refl
+
+pub close-known : (s : State) (batch : ℕ) (outcome : Answer) (o : Option BookRefusal) → o ≡ not_this_batch s.sealed batch → answer s o Closed (closed_state s outcome) ≡ close_step s batch outcome
+unfolding close_step
+close-known s batch outcome o e = ap (λ p. answer s p Closed (closed_state s outcome)) (one o ∙ ap (λ p. first_of (p ∷ [])) e)
+  where
+    one : (o : Option BookRefusal) → o ≡ first_of (o ∷ [])
+    one None = sym (first_of-alone None)
+    one (Some r) = sym (first_of-alone (Some r))
+
+pub closed-some : (s : State) (b : Batch) (outcome : Answer) → s.sealed ≡ Some b → closed_state s outcome ≡ record s { riders = after_answer b.riders outcome s.riders; sealed = None }
+unfolding closed_state
+closed-some s b outcome e = rw e refl
+
+module _ (s : State) where
+  -- cancel
+  pub cancel-unknown : (rider : ℕ) → find_rider rider s.riders ≡ None → (s, Refused UnknownRider) ≡ cancel_step s rider
+  unfolding cancel_step first_of
+  cancel-unknown rider none = rw none refl
+
+  pub cancel-known : (rider : ℕ) (r : BookRider) (o : Option BookRefusal) → find_rider rider s.riders ≡ Some r → o ≡ first_of (aboard_refusal r.status ∷ ended_refusal r.status ∷ []) → answer s o Cancelled (rider_becomes s rider GivenUp) ≡ cancel_step s rider
+  unfolding cancel_step first_of
+  cancel-known rider r o found e = rw (found, e) refl
+
+  -- report
+  pub report-unknown : (nodes : List ℕ) (vehicle node time : ℕ) → find_vehicle vehicle s.vehicles ≡ None → (s, Refused UnknownVehicle) ≡ report_step nodes s vehicle node time
+  unfolding report_step first_of
+  report-unknown nodes vehicle node time none = rw none refl
+
+  pub report-known : (nodes : List ℕ) (vehicle node time : ℕ) (v : Vehicle) (o : Option BookRefusal) → find_vehicle vehicle s.vehicles ≡ Some v → o ≡ first_of (unknown_node nodes node ∷ time_back (Some v) time ∷ []) → answer s o Placed (vehicle_becomes s vehicle (stands_at node time)) ≡ report_step nodes s vehicle node time
+  unfolding report_step first_of
+  report-known nodes vehicle node time v o found e = rw (found, e) refl
+
+  -- pickup
+  pub pickup-no_vehicle : (vehicle rider time : ℕ) → find_vehicle vehicle s.vehicles ≡ None → (s, Refused UnknownVehicle) ≡ pickup_step s vehicle rider time
+  unfolding pickup_step first_of
+  pickup-no_vehicle vehicle rider time none = rw none refl
+
+  pub pickup-no_rider : (vehicle rider time : ℕ) (v : Vehicle) → find_vehicle vehicle s.vehicles ≡ Some v → find_rider rider s.riders ≡ None → (s, Refused UnknownRider) ≡ pickup_step s vehicle rider time
+  unfolding pickup_step first_of
+  pickup-no_rider vehicle rider time v found none = rw (found, none) refl
+
+  pub pickup-known : (vehicle rider time : ℕ) (v : Vehicle) (r : BookRider) (o : Option BookRefusal) → find_vehicle vehicle s.vehicles ≡ Some v → find_rider rider s.riders ≡ Some r → o ≡ first_of (aboard_refusal r.status ∷ ended_refusal r.status ∷ promise_refusal vehicle r.status ∷ time_back (Some v) time ∷ vehicle_full (Some v) (Some r) ∷ []) → answer s o Picked (vehicle_becomes (rider_becomes s r.id (Aboard vehicle)) vehicle (takes_in r time)) ≡ pickup_step s vehicle rider time
+  unfolding pickup_step first_of
+  pickup-known vehicle rider time v r o found known e = rw (found, known, e) refl
+
+  -- a vehicle that stands at a place is there
+  pub pickup-no_rider_at : (vehicle rider time at : ℕ) → at < length s.vehicles → ((d : Vehicle) → find_vehicle vehicle s.vehicles ≡ Some (get_or s.vehicles at d)) → find_rider rider s.riders ≡ None → (s, Refused UnknownRider) ≡ pickup_step s vehicle rider time
+  pickup-no_rider_at vehicle rider time at in' found none = by s.vehicles in' found
+    where
+      by : (vs : List Vehicle) → at < length vs → ((d : Vehicle) → find_vehicle vehicle s.vehicles ≡ Some (get_or vs at d)) → (s, Refused UnknownRider) ≡ pickup_step s vehicle rider time
+      by [] i f = absurd (omega arith)
+      by (v ∷ vs) i f = pickup-no_rider vehicle rider time (get_or (v ∷ vs) at v) (f v) none
+
+  -- drop-off
+  pub dropoff-no_vehicle : (vehicle rider time : ℕ) → find_vehicle vehicle s.vehicles ≡ None → (s, Refused UnknownVehicle) ≡ dropoff_step s vehicle rider time
+  unfolding dropoff_step first_of
+  dropoff-no_vehicle vehicle rider time none = rw none refl
+
+  pub dropoff-no_rider : (vehicle rider time : ℕ) (v : Vehicle) → find_vehicle vehicle s.vehicles ≡ Some v → find_rider rider s.riders ≡ None → (s, Refused UnknownRider) ≡ dropoff_step s vehicle rider time
+  unfolding dropoff_step first_of
+  dropoff-no_rider vehicle rider time v found none = rw (found, none) refl
+
+  pub dropoff-known : (vehicle rider time : ℕ) (v : Vehicle) (r : BookRider) (o : Option BookRefusal) → find_vehicle vehicle s.vehicles ≡ Some v → find_rider rider s.riders ≡ Some r → o ≡ first_of (seat_refusal vehicle r.status ∷ time_back (Some v) time ∷ []) → answer s o Dropped (vehicle_becomes (rider_becomes s r.id Delivered) vehicle (lets_out r time)) ≡ dropoff_step s vehicle rider time
+  unfolding dropoff_step first_of
+  dropoff-known vehicle rider time v r o found known e = rw (found, known, e) refl
+
+  pub dropoff-no_rider_at : (vehicle rider time at : ℕ) → at < length s.vehicles → ((d : Vehicle) → find_vehicle vehicle s.vehicles ≡ Some (get_or s.vehicles at d)) → find_rider rider s.riders ≡ None → (s, Refused UnknownRider) ≡ dropoff_step s vehicle rider time
+  dropoff-no_rider_at vehicle rider time at in' found none = by s.vehicles in' found
+    where
+      by : (vs : List Vehicle) → at < length vs → ((d : Vehicle) → find_vehicle vehicle s.vehicles ≡ Some (get_or vs at d)) → (s, Refused UnknownRider) ≡ dropoff_step s vehicle rider time
+      by [] i f = absurd (omega arith)
+      by (v ∷ vs) i f = dropoff-no_rider vehicle rider time (get_or (v ∷ vs) at v) (f v) none

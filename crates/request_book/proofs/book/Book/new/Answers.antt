@@ -1,0 +1,36 @@
+use Rattle.std.proofs.Common.{◌≡◌, ℕ, ◌+◌, ◌≤◌, List, [], refl, sym, ap, subst, ◌∙◌, arith}
+use Rattle.std.specs.List.{All}
+use Rattle.batch_snapshot.specs.declared.vehicle.Vehicle.{Vehicle}
+use Rattle.request_book.specs.declared.journal.Entry.{Entry}
+use Rattle.request_book.specs.declared.state.State.{State}
+use Rattle.request_book.specs.Book.{BookView, IsBook, opening}
+use Rattle.request_book.specs.Keyed.{KeysRise}
+use Rattle.request_book.specs.Register.{state_of}
+use Rattle.request_book.proofs.BookLemmas.{opening-book, fleet-rise}
+use Rattle.request_book.proofs.IndexLemmas.{no-room}
+use Rattle.request_book.proofs.book.Book.new.Goals as goal
+
+pub of-requires : goal.of-requires
+of-requires c =
+    subst (KeysRise (λ (v : Vehicle). v.id)) (sym c.into_vehicles-vehicles.ensures.vehicles) (fleet-rise c.args.network.now.nodes c.args.fleet c.into_vehicles-vehicles.ensures.kept)
+
+pub invariant_of-result : goal.invariant_of-result
+invariant_of-result c =
+    let fleet = c.args.fleet in
+    let nodes = c.args.network.now.nodes in
+    let taken = c.into_vehicles-vehicles.ensures.vehicles in
+    let view : List ℕ → State → List Entry → State → BookView = λ ns base es s. record { nodes = ns; wait = c.args.wait; first = 0; base = base; entries = es; state = s; spare = 0 } in
+    let base : c.opening-base.result ≡ opening fleet =
+        c.opening-base.ensures ∙ ap opening (c.in_ok-copied_vehicles.ensures ∙ c.deref.ensures.value ∙ taken) in
+    let state : state_of c.in_ok-register.register ≡ opening fleet = c.in_ok-register.ensures.state ∙ ap opening taken in
+    let same : view c.in_ok-nodes.nodes.keys c.opening-base.result c.new.result.items (state_of c.in_ok-register.register) ≡ view nodes (opening fleet) [] (opening fleet) =
+        ap (λ ns. view ns c.opening-base.result c.new.result.items (state_of c.in_ok-register.register)) c.in_ok-nodes.ensures
+        ∙ ap (λ t. view nodes t c.new.result.items (state_of c.in_ok-register.register)) base
+        ∙ ap (λ es. view nodes (opening fleet) es (state_of c.in_ok-register.register)) c.new.ensures.items
+        ∙ ap (view nodes (opening fleet) []) state in
+    record {
+      book = subst IsBook (sym same) (opening-book nodes fleet c.into_vehicles-vehicles.ensures.kept c.args.wait c.requires);
+      indexed = c.in_ok-register.ensures.indexed;
+      room = no-room c.in_ok-register.register;
+      entries = omega (arith, c.new.result.ok.1);
+    }

@@ -1,0 +1,29 @@
+use Rattle.std.proofs.Common.{◌≡◌, ℕ, ◌+◌, ◌<◌, ◌≤◌, ◌++◌, ◌∷◌, [], Bool, false, eqb, length, get_or, take, sym, ap, ◌∙◌, arith}
+use Rattle.std.specs.List.{list_any}
+use Rattle.std.proofs.lemmas.Bool.{eqb-true}
+use Rattle.std.proofs.lemmas.List.{take_more}
+use Rattle.std.proofs.lemmas.List.Quantifiers.{position-Some}
+use Rattle.request_book.proofs.BookLemmas.{list_any-take}
+use Rattle.request_book.proofs.RegisterLemmas.{eqb_comm, list_any-agree}
+use Rattle.request_book.proofs.book.listed_nodes.Goals as goal
+
+pub list_node-requires : goal.list_node-requires
+list_node-requires c =
+    let nodes = c.args.network.now.nodes in
+    let i = c.loop-index.index in
+    let k = c.node_at.result in
+    let first = position-Some (λ j. eqb k j) nodes i 0 c.node_at.ensures.indexed in
+    ap (list_any (λ j. eqb j k)) c.loop-index.invariant
+    ∙ list_any-agree (λ j. eqb j k) (λ j. eqb k j) (λ j. eqb_comm j k) (take i nodes)
+    ∙ list_any-take (λ j. eqb k j) nodes i 0 first.2 (omega (arith, first.0))
+
+pub loop-index-preserved : goal.loop-index-preserved
+loop-index-preserved c =
+    let nodes = c.args.network.now.nodes in
+    let i = c.loop-index.index in
+    let k = c.node_at.result in
+    let first = position-Some (λ j. eqb k j) nodes i 0 c.node_at.ensures.indexed in
+    c.in_ok-list_node.ensures
+    ∙ ap (λ ks. ks ++ k ∷ []) c.loop-index.invariant
+    ∙ ap (λ x. take i nodes ++ x ∷ []) (eqb-true k (get_or nodes i 0) first.1)
+    ∙ sym (take_more nodes i 0 first.0)

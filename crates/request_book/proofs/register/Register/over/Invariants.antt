@@ -1,0 +1,10 @@
+use Rattle.std.proofs.Common.{◌≡◌, ◌≤◌, take}
+use Rattle.std.specs.Prelude.{option_and_then, vec_capacity}
+use Rattle.std.specs.List.{filter_map}
+use Rattle.request_book.specs.Register.{pool_id}
+use Rattle.request_book.specs.Sealing.{over_id}
+use Rattle.request_book.specs.State.{find_rider}
+use Rattle.request_book.proofs.register.Register.over.Given as goal
+
+abbrev pub invariant-loop-id : goal.invariant-loop-id
+invariant-loop-id l = l.over.items ≡ filter_map (λ id. option_and_then (over_id l.wait l.second) (find_rider id l.self.riders.items)) (take l.id-index l.id-items)

@@ -1,0 +1,9 @@
+use Rattle.request_book.proofs.KeyedLemmas.{KeysDiffer-from_rise}
+use Rattle.request_book.proofs.RegisterLemmas.{found_by_keys, eqb_comm}
+use Rattle.request_book.proofs.register.Register.vehicle_at.Goals as goal
+
+pub returns : goal.returns
+returns c =
+    let g = c.args.self.now in
+    let e = c.get_index_of.ensures in
+    found_by_keys (λ v. v.id) c.args.vehicle _ (eqb_comm c.args.vehicle) g.vehicles.items (KeysDiffer-from_rise (λ v. v.id) g.vehicles.items c.requires.vehicles) g.vehicle_ids.keys c.get_index_of.result c.requires.vehicle_ids e.index e.found

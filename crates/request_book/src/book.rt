@@ -1,0 +1,250 @@
+ghost use Rattle.std.specs.Prelude.{◌≡◌, ◌==◌, ◌+◌, ◌<◌, ◌≤◌, ◌++◌, ◌∷◌, [], All, false, option_map, IfOk, OnOk, OnErr, IsOk, vec_len, vec_capacity};
+ghost use Rattle.std.specs.List.{list_any};
+ghost use Rattle.request_book.specs.Book.{opening, next_position, would_seal, IsApplied, IsBook, IsLight, IsSameBook};
+ghost use Rattle.request_book.specs.Consistent.{IsNode};
+ghost use Rattle.request_book.specs.State.{find_rider};
+
+use crate::command::Command;
+use crate::journal::{Entry, Journal};
+use crate::register::Register;
+use crate::reply::Reply;
+use crate::rider::Status;
+use crate::sealing::copied_vehicles;
+use crate::state::State;
+use batch_snapshot::{Fleet, Snapshot, Vehicle};
+use indexmap::IndexSet;
+use pool_base::{NodeId, OutOfMemory, RiderId, Second, Sequence};
+use road_network::Network;
+use std::alloc::Global;
+use std::marker::Model;
+use std::mem;
+
+/// The riders and vehicles of a dispatcher, and the journal of what was asked and answered.
+///
+/// The state is the step table run over the journal's entries from the state before them, and each reply
+/// is the table's. A command takes a time that doesn't grow with the number of riders but for a look-up;
+/// a seal takes a time that grows with the riders who wait or have a promise.
+#[derive(Drop)]
+pub struct Book {
+    alloc: Global,
+    nodes: IndexSet<NodeId>,
+    wait: u32,
+    first: u64,
+    base: State,
+    entries: Vec<Entry>,
+    register: Register,
+    /// How many commands other than a seal are sure to need no memory.
+    reserved: u64,
+}
+
+impl Model for Book {
+    ghost use Rattle.std.specs.Prelude.{vec_len, vec_capacity};
+    ghost use Rattle.request_book.specs.Book.{BookView};
+    ghost use Rattle.request_book.specs.Register.{state_of};
+    ghost use Rattle.request_book.specs.Stored.{IsStored};
+
+    ghost Value = { BookView };
+
+    ghost view = { λ b. record { nodes = b.nodes.keys; wait = b.wait; first = b.first; base = b.base; entries = b.entries.items; state = state_of b.register; spare = b.reserved } };
+
+    ghost invariant = { λ b. IsStored (record { nodes = b.nodes.keys; wait = b.wait; first = b.first; base = b.base; entries = b.entries.items; state = state_of b.register; spare = b.reserved }) (vec_len b.entries) (vec_capacity b.entries) b.register };
+}
+
+impl Book {
+    /// The book of a fleet on a road network, where a rider waits for `wait` seconds at most.
+    pub fn new(
+        alloc: Global,
+        network: &Network,
+        fleet: Fleet,
+        wait: u32,
+    ) -> Result<Book, OutOfMemory>
+        requires { All (λ v. IsNode network.now.nodes v.node) fleet }
+        ensures { IfOk result (λ book. book ≡ record { nodes = network.now.nodes; wait = wait; first = 0; base = opening fleet; entries = []; state = opening fleet; spare = 0 }) }
+    {
+        let nodes = listed_nodes(alloc, network)?;
+        let vehicles = fleet.into_vehicles();
+        let base = opening(alloc, copied_vehicles(alloc, &vehicles)?);
+        let register = Register::of(alloc, vehicles)?;
+        Ok(Book {
+            alloc,
+            nodes,
+            wait,
+            first: 0,
+            base,
+            entries: Vec::new(alloc),
+            register,
+            reserved: 0,
+        })
+    }
+
+    /// Makes room, so that at least `n` commands other than a seal need no memory.
+    pub fn reserve(&mut self, n: u64) -> Result<(), OutOfMemory>
+        ensures room { OnOk result (n ≤ self.new.spare) }
+        ensures same { IsSameBook self.old self.new }
+        ensures kept { self.old.spare ≤ self.new.spare }
+    {
+        if n > self.reserved {
+            let additional = n as usize;
+            self.entries.reserve(additional)?;
+            self.register.reserve(additional)?;
+            self.reserved = n;
+        }
+        Ok(())
+    }
+
+    /// Room for one command: a seal leaves as much as there was.
+    fn make_room(&mut self, command: &Command) -> Result<(), OutOfMemory>
+        ensures room { OnOk result (0 < self.new.spare) }
+        ensures same { IsSameBook self.old self.new }
+        ensures kept { self.old.spare ≤ self.new.spare }
+        ensures light { IsLight command.now → 0 < self.old.spare → IsOk result }
+        ensures heavy { OnOk result ((IsLight command.now → ⊥) → self.old.spare < self.new.spare) }
+    {
+        match command {
+            Command::Seal { .. } => match self.reserved.checked_add(1) {
+                Some(room) => self.reserve(room),
+                None => Err(OutOfMemory),
+            },
+            _ => {
+                if self.reserved == 0 {
+                    self.reserve(1)
+                } else {
+                    Ok(())
+                }
+            }
+        }
+    }
+
+    /// Answers a command of a lane by the step table. A refusal is a reply, and an entry.
+    ///
+    /// It fails only for want of memory, and has then changed nothing. A seal leaves the room that there
+    /// was; any other command takes one of it.
+    pub fn apply(&mut self, lane: u8, command: Command) -> Result<Reply, OutOfMemory>
+        ensures applied { IfOk result (λ reply. IsApplied self.old lane command reply self.new) }
+        ensures unchanged { OnErr result (IsSameBook self.old self.new) }
+        ensures sure { IsLight command → 0 < self.old.spare → IsOk result }
+        ensures room { self.old.spare ≤ self.new.spare + 1 }
+        ensures heavy { (IsLight command → ⊥) → self.old.spare ≤ self.new.spare }
+        ensures kept { OnErr result (self.old.spare ≤ self.new.spare) }
+    {
+        self.make_room(&command)?;
+        let reply = self
+            .register
+            .run(self.alloc, &self.nodes, self.wait, &command)?;
+        self.reserved -= 1;
+        append(&mut self.entries, lane, command, &reply);
+        Ok(reply)
+    }
+
+    /// A rider's status.
+    pub fn status_of(&self, rider: RiderId) -> Option<Status>
+        ensures { result ≡ option_map (λ r. r.status) (find_rider rider self.now.state.riders) }
+    {
+        match self.register.rider(rider) {
+            Some(found) => Some(found.status),
+            None => None,
+        }
+    }
+
+    /// All riders and vehicles, as a value of its own.
+    pub fn state(&self) -> Result<State, OutOfMemory>
+        ensures { IfOk result (λ state. state ≡ self.now.state) }
+    {
+        self.register.state(self.alloc)
+    }
+
+    /// The entries since the last `take_round`.
+    pub fn entries(&self) -> &[Entry]
+        ensures entries { result.now ≡ self.now.entries }
+        ensures kept { IsBook self.now }
+    {
+        self.entries.as_slice()
+    }
+
+    /// The position that the next entry gets, counted from 0 over all rounds; it stands still at the
+    /// greatest `u64`.
+    pub fn next_position(&self) -> u64
+        ensures { result ≡ next_position self.now.first self.now.entries }
+    {
+        self.first.saturating_add(self.entries.len() as u64)
+    }
+
+    /// The batch that a seal at this second would put up; `None` exactly where it would be refused.
+    pub fn would_seal(&self, second: Second) -> Result<Option<Snapshot>, OutOfMemory>
+        ensures { IfOk result (λ batch. batch ≡ would_seal self.now.wait self.now.state second) }
+    {
+        if self.register.seal_refusal(second).is_some() {
+            return Ok(None);
+        }
+        let batch = self.register.snapshot(self.alloc, self.wait, second)?;
+        Ok(Some(batch))
+    }
+
+    /// Gives the journal up and begins a new one, at the next position and the state as it is. No room
+    /// is left. After an error nothing has changed.
+    pub fn take_round(&mut self) -> Result<Journal, OutOfMemory>
+        ensures journal { IfOk result (λ journal. journal ≡ record { first = self.old.first; base = self.old.base; entries = self.old.entries }) }
+        ensures next { OnOk result (self.new ≡ record { nodes = self.old.nodes; wait = self.old.wait; first = next_position self.old.first self.old.entries; base = self.old.state; entries = []; state = self.old.state; spare = 0 }) }
+        ensures unchanged { OnErr result (IsSameBook self.old self.new) }
+        ensures kept { OnErr result (self.old.spare ≤ self.new.spare) }
+    {
+        let state = self.state()?;
+        let next = self.next_position();
+        let first = mem::replace(&mut self.first, next);
+        let base = mem::replace(&mut self.base, state);
+        let entries = mem::replace(&mut self.entries, Vec::new(self.alloc));
+        self.reserved = 0;
+        Ok(Journal {
+            first,
+            base,
+            entries: Sequence::of(entries),
+        })
+    }
+}
+
+/// Puts an entry last. There is room for it.
+fn append(entries: &mut Vec<Entry>, lane: u8, command: Command, reply: &Reply)
+    requires room { vec_len entries.old < vec_capacity entries.old }
+    ensures items { entries.new.items ≡ entries.old.items ++ (record { lane = lane; command = command; reply = reply.now }) ∷ [] }
+    ensures len { vec_len entries.new ≡ vec_len entries.old + 1 }
+    ensures capacity { vec_capacity entries.new ≡ vec_capacity entries.old }
+{
+    entries.push_reserved(Entry {
+        lane,
+        command,
+        reply: *reply,
+    });
+}
+
+/// The state with which a run begins.
+fn opening(alloc: Global, vehicles: Vec<Vehicle>) -> State
+    ensures { result ≡ opening vehicles.items }
+{
+    State {
+        riders: Sequence::empty(alloc),
+        vehicles: Sequence::of(vehicles),
+        last_seal: None,
+        sealed: None,
+        batches: 0,
+    }
+}
+
+/// The network's nodes, in its order.
+fn listed_nodes(alloc: Global, network: &Network) -> Result<IndexSet<NodeId>, OutOfMemory>
+    ensures { IfOk result (λ nodes. nodes.keys ≡ network.now.nodes) }
+{
+    let count = network.node_count();
+    let mut nodes = IndexSet::with_capacity(alloc, count)?;
+    for index in 0..count {
+        list_node(&mut nodes, network.node_at(index))?;
+    }
+    Ok(nodes)
+}
+
+fn list_node(nodes: &mut IndexSet<NodeId>, node: NodeId) -> Result<(), OutOfMemory>
+    requires { list_any (λ other. other == node) nodes.old.keys ≡ false }
+    ensures { OnOk result (nodes.new.keys ≡ nodes.old.keys ++ node ∷ []) }
+{
+    nodes.insert(node)?;
+    Ok(())
+}

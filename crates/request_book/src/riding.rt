@@ -1,0 +1,267 @@
+//! What riders and vehicles do: the commands that change one rider and one vehicle.
+
+ghost use Rattle.std.specs.Prelude.{◌≡◌, ◌==◌, ◌+◌, ◌<◌, ◌≤◌, ◌++◌, ◌∷◌, [], ℕ, Some, None, true, false, length, option_and_then, MatchOption, All, slice_index_or, vec_len, vec_capacity};
+ghost use Rattle.std.specs.List.{list_any};
+ghost use Rattle.indexmap.specs.IndexSet.{spare};
+ghost use Rattle.batch_snapshot.specs.Vehicle.{HasSeats};
+ghost use Rattle.request_book.specs.Keyed.{look_up, changed_at, without, placed, KeysRise, KeysDiffer};
+ghost use Rattle.request_book.specs.Register.{state_of, IsIndexed, HasRoom};
+ghost use Rattle.request_book.specs.Rider.{is_active};
+ghost use Rattle.request_book.specs.State.{find_rider, find_passenger, pool_count};
+ghost use Rattle.request_book.specs.Consistent.{IsConsistent};
+ghost use Rattle.request_book.specs.Step.{rider_becomes, stands_at, takes_in, lets_out, submit_refusal, submit_step, cancel_step, report_step, pickup_step, dropoff_step};
+
+use crate::refusals::{
+    book_full, duplicate_rider, first_of, has_ended, is_aboard, not_aboard, not_promised, pool_full, same_place,
+    time_back, unknown_node, vehicle_full,
+};
+use crate::register::{add, change_status, Register};
+use crate::reply::{BookRefusal, Reply};
+use crate::rider::{BookRider, Status};
+use batch_snapshot::{Passenger, Vehicle};
+use indexmap::IndexSet;
+use pool_base::{NodeId, RiderId, Second, VehicleId};
+
+impl Register {
+    /// A rider asks for a trip. It takes no memory where there is room for one more.
+    pub fn submit(&mut self, nodes: &IndexSet<NodeId>, new: &BookRider) -> Reply
+        requires indexed { IsIndexed self.old }
+        requires consistent { IsConsistent (state_of self.old) }
+        requires room { HasRoom 1 self.old }
+        requires waits { new.now.status ≡ Status.Waiting }
+        ensures stepped { (state_of self.new, result) ≡ submit_step nodes.now.keys (state_of self.old) new.now }
+        ensures indexed { IsIndexed self.new }
+        ensures room { (n : ℕ) → HasRoom (n + 1) self.old → HasRoom n self.new }
+    {
+        match self.submit_refusal(nodes, new) {
+            Some(refusal) => Reply::Refused(refusal),
+            None => {
+                add(&mut self.riders, new);
+                number(&mut self.ids, new.id);
+                join(&mut self.pool, new.id);
+                Reply::Accepted
+            }
+        }
+    }
+
+    /// Why a request is refused.
+    fn submit_refusal(&self, nodes: &IndexSet<NodeId>, new: &BookRider) -> Option<BookRefusal>
+        requires indexed { IsIndexed self.now }
+        ensures { result ≡ submit_refusal nodes.now.keys (state_of self.now) new.now }
+    {
+        let refusals = [
+            duplicate_rider(self.rider(new.id)),
+            unknown_node(nodes, new.origin),
+            unknown_node(nodes, new.destination),
+            same_place(new.origin, new.destination),
+            pool_full(self.pool.len()),
+            book_full(self.riders.len()),
+        ];
+        first_of(&refusals)
+    }
+
+    /// Takes a rider out of the pool, into another status.
+    fn leave_pool(&mut self, rider: RiderId, status: Status)
+        requires indexed { IsIndexed self.old }
+        requires leaves { is_active status ≡ false }
+        ensures state { state_of self.new ≡ rider_becomes (state_of self.old) rider status }
+        ensures indexed { IsIndexed self.new }
+        ensures room { (n : ℕ) → HasRoom n self.old → HasRoom n self.new }
+    {
+        change_status(&mut self.riders, &self.ids, rider, status);
+        leave(&mut self.pool, rider);
+    }
+
+    /// A rider who isn't aboard gives up.
+    pub fn cancel(&mut self, rider: RiderId) -> Reply
+        requires { IsIndexed self.old }
+        ensures stepped { (state_of self.new, result) ≡ cancel_step (state_of self.old) rider }
+        ensures indexed { IsIndexed self.new }
+        ensures room { (n : ℕ) → HasRoom n self.old → HasRoom n self.new }
+    {
+        let Some(found) = self.rider(rider) else {
+            return Reply::Refused(BookRefusal::UnknownRider);
+        };
+        let refusals = [is_aboard(found.status), has_ended(found.status)];
+        match first_of(&refusals) {
+            Some(refusal) => Reply::Refused(refusal),
+            None => {
+                self.leave_pool(rider, Status::Cancelled);
+                Reply::Cancelled
+            }
+        }
+    }
+
+    /// A vehicle is at a node.
+    pub fn report(
+        &mut self,
+        nodes: &IndexSet<NodeId>,
+        vehicle: VehicleId,
+        node: NodeId,
+        time: Second,
+    ) -> Reply
+        requires { IsIndexed self.old }
+        ensures stepped { (state_of self.new, result) ≡ report_step nodes.now.keys (state_of self.old) vehicle node time }
+        ensures indexed { IsIndexed self.new }
+        ensures room { (n : ℕ) → HasRoom n self.old → HasRoom n self.new }
+    {
+        let Some(at) = self.vehicle_at(vehicle) else {
+            return Reply::Refused(BookRefusal::UnknownVehicle);
+        };
+        let refusals = [unknown_node(nodes, node), time_back(&self.vehicles[at], time)];
+        match first_of(&refusals) {
+            Some(refusal) => Reply::Refused(refusal),
+            None => {
+                stand(&mut self.vehicles[at], node, time);
+                Reply::Placed
+            }
+        }
+    }
+
+    /// A vehicle picks up the rider who is promised to it.
+    pub fn pickup(&mut self, vehicle: VehicleId, rider: RiderId, time: Second) -> Reply
+        requires indexed { IsIndexed self.old }
+        requires seats { All HasSeats self.old.vehicles.items }
+        ensures stepped { (state_of self.new, result) ≡ pickup_step (state_of self.old) vehicle rider time }
+        ensures indexed { IsIndexed self.new }
+        ensures room { (n : ℕ) → HasRoom n self.old → HasRoom n self.new }
+    {
+        let Some(at) = self.vehicle_at(vehicle) else {
+            return Reply::Refused(BookRefusal::UnknownVehicle);
+        };
+        let Some(found) = self.rider(rider) else {
+            return Reply::Refused(BookRefusal::UnknownRider);
+        };
+        let carrier = &self.vehicles[at];
+        let refusals = [
+            is_aboard(found.status),
+            has_ended(found.status),
+            not_promised(found.status, vehicle),
+            time_back(carrier, time),
+            vehicle_full(carrier, found.party),
+        ];
+        match first_of(&refusals) {
+            Some(refusal) => Reply::Refused(refusal),
+            None => {
+                let aboard = Status::Aboard(vehicle);
+                change_status(&mut self.riders, &self.ids, found.id, aboard);
+                leave(&mut self.pool, found.id);
+                take_in(&mut self.vehicles[at], found, time);
+                Reply::Picked
+            }
+        }
+    }
+
+    /// A vehicle drops its passenger.
+    pub fn dropoff(&mut self, vehicle: VehicleId, rider: RiderId, time: Second) -> Reply
+        requires indexed { IsIndexed self.old }
+        requires consistent { IsConsistent (state_of self.old) }
+        ensures stepped { (state_of self.new, result) ≡ dropoff_step (state_of self.old) vehicle rider time }
+        ensures indexed { IsIndexed self.new }
+        ensures room { (n : ℕ) → HasRoom n self.old → HasRoom n self.new }
+    {
+        let Some(at) = self.vehicle_at(vehicle) else {
+            return Reply::Refused(BookRefusal::UnknownVehicle);
+        };
+        let Some(found) = self.rider(rider) else {
+            return Reply::Refused(BookRefusal::UnknownRider);
+        };
+        let refusals = [
+            not_aboard(found.status, vehicle),
+            time_back(&self.vehicles[at], time),
+        ];
+        match first_of(&refusals) {
+            Some(refusal) => Reply::Refused(refusal),
+            None => {
+                change_status(&mut self.riders, &self.ids, found.id, Status::Delivered);
+                let_out(&mut self.vehicles[at], found, time);
+                Reply::Dropped
+            }
+        }
+    }
+}
+
+/// Puts a vehicle at a node, at a second.
+fn stand(vehicle: &mut Vehicle, node: NodeId, time: Second)
+    ensures { vehicle.new ≡ stands_at node time vehicle.old }
+{
+    vehicle.node = node;
+    vehicle.time = time;
+}
+
+/// Makes a rider the vehicle's last passenger, at the rider's origin.
+fn take_in(vehicle: &mut Vehicle, rider: BookRider, time: Second)
+    requires { length vehicle.old.aboard.items < 10 }
+    ensures { vehicle.new ≡ takes_in rider time vehicle.old }
+{
+    vehicle.aboard.push(Passenger {
+        rider: rider.id,
+        origin: rider.origin,
+        destination: rider.destination,
+        time: rider.time,
+        party: rider.party,
+    });
+    vehicle.node = rider.origin;
+    vehicle.time = time;
+}
+
+/// Takes a rider out of the vehicle's passengers, at the rider's destination; the others keep their
+/// order.
+fn let_out(vehicle: &mut Vehicle, rider: BookRider, time: Second)
+    requires { KeysDiffer (λ p. p.rider) vehicle.old.aboard.items }
+    ensures { vehicle.new ≡ lets_out rider time vehicle.old }
+{
+    let seat = seat_of(vehicle.aboard.as_slice(), rider.id);
+    if let Some(seat) = seat {
+        vehicle.aboard.remove(seat);
+    }
+    vehicle.node = rider.destination;
+    vehicle.time = time;
+}
+
+fn seat_of(aboard: &[Passenger], rider: RiderId) -> Option<usize>
+    ensures { MatchOption result (find_passenger rider aboard.now ≡ None) (λ seat. (seat < length aboard.now) × ((d : Passenger) → (slice_index_or aboard.now seat d).rider ≡ rider)) }
+{
+    for (seat, passenger) in aboard.iter().enumerate() {
+        if passenger.rider == rider {
+            return Some(seat);
+        }
+    }
+    None
+}
+
+/// Gives a rider the next number.
+fn number(ids: &mut IndexSet<RiderId>, rider: RiderId)
+    requires new { list_any (λ id. id == rider) ids.old.keys ≡ false }
+    requires room { 0 < spare ids.old }
+    ensures keys { ids.new.keys ≡ ids.old.keys ++ rider ∷ [] }
+    ensures room { spare ids.old ≤ spare ids.new + 1 }
+{
+    let _ = ids.insert(rider);
+}
+
+/// Puts an id into the pool, in its place.
+fn join(pool: &mut Vec<RiderId>, rider: RiderId)
+    requires rise { KeysRise (λ id. id) pool.old.items }
+    requires new { look_up (λ id. id) rider pool.old.items ≡ None }
+    requires room { vec_len pool.old < vec_capacity pool.old }
+    ensures items { pool.new.items ≡ placed (λ id. id) rider pool.old.items }
+    ensures room { vec_capacity pool.old ≤ vec_capacity pool.new }
+{
+    let place = match pool.binary_search(&rider) {
+        Ok(place) => place,
+        Err(place) => place,
+    };
+    let _ = pool.insert(place, rider);
+}
+
+/// Takes an id out of the pool.
+fn leave(pool: &mut Vec<RiderId>, rider: RiderId)
+    requires { KeysRise (λ id. id) pool.old.items }
+    ensures items { pool.new.items ≡ without (λ id. id) rider pool.old.items }
+    ensures room { vec_capacity pool.new ≡ vec_capacity pool.old }
+{
+    if let Ok(place) = pool.binary_search(&rider) {
+        pool.remove(place);
+    }
+}

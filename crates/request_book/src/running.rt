@@ -1,0 +1,166 @@
+//! The register at work: how it begins, and one command of any kind.
+
+ghost use Rattle.std.specs.Prelude.{◌≡◌, ◌==◌, ◌+◌, ◌++◌, ◌∷◌, [], ℕ, false, map, IfOk, OnOk, OnErr, IsOk};
+ghost use Rattle.std.specs.List.{list_any};
+ghost use Rattle.request_book.specs.Book.{opening, IsLight};
+ghost use Rattle.request_book.specs.Consistent.{IsConsistent};
+ghost use Rattle.request_book.specs.Keyed.{KeysRise, KeysDiffer};
+ghost use Rattle.request_book.specs.Register.{state_of, IsIndexed, HasRoom};
+ghost use Rattle.request_book.specs.Step.{step};
+
+use crate::command::Command;
+use crate::refusals::POOL;
+use crate::register::Register;
+use crate::reply::Reply;
+use crate::rider::{BookRider, Status};
+use crate::sealing::copied_vehicles;
+use crate::state::State;
+use batch_snapshot::{Snapshot, Vehicle};
+use indexmap::IndexSet;
+use pool_base::{NodeId, OutOfMemory, Sequence, VehicleId};
+use std::alloc::Global;
+
+impl Register {
+    /// The register of these vehicles, without a rider.
+    pub fn of(alloc: Global, vehicles: Vec<Vehicle>) -> Result<Register, OutOfMemory>
+        requires { KeysRise (λ v. v.id) vehicles.items }
+        ensures state { IfOk result (λ register. state_of register ≡ opening vehicles.items) }
+        ensures indexed { IfOk result IsIndexed }
+    {
+        let vehicle_ids = listed_vehicles(alloc, &vehicles)?;
+        let ids = IndexSet::with_capacity(alloc, 0)?;
+        let pool = Vec::with_capacity(alloc, POOL)?;
+        Ok(Register {
+            riders: Vec::new(alloc),
+            ids,
+            pool,
+            vehicles,
+            vehicle_ids,
+            last_seal: None,
+            sealed: None,
+            batches: 0,
+        })
+    }
+
+    /// One command of any kind. Only a seal takes memory where there is room for one more rider; after an
+    /// error nothing has changed.
+    pub fn run(
+        &mut self,
+        alloc: Global,
+        nodes: &IndexSet<NodeId>,
+        wait: u32,
+        command: &Command,
+    ) -> Result<Reply, OutOfMemory>
+        requires indexed { IsIndexed self.old }
+        requires consistent { IsConsistent (state_of self.old) }
+        requires room { HasRoom 1 self.old }
+        ensures ok { IfOk result (λ reply. (state_of self.new, reply) ≡ step nodes.now.keys wait (state_of self.old) command.now) }
+        ensures err { OnErr result (state_of self.new ≡ state_of self.old) }
+        ensures light { IsLight command.now → IsOk result }
+        ensures indexed { IsIndexed self.new }
+        ensures room { (n : ℕ) → HasRoom (n + 1) self.old → HasRoom n self.new }
+        ensures kept { OnErr result ((n : ℕ) → HasRoom n self.old → HasRoom n self.new) }
+    {
+        match command {
+            Command::Submit {
+                rider,
+                origin,
+                destination,
+                time,
+                party,
+            } => {
+                let new = BookRider {
+                    id: *rider,
+                    origin: *origin,
+                    destination: *destination,
+                    time: *time,
+                    party: *party,
+                    status: Status::Waiting,
+                };
+                Ok(self.submit(nodes, &new))
+            }
+            Command::Cancel { rider } => Ok(self.cancel(*rider)),
+            Command::Report {
+                vehicle,
+                node,
+                time,
+            } => Ok(self.report(nodes, *vehicle, *node, *time)),
+            Command::Pickup {
+                vehicle,
+                rider,
+                time,
+            } => Ok(self.pickup(*vehicle, *rider, *time)),
+            Command::Dropoff {
+                vehicle,
+                rider,
+                time,
+            } => Ok(self.dropoff(*vehicle, *rider, *time)),
+            Command::Seal { now } => self.seal(alloc, wait, *now),
+            Command::Close { batch, outcome } => Ok(self.close(*batch, &outcome.answer)),
+        }
+    }
+
+    /// The state, as a value of its own.
+    pub fn state(&self, alloc: Global) -> Result<State, OutOfMemory>
+        ensures { IfOk result (λ state. state ≡ state_of self.now) }
+    {
+        let riders = Vec::from_slice(alloc, &self.riders)?;
+        let vehicles = copied_vehicles(alloc, &self.vehicles)?;
+        let sealed = copied_snapshot(alloc, &self.sealed)?;
+        Ok(State {
+            riders: Sequence::of(riders),
+            vehicles: Sequence::of(vehicles),
+            last_seal: self.last_seal,
+            sealed,
+            batches: self.batches,
+        })
+    }
+
+    /// Makes room for so many more riders. Nothing else changes.
+    pub fn reserve(&mut self, additional: usize) -> Result<(), OutOfMemory>
+        requires { IsIndexed self.old }
+        ensures state { state_of self.new ≡ state_of self.old }
+        ensures indexed { IsIndexed self.new }
+        ensures ok { OnOk result (HasRoom additional self.new) }
+        ensures room { (n : ℕ) → HasRoom n self.old → HasRoom n self.new }
+    {
+        self.riders.reserve(additional)?;
+        self.ids.reserve(additional)?;
+        Ok(())
+    }
+}
+
+/// The vehicles' ids, in their order.
+fn listed_vehicles(alloc: Global, vehicles: &[Vehicle]) -> Result<IndexSet<VehicleId>, OutOfMemory>
+    requires { KeysDiffer (λ v. v.id) vehicles.now }
+    ensures { IfOk result (λ ids. ids.keys ≡ map (λ v. v.id) vehicles.now) }
+{
+    let mut ids = IndexSet::with_capacity(alloc, vehicles.len())?;
+    for vehicle in vehicles {
+        list_vehicle(&mut ids, vehicle.id)?;
+    }
+    Ok(ids)
+}
+
+fn list_vehicle(ids: &mut IndexSet<VehicleId>, vehicle: VehicleId) -> Result<(), OutOfMemory>
+    requires { list_any (λ id. id == vehicle) ids.old.keys ≡ false }
+    ensures { OnOk result (ids.new.keys ≡ ids.old.keys ++ vehicle ∷ []) }
+{
+    ids.insert(vehicle)?;
+    Ok(())
+}
+
+fn copied_snapshot(
+    alloc: Global,
+    snapshot: &Option<Snapshot>,
+) -> Result<Option<Snapshot>, OutOfMemory>
+    ensures { IfOk result (λ copy. copy ≡ snapshot.now) }
+{
+    match snapshot {
+        Some(snapshot) => {
+            let copy = snapshot.copy(alloc)?;
+            Ok(Some(copy))
+        }
+        None => Ok(None),
+    }
+}

@@ -1,0 +1,104 @@
+-- Nodes that are numbered keep their indexes.
+use Rattle.std.proofs.Common.{◌≡◌, ℕ, suc, ◌+◌, ◌<◌, ◌==◌, true, false, Bool, List, [], ◌∷◌, ◌++◌, length, map, refl, sym, ap, ◌∙◌, inl, inr, arith, length-append}
+use Rattle.std.proofs.lemmas.Bool.{cases_Bool, false≢true}
+use Rattle.std.proofs.lemmas.Bool.Decides.{nat_tests}
+use Rattle.std.proofs.lemmas.List.Elements.{All-head, All-tail}
+use Rattle.std.specs.Prelude.{All}
+use Rattle.std.specs.List.{list_any, position_or_len}
+use Rattle.road_network.specs.Walk.{Arc}
+use Rattle.road_network.specs.Roads.{index_in}
+use Rattle.road_network.specs.Reading.{arc_in, name_in, with_node, with_row}
+
+pub any_found : {A : Type 0} (p : A → Bool) (xs : List A) → list_any p xs ≡ true → position_or_len p xs < length xs
+any_found p [] e = absurd (false≢true e)
+any_found p (x ∷ xs) e =
+    elim (cases_Bool (p x)) [
+      | inl passes ↦ rw passes (omega arith)
+      | inr fails ↦ let rest = any_found p xs (rw fails at e) in rw fails (omega (arith, rest))
+    ]
+
+none_found : {A : Type 0} (p : A → Bool) (xs : List A) → list_any p xs ≡ false → position_or_len p xs ≡ length xs
+none_found p [] e = refl
+none_found p (x ∷ xs) e =
+    elim (cases_Bool (p x)) [
+      | inl passes ↦ absurd (false≢true (sym (rw passes at e)))
+      | inr fails ↦ let rest = none_found p xs (rw fails at e) in rw fails (omega (arith, rest))
+    ]
+
+position-append : {A : Type 0} (p : A → Bool) (xs ys : List A) → position_or_len p xs < length xs → position_or_len p (xs ++ ys) ≡ position_or_len p xs
+position-append p [] ys found = absurd (omega (arith, found))
+position-append p (x ∷ xs) ys found =
+    elim (cases_Bool (p x)) [
+      | inl passes ↦ rw passes refl
+      | inr fails ↦
+          let rest : 1 + position_or_len p xs < suc (length xs) = rw fails at found in
+          let same = position-append p xs ys (omega (arith, rest)) in
+          rw fails (omega (arith, same))
+    ]
+
+-- a node is among those that are numbered
+abbrev pub IsNumbered : List ℕ → ℕ → Type 0
+IsNumbered nodes name = index_in nodes name < length nodes
+
+last_found : (nodes : List ℕ) (name : ℕ) → list_any (λ node. name == node) nodes ≡ false → index_in (nodes ++ name ∷ []) name ≡ length nodes
+last_found [] name none =
+    let test : (name == name) ≡ true = grind (arith, nat_tests) in
+    rw test refl
+last_found (n ∷ nodes) name none =
+    elim (cases_Bool (name == n)) [
+      | inl same ↦ absurd (false≢true (sym (rw same at none)))
+      | inr other ↦ let rest = last_found nodes name (rw other at none) in rw other (omega (arith, rest))
+    ]
+
+-- a name that is added is numbered, by the index that it had or gets
+pub with_node-numbers : (nodes : List ℕ) (name : ℕ) → (index_in (with_node nodes name) name ≡ index_in nodes name) × IsNumbered (with_node nodes name) name
+with_node-numbers nodes name =
+    elim (cases_Bool (list_any (λ node. name == node) nodes)) [
+      | inl known ↦ rw known (refl, any_found (λ node. name == node) nodes known)
+      | inr new ↦
+          let last = last_found nodes name new in
+          let none = none_found (λ node. name == node) nodes new in
+          rw new (last ∙ sym none, rw (last, length-append) (omega arith))
+    ]
+
+-- and every other name keeps its index
+pub with_node-keeps : (nodes : List ℕ) (name other : ℕ) → IsNumbered nodes other → (index_in (with_node nodes name) other ≡ index_in nodes other) × IsNumbered (with_node nodes name) other
+with_node-keeps nodes name other numbered =
+    elim (cases_Bool (list_any (λ node. name == node) nodes)) [
+      | inl known ↦ rw known (refl, numbered)
+      | inr new ↦
+          let same = position-append (λ node. other == node) nodes (name ∷ []) numbered in
+          rw new (same, rw (same, length-append) (omega (arith, numbered)))
+    ]
+
+-- both nodes of a row are numbered
+abbrev pub IsRowNumbered : List ℕ → List (List ℕ) → Type 0
+IsRowNumbered nodes fields = IsNumbered nodes (name_in fields 0) × IsNumbered nodes (name_in fields 1)
+
+-- the nodes of a row are numbered after it, with these indexes
+pub with_row-numbers : (nodes : List ℕ) (fields : List (List ℕ)) → IsRowNumbered (with_row nodes fields) fields
+    × (index_in (with_row nodes fields) (name_in fields 0) ≡ index_in (with_node nodes (name_in fields 0)) (name_in fields 0))
+with_row-numbers nodes fields =
+    let first = with_node-numbers nodes (name_in fields 0) in
+    let kept = with_node-keeps (with_node nodes (name_in fields 0)) (name_in fields 1) (name_in fields 0) first.1 in
+    let second = with_node-numbers (with_node nodes (name_in fields 0)) (name_in fields 1) in
+    ((kept.1, second.1), kept.0)
+
+with_row-keeps : (nodes : List ℕ) (fields : List (List ℕ)) (other : ℕ) → IsNumbered nodes other → (index_in (with_row nodes fields) other ≡ index_in nodes other) × IsNumbered (with_row nodes fields) other
+with_row-keeps nodes fields other numbered =
+    let first = with_node-keeps nodes (name_in fields 0) other numbered in
+    let second = with_node-keeps (with_node nodes (name_in fields 0)) (name_in fields 1) other first.1 in
+    (second.0 ∙ first.0, second.1)
+
+pub All-numbered : (nodes : List ℕ) (fields : List (List ℕ)) (rows : List (List (List ℕ))) → All (IsRowNumbered nodes) rows → All (IsRowNumbered (with_row nodes fields)) rows
+All-numbered nodes fields rows all = λ k d below. ((with_row-keeps nodes fields _ (all k d below).0).1, (with_row-keeps nodes fields _ (all k d below).1).1)
+
+-- the arcs of the rows before keep their indexes
+pub map-arc_in : (nodes : List ℕ) (fields : List (List ℕ)) (rows : List (List (List ℕ))) → All (IsRowNumbered nodes) rows → map (arc_in (with_row nodes fields)) rows ≡ map (arc_in nodes) rows
+map-arc_in nodes fields [] all = refl
+map-arc_in nodes fields (row ∷ rows) all =
+    let here = All-head (IsRowNumbered nodes) row rows all in
+    let from = (with_row-keeps nodes fields (name_in row 0) here.0).0 in
+    let to = (with_row-keeps nodes fields (name_in row 1) here.1).0 in
+    let arc : arc_in (with_row nodes fields) row ≡ arc_in nodes row = rw (from, to) refl in
+    ap (λ (a : Arc). a ∷ map (arc_in (with_row nodes fields)) rows) arc ∙ ap (λ (arcs : List Arc). arc_in nodes row ∷ arcs) (map-arc_in nodes fields rows (All-tail (IsRowNumbered nodes) row rows all))

@@ -1,0 +1,4 @@
+pub mod Walk
+pub mod Roads
+pub mod Reading
+pub mod Storage

@@ -1,0 +1,7 @@
+/// An arc, as it is seen from the node that it leaves.
+#[derive(Clone, Copy, Debug, PartialEq, Eq)]
+pub struct Hop {
+    /// The index of the node where it ends.
+    pub to: usize,
+    pub seconds: u32,
+}

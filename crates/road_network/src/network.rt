@@ -1,0 +1,117 @@
+ghost use Rattle.std.specs.Prelude.{◌≡◌, ◌↔◌, ℕ, ◌+◌, ◌<◌, ◌≤◌, Some, All, Contains, IsTrue, IsSome, IfOk, IfSome, length, map, nat_eq, position, slice_get};
+ghost use Rattle.road_network.specs.Roads.{IsArcAmong, IsNetwork, by_start, greatest_name, hop_of, leaving, most_arcs, most_nodes};
+ghost use Rattle.road_network.specs.Storage.{start_at};
+
+use crate::arc::Arc;
+use crate::hop::Hop;
+use crate::storage::sort_by_start;
+use indexmap::IndexSet;
+use pool_base::NodeId;
+use std::alloc::{AllocError, Global};
+use std::marker::Model;
+
+// Where the hops of a node begin.
+fn first_place(ends: &[usize], node: usize) -> usize
+    requires { node ≤ length ends.now }
+    ensures { result ≡ start_at ends.now node }
+{
+    if node == 0 { 0 } else { ends[node - 1] }
+}
+
+/// A road network: nodes by index, and the arcs that leave each.
+///
+/// It has at most 100,000 nodes and 400,000 arcs, and no arc of more than 10,000 seconds. All arcs lie
+/// in one list by starting node, with the place where those of each node end.
+#[derive(Drop)]
+pub struct Network {
+    names: IndexSet<u32>,
+    ends: Vec<usize>,
+    hops: Vec<Hop>,
+}
+
+impl Model for Network {
+    ghost use Rattle.std.specs.Prelude.{length};
+    ghost use Rattle.road_network.specs.Roads.{Roads};
+    ghost use Rattle.road_network.specs.Storage.{stored_arcs, IsStored};
+
+    ghost Value = { Roads };
+
+    ghost view = { λ a. record {
+      nodes = a.names.keys;
+      arcs = stored_arcs (length a.names.keys) a.ends.items a.hops.items;
+    } };
+
+    ghost invariant = { λ a. IsStored a.names.keys a.ends.items a.hops.items };
+}
+
+impl Network {
+    // The network of these nodes and arcs, the arcs by starting node.
+    pub(crate) fn of(
+        alloc: Global,
+        names: IndexSet<u32>,
+        arcs: &[Arc],
+    ) -> Result<Network, AllocError>
+        requires few_nodes { length names.keys ≤ most_nodes }
+        requires few_arcs { length arcs.now ≤ most_arcs }
+        requires names { All (λ name. name ≤ greatest_name) names.keys }
+        requires among { All (IsArcAmong (length names.keys)) arcs.now }
+        ensures { IfOk result (λ network. network
+            ≡ record { nodes = names.keys; arcs = by_start (length names.keys) arcs.now }) }
+    {
+        let (ends, hops) = sort_by_start(alloc, names.len(), arcs)?;
+        Ok(Network { names, ends, hops })
+    }
+
+    /// Whether some row names the node.
+    pub fn has_node(&self, node: NodeId) -> bool
+        ensures { IsTrue result ↔ Contains self.now.nodes node }
+    {
+        self.names.contains(&node.get())
+    }
+
+    /// The index of a node, by the order of first appearance; `None` exactly where no row names it.
+    pub fn index_of(&self, node: NodeId) -> Option<usize>
+        ensures value { result ≡ position (nat_eq node) self.now.nodes }
+        ensures known { IsSome result ↔ Contains self.now.nodes node }
+        ensures named { IfSome result (λ index. slice_get self.now.nodes index ≡ Some node) }
+        ensures within { IfSome result (λ index. index < length self.now.nodes) }
+    {
+        self.names.get_index_of(&node.get())
+    }
+
+    /// The node to which `index_of` gives this index.
+    pub fn node_at(&self, index: usize) -> NodeId
+        requires { index < length self.now.nodes }
+        ensures named { slice_get self.now.nodes index ≡ Some result }
+        ensures indexed { position (nat_eq result) self.now.nodes ≡ Some index }
+    {
+        let name = self.names.as_slice()[index];
+        NodeId::new(u64::from(name)).unwrap()
+    }
+
+    /// How many nodes there are.
+    pub fn node_count(&self) -> usize
+        ensures count { result ≡ length self.now.nodes }
+        ensures kept { IsNetwork self.now }
+    {
+        self.names.len()
+    }
+
+    /// How many arcs there are.
+    pub fn arc_count(&self) -> usize
+        ensures count { result ≡ length self.now.arcs }
+        ensures few { result ≤ most_arcs }
+    {
+        self.hops.len()
+    }
+
+    /// The arcs that leave a node, each as often as the rows give it and in their order.
+    pub fn arcs_from(&self, index: usize) -> &[Hop]
+        requires { index < length self.now.nodes }
+        ensures { result.now ≡ map hop_of (leaving index self.now.arcs) }
+    {
+        let start = first_place(self.ends.as_slice(), index);
+        let end = self.ends[index];
+        &self.hops.as_slice()[start..end]
+    }
+}

@@ -1,0 +1,89 @@
+use Rattle.std.proofs.Common.{◌≡◌, ◌≢◌, ℕ, ◌<◌, Bool, true, false, ◌&&◌, cond, eqb, List, [], ◌∷◌, ◌++◌, map, length, get_or, set, refl, sym, ap, ◌∙◌, inl, inr, arith}
+use Rattle.std.specs.List.{All, filter, range_with_len}
+use Rattle.std.proofs.lemmas.Bool.{cases_eq, eq-eqb, ne_eqb, and_left, and_right, and_from}
+use Rattle.std.proofs.lemmas.List.{append-nil, map-append, length-set, get_or-set_same, get_or-set_other}
+use Rattle.std.proofs.lemmas.List.FromFn.{length-map-range_with_len, get_or-map-range_with_len, fill_by_all}
+use Rattle.std.proofs.lemmas.List.Elements.{All-head, All-tail, filter-append}
+use Rattle.request_book.specs.declared.command.Command.{Command}
+use Rattle.script_rows.specs.declared.line.Line.{Line}
+use Rattle.script_rows.specs.Round.{NumberedLanes}
+use Rattle.script_rows.specs.Building.{empty_round, with_command}
+use Rattle.script_rows.specs.Script.{commands_of, round_of}
+use Rattle.script_rows.proofs.DistinctLemmas.{map-agree}
+
+-- whether a row is one of a round's lane
+abbrev is_of : ℕ → ℕ → Line → Bool
+is_of number lane line = eqb line.round number && eqb line.lane lane
+
+-- one more row adds its command to its own round and lane
+commands_of-push : (lines : List Line) (line : Line) (number lane : ℕ) → commands_of (lines ++ line ∷ []) number lane ≡ commands_of lines number lane ++ cond (is_of number lane line) (line.command ∷ []) []
+commands_of-push lines line number lane =
+    ap (map (λ (l : Line). l.command)) (filter-append (is_of number lane) lines (line ∷ []))
+    ∙ map-append (λ (l : Line). l.command) (filter (is_of number lane) lines) (filter (is_of number lane) (line ∷ []))
+    ∙ ap (λ cs. commands_of lines number lane ++ cs) (single (is_of number lane line))
+  where
+    single : (b : Bool) → map (λ (l : Line). l.command) (cond b (line ∷ []) []) ≡ cond b (line.command ∷ []) []
+    single true = refl
+    single false = refl
+
+-- the rows of other rounds and lanes add nothing
+commands_of-push_other : (lines : List Line) (line : Line) (number lane : ℕ) → is_of number lane line ≡ false → commands_of (lines ++ line ∷ []) number lane ≡ commands_of lines number lane
+commands_of-push_other lines line number lane other =
+    commands_of-push lines line number lane
+    ∙ ap (λ b. commands_of lines number lane ++ cond b (line.command ∷ []) []) other
+    ∙ append-nil (commands_of lines number lane)
+
+-- a row's own round has its command at the end of its lane
+pub round_of-push : (lines : List Line) (line : Line) → line.lane < 16 → round_of (lines ++ line ∷ []) line.round ≡ with_command (round_of lines line.round) line.lane line.command
+round_of-push lines line within =
+    let number : ℕ = line.round in
+    let xs : List (List Command) = map (commands_of lines number) (range_with_len 0 16) in
+    let more : List Command = get_or xs line.lane [] ++ line.command ∷ [] in
+    let size : length xs ≡ 16 = length-map-range_with_len (commands_of lines number) 0 16 in
+    let each : (k : ℕ) → k < 16 → get_or (set xs line.lane more) k [] ≡ commands_of (lines ++ line ∷ []) number k = λ k below.
+    elim (cases_eq k line.lane) [
+      | inl same ↦
+          let here : get_or (set xs line.lane more) line.lane [] ≡ more = get_or-set_same xs line.lane more [] (omega (arith, size)) in
+          let was : get_or xs line.lane [] ≡ commands_of lines number line.lane = get_or-map-range_with_len (commands_of lines number) 0 16 line.lane line.lane [] within (omega arith) in
+          let is : is_of number line.lane line ≡ true = and_from (eqb line.round number) (eqb line.lane line.lane) (eq-eqb line.round number refl) (eq-eqb line.lane line.lane refl) in
+          ap (λ i. get_or (set xs line.lane more) i []) same ∙ here ∙ ap (λ cs. cs ++ line.command ∷ []) was
+          ∙ ap (λ b. commands_of lines number line.lane ++ cond b (line.command ∷ []) []) (sym is)
+          ∙ sym (commands_of-push lines line number line.lane)
+          ∙ ap (commands_of (lines ++ line ∷ []) number) (sym same)
+      | inr other ↦
+          let here : get_or (set xs line.lane more) k [] ≡ get_or xs k [] = get_or-set_other xs line.lane k more [] other in
+          let was : get_or xs k [] ≡ commands_of lines number k = get_or-map-range_with_len (commands_of lines number) 0 16 k k [] below (omega arith) in
+          let is : is_of number k line ≡ false = and_right (eqb line.round number) (eqb line.lane k) (ne_eqb line.lane k (λ e. other (sym e))) in
+          here ∙ was ∙ sym (commands_of-push_other lines line number k is)
+    ] in
+    let lanes : set xs line.lane more ≡ map (commands_of (lines ++ line ∷ []) number) (range_with_len 0 16) =
+    fill_by_all (commands_of (lines ++ line ∷ []) number) (set xs line.lane more) 16 [] (length-set xs line.lane more ∙ size) each in
+    let made : List (List Command) → NumberedLanes = λ ls. record { number = number; lanes = ls } in
+    ap made (sym lanes)
+
+-- another round stays as it was
+pub round_of-push_other : (lines : List Line) (line : Line) (number : ℕ) → number ≢ line.round → round_of (lines ++ line ∷ []) number ≡ round_of lines number
+round_of-push_other lines line number other =
+    let is : (k : ℕ) → is_of number k line ≡ false = λ k. and_left (eqb line.round number) (eqb line.lane k) (ne_eqb line.round number (λ e. other (sym e))) in
+    let lanes = map-agree (commands_of (lines ++ line ∷ []) number) (commands_of lines number) (range_with_len 0 16)
+    (λ i d below. commands_of-push_other lines line number (get_or (range_with_len 0 16) i d) (is (get_or (range_with_len 0 16) i d))) in
+    let made : List (List Command) → NumberedLanes = λ ls. record { number = number; lanes = ls } in
+    ap made lanes
+
+-- rows of other rounds give no command
+commands_of-none : (lines : List Line) (number lane : ℕ) → All (λ n. n ≢ number) (map (λ l. l.round) lines) → commands_of lines number lane ≡ []
+commands_of-none [] number lane none = refl
+commands_of-none (line ∷ lines) number lane none =
+    let other : line.round ≢ number = All-head (λ n. n ≢ number) line.round (map (λ l. l.round) lines) none in
+    let is : is_of number lane line ≡ false = and_left (eqb line.round number) (eqb line.lane lane) (ne_eqb line.round number other) in
+    ap (λ b. map (λ (l : Line). l.command) (cond b (line ∷ filter (is_of number lane) lines) (filter (is_of number lane) lines))) is
+    ∙ commands_of-none lines number lane (All-tail (λ n. n ≢ number) line.round (map (λ l. l.round) lines) none)
+
+-- a number that no row has gives a round without commands
+pub round_of-none : (lines : List Line) (number : ℕ) → All (λ n. n ≢ number) (map (λ l. l.round) lines) → round_of lines number ≡ empty_round number
+round_of-none lines number none =
+    let nothing : ℕ → List Command = λ _. [] in
+    let lanes = map-agree (commands_of lines number) nothing (range_with_len 0 16)
+    (λ i d below. commands_of-none lines number (get_or (range_with_len 0 16) i d) none) in
+    let made : List (List Command) → NumberedLanes = λ ls. record { number = number; lanes = ls } in
+    ap made lanes

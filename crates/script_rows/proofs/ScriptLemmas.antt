@@ -1,0 +1,229 @@
+use Rattle.std.proofs.Common.{◌≡◌, ◌≢◌, ◌⊎◌, ℕ, ◌+◌, ◌-◌, ◌<◌, ◌≤◌, true, false, ◌&&◌, cond, eqb, nat_lt, List, [], ◌∷◌, ◌++◌, map, length, get_or, drop, set, Result, Ok, Err, refl, sym, ap, subst, ◌∙◌, inl, inr, arith}
+use Rattle.std.specs.List.{All, list_any}
+use Rattle.std.proofs.lemmas.Bool.{cases_order, lt-ltb, le-ltb, eq-eqb, ne_eqb, and_parts, ltb-true}
+use Rattle.std.proofs.lemmas.List.{append-nil, append_assoc, map-append, length_push, set_at, get_or_at, get_or_default, drop_more, drop_all}
+use Rattle.std.proofs.lemmas.List.Elements.{All-nil, All-push, All-weaker, All-same}
+use Rattle.script_rows.specs.declared.fault.ScriptFault.{ScriptFault}
+use Rattle.script_rows.specs.declared.fault.ScriptFault.TheVariants.{TooManyRows}
+use Rattle.script_rows.specs.declared.line.Line.{Line}
+use Rattle.script_rows.specs.declared.version.ScriptVersion.{ScriptVersion}
+use Rattle.script_rows.specs.Line.{◌>>=◌, line_in}
+use Rattle.script_rows.specs.Round.{NumberedLanes}
+use Rattle.script_rows.specs.Building.{IsBehind, empty_round, last_round, with_command, joins, with_line}
+use Rattle.script_rows.specs.Script.{lines_in, distinct, round_of, rounds_of, script_of}
+use Rattle.script_rows.proofs.LineLemmas.{IsBehind-line_in}
+use Rattle.script_rows.proofs.DistinctLemmas.{any-more, distinct-push_new, distinct-push_old, map-agree}
+use Rattle.script_rows.proofs.GroupLemmas.{round_of-push, round_of-push_other, round_of-none}
+
+-- a row that joins the last round
+pub with_line-joins : (rounds : List NumberedLanes) (line : Line) → joins rounds line.round ≡ true → with_line rounds line ≡ set rounds (length rounds - 1) (with_command (last_round rounds) line.lane line.command)
+unfolding with_line
+with_line-joins rounds line is = ap (λ b. cond b (set rounds (length rounds - 1) (with_command (last_round rounds) line.lane line.command)) (rounds ++ with_command (empty_round line.round) line.lane line.command ∷ [])) is
+
+-- a row that begins a round
+pub with_line-begins : (rounds : List NumberedLanes) (line : Line) → joins rounds line.round ≡ false → with_line rounds line ≡ rounds ++ with_command (empty_round line.round) line.lane line.command ∷ []
+unfolding with_line
+with_line-begins rounds line is = ap (λ b. cond b (set rounds (length rounds - 1) (with_command (last_round rounds) line.lane line.command)) (rounds ++ with_command (empty_round line.round) line.lane line.command ∷ [])) is
+
+-- the last round of a list that ends in it
+last_round-push : (rounds : List NumberedLanes) (round : NumberedLanes) → last_round (rounds ++ round ∷ []) ≡ round
+last_round-push rounds round =
+    get_or_at rounds round [] (empty_round 0) (length (rounds ++ round ∷ []) - 1) (omega (arith, length_push rounds round))
+
+joins-push : (rounds : List NumberedLanes) (round : NumberedLanes) (number : ℕ) → joins (rounds ++ round ∷ []) number ≡ eqb round.number number
+joins-push rounds round number =
+    ap (λ b. b && eqb (last_round (rounds ++ round ∷ [])).number number) (lt-ltb 0 (length (rounds ++ round ∷ [])) (omega (arith, length_push rounds round)))
+    ∙ ap (λ (r : NumberedLanes). eqb r.number number) (last_round-push rounds round)
+
+-- the numbers of rows
+abbrev numbers : List Line → List ℕ
+numbers lines = map (λ l. l.round) lines
+
+-- the last number of rows, and those before it
+record LastIs (lines : List Line) (last : ℕ) : Type 0 where
+  front : List ℕ
+  ends : distinct (numbers lines) ≡ front ++ last ∷ []
+  before : All (λ n. n < last) front
+  here : list_any (λ n. eqb n last) (numbers lines) ≡ true
+
+-- the rounds of rows whose numbers rise up to the last
+record Built (lines : List Line) (last : ℕ) (rounds : List NumberedLanes) : Type 0 where
+  made : rounds ≡ rounds_of lines
+  below : All (λ n. n ≤ last) (numbers lines)
+  shape : (lines ≡ []) ⊎ LastIs lines last
+
+Built-none : Built [] 0 []
+unfolding rounds_of
+Built-none = record { made = refl; below = All-nil (λ n. n ≤ 0); shape = inl refl }
+
+-- the numbers with one more row
+numbers-push : (lines : List Line) (line : Line) → numbers (lines ++ line ∷ []) ≡ numbers lines ++ line.round ∷ []
+numbers-push lines line = map-append (λ (l : Line). l.round) lines (line ∷ [])
+
+below-push : (lines : List Line) (line : Line) (last : ℕ) → last ≤ line.round → All (λ n. n ≤ last) (numbers lines) → All (λ n. n ≤ line.round) (numbers (lines ++ line ∷ []))
+below-push lines line last back below =
+    All-same (λ n. n ≤ line.round) (numbers (lines ++ line ∷ [])) (numbers lines ++ line.round ∷ []) (numbers-push lines line)
+    (All-push (λ n. n ≤ line.round) (numbers lines) line.round (All-weaker (λ n. n ≤ last) (λ n. n ≤ line.round) (λ n h. omega arith) (numbers lines) below) (omega arith))
+
+-- the first row makes the first round
+first_line : (line : Line) → line.lane < 16 → with_line [] line ≡ rounds_of ([] ++ line ∷ [])
+unfolding rounds_of
+first_line line within =
+    with_line-begins [] line refl
+    ∙ ap (λ (r : NumberedLanes). r ∷ []) (sym (round_of-push [] line within ∙ ap (λ r. with_command r line.lane line.command) (round_of-none [] line.round (All-nil (λ n. n ≢ line.round)))))
+
+first_of_none : (lines : List Line) (line : Line) → line.lane < 16 → lines ≡ [] → with_line (rounds_of lines) line ≡ rounds_of (lines ++ line ∷ [])
+unfolding rounds_of
+first_of_none lines line within none =
+    ap (λ ls. with_line (rounds_of ls) line) none ∙ first_line line within ∙ ap (λ ls. rounds_of (ls ++ line ∷ [])) (sym none)
+
+-- a row of the last round
+more_of_last : (lines : List Line) (line : Line) (front : List ℕ) → line.lane < 16 → distinct (numbers lines) ≡ front ++ line.round ∷ [] → All (λ n. n < line.round) front → list_any (λ n. eqb n line.round) (numbers lines) ≡ true → with_line (rounds_of lines) line ≡ rounds_of (lines ++ line ∷ [])
+unfolding rounds_of
+more_of_last lines line front within ends before here =
+    let all : List Line = lines ++ line ∷ [] in
+    let firsts : List NumberedLanes = map (round_of lines) front in
+    let own : NumberedLanes = round_of lines line.round in
+    let was : map (round_of lines) (distinct (numbers lines)) ≡ firsts ++ own ∷ [] = ap (map (round_of lines)) ends ∙ map-append (round_of lines) front (line.round ∷ []) in
+    let joined : joins (firsts ++ own ∷ []) line.round ≡ true = joins-push firsts own line.round ∙ eq-eqb line.round line.round refl in
+    let end : length (firsts ++ own ∷ []) - 1 ≡ length firsts = omega (arith, length_push firsts own) in
+    let new : with_line (firsts ++ own ∷ []) line ≡ firsts ++ with_command own line.lane line.command ∷ [] =
+    with_line-joins (firsts ++ own ∷ []) line joined
+    ∙ ap (λ r. set (firsts ++ own ∷ []) (length (firsts ++ own ∷ []) - 1) (with_command r line.lane line.command)) (last_round-push firsts own)
+    ∙ set_at firsts own [] (with_command own line.lane line.command) (length (firsts ++ own ∷ []) - 1) (sym end) in
+    let same : map (round_of all) front ≡ firsts =
+    map-agree (round_of all) (round_of lines) front
+    (All-weaker (λ n. n < line.round) (λ n. round_of all n ≡ round_of lines n) (λ n below. round_of-push_other lines line n (λ e. omega arith)) front before) in
+    let names : distinct (numbers all) ≡ front ++ line.round ∷ [] = ap distinct (numbers-push lines line) ∙ distinct-push_old (numbers lines) line.round here ∙ ends in
+    ap (λ rs. with_line rs line) was ∙ new
+    ∙ ap (λ r. firsts ++ r ∷ []) (sym (round_of-push lines line within))
+    ∙ ap (λ rs. rs ++ round_of all line.round ∷ []) (sym same)
+    ∙ sym (map-append (round_of all) front (line.round ∷ []))
+    ∙ ap (map (round_of all)) (sym names)
+
+-- a row of a later round
+later_line : (lines : List Line) (line : Line) (front : List ℕ) (last : ℕ) → line.lane < 16 → last < line.round → distinct (numbers lines) ≡ front ++ last ∷ [] → All (λ n. n < last) front → All (λ n. n ≤ last) (numbers lines) → with_line (rounds_of lines) line ≡ rounds_of (lines ++ line ∷ [])
+unfolding rounds_of
+later_line lines line front last within later ends before below =
+    let all : List Line = lines ++ line ∷ [] in
+    let ns : List ℕ = distinct (numbers lines) in
+    let olds : List NumberedLanes = map (round_of lines) ns in
+    let was : olds ≡ map (round_of lines) front ++ round_of lines last ∷ [] = ap (map (round_of lines)) ends ∙ map-append (round_of lines) front (last ∷ []) in
+    let apart : joins olds line.round ≡ false =
+    ap (λ rs. joins rs line.round) was ∙ joins-push (map (round_of lines) front) (round_of lines last) line.round ∙ ne_eqb last line.round (λ e. omega arith) in
+    let new : All (λ n. n ≢ line.round) (numbers lines) = All-weaker (λ n. n ≤ last) (λ n. n ≢ line.round) (λ n h e. omega arith) (numbers lines) below in
+    let small : All (λ n. n ≢ line.round) ns =
+    All-same (λ n. n ≢ line.round) ns (front ++ last ∷ []) ends
+    (All-push (λ n. n ≢ line.round) front last (All-weaker (λ n. n < last) (λ n. n ≢ line.round) (λ n h e. omega arith) front before) (λ e. omega arith)) in
+    let same : map (round_of all) ns ≡ olds =
+    map-agree (round_of all) (round_of lines) ns
+    (All-weaker (λ n. n ≢ line.round) (λ n. round_of all n ≡ round_of lines n) (λ n other. round_of-push_other lines line n other) ns small) in
+    let own : round_of all line.round ≡ with_command (empty_round line.round) line.lane line.command =
+    round_of-push lines line within ∙ ap (λ r. with_command r line.lane line.command) (round_of-none lines line.round new) in
+    let names : distinct (numbers all) ≡ ns ++ line.round ∷ [] = ap distinct (numbers-push lines line) ∙ distinct-push_new (numbers lines) line.round new in
+    with_line-begins olds line apart
+    ∙ ap (λ r. olds ++ r ∷ []) (sym own)
+    ∙ ap (λ rs. rs ++ round_of all line.round ∷ []) (sym same)
+    ∙ sym (map-append (round_of all) ns (line.round ∷ []))
+    ∙ ap (map (round_of all)) (sym names)
+
+-- the rounds with one more row are the rounds of one row more
+Built-more : (lines : List Line) (last : ℕ) (rounds : List NumberedLanes) (line : Line) → Built lines last rounds → IsBehind last line → Built (lines ++ line ∷ []) line.round (with_line rounds line)
+Built-more lines last rounds line built behind =
+    let found : list_any (λ n. eqb n line.round) (numbers (lines ++ line ∷ [])) ≡ true =
+    ap (list_any (λ n. eqb n line.round)) (numbers-push lines line) ∙ any-more (λ n. eqb n line.round) (numbers lines) line.round (eq-eqb line.round line.round refl) in
+    let as_made : with_line rounds line ≡ with_line (rounds_of lines) line = ap (λ rs. with_line rs line) built.made in
+    elim built.shape [
+      | inl none ↦ record {
+        made = as_made ∙ first_of_none lines line behind.lane none;
+        below = below-push lines line last behind.round built.below;
+        shape = inr (record { front = []; ends = ap (λ ls. distinct (numbers (ls ++ line ∷ []))) none; before = All-nil (λ n. n < line.round); here = found });
+      }
+      | inr some ↦
+          elim (cases_order last line.round) [
+            | inl same ↦
+                let ends : distinct (numbers lines) ≡ some.front ++ line.round ∷ [] = some.ends ∙ ap (λ n. some.front ++ n ∷ []) same in
+                let before : All (λ n. n < line.round) some.front = All-weaker (λ n. n < last) (λ n. n < line.round) (λ n h. omega arith) some.front some.before in
+                let here : list_any (λ n. eqb n line.round) (numbers lines) ≡ true = subst (λ m. list_any (λ n. eqb n m) (numbers lines) ≡ true) same some.here in
+                record {
+                  made = as_made ∙ more_of_last lines line some.front behind.lane ends before here;
+                  below = below-push lines line last behind.round built.below;
+                  shape = inr (record { front = some.front; ends = ap distinct (numbers-push lines line) ∙ distinct-push_old (numbers lines) line.round here ∙ ends; before = before; here = found });
+                }
+            | inr order ↦
+                elim order [
+                  | inl later ↦
+                      let new : All (λ n. n ≢ line.round) (numbers lines) = All-weaker (λ n. n ≤ last) (λ n. n ≢ line.round) (λ n h e. omega arith) (numbers lines) built.below in
+                      record {
+                        made = as_made ∙ later_line lines line some.front last behind.lane later some.ends some.before built.below;
+                        below = below-push lines line last behind.round built.below;
+                        shape = inr (record {
+                          front = distinct (numbers lines);
+                          ends = ap distinct (numbers-push lines line) ∙ distinct-push_new (numbers lines) line.round new;
+                          before = All-same (λ n. n < line.round) (distinct (numbers lines)) (some.front ++ last ∷ []) some.ends
+                              (All-push (λ n. n < line.round) some.front last (All-weaker (λ n. n < last) (λ n. n < line.round) (λ n h. omega arith) some.front some.before) later);
+                          here = found;
+                        });
+                      }
+                  | inr back ↦ (let round = behind.round in absurd (omega arith))
+                ]
+          ]
+    ]
+
+-- the rounds behind these, as rows come, or the first refusal
+abbrev pub script_from : ScriptVersion → ℕ → ℕ → List NumberedLanes → List (List (List ℕ)) → Result (List NumberedLanes) ScriptFault
+script_from version row last rounds [] = Ok rounds
+script_from version row last rounds (fields ∷ records) =
+    line_in version row last fields >>= λ line. script_from version (row + 1) line.round (with_line rounds line) records
+
+-- the rows behind these, put behind them, give their rounds
+script_from-lines : (version : ScriptVersion) (row last : ℕ) (lines : List Line) (rounds : List NumberedLanes) (records : List (List (List ℕ))) → Built lines last rounds → script_from version row last rounds records ≡ (lines_in version row last records >>= λ more. Ok (rounds_of (lines ++ more)))
+script_from-lines version row last lines rounds [] built = ap (λ rs. Ok rs) (built.made ∙ ap rounds_of (sym (append-nil lines)))
+script_from-lines version row last lines rounds (fields ∷ records) built =
+    by_line (λ line behind. script_from-lines version (row + 1) line.round (lines ++ line ∷ []) (with_line rounds line) records (Built-more lines last rounds line built behind))
+    (line_in version row last fields) (λ line is. IsBehind-line_in version row last fields line is)
+  where
+    joined : (line : Line) (r : Result (List Line) ScriptFault) → (r >>= λ more. Ok (rounds_of ((lines ++ line ∷ []) ++ more))) ≡ ((r >>= λ more. Ok (line ∷ more)) >>= λ more. Ok (rounds_of (lines ++ more)))
+    joined line (Err fault) = refl
+    joined line (Ok more) = ap (λ ls. Ok (rounds_of ls)) (append_assoc lines (line ∷ []) more)
+
+    by_line : ((line : Line) → IsBehind last line → script_from version (row + 1) line.round (with_line rounds line) records ≡ (lines_in version (row + 1) line.round records >>= λ more. Ok (rounds_of ((lines ++ line ∷ []) ++ more)))) → (r : Result Line ScriptFault) → ((line : Line) → r ≡ Ok line → IsBehind last line) → (r >>= λ line. script_from version (row + 1) line.round (with_line rounds line) records) ≡ ((r >>= λ line. (lines_in version (row + 1) line.round records >>= λ more. Ok (line ∷ more))) >>= λ more. Ok (rounds_of (lines ++ more)))
+    by_line later (Err fault) behind = refl
+    by_line later (Ok line) behind =
+        later line (behind line refl) ∙ joined line (lines_in version (row + 1) line.round records)
+
+-- all rows, from the first on
+pub script_from-first : (version : ScriptVersion) (records : List (List (List ℕ))) → script_from version 1 0 [] records ≡ (lines_in version 1 0 records >>= λ lines. Ok (rounds_of lines))
+script_from-first version records = script_from-lines version 1 0 [] [] records Built-none
+
+-- a row that is read
+pub script_from-step : (version : ScriptVersion) (row last : ℕ) (rounds : List NumberedLanes) (records : List (List (List ℕ))) (line : Line) → row < length records → line_in version (row + 1) last (get_or records row []) ≡ Ok line → script_from version (row + 1) last rounds (drop row records) ≡ script_from version (row + 1 + 1) line.round (with_line rounds line) (drop (row + 1) records)
+script_from-step version row last rounds records line within is =
+    ap (script_from version (row + 1) last rounds) (drop_more records row [] within)
+    ∙ ap (λ r. r >>= λ l. script_from version (row + 1 + 1) l.round (with_line rounds l) (drop (row + 1) records)) is
+
+-- a row that is refused
+pub script_from-fault : (version : ScriptVersion) (row last : ℕ) (rounds : List NumberedLanes) (records : List (List (List ℕ))) (fault : ScriptFault) → row < length records → line_in version (row + 1) last (get_or records row []) ≡ Err fault → script_from version (row + 1) last rounds (drop row records) ≡ Err fault
+script_from-fault version row last rounds records fault within is =
+    ap (script_from version (row + 1) last rounds) (drop_more records row [] within)
+    ∙ ap (λ r. r >>= λ l. script_from version (row + 1 + 1) l.round (with_line rounds l) (drop (row + 1) records)) is
+
+-- after the last row
+pub script_from-end : (version : ScriptVersion) (row place last : ℕ) (rounds : List NumberedLanes) (records : List (List (List ℕ))) → length records ≤ row → script_from version place last rounds (drop row records) ≡ Ok rounds
+script_from-end version row place last rounds records past = ap (script_from version place last rounds) (drop_all row records past)
+
+-- a script of few rows
+pub script_of-few : (version : ScriptVersion) (records : List (List (List ℕ))) → length records ≤ 200000 → script_of version records ≡ script_from version 1 0 [] records
+script_of-few version records few =
+    ap (λ b. cond b (Err TooManyRows) (lines_in version 1 0 records >>= λ lines. Ok (rounds_of lines))) (le-ltb 200000 (length records) few)
+    ∙ sym (script_from-first version records)
+
+-- a command that is added to the last round, which has the row's number
+pub added_to_last : (rounds : List NumberedLanes) (line : Line) (count : ℕ) (there : NumberedLanes) → joins rounds line.round ≡ true → count ≡ length rounds → there ≡ get_or rounds (count - 1) there → set rounds (count - 1) (with_command there line.lane line.command) ≡ with_line rounds line
+added_to_last rounds line count there is size read =
+    let some : 0 < length rounds = ltb-true 0 (length rounds) (and_parts (nat_lt 0 (length rounds)) (eqb (last_round rounds).number line.round) is).0 in
+    let place : count - 1 ≡ length rounds - 1 = ap (λ n. n - 1) size in
+    let here : there ≡ last_round rounds = read ∙ ap (λ n. get_or rounds n there) place ∙ get_or_default rounds (length rounds - 1) there (empty_round 0) (omega arith) in
+    ap (λ n. set rounds n (with_command there line.lane line.command)) place
+    ∙ ap (λ r. set rounds (length rounds - 1) (with_command r line.lane line.command)) here
+    ∙ sym (with_line-joins rounds line is)

@@ -1,0 +1,24 @@
+use Rattle.std.specs.Prelude.{◌≡◌, ℕ, List, [], length, slice_index_or}
+use Rattle.std.specs.List.{All}
+use Rattle.request_book.specs.declared.command.Command.{Command}
+use Rattle.request_book.specs.declared.command.Command.TheVariants.{Seal, Close}
+
+-- a round's number, and its lanes with their commands in order
+pub record NumberedLanes : Type 0 where
+  pub number : ℕ
+  pub lanes : List (List Command)
+
+-- the commands of a lane
+abbrev pub lane_at : NumberedLanes → ℕ → List Command
+lane_at round lane = slice_index_or round.lanes lane []
+
+-- a command may stand in a lane: a seal in lane 0 alone, and a close in none
+abbrev pub MayStand : ℕ → Command → Type 0
+MayStand lane (Seal _) = lane ≡ 0
+MayStand lane (Close _ _) = ⊥
+MayStand lane _ = Unit {0}
+
+-- what every round keeps
+pub record IsRound (round : NumberedLanes) : Type 0 where
+  pub sixteen : length round.lanes ≡ 16
+  pub stand : (lane : ℕ) → All (MayStand lane) (lane_at round lane)

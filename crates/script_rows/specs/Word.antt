@@ -1,0 +1,48 @@
+use Rattle.std.specs.Prelude.{ℕ, ◌+◌, ◌-◌, List, [], ◌∷◌, Bool, Option, codes}
+use Rattle.std.specs.List.{find, range_with_len}
+use Rattle.std.specs.Str.{bytes_eq}
+use Rattle.script_rows.specs.declared.version.ScriptVersion.{ScriptVersion}
+use Rattle.script_rows.specs.declared.version.ScriptVersion.TheVariants.{One, Two}
+use Rattle.script_rows.specs.declared.word.Word.{Word}
+use Rattle.script_rows.specs.declared.word.Word.TheVariants.{Submit, Cancel, Report, Pickup, Dropoff, Seal}
+
+-- the word of a command
+abbrev pub name_of : Word → List ℕ
+name_of Submit = codes "submit"
+name_of Cancel = codes "cancel"
+name_of Report = codes "report"
+name_of Pickup = codes "pickup"
+name_of Dropoff = codes "dropoff"
+name_of Seal = codes "seal"
+
+-- a field names a command
+abbrev pub is_named : List ℕ → Word → Bool
+is_named field word = bytes_eq (name_of word) field
+
+-- the command that a field names
+unfoldable pub word_of : List ℕ → Option Word
+word_of field = find (is_named field) (Submit ∷ Cancel ∷ Report ∷ Pickup ∷ Dropoff ∷ Seal ∷ [])
+
+-- how many columns a script has: the second version adds the party
+abbrev pub columns_of : ScriptVersion → ℕ
+columns_of One = 7
+columns_of Two = 8
+
+-- the header line of a script
+abbrev pub header_of : ScriptVersion → List ℕ
+header_of One = codes "round,lane,command,a,b,c,d"
+header_of Two = codes "round,lane,command,a,b,c,d,e"
+
+-- how many of the columns behind its word a command uses
+abbrev pub used_by : ScriptVersion → Word → ℕ
+used_by One Submit = 4
+used_by Two Submit = 5
+used_by _ Cancel = 1
+used_by _ Report = 3
+used_by _ Pickup = 3
+used_by _ Dropoff = 3
+used_by _ Seal = 1
+
+-- the columns that a command leaves empty, from 0
+abbrev pub unused_by : ScriptVersion → Word → List ℕ
+unused_by version word = range_with_len (3 + used_by version word) (columns_of version - (3 + used_by version word))

@@ -1,0 +1,9 @@
+use request_book::Command;
+
+/// A row of a script.
+#[derive(Debug, Drop)]
+pub(crate) struct Line {
+    pub(crate) round: u32,
+    pub(crate) lane: u8,
+    pub(crate) command: Command,
+}

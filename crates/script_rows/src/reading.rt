@@ -1,0 +1,114 @@
+ghost use Rattle.std.specs.Prelude.{◌≡◌, ◌≢◌, ◌+◌, ◌<◌, length, IsTrue, Ok, Err, IfOk, IfErr, OnOk};
+ghost use Rattle.pool_io.specs.Table.{record_at};
+ghost use Rattle.script_rows.specs.Word.{columns_of};
+ghost use Rattle.script_rows.specs.Table.{IsRowOf};
+ghost use Rattle.script_rows.specs.Line.{line_in};
+ghost use Rattle.script_rows.specs.Building.{IsBehind, joins, with_line};
+ghost use Rattle.script_rows.specs.Script.{script_of};
+
+use crate::fault::ScriptFault;
+use crate::fields::{command, leaves_empty, number};
+use crate::line::Line;
+use crate::round::Round;
+use crate::script::Script;
+use crate::version::ScriptVersion;
+use crate::word::Word;
+use pool_io::Rows;
+use std::alloc::Global;
+
+/// A row, behind a row of round `last`.
+#[tactic(auto, unfolding(crate::specs::Line::line_in))]
+fn read_line(
+    rows: &Rows,
+    row: usize,
+    version: ScriptVersion,
+    last: u32,
+) -> Result<Line, ScriptFault>
+    requires { IsRowOf rows.now row version }
+    ensures { result ≡ line_in version (row + 1) last (record_at rows.now row) }
+{
+    let place = row as u64 + 1;
+    let round = number(rows, row, 0)?;
+    let lane = number(rows, row, 1)?;
+    if lane > 15 {
+        return Err(ScriptFault::LaneRange { row: place });
+    }
+    if round < last {
+        return Err(ScriptFault::RoundBack { row: place });
+    }
+    let Some(word) = Word::of(rows.field(row, 2)) else {
+        return Err(ScriptFault::UnknownCommand { row: place });
+    };
+    let command = command(rows, row, version, word)?;
+    if !leaves_empty(rows, row, version, word) {
+        return Err(ScriptFault::ExtraField { row: place });
+    }
+    if word == Word::Seal && lane != 0 {
+        return Err(ScriptFault::SealLane { row: place });
+    }
+    Ok(Line {
+        round,
+        lane: lane as u8,
+        command,
+    })
+}
+
+/// Whether the last round has this number.
+fn joins(rounds: &[Round], number: u32) -> bool
+    ensures value { result ≡ joins rounds.now number }
+    ensures some { IsTrue result → 0 < length rounds.now }
+{
+    match rounds.last() {
+        Some(round) => round.number() == number,
+        None => false,
+    }
+}
+
+/// Puts a row's command into the last round, where it has the row's number, or else into a new round.
+fn add_line(alloc: Global, rounds: &mut Vec<Round>, line: Line) -> Result<(), ScriptFault>
+    requires { IsBehind 0 line }
+    ensures added { OnOk result (rounds.new.items ≡ with_line rounds.old.items line) }
+    ensures refused { IfErr result (λ fault. fault ≡ ScriptFault.OutOfMemory) }
+{
+    let Line {
+        round: number,
+        lane,
+        command,
+    } = line;
+    if joins(rounds, number) {
+        let last = rounds.len() - 1;
+        return rounds[last].add(lane, command);
+    }
+    let mut round = Round::new(alloc, number)?;
+    round.add(lane, command)?;
+    rounds.push(round)?;
+    Ok(())
+}
+
+/// The script that rows give: of the first version without a party, of the second with one.
+///
+/// More than 200,000 rows are refused. Else the first fault is given, row for row, and in each row in
+/// this order: the numbers of round and lane, the lane's range, a round below the row before, an unknown
+/// command, the numbers of the fields that the command uses, the party, a field that it doesn't use and
+/// that isn't empty, a seal outside lane 0.
+pub fn read_script(
+    alloc: Global,
+    rows: &Rows,
+    version: ScriptVersion,
+) -> Result<Script, ScriptFault>
+    requires { rows.now.columns ≡ columns_of version }
+    ensures accepted { IfOk result (λ script. script_of version rows.now.records ≡ Ok script) }
+    ensures refused { IfErr result (λ fault. fault ≢ ScriptFault.OutOfMemory → script_of version rows.now.records ≡ Err fault) }
+{
+    if rows.len() > 200_000 {
+        return Err(ScriptFault::TooManyRows);
+    }
+    let mut rounds = Vec::new(alloc);
+    let mut last = 0;
+    for row in 0..rows.len() {
+        let line = read_line(rows, row, version, last)?;
+        last = line.round;
+        add_line(alloc, &mut rounds, line)?;
+    }
+    Ok(Script::of(rounds))
+}

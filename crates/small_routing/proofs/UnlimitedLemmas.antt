@@ -1,0 +1,152 @@
+use Rattle.std.proofs.Common.{◌≡◌, ℕ, zero, suc, ◌+◌, ◌-◌, ◌*◌, ◌<◌, ◌≤◌, List, [], ◌∷◌, length, map, get_or, Option, None, Some, refl, sym, ap, ◌∙◌, subst, arith}
+use Rattle.std.specs.Prelude.{All, IfSome, IfNone, fold}
+use Rattle.std.specs.List.{AllByRecursion}
+use Rattle.std.proofs.lemmas.List.{get_or-map, length-map}
+use Rattle.std.proofs.lemmas.List.Elements.{All-map, All-weaker}
+use Rattle.pool_base.specs.TravelTime.{never, longest, IsTravelTime}
+use Rattle.stop_orders.specs.declared.leg.Leg.{Leg}
+use Rattle.stop_orders.specs.declared.route.Route.{Route}
+use Rattle.stop_orders.specs.declared.task.Task.{Task}
+use Rattle.stop_orders.specs.declared.stop.Stop.{Stop}
+use Rattle.stop_orders.specs.declared.stop.Stop.TheVariants.{Pick, Drop, Alight}
+use Rattle.stop_orders.specs.Order.{IsKnown, IsOrder}
+use Rattle.stop_orders.specs.Visit.{place_of, latest_of, boarding_of, room_after, lateness, Reaches, ServesFrom, delay_from}
+use Rattle.stop_orders.specs.Task.{no_leg, IsLeg, IsTask, persons, leg_at, visit_at, visits_of, free_seats, IsOrderOf, ReachesAll, order_delay, Serves}
+use Rattle.stop_orders.proofs.ScanLemmas.{order_short}
+use Rattle.small_routing.specs.Label.{IsRoutable, IsRoutableLeg}
+use Rattle.small_routing.specs.Unlimited.{without_latest, without_limits}
+use Rattle.small_routing.proofs.LabelLemmas.{routable}
+
+leg_unlimited : (legs : List Leg) (j : ℕ) → j < length legs → leg_at (map without_latest legs) j ≡ without_latest (leg_at legs j)
+leg_unlimited legs j h = get_or-map without_latest legs j no_leg no_leg h
+
+parties_unlimited : (n : ℕ) (legs : List Leg) → fold (λ m leg. m + leg.party) n (map without_latest legs) ≡ fold (λ m leg. m + leg.party) n legs
+parties_unlimited n [] = refl
+parties_unlimited n (leg ∷ legs) = parties_unlimited (n + leg.party) legs
+
+persons_unlimited : (legs : List Leg) → persons (map without_latest legs) ≡ persons legs
+persons_unlimited legs = parties_unlimited 0 legs
+
+pub room_unlimited : (task : Task) → free_seats (without_limits task) ≡ free_seats task
+room_unlimited task = ap (λ n. task.seats - n) (persons_unlimited task.aboard.items)
+
+-- the task can be searched without the limits
+pub routable_unlimited : (points : ℕ) (task : Task) → IsTask points task → IsRoutable points (without_limits task)
+routable_unlimited points task valid =
+    let r = routable points task valid in
+    record {
+      start = r.start;
+      ready = r.ready;
+      dwell = r.dwell;
+      seats = r.seats;
+      seated = omega (arith, persons_unlimited task.aboard.items, r.seated);
+      passenger_count = omega (arith, length-map task.aboard.items without_latest, r.passenger_count);
+      rider_count = r.rider_count;
+      passengers = All-map (IsRoutableLeg points) without_latest task.aboard.items
+          (All-weaker (IsRoutableLeg points) (λ leg. IsRoutableLeg points (without_latest leg)) (λ leg h. record { origin = h.origin; destination = h.destination; party = h.party }) task.aboard.items r.passengers);
+      riders = r.riders;
+    }
+
+module _ (points : ℕ) (tau : ℕ → ℕ → ℕ) (t : IsTravelTime points tau) (task : Task) (valid : IsTask points task) (alone : task.riders.items ≡ []) where
+  nobody : (i : ℕ) → i < length task.riders.items → ⊥
+  nobody i h = let none : length task.riders.items ≡ 0 = ap length alone in omega arith
+
+  -- what differs is the latest second alone
+  place_same : (s : Stop) → IsKnown (length task.riders.items) (length task.aboard.items) s → place_of (visit_at (without_limits task) s) ≡ place_of (visit_at task s)
+  place_same (Pick i) h = absurd (nobody i h)
+  place_same (Drop i) h = absurd (nobody i h)
+  place_same (Alight j) h = ap (λ leg. leg.destination) (leg_unlimited task.aboard.items j h)
+
+  late_same : (s : Stop) → IsKnown (length task.riders.items) (length task.aboard.items) s → (second : ℕ) → lateness (visit_at (without_limits task) s) second ≡ lateness (visit_at task s) second
+  late_same (Pick i) h second = absurd (nobody i h)
+  late_same (Drop i) h second = absurd (nobody i h)
+  late_same (Alight j) h second = ap (λ leg. second - leg.ideal) (leg_unlimited task.aboard.items j h)
+
+  latest_far : (s : Stop) → IsKnown (length task.riders.items) (length task.aboard.items) s → latest_of (visit_at (without_limits task) s) ≡ 18446744073709551615
+  latest_far (Pick i) h = absurd (nobody i h)
+  latest_far (Drop i) h = absurd (nobody i h)
+  latest_far (Alight j) h = ap (λ leg. leg.latest_dropoff) (leg_unlimited task.aboard.items j h)
+
+  nobody_boards : (s : Stop) → IsKnown (length task.riders.items) (length task.aboard.items) s → boarding_of (visit_at (without_limits task) s) ≡ 0
+  nobody_boards (Pick i) h = absurd (nobody i h)
+  nobody_boards (Drop i) h = absurd (nobody i h)
+  nobody_boards (Alight j) h = refl
+
+  reaches_unlimited : (stops : List Stop) (place free room : ℕ) → AllByRecursion (IsKnown (length task.riders.items) (length task.aboard.items)) stops → ServesFrom tau task.dwell place free room (visits_of (without_limits task) stops)
+      → Reaches tau place (visits_of task stops)
+  reaches_unlimited [] place free room known serves = tt
+  reaches_unlimited (s ∷ stops) place free room known serves =
+      let v = visit_at (without_limits task) s in
+      let e = place_same s known.0 in
+      let rest = reaches_unlimited stops (place_of v) (free + tau place (place_of v) + task.dwell) (room_after v room) known.1 serves.3 in
+      (subst (λ x. tau place x < never) e serves.0, subst (λ x. Reaches tau x (visits_of task stops)) e rest)
+
+  serves_unlimited : (stops : List Stop) (place free room : ℕ) → AllByRecursion (IsKnown (length task.riders.items) (length task.aboard.items)) stops → free + length stops * 1000000600 ≤ 30000000000 → Reaches tau place (visits_of task stops)
+      → ServesFrom tau task.dwell place free room (visits_of (without_limits task) stops)
+  serves_unlimited [] place free room known early reach = tt
+  serves_unlimited (s ∷ stops) place free room known early reach =
+      let v = visit_at (without_limits task) s in
+      let e = place_same s known.0 in
+      let here : tau place (place_of v) < never = subst (λ x. tau place x < never) (sym e) reach.0 in
+      let hop : tau place (place_of v) ≤ longest = t.range place (place_of v) here in
+      let far = latest_far s known.0 in
+      let board = nobody_boards s known.0 in
+      let rest = serves_unlimited stops (place_of v) (free + tau place (place_of v) + task.dwell) (room_after v room) known.1 (omega (arith, early, hop, valid.dwell)) (subst (λ x. Reaches tau x (visits_of task stops)) (sym e) reach.1) in
+      (here, omega (arith, early, hop, far), omega (arith, board), rest)
+
+  delay_unlimited : (stops : List Stop) (place free : ℕ) → AllByRecursion (IsKnown (length task.riders.items) (length task.aboard.items)) stops → delay_from tau task.dwell place free (visits_of (without_limits task) stops) ≡ delay_from tau task.dwell place free (visits_of task stops)
+  delay_unlimited [] place free known = refl
+  delay_unlimited (s ∷ stops) place free known =
+      let v = visit_at (without_limits task) s in
+      let e = place_same s known.0 in
+      let late = late_same s known.0 (free + tau place (place_of v)) in
+      let rest = delay_unlimited stops (place_of v) (free + tau place (place_of v) + task.dwell) known.1 in
+      ap (λ n. n + delay_from tau task.dwell (place_of v) (free + tau place (place_of v) + task.dwell) (visits_of (without_limits task) stops)) late
+      ∙ ap (λ n. lateness (visit_at task s) (free + tau place (place_of v)) + n) rest
+      ∙ ap (λ x. lateness (visit_at task s) (free + tau place x) + delay_from tau task.dwell x (free + tau place x + task.dwell) (visits_of task stops)) e
+
+  order_unlimited : (stops : List Stop) → IsOrderOf (without_limits task) stops → IsOrderOf task stops
+  order_unlimited stops order = subst (λ n. IsOrder (length task.riders.items) n stops) (length-map task.aboard.items without_latest) order
+
+  limited_order : (stops : List Stop) → IsOrderOf task stops → IsOrderOf (without_limits task) stops
+  limited_order stops order = subst (λ n. IsOrder (length task.riders.items) n stops) (sym (length-map task.aboard.items without_latest)) order
+
+  pub delay_same : (stops : List Stop) → IsOrderOf task stops → order_delay tau (without_limits task) stops ≡ order_delay tau task stops
+  delay_same stops order = delay_unlimited stops task.start task.ready order.known
+
+  -- to serve without the limits is to reach all places
+  pub reaches_from_serves : (stops : List Stop) → Serves tau (without_limits task) stops → IsOrderOf task stops × ReachesAll tau task stops
+  reaches_from_serves stops serves =
+      let order = order_unlimited stops serves.order in
+      (order, reaches_unlimited stops task.start task.ready (free_seats (without_limits task)) order.known serves.in_time)
+
+  pub serves_from_reaches : (stops : List Stop) → IsOrderOf task stops → ReachesAll tau task stops → Serves tau (without_limits task) stops
+  serves_from_reaches stops order reach =
+      let short = order_short points task stops valid order in
+      record {
+        order = limited_order stops order;
+        in_time = serves_unlimited stops task.start task.ready (free_seats (without_limits task)) order.known (omega (arith, short, valid.ready)) reach;
+      }
+
+  pub unlimited_order : (best : Option Route) → IfSome best (λ route. Serves tau (without_limits task) route.stops.items) → IfSome best (λ route. IsOrderOf task route.stops.items)
+  unlimited_order None h = tt
+  unlimited_order (Some route) h = (reaches_from_serves route.stops.items h).0
+
+  pub unlimited_reaches : (best : Option Route) → IfSome best (λ route. Serves tau (without_limits task) route.stops.items) → IfSome best (λ route. ReachesAll tau task route.stops.items)
+  unlimited_reaches None h = tt
+  unlimited_reaches (Some route) h = (reaches_from_serves route.stops.items h).1
+
+  pub unlimited_delay : (best : Option Route) → IfSome best (λ route. Serves tau (without_limits task) route.stops.items) → IfSome best (λ route. route.delay ≡ order_delay tau (without_limits task) route.stops.items)
+      → IfSome best (λ route. route.delay ≡ order_delay tau task route.stops.items)
+  unlimited_delay None h d = tt
+  unlimited_delay (Some route) h d = d ∙ delay_same route.stops.items (reaches_from_serves route.stops.items h).0
+
+  pub unlimited_least : (best : Option Route) → IfSome best (λ route. (stops : List Stop) → Serves tau (without_limits task) stops → route.delay ≤ order_delay tau (without_limits task) stops)
+      → IfSome best (λ route. (stops : List Stop) → IsOrderOf task stops → ReachesAll tau task stops → route.delay ≤ order_delay tau task stops)
+  unlimited_least None h = tt
+  unlimited_least (Some route) h = λ stops order reach. subst (λ d. route.delay ≤ d) (delay_same stops order) (h stops (serves_from_reaches stops order reach))
+
+  pub unlimited_none : (best : Option Route) → IfNone best ((stops : List Stop) → Serves tau (without_limits task) stops → ⊥)
+      → IfNone best ((stops : List Stop) → IsOrderOf task stops → ReachesAll tau task stops → ⊥)
+  unlimited_none None h = λ stops order reach. h stops (serves_from_reaches stops order reach)
+  unlimited_none (Some route) h = tt

@@ -1,0 +1,4 @@
+pub mod Sums
+pub mod Keeps
+pub mod Ended
+pub mod Placing

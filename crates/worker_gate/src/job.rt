@@ -1,0 +1,19 @@
+//! Work in pieces.
+ghost use Rattle.std.specs.Prelude.{ℕ, IfOk};
+
+use pool_base::OutOfMemory;
+use std::alloc::Global;
+
+/// What is to be done of each piece.
+pub trait Job: Sync {
+    ghost use Rattle.std.specs.Prelude.{ℕ};
+
+    type Out: Send + Drop;
+
+    /// Whether an out is right for a piece of this job.
+    ghost right: { Self → ℕ → Self.Out → Type 0 };
+
+    /// Does one piece.
+    fn run(&self, alloc: Global, piece: u32) -> Result<Self::Out, OutOfMemory>
+        ensures { IfOk result (λ out. right self.now piece out) };
+}
