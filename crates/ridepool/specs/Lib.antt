@@ -1,0 +1,6 @@
+pub mod Status
+pub mod Text
+pub mod Reading
+pub mod Report
+pub mod Writing
+pub mod Explained

@@ -1,0 +1,16 @@
+use Rattle.std.specs.Prelude.{ℕ}
+use Rattle.ridepool.specs.declared.status.RunStatus.{RunStatus}
+use Rattle.ridepool.specs.declared.status.RunStatus.TheVariants.{Done, Words, Network, Fleet, Script, TooLong, ReadFault, WriteFault, OutOfMemory, Unsupported}
+
+-- the exit status
+abbrev pub code_of : RunStatus → ℕ
+code_of Done = 0
+code_of (Words fault) = 2
+code_of (Network fault) = 3
+code_of (Fleet fault) = 4
+code_of (Script fault) = 5
+code_of (TooLong which) = 6
+code_of (ReadFault which) = 7
+code_of WriteFault = 8
+code_of OutOfMemory = 9
+code_of (Unsupported part) = 10

@@ -1,0 +1,16 @@
+//! The whole program as one call: words and three inputs in, a report out.
+//!
+//! A successful run prints the report of one legal journal for each round of the script, with each lane's
+//! commands once, in their order. Every other answer has its cause in the contract of the call, and a
+//! refused input leaves nothing written.
+#![tactic(auto)]
+
+mod reading;
+mod run;
+mod status;
+mod text;
+mod writing;
+
+pub use run::ridepool;
+pub use status::{Part, RunStatus};
+pub use text::fault_text;

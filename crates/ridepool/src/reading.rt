@@ -1,0 +1,140 @@
+ghost use Rattle.std.specs.Prelude.{◌≡◌, ◌≤◌, All, Ok, IfOk, IfErr, IfSome, codes};
+ghost use Rattle.request_book.specs.Consistent.{IsNode};
+ghost use Rattle.ridepool.specs.Reading.{network_in, fleet_in, script_in, SeenSource, Gives, IsReadingFault, IsNetworkFault, IsFleetFault, IsScriptFault, RefusesNetwork, RefusesFleet, RefusesRounds, in_rows, own_fault};
+ghost use Rattle.pool_io.specs.Table.{table_of};
+ghost use Rattle.script_rows.specs.Script.{script_of};
+ghost use Rattle.script_rows.specs.Word.{columns_of};
+
+use crate::status::RunStatus;
+use batch_snapshot::Fleet;
+use fleet_state::{read_fleet, FleetFault};
+use pool_base::Which;
+use pool_io::{read_all, rows, Input, ReadAll, RowFault, Rows, Source};
+use road_network::{read_network, Network, NetworkFault};
+use script_rows::{read_script, Script, ScriptFault, ScriptVersion};
+use std::alloc::Global;
+
+/// The greatest number of bytes of an input.
+const LONGEST: u64 = 67_108_864;
+
+/// Reads a source to its end.
+fn read_input<S: Source>(
+    alloc: Global,
+    source: &mut S,
+    which: Which,
+) -> Result<Vec<u8>, RunStatus>
+    ensures bytes { IfOk result (λ bytes. IfSome (S.left source.old) (λ told. bytes.items ≡ told)) }
+    ensures cause { IfErr result (IsReadingFault (record { told = S.left source.old; taken_before = S.taken source.old; taken_after = S.taken source.new; faults_before = S.faults source.old; faults_after = S.faults source.new }) which) }
+    ensures never_falls { S.faults source.old ≤ S.faults source.new }
+{
+    match read_all(alloc, source, LONGEST) {
+        Ok(bytes) => Ok(bytes),
+        Err(ReadAll::ReadFault) => Err(RunStatus::ReadFault(which)),
+        Err(ReadAll::TooLong { .. }) => Err(RunStatus::TooLong(which)),
+        Err(ReadAll::OutOfMemory) => Err(RunStatus::OutOfMemory),
+    }
+}
+
+/// Reads the network from its source.
+pub(crate) fn network_from<S: Source>(alloc: Global, source: &mut S) -> Result<Network, RunStatus>
+    ensures network { IfOk result (λ network. IfSome (S.left source.old) (λ told. network_in told ≡ Ok network)) }
+    ensures cause { IfErr result (IsNetworkFault (record { told = S.left source.old; taken_before = S.taken source.old; taken_after = S.taken source.new; faults_before = S.faults source.old; faults_after = S.faults source.new })) }
+    ensures never_falls { S.faults source.old ≤ S.faults source.new }
+{
+    let bytes = read_input(alloc, source, Which::Network)?;
+    accept_network(alloc, &bytes)
+}
+
+/// Reads the fleet from its source.
+pub(crate) fn fleet_from<S: Source>(
+    alloc: Global,
+    source: &mut S,
+    network: &Network,
+) -> Result<Fleet, RunStatus>
+    ensures fleet { IfOk result (λ fleet. IfSome (S.left source.old) (λ told. fleet_in network.now.nodes told ≡ Ok fleet)) }
+    ensures named { IfOk result (All (λ vehicle. IsNode network.now.nodes vehicle.node)) }
+    ensures cause { IfErr result (IsFleetFault (record { told = S.left source.old; taken_before = S.taken source.old; taken_after = S.taken source.new; faults_before = S.faults source.old; faults_after = S.faults source.new }) network.now.nodes) }
+    ensures never_falls { S.faults source.old ≤ S.faults source.new }
+{
+    let bytes = read_input(alloc, source, Which::Fleet)?;
+    accept_fleet(alloc, &bytes, network)
+}
+
+/// Reads the script from its source.
+pub(crate) fn script_from<S: Source>(alloc: Global, source: &mut S) -> Result<Script, RunStatus>
+    ensures script { IfOk result (λ script. IfSome (S.left source.old) (λ told. script_in told ≡ Ok script)) }
+    ensures cause { IfErr result (IsScriptFault (record { told = S.left source.old; taken_before = S.taken source.old; taken_after = S.taken source.new; faults_before = S.faults source.old; faults_after = S.faults source.new })) }
+    ensures never_falls { S.faults source.old ≤ S.faults source.new }
+{
+    let bytes = read_input(alloc, source, Which::Script)?;
+    accept_script(alloc, &bytes)
+}
+
+#[tactic(auto, unfolding(crate::specs::Reading::network_in))]
+fn accept_network(alloc: Global, bytes: &[u8]) -> Result<Network, RunStatus>
+    ensures network { IfOk result (λ network. network_in bytes.now ≡ Ok network) }
+    ensures refused { IfErr result (RefusesNetwork bytes.now) }
+{
+    match rows(alloc, bytes, b"from,to,seconds") {
+        Err(RowFault::OutOfMemory) => Err(RunStatus::OutOfMemory),
+        Err(fault) => Err(RunStatus::Network(Input::Rows(fault))),
+        Ok(table) => match read_network(alloc, &table) {
+            Ok(network) => Ok(network),
+            Err(NetworkFault::OutOfMemory) => Err(RunStatus::OutOfMemory),
+            Err(fault) => Err(RunStatus::Network(Input::Own(fault))),
+        },
+    }
+}
+
+#[tactic(auto, unfolding(crate::specs::Reading::fleet_in))]
+fn accept_fleet(alloc: Global, bytes: &[u8], network: &Network) -> Result<Fleet, RunStatus>
+    ensures fleet { IfOk result (λ fleet. fleet_in network.now.nodes bytes.now ≡ Ok fleet) }
+    ensures named { IfOk result (All (λ vehicle. IsNode network.now.nodes vehicle.node)) }
+    ensures refused { IfErr result (RefusesFleet network.now.nodes bytes.now) }
+{
+    match rows(alloc, bytes, b"vehicle,seats,node,second") {
+        Err(RowFault::OutOfMemory) => Err(RunStatus::OutOfMemory),
+        Err(fault) => Err(RunStatus::Fleet(Input::Rows(fault))),
+        Ok(table) => match read_fleet(alloc, &table, network) {
+            Ok(fleet) => Ok(fleet),
+            Err(FleetFault::OutOfMemory) => Err(RunStatus::OutOfMemory),
+            Err(fault) => Err(RunStatus::Fleet(Input::Own(fault))),
+        },
+    }
+}
+
+#[tactic(auto, unfolding(crate::specs::Reading::script_in))]
+fn accept_script(alloc: Global, bytes: &[u8]) -> Result<Script, RunStatus>
+    ensures script { IfOk result (λ script. script_in bytes.now ≡ Ok script) }
+    ensures refused { IfErr result (RefusesRounds (script_in bytes.now)) }
+{
+    match rows(alloc, bytes, b"round,lane,command,a,b,c,d") {
+        Err(RowFault::OutOfMemory) => Err(RunStatus::OutOfMemory),
+        Err(RowFault::Header { .. }) => accept_second_version(alloc, bytes),
+        Err(fault) => Err(RunStatus::Script(Input::Rows(fault))),
+        Ok(table) => accept_rounds(alloc, &table, ScriptVersion::One),
+    }
+}
+
+fn accept_second_version(alloc: Global, bytes: &[u8]) -> Result<Script, RunStatus>
+    ensures script { IfOk result (λ script. in_rows (table_of (codes "round,lane,command,a,b,c,d,e") bytes.now) (λ t. script_of ScriptVersion.Two t.records) ≡ Ok script) }
+    ensures refused { IfErr result (RefusesRounds (in_rows (table_of (codes "round,lane,command,a,b,c,d,e") bytes.now) (λ t. script_of ScriptVersion.Two t.records))) }
+{
+    match rows(alloc, bytes, b"round,lane,command,a,b,c,d,e") {
+        Err(RowFault::OutOfMemory) => Err(RunStatus::OutOfMemory),
+        Err(fault) => Err(RunStatus::Script(Input::Rows(fault))),
+        Ok(table) => accept_rounds(alloc, &table, ScriptVersion::Two),
+    }
+}
+
+fn accept_rounds(alloc: Global, table: &Rows, version: ScriptVersion) -> Result<Script, RunStatus>
+    requires { table.now.columns ≡ columns_of version }
+    ensures script { IfOk result (λ script. script_of version table.now.records ≡ Ok script) }
+    ensures refused { IfErr result (RefusesRounds (own_fault (script_of version table.now.records))) }
+{
+    match read_script(alloc, table, version) {
+        Ok(script) => Ok(script),
+        Err(ScriptFault::OutOfMemory) => Err(RunStatus::OutOfMemory),
+        Err(fault) => Err(RunStatus::Script(Input::Own(fault))),
+    }
+}

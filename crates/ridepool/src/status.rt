@@ -1,0 +1,64 @@
+ghost use Rattle.std.specs.Prelude.{◌≡◌};
+
+use fleet_state::FleetFault;
+use pool_base::Which;
+use pool_io::Input;
+use rider_limits::WordFault;
+use road_network::NetworkFault;
+use script_rows::ScriptFault;
+
+/// A part of the program that isn't there yet.
+#[derive(Clone, Copy, Debug, PartialEq, Eq)]
+pub enum Part {
+    /// The command `load`.
+    Words,
+    /// Scripts with a seal.
+    Script,
+}
+
+/// How a run ended.
+#[derive(Debug, Drop)]
+pub enum RunStatus {
+    /// Everything was read, run and written.
+    Done,
+    /// The words are refused.
+    Words(WordFault),
+    /// The network is refused.
+    Network(Input<NetworkFault>),
+    /// The fleet is refused.
+    Fleet(Input<FleetFault>),
+    /// The script is refused.
+    Script(Input<ScriptFault>),
+    /// The input is longer than 67,108,864 bytes.
+    TooLong(Which),
+    /// A read of the input failed.
+    ReadFault(Which),
+    /// A write of the report failed.
+    WriteFault,
+    /// There was no memory.
+    OutOfMemory,
+    /// The words or the script ask for a part that isn't there yet.
+    Unsupported(Part),
+}
+
+impl RunStatus {
+    ghost use Rattle.ridepool.specs.Status.{code_of};
+
+    /// The exit status of the program.
+    pub fn code(&self) -> u8
+        ensures { result ≡ code_of self.now }
+    {
+        match self {
+            RunStatus::Done => 0,
+            RunStatus::Words(_) => 2,
+            RunStatus::Network(_) => 3,
+            RunStatus::Fleet(_) => 4,
+            RunStatus::Script(_) => 5,
+            RunStatus::TooLong(_) => 6,
+            RunStatus::ReadFault(_) => 7,
+            RunStatus::WriteFault => 8,
+            RunStatus::OutOfMemory => 9,
+            RunStatus::Unsupported(_) => 10,
+        }
+    }
+}

@@ -1,0 +1,108 @@
+ghost use Rattle.std.specs.Prelude.{◌≡◌, ◌≤◌, [], List, MatchResult};
+ghost use Rattle.std.specs.Io.KnownBytes.{Appends};
+ghost use Rattle.std.specs.List.{All};
+ghost use Rattle.dispatch_engine.specs.Run.{IsPlainRound};
+ghost use Rattle.request_book.specs.Consistent.{IsNode};
+ghost use Rattle.request_book.specs.declared.journal.Journal.{Journal};
+ghost use Rattle.ridepool.specs.Report.{RunsRounds, report_text};
+ghost use Rattle.ridepool.specs.Writing.{IsWritingFault, IsRoundsFault, IsRoundFault, WritesRound, WritesRounds, status_of};
+
+use crate::status::RunStatus;
+use batch_snapshot::Fleet;
+use dispatch_engine::run_round;
+use dispatch_report::{write_end, write_head, write_round, ReportFault};
+use pool_io::Sink;
+use request_book::Book;
+use rider_limits::Settings;
+use road_network::Network;
+use script_rows::{Round, Script};
+use std::alloc::Global;
+
+/// Runs the script and writes its report, round by round.
+pub(crate) fn write_report<K: Sink>(
+    alloc: Global,
+    out: &mut K,
+    settings: &Settings,
+    network: &Network,
+    fleet: Fleet,
+    script: &Script,
+) -> Result<(), RunStatus>
+    requires plain { All IsPlainRound script.now }
+    requires named { All (λ v. IsNode network.now.nodes v.node) fleet }
+    ensures report {
+        let i = record { settings = settings.now; roads = network.now; vehicles = fleet; rounds = script.now } in
+        MatchResult result
+            (λ _. (journals : List Journal) × RunsRounds i script.now journals × Appends (K.written out.old) (K.written out.new) (report_text i journals))
+            (IsWritingFault i (K.written out.old) (K.written out.new) (K.faults out.old) (K.faults out.new)) }
+    ensures never_falls { K.faults out.old ≤ K.faults out.new }
+{
+    if let Err(fault) = write_head(alloc, out, settings, network, &fleet) {
+        return Err(status_of(fault));
+    }
+    let Ok(book) = Book::new(alloc, network, fleet, settings.wait) else {
+        return Err(RunStatus::OutOfMemory);
+    };
+    write_rounds(alloc, out, book, script.rounds(), settings.proof)
+}
+
+fn write_rounds<K: Sink>(
+    alloc: Global,
+    out: &mut K,
+    book: Book,
+    rounds: &[Round],
+    proof: bool,
+) -> Result<(), RunStatus>
+    requires plain { All IsPlainRound rounds.now }
+    requires empty { book.entries ≡ [] }
+    ensures rounds {
+        MatchResult result
+            (λ _. WritesRounds book rounds.now proof (K.written out.old) (K.written out.new))
+            (IsRoundsFault book rounds.now proof (K.written out.old) (K.written out.new) (K.faults out.old) (K.faults out.new)) }
+    ensures never_falls { K.faults out.old ≤ K.faults out.new }
+{
+    let mut current = book;
+    for round in rounds {
+        current = write_next(alloc, out, current, round, proof)?;
+    }
+    match write_end(alloc, out, current.next_position()) {
+        Ok(()) => Ok(()),
+        Err(fault) => Err(status_of(fault)),
+    }
+}
+
+/// Runs a round, writes its text, and gives its journal up.
+fn write_next<K: Sink>(
+    alloc: Global,
+    out: &mut K,
+    book: Book,
+    round: &Round,
+    proof: bool,
+) -> Result<Book, RunStatus>
+    requires plain { IsPlainRound round.now }
+    requires empty { book.entries ≡ [] }
+    ensures round {
+        MatchResult result
+            (WritesRound book round.now proof (K.written out.old) (K.written out.new))
+            (IsRoundFault book round.now proof (K.written out.old) (K.written out.new) (K.faults out.old) (K.faults out.new)) }
+    ensures never_falls { K.faults out.old ≤ K.faults out.new }
+{
+    let Ok(mut book) = run_round(book, round) else {
+        return Err(RunStatus::OutOfMemory);
+    };
+    let Ok(journal) = book.take_round() else {
+        return Err(RunStatus::OutOfMemory);
+    };
+    match write_round(alloc, out, round.number(), &journal, proof) {
+        Ok(()) => Ok(book),
+        Err(fault) => Err(status_of(fault)),
+    }
+}
+
+fn status_of(fault: ReportFault) -> RunStatus
+    ensures { result ≡ status_of fault }
+{
+    match fault {
+        ReportFault::WriteFault => RunStatus::WriteFault,
+        ReportFault::OutOfMemory => RunStatus::OutOfMemory,
+    }
+}

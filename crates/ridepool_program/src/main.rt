@@ -1,0 +1,144 @@
+//! The program: files and standard output round the one call that does the work.
+//!
+//! The words name the files; a file that can't be opened is a source whose every read fails. The exit
+//! status and the line on standard error are those of the call's answer.
+#![tactic(auto)]
+
+use pool_base::OutOfMemory;
+use pool_io::{StdSink, StdSource};
+use rider_limits::value_of;
+use ridepool::{RunStatus, fault_text, ridepool};
+use std::env;
+use std::fs::File;
+use std::io;
+use std::io::{BufWriter, Write};
+use std::process::ExitCode;
+
+const HELP: &str = "\
+usage: ridepool run network=FILE fleet=FILE script=FILE [KEY=VALUE ..]
+
+Reads a road network, a fleet and a script of commands as CSV, runs the script, and prints its report.
+Where an input is refused, one line on standard error names the file, the row and the column.
+
+  network=FILE   streets: from,to,seconds
+  fleet=FILE     vehicles: vehicle,seats,node,second
+  script=FILE    commands: round,lane,command,a,b,c,d and, for parties, e
+  wait=S         longest wait for the pickup, 0 to 7200 seconds (120)
+  delay=S        longest delay of the arrival, 0 to 7200 seconds (180)
+  trip=N         most riders of a trip, 1 to 6 (4)
+  penalty=S      what a rider left out costs, 0 to 1000000000 (10000)
+  budget=N       most nodes of the search tree, 1 to 50000 (200)
+  pairs=N        most vehicle-trip pairs of a batch, 1 to 2000000 (200000)
+  workers=N      workers that look for trips, 1 to 64 (4)
+  proof=0|1      print the tree that shows the bound (0)
+  dwell=S        what each stop takes, 0 to 600 seconds (0)
+
+  --help, -h     this text
+  --version      the version
+
+Exit status: 0 done; 2 words; 3 network; 4 fleet; 5 script; 6 input too long; 7 read failed;
+8 write failed; 9 out of memory; 10 not built yet.
+";
+
+const VERSION: &str = "ridepool 0.1.0\n";
+
+fn main(rt: HostRuntime) -> ExitCode {
+    let words = match words_of(&rt) {
+        Ok(words) => words,
+        Err(OutOfMemory) => return report(&rt, &RunStatus::OutOfMemory),
+    };
+    let status = match page_of(&words) {
+        Some(page) => print_page(&rt, page),
+        None => run(&rt, &words),
+    };
+    report(&rt, &status)
+}
+
+/// The words behind the program's name. A word that isn't UTF-8 spoils them all: there is then no command.
+fn words_of(rt: &HostRuntime) -> Result<Vec<String>, OutOfMemory> {
+    let mut words = Vec::new(rt.alloc());
+    match env::args(rt) {
+        Ok(args) => {
+            for word in args.skip(1) {
+                words.push(word)?;
+            }
+            Ok(words)
+        }
+        Err(error) => match error.kind() {
+            io::ErrorKind::OutOfMemory => Err(OutOfMemory),
+            _ => Ok(words),
+        },
+    }
+}
+
+/// The page that the words ask for, if they ask for one.
+fn page_of(words: &[String]) -> Option<&'static str> {
+    let first = words.first()?;
+    match first.as_str() {
+        "--help" | "-h" => Some(HELP),
+        "--version" => Some(VERSION),
+        "run" => {
+            let second = words.get(1)?;
+            match second.as_str() {
+                "--help" | "-h" => Some(HELP),
+                _ => None,
+            }
+        }
+        _ => None,
+    }
+}
+
+fn print_page(rt: &HostRuntime, page: &str) -> RunStatus {
+    match rt.print(page) {
+        Ok(()) => RunStatus::Done,
+        Err(_) => RunStatus::WriteFault,
+    }
+}
+
+/// Runs the words on the files that they name, with standard output as the sink.
+fn run(rt: &HostRuntime, words: &[String]) -> RunStatus {
+    let Ok(mut output) = BufWriter::new(rt.alloc(), rt.stdout()) else {
+        return RunStatus::OutOfMemory;
+    };
+    let mut network = source_of(rt, words, "network");
+    let mut fleet = source_of(rt, words, "fleet");
+    let mut script = source_of(rt, words, "script");
+    let mut sink = StdSink::over(&mut output);
+    let status = ridepool(
+        rt.alloc(),
+        words,
+        &mut network,
+        &mut fleet,
+        &mut script,
+        &mut sink,
+    );
+    match (output.flush(), status) {
+        (Err(_), RunStatus::Done) => RunStatus::WriteFault,
+        (_, status) => status,
+    }
+}
+
+/// The file that the words give a key, or a source whose every read fails.
+fn source_of(rt: &HostRuntime, words: &[String], key: &str) -> StdSource<File> {
+    let Some(path) = value_of(words, key) else {
+        return StdSource::missing();
+    };
+    match File::open(rt, path) {
+        Ok(file) => StdSource::over(file),
+        Err(_) => StdSource::missing(),
+    }
+}
+
+/// Prints the line of a status to standard error, unless all is done, and gives the exit status.
+fn report(rt: &HostRuntime, status: &RunStatus) -> ExitCode {
+    let code = status.code();
+    if code != 0 {
+        if let Ok(text) = fault_text(rt.alloc(), status) {
+            let mut line = rt.stderr();
+            let _ = line.write_all(b"ridepool: ");
+            let _ = line.write_all(&text);
+            let _ = line.write_all(b"\n");
+        }
+    }
+    ExitCode::from(code)
+}
