@@ -1,0 +1,265 @@
+-- What a search finds.
+use Rattle.std.proofs.Common.{◌≡◌, ◌⊎◌, ℕ, suc, ◌+◌, ◌*◌, ◌<◌, ◌≤◌, Bool, true, List, [], ◌∷◌, ◌++◌, length, get_or, set, take, drop, Option, Result, Ok, Err, ℤ, pos, negsuc, ◌≤ℤ◌, ◌<ℤ◌, FitsSigned, to_z, of_z, All, refl, sym, ap, ◌∙◌, subst, inl, inr, ⊎_elim, arith}
+use mir.Syntax.{w128}
+use Rattle.std.specs.Result.{IfOk}
+use Rattle.std.proofs.lemmas.Int.{ints, to_z-of_z}
+use Rattle.std.proofs.lemmas.List.Elements.{All-from_recursion}
+use Rattle.plan_rules.specs.Graph.{Graph, IsRowOf, vehicle_at, IsGoodGraph}
+use Rattle.plan_rules.specs.Plan.{IsLawful, cost_of}
+use Rattle.plan_rules.specs.Greedy.{IsGreedy}
+use Rattle.plan_rules.specs.Multipliers.{Usable, usable_of, leaf_value, first_fit, first_fit_value}
+use Rattle.plan_rules.specs.Tree.{every_row, only_row, without_row, CanBranch, MayUse, IsDeadEnd, Reads, IsSoundTree, Place, places, rounded_up, tree_value}
+use Rattle.plan_rules.specs.declared.node.Node.{Node}
+use Rattle.plan_rules.specs.declared.node.Node.TheVariants.{Branch, Leaf, Dead}
+use Rattle.plan_rules.proofs.PlanLemmas.{held_is_lawful}
+use Rattle.plan_rules.proofs.TreeLemmas.{within_every_row, dead_end_holds_none, tree_value_bounds}
+use Rattle.plan_rules.proofs.UsableLemmas.{Agree, agree_back, leaf_value_agrees, first_fit_agrees, first_fit_value_agrees, dead_end_agrees, may_use_agrees, can_branch_agrees}
+use Rattle.std.proofs.lemmas.Bool.{both_ways}
+use Rattle.dual_bound.specs.Size.{IsSmallSum}
+use Rattle.assignment_search.specs.Growth.{IsWorthBranching, IsGoodLeaf, IsGoodNode, IsGrown, HasUsable, IsFixed, IsSolePlan, IsLowest, HasLeaf, IsNewLeaf, IsNewEnd, choice_count}
+use Rattle.assignment_search.specs.Found.{IsAtLeastFirstFit, IsBranchJustified, IsRightPlan, IsAnswer, IsTreeSoFar}
+use Rattle.assignment_search.specs.Next.{IsParting, IsPartedAt, IsNext}
+use Rattle.assignment_search.specs.declared.parting.Ends.{Ends}
+use Rattle.assignment_search.specs.declared.step.Outcome.{Outcome}
+use Rattle.assignment_search.specs.declared.step.Outcome.TheVariants.{Met, Full, Fixed, Parted}
+use Rattle.assignment_search.proofs.GrowthLemmas.{IsSplit, grown_split, grown_reads, grown_length, branched, raised, lowest_above, lowest_floor, value_is, leaves_fit, branches_justified, usable_here, usable_only, usable_without, reads_unique, rounded_up_mono}
+use Rattle.assignment_search.proofs.RiseLemmas.{value_rises, only_fewer, without_fewer}
+use Rattle.assignment_search.proofs.CountLemmas.{tree_short}
+use Rattle.assignment_search.proofs.FixedLemmas.{sole_is_lawful, sole_reaches}
+use Rattle.assignment_search.proofs.LeafLemmas.{sound_has_leaf}
+use Rattle.assignment_search.proofs.StandingLemmas.{head_is}
+use Rattle.assignment_search.proofs.EditLemmas.{edit_length}
+
+pub if_ok_map : {X E : Type 0} (P Q : X → Type 0) → ((x : X) → P x → Q x) → (r : Result X E) → IfOk r P → IfOk r Q
+if_ok_map P Q f (Ok x) h = f x h
+if_ok_map P Q f (Err e) h = h
+
+-- ---- small numbers
+
+small_fits : (z : ℤ) → IsSmallSum 1500 z → FitsSigned w128 z
+small_fits (pos n) h = record { sfits = omega (arith, ints, h.high) }
+small_fits (negsuc n) h = record { sfits = omega (arith, ints, h.low) }
+
+pub small_back : (z : ℤ) → IsSmallSum 1500 z → to_z w128 (of_z w128 z) ≡ z
+small_back z h = to_z-of_z w128 z (small_fits z h)
+
+-- ---- ends
+
+pub new_end_agrees : (g : Graph) (w u : Usable) (parent : List ℤ) (n : Node) (z : ℤ) → Agree g w u → IsNewEnd g w parent n z → IsNewEnd g u parent n z
+new_end_agrees g w u parent (Leaf ms) z agree h =
+    let fit = first_fit_value_agrees g w u agree in
+    let value = leaf_value_agrees g w u parent agree in
+    record {
+      sized = h.sized;
+      judged = h.judged ∙ leaf_value_agrees g w u ms agree;
+      first_fit = subst (λ (y : ℤ). y ≤ℤ z) fit h.first_fit;
+      inherited = subst (λ (y : ℤ). y ≤ℤ z) value h.inherited;
+      alive = λ dead. h.alive (dead_end_agrees g u w (agree_back g w u agree) dead);
+      small = h.small
+    }
+new_end_agrees g w u parent Dead z agree h = (dead_end_agrees g w u agree (h.0), h.1)
+new_end_agrees g w u parent (Branch v k) z agree h = absurd h
+
+pub new_end_small : (g : Graph) (u : Usable) (parent : List ℤ) (n : Node) (z : ℤ) → IsNewEnd g u parent n z → IsSmallSum 1500 z
+new_end_small g u parent (Leaf ms) z h = h.small
+new_end_small g u parent Dead z h = subst (IsSmallSum 1500) (sym (h.1)) (record { low = omega (arith, ints); high = omega (arith, ints) })
+new_end_small g u parent (Branch v k) z h = absurd h
+
+pub root_is_good : (g : Graph) (allowed : List Bool) (ms : List ℤ) (value : ℤ) → IsGoodGraph g → ((k : ℕ) → k < length g.rows → usable_of allowed k ≡ true) → length ms ≡ g.riders
+    → ms ≡ first_fit g (usable_of allowed) → value ≡ leaf_value g (usable_of allowed) ms → IsSmallSum 1500 value → IsGoodLeaf g (rounded_up value) every_row ms value
+root_is_good g allowed ms value good all sized fitted judged small =
+    let agree : Agree g (usable_of allowed) every_row = all in
+    let fit : first_fit_value g (usable_of allowed) ≡ first_fit_value g every_row = first_fit_value_agrees g (usable_of allowed) every_row agree in
+    let same : value ≡ first_fit_value g (usable_of allowed) = judged ∙ ap (leaf_value g (usable_of allowed)) fitted in
+    record {
+      sized = sized;
+      judged = judged ∙ leaf_value_agrees g (usable_of allowed) every_row ms agree;
+      first_fit = omega (arith, ints);
+      floor = omega (arith, ints);
+      alive = λ dead. both_ways _ (dead_end_holds_none g every_row g.held good (held_is_lawful g good) dead) (within_every_row g g.held);
+      small = small
+    }
+
+-- ---- a tree that grows
+
+pub so_far_start : (g : Graph) (budget limit : ℕ) (ms : List ℤ) (z : ℤ) (nodes : List Node) (values : List ℤ) → 1 ≤ budget → IsGoodLeaf g (rounded_up z) every_row ms z → nodes ≡ Leaf ms ∷ [] → values ≡ z ∷ [] → IsTreeSoFar g budget limit nodes values
+so_far_start g budget limit ms z nodes values some leaf is vals =
+    let start : IsGrown g (rounded_up z) limit (every_row ∷ []) (Leaf ms ∷ []) (z ∷ []) [] = (leaf, refl) in
+    record {
+      low = rounded_up z;
+      root = rounded_up_mono (first_fit_value g every_row) z leaf.first_fit;
+      grown = subst (λ (ns : List Node). IsGrown g (rounded_up z) limit (every_row ∷ []) ns values []) (sym is) (subst (λ (zs : List ℤ). IsGrown g (rounded_up z) limit (every_row ∷ []) (Leaf ms ∷ []) zs []) (sym vals) start);
+      short = let size = ap (λ (ns : List Node). length ns) is in omega (arith, size, some)
+    }
+
+pub so_far_leaf : (g : Graph) (budget limit : ℕ) (nodes : List Node) (values : List ℤ) → IsGoodGraph g → IsTreeSoFar g budget limit nodes values → HasLeaf nodes
+so_far_leaf g budget limit nodes values good t = sound_has_leaf g nodes good (grown_reads g t.low limit nodes values (every_row ∷ []) [] t.grown)
+
+pub so_far_length : (g : Graph) (budget limit : ℕ) (nodes : List Node) (values : List ℤ) → IsTreeSoFar g budget limit nodes values → length values ≡ length nodes
+so_far_length g budget limit nodes values t = grown_length g t.low limit nodes values (every_row ∷ []) [] t.grown
+
+pub so_far_raised : (g : Graph) (budget limit : ℕ) (nodes : List Node) (values : List ℤ) (place : ℕ) → IsTreeSoFar g budget limit nodes values → IsLowest nodes values place → IsGrown g (rounded_up (get_or values place (pos 0))) limit (every_row ∷ []) nodes values []
+so_far_raised g budget limit nodes values place t lowest =
+    raised g t.low (rounded_up (get_or values place (pos 0))) limit nodes values (every_row ∷ []) []
+      (lowest_floor g t.low limit nodes values place t.grown lowest) (lowest_above nodes values place lowest) t.grown
+
+-- the leaf of least value in a grown tree
+pub leaf_here : (g : Graph) (low : ℤ) (limit : ℕ) (nodes : List Node) (values : List ℤ) (place : ℕ) (s : IsSplit g low limit (every_row ∷ []) nodes values [] place) (lowest : IsLowest nodes values place) → IsGoodLeaf g low s.usable lowest.multipliers (get_or values place (pos 0))
+leaf_here g low limit nodes values place s lowest = subst (λ (n : Node). IsGoodNode g low limit s.usable n (get_or values place (pos 0))) lowest.leaf s.here
+
+pub lowest_small : (g : Graph) (low : ℤ) (limit : ℕ) (nodes : List Node) (values : List ℤ) (place : ℕ) → IsGrown g low limit (every_row ∷ []) nodes values [] → IsLowest nodes values place → IsSmallSum 1500 (get_or values place (pos 0))
+lowest_small g low limit nodes values place grown lowest =
+    let s = grown_split g low limit nodes values (every_row ∷ []) [] place grown lowest.within in
+    (leaf_here g low limit nodes values place s lowest).small
+
+inner : (a b : List ℤ) → Leaf a ≡ Leaf b → a ≡ b
+inner a b e = cc
+
+pub parent_sized : (g : Graph) (low : ℤ) (limit : ℕ) (nodes : List Node) (values : List ℤ) (place : ℕ) (ms : List ℤ) → IsGrown g low limit (every_row ∷ []) nodes values [] → IsLowest nodes values place → get_or nodes place Dead ≡ Leaf ms → length ms ≡ g.riders
+parent_sized g low limit nodes values place ms grown lowest is =
+    let s = grown_split g low limit nodes values (every_row ∷ []) [] place grown lowest.within in
+    let same : ms ≡ lowest.multipliers = inner ms lowest.multipliers (sym is ∙ lowest.leaf) in
+    ap (λ (xs : List ℤ). length xs) same ∙ (leaf_here g low limit nodes values place s lowest).sized
+
+-- where a walk came to the leaf, these are the rows that may be chosen
+stands_at : (g : Graph) (low : ℤ) (limit : ℕ) (nodes : List Node) (values : List ℤ) (place : ℕ) (u : Usable) (later : List Usable) (s : IsSplit g low limit (every_row ∷ []) nodes values [] place) → Reads g (every_row ∷ []) (take place nodes) (u ∷ later) → u ≡ s.usable
+stands_at g low limit nodes values place u later s reads =
+    head_is u s.usable later s.later
+      (reads_unique g (take place nodes) (every_row ∷ []) (u ∷ later) (s.usable ∷ s.later) reads
+        (grown_reads g low limit (take place nodes) (take place values) (every_row ∷ []) (s.usable ∷ s.later) s.before))
+
+pub so_far_grow : (g : Graph) (budget limit : ℕ) (nodes : List Node) (values : List ℤ) (place : ℕ) (ends : Ends) (new : List Node) (news : List ℤ) → IsTreeSoFar g budget limit nodes values → IsLowest nodes values place
+    → IsPartedAt g nodes place ends → length nodes + 2 ≤ budget → rounded_up (get_or values place (pos 0)) <ℤ pos limit
+    → new ≡ take place nodes ++ (Branch ends.vehicle ends.row ∷ ends.first.node ∷ ends.second.node ∷ drop (suc place) nodes)
+    → news ≡ take place values ++ (get_or values place (pos 0) ∷ ends.first.value ∷ ends.second.value ∷ drop (suc place) values) → IsTreeSoFar g budget limit new news
+so_far_grow g budget limit nodes values place ends new news t lowest parted room below_limit is vals =
+    let low = rounded_up (get_or values place (pos 0)) in
+    let grown : IsGrown g low limit (every_row ∷ []) nodes values [] = so_far_raised g budget limit nodes values place t lowest in
+    let s = grown_split g low limit nodes values (every_row ∷ []) [] place grown lowest.within in
+    let here = leaf_here g low limit nodes values place s lowest in
+    let stands : parted.usable ≡ s.usable = stands_at g low limit nodes values place parted.usable parted.later s parted.reads in
+    let parent_is : parted.parent ≡ lowest.multipliers = inner parted.parent lowest.multipliers (sym parted.leaf ∙ lowest.leaf) in
+    let parting : IsParting g s.usable parted.parent ends = subst (λ (u : Usable). IsParting g u parted.parent ends) stands parted.parting in
+    let can = parting.can in
+    let has : HasUsable g s.usable = usable_here g (take place nodes) s.usable s.later (grown_reads g low limit (take place nodes) (take place values) (every_row ∷ []) (s.usable ∷ s.later) s.before) in
+    let judged : get_or values place (pos 0) ≡ leaf_value g s.usable parted.parent = here.judged ∙ ap (leaf_value g s.usable) (sym parent_is) in
+    let only_up : leaf_value g s.usable parted.parent ≤ℤ leaf_value g (only_row g s.usable ends.vehicle ends.row) parted.parent =
+          value_rises g s.usable (only_row g s.usable ends.vehicle ends.row) parted.parent (λ k e. only_fewer g s.usable ends.vehicle ends.row k e) (usable_only g s.usable ends.vehicle ends.row can has) in
+    let without_up : leaf_value g s.usable parted.parent ≤ℤ leaf_value g (without_row s.usable ends.row) parted.parent =
+          value_rises g s.usable (without_row s.usable ends.row) parted.parent (λ k e. without_fewer s.usable ends.row k e) (usable_without g s.usable ends.vehicle ends.row can has) in
+    let floor_only = rounded_up_mono (get_or values place (pos 0)) (leaf_value g (only_row g s.usable ends.vehicle ends.row) parted.parent) (subst (λ (z : ℤ). z ≤ℤ leaf_value g (only_row g s.usable ends.vehicle ends.row) parted.parent) (sym judged) only_up) in
+    let floor_without = rounded_up_mono (get_or values place (pos 0)) (leaf_value g (without_row s.usable ends.row) parted.parent) (subst (λ (z : ℤ). z ≤ℤ leaf_value g (without_row s.usable ends.row) parted.parent) (sym judged) without_up) in
+    let fit : rounded_up (first_fit_value g s.usable) ≤ℤ low = rounded_up_mono (first_fit_value g s.usable) (get_or values place (pos 0)) here.first_fit in
+    let worth : IsWorthBranching g low limit s.usable = record { at_most = fit; below = omega (arith, ints) } in
+    let next : IsGrown g low limit (every_row ∷ []) (take place nodes ++ (Branch ends.vehicle ends.row ∷ ends.first.node ∷ ends.second.node ∷ drop (suc place) nodes)) (take place values ++ (get_or values place (pos 0) ∷ ends.first.value ∷ ends.second.value ∷ drop (suc place) values)) [] =
+          branched g low limit nodes values place ends.vehicle ends.row parted.parent ends.first.node ends.second.node ends.first.value ends.second.value (get_or values place (pos 0)) grown lowest.within parted.leaf s can worth floor_only floor_without parting.first parting.second in
+    let rises : t.low ≤ℤ low = lowest_floor g t.low limit nodes values place t.grown lowest in
+    let root : rounded_up (first_fit_value g every_row) ≤ℤ t.low = t.root in
+    let size = ap (λ (ns : List Node). length ns) is ∙ edit_length nodes place (Branch ends.vehicle ends.row) ends.first.node ends.second.node lowest.within in
+    record {
+      low = low;
+      root = omega (arith, ints);
+      grown = subst (λ (ns : List Node). IsGrown g low limit (every_row ∷ []) ns news []) (sym is) (subst (λ (zs : List ℤ). IsGrown g low limit (every_row ∷ []) (take place nodes ++ (Branch ends.vehicle ends.row ∷ ends.first.node ∷ ends.second.node ∷ drop (suc place) nodes)) zs []) (sym vals) next);
+      short = omega (arith, size, room)
+    }
+
+-- ---- a leaf where no vehicle has a choice, and one where the budget is spent
+
+module _ (g : Graph) (limit place : ℕ) (nodes : List Node) (values : List ℤ) (u : Usable) (later : List Usable) (allowed : List Bool) (good : IsGoodGraph g) (lowest : IsLowest nodes values place)
+    (grown : IsGrown g (rounded_up (get_or values place (pos 0))) limit (every_row ∷ []) nodes values []) (reads : Reads g (every_row ∷ []) (take place nodes) (u ∷ later)) (agree : Agree g (usable_of allowed) u) where
+  pub fixed_answer : (chosen : List (Option ℕ)) → IsFixed g (usable_of allowed) → length chosen ≡ g.vehicles → IsSolePlan g (usable_of allowed) chosen → IsLawful g chosen × (pos (cost_of g chosen) ≤ℤ rounded_up (get_or values place (pos 0)))
+  fixed_answer chosen fixed sized sole =
+      let low = rounded_up (get_or values place (pos 0)) in
+      let s = grown_split g low limit nodes values (every_row ∷ []) [] place grown lowest.within in
+      let here = leaf_here g low limit nodes values place s lowest in
+      let stands : u ≡ s.usable = stands_at g low limit nodes values place u later s reads in
+      let same : Agree g (usable_of allowed) s.usable = λ k l. agree k l ∙ ap (λ (w : Usable). w k) stands in
+      let back : Agree g s.usable (usable_of allowed) = agree_back g (usable_of allowed) s.usable same in
+      let has : HasUsable g s.usable = usable_here g (take place nodes) s.usable s.later (grown_reads g low limit (take place nodes) (take place values) (every_row ∷ []) (s.usable ∷ s.later) s.before) in
+      let has_here : HasUsable g (usable_of allowed) = λ v k row. let j = has v k row in (j.0, may_use_agrees g s.usable (usable_of allowed) v (j.0) back (j.1)) in
+      let alive : IsDeadEnd g (usable_of allowed) → ⊥ = λ dead. here.alive (dead_end_agrees g (usable_of allowed) s.usable same dead) in
+      let fit : first_fit_value g s.usable ≡ first_fit_value g (usable_of allowed) = first_fit_value_agrees g s.usable (usable_of allowed) back in
+      ( sole_is_lawful g (usable_of allowed) chosen good sized sole fixed has_here alive
+      , sole_reaches g (usable_of allowed) chosen good sized sole fixed has_here alive (get_or values place (pos 0)) (subst (λ (z : ℤ). z ≤ℤ get_or values place (pos 0)) fit here.first_fit) )
+
+  pub full_answer : (v k : ℕ) → v < g.vehicles → CanBranch g (usable_of allowed) v k → length nodes + 3 ≤ 2 * choice_count g every_row
+  full_answer v k below can =
+      let low = rounded_up (get_or values place (pos 0)) in
+      let s = grown_split g low limit nodes values (every_row ∷ []) [] place grown lowest.within in
+      let stands : u ≡ s.usable = stands_at g low limit nodes values place u later s reads in
+      let same : Agree g (usable_of allowed) s.usable = λ k l. agree k l ∙ ap (λ (w : Usable). w k) stands in
+      tree_short g low limit nodes values place v k lowest.multipliers (λ j l. (good.rows j l).vehicle) lowest.within lowest.leaf s below (can_branch_agrees g (usable_of allowed) s.usable v k same can)
+
+-- ---- the answer
+
+-- a plan that costs no more than any lawful one is right
+pub right_from_least : (g : Graph) (plan : List (Option ℕ)) (cost : ℕ) (low : ℤ) → IsGoodGraph g → IsLawful g plan → cost ≡ cost_of g plan → pos cost ≤ℤ low → ((chosen : List (Option ℕ)) → IsLawful g chosen → low ≤ℤ pos (cost_of g chosen)) → IsRightPlan g plan cost
+right_from_least g plan cost low good lawful costs most bound =
+    record {
+      lawful = lawful;
+      costs = costs;
+      held = least g.held (held_is_lawful g good);
+      greedy = λ chosen is fair. least chosen fair;
+      change = λ v other fair. subst (λ (n : ℕ). n ≤ cost_of g (set plan v other)) costs (least (set plan v other) fair)
+    }
+  where
+    least : (chosen : List (Option ℕ)) → IsLawful g chosen → cost ≤ cost_of g chosen
+    least chosen fair =
+        let above : low ≤ℤ pos (cost_of g chosen) = bound chosen fair in
+        omega (arith, ints, above, most)
+
+-- the tree's value is a bound
+pub low_is_bound : (g : Graph) (limit place : ℕ) (nodes : List Node) (values : List ℤ) → IsGoodGraph g → IsGrown g (rounded_up (get_or values place (pos 0))) limit (every_row ∷ []) nodes values [] → IsLowest nodes values place → (chosen : List (Option ℕ)) → IsLawful g chosen → rounded_up (get_or values place (pos 0)) ≤ℤ pos (cost_of g chosen)
+low_is_bound g limit place nodes values good grown lowest chosen fair =
+    subst (λ (z : ℤ). z ≤ℤ pos (cost_of g chosen)) (value_is g limit nodes values place grown lowest)
+      (tree_value_bounds g nodes good (grown_reads g (rounded_up (get_or values place (pos 0))) limit nodes values (every_row ∷ []) [] grown) chosen fair)
+
+answer_of : (g : Graph) (budget limit place : ℕ) (plan : List (Option ℕ)) (cost : ℕ) (nodes : List Node) (values : List ℤ) → IsGoodGraph g → IsTreeSoFar g budget limit nodes values → IsLowest nodes values place
+    → limit ≤ cost_of g g.held → ((chosen : List (Option ℕ)) → IsGreedy g chosen → IsLawful g chosen → limit ≤ cost_of g chosen) → IsRightPlan g plan cost
+    → (pos cost ≤ℤ rounded_up (get_or values place (pos 0))) ⊎ ((budget < length nodes + 2) × (budget < 2 * choice_count g every_row))
+    → IsAnswer g budget (record { plan = plan; cost = cost; bound = rounded_up (get_or values place (pos 0)); tree = nodes })
+answer_of g budget limit place plan cost nodes values good t lowest held greedy right done =
+    let low = rounded_up (get_or values place (pos 0)) in
+    let grown : IsGrown g low limit (every_row ∷ []) nodes values [] = so_far_raised g budget limit nodes values place t lowest in
+    let rises : t.low ≤ℤ low = lowest_floor g t.low limit nodes values place t.grown lowest in
+    let root : rounded_up (first_fit_value g every_row) ≤ℤ t.low = t.root in
+    record {
+      plan = right;
+      nodes = t.short;
+      sound = grown_reads g low limit nodes values (every_row ∷ []) [] grown;
+      bound = sym (value_is g limit nodes values place grown lowest);
+      root = omega (arith, ints);
+      leaves = All-from_recursion (λ (p : Place). IsAtLeastFirstFit g p.usable p.node) (places g nodes) (leaves_fit g low limit nodes values (every_row ∷ []) [] grown);
+      branches = All-from_recursion (λ (p : Place). IsBranchJustified g low p.usable p.node) (places g nodes) (branches_justified g low limit held greedy nodes values (every_row ∷ []) [] grown);
+      limited = λ below. limited_from done below;
+      closed = λ enough. closed_from done enough
+    }
+  where
+    limited_from : (pos cost ≤ℤ rounded_up (get_or values place (pos 0))) ⊎ ((budget < length nodes + 2) × (budget < 2 * choice_count g every_row)) → rounded_up (get_or values place (pos 0)) <ℤ pos cost → budget < length nodes + 2
+    limited_from (inl met) below = absurd (omega (arith, ints, met, below))
+    limited_from (inr full) below = full.0
+
+    closed_from : (pos cost ≤ℤ rounded_up (get_or values place (pos 0))) ⊎ ((budget < length nodes + 2) × (budget < 2 * choice_count g every_row)) → 2 * choice_count g every_row ≤ budget → rounded_up (get_or values place (pos 0)) ≡ pos cost
+    closed_from (inl met) enough =
+        let grown = so_far_raised g budget limit nodes values place t lowest in
+        let above : rounded_up (get_or values place (pos 0)) ≤ℤ pos (cost_of g plan) = low_is_bound g limit place nodes values good grown lowest plan right.lawful in
+        let costs : cost ≡ cost_of g plan = right.costs in
+        omega (arith, ints, met, above, costs)
+    closed_from (inr full) enough = absurd (omega (arith, full.1, enough))
+
+pub answer : (g : Graph) (budget limit place : ℕ) (plan : List (Option ℕ)) (cost : ℕ) (nodes : List Node) (values : List ℤ) (bound : ℤ) (tree : List Node) → IsGoodGraph g → IsTreeSoFar g budget limit nodes values → IsLowest nodes values place
+    → limit ≤ cost_of g g.held → ((chosen : List (Option ℕ)) → IsGreedy g chosen → IsLawful g chosen → limit ≤ cost_of g chosen) → IsRightPlan g plan cost
+    → (pos cost ≤ℤ rounded_up (get_or values place (pos 0))) ⊎ ((budget < length nodes + 2) × (budget < 2 * choice_count g every_row))
+    → bound ≡ rounded_up (get_or values place (pos 0)) → tree ≡ nodes → IsAnswer g budget (record { plan = plan; cost = cost; bound = bound; tree = tree })
+answer g budget limit place plan cost nodes values bound tree good t lowest held greedy right done is same =
+    subst (λ (z : ℤ). IsAnswer g budget (record { plan = plan; cost = cost; bound = z; tree = tree })) (sym is)
+      (subst (λ (ns : List Node). IsAnswer g budget (record { plan = plan; cost = cost; bound = rounded_up (get_or values place (pos 0)); tree = ns })) (sym same)
+        (answer_of g budget limit place plan cost nodes values good t lowest held greedy right done))
+
+-- where the outcome is neither one plan nor a parting, the value meets the limit or the budget is spent
+pub ended : (g : Graph) (nodes : List Node) (values : List ℤ) (place limit budget : ℕ) (o : Outcome) → IsNext g nodes values place limit budget o → ((plan : List (Option ℕ)) → o ≡ Fixed plan → ⊥) → ((ends : Ends) → o ≡ Parted ends → ⊥)
+    → (pos limit ≤ℤ rounded_up (get_or values place (pos 0))) ⊎ ((budget < length nodes + 2) × (budget < 2 * choice_count g every_row))
+ended g nodes values place limit budget Met h fixed parted = inl h
+ended g nodes values place limit budget Full h fixed parted = inr h
+ended g nodes values place limit budget (Fixed plan) h fixed parted = absurd (fixed plan refl)
+ended g nodes values place limit budget (Parted ends) h fixed parted = absurd (parted ends refl)

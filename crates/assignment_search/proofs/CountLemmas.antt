@@ -1,0 +1,173 @@
+-- How many choices there are, and how long a tree can be.
+use Rattle.std.proofs.Common.{◌≡◌, ◌==◌, ◌⊎◌, ◌&&◌, ◌||◌, not, ℕ, zero, suc, ◌+◌, ◌*◌, ◌<◌, ◌≤◌, max, Bool, true, false, List, [], ◌∷◌, length, take, drop, get_or, ℤ, refl, sym, ap, ◌∙◌, subst, ⊎_elim, arith, eq-eqb, eqb-true, ne_eqb}
+use Rattle.std.proofs.Math.Nat.{add-mul, mul-add, le-max_left, le-max_right, max-le}
+use Rattle.std.proofs.lemmas.Bool.{cases_eq, cases_Bool, and_from, or_right, both_ways}
+use Rattle.plan_rules.specs.Sums.{sum_below, count_below}
+use Rattle.plan_rules.specs.Graph.{Graph, IsRowOf, vehicle_at}
+use Rattle.plan_rules.specs.Multipliers.{Usable, is_usable_by}
+use Rattle.plan_rules.specs.Tree.{every_row, only_row, without_row, MayUse, CanBranch, coming_after, Reads, IsSoundTree}
+use Rattle.plan_rules.specs.declared.node.Node.{Node}
+use Rattle.plan_rules.specs.declared.node.Node.TheVariants.{Branch, Leaf, Dead}
+use Rattle.plan_rules.proofs.SumLemmas.{flag, sum_below_same, sum_below_plus, count_below_same, count_below_some}
+use Rattle.assignment_search.specs.Growth.{product_below, choice_count, IsGrown, IsGoodNode, IsGoodLeaf}
+use Rattle.assignment_search.proofs.GrowthLemmas.{IsSplit, grown_split, grown_reads}
+
+-- ---- products
+
+product_same : (n : ℕ) (f h : ℕ → ℕ) → ((w : ℕ) → w < n → f w ≡ h w) → product_below n f ≡ product_below n h
+product_same zero f h e = refl
+product_same (suc n) f h e =
+    let before : product_below n f ≡ product_below n h = product_same n f h (λ w l. e w (omega (arith, l))) in
+    let last : f n ≡ h n = e n (omega arith) in
+    λ i. before i * last i
+
+product_some : (n : ℕ) (f : ℕ → ℕ) → ((w : ℕ) → 1 ≤ f w) → 1 ≤ product_below n f
+product_some zero f e = omega arith
+product_some (suc n) f e = some (product_below n f) (f n) (product_some n f e) (e n)
+  where
+    some : (a b : ℕ) → 1 ≤ a → 1 ≤ b → 1 ≤ a * b
+    some zero b la lb = absurd (omega (arith, la))
+    some (suc a) zero la lb = absurd (omega (arith, lb))
+    some (suc a) (suc b) la lb = omega arith
+
+-- where one factor is a sum, so is the product
+product_split : (n : ℕ) (f a b : ℕ → ℕ) (v : ℕ) → v < n → ((w : ℕ) → (w ≡ v → ⊥) → f w ≡ a w) → ((w : ℕ) → (w ≡ v → ⊥) → f w ≡ b w) → f v ≡ a v + b v → product_below n f ≡ product_below n a + product_below n b
+product_split zero f a b v l first second both = absurd (omega (arith, l))
+product_split (suc n) f a b v l first second both =
+    ⊎_elim
+      (λ (here : v ≡ n).
+        let left : product_below n f ≡ product_below n a = product_same n f a (λ w low. first w (λ (e : w ≡ v). omega (arith, low, e, here))) in
+        let right : product_below n f ≡ product_below n b = product_same n f b (λ w low. second w (λ (e : w ≡ v). omega (arith, low, e, here))) in
+        let last : f n ≡ a n + b n = subst (λ (w : ℕ). f w ≡ a w + b w) here both in
+        let whole : product_below n f * f n ≡ product_below n f * a n + product_below n f * b n =
+              ap (λ (x : ℕ). product_below n f * x) last ∙ mul-add (product_below n f) (a n) (b n) in
+        whole ∙ (λ i. left i * a n + right i * b n))
+      (λ (other : v ≡ n → ⊥).
+        let before : product_below n f ≡ product_below n a + product_below n b = product_split n f a b v (omega (arith, l, other)) first second both in
+        let left : f n ≡ a n = first n (λ (e : n ≡ v). other (sym e)) in
+        let right : f n ≡ b n = second n (λ (e : n ≡ v). other (sym e)) in
+        let whole : product_below n f * f n ≡ product_below n a * f n + product_below n b * f n =
+              ap (λ (x : ℕ). x * f n) before ∙ add-mul (product_below n a) (product_below n b) (f n) in
+        whole ∙ (λ i. product_below n a * left i + product_below n b * right i))
+      (cases_eq v n)
+
+-- ---- the choices at a branch
+
+max_one : (n : ℕ) → 1 ≤ n → max 1 n ≡ n
+max_one n l =
+    let low : n ≤ max 1 n = le-max_right 1 n in
+    let high : max 1 n ≤ n = max-le {a = 1} {b = n} {k = n} l (omega arith) in
+    omega (arith, low, high)
+
+flag_parts : (a b c : Bool) → flag (a && b) ≡ flag (a && (b && (not a || c))) + flag (a && (b && not c))
+flag_parts false b c = refl
+flag_parts true false c = refl
+flag_parts true true false = refl
+flag_parts true true true = refl
+
+other_only : (a b q c : Bool) → (a ≡ true → q ≡ true → ⊥) → (a && b) ≡ (a && (b && (not q || c)))
+other_only false b q c apart = refl
+other_only true false q c apart = refl
+other_only true true false c apart = refl
+other_only true true true c apart = absurd (apart refl refl)
+
+other_without : (a b c : Bool) → (a ≡ true → c ≡ true → ⊥) → (a && b) ≡ (a && (b && not c))
+other_without false b c apart = refl
+other_without true false c apart = refl
+other_without true true false apart = refl
+other_without true true true apart = absurd (apart refl refl)
+
+-- how many rows the vehicle may use
+abbrev usable_count : Graph → Usable → ℕ → ℕ
+usable_count g u v = count_below (length g.rows) (is_usable_by g u v)
+
+count_split : (g : Graph) (u : Usable) (v k : ℕ) → usable_count g u v ≡ usable_count g (only_row g u v k) v + usable_count g (without_row u k) v
+count_split g u v k =
+    sum_below_same (length g.rows) (λ j. flag (is_usable_by g u v j)) (λ j. flag (is_usable_by g (only_row g u v k) v j) + flag (is_usable_by g (without_row u k) v j))
+      (λ j l. flag_parts (vehicle_at g j == v) (u j) (j == k))
+    ∙ sum_below_plus (length g.rows) (λ j. flag (is_usable_by g (only_row g u v k) v j)) (λ j. flag (is_usable_by g (without_row u k) v j))
+
+count_only_other : (g : Graph) (u : Usable) (v k w : ℕ) → (w ≡ v → ⊥) → usable_count g u w ≡ usable_count g (only_row g u v k) w
+count_only_other g u v k w other =
+    count_below_same (length g.rows) (is_usable_by g u w) (is_usable_by g (only_row g u v k) w)
+      (λ j l. other_only (vehicle_at g j == w) (u j) (vehicle_at g j == v) (j == k) (λ a b. other (sym (eqb-true (vehicle_at g j) w a) ∙ eqb-true (vehicle_at g j) v b)))
+
+count_without_other : (g : Graph) (u : Usable) (v k w : ℕ) → IsRowOf g v k → (w ≡ v → ⊥) → usable_count g u w ≡ usable_count g (without_row u k) w
+count_without_other g u v k w row other =
+    count_below_same (length g.rows) (is_usable_by g u w) (is_usable_by g (without_row u k) w)
+      (λ j l. other_without (vehicle_at g j == w) (u j) (j == k) (λ a b. other (sym (eqb-true (vehicle_at g j) w a) ∙ ap (vehicle_at g) (eqb-true j k b) ∙ row.own)))
+
+count_only_some : (g : Graph) (u : Usable) (v k : ℕ) → CanBranch g u v k → 1 ≤ usable_count g (only_row g u v k) v
+count_only_some g u v k can =
+    let may = can.row in
+    count_below_some (length g.rows) (is_usable_by g (only_row g u v k) v) k may.row.within
+      (and_from (vehicle_at g k == v) (only_row g u v k k) (eq-eqb (vehicle_at g k) v may.row.own)
+        (and_from (u k) (not (vehicle_at g k == v) || k == k) may.usable_row (or_right (not (vehicle_at g k == v)) (k == k) (eq-eqb k k refl))))
+
+count_without_some : (g : Graph) (u : Usable) (v k : ℕ) → CanBranch g u v k → 1 ≤ usable_count g (without_row u k) v
+count_without_some g u v k can =
+    let may = can.other_row in
+    count_below_some (length g.rows) (is_usable_by g (without_row u k) v) can.other may.row.within
+      (and_from (vehicle_at g can.other == v) (without_row u k can.other) (eq-eqb (vehicle_at g can.other) v may.row.own)
+        (and_from (u can.other) (not (can.other == k)) may.usable_row (ap not (ne_eqb can.other k can.differs))))
+
+pub choices_some : (g : Graph) (u : Usable) → 1 ≤ choice_count g u
+unfolding choice_count
+choices_some g u = product_some g.vehicles (λ v. max 1 (usable_count g u v)) (λ w. le-max_left 1 (usable_count g u w))
+
+-- a branch parts the choices
+pub choices_split : (g : Graph) (u : Usable) (v k : ℕ) → v < g.vehicles → CanBranch g u v k → choice_count g u ≡ choice_count g (only_row g u v k) + choice_count g (without_row u k)
+unfolding choice_count
+choices_split g u v k low can =
+    product_split g.vehicles (λ w. max 1 (usable_count g u w)) (λ w. max 1 (usable_count g (only_row g u v k) w)) (λ w. max 1 (usable_count g (without_row u k) w)) v low
+      (λ w other. ap (max 1) (count_only_other g u v k w other))
+      (λ w other. ap (max 1) (count_without_other g u v k w can.row.row other))
+      here
+  where
+    here : max 1 (usable_count g u v) ≡ max 1 (usable_count g (only_row g u v k) v) + max 1 (usable_count g (without_row u k) v)
+    here =
+        let split : usable_count g u v ≡ usable_count g (only_row g u v k) v + usable_count g (without_row u k) v = count_split g u v k in
+        let one : 1 ≤ usable_count g (only_row g u v k) v = count_only_some g u v k can in
+        let two : 1 ≤ usable_count g (without_row u k) v = count_without_some g u v k can in
+        max_one (usable_count g u v) (omega (arith, split, one, two)) ∙ split
+          ∙ (λ i. sym (max_one (usable_count g (only_row g u v k) v) one) i + sym (max_one (usable_count g (without_row u k) v) two) i)
+
+-- ---- how long a tree can be
+
+-- the choices at these subtrees together
+abbrev all_choices : Graph → List Usable → ℕ
+all_choices g [] = 0
+all_choices g (u ∷ us) = choice_count g u + all_choices g us
+
+-- nodes that lead from these subtrees to those are not many
+reads_short : (g : Graph) → ((k : ℕ) → k < length g.rows → vehicle_at g k < g.vehicles) → (nodes : List Node) (coming rest : List Usable) → Reads g coming nodes rest → length nodes + 2 * all_choices g rest + length coming ≤ 2 * all_choices g coming + length rest
+reads_short g exist [] coming rest h =
+    let sums : all_choices g coming ≡ all_choices g rest = ap (all_choices g) h in
+    let sizes : length coming ≡ length rest = ap (λ (c : List Usable). length c) h in
+    omega (arith, sums, sizes)
+reads_short g exist (n ∷ nodes) [] rest h = absurd h
+reads_short g exist (Leaf ms ∷ nodes) (u ∷ us) rest h =
+    omega (arith, reads_short g exist nodes us rest (h.1), choices_some g u)
+reads_short g exist (Dead ∷ nodes) (u ∷ us) rest h =
+    omega (arith, reads_short g exist nodes us rest (h.1), choices_some g u)
+reads_short g exist (Branch v k ∷ nodes) (u ∷ us) rest h =
+    let can = h.0 in
+    let low : v < g.vehicles = subst (λ (w : ℕ). w < g.vehicles) can.row.row.own (exist k can.row.row.within) in
+    omega (arith, reads_short g exist nodes (only_row g u v k ∷ without_row u k ∷ us) rest (h.1), choices_split g u v k low can)
+
+drop_length : (xs : List Node) (i : ℕ) → i < length xs → length (take i xs) + 1 + length (drop (suc i) xs) ≡ length xs
+drop_length [] i l = absurd (omega (arith, l))
+drop_length (x ∷ xs) zero l = omega arith
+drop_length (x ∷ xs) (suc i) l = omega (arith, drop_length xs i (omega (arith, l)))
+
+-- while a leaf of a sound tree has a vehicle with two rows, the tree is short
+pub tree_short : (g : Graph) (low : ℤ) (limit : ℕ) (nodes : List Node) (values : List ℤ) (i v k : ℕ) (ms : List ℤ) → ((k : ℕ) → k < length g.rows → vehicle_at g k < g.vehicles)
+    → i < length nodes → get_or nodes i Dead ≡ Leaf ms → (s : IsSplit g low limit (every_row ∷ []) nodes values [] i) → v < g.vehicles → CanBranch g s.usable v k → length nodes + 3 ≤ 2 * choice_count g every_row
+tree_short g low limit nodes values i v k ms exist l leaf s below can =
+    let after : IsGrown g low limit s.later (drop (suc i) nodes) (drop (suc i) values) [] =
+          subst (λ (n : Node). IsGrown g low limit (coming_after g s.usable n s.later) (drop (suc i) nodes) (drop (suc i) values) []) leaf s.after in
+    let before = reads_short g exist (take i nodes) (every_row ∷ []) (s.usable ∷ s.later) (grown_reads g low limit (take i nodes) (take i values) (every_row ∷ []) (s.usable ∷ s.later) s.before) in
+    let rest = reads_short g exist (drop (suc i) nodes) s.later [] (grown_reads g low limit (drop (suc i) nodes) (drop (suc i) values) s.later [] after) in
+    let size = drop_length nodes i l in
+    let split = choices_split g s.usable v k below can in
+    omega (arith, before, rest, size, split, choices_some g (only_row g s.usable v k), choices_some g (without_row s.usable k))

@@ -1,0 +1,307 @@
+-- Trees that grow.
+use Rattle.std.proofs.Common.{◌≡◌, ◌≢◌, ◌==◌, ◌⊎◌, ◌&&◌, ◌||◌, not, ℕ, zero, suc, ◌+◌, ◌-◌, ◌*◌, ◌/◌, ◌<◌, ◌≤◌, Bool, true, false, List, [], ◌∷◌, ◌++◌, length, get_or, take, drop, set, insert, Option, Some, None, MatchOption, ℤ, pos, negsuc, neg_ℤ, ◌≤ℤ◌, ◌<ℤ◌, refl, sym, ap, ◌∙◌, subst, inl, inr, ⊎_elim, arith, eq-eqb, ne_eqb, add-one}
+use Rattle.std.specs.Prelude.{unwrap_or}
+use Rattle.std.specs.List.{AllByRecursion as ByRecursion}
+use Rattle.std.proofs.lemmas.Int.{ints, int_min_is}
+use Rattle.std.proofs.lemmas.Bool.{cases_eq, cases_lt, and_from, or_left, or_right}
+use Rattle.plan_rules.specs.Sums.{lesser}
+use Rattle.plan_rules.specs.Graph.{Graph, IsRowOf, vehicle_at, IsGoodGraph}
+use Rattle.plan_rules.specs.Multipliers.{Usable, leaf_value, first_fit_value}
+use Rattle.plan_rules.specs.Tree.{every_row, only_row, without_row, MayUse, CanBranch, IsDeadEnd, IsSoundNode, coming_after, Reads, IsSoundTree, Place, places_from, places, rounded_up, with_leaf, least_leaf, tree_value}
+use Rattle.plan_rules.specs.Plan.{IsLawful, cost_of}
+use Rattle.plan_rules.specs.Greedy.{IsGreedy}
+use Rattle.plan_rules.specs.declared.node.Node.{Node}
+use Rattle.plan_rules.specs.declared.node.Node.TheVariants.{Branch, Leaf, Dead}
+use Rattle.assignment_search.specs.Growth.{IsWorthBranching, IsGoodLeaf, IsGoodNode, IsGrown, HasUsable, IsLowest, HasLeaf, IsNewLeaf, IsNewEnd}
+use Rattle.assignment_search.specs.Found.{IsAtLeastFirstFit, IsJustified, IsBranchJustified}
+
+-- ---- grown trees are sound
+
+good_sound : (g : Graph) (low : ℤ) (limit : ℕ) (u : Usable) (n : Node) (z : ℤ) → IsGoodNode g low limit u n z → IsSoundNode g u n
+good_sound g low limit u (Leaf ms) z h = h.sized
+good_sound g low limit u Dead z h = h
+good_sound g low limit u (Branch v k) z h = h.0
+
+pub grown_reads : (g : Graph) (low : ℤ) (limit : ℕ) (nodes : List Node) (values : List ℤ) (coming rest : List Usable) → IsGrown g low limit coming nodes values rest → Reads g coming nodes rest
+grown_reads g low limit [] [] coming rest h = h
+grown_reads g low limit [] (z ∷ values) coming rest h = absurd h
+grown_reads g low limit (n ∷ nodes) [] coming rest h = absurd h
+grown_reads g low limit (n ∷ nodes) (z ∷ values) [] rest h = absurd h
+grown_reads g low limit (n ∷ nodes) (z ∷ values) (u ∷ us) rest h = (good_sound g low limit u n z (h.0), grown_reads g low limit nodes values (coming_after g u n us) rest (h.1))
+
+pub grown_length : (g : Graph) (low : ℤ) (limit : ℕ) (nodes : List Node) (values : List ℤ) (coming rest : List Usable) → IsGrown g low limit coming nodes values rest → length values ≡ length nodes
+grown_length g low limit [] [] coming rest h = refl
+grown_length g low limit [] (z ∷ values) coming rest h = absurd h
+grown_length g low limit (n ∷ nodes) [] coming rest h = absurd h
+grown_length g low limit (n ∷ nodes) (z ∷ values) [] rest h = absurd h
+grown_length g low limit (n ∷ nodes) (z ∷ values) (u ∷ us) rest h = ap suc (grown_length g low limit nodes values (coming_after g u n us) rest (h.1))
+
+-- ---- a node of a grown tree, with what is before and after it
+
+pub record IsSplit (g : Graph) (low : ℤ) (limit : ℕ) (coming : List Usable) (nodes : List Node) (values : List ℤ) (rest : List Usable) (i : ℕ) : Type 0 where
+  pub usable : Usable
+  pub later : List Usable
+  pub before : IsGrown g low limit coming (take i nodes) (take i values) (usable ∷ later)
+  pub here : IsGoodNode g low limit usable (get_or nodes i Dead) (get_or values i (pos 0))
+  pub after : IsGrown g low limit (coming_after g usable (get_or nodes i Dead) later) (drop (suc i) nodes) (drop (suc i) values) rest
+
+pub grown_split : (g : Graph) (low : ℤ) (limit : ℕ) (nodes : List Node) (values : List ℤ) (coming rest : List Usable) (i : ℕ) → IsGrown g low limit coming nodes values rest → i < length nodes → IsSplit g low limit coming nodes values rest i
+grown_split g low limit [] values coming rest i h l = absurd (omega (arith, l))
+grown_split g low limit (n ∷ nodes) [] coming rest i h l = absurd h
+grown_split g low limit (n ∷ nodes) (z ∷ values) [] rest i h l = absurd h
+grown_split g low limit (n ∷ nodes) (z ∷ values) (u ∷ us) rest zero h l = record { usable = u; later = us; before = refl; here = h.0; after = h.1 }
+grown_split g low limit (n ∷ nodes) (z ∷ values) (u ∷ us) rest (suc i) h l =
+    let s = grown_split g low limit nodes values (coming_after g u n us) rest i (h.1) (omega (arith, l)) in
+    record { usable = s.usable; later = s.later; before = (h.0, s.before); here = s.here; after = s.after }
+
+pub grown_join : (g : Graph) (low : ℤ) (limit : ℕ) (xs : List Node) (zs : List ℤ) (ys : List Node) (ws : List ℤ) (a b d : List Usable) → IsGrown g low limit a xs zs b → IsGrown g low limit b ys ws d → IsGrown g low limit a (xs ++ ys) (zs ++ ws) d
+grown_join g low limit [] [] ys ws a b d first second = subst (λ (c : List Usable). IsGrown g low limit c ys ws d) (sym first) second
+grown_join g low limit [] (z ∷ zs) ys ws a b d first second = absurd first
+grown_join g low limit (n ∷ xs) [] ys ws a b d first second = absurd first
+grown_join g low limit (n ∷ xs) (z ∷ zs) ys ws [] b d first second = absurd first
+grown_join g low limit (n ∷ xs) (z ∷ zs) ys ws (u ∷ us) b d first second = (first.0, grown_join g low limit xs zs ys ws (coming_after g u n us) b d (first.1) second)
+
+-- ---- a leaf becomes a branch
+
+-- a new end goes into the tree, and nothing more is to come for it
+new_end_good : (g : Graph) (low : ℤ) (limit : ℕ) (u : Usable) (parent : List ℤ) (n : Node) (z : ℤ) → low ≤ℤ rounded_up (leaf_value g u parent) → ((a b : ℤ) → a ≤ℤ b → rounded_up a ≤ℤ rounded_up b) → IsNewEnd g u parent n z → IsGoodNode g low limit u n z
+new_end_good g low limit u parent (Leaf ms) z floor mono h =
+    let up : rounded_up (leaf_value g u parent) ≤ℤ rounded_up z = mono (leaf_value g u parent) z h.inherited in
+    record { sized = h.sized; judged = h.judged; first_fit = h.first_fit; floor = omega (arith, ints); alive = h.alive; small = h.small }
+new_end_good g low limit u parent Dead z floor mono h = h.0
+new_end_good g low limit u parent (Branch v k) z floor mono h = absurd h
+
+new_end_ends : (g : Graph) (u w : Usable) (parent : List ℤ) (n : Node) (z : ℤ) (c : List Usable) → IsNewEnd g w parent n z → coming_after g u n c ≡ c
+new_end_ends g u w parent (Leaf ms) z c h = refl
+new_end_ends g u w parent Dead z c h = refl
+new_end_ends g u w parent (Branch v k) z c h = absurd h
+
+pub rounded_up_mono : (a b : ℤ) → a ≤ℤ b → rounded_up a ≤ℤ rounded_up b
+rounded_up_mono (pos n) (pos m) h =
+    let le : n ≤ m = omega (arith, ints, h) in
+    let q : (n + 1023) / 1024 ≤ (m + 1023) / 1024 = omega arith in
+    omega (arith, ints)
+rounded_up_mono (pos n) (negsuc m) h = absurd (omega (arith, ints, h))
+rounded_up_mono (negsuc n) (pos m) h = omega (arith, ints)
+rounded_up_mono (negsuc n) (negsuc m) h =
+    let le : m ≤ n = omega (arith, ints, h) in
+    let q : suc m / 1024 ≤ suc n / 1024 = omega arith in
+    omega (arith, ints)
+
+-- the tree with the leaf at i made a branch with these ends
+pub branched : (g : Graph) (low : ℤ) (limit : ℕ) (nodes : List Node) (values : List ℤ) (i v k : ℕ) (parent : List ℤ) (first second : Node) (a b x : ℤ) → IsGrown g low limit (every_row ∷ []) nodes values [] → i < length nodes → get_or nodes i Dead ≡ Leaf parent
+    → (s : IsSplit g low limit (every_row ∷ []) nodes values [] i) → CanBranch g s.usable v k → IsWorthBranching g low limit s.usable
+    → low ≤ℤ rounded_up (leaf_value g (only_row g s.usable v k) parent) → low ≤ℤ rounded_up (leaf_value g (without_row s.usable k) parent)
+    → IsNewEnd g (only_row g s.usable v k) parent first a → IsNewEnd g (without_row s.usable k) parent second b
+    → IsGrown g low limit (every_row ∷ []) (take i nodes ++ (Branch v k ∷ first ∷ second ∷ drop (suc i) nodes)) (take i values ++ (x ∷ a ∷ b ∷ drop (suc i) values)) []
+branched g low limit nodes values i v k parent first second a b x grown l leaf s can worth floor_a floor_b end_a end_b =
+    let after : IsGrown g low limit s.later (drop (suc i) nodes) (drop (suc i) values) [] =
+          subst (λ (n : Node). IsGrown g low limit (coming_after g s.usable n s.later) (drop (suc i) nodes) (drop (suc i) values) []) leaf s.after in
+    let third : IsGrown g low limit (without_row s.usable k ∷ s.later) (second ∷ drop (suc i) nodes) (b ∷ drop (suc i) values) [] =
+          (new_end_good g low limit (without_row s.usable k) parent second b floor_b rounded_up_mono end_b,
+           subst (λ (c : List Usable). IsGrown g low limit c (drop (suc i) nodes) (drop (suc i) values) []) (sym (new_end_ends g (without_row s.usable k) (without_row s.usable k) parent second b s.later end_b)) after) in
+    let both : IsGrown g low limit (only_row g s.usable v k ∷ without_row s.usable k ∷ s.later) (first ∷ second ∷ drop (suc i) nodes) (a ∷ b ∷ drop (suc i) values) [] =
+          (new_end_good g low limit (only_row g s.usable v k) parent first a floor_a rounded_up_mono end_a,
+           subst (λ (c : List Usable). IsGrown g low limit c (second ∷ drop (suc i) nodes) (b ∷ drop (suc i) values) []) (sym (new_end_ends g (only_row g s.usable v k) (only_row g s.usable v k) parent first a (without_row s.usable k ∷ s.later) end_a)) third) in
+    grown_join g low limit (take i nodes) (take i values) (Branch v k ∷ first ∷ second ∷ drop (suc i) nodes) (x ∷ a ∷ b ∷ drop (suc i) values) (every_row ∷ []) (s.usable ∷ s.later) [] s.before ((can, worth), both)
+
+-- ---- the bound rises
+
+-- each leaf's value, in seconds, is at least this
+abbrev pub LeavesAbove : ℤ → List Node → List ℤ → Type 0
+LeavesAbove low nodes values = (k : ℕ) (ms : List ℤ) → k < length nodes → get_or nodes k Dead ≡ Leaf ms → low ≤ℤ rounded_up (get_or values k (pos 0))
+
+raise_node : (g : Graph) (low new : ℤ) (limit : ℕ) (u : Usable) (n : Node) (z : ℤ) → low ≤ℤ new → ((ms : List ℤ) → n ≡ Leaf ms → new ≤ℤ rounded_up z) → IsGoodNode g low limit u n z → IsGoodNode g new limit u n z
+raise_node g low new limit u (Leaf ms) z up floor h = record { sized = h.sized; judged = h.judged; first_fit = h.first_fit; floor = floor ms refl; alive = h.alive; small = h.small }
+raise_node g low new limit u Dead z up floor h = h
+raise_node g low new limit u (Branch v k) z up floor h =
+    let w = h.1 in
+    let most : rounded_up (first_fit_value g u) ≤ℤ low = w.at_most in
+    (h.0, record { at_most = omega (arith, ints); below = w.below })
+
+pub raised : (g : Graph) (low new : ℤ) (limit : ℕ) (nodes : List Node) (values : List ℤ) (coming rest : List Usable) → low ≤ℤ new → LeavesAbove new nodes values → IsGrown g low limit coming nodes values rest → IsGrown g new limit coming nodes values rest
+raised g low new limit [] [] coming rest up above h = h
+raised g low new limit [] (z ∷ values) coming rest up above h = h
+raised g low new limit (n ∷ nodes) [] coming rest up above h = h
+raised g low new limit (n ∷ nodes) (z ∷ values) [] rest up above h = h
+raised g low new limit (n ∷ nodes) (z ∷ values) (u ∷ us) rest up above h =
+    ( raise_node g low new limit u n z up (λ ms e. above 0 ms (omega arith) e) (h.0)
+    , raised g low new limit nodes values (coming_after g u n us) rest up (λ k ms l e. above (suc k) ms (omega (arith, l)) e) (h.1) )
+
+-- no leaf is below the lowest
+pub lowest_above : (nodes : List Node) (values : List ℤ) (i : ℕ) → IsLowest nodes values i → LeavesAbove (rounded_up (get_or values i (pos 0))) nodes values
+lowest_above nodes values i low k ms l e = rounded_up_mono (get_or values i (pos 0)) (get_or values k (pos 0)) (low.least k ms l e)
+
+-- the lowest leaf's value is at least what the tree showed before
+pub lowest_floor : (g : Graph) (low : ℤ) (limit : ℕ) (nodes : List Node) (values : List ℤ) (i : ℕ) → IsGrown g low limit (every_row ∷ []) nodes values [] → IsLowest nodes values i → low ≤ℤ rounded_up (get_or values i (pos 0))
+lowest_floor g low limit nodes values i grown lowest =
+    let s = grown_split g low limit nodes values (every_row ∷ []) [] i grown lowest.within in
+    let here : IsGoodLeaf g low s.usable lowest.multipliers (get_or values i (pos 0)) = subst (λ (n : Node). IsGoodNode g low limit s.usable n (get_or values i (pos 0))) lowest.leaf s.here in
+    here.floor
+
+-- ---- the tree's value
+
+least_low : (g : Graph) (low : ℤ) (limit : ℕ) (nodes : List Node) (values : List ℤ) (coming rest : List Usable) → IsGrown g low limit coming nodes values rest → (z : ℤ) → least_leaf g (places_from g coming nodes) ≡ Some z → low ≤ℤ z
+least_low g low limit [] [] coming rest h z e = absurd (none z e)
+  where
+    none : (z : ℤ) → ◌≡◌ {A = Option ℤ} None (Some z) → ⊥
+    none z e = cc
+least_low g low limit [] (w ∷ values) coming rest h z e = absurd h
+least_low g low limit (n ∷ nodes) [] coming rest h z e = absurd h
+least_low g low limit (n ∷ nodes) (w ∷ values) [] rest h z e = absurd h
+least_low g low limit (Leaf ms ∷ nodes) (w ∷ values) (u ∷ us) rest h z e =
+    let leaf = h.0 in
+    let floor : low ≤ℤ rounded_up (leaf_value g u ms) = subst (λ (y : ℤ). low ≤ℤ rounded_up y) leaf.judged leaf.floor in
+    both (least_leaf g (places_from g us nodes)) (least_low g low limit nodes values us rest (h.1)) floor (inner e)
+  where
+    inner : {a b : ℤ} → Some a ≡ Some b → a ≡ b
+    inner e = cc
+
+    both : (o : Option ℤ) → ((y : ℤ) → o ≡ Some y → low ≤ℤ y) → low ≤ℤ rounded_up (leaf_value g u ms) → lesser o (rounded_up (leaf_value g u ms)) ≡ z → low ≤ℤ z
+    both None before here is = omega (arith, ints)
+    both (Some y) before here is =
+        let old : low ≤ℤ y = before y refl in
+        omega (arith, ints, int_min_is y (rounded_up (leaf_value g u ms)))
+least_low g low limit (Dead ∷ nodes) (w ∷ values) (u ∷ us) rest h z e = least_low g low limit nodes values us rest (h.1) z e
+least_low g low limit (Branch v k ∷ nodes) (w ∷ values) (u ∷ us) rest h z e = least_low g low limit nodes values (only_row g u v k ∷ without_row u k ∷ us) rest (h.1) z e
+
+-- a leaf's value is not below the least
+least_high : (g : Graph) (low : ℤ) (limit : ℕ) (nodes : List Node) (values : List ℤ) (coming rest : List Usable) (i : ℕ) (ms : List ℤ) → IsGrown g low limit coming nodes values rest → i < length nodes → get_or nodes i Dead ≡ Leaf ms → (z : ℤ) × (least_leaf g (places_from g coming nodes) ≡ Some z) × (z ≤ℤ rounded_up (get_or values i (pos 0)))
+least_high g low limit [] values coming rest i ms h l e = absurd (omega (arith, l))
+least_high g low limit (n ∷ nodes) [] coming rest i ms h l e = absurd h
+least_high g low limit (n ∷ nodes) (w ∷ values) [] rest i ms h l e = absurd h
+least_high g low limit (Leaf ns ∷ nodes) (w ∷ values) (u ∷ us) rest zero ms h l e =
+    let leaf = h.0 in
+    let same : rounded_up (leaf_value g u ns) ≡ rounded_up w = ap rounded_up (sym leaf.judged) in
+    (lesser (least_leaf g (places_from g us nodes)) (rounded_up (leaf_value g u ns)), refl, right (least_leaf g (places_from g us nodes)) same)
+  where
+    right : (o : Option ℤ) → rounded_up (leaf_value g u ns) ≡ rounded_up w → lesser o (rounded_up (leaf_value g u ns)) ≤ℤ rounded_up w
+    right None same = omega (arith, ints)
+    right (Some y) same = omega (arith, ints, int_min_is y (rounded_up (leaf_value g u ns)))
+least_high g low limit (Leaf ns ∷ nodes) (w ∷ values) (u ∷ us) rest (suc i) ms h l e =
+    let before = least_high g low limit nodes values us rest i ms (h.1) (omega (arith, l)) e in
+    let is : lesser (least_leaf g (places_from g us nodes)) (rounded_up (leaf_value g u ns)) ≡ lesser (Some (before.0)) (rounded_up (leaf_value g u ns)) = ap (λ (o : Option ℤ). lesser o (rounded_up (leaf_value g u ns))) (before.1) in
+    let old : before.0 ≤ℤ rounded_up (get_or values i (pos 0)) = before.2 in
+    let all : lesser (least_leaf g (places_from g us nodes)) (rounded_up (leaf_value g u ns)) ≤ℤ rounded_up (get_or values i (pos 0)) = omega (arith, ints, int_min_is (before.0) (rounded_up (leaf_value g u ns))) in
+    (lesser (least_leaf g (places_from g us nodes)) (rounded_up (leaf_value g u ns)), refl, all)
+least_high g low limit (Dead ∷ nodes) (w ∷ values) (u ∷ us) rest zero ms h l e = absurd (differ e)
+  where
+    differ : Dead ≡ Leaf ms → ⊥
+    differ e = cc
+least_high g low limit (Dead ∷ nodes) (w ∷ values) (u ∷ us) rest (suc i) ms h l e = least_high g low limit nodes values us rest i ms (h.1) (omega (arith, l)) e
+least_high g low limit (Branch v k ∷ nodes) (w ∷ values) (u ∷ us) rest zero ms h l e = absurd (differ e)
+  where
+    differ : Branch v k ≡ Leaf ms → ⊥
+    differ e = cc
+least_high g low limit (Branch v k ∷ nodes) (w ∷ values) (u ∷ us) rest (suc i) ms h l e = least_high g low limit nodes values (only_row g u v k ∷ without_row u k ∷ us) rest i ms (h.1) (omega (arith, l)) e
+
+-- the tree's value is that of its lowest leaf
+pub value_is : (g : Graph) (limit : ℕ) (nodes : List Node) (values : List ℤ) (i : ℕ) → IsGrown g (rounded_up (get_or values i (pos 0))) limit (every_row ∷ []) nodes values [] → IsLowest nodes values i → tree_value g nodes ≡ rounded_up (get_or values i (pos 0))
+value_is g limit nodes values i grown lowest =
+    let low = rounded_up (get_or values i (pos 0)) in
+    let w = least_high g low limit nodes values (every_row ∷ []) [] i lowest.multipliers grown lowest.within lowest.leaf in
+    let below : w.0 ≤ℤ low = w.2 in
+    let above : low ≤ℤ w.0 = least_low g low limit nodes values (every_row ∷ []) [] grown (w.0) (w.1) in
+    let same : w.0 ≡ low = omega (arith, ints) in
+    ap (λ (o : Option ℤ). unwrap_or o (pos 0)) (w.1) ∙ same
+
+-- ---- what the leaves and branches of a grown tree are
+
+pub leaves_fit : (g : Graph) (low : ℤ) (limit : ℕ) (nodes : List Node) (values : List ℤ) (coming rest : List Usable) → IsGrown g low limit coming nodes values rest → ByRecursion (λ p. IsAtLeastFirstFit g p.usable p.node) (places_from g coming nodes)
+leaves_fit g low limit [] [] coming rest h = tt
+leaves_fit g low limit [] (z ∷ values) coming rest h = absurd h
+leaves_fit g low limit (n ∷ nodes) [] coming rest h = absurd h
+leaves_fit g low limit (n ∷ nodes) (z ∷ values) [] rest h = absurd h
+leaves_fit g low limit (n ∷ nodes) (z ∷ values) (u ∷ us) rest h = (fits n (h.0), leaves_fit g low limit nodes values (coming_after g u n us) rest (h.1))
+  where
+    fits : (m : Node) → IsGoodNode g low limit u m z → IsAtLeastFirstFit g u m
+    fits (Leaf ms) leaf = subst (λ (y : ℤ). first_fit_value g u ≤ℤ y) leaf.judged leaf.first_fit
+    fits Dead h = tt
+    fits (Branch v k) h = tt
+
+pub branches_justified : (g : Graph) (low : ℤ) (limit : ℕ) → limit ≤ cost_of g g.held → ((chosen : List (Option ℕ)) → IsGreedy g chosen → IsLawful g chosen → limit ≤ cost_of g chosen)
+    → (nodes : List Node) (values : List ℤ) (coming rest : List Usable) → IsGrown g low limit coming nodes values rest → ByRecursion (λ p. IsBranchJustified g low p.usable p.node) (places_from g coming nodes)
+branches_justified g low limit held greedy [] [] coming rest h = tt
+branches_justified g low limit held greedy [] (z ∷ values) coming rest h = absurd h
+branches_justified g low limit held greedy (n ∷ nodes) [] coming rest h = absurd h
+branches_justified g low limit held greedy (n ∷ nodes) (z ∷ values) [] rest h = absurd h
+branches_justified g low limit held greedy (n ∷ nodes) (z ∷ values) (u ∷ us) rest h = (just n (h.0), branches_justified g low limit held greedy nodes values (coming_after g u n us) rest (h.1))
+  where
+    just : (m : Node) → IsGoodNode g low limit u m z → IsBranchJustified g low u m
+    just (Leaf ms) h = tt
+    just Dead h = tt
+    just (Branch v k) h =
+        let worth = h.1 in
+        let below : rounded_up (first_fit_value g u) <ℤ pos limit = worth.below in
+        record {
+          at_most = worth.at_most;
+          below_held = omega (arith, ints);
+          below_greedy = λ chosen is lawful. let least : limit ≤ cost_of g chosen = greedy chosen is lawful in omega (arith, ints)
+        }
+
+-- ---- vehicles keep a usable row
+
+only_usable : (g : Graph) (u : Usable) (v k : ℕ) → CanBranch g u v k → HasUsable g u → HasUsable g (only_row g u v k)
+only_usable g u v k can has w i row =
+    ⊎_elim
+      (λ (here : w ≡ v).
+        ( k
+        , record {
+            row = subst (λ (q : ℕ). IsRowOf g q k) (sym here) can.row.row;
+            usable_row = and_from (u k) (not (vehicle_at g k == v) || k == k) can.row.usable_row (or_right (not (vehicle_at g k == v)) (k == k) (eq-eqb k k refl))
+          } ))
+      (λ (other : w ≡ v → ⊥).
+        let j = has w i row in
+        let own = (j.1).row in
+        let apart : not (vehicle_at g (j.0) == v) ≡ true = ap not (ne_eqb (vehicle_at g (j.0)) v (λ (e : vehicle_at g (j.0) ≡ v). other (sym own.own ∙ e))) in
+        ( j.0
+        , record { row = own; usable_row = and_from (u (j.0)) (not (vehicle_at g (j.0) == v) || (j.0) == k) (j.1).usable_row (or_left (not (vehicle_at g (j.0) == v)) ((j.0) == k) apart) } ))
+      (cases_eq w v)
+
+without_usable : (g : Graph) (u : Usable) (v k : ℕ) → CanBranch g u v k → HasUsable g u → HasUsable g (without_row u k)
+without_usable g u v k can has w i row =
+    ⊎_elim
+      (λ (here : w ≡ v).
+        ( can.other
+        , record {
+            row = subst (λ (q : ℕ). IsRowOf g q can.other) (sym here) can.other_row.row;
+            usable_row = and_from (u can.other) (not (can.other == k)) can.other_row.usable_row (ap not (ne_eqb can.other k can.differs))
+          } ))
+      (λ (other : w ≡ v → ⊥).
+        let j = has w i row in
+        let own = (j.1).row in
+        let apart : not ((j.0) == k) ≡ true = ap not (ne_eqb (j.0) k (λ (e : j.0 ≡ k). other (sym own.own ∙ ap (vehicle_at g) e ∙ can.row.row.own))) in
+        (j.0, record { row = own; usable_row = and_from (u (j.0)) (not ((j.0) == k)) (j.1).usable_row apart }))
+      (cases_eq w v)
+
+-- each of these leaves each vehicle a row
+abbrev AllUsable : Graph → List Usable → Type 0
+AllUsable g [] = Unit {0}
+AllUsable g (u ∷ us) = HasUsable g u × AllUsable g us
+
+usable_along : (g : Graph) (nodes : List Node) (coming rest : List Usable) → Reads g coming nodes rest → AllUsable g coming → AllUsable g rest
+usable_along g [] coming rest h all = subst (AllUsable g) h all
+usable_along g (n ∷ nodes) [] rest h all = absurd h
+usable_along g (Leaf ms ∷ nodes) (u ∷ us) rest h all = usable_along g nodes us rest (h.1) (all.1)
+usable_along g (Dead ∷ nodes) (u ∷ us) rest h all = usable_along g nodes us rest (h.1) (all.1)
+usable_along g (Branch v k ∷ nodes) (u ∷ us) rest h all =
+    usable_along g nodes (only_row g u v k ∷ without_row u k ∷ us) rest (h.1) (only_usable g u v k (h.0) (all.0), (without_usable g u v k (h.0) (all.0), all.1))
+
+every_usable : (g : Graph) → HasUsable g every_row
+every_usable g v k row = (k, record { row = row; usable_row = refl })
+
+-- where a walk from the root stands, each vehicle may use a row
+pub usable_here : (g : Graph) (nodes : List Node) (u : Usable) (later : List Usable) → Reads g (every_row ∷ []) nodes (u ∷ later) → HasUsable g u
+usable_here g nodes u later h = (usable_along g nodes (every_row ∷ []) (u ∷ later) h (every_usable g, tt)).0
+
+pub usable_only : (g : Graph) (u : Usable) (v k : ℕ) → CanBranch g u v k → HasUsable g u → HasUsable g (only_row g u v k)
+usable_only = only_usable
+
+pub usable_without : (g : Graph) (u : Usable) (v k : ℕ) → CanBranch g u v k → HasUsable g u → HasUsable g (without_row u k)
+usable_without = without_usable
+
+-- reading is a function
+pub reads_unique : (g : Graph) (nodes : List Node) (a b d : List Usable) → Reads g a nodes b → Reads g a nodes d → b ≡ d
+reads_unique g [] a b d first second = sym first ∙ second
+reads_unique g (n ∷ nodes) [] b d first second = absurd first
+reads_unique g (n ∷ nodes) (u ∷ us) b d first second = reads_unique g nodes (coming_after g u n us) b d (first.1) (second.1)

@@ -1,0 +1,11 @@
+pub mod MarkLemmas
+pub mod GrowthLemmas
+pub mod RiseLemmas
+pub mod CountLemmas
+pub mod FixedLemmas
+pub mod ExchangeLemmas
+pub mod UniqueLemmas
+pub mod LeafLemmas
+pub mod StandingLemmas
+pub mod EditLemmas
+pub mod AnswerLemmas

@@ -1,0 +1,70 @@
+-- Where a walk stands.
+use Rattle.std.proofs.Common.{◌≡◌, ◌⊎◌, ℕ, zero, suc, ◌+◌, ◌<◌, Bool, true, false, not, List, [], ◌∷◌, ◌++◌, length, get_or, take, MatchBool, ℤ, refl, sym, ap, ◌∙◌, subst, ⊎_elim, arith}
+use Rattle.std.proofs.lemmas.Bool.{cases_eq}
+use Rattle.std.proofs.lemmas.List.{get_or_push, get_or_append_left, length_push}
+use Rattle.plan_rules.specs.Graph.{Graph, IsRowOf}
+use Rattle.plan_rules.specs.Multipliers.{Usable}
+use Rattle.plan_rules.specs.Tree.{every_row, Reads, IsSoundNode, coming_after}
+use Rattle.plan_rules.specs.Path.{Standing, standing_of, root, decided, IsPathOf}
+use Rattle.plan_rules.specs.declared.node.Node.{Node}
+use Rattle.plan_rules.specs.declared.node.Node.TheVariants.{Branch, Leaf, Dead}
+use Rattle.plan_rules.specs.declared.path.Decision.{Decision}
+use Rattle.plan_rules.proofs.PathLemmas.{standing_start, standing_push}
+
+-- what is to come at the first subtree of a branch
+pub coming_entered : (g : Graph) (old new : List Decision) (v k : ℕ) → new ≡ old ++ record { vehicle = v; row = k; alone = true } ∷ [] → (standing_of g new).usable ∷ (standing_of g new).coming ≡ coming_after g (standing_of g old).usable (Branch v k) (standing_of g old).coming
+coming_entered g old new v k e =
+    ap (λ (p : List Decision). (standing_of g p).usable ∷ (standing_of g p).coming) e
+      ∙ ap (λ (s : Standing). s.usable ∷ s.coming) (standing_push g old (record { vehicle = v; row = k; alone = true }))
+
+pub path_push : (g : Graph) (path : List Decision) (e : Decision) → IsPathOf g path → (e.vehicle < g.vehicles) × IsRowOf g e.vehicle e.row → IsPathOf g (path ++ e ∷ [])
+path_push g path e before here k d l =
+    ⊎_elim
+      (λ (last : k ≡ length path). subst (λ (q : Decision). (q.vehicle < g.vehicles) × IsRowOf g q.vehicle q.row) (sym (get_or_push path e d k (sym last))) here)
+      (λ (other : k ≡ length path → ⊥).
+        let low : k < length path = omega (arith, l, length_push path e) in
+        subst (λ (q : Decision). (q.vehicle < g.vehicles) × IsRowOf g q.vehicle q.row) (sym (get_or_append_left path (e ∷ []) d k low)) (before k d low))
+      (cases_eq k (length path))
+
+pub path_none : (g : Graph) (path : List Decision) → path ≡ [] → IsPathOf g path
+path_none g path e = subst (IsPathOf g) (sym e) (λ k d l. absurd (omega (arith, l)))
+
+pub coming_start : (g : Graph) (path : List Decision) → path ≡ [] → (every_row ∷ []) ≡ (standing_of g path).usable ∷ (standing_of g path).coming
+coming_start g path e = sym (ap (λ (p : List Decision). (standing_of g p).usable ∷ (standing_of g p).coming) e ∙ ap (λ (s : Standing). s.usable ∷ s.coming) (standing_start g))
+
+-- ---- a tree that ends later goes on here
+
+pub record IsNextOf (g : Graph) (first : List Usable) (nodes : List Node) (k : ℕ) (coming : List Usable) : Type 0 where
+  pub usable : Usable
+  pub later : List Usable
+  pub here : coming ≡ usable ∷ later
+  pub sound : IsSoundNode g usable (get_or nodes k Dead)
+  pub after : Reads g first (take (suc k) nodes) (coming_after g usable (get_or nodes k Dead) later)
+
+pub next_of : (g : Graph) (nodes : List Node) (first rest coming : List Usable) (k : ℕ) → Reads g first nodes rest → k < length nodes → Reads g first (take k nodes) coming → IsNextOf g first nodes k coming
+next_of g [] first rest coming k h l before = absurd (omega (arith, l))
+next_of g (n ∷ nodes) [] rest coming k h l before = absurd h
+next_of g (n ∷ nodes) (u ∷ us) rest coming zero h l before = record { usable = u; later = us; here = sym before; sound = h.0; after = (h.0, refl) }
+next_of g (n ∷ nodes) (u ∷ us) rest coming (suc k) h l before =
+    let w = next_of g nodes (coming_after g u n us) rest coming k (h.1) (omega (arith, l)) (before.1) in
+    record { usable = w.usable; later = w.later; here = w.here; sound = w.sound; after = (h.0, w.after) }
+
+heads : (u w : Usable) (us ws : List Usable) → u ∷ us ≡ w ∷ ws → u ≡ w
+heads u w us ws e = cc
+
+tails : (u w : Usable) (us ws : List Usable) → u ∷ us ≡ w ∷ ws → us ≡ ws
+tails u w us ws e = cc
+
+none : (w : Usable) (ws : List Usable) → [] ≡ w ∷ ws → ⊥
+none w ws e = cc
+
+pub head_is : (u w : Usable) (us ws : List Usable) → u ∷ us ≡ w ∷ ws → u ≡ w
+head_is = heads
+
+pub tail_is : (u w : Usable) (us ws : List Usable) → u ∷ us ≡ w ∷ ws → us ≡ ws
+tail_is = tails
+
+-- where a subtree is to come after an end, a walk that leaves the end stands there
+pub left_next : (g : Graph) (b : Bool) (old new : List Decision) (u : Usable) (us : List Usable) → MatchBool b ((standing_of g old).coming ≡ (standing_of g new).usable ∷ (standing_of g new).coming) ((standing_of g old).coming ≡ []) → (standing_of g old).coming ≡ u ∷ us → (standing_of g new).usable ∷ (standing_of g new).coming ≡ u ∷ us
+left_next g true old new u us h e = sym h ∙ e
+left_next g false old new u us h e = absurd (none u us (sym h ∙ e))

@@ -1,0 +1,10 @@
+use Rattle.std.proofs.Common.{◌≡◌, ℕ, ◌<◌, Option, None, MatchOption, vec_len, get_or}
+use Rattle.plan_rules.specs.Multipliers.{usable_of}
+use Rattle.plan_rules.specs.Tree.{MayUse}
+use Rattle.assignment_search.proofs.sole_plan.sole_rows.Given as goal
+
+abbrev pub invariant-loop-vehicle : goal.invariant-loop-vehicle
+invariant-loop-vehicle l = record {
+  len : vec_len l.chosen ≡ l.vehicle;
+  rows : (v : ℕ) → v < l.vehicle → MatchOption (get_or l.chosen.items v None) ((k : ℕ) → MayUse l.graph (usable_of l.allowed) v k → ⊥) (MayUse l.graph (usable_of l.allowed) v)
+}

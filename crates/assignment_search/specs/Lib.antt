@@ -1,0 +1,5 @@
+pub mod Growth
+pub mod Change
+pub mod Found
+pub mod Marks
+pub mod Next

@@ -1,0 +1,79 @@
+//! Branch and bound (Land and Doig, 1960), best bound first.
+ghost use Rattle.std.specs.Prelude.{◌≡◌, ◌≤◌, ◌<◌, ◌+◌, ◌*◌, ℕ, pos, ◌≤ℤ◌, ◌<ℤ◌, IfOk, All, List, Option, length};
+ghost use Rattle.plan_rules.specs.Plan.{IsLawful, cost_of};
+ghost use Rattle.plan_rules.specs.Greedy.{IsGreedy};
+ghost use Rattle.plan_rules.specs.Multipliers.{first_fit_value};
+ghost use Rattle.plan_rules.specs.Tree.{every_row, IsSoundTree, places, rounded_up, tree_value};
+ghost use Rattle.assignment_search.specs.Change.{HasNoBetterChange};
+ghost use Rattle.assignment_search.specs.Found.{IsAtLeastFirstFit, IsBranchJustified, IsAnswer};
+ghost use Rattle.assignment_search.specs.Growth.{choice_count};
+
+use crate::first_plan::first_plan;
+use crate::found::Found;
+use crate::growth::grow;
+use crate::lowest_leaf::{bound_at, lowest};
+use crate::root::root_leaf;
+use crate::step::{next, Outcome};
+use plan_rules::{cost_of, Node, Plan, Tree, TripGraph};
+use pool_base::OutOfMemory;
+use std::alloc::Global;
+
+/// A lawful plan and a bound on every lawful plan's cost, with a tree of at most `budget` nodes that shows it.
+///
+/// The bound meets the cost unless the budget has no room for another branch.
+pub fn search(alloc: Global, graph: &TripGraph, budget: u32) -> Result<Found, OutOfMemory>
+    requires { 1 ≤ budget }
+    ensures lawful { IfOk result (λ found. IsLawful graph.now found.plan) }
+    ensures cost { IfOk result (λ found. found.cost ≡ cost_of graph.now found.plan) }
+    ensures held { IfOk result (λ found. found.cost ≤ cost_of graph.now graph.now.held) }
+    ensures greedy { IfOk result (λ found. (chosen : List (Option ℕ)) → IsGreedy graph.now chosen → IsLawful graph.now chosen → found.cost ≤ cost_of graph.now chosen) }
+    ensures change { IfOk result (λ found. HasNoBetterChange graph.now found.plan) }
+    ensures nodes { IfOk result (λ found. length found.tree ≤ budget) }
+    ensures sound { IfOk result (λ found. IsSoundTree graph.now found.tree) }
+    ensures bound { IfOk result (λ found. found.bound ≡ tree_value graph.now found.tree) }
+    ensures root { IfOk result (λ found. rounded_up (first_fit_value graph.now every_row) ≤ℤ found.bound) }
+    ensures leaves { IfOk result (λ found. All (λ p. IsAtLeastFirstFit graph.now p.usable p.node) (places graph.now found.tree)) }
+    ensures branches { IfOk result (λ found. All (λ p. IsBranchJustified graph.now found.bound p.usable p.node) (places graph.now found.tree)) }
+    ensures limited { IfOk result (λ found. found.bound <ℤ pos found.cost → budget < length found.tree + 2) }
+    ensures closed { IfOk result (λ found. 2 * choice_count graph.now every_row ≤ budget → found.bound ≡ pos found.cost) }
+{
+    run(alloc, graph, budget)
+}
+
+fn run(alloc: Global, graph: &TripGraph, budget: u32) -> Result<Found, OutOfMemory>
+    requires { 1 ≤ budget }
+    ensures { IfOk result (IsAnswer graph.now budget) }
+{
+    let plan = first_plan(alloc, graph)?;
+    let limit = cost_of(graph, &plan);
+    let root = root_leaf(alloc, graph)?;
+    let mut nodes = Vec::new(alloc);
+    nodes.push(Node::Leaf {
+        multipliers: root.multipliers,
+    })?;
+    let mut values = Vec::new(alloc);
+    values.push(root.value)?;
+    loop {
+        let place = lowest(&nodes, &values);
+        let bound = bound_at(&values, place);
+        match next(alloc, graph, &nodes, &values, place, limit, budget as usize)? {
+            Outcome::Parted(ends) => grow(&mut nodes, &mut values, place, ends)?,
+            Outcome::Fixed(best) => {
+                return Ok(Found {
+                    cost: cost_of(graph, &best),
+                    plan: best,
+                    bound,
+                    tree: Tree::of(nodes),
+                });
+            }
+            _ => {
+                return Ok(Found {
+                    plan,
+                    cost: limit,
+                    bound,
+                    tree: Tree::of(nodes),
+                });
+            }
+        }
+    }
+}

@@ -1,0 +1,42 @@
+//! On which row a leaf is branched.
+ghost use Rattle.std.specs.Prelude.{◌≡◌, ◌<◌, ◌≤◌, ℕ, IfSome, IfNone, length};
+ghost use Rattle.plan_rules.specs.Multipliers.{usable_of};
+ghost use Rattle.plan_rules.specs.Tree.{CanBranch, MayUse};
+ghost use Rattle.assignment_search.specs.Growth.{IsFixed};
+
+use plan_rules::TripGraph;
+
+/// A vehicle that may use two rows, and one of them.
+pub fn branch_row(graph: &TripGraph, allowed: &[bool]) -> Option<(usize, usize)>
+    requires { length allowed.now ≡ length graph.now.rows }
+    ensures found { IfSome result (λ at. CanBranch graph.now (usable_of allowed.now) at.0 at.1 × (at.0 < graph.now.vehicles)) }
+    ensures none { IfNone result (IsFixed graph.now (usable_of allowed.now)) }
+{
+    for vehicle in 0..graph.vehicle_count() {
+        if let Some(row) = second_row(graph, allowed, vehicle) {
+            return Some((vehicle, row));
+        }
+    }
+    None
+}
+
+/// A row that the vehicle may use beside another one.
+fn second_row(graph: &TripGraph, allowed: &[bool], vehicle: usize) -> Option<usize>
+    requires allowed { length allowed.now ≡ length graph.now.rows }
+    requires vehicle { vehicle < graph.now.vehicles }
+    ensures found { IfSome result (CanBranch graph.now (usable_of allowed.now) vehicle) }
+    ensures none { IfNone result ((j k : ℕ) → MayUse graph.now (usable_of allowed.now) vehicle j → MayUse graph.now (usable_of allowed.now) vehicle k → j ≡ k) }
+{
+    let count = graph.vehicle_count();
+    prove!(vehicle < count);
+    let mut first = None;
+    for row in graph.first_row(vehicle)..graph.first_row(vehicle + 1) {
+        if allowed[row] {
+            if first.is_some() {
+                return Some(row);
+            }
+            first = Some(row);
+        }
+    }
+    None
+}

@@ -1,0 +1,22 @@
+//! The tree that a search starts from.
+ghost use Rattle.std.specs.Prelude.{IfOk};
+ghost use Rattle.plan_rules.specs.Graph.{IsGoodGraph};
+ghost use Rattle.plan_rules.specs.Tree.{every_row, rounded_up};
+ghost use Rattle.assignment_search.specs.Growth.{IsGoodLeaf};
+
+use crate::child::Judged;
+use dual_bound::{first_fit, leaf_value};
+use plan_rules::TripGraph;
+use pool_base::OutOfMemory;
+use std::alloc::Global;
+
+/// A leaf at the root.
+pub fn root_leaf(alloc: Global, graph: &TripGraph) -> Result<Judged, OutOfMemory>
+    ensures good { IsGoodGraph graph.now }
+    ensures leaf { IfOk result (λ leaf. IsGoodLeaf graph.now (rounded_up leaf.value) every_row leaf.multipliers leaf.value) }
+{
+    let allowed = vec![in alloc; true; graph.rows().len()]?;
+    let multipliers = first_fit(alloc, graph, &allowed)?;
+    let value = leaf_value(graph, &allowed, multipliers.as_slice());
+    Ok(Judged { multipliers, value })
+}

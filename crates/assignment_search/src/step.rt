@@ -1,0 +1,72 @@
+//! What comes next at the leaf of least value.
+ghost use Rattle.std.specs.Prelude.{◌≡◌, ◌+◌, ◌<◌, ◌≤◌, ℕ, pos, MatchBool, IfOk, List, ℤ, length, slice_index_or, [], ◌∷◌};
+ghost use Rattle.plan_rules.specs.Tree.{every_row, rounded_up};
+ghost use Rattle.plan_rules.specs.declared.node.Node.TheVariants.{Leaf};
+ghost use Rattle.assignment_search.specs.Growth.{IsGrown, IsLowest};
+ghost use Rattle.assignment_search.specs.Next.{IsNext};
+
+use crate::branching::branch_row;
+use crate::lowest_leaf::is_met;
+use crate::parting::{allowed_at, part, Ends};
+use crate::sole_plan::sole_rows;
+use crate::standing::path_to;
+use plan_rules::{Node, Plan, TripGraph};
+use pool_base::OutOfMemory;
+use std::alloc::Global;
+
+/// What comes next at a leaf.
+#[derive(Drop)]
+pub enum Outcome {
+    /// Its value meets the limit.
+    Met,
+    /// It holds more than one plan, and the budget has no room for two more nodes.
+    Full,
+    /// It holds this plan alone.
+    Fixed(Plan),
+    /// It becomes a branch with these ends.
+    Parted(Ends),
+}
+
+/// What comes next at the leaf of least value.
+pub fn next(alloc: Global, graph: &TripGraph, nodes: &[Node], values: &[i128], place: usize, limit: u64, budget: usize) -> Result<Outcome, OutOfMemory>
+    requires lowest { IsLowest nodes.now values.now place }
+    requires grown { IsGrown graph.now (rounded_up (slice_index_or values.now place (pos 0))) limit (every_row ∷ []) nodes.now values.now [] }
+    ensures { IfOk result (IsNext graph.now nodes.now values.now place limit budget) }
+{
+    if is_met(values, place, limit) {
+        return Ok(Outcome::Met);
+    }
+    let path = path_to(alloc, graph, nodes, place)?;
+    let allowed = allowed_at(alloc, graph, &path)?;
+    match branch_row(graph, &allowed) {
+        None => {
+            let chosen = sole_rows(alloc, graph, &allowed)?;
+            Ok(Outcome::Fixed(Plan::of(chosen)))
+        }
+        Some((vehicle, row)) => {
+            if is_full(nodes, budget) {
+                return Ok(Outcome::Full);
+            }
+            let ends = part(alloc, graph, path, multipliers_of(&nodes[place]), vehicle, row)?;
+            Ok(Outcome::Parted(ends))
+        }
+    }
+}
+
+/// Whether the budget has no room for two more nodes.
+fn is_full(nodes: &[Node], budget: usize) -> bool
+    ensures { MatchBool result (budget < length nodes.now + 2) (length nodes.now + 2 ≤ budget) }
+{
+    budget.saturating_sub(nodes.len()) < 2
+}
+
+/// A leaf's multipliers.
+fn multipliers_of(node: &Node) -> &[i64]
+    requires { (ms : List ℤ) × (node.now ≡ Leaf ms) }
+    ensures { node.now ≡ Leaf result.now }
+{
+    match node {
+        Node::Leaf { multipliers } => multipliers.as_slice(),
+        _ => unreachable!(),
+    }
+}
