@@ -2,7 +2,7 @@ ghost use Rattle.std.specs.Prelude.{◌≡◌, ◌≤◌, None, map, IfOk, IfErr
 ghost use Rattle.std.specs.List.{All};
 ghost use Rattle.std.specs.String.{string_bytes};
 ghost use Rattle.dispatch_engine.specs.Run.{IsPlainRound};
-ghost use Rattle.ridepool.specs.Explained.{AreGood, Explains, IsWordsFault, IsPartFault};
+ghost use Rattle.ridepool.specs.Explained.{Seen, AreGood, Explains, IsWordsFault, IsPartFault};
 ghost use Rattle.ridepool.specs.declared.status.RunStatus.TheVariants as status;
 
 use crate::reading::{fleet_from, network_from, script_from};
@@ -56,8 +56,8 @@ fn run<N: Source, F: Source, S: Source, K: Sink>(
     script: &mut S,
     out: &mut K,
 ) -> Result<(), RunStatus>
-    ensures explained {
-        let seen = record {
+    ensures {
+        let seen : Seen = record {
             words = map string_bytes words.now;
             network = record { told = N.left network.old; taken_before = N.taken network.old; taken_after = N.taken network.new; faults_before = N.faults network.old; faults_after = N.faults network.new };
             fleet = record { told = F.left fleet.old; taken_before = F.taken fleet.old; taken_after = F.taken fleet.new; faults_before = F.faults fleet.old; faults_after = F.faults fleet.new };

@@ -4,7 +4,7 @@ ghost use Rattle.std.specs.List.{All};
 ghost use Rattle.dispatch_engine.specs.Run.{IsPlainRound};
 ghost use Rattle.request_book.specs.Consistent.{IsNode};
 ghost use Rattle.request_book.specs.declared.journal.Journal.{Journal};
-ghost use Rattle.ridepool.specs.Report.{RunsRounds, report_text};
+ghost use Rattle.ridepool.specs.Report.{Inputs, RunsRounds, report_text};
 ghost use Rattle.ridepool.specs.Writing.{IsWritingFault, IsRoundsFault, IsRoundFault, WritesRound, WritesRounds, status_of};
 
 use crate::status::RunStatus;
@@ -30,7 +30,7 @@ pub(crate) fn write_report<K: Sink>(
     requires plain { All IsPlainRound script.now }
     requires named { All (λ v. IsNode network.now.nodes v.node) fleet }
     ensures report {
-        let i = record { settings = settings.now; roads = network.now; vehicles = fleet; rounds = script.now } in
+        let i : Inputs = record { settings = settings.now; roads = network.now; vehicles = fleet; rounds = script.now } in
         MatchResult result
             (λ _. (journals : List Journal) × RunsRounds i script.now journals × Appends (K.written out.old) (K.written out.new) (report_text i journals))
             (IsWritingFault i (K.written out.old) (K.written out.new) (K.faults out.old) (K.faults out.new)) }

@@ -25,7 +25,7 @@ pub returns-in_err-network : goal.returns-in_err-network
 returns-in_err-network g c =
     let seen : Seen = record {
         words = map string_bytes c.args.words.now;
-        network = record { told = g.N.Source.left c.args.network.now; taken_before = g.N.Source.taken c.args.network.now; taken_after = g.N.Source.taken c.network_from-network.new.source; faults_before = g.N.Source.faults c.args.network.now; faults_after = g.N.Source.faults c.network_from-network.new.source };
+        network = record { told = g.N.Source.left c.args.network.now; taken_before = g.N.Source.taken c.args.network.now; taken_after = g.N.Source.taken c.network_from.new.source; faults_before = g.N.Source.faults c.args.network.now; faults_after = g.N.Source.faults c.network_from.new.source };
         fleet = record { told = g.F.Source.left c.args.fleet.now; taken_before = g.F.Source.taken c.args.fleet.now; taken_after = g.F.Source.taken c.args.fleet.now; faults_before = g.F.Source.faults c.args.fleet.now; faults_after = g.F.Source.faults c.args.fleet.now };
         script = record { told = g.S.Source.left c.args.script.now; taken_before = g.S.Source.taken c.args.script.now; taken_after = g.S.Source.taken c.args.script.now; faults_before = g.S.Source.faults c.args.script.now; faults_after = g.S.Source.faults c.args.script.now };
         written_before = g.K.Sink.written c.args.out.now;
@@ -40,8 +40,8 @@ pub returns-in_err-fleet : goal.returns-in_err-fleet
 returns-in_err-fleet g c =
     let seen : Seen = record {
         words = map string_bytes c.args.words.now;
-        network = record { told = g.N.Source.left c.args.network.now; taken_before = g.N.Source.taken c.args.network.now; taken_after = g.N.Source.taken c.network_from-network.new.source; faults_before = g.N.Source.faults c.args.network.now; faults_after = g.N.Source.faults c.network_from-network.new.source };
-        fleet = record { told = g.F.Source.left c.args.fleet.now; taken_before = g.F.Source.taken c.args.fleet.now; taken_after = g.F.Source.taken c.fleet_from-fleet.new.source; faults_before = g.F.Source.faults c.args.fleet.now; faults_after = g.F.Source.faults c.fleet_from-fleet.new.source };
+        network = record { told = g.N.Source.left c.args.network.now; taken_before = g.N.Source.taken c.args.network.now; taken_after = g.N.Source.taken c.network_from.new.source; faults_before = g.N.Source.faults c.args.network.now; faults_after = g.N.Source.faults c.network_from.new.source };
+        fleet = record { told = g.F.Source.left c.args.fleet.now; taken_before = g.F.Source.taken c.args.fleet.now; taken_after = g.F.Source.taken c.fleet_from.new.source; faults_before = g.F.Source.faults c.args.fleet.now; faults_after = g.F.Source.faults c.fleet_from.new.source };
         script = record { told = g.S.Source.left c.args.script.now; taken_before = g.S.Source.taken c.args.script.now; taken_after = g.S.Source.taken c.args.script.now; faults_before = g.S.Source.faults c.args.script.now; faults_after = g.S.Source.faults c.args.script.now };
         written_before = g.K.Sink.written c.args.out.now;
         written_after = g.K.Sink.written c.args.out.now;
@@ -55,9 +55,9 @@ pub returns-in_err-script : goal.returns-in_err-script
 returns-in_err-script g c =
     let seen : Seen = record {
         words = map string_bytes c.args.words.now;
-        network = record { told = g.N.Source.left c.args.network.now; taken_before = g.N.Source.taken c.args.network.now; taken_after = g.N.Source.taken c.network_from-network.new.source; faults_before = g.N.Source.faults c.args.network.now; faults_after = g.N.Source.faults c.network_from-network.new.source };
-        fleet = record { told = g.F.Source.left c.args.fleet.now; taken_before = g.F.Source.taken c.args.fleet.now; taken_after = g.F.Source.taken c.fleet_from-fleet.new.source; faults_before = g.F.Source.faults c.args.fleet.now; faults_after = g.F.Source.faults c.fleet_from-fleet.new.source };
-        script = record { told = g.S.Source.left c.args.script.now; taken_before = g.S.Source.taken c.args.script.now; taken_after = g.S.Source.taken c.script_from-script.new.source; faults_before = g.S.Source.faults c.args.script.now; faults_after = g.S.Source.faults c.script_from-script.new.source };
+        network = record { told = g.N.Source.left c.args.network.now; taken_before = g.N.Source.taken c.args.network.now; taken_after = g.N.Source.taken c.network_from.new.source; faults_before = g.N.Source.faults c.args.network.now; faults_after = g.N.Source.faults c.network_from.new.source };
+        fleet = record { told = g.F.Source.left c.args.fleet.now; taken_before = g.F.Source.taken c.args.fleet.now; taken_after = g.F.Source.taken c.fleet_from.new.source; faults_before = g.F.Source.faults c.args.fleet.now; faults_after = g.F.Source.faults c.fleet_from.new.source };
+        script = record { told = g.S.Source.left c.args.script.now; taken_before = g.S.Source.taken c.args.script.now; taken_after = g.S.Source.taken c.script_from.new.source; faults_before = g.S.Source.faults c.args.script.now; faults_after = g.S.Source.faults c.script_from.new.source };
         written_before = g.K.Sink.written c.args.out.now;
         written_after = g.K.Sink.written c.args.out.now;
         faults_before = g.K.Sink.faults c.args.out.now;
@@ -70,9 +70,9 @@ pub returns-in_err-judge_rounds : goal.returns-in_err-judge_rounds
 returns-in_err-judge_rounds g c =
     let seen : Seen = record {
         words = map string_bytes c.args.words.now;
-        network = record { told = g.N.Source.left c.args.network.now; taken_before = g.N.Source.taken c.args.network.now; taken_after = g.N.Source.taken c.network_from-network.new.source; faults_before = g.N.Source.faults c.args.network.now; faults_after = g.N.Source.faults c.network_from-network.new.source };
-        fleet = record { told = g.F.Source.left c.args.fleet.now; taken_before = g.F.Source.taken c.args.fleet.now; taken_after = g.F.Source.taken c.fleet_from-fleet.new.source; faults_before = g.F.Source.faults c.args.fleet.now; faults_after = g.F.Source.faults c.fleet_from-fleet.new.source };
-        script = record { told = g.S.Source.left c.args.script.now; taken_before = g.S.Source.taken c.args.script.now; taken_after = g.S.Source.taken c.script_from-script.new.source; faults_before = g.S.Source.faults c.args.script.now; faults_after = g.S.Source.faults c.script_from-script.new.source };
+        network = record { told = g.N.Source.left c.args.network.now; taken_before = g.N.Source.taken c.args.network.now; taken_after = g.N.Source.taken c.network_from.new.source; faults_before = g.N.Source.faults c.args.network.now; faults_after = g.N.Source.faults c.network_from.new.source };
+        fleet = record { told = g.F.Source.left c.args.fleet.now; taken_before = g.F.Source.taken c.args.fleet.now; taken_after = g.F.Source.taken c.fleet_from.new.source; faults_before = g.F.Source.faults c.args.fleet.now; faults_after = g.F.Source.faults c.fleet_from.new.source };
+        script = record { told = g.S.Source.left c.args.script.now; taken_before = g.S.Source.taken c.args.script.now; taken_after = g.S.Source.taken c.script_from.new.source; faults_before = g.S.Source.faults c.args.script.now; faults_after = g.S.Source.faults c.script_from.new.source };
         written_before = g.K.Sink.written c.args.out.now;
         written_after = g.K.Sink.written c.args.out.now;
         faults_before = g.K.Sink.faults c.args.out.now;
@@ -85,9 +85,9 @@ pub returns : goal.returns
 returns g c =
     let seen : Seen = record {
         words = map string_bytes c.args.words.now;
-        network = record { told = g.N.Source.left c.args.network.now; taken_before = g.N.Source.taken c.args.network.now; taken_after = g.N.Source.taken c.network_from-network.new.source; faults_before = g.N.Source.faults c.args.network.now; faults_after = g.N.Source.faults c.network_from-network.new.source };
-        fleet = record { told = g.F.Source.left c.args.fleet.now; taken_before = g.F.Source.taken c.args.fleet.now; taken_after = g.F.Source.taken c.fleet_from-fleet.new.source; faults_before = g.F.Source.faults c.args.fleet.now; faults_after = g.F.Source.faults c.fleet_from-fleet.new.source };
-        script = record { told = g.S.Source.left c.args.script.now; taken_before = g.S.Source.taken c.args.script.now; taken_after = g.S.Source.taken c.script_from-script.new.source; faults_before = g.S.Source.faults c.args.script.now; faults_after = g.S.Source.faults c.script_from-script.new.source };
+        network = record { told = g.N.Source.left c.args.network.now; taken_before = g.N.Source.taken c.args.network.now; taken_after = g.N.Source.taken c.network_from.new.source; faults_before = g.N.Source.faults c.args.network.now; faults_after = g.N.Source.faults c.network_from.new.source };
+        fleet = record { told = g.F.Source.left c.args.fleet.now; taken_before = g.F.Source.taken c.args.fleet.now; taken_after = g.F.Source.taken c.fleet_from.new.source; faults_before = g.F.Source.faults c.args.fleet.now; faults_after = g.F.Source.faults c.fleet_from.new.source };
+        script = record { told = g.S.Source.left c.args.script.now; taken_before = g.S.Source.taken c.args.script.now; taken_after = g.S.Source.taken c.script_from.new.source; faults_before = g.S.Source.faults c.args.script.now; faults_after = g.S.Source.faults c.script_from.new.source };
         written_before = g.K.Sink.written c.args.out.now;
         written_after = g.K.Sink.written c.write_report.new.out;
         faults_before = g.K.Sink.faults c.args.out.now;
