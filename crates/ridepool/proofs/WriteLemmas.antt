@@ -1,10 +1,10 @@
 -- Texts of rounds, one after the other, and what stands where the last isn't whole.
-use Rattle.std.proofs.Common.{◌≡◌, ℕ, suc, zero, ◌+◌, ◌-◌, ◌^◌, ◌<◌, ◌≤◌, Bool, List, [], ◌∷◌, ◌++◌, length, take, drop, get_or, min, Option, Result, Ok, Err, MatchResult, refl, sym, subst, ap, ◌∙◌, append_assoc, append-nil, add-one, length-append, arith, inl, inr}
+use Rattle.std.proofs.Common.{◌≡◌, ℕ, ◌+◌, ◌-◌, ◌^◌, ◌<◌, ◌≤◌, Bool, List, [], ◌∷◌, ◌++◌, length, take, drop, get_or, Option, Result, Ok, Err, MatchResult, refl, sym, subst, ap, ◌∙◌, append_assoc, append-nil, add-one, arith, inl, inr}
 use Rattle.std.specs.Prelude.{◌⊎◌}
 use Rattle.std.specs.Io.KnownBytes.{Appends, Keeps}
 use Rattle.std.proofs.KnownBytes.{Appends-nil, Appends-trans, Appends-kept}
 use Rattle.std.proofs.lemmas.List.{take-append-drop, length-drop}
-use Rattle.std.proofs.Math.Seq.{take-suc, take-length}
+use Rattle.std.proofs.Math.Seq.{take-suc}
 use Rattle.pool_io.specs.Sink.{AppendsPart}
 use Rattle.dispatch_engine.specs.Run.{IsRoundRun, IsRun, IsSameRun, state_after_run, position_after_run, journal_of}
 use Rattle.dispatch_report.specs.Head.{head_text}
@@ -58,9 +58,10 @@ rounds_text-more proof nodes wait s position (q ∷ rs) (k ∷ js) r j run =
 -- a part of bytes, as a beginning that lacks something
 pub begins_part : (a b : Option (List ℕ)) (bytes : List ℕ) → AppendsPart a b bytes → (x : Begins a b bytes) × (0 < length x.unwritten)
 begins_part a b bytes part =
-    let short : part.0 < length bytes = part.1 in
-    ( record { written = take part.0 bytes; unwritten = drop part.0 bytes; whole = take-append-drop part.0 bytes; appends = part.2 }
-    , omega (arith, length-drop part.0 bytes, short) )
+    let short : part.0 < length bytes = part.1 in (
+      record { written = take part.0 bytes; unwritten = drop part.0 bytes; whole = take-append-drop part.0 bytes; appends = part.2 },
+      omega (arith, length-drop part.0 bytes, short),
+    )
 
 -- what was written before, and a beginning of more
 pub begins_after : (a b c : Option (List ℕ)) (front back : List ℕ) → Appends a b front → Begins b c back → Begins a c (front ++ back)
@@ -252,12 +253,12 @@ last_position js = omega (arith, position_after_run-most 0 js (omega arith))
 pub report_whole : (i : Inputs) (a b c : Option (List ℕ)) → Appends a b (head_of i) → WritesRounds (opened i) i.rounds i.settings.proof b c
     → (journals : List Journal) × RunsRounds i i.rounds journals × Appends a c (report_text i journals)
 report_whole i a b c head w =
-    let texts = rounds_text i.settings.proof i.rounds w.journals in
-    ( w.journals
-    , w.run
-    , subst (Appends a c) (sym (append_assoc (head_of i) texts (end_text (position_after_run 0 w.journals))))
-      (Appends-trans a b c (head_of i) (texts ++ end_text (position_after_run 0 w.journals)) head
-      (subst (λ n. Appends b c (texts ++ end_text n)) (last_position w.journals) w.text))
+    let texts = rounds_text i.settings.proof i.rounds w.journals in (
+      w.journals,
+      w.run,
+      subst (Appends a c) (sym (append_assoc (head_of i) texts (end_text (position_after_run 0 w.journals))))
+          (Appends-trans a b c (head_of i) (texts ++ end_text (position_after_run 0 w.journals)) head
+          (subst (λ n. Appends b c (texts ++ end_text n)) (last_position w.journals) w.text)),
     )
 
 part_of_rounds : (i : Inputs) (a b c : Option (List ℕ)) → Appends a b (head_of i)
@@ -270,7 +271,7 @@ part_of_rounds i a b c head (inr w) =
     let line = end_text (next_position (position_after_run 0 w.journals) []) in
     let begun = begins_after a b c (head_of i) (texts ++ line) head w.text in
     let whole : head_of i ++ (texts ++ line) ≡ report_text i w.journals =
-        sym (append_assoc (head_of i) texts line) ∙ ap (λ n. (head_of i ++ texts) ++ end_text n) (last_position w.journals) in
+    sym (append_assoc (head_of i) texts line) ∙ ap (λ n. (head_of i ++ texts) ++ end_text n) (last_position w.journals) in
     IsPart.last_line w.journals w.run
     (record { written = begun.written; unwritten = begun.unwritten; whole = begun.whole ∙ whole; appends = begun.appends })
     w.lacks

@@ -1,5 +1,5 @@
 -- The report of a run.
-use Rattle.std.specs.Prelude.{◌≡◌, ℕ, ◌+◌, ◌<◌, Bool, ◌==◌, List, [], ◌∷◌, ◌++◌, length, take, Option, if◌then◌else◌}
+use Rattle.std.specs.Prelude.{◌≡◌, ℕ, ◌<◌, Bool, List, [], ◌∷◌, ◌++◌, length, take, Option}
 use Rattle.std.specs.Io.KnownBytes.{Appends}
 use Rattle.batch_snapshot.specs.declared.vehicle.Vehicle.{Vehicle}
 use Rattle.dispatch_engine.specs.Run.{IsRun, position_after_run}
@@ -47,6 +47,6 @@ pub record Begins (before after : Option (List ℕ)) (text : List ℕ) : Type 0 
 -- line, or a beginning of the whole report that lacks something of the last line
 pub data IsPart (i : Inputs) (before after : Option (List ℕ)) : Type 0 where
   rounds : (count : ℕ) (journals : List Journal) → RunsRounds i (take count i.rounds) journals
-    → Begins before after (begun_text i (take count i.rounds) journals) → IsPart i before after
+      → Begins before after (begun_text i (take count i.rounds) journals) → IsPart i before after
   last_line : (journals : List Journal) → RunsRounds i i.rounds journals
-    → (b : Begins before after (report_text i journals)) → 0 < length b.unwritten → IsPart i before after
+      → (b : Begins before after (report_text i journals)) → 0 < length b.unwritten → IsPart i before after

@@ -1,4 +1,4 @@
-use Rattle.std.proofs.Common.{ℕ, List, Option, Err, inl, ap, subst}
+use Rattle.std.proofs.Common.{ℕ, Err, inl, ap, subst}
 use Rattle.std.specs.Io.KnownBytes.{Appends}
 use Rattle.std.proofs.KnownBytes.{Keeps-refl}
 use Rattle.dispatch_report.specs.Round.{round_text}
@@ -31,8 +31,8 @@ returns-in-Err-clause-round g c =
     round_unwritten c.args.book c.args.round.now c.args.proof before after (g.K.Sink.faults c.args.out.now) (g.K.Sink.faults c.write_round.new.sink)
     c.in-Err.fault c.status_of.result c.status_of.ensures
     (record {
-    journal = journal;
-    is = next_journal c.args.book c.in-Ok.book c.args.round.now journal c.in-Ok.ensures.run c.in-Ok.ensures.same c.in-Ok-take_round.ensures.journal;
-    part = subst P c.number.ensures c.in-Err.ensures.part;
+      journal = journal;
+      is = next_journal c.args.book c.in-Ok.book c.args.round.now journal c.in-Ok.ensures.run c.in-Ok.ensures.same c.in-Ok-take_round.ensures.journal;
+      part = subst P c.number.ensures c.in-Err.ensures.part;
     })
     (λ is. c.in-Err.ensures.fault (ap Err is))

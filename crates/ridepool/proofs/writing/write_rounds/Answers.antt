@@ -11,11 +11,12 @@ pub loop-round-preserved : goal.loop-round-preserved
 loop-round-preserved g c =
     let rounds = c.args.rounds.now in
     let i = c.loop-round.round-index in
-    let within : i < length rounds = omega arith in
-    ( written_next c.args.book c.loop-round.current c.in_ok-current.current rounds i c.round-item.result c.args.proof
-      (g.K.Sink.written c.args.out.now) (g.K.Sink.written c.loop-round.out) (g.K.Sink.written c.write_next.new.out)
-      within c.round-item.is c.loop-round.invariant.0 c.in_ok-current.ensures.round
-    , omega (arith, c.loop-round.invariant.1, c.write_next.ensures.never_falls) )
+    let within : i < length rounds = omega arith in (
+      written_next c.args.book c.loop-round.current c.in_ok-current.current rounds i c.round-item.result c.args.proof
+          (g.K.Sink.written c.args.out.now) (g.K.Sink.written c.loop-round.out) (g.K.Sink.written c.write_next.new.out)
+          within c.round-item.is c.loop-round.invariant.0 c.in_ok-current.ensures.round,
+      omega (arith, c.loop-round.invariant.1, c.write_next.ensures.never_falls),
+    )
 
 pub returns-in_err-current-clause-rounds : goal.returns-in_err-current-clause-rounds
 returns-in_err-current-clause-rounds g c =
