@@ -1,22 +1,29 @@
 -- How the parts of a run explain its end.
-use Rattle.std.proofs.Common.{◌≡◌, ℕ, List, Option, Some, None, Result, Ok, Err, MatchResult, refl, sym, subst, inl, inr}
-use Rattle.std.specs.List.{All}
+use Rattle.std.proofs.Common.{◌≡◌, ℕ, List, Option, Some, None, Result, Ok, Err, MatchResult, refl, sym, subst, ◌∙◌, inl, inr}
 use Rattle.std.specs.Io.KnownBytes.{Appends, Keeps}
-use Rattle.dispatch_engine.specs.Run.{IsPlainRound}
 use Rattle.pool_base.specs.declared.which.Which.{Which}
-use Rattle.pool_base.specs.declared.which.Which.TheVariants as file
 use Rattle.request_book.specs.declared.journal.Journal.{Journal}
+use Rattle.rider_limits.specs.declared.load_shape.LoadShape.{LoadShape}
+use Rattle.rider_limits.specs.declared.settings.Mode.{Mode}
+use Rattle.rider_limits.specs.declared.settings.Mode.TheVariants.{Run, Load}
 use Rattle.rider_limits.specs.declared.settings.Settings.{Settings}
 use Rattle.road_network.specs.Roads.{Roads}
-use Rattle.script_rows.specs.Round.{NumberedLanes}
 use Rattle.ridepool.specs.Explained.{Seen, AreGood, PassNetwork, AreAccepted, NothingWritten, CameToSource, Explains, IsWordsFault, IsPartFault}
-use Rattle.ridepool.specs.Reading.{SeenSource, Gives, fleet_in, IsReadingFault, IsNetworkFault, IsFleetFault, IsScriptFault}
+use Rattle.ridepool.specs.Reading.{Gives, fleet_in, IsNetworkFault, IsFleetFault, IsScriptFault}
 use Rattle.ridepool.specs.Report.{Inputs, RunsRounds, report_text}
 use Rattle.ridepool.specs.Writing.{IsWritingFault}
-use Rattle.ridepool.specs.declared.status.Part.{Part}
 use Rattle.ridepool.specs.declared.status.Part.TheVariants as part
 use Rattle.ridepool.specs.declared.status.RunStatus.{RunStatus}
 use Rattle.ridepool.specs.declared.status.RunStatus.TheVariants.{Done, Words, Network, Fleet, Script, TooLong, ReadFault, WriteFault, OutOfMemory, Unsupported}
+
+-- a command is one of the two
+IsLoad : Mode → Type 0
+IsLoad (Load shape) = Unit {0}
+IsLoad Run = ⊥
+
+pub load_is_no_run : (m : Mode) (shape : LoadShape) → m ≡ Load shape → m ≡ Run → ⊥
+unfolding IsLoad
+load_is_no_run m shape load run = subst IsLoad (sym load ∙ run) tt
 
 -- what isn't touched is kept
 pub kept : (a : Option (List ℕ)) → Keeps a a
@@ -112,7 +119,7 @@ writing_fault_exit seen i (Unsupported p) accepted why = absurd why
 
 pub writing_exit : (seen : Seen) (i : Inputs) (r : Result (Unit {0}) RunStatus) → AreAccepted seen i
     → MatchResult r (λ _. (journals : List Journal) × RunsRounds i i.rounds journals × Appends seen.written_before seen.written_after (report_text i journals))
-        (IsWritingFault i seen.written_before seen.written_after seen.faults_before seen.faults_after)
+    (IsWritingFault i seen.written_before seen.written_after seen.faults_before seen.faults_after)
     → MatchResult r (λ _. Explains seen Done) (Explains seen)
 writing_exit seen i (Ok x) accepted h = (i, h.0, accepted, h.1, h.2)
 writing_exit seen i (Err s) accepted h = writing_fault_exit seen i s accepted h

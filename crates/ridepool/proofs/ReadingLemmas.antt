@@ -1,9 +1,8 @@
 -- Why an input wasn't read, from why its bytes weren't and from why they are refused.
-use Rattle.std.proofs.Common.{◌≡◌, ℕ, List, Option, Some, None, Result, Ok, Err, IfSome, IfErr, MatchResult, subst, sym}
+use Rattle.std.proofs.Common.{◌≡◌, ℕ, List, Option, Some, None, Result, Err, IfSome, IfErr, subst}
 use Rattle.std.proofs.lemmas.Result.{MatchResult-weaker}
 use Rattle.pool_base.specs.declared.which.Which.TheVariants as file
-use Rattle.pool_io.specs.declared.input.Input.{Input}
-use Rattle.ridepool.specs.Reading.{SeenSource, Gives, network_in, fleet_in, script_in, IsReadingFault, IsNetworkFault, IsFleetFault, IsScriptFault, RefusesNetwork, RefusesFleet, RefusesRounds}
+use Rattle.ridepool.specs.Reading.{SeenSource, network_in, fleet_in, script_in, IsReadingFault, IsNetworkFault, IsFleetFault, IsScriptFault, RefusesNetwork, RefusesFleet, RefusesRounds}
 use Rattle.ridepool.specs.declared.status.RunStatus.{RunStatus}
 use Rattle.ridepool.specs.declared.status.RunStatus.TheVariants.{Done, Words, Network, Fleet, Script, TooLong, ReadFault, WriteFault, OutOfMemory, Unsupported}
 

@@ -1,18 +1,18 @@
 -- Texts of rounds, one after the other, and what stands where the last isn't whole.
-use Rattle.std.proofs.Common.{◌≡◌, ℕ, suc, zero, ◌+◌, ◌-◌, ◌^◌, ◌<◌, ◌≤◌, Bool, List, [], ◌∷◌, ◌++◌, length, take, drop, get_or, min, Option, Result, Ok, Err, MatchResult, refl, sym, subst, ap, ◌∙◌, append_assoc, append-nil, add-one, length-append, arith, inl, inr}
+use Rattle.std.proofs.Common.{◌≡◌, ℕ, ◌+◌, ◌-◌, ◌^◌, ◌<◌, ◌≤◌, Bool, List, [], ◌∷◌, ◌++◌, length, take, drop, get_or, Option, Result, Ok, Err, MatchResult, refl, sym, subst, ap, ◌∙◌, append_assoc, append-nil, add-one, arith, inl, inr}
 use Rattle.std.specs.Prelude.{◌⊎◌}
 use Rattle.std.specs.Io.KnownBytes.{Appends, Keeps}
 use Rattle.std.proofs.KnownBytes.{Appends-nil, Appends-trans, Appends-kept}
 use Rattle.std.proofs.lemmas.List.{take-append-drop, length-drop}
-use Rattle.std.proofs.Math.Seq.{take-suc, take-length}
+use Rattle.std.proofs.Math.Seq.{take-suc}
 use Rattle.pool_io.specs.Sink.{AppendsPart}
-use Rattle.dispatch_engine.specs.Run.{IsRoundRun, IsRun, state_after_run, position_after_run}
+use Rattle.dispatch_engine.specs.Run.{IsRoundRun, IsRun, IsSameRun, state_after_run, position_after_run, journal_of}
 use Rattle.dispatch_report.specs.Head.{head_text}
 use Rattle.dispatch_report.specs.Round.{round_text, end_text}
 use Rattle.dispatch_report.specs.declared.fault.ReportFault.{ReportFault}
 use Rattle.dispatch_report.specs.declared.fault.ReportFault.TheVariants as report
 use Rattle.pool_io.specs.Faults.{Rose}
-use Rattle.request_book.specs.Book.{BookView, next_position, opening}
+use Rattle.request_book.specs.Book.{BookView, IsBook, next_position, opening}
 use Rattle.request_book.specs.Replay.{state_after}
 use Rattle.request_book.specs.declared.journal.Journal.{Journal}
 use Rattle.request_book.specs.declared.state.State.{State}
@@ -58,9 +58,10 @@ rounds_text-more proof nodes wait s position (q ∷ rs) (k ∷ js) r j run =
 -- a part of bytes, as a beginning that lacks something
 pub begins_part : (a b : Option (List ℕ)) (bytes : List ℕ) → AppendsPart a b bytes → (x : Begins a b bytes) × (0 < length x.unwritten)
 begins_part a b bytes part =
-    let short : part.0 < length bytes = part.1 in
-    ( record { written = take part.0 bytes; unwritten = drop part.0 bytes; whole = take-append-drop part.0 bytes; appends = part.2 }
-    , omega (arith, length-drop part.0 bytes, short) )
+    let short : part.0 < length bytes = part.1 in (
+      record { written = take part.0 bytes; unwritten = drop part.0 bytes; whole = take-append-drop part.0 bytes; appends = part.2 },
+      omega (arith, length-drop part.0 bytes, short),
+    )
 
 -- what was written before, and a beginning of more
 pub begins_after : (a b c : Option (List ℕ)) (front back : List ℕ) → Appends a b front → Begins b c back → Begins a c (front ++ back)
@@ -196,6 +197,7 @@ written_all book current rounds proof a b c number w is last =
 
 pub lacks_end : (book current : BookView) (rounds : List NumberedLanes) (proof : Bool) (a b c : Option (List ℕ)) (number : ℕ)
     → HasWritten book rounds proof a b current → number ≡ next_position current.first current.entries → AppendsPart b c (end_text number) → LacksEnd book rounds proof a c
+unfolding begins_after begins_part
 lacks_end book current rounds proof a b c number w is part =
     let line = end_text (next_position (position_after_run book.first w.journals) []) in
     let x = begins_part b c line (subst (λ n. AppendsPart b c (end_text n)) (is ∙ last_number book current rounds proof a b w) part) in
@@ -219,7 +221,8 @@ end_unwritten book rounds proof a b low middle high report.WriteFault s is lacks
     subst (IsRoundsFault book rounds proof a b low high) (sym is) (omega (arith, rises, up), inr lacks)
 end_unwritten book rounds proof a b low middle high report.OutOfMemory s is lacks up rose = subst (IsRoundsFault book rounds proof a b low high) (sym is) (inr lacks)
 
-head_of : Inputs → List ℕ
+-- the text before the first round
+abbrev pub head_of : Inputs → List ℕ
 head_of i = head_text i.settings i.roads i.vehicles
 
 -- the report before the first round
@@ -240,7 +243,7 @@ pub head_alone : (i : Inputs) (a b : Option (List ℕ)) → Appends a b (head_of
 head_alone i a b whole = part_of_head i a b (begins_whole a b (head_of i) whole)
 
 -- the book of a run before its first round
-pub opened : Inputs → BookView
+abbrev pub opened : Inputs → BookView
 opened i = record { nodes = i.roads.nodes; wait = i.settings.wait; first = 0; base = opening i.vehicles; entries = []; state = opening i.vehicles; spare = 0 }
 
 -- no position lies behind the last
@@ -250,16 +253,17 @@ last_position js = omega (arith, position_after_run-most 0 js (omega arith))
 pub report_whole : (i : Inputs) (a b c : Option (List ℕ)) → Appends a b (head_of i) → WritesRounds (opened i) i.rounds i.settings.proof b c
     → (journals : List Journal) × RunsRounds i i.rounds journals × Appends a c (report_text i journals)
 report_whole i a b c head w =
-    let texts = rounds_text i.settings.proof i.rounds w.journals in
-    ( w.journals
-    , w.run
-    , subst (Appends a c) (sym (append_assoc (head_of i) texts (end_text (position_after_run 0 w.journals))))
-      (Appends-trans a b c (head_of i) (texts ++ end_text (position_after_run 0 w.journals)) head
-      (subst (λ n. Appends b c (texts ++ end_text n)) (last_position w.journals) w.text))
+    let texts = rounds_text i.settings.proof i.rounds w.journals in (
+      w.journals,
+      w.run,
+      subst (Appends a c) (sym (append_assoc (head_of i) texts (end_text (position_after_run 0 w.journals))))
+          (Appends-trans a b c (head_of i) (texts ++ end_text (position_after_run 0 w.journals)) head
+          (subst (λ n. Appends b c (texts ++ end_text n)) (last_position w.journals) w.text)),
     )
 
 part_of_rounds : (i : Inputs) (a b c : Option (List ℕ)) → Appends a b (head_of i)
     → WritesFirst (opened i) i.rounds i.settings.proof b c ⊎ LacksEnd (opened i) i.rounds i.settings.proof b c → IsPart i a c
+unfolding begins_after
 part_of_rounds i a b c head (inl w) =
     IsPart.rounds w.count w.journals w.run (begins_after a b c (head_of i) (rounds_text i.settings.proof (take w.count i.rounds) w.journals) head w.text)
 part_of_rounds i a b c head (inr w) =
@@ -267,7 +271,7 @@ part_of_rounds i a b c head (inr w) =
     let line = end_text (next_position (position_after_run 0 w.journals) []) in
     let begun = begins_after a b c (head_of i) (texts ++ line) head w.text in
     let whole : head_of i ++ (texts ++ line) ≡ report_text i w.journals =
-        sym (append_assoc (head_of i) texts line) ∙ ap (λ n. (head_of i ++ texts) ++ end_text n) (last_position w.journals) in
+    sym (append_assoc (head_of i) texts line) ∙ ap (λ n. (head_of i ++ texts) ++ end_text n) (last_position w.journals) in
     IsPart.last_line w.journals w.run
     (record { written = begun.written; unwritten = begun.unwritten; whole = begun.whole ∙ whole; appends = begun.appends })
     w.lacks
@@ -291,3 +295,34 @@ pub report_from : (i : Inputs) (a b c : Option (List ℕ)) (low middle high : �
     → MatchResult r (λ _. (journals : List Journal) × RunsRounds i i.rounds journals × Appends a c (report_text i journals)) (IsWritingFault i a c low high)
 report_from i a b c low middle high (Ok x) head up h = report_whole i a b c head h
 report_from i a b c low middle high (Err s) head up h = rounds_unwritten i a b c low middle high s head up h
+
+-- the journal that a round's book gives up, seen from the book before the round
+pub next_journal : (book after : BookView) (r : NumberedLanes) (j : Journal) → IsRoundRun book.nodes book.wait r (journal_of after) → IsSameRun book after → j ≡ journal_of after → NextJournal book r j
+next_journal book after r j run same is =
+    record {
+      run = subst (IsRoundRun book.nodes book.wait r) (sym is) run;
+      first = ap (λ k. k.first) is ∙ same.first;
+      base = ap (λ k. k.base) is ∙ same.base;
+    }
+
+-- a round, run and written
+pub wrote_round : (book after next : BookView) (r : NumberedLanes) (proof : Bool) (a b : Option (List ℕ)) (j : Journal)
+    → IsRoundRun book.nodes book.wait r (journal_of after) → IsSameRun book after → IsBook after → j ≡ journal_of after
+    → next ≡ record { nodes = after.nodes; wait = after.wait; first = next_position after.first after.entries; base = after.state; entries = []; state = after.state; spare = 0 }
+    → Appends a b (round_text r.number proof j) → WritesRound book r proof a b next
+wrote_round book after next r proof a b j run same kept is emptied text =
+    record {
+      journal = j;
+      is = next_journal book after r j run same is;
+      text = text;
+      nodes = ap (λ k. k.nodes) emptied ∙ same.nodes;
+      wait = ap (λ k. k.wait) emptied ∙ same.wait;
+      first = ap (λ k. k.first) emptied ∙ ap (λ p. next_position p after.entries) same.first ∙ ap (λ k. next_position book.first k.entries) (sym is);
+      base =
+          ap (λ k. k.base) emptied ∙ kept.state
+          ∙ ap (λ ns. state_after ns after.wait after.base after.entries) same.nodes
+          ∙ ap (λ k. state_after book.nodes k after.base after.entries) same.wait
+          ∙ ap (λ s. state_after book.nodes book.wait s after.entries) same.base
+          ∙ ap (λ k. state_after book.nodes book.wait book.base k.entries) (sym is);
+      entries = ap (λ k. k.entries) emptied;
+    }

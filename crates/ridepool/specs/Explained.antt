@@ -1,23 +1,20 @@
 -- How a run ends, and what stands then.
-use Rattle.std.specs.Prelude.{◌≡◌, ℕ, List, Option, Some, None, Ok, Err, IfSome, ◌⊎◌}
+use Rattle.std.specs.Prelude.{◌≡◌, ℕ, List, Option, Some, None, Ok, ◌⊎◌}
 use Rattle.std.specs.List.{All}
 use Rattle.std.specs.Io.KnownBytes.{Appends, Keeps}
 use Rattle.dispatch_engine.specs.Run.{IsPlainRound}
-use Rattle.fleet_state.specs.declared.fault.FleetFault.{FleetFault}
 use Rattle.pool_base.specs.declared.which.Which.{Which}
 use Rattle.pool_base.specs.declared.which.Which.TheVariants as file
 use Rattle.pool_io.specs.Faults.{Rose}
 use Rattle.request_book.specs.declared.journal.Journal.{Journal}
 use Rattle.rider_limits.specs.Settings.{AreGiven}
 use Rattle.rider_limits.specs.Words.{fault_of}
-use Rattle.rider_limits.specs.declared.settings.Mode.{Mode}
-use Rattle.rider_limits.specs.declared.settings.Mode.TheVariants.{Run, Load}
+use Rattle.rider_limits.specs.declared.settings.Mode.TheVariants.{Run}
 use Rattle.rider_limits.specs.declared.settings.Settings.{Settings}
 use Rattle.road_network.specs.Roads.{Roads}
 use Rattle.script_rows.specs.Round.{NumberedLanes}
 use Rattle.ridepool.specs.Reading.{network_in, fleet_in, script_in, SeenSource, Gives, IsNetworkFault, IsFleetFault, IsScriptFault}
 use Rattle.ridepool.specs.Report.{Inputs, RunsRounds, report_text, IsPart}
-use Rattle.ridepool.specs.declared.status.Part.{Part}
 use Rattle.ridepool.specs.declared.status.Part.TheVariants as part
 use Rattle.ridepool.specs.declared.status.RunStatus.{RunStatus}
 use Rattle.ridepool.specs.declared.status.RunStatus.TheVariants.{Done, Words, Network, Fleet, Script, TooLong, ReadFault, WriteFault, OutOfMemory, Unsupported}

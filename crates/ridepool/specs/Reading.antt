@@ -1,9 +1,8 @@
 -- What the bytes of the inputs give: a value, or the first refusal.
-use Rattle.std.specs.Prelude.{◌≡◌, ◌≢◌, ℕ, ◌+◌, List, Option, Some, None, Result, Ok, Err, IfSome, codes}
+use Rattle.std.specs.Prelude.{◌≡◌, ℕ, ◌+◌, List, Option, Result, Ok, Err, IfSome, codes}
 use Rattle.batch_snapshot.specs.declared.vehicle.Vehicle.{Vehicle}
 use Rattle.fleet_state.specs.Fleet.{fleet_of}
 use Rattle.fleet_state.specs.declared.fault.FleetFault.{FleetFault}
-use Rattle.fleet_state.specs.declared.fault.FleetFault.TheVariants.{OutOfMemory as NoMemoryForFleet}
 use Rattle.pool_base.specs.declared.which.Which.{Which}
 use Rattle.pool_base.specs.declared.which.Which.TheVariants as file
 use Rattle.pool_io.specs.Faults.{Rose}
@@ -20,7 +19,7 @@ use Rattle.script_rows.specs.Script.{script_of}
 use Rattle.script_rows.specs.declared.fault.ScriptFault.{ScriptFault}
 use Rattle.script_rows.specs.declared.version.ScriptVersion.TheVariants.{One, Two}
 use Rattle.ridepool.specs.declared.status.RunStatus.{RunStatus}
-use Rattle.ridepool.specs.declared.status.RunStatus.TheVariants.{Done, Words, Network, Fleet, Script, TooLong, ReadFault, WriteFault, OutOfMemory, Unsupported}
+use Rattle.ridepool.specs.declared.status.RunStatus.TheVariants.{Network, Fleet, Script, TooLong, ReadFault, OutOfMemory}
 
 -- a refusal of what rows say
 abbrev pub own_fault : {A F : Type 0} → Result A F → Result A (Input F)

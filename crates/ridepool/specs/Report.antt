@@ -1,5 +1,5 @@
 -- The report of a run.
-use Rattle.std.specs.Prelude.{◌≡◌, ℕ, ◌+◌, ◌<◌, Bool, ◌==◌, List, [], ◌∷◌, ◌++◌, length, take, Option, if◌then◌else◌}
+use Rattle.std.specs.Prelude.{◌≡◌, ℕ, ◌<◌, Bool, List, [], ◌∷◌, ◌++◌, length, take, Option}
 use Rattle.std.specs.Io.KnownBytes.{Appends}
 use Rattle.batch_snapshot.specs.declared.vehicle.Vehicle.{Vehicle}
 use Rattle.dispatch_engine.specs.Run.{IsRun, position_after_run}
@@ -46,7 +46,7 @@ pub record Begins (before after : Option (List ℕ)) (text : List ℕ) : Type 0 
 -- a run of the first rounds stands in part: what is written is a beginning of its report without the last
 -- line, or a beginning of the whole report that lacks something of the last line
 pub data IsPart (i : Inputs) (before after : Option (List ℕ)) : Type 0 where
-  pub rounds : (count : ℕ) (journals : List Journal) → RunsRounds i (take count i.rounds) journals
-    → Begins before after (begun_text i (take count i.rounds) journals) → IsPart i before after
-  pub last_line : (journals : List Journal) → RunsRounds i i.rounds journals
-    → (b : Begins before after (report_text i journals)) → 0 < length b.unwritten → IsPart i before after
+  rounds : (count : ℕ) (journals : List Journal) → RunsRounds i (take count i.rounds) journals
+      → Begins before after (begun_text i (take count i.rounds) journals) → IsPart i before after
+  last_line : (journals : List Journal) → RunsRounds i i.rounds journals
+      → (b : Begins before after (report_text i journals)) → 0 < length b.unwritten → IsPart i before after

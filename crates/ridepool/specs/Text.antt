@@ -3,8 +3,6 @@ use Rattle.std.specs.Prelude.{ℕ, List, [], ◌∷◌, ◌++◌, codes, decimal
 use Rattle.fleet_state.specs.declared.fault.FleetFault.{FleetFault}
 use Rattle.fleet_state.specs.declared.fault.FleetFault.TheVariants as fleet
 use Rattle.pool_base.specs.Which.{name_of}
-use Rattle.pool_base.specs.declared.which.Which.{Which}
-use Rattle.pool_base.specs.declared.which.Which.TheVariants as which
 use Rattle.pool_io.specs.declared.input.Input.{Input}
 use Rattle.pool_io.specs.declared.input.Input.TheVariants.{Rows, Own}
 use Rattle.pool_io.specs.declared.records.RowFault.{RowFault}

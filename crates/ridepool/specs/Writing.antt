@@ -13,7 +13,7 @@ use Rattle.ridepool.specs.Report.{Inputs, rounds_text, Begins, IsPart}
 use Rattle.dispatch_report.specs.declared.fault.ReportFault.{ReportFault}
 use Rattle.dispatch_report.specs.declared.fault.ReportFault.TheVariants as report
 use Rattle.ridepool.specs.declared.status.RunStatus.{RunStatus}
-use Rattle.ridepool.specs.declared.status.RunStatus.TheVariants.{Done, Words, Network, Fleet, Script, TooLong, ReadFault, WriteFault, OutOfMemory, Unsupported}
+use Rattle.ridepool.specs.declared.status.RunStatus.TheVariants.{WriteFault, OutOfMemory}
 
 -- the end of a run whose text wasn't written whole
 abbrev pub status_of : ReportFault → RunStatus

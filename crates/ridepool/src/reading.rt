@@ -7,22 +7,18 @@ ghost use Rattle.script_rows.specs.Word.{columns_of};
 
 use crate::status::RunStatus;
 use batch_snapshot::Fleet;
-use fleet_state::{read_fleet, FleetFault};
+use fleet_state::{FleetFault, read_fleet};
 use pool_base::Which;
-use pool_io::{read_all, rows, Input, ReadAll, RowFault, Rows, Source};
-use road_network::{read_network, Network, NetworkFault};
-use script_rows::{read_script, Script, ScriptFault, ScriptVersion};
+use pool_io::{Input, ReadAll, RowFault, Rows, Source, read_all, rows};
+use road_network::{Network, NetworkFault, read_network};
+use script_rows::{Script, ScriptFault, ScriptVersion, read_script};
 use std::alloc::Global;
 
 /// The greatest number of bytes of an input.
 const LONGEST: u64 = 67_108_864;
 
 /// Reads a source to its end.
-fn read_input<S: Source>(
-    alloc: Global,
-    source: &mut S,
-    which: Which,
-) -> Result<Vec<u8>, RunStatus>
+fn read_input<S: Source>(alloc: Global, source: &mut S, which: Which) -> Result<Vec<u8>, RunStatus>
     ensures bytes { IfOk result (λ bytes. IfSome (S.left source.old) (λ told. bytes.items ≡ told)) }
     ensures cause { IfErr result (IsReadingFault (record { told = S.left source.old; taken_before = S.taken source.old; taken_after = S.taken source.new; faults_before = S.faults source.old; faults_after = S.faults source.new }) which) }
     ensures never_falls { S.faults source.old ≤ S.faults source.new }

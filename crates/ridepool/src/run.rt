@@ -2,7 +2,7 @@ ghost use Rattle.std.specs.Prelude.{◌≡◌, ◌≤◌, None, map, IfOk, IfErr
 ghost use Rattle.std.specs.List.{All};
 ghost use Rattle.std.specs.String.{string_bytes};
 ghost use Rattle.dispatch_engine.specs.Run.{IsPlainRound};
-ghost use Rattle.ridepool.specs.Explained.{AreGood, Explains, IsWordsFault, IsPartFault};
+ghost use Rattle.ridepool.specs.Explained.{Seen, AreGood, Explains, IsWordsFault, IsPartFault};
 ghost use Rattle.ridepool.specs.declared.status.RunStatus.TheVariants as status;
 
 use crate::reading::{fleet_from, network_from, script_from};
@@ -10,7 +10,7 @@ use crate::status::{Part, RunStatus};
 use crate::writing::write_report;
 use dispatch_engine::may_run;
 use pool_io::{Sink, Source};
-use rider_limits::{read_words, Mode, Settings};
+use rider_limits::{Mode, Settings, read_words};
 use script_rows::Script;
 use std::alloc::Global;
 
@@ -33,14 +33,16 @@ pub fn ridepool<N: Source, F: Source, S: Source, K: Sink>(
     script: &mut S,
     out: &mut K,
 ) -> RunStatus
-    ensures explained {
-        Explains (record {
-            words = map string_bytes words.now;
-            network = record { told = N.left network.old; taken_before = N.taken network.old; taken_after = N.taken network.new; faults_before = N.faults network.old; faults_after = N.faults network.new };
-            fleet = record { told = F.left fleet.old; taken_before = F.taken fleet.old; taken_after = F.taken fleet.new; faults_before = F.faults fleet.old; faults_after = F.faults fleet.new };
-            script = record { told = S.left script.old; taken_before = S.taken script.old; taken_after = S.taken script.new; faults_before = S.faults script.old; faults_after = S.faults script.new };
-            written_before = K.written out.old; written_after = K.written out.new;
-            faults_before = K.faults out.old; faults_after = K.faults out.new }) result }
+    ensures explained { Explains (record {
+      words = map string_bytes words.now;
+      network = record { told = N.left network.old; taken_before = N.taken network.old; taken_after = N.taken network.new; faults_before = N.faults network.old; faults_after = N.faults network.new };
+      fleet = record { told = F.left fleet.old; taken_before = F.taken fleet.old; taken_after = F.taken fleet.new; faults_before = F.faults fleet.old; faults_after = F.faults fleet.new };
+      script = record { told = S.left script.old; taken_before = S.taken script.old; taken_after = S.taken script.new; faults_before = S.faults script.old; faults_after = S.faults script.new };
+      written_before = K.written out.old;
+      written_after = K.written out.new;
+      faults_before = K.faults out.old;
+      faults_after = K.faults out.new;
+    }) result }
 {
     match run(alloc, words, network, fleet, script, out) {
         Ok(()) => RunStatus::Done,
@@ -56,14 +58,16 @@ fn run<N: Source, F: Source, S: Source, K: Sink>(
     script: &mut S,
     out: &mut K,
 ) -> Result<(), RunStatus>
-    ensures explained {
-        let seen = record {
-            words = map string_bytes words.now;
-            network = record { told = N.left network.old; taken_before = N.taken network.old; taken_after = N.taken network.new; faults_before = N.faults network.old; faults_after = N.faults network.new };
-            fleet = record { told = F.left fleet.old; taken_before = F.taken fleet.old; taken_after = F.taken fleet.new; faults_before = F.faults fleet.old; faults_after = F.faults fleet.new };
-            script = record { told = S.left script.old; taken_before = S.taken script.old; taken_after = S.taken script.new; faults_before = S.faults script.old; faults_after = S.faults script.new };
-            written_before = K.written out.old; written_after = K.written out.new;
-            faults_before = K.faults out.old; faults_after = K.faults out.new } in
+    ensures { let seen : Seen = record {
+      words = map string_bytes words.now;
+      network = record { told = N.left network.old; taken_before = N.taken network.old; taken_after = N.taken network.new; faults_before = N.faults network.old; faults_after = N.faults network.new };
+      fleet = record { told = F.left fleet.old; taken_before = F.taken fleet.old; taken_after = F.taken fleet.new; faults_before = F.faults fleet.old; faults_after = F.faults fleet.new };
+      script = record { told = S.left script.old; taken_before = S.taken script.old; taken_after = S.taken script.new; faults_before = S.faults script.old; faults_after = S.faults script.new };
+      written_before = K.written out.old;
+      written_after = K.written out.new;
+      faults_before = K.faults out.old;
+      faults_after = K.faults out.new;
+    } in
         MatchResult result (λ _. Explains seen status.Done) (Explains seen) }
 {
     let settings = settings_from(words)?;

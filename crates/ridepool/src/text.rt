@@ -3,7 +3,7 @@ ghost use Rattle.ridepool.specs.Text.{at_number, at_place, word_text, row_text, 
 
 use crate::status::{Part, RunStatus};
 use fleet_state::FleetFault;
-use pool_base::{put_number, OutOfMemory};
+use pool_base::{OutOfMemory, put_number};
 use pool_io::{Input, RowFault};
 use rider_limits::WordFault;
 use road_network::NetworkFault;

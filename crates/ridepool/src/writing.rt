@@ -4,13 +4,13 @@ ghost use Rattle.std.specs.List.{All};
 ghost use Rattle.dispatch_engine.specs.Run.{IsPlainRound};
 ghost use Rattle.request_book.specs.Consistent.{IsNode};
 ghost use Rattle.request_book.specs.declared.journal.Journal.{Journal};
-ghost use Rattle.ridepool.specs.Report.{RunsRounds, report_text};
+ghost use Rattle.ridepool.specs.Report.{Inputs, RunsRounds, report_text};
 ghost use Rattle.ridepool.specs.Writing.{IsWritingFault, IsRoundsFault, IsRoundFault, WritesRound, WritesRounds, status_of};
 
 use crate::status::RunStatus;
 use batch_snapshot::Fleet;
 use dispatch_engine::run_round;
-use dispatch_report::{write_end, write_head, write_round, ReportFault};
+use dispatch_report::{ReportFault, write_end, write_head, write_round};
 use pool_io::Sink;
 use request_book::Book;
 use rider_limits::Settings;
@@ -29,11 +29,10 @@ pub(crate) fn write_report<K: Sink>(
 ) -> Result<(), RunStatus>
     requires plain { All IsPlainRound script.now }
     requires named { All (λ v. IsNode network.now.nodes v.node) fleet }
-    ensures report {
-        let i = record { settings = settings.now; roads = network.now; vehicles = fleet; rounds = script.now } in
+    ensures report { let i : Inputs = record { settings = settings.now; roads = network.now; vehicles = fleet; rounds = script.now } in
         MatchResult result
-            (λ _. (journals : List Journal) × RunsRounds i script.now journals × Appends (K.written out.old) (K.written out.new) (report_text i journals))
-            (IsWritingFault i (K.written out.old) (K.written out.new) (K.faults out.old) (K.faults out.new)) }
+        (λ _. (journals : List Journal) × RunsRounds i script.now journals × Appends (K.written out.old) (K.written out.new) (report_text i journals))
+        (IsWritingFault i (K.written out.old) (K.written out.new) (K.faults out.old) (K.faults out.new)) }
     ensures never_falls { K.faults out.old ≤ K.faults out.new }
 {
     if let Err(fault) = write_head(alloc, out, settings, network, &fleet) {
@@ -54,10 +53,9 @@ fn write_rounds<K: Sink>(
 ) -> Result<(), RunStatus>
     requires plain { All IsPlainRound rounds.now }
     requires empty { book.entries ≡ [] }
-    ensures rounds {
-        MatchResult result
-            (λ _. WritesRounds book rounds.now proof (K.written out.old) (K.written out.new))
-            (IsRoundsFault book rounds.now proof (K.written out.old) (K.written out.new) (K.faults out.old) (K.faults out.new)) }
+    ensures rounds { MatchResult result
+        (λ _. WritesRounds book rounds.now proof (K.written out.old) (K.written out.new))
+        (IsRoundsFault book rounds.now proof (K.written out.old) (K.written out.new) (K.faults out.old) (K.faults out.new)) }
     ensures never_falls { K.faults out.old ≤ K.faults out.new }
 {
     let mut current = book;
@@ -80,10 +78,9 @@ fn write_next<K: Sink>(
 ) -> Result<Book, RunStatus>
     requires plain { IsPlainRound round.now }
     requires empty { book.entries ≡ [] }
-    ensures round {
-        MatchResult result
-            (WritesRound book round.now proof (K.written out.old) (K.written out.new))
-            (IsRoundFault book round.now proof (K.written out.old) (K.written out.new) (K.faults out.old) (K.faults out.new)) }
+    ensures round { MatchResult result
+        (WritesRound book round.now proof (K.written out.old) (K.written out.new))
+        (IsRoundFault book round.now proof (K.written out.old) (K.written out.new) (K.faults out.old) (K.faults out.new)) }
     ensures never_falls { K.faults out.old ≤ K.faults out.new }
 {
     let Ok(mut book) = run_round(book, round) else {

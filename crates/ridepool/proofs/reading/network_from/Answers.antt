@@ -1,7 +1,7 @@
-use Rattle.std.proofs.Common.{◌≡◌, ◌∙◌, List, ℕ, IfSome, Option}
+use Rattle.std.proofs.Common.{◌≡◌, IfSome}
 use Rattle.std.proofs.lemmas.Result.{err_from_is_err_and}
 use Rattle.ridepool.specs.Reading.{SeenSource}
-use Rattle.ridepool.proofs.ReadingLemmas.{network_unread, network_refused, IfErr-weaker, told_is}
+use Rattle.ridepool.proofs.ReadingLemmas.{network_unread, network_refused, IfErr-weaker}
 use Rattle.ridepool.proofs.reading.network_from.Goals as goal
 
 pub returns-in_err-bytes-clause-cause : goal.returns-in_err-bytes-clause-cause

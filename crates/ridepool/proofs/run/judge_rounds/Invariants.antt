@@ -4,4 +4,4 @@ use Rattle.dispatch_engine.specs.Run.{IsPlainRound}
 use Rattle.ridepool.proofs.run.judge_rounds.Given as goal
 
 abbrev pub invariant-loop-round : goal.invariant-loop-round
-invariant-loop-round l = All IsPlainRound (take l.round-index l.rounds)
+invariant-loop-round l = All IsPlainRound (take l.round-index l.round-items)
