@@ -53,10 +53,10 @@ takes_one old new lane command reply applied =
           ∙ ap (λ t. commands_of (of_lane lane old.entries) ++ t) (asked-here e);
       others =
           λ other differs.
-              ap (λ es. commands_of (of_lane other es)) applied.entries
-              ∙ asked-append other old.entries (e ∷ [])
-              ∙ ap (λ t. commands_of (of_lane other old.entries) ++ t) (asked-there e other differs)
-              ∙ append-nil (commands_of (of_lane other old.entries));
+          ap (λ es. commands_of (of_lane other es)) applied.entries
+          ∙ asked-append other old.entries (e ∷ [])
+          ∙ ap (λ t. commands_of (of_lane other old.entries) ++ t) (asked-there e other differs)
+          ∙ append-nil (commands_of (of_lane other old.entries));
     }
 
 pub takes_none : (b : BookView) (lane : ℕ) → TakesCommands b lane [] b

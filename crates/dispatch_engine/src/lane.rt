@@ -83,11 +83,7 @@ fn copied(command: &Command) -> Command
 }
 
 /// Lets the book take the commands of a lane, in their order.
-pub(crate) fn run_lane(
-    book: &mut Book,
-    lane: u8,
-    commands: &[Command],
-) -> Result<(), OutOfMemory>
+pub(crate) fn run_lane(book: &mut Book, lane: u8, commands: &[Command]) -> Result<(), OutOfMemory>
     requires { are_plain commands.now ≡ true }
     ensures { OnOk result (TakesCommands book.old lane commands.now book.new) }
 {

@@ -6,13 +6,12 @@
 
 use pool_base::OutOfMemory;
 use pool_io::{StdSink, StdSource};
-use rider_limits::value_of;
 use ridepool::{RunStatus, fault_text, ridepool};
-use std::env;
+use rider_limits::value_of;
 use std::fs::File;
-use std::io;
 use std::io::{BufWriter, Write};
 use std::process::ExitCode;
+use std::{env, io};
 
 const HELP: &str = "\
 usage: ridepool run network=FILE fleet=FILE script=FILE [KEY=VALUE ..]
