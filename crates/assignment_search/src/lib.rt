@@ -15,10 +15,11 @@ mod growth;
 mod lowest_leaf;
 mod parting;
 mod root;
-
 mod sole_plan;
 mod standing;
 mod step;
+#[cfg(test)]
+mod tests;
 
 pub use found::Found;
 pub use branch_and_bound::search;

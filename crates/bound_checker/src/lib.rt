@@ -8,6 +8,8 @@ mod checker;
 mod dead_end;
 mod fault;
 mod leaf;
+#[cfg(test)]
+mod tests;
 mod walk;
 
 pub use checker::check;

@@ -1,0 +1,102 @@
+use crate::{CheckFault, check};
+use arrayvec::ArrayVec;
+use plan_rules::{Multipliers, Node, Tree, TripGraph, TripRow};
+use std::alloc::{AllocError, Global};
+use std::test::Fail;
+
+fn row(vehicle: usize, riders: &[usize], cost: u64) -> TripRow {
+    let mut trip: ArrayVec<usize, 6> = ArrayVec::new();
+    for rider in riders {
+        if !trip.is_full() {
+            trip.push(*rider);
+        }
+    }
+    TripRow {
+        vehicle,
+        riders: trip,
+        cost,
+    }
+}
+
+/// Three vehicles, each with an empty row and a pair; each two pairs share a rider.
+fn three_pairs(alloc: Global) -> Result<TripGraph, Fail> {
+    let rows = vec![in alloc;
+        row(0, &[], 0),
+        row(0, &[0, 1], 10),
+        row(1, &[], 0),
+        row(1, &[1, 2], 10),
+        row(2, &[], 0),
+        row(2, &[0, 2], 10),
+    ]?;
+    let held = vec![in alloc; Some(0), Some(2), Some(4)]?;
+    Ok(TripGraph::new(alloc, 3, 3, 100, rows, held)?)
+}
+
+fn leaf(alloc: Global, multiplier: i64) -> Result<Node, AllocError> {
+    Ok(Node::Leaf {
+        multipliers: Multipliers::of(vec![in alloc; multiplier, multiplier, multiplier]?),
+    })
+}
+
+fn value(outcome: Result<i128, CheckFault>) -> Option<i128> {
+    match outcome {
+        Ok(bound) => Some(bound),
+        Err(_) => None,
+    }
+}
+
+fn fault(outcome: Result<i128, CheckFault>) -> Option<CheckFault> {
+    match outcome {
+        Ok(_) => None,
+        Err(fault) => Some(fault),
+    }
+}
+
+#[test]
+fn sound_trees_have_their_value(rt: HostRuntime) -> Result<(), Fail> {
+    let alloc = rt.alloc();
+    let graph = three_pairs(alloc)?;
+    let zeros = Tree::of(vec![in alloc; leaf(alloc, 0)?]?);
+    assert_eq!(rt; value(check(alloc, &graph, &zeros)), Some(0));
+    let fives = Tree::of(vec![in alloc; leaf(alloc, 5120)?]?);
+    assert_eq!(rt; value(check(alloc, &graph, &fives)), Some(15));
+    let hundreds = Tree::of(vec![in alloc; leaf(alloc, 102_400)?]?);
+    assert_eq!(rt; value(check(alloc, &graph, &hundreds)), Some(-270));
+    let branch = Node::Branch { vehicle: 0, row: 1 };
+    let branched = Tree::of(vec![in alloc; branch, leaf(alloc, 5120)?, leaf(alloc, 5120)?]?);
+    assert_eq!(rt; value(check(alloc, &graph, &branched)), Some(15));
+    Ok(())
+}
+
+#[test]
+fn the_first_wrong_node_is_named(rt: HostRuntime) -> Result<(), Fail> {
+    let alloc = rt.alloc();
+    let graph = three_pairs(alloc)?;
+    let none = Tree::of(Vec::new(alloc));
+    assert_eq!(rt; fault(check(alloc, &graph, &none)), Some(CheckFault::Unfinished));
+    let dead = Tree::of(vec![in alloc; Node::Dead]?);
+    assert_eq!(rt; fault(check(alloc, &graph, &dead)), Some(CheckFault::BadDead { node: 0 }));
+    let short = Node::Leaf {
+        multipliers: Multipliers::of(vec![in alloc; 0, 0]?),
+    };
+    let short = Tree::of(vec![in alloc; short]?);
+    assert_eq!(rt; fault(check(alloc, &graph, &short)), Some(CheckFault::BadLeaf { node: 0 }));
+    let branch = Node::Branch { vehicle: 0, row: 2 };
+    let foreign = Tree::of(vec![in alloc; branch, leaf(alloc, 0)?, leaf(alloc, 0)?]?);
+    assert_eq!(rt; fault(check(alloc, &graph, &foreign)), Some(CheckFault::BadBranch { node: 0 }));
+    let two = Tree::of(vec![in alloc; leaf(alloc, 0)?, leaf(alloc, 0)?]?);
+    assert_eq!(rt; fault(check(alloc, &graph, &two)), Some(CheckFault::Extra { node: 1 }));
+    Ok(())
+}
+
+#[test]
+fn answers_with_memory(rt: HostRuntime) -> Result<(), Fail> {
+    let alloc = rt.alloc();
+    let graph = TripGraph::new(alloc, 0, 0, 100, Vec::new(alloc), Vec::new(alloc))?;
+    let none = Node::Leaf {
+        multipliers: Multipliers::of(Vec::new(alloc)),
+    };
+    let tree = Tree::of(vec![in alloc; none]?);
+    assert_eq!(rt; value(check(alloc, &graph, &tree)), Some(0));
+    Ok(())
+}
