@@ -55,7 +55,7 @@ new_end_agrees g w u parent (Leaf ms) z agree h =
       first_fit = subst (λ (y : ℤ). y ≤ℤ z) fit h.first_fit;
       inherited = subst (λ (y : ℤ). y ≤ℤ z) value h.inherited;
       alive = λ dead. h.alive (dead_end_agrees g u w (agree_back g w u agree) dead);
-      small = h.small
+      small = h.small;
     }
 new_end_agrees g w u parent Dead z agree h = (dead_end_agrees g w u agree (h.0), h.1)
 new_end_agrees g w u parent (Branch v k) z agree h = absurd h
@@ -77,7 +77,7 @@ root_is_good g allowed ms value good all sized fitted judged small =
       first_fit = omega (arith, ints);
       floor = omega (arith, ints);
       alive = λ dead. both_ways _ (dead_end_holds_none g every_row g.held good (held_is_lawful g good) dead) (within_every_row g g.held);
-      small = small
+      small = small;
     }
 
 -- ---- a tree that grows
@@ -89,7 +89,7 @@ so_far_start g budget limit ms z nodes values some leaf is vals =
       low = rounded_up z;
       root = rounded_up_mono (first_fit_value g every_row) z leaf.first_fit;
       grown = subst (λ (ns : List Node). IsGrown g (rounded_up z) limit (every_row ∷ []) ns values []) (sym is) (subst (λ (zs : List ℤ). IsGrown g (rounded_up z) limit (every_row ∷ []) (Leaf ms ∷ []) zs []) (sym vals) start);
-      short = let size = ap (λ (ns : List Node). length ns) is in omega (arith, size, some)
+      short = let size = ap (λ (ns : List Node). length ns) is in omega (arith, size, some);
     }
 
 pub so_far_leaf : (g : Graph) (budget limit : ℕ) (nodes : List Node) (values : List ℤ) → IsGoodGraph g → IsTreeSoFar g budget limit nodes values → HasLeaf nodes
@@ -101,7 +101,7 @@ so_far_length g budget limit nodes values t = grown_length g t.low limit nodes v
 pub so_far_raised : (g : Graph) (budget limit : ℕ) (nodes : List Node) (values : List ℤ) (place : ℕ) → IsTreeSoFar g budget limit nodes values → IsLowest nodes values place → IsGrown g (rounded_up (get_or values place (pos 0))) limit (every_row ∷ []) nodes values []
 so_far_raised g budget limit nodes values place t lowest =
     raised g t.low (rounded_up (get_or values place (pos 0))) limit nodes values (every_row ∷ []) []
-      (lowest_floor g t.low limit nodes values place t.grown lowest) (lowest_above nodes values place lowest) t.grown
+    (lowest_floor g t.low limit nodes values place t.grown lowest) (lowest_above nodes values place lowest) t.grown
 
 -- the leaf of least value in a grown tree
 pub leaf_here : (g : Graph) (low : ℤ) (limit : ℕ) (nodes : List Node) (values : List ℤ) (place : ℕ) (s : IsSplit g low limit (every_row ∷ []) nodes values [] place) (lowest : IsLowest nodes values place) → IsGoodLeaf g low s.usable lowest.multipliers (get_or values place (pos 0))
@@ -125,8 +125,8 @@ parent_sized g low limit nodes values place ms grown lowest is =
 stands_at : (g : Graph) (low : ℤ) (limit : ℕ) (nodes : List Node) (values : List ℤ) (place : ℕ) (u : Usable) (later : List Usable) (s : IsSplit g low limit (every_row ∷ []) nodes values [] place) → Reads g (every_row ∷ []) (take place nodes) (u ∷ later) → u ≡ s.usable
 stands_at g low limit nodes values place u later s reads =
     head_is u s.usable later s.later
-      (reads_unique g (take place nodes) (every_row ∷ []) (u ∷ later) (s.usable ∷ s.later) reads
-        (grown_reads g low limit (take place nodes) (take place values) (every_row ∷ []) (s.usable ∷ s.later) s.before))
+    (reads_unique g (take place nodes) (every_row ∷ []) (u ∷ later) (s.usable ∷ s.later) reads
+    (grown_reads g low limit (take place nodes) (take place values) (every_row ∷ []) (s.usable ∷ s.later) s.before))
 
 pub so_far_grow : (g : Graph) (budget limit : ℕ) (nodes : List Node) (values : List ℤ) (place : ℕ) (ends : Ends) (new : List Node) (news : List ℤ) → IsTreeSoFar g budget limit nodes values → IsLowest nodes values place
     → IsPartedAt g nodes place ends → length nodes + 2 ≤ budget → rounded_up (get_or values place (pos 0)) <ℤ pos limit
@@ -144,15 +144,15 @@ so_far_grow g budget limit nodes values place ends new news t lowest parted room
     let has : HasUsable g s.usable = usable_here g (take place nodes) s.usable s.later (grown_reads g low limit (take place nodes) (take place values) (every_row ∷ []) (s.usable ∷ s.later) s.before) in
     let judged : get_or values place (pos 0) ≡ leaf_value g s.usable parted.parent = here.judged ∙ ap (leaf_value g s.usable) (sym parent_is) in
     let only_up : leaf_value g s.usable parted.parent ≤ℤ leaf_value g (only_row g s.usable ends.vehicle ends.row) parted.parent =
-          value_rises g s.usable (only_row g s.usable ends.vehicle ends.row) parted.parent (λ k e. only_fewer g s.usable ends.vehicle ends.row k e) (usable_only g s.usable ends.vehicle ends.row can has) in
+    value_rises g s.usable (only_row g s.usable ends.vehicle ends.row) parted.parent (λ k e. only_fewer g s.usable ends.vehicle ends.row k e) (usable_only g s.usable ends.vehicle ends.row can has) in
     let without_up : leaf_value g s.usable parted.parent ≤ℤ leaf_value g (without_row s.usable ends.row) parted.parent =
-          value_rises g s.usable (without_row s.usable ends.row) parted.parent (λ k e. without_fewer s.usable ends.row k e) (usable_without g s.usable ends.vehicle ends.row can has) in
+    value_rises g s.usable (without_row s.usable ends.row) parted.parent (λ k e. without_fewer s.usable ends.row k e) (usable_without g s.usable ends.vehicle ends.row can has) in
     let floor_only = rounded_up_mono (get_or values place (pos 0)) (leaf_value g (only_row g s.usable ends.vehicle ends.row) parted.parent) (subst (λ (z : ℤ). z ≤ℤ leaf_value g (only_row g s.usable ends.vehicle ends.row) parted.parent) (sym judged) only_up) in
     let floor_without = rounded_up_mono (get_or values place (pos 0)) (leaf_value g (without_row s.usable ends.row) parted.parent) (subst (λ (z : ℤ). z ≤ℤ leaf_value g (without_row s.usable ends.row) parted.parent) (sym judged) without_up) in
     let fit : rounded_up (first_fit_value g s.usable) ≤ℤ low = rounded_up_mono (first_fit_value g s.usable) (get_or values place (pos 0)) here.first_fit in
     let worth : IsWorthBranching g low limit s.usable = record { at_most = fit; below = omega (arith, ints) } in
     let next : IsGrown g low limit (every_row ∷ []) (take place nodes ++ (Branch ends.vehicle ends.row ∷ ends.first.node ∷ ends.second.node ∷ drop (suc place) nodes)) (take place values ++ (get_or values place (pos 0) ∷ ends.first.value ∷ ends.second.value ∷ drop (suc place) values)) [] =
-          branched g low limit nodes values place ends.vehicle ends.row parted.parent ends.first.node ends.second.node ends.first.value ends.second.value (get_or values place (pos 0)) grown lowest.within parted.leaf s can worth floor_only floor_without parting.first parting.second in
+    branched g low limit nodes values place ends.vehicle ends.row parted.parent ends.first.node ends.second.node ends.first.value ends.second.value (get_or values place (pos 0)) grown lowest.within parted.leaf s can worth floor_only floor_without parting.first parting.second in
     let rises : t.low ≤ℤ low = lowest_floor g t.low limit nodes values place t.grown lowest in
     let root : rounded_up (first_fit_value g every_row) ≤ℤ t.low = t.root in
     let size = ap (λ (ns : List Node). length ns) is ∙ edit_length nodes place (Branch ends.vehicle ends.row) ends.first.node ends.second.node lowest.within in
@@ -160,7 +160,7 @@ so_far_grow g budget limit nodes values place ends new news t lowest parted room
       low = low;
       root = omega (arith, ints);
       grown = subst (λ (ns : List Node). IsGrown g low limit (every_row ∷ []) ns news []) (sym is) (subst (λ (zs : List ℤ). IsGrown g low limit (every_row ∷ []) (take place nodes ++ (Branch ends.vehicle ends.row ∷ ends.first.node ∷ ends.second.node ∷ drop (suc place) nodes)) zs []) (sym vals) next);
-      short = omega (arith, size, room)
+      short = omega (arith, size, room);
     }
 
 -- ---- a leaf where no vehicle has a choice, and one where the budget is spent
@@ -178,9 +178,10 @@ module _ (g : Graph) (limit place : ℕ) (nodes : List Node) (values : List ℤ)
       let has : HasUsable g s.usable = usable_here g (take place nodes) s.usable s.later (grown_reads g low limit (take place nodes) (take place values) (every_row ∷ []) (s.usable ∷ s.later) s.before) in
       let has_here : HasUsable g (usable_of allowed) = λ v k row. let j = has v k row in (j.0, may_use_agrees g s.usable (usable_of allowed) v (j.0) back (j.1)) in
       let alive : IsDeadEnd g (usable_of allowed) → ⊥ = λ dead. here.alive (dead_end_agrees g (usable_of allowed) s.usable same dead) in
-      let fit : first_fit_value g s.usable ≡ first_fit_value g (usable_of allowed) = first_fit_value_agrees g s.usable (usable_of allowed) back in
-      ( sole_is_lawful g (usable_of allowed) chosen good sized sole fixed has_here alive
-      , sole_reaches g (usable_of allowed) chosen good sized sole fixed has_here alive (get_or values place (pos 0)) (subst (λ (z : ℤ). z ≤ℤ get_or values place (pos 0)) fit here.first_fit) )
+      let fit : first_fit_value g s.usable ≡ first_fit_value g (usable_of allowed) = first_fit_value_agrees g s.usable (usable_of allowed) back in (
+        sole_is_lawful g (usable_of allowed) chosen good sized sole fixed has_here alive,
+        sole_reaches g (usable_of allowed) chosen good sized sole fixed has_here alive (get_or values place (pos 0)) (subst (λ (z : ℤ). z ≤ℤ get_or values place (pos 0)) fit here.first_fit),
+      )
 
   pub full_answer : (v k : ℕ) → v < g.vehicles → CanBranch g (usable_of allowed) v k → length nodes + 3 ≤ 2 * choice_count g every_row
   full_answer v k below can =
@@ -200,7 +201,7 @@ right_from_least g plan cost low good lawful costs most bound =
       costs = costs;
       held = least g.held (held_is_lawful g good);
       greedy = λ chosen is fair. least chosen fair;
-      change = λ v other fair. subst (λ (n : ℕ). n ≤ cost_of g (set plan v other)) costs (least (set plan v other) fair)
+      change = λ v other fair. subst (λ (n : ℕ). n ≤ cost_of g (set plan v other)) costs (least (set plan v other) fair);
     }
   where
     least : (chosen : List (Option ℕ)) → IsLawful g chosen → cost ≤ cost_of g chosen
@@ -212,7 +213,7 @@ right_from_least g plan cost low good lawful costs most bound =
 pub low_is_bound : (g : Graph) (limit place : ℕ) (nodes : List Node) (values : List ℤ) → IsGoodGraph g → IsGrown g (rounded_up (get_or values place (pos 0))) limit (every_row ∷ []) nodes values [] → IsLowest nodes values place → (chosen : List (Option ℕ)) → IsLawful g chosen → rounded_up (get_or values place (pos 0)) ≤ℤ pos (cost_of g chosen)
 low_is_bound g limit place nodes values good grown lowest chosen fair =
     subst (λ (z : ℤ). z ≤ℤ pos (cost_of g chosen)) (value_is g limit nodes values place grown lowest)
-      (tree_value_bounds g nodes good (grown_reads g (rounded_up (get_or values place (pos 0))) limit nodes values (every_row ∷ []) [] grown) chosen fair)
+    (tree_value_bounds g nodes good (grown_reads g (rounded_up (get_or values place (pos 0))) limit nodes values (every_row ∷ []) [] grown) chosen fair)
 
 answer_of : (g : Graph) (budget limit place : ℕ) (plan : List (Option ℕ)) (cost : ℕ) (nodes : List Node) (values : List ℤ) → IsGoodGraph g → IsTreeSoFar g budget limit nodes values → IsLowest nodes values place
     → limit ≤ cost_of g g.held → ((chosen : List (Option ℕ)) → IsGreedy g chosen → IsLawful g chosen → limit ≤ cost_of g chosen) → IsRightPlan g plan cost
@@ -232,7 +233,7 @@ answer_of g budget limit place plan cost nodes values good t lowest held greedy 
       leaves = All-from_recursion (λ (p : Place). IsAtLeastFirstFit g p.usable p.node) (places g nodes) (leaves_fit g low limit nodes values (every_row ∷ []) [] grown);
       branches = All-from_recursion (λ (p : Place). IsBranchJustified g low p.usable p.node) (places g nodes) (branches_justified g low limit held greedy nodes values (every_row ∷ []) [] grown);
       limited = λ below. limited_from done below;
-      closed = λ enough. closed_from done enough
+      closed = λ enough. closed_from done enough;
     }
   where
     limited_from : (pos cost ≤ℤ rounded_up (get_or values place (pos 0))) ⊎ ((budget < length nodes + 2) × (budget < 2 * choice_count g every_row)) → rounded_up (get_or values place (pos 0)) <ℤ pos cost → budget < length nodes + 2
@@ -253,8 +254,8 @@ pub answer : (g : Graph) (budget limit place : ℕ) (plan : List (Option ℕ)) (
     → bound ≡ rounded_up (get_or values place (pos 0)) → tree ≡ nodes → IsAnswer g budget (record { plan = plan; cost = cost; bound = bound; tree = tree })
 answer g budget limit place plan cost nodes values bound tree good t lowest held greedy right done is same =
     subst (λ (z : ℤ). IsAnswer g budget (record { plan = plan; cost = cost; bound = z; tree = tree })) (sym is)
-      (subst (λ (ns : List Node). IsAnswer g budget (record { plan = plan; cost = cost; bound = rounded_up (get_or values place (pos 0)); tree = ns })) (sym same)
-        (answer_of g budget limit place plan cost nodes values good t lowest held greedy right done))
+    (subst (λ (ns : List Node). IsAnswer g budget (record { plan = plan; cost = cost; bound = rounded_up (get_or values place (pos 0)); tree = ns })) (sym same)
+    (answer_of g budget limit place plan cost nodes values good t lowest held greedy right done))
 
 -- where the outcome is neither one plan nor a parting, the value meets the limit or the budget is spent
 pub ended : (g : Graph) (nodes : List Node) (values : List ℤ) (place limit budget : ℕ) (o : Outcome) → IsNext g nodes values place limit budget o → ((plan : List (Option ℕ)) → o ≡ Fixed plan → ⊥) → ((ends : Ends) → o ≡ Parted ends → ⊥)

@@ -35,21 +35,21 @@ product_split : (n : ℕ) (f a b : ℕ → ℕ) (v : ℕ) → v < n → ((w : �
 product_split zero f a b v l first second both = absurd (omega (arith, l))
 product_split (suc n) f a b v l first second both =
     ⊎_elim
-      (λ (here : v ≡ n).
-        let left : product_below n f ≡ product_below n a = product_same n f a (λ w low. first w (λ (e : w ≡ v). omega (arith, low, e, here))) in
-        let right : product_below n f ≡ product_below n b = product_same n f b (λ w low. second w (λ (e : w ≡ v). omega (arith, low, e, here))) in
-        let last : f n ≡ a n + b n = subst (λ (w : ℕ). f w ≡ a w + b w) here both in
-        let whole : product_below n f * f n ≡ product_below n f * a n + product_below n f * b n =
-              ap (λ (x : ℕ). product_below n f * x) last ∙ mul-add (product_below n f) (a n) (b n) in
-        whole ∙ (λ i. left i * a n + right i * b n))
-      (λ (other : v ≡ n → ⊥).
-        let before : product_below n f ≡ product_below n a + product_below n b = product_split n f a b v (omega (arith, l, other)) first second both in
-        let left : f n ≡ a n = first n (λ (e : n ≡ v). other (sym e)) in
-        let right : f n ≡ b n = second n (λ (e : n ≡ v). other (sym e)) in
-        let whole : product_below n f * f n ≡ product_below n a * f n + product_below n b * f n =
-              ap (λ (x : ℕ). x * f n) before ∙ add-mul (product_below n a) (product_below n b) (f n) in
-        whole ∙ (λ i. product_below n a * left i + product_below n b * right i))
-      (cases_eq v n)
+    (λ (here : v ≡ n).
+    let left : product_below n f ≡ product_below n a = product_same n f a (λ w low. first w (λ (e : w ≡ v). omega (arith, low, e, here))) in
+    let right : product_below n f ≡ product_below n b = product_same n f b (λ w low. second w (λ (e : w ≡ v). omega (arith, low, e, here))) in
+    let last : f n ≡ a n + b n = subst (λ (w : ℕ). f w ≡ a w + b w) here both in
+    let whole : product_below n f * f n ≡ product_below n f * a n + product_below n f * b n =
+    ap (λ (x : ℕ). product_below n f * x) last ∙ mul-add (product_below n f) (a n) (b n) in
+    whole ∙ (λ i. left i * a n + right i * b n))
+    (λ (other : v ≡ n → ⊥).
+    let before : product_below n f ≡ product_below n a + product_below n b = product_split n f a b v (omega (arith, l, other)) first second both in
+    let left : f n ≡ a n = first n (λ (e : n ≡ v). other (sym e)) in
+    let right : f n ≡ b n = second n (λ (e : n ≡ v). other (sym e)) in
+    let whole : product_below n f * f n ≡ product_below n a * f n + product_below n b * f n =
+    ap (λ (x : ℕ). x * f n) before ∙ add-mul (product_below n a) (product_below n b) (f n) in
+    whole ∙ (λ i. product_below n a * left i + product_below n b * right i))
+    (cases_eq v n)
 
 -- ---- the choices at a branch
 
@@ -84,32 +84,32 @@ usable_count g u v = count_below (length g.rows) (is_usable_by g u v)
 count_split : (g : Graph) (u : Usable) (v k : ℕ) → usable_count g u v ≡ usable_count g (only_row g u v k) v + usable_count g (without_row u k) v
 count_split g u v k =
     sum_below_same (length g.rows) (λ j. flag (is_usable_by g u v j)) (λ j. flag (is_usable_by g (only_row g u v k) v j) + flag (is_usable_by g (without_row u k) v j))
-      (λ j l. flag_parts (vehicle_at g j == v) (u j) (j == k))
+    (λ j l. flag_parts (vehicle_at g j == v) (u j) (j == k))
     ∙ sum_below_plus (length g.rows) (λ j. flag (is_usable_by g (only_row g u v k) v j)) (λ j. flag (is_usable_by g (without_row u k) v j))
 
 count_only_other : (g : Graph) (u : Usable) (v k w : ℕ) → (w ≡ v → ⊥) → usable_count g u w ≡ usable_count g (only_row g u v k) w
 count_only_other g u v k w other =
     count_below_same (length g.rows) (is_usable_by g u w) (is_usable_by g (only_row g u v k) w)
-      (λ j l. other_only (vehicle_at g j == w) (u j) (vehicle_at g j == v) (j == k) (λ a b. other (sym (eqb-true (vehicle_at g j) w a) ∙ eqb-true (vehicle_at g j) v b)))
+    (λ j l. other_only (vehicle_at g j == w) (u j) (vehicle_at g j == v) (j == k) (λ a b. other (sym (eqb-true (vehicle_at g j) w a) ∙ eqb-true (vehicle_at g j) v b)))
 
 count_without_other : (g : Graph) (u : Usable) (v k w : ℕ) → IsRowOf g v k → (w ≡ v → ⊥) → usable_count g u w ≡ usable_count g (without_row u k) w
 count_without_other g u v k w row other =
     count_below_same (length g.rows) (is_usable_by g u w) (is_usable_by g (without_row u k) w)
-      (λ j l. other_without (vehicle_at g j == w) (u j) (j == k) (λ a b. other (sym (eqb-true (vehicle_at g j) w a) ∙ ap (vehicle_at g) (eqb-true j k b) ∙ row.own)))
+    (λ j l. other_without (vehicle_at g j == w) (u j) (j == k) (λ a b. other (sym (eqb-true (vehicle_at g j) w a) ∙ ap (vehicle_at g) (eqb-true j k b) ∙ row.own)))
 
 count_only_some : (g : Graph) (u : Usable) (v k : ℕ) → CanBranch g u v k → 1 ≤ usable_count g (only_row g u v k) v
 count_only_some g u v k can =
     let may = can.row in
     count_below_some (length g.rows) (is_usable_by g (only_row g u v k) v) k may.row.within
-      (and_from (vehicle_at g k == v) (only_row g u v k k) (eq-eqb (vehicle_at g k) v may.row.own)
-        (and_from (u k) (not (vehicle_at g k == v) || k == k) may.usable_row (or_right (not (vehicle_at g k == v)) (k == k) (eq-eqb k k refl))))
+    (and_from (vehicle_at g k == v) (only_row g u v k k) (eq-eqb (vehicle_at g k) v may.row.own)
+    (and_from (u k) (not (vehicle_at g k == v) || k == k) may.usable_row (or_right (not (vehicle_at g k == v)) (k == k) (eq-eqb k k refl))))
 
 count_without_some : (g : Graph) (u : Usable) (v k : ℕ) → CanBranch g u v k → 1 ≤ usable_count g (without_row u k) v
 count_without_some g u v k can =
     let may = can.other_row in
     count_below_some (length g.rows) (is_usable_by g (without_row u k) v) can.other may.row.within
-      (and_from (vehicle_at g can.other == v) (without_row u k can.other) (eq-eqb (vehicle_at g can.other) v may.row.own)
-        (and_from (u can.other) (not (can.other == k)) may.usable_row (ap not (ne_eqb can.other k can.differs))))
+    (and_from (vehicle_at g can.other == v) (without_row u k can.other) (eq-eqb (vehicle_at g can.other) v may.row.own)
+    (and_from (u can.other) (not (can.other == k)) may.usable_row (ap not (ne_eqb can.other k can.differs))))
 
 pub choices_some : (g : Graph) (u : Usable) → 1 ≤ choice_count g u
 unfolding choice_count
@@ -120,9 +120,9 @@ pub choices_split : (g : Graph) (u : Usable) (v k : ℕ) → v < g.vehicles → 
 unfolding choice_count
 choices_split g u v k low can =
     product_split g.vehicles (λ w. max 1 (usable_count g u w)) (λ w. max 1 (usable_count g (only_row g u v k) w)) (λ w. max 1 (usable_count g (without_row u k) w)) v low
-      (λ w other. ap (max 1) (count_only_other g u v k w other))
-      (λ w other. ap (max 1) (count_without_other g u v k w can.row.row other))
-      here
+    (λ w other. ap (max 1) (count_only_other g u v k w other))
+    (λ w other. ap (max 1) (count_without_other g u v k w can.row.row other))
+    here
   where
     here : max 1 (usable_count g u v) ≡ max 1 (usable_count g (only_row g u v k) v) + max 1 (usable_count g (without_row u k) v)
     here =
@@ -130,7 +130,7 @@ choices_split g u v k low can =
         let one : 1 ≤ usable_count g (only_row g u v k) v = count_only_some g u v k can in
         let two : 1 ≤ usable_count g (without_row u k) v = count_without_some g u v k can in
         max_one (usable_count g u v) (omega (arith, split, one, two)) ∙ split
-          ∙ (λ i. sym (max_one (usable_count g (only_row g u v k) v) one) i + sym (max_one (usable_count g (without_row u k) v) two) i)
+        ∙ (λ i. sym (max_one (usable_count g (only_row g u v k) v) one) i + sym (max_one (usable_count g (without_row u k) v) two) i)
 
 -- ---- how long a tree can be
 
@@ -165,7 +165,7 @@ pub tree_short : (g : Graph) (low : ℤ) (limit : ℕ) (nodes : List Node) (valu
     → i < length nodes → get_or nodes i Dead ≡ Leaf ms → (s : IsSplit g low limit (every_row ∷ []) nodes values [] i) → v < g.vehicles → CanBranch g s.usable v k → length nodes + 3 ≤ 2 * choice_count g every_row
 tree_short g low limit nodes values i v k ms exist l leaf s below can =
     let after : IsGrown g low limit s.later (drop (suc i) nodes) (drop (suc i) values) [] =
-          subst (λ (n : Node). IsGrown g low limit (coming_after g s.usable n s.later) (drop (suc i) nodes) (drop (suc i) values) []) leaf s.after in
+    subst (λ (n : Node). IsGrown g low limit (coming_after g s.usable n s.later) (drop (suc i) nodes) (drop (suc i) values) []) leaf s.after in
     let before = reads_short g exist (take i nodes) (every_row ∷ []) (s.usable ∷ s.later) (grown_reads g low limit (take i nodes) (take i values) (every_row ∷ []) (s.usable ∷ s.later) s.before) in
     let rest = reads_short g exist (drop (suc i) nodes) s.later [] (grown_reads g low limit (drop (suc i) nodes) (drop (suc i) values) s.later [] after) in
     let size = drop_length nodes i l in

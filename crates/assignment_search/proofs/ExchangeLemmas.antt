@@ -17,11 +17,11 @@ pub shared_betters_nothing : (g : Graph) (chosen : List (Option ℕ)) (v k : ℕ
 shared_betters_nothing g chosen v k sized low s lawful =
     let other_low : s.other < g.vehicles = subst (λ (n : ℕ). s.other < n) sized s.within in
     let here : is_in g (choice_at (set chosen v (Some k)) v) s.rider ≡ true =
-          ap (λ (c : Option ℕ). is_in g c s.rider) (get_or-set_same chosen v (Some k) None (subst (λ (n : ℕ). v < n) (sym sized) low)) ∙ s.in_row in
+    ap (λ (c : Option ℕ). is_in g c s.rider) (get_or-set_same chosen v (Some k) None (subst (λ (n : ℕ). v < n) (sym sized) low)) ∙ s.in_row in
     let there : is_in g (choice_at (set chosen v (Some k)) s.other) s.rider ≡ true =
-          ap (λ (c : Option ℕ). is_in g c s.rider) (get_or-set_other chosen v s.other (Some k) None s.differs ∙ s.chooses) ∙ s.in_other in
+    ap (λ (c : Option ℕ). is_in g c s.rider) (get_or-set_other chosen v s.other (Some k) None s.differs ∙ s.chooses) ∙ s.in_other in
     let two : 2 ≤ count_below g.vehicles (λ w. is_in g (choice_at (set chosen v (Some k)) w) s.rider) =
-          count_below_two g.vehicles (λ w. is_in g (choice_at (set chosen v (Some k)) w) s.rider) v s.other low other_low (λ (e : v ≡ s.other). s.differs (sym e)) here there in
+    count_below_two g.vehicles (λ w. is_in g (choice_at (set chosen v (Some k)) w) s.rider) v s.other low other_low (λ (e : v ≡ s.other). s.differs (sym e)) here there in
     let count = times_served_as_count g (set chosen v (Some k)) g.vehicles s.rider in
     let once = lawful.once s.rider in
     absurd (omega (arith, two, count, once))

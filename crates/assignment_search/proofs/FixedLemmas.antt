@@ -28,22 +28,21 @@ count_two_found : (n : ℕ) (p : ℕ → Bool) → 2 ≤ count_below n p → (j 
 count_two_found zero p h = absurd (omega (arith, h))
 count_two_found (suc n) p h =
     ⊎_elim
-      (λ (passes : p n ≡ true).
-        let last : flag (p n) ≡ 1 = flag-true (p n) passes in
-        let w = count_below_found n p (omega (arith, h, last)) in
-        (w.0, n, w.1, omega arith, w.2, passes))
-      (λ (fails : p n ≡ false).
-        let last : flag (p n) ≡ 0 = flag-false (p n) fails in
-        let w = count_two_found n p (omega (arith, h, last)) in
-        (w.0, w.1, w.2, omega (arith, w.3), w.4, w.5))
-      (cases_Bool (p n))
+    (λ (passes : p n ≡ true).
+    let last : flag (p n) ≡ 1 = flag-true (p n) passes in
+    let w = count_below_found n p (omega (arith, h, last)) in
+    (w.0, n, w.1, omega arith, w.2, passes))
+    (λ (fails : p n ≡ false).
+    let last : flag (p n) ≡ 0 = flag-false (p n) fails in
+    let w = count_two_found n p (omega (arith, h, last)) in
+    (w.0, w.1, w.2, omega (arith, w.3), w.4, w.5))
+    (cases_Bool (p n))
 
 -- what a choice's riders give, summed over all riders
 abbrev riders_give : Graph → List ℤ → Option ℕ → ℤ
 riders_give g ms c = int_sum_below g.riders (λ r. part (is_in g c r) (multiplier_at ms r))
 
 module _ (g : Graph) (u : Usable) (chosen : List (Option ℕ)) (good : IsGoodGraph g) (sized : length chosen ≡ g.vehicles) (sole : IsSolePlan g u chosen) (fixed : IsFixed g u) (has : HasUsable g u) (alive : IsDeadEnd g u → ⊥) where
-
   -- a choice may be used
   may_choice : (v k : ℕ) → v < g.vehicles → choice_at chosen v ≡ Some k → MayUse g u v k
   may_choice v k l e = pick (choice_at chosen v) (sole v l) e
@@ -65,26 +64,26 @@ module _ (g : Graph) (u : Usable) (chosen : List (Option ℕ)) (good : IsGoodGra
   sole_once : (r : ℕ) → times_chosen g chosen r ≤ 1
   sole_once r =
       ⊎_elim
-        (λ (low : times_chosen g chosen r < 2). omega (arith, low))
-        (λ (high : 2 ≤ times_chosen g chosen r).
-          let w = count_two_found g.vehicles (λ v. is_in g (choice_at chosen v) r) (subst (λ (n : ℕ). 2 ≤ n) (times_served_as_count g chosen g.vehicles r) high) in
-          let j = in_choice g (choice_at chosen (w.0)) r (w.4) in
-          let k = in_choice g (choice_at chosen (w.1)) r (w.5) in
-          let before : w.0 < w.1 = w.2 in
-          let last : w.1 < g.vehicles = w.3 in
-          absurd (alive (inl (record {
-            first = w.0;
-            second = w.1;
-            first_row = j.0;
-            second_row = k.0;
-            rider = r;
-            differ = λ (e : w.0 ≡ w.1). omega (arith, before, e);
-            first_sole = only_choice (w.0) (j.0) (may_choice (w.0) (j.0) (omega (arith, before, last)) (j.1));
-            second_sole = only_choice (w.1) (k.0) (may_choice (w.1) (k.0) last (k.1));
-            in_first = j.2;
-            in_second = k.2
-          }))))
-        (cases_lt (times_chosen g chosen r) 2)
+      (λ (low : times_chosen g chosen r < 2). omega (arith, low))
+      (λ (high : 2 ≤ times_chosen g chosen r).
+      let w = count_two_found g.vehicles (λ v. is_in g (choice_at chosen v) r) (subst (λ (n : ℕ). 2 ≤ n) (times_served_as_count g chosen g.vehicles r) high) in
+      let j = in_choice g (choice_at chosen (w.0)) r (w.4) in
+      let k = in_choice g (choice_at chosen (w.1)) r (w.5) in
+      let before : w.0 < w.1 = w.2 in
+      let last : w.1 < g.vehicles = w.3 in
+      absurd (alive (inl (record {
+        first = w.0;
+        second = w.1;
+        first_row = j.0;
+        second_row = k.0;
+        rider = r;
+        differ = λ (e : w.0 ≡ w.1). omega (arith, before, e);
+        first_sole = only_choice (w.0) (j.0) (may_choice (w.0) (j.0) (omega (arith, before, last)) (j.1));
+        second_sole = only_choice (w.1) (k.0) (may_choice (w.1) (k.0) last (k.1));
+        in_first = j.2;
+        in_second = k.2;
+      }))))
+      (cases_lt (times_chosen g chosen r) 2)
 
   -- who stands in a usable row is served
   sole_serves : (r k : ℕ) → k < length g.rows → u k ≡ true → has_rider g k r ≡ true → 1 ≤ times_chosen g chosen r
@@ -99,10 +98,10 @@ module _ (g : Graph) (u : Usable) (chosen : List (Option ℕ)) (good : IsGoodGra
   sole_keeps : (r : ℕ) → must_be_served g r ≡ true → times_chosen g chosen r ≡ 1
   sole_keeps r must =
       ⊎_elim
-        (λ (none : times_chosen g chosen r ≡ 0).
-          absurd (alive (inr (record { rider = r; must = must; nowhere = λ k l may. not_in none k l may (has_rider g k r) refl }))))
-        (λ (some : times_chosen g chosen r ≡ 0 → ⊥). omega (arith, some, sole_once r))
-        (cases_eq (times_chosen g chosen r) 0)
+      (λ (none : times_chosen g chosen r ≡ 0).
+      absurd (alive (inr (record { rider = r; must = must; nowhere = λ k l may. not_in none k l may (has_rider g k r) refl }))))
+      (λ (some : times_chosen g chosen r ≡ 0 → ⊥). omega (arith, some, sole_once r))
+      (cases_eq (times_chosen g chosen r) 0)
     where
       not_in : times_chosen g chosen r ≡ 0 → (k : ℕ) → k < length g.rows → u k ≡ true → (b : Bool) → has_rider g k r ≡ b → has_rider g k r ≡ false
       not_in none k l may false e = e
@@ -116,7 +115,7 @@ module _ (g : Graph) (u : Usable) (chosen : List (Option ℕ)) (good : IsGoodGra
   term_is : (ms : List ℤ) (v : ℕ) → v < g.vehicles → (c : Option ℕ) → choice_at chosen v ≡ c → vehicle_term g u ms v ≡ (pos (1024 * choice_cost g c) -ℤ riders_give g ms c)
   term_is ms v l None e =
       let none : least_below (length g.rows) (is_usable_by g u v) (reduced_cost g ms) ≡ None =
-            least_below_none (length g.rows) (is_usable_by g u v) (reduced_cost g ms) (λ k low. foreign k low (is_usable_by g u v k) refl) in
+      least_below_none (length g.rows) (is_usable_by g u v) (reduced_cost g ms) (λ k low. foreign k low (is_usable_by g u v k) refl) in
       let term : vehicle_term g u ms v ≡ pos 0 = ap (λ (p : Option ℤ). unwrap_or p (pos 0)) none in
       let nobody : int_sum_below g.riders (λ r. pos 0) ≡ pos 0 = int_sum_zero g.riders in
       omega (arith, ints)
@@ -141,25 +140,25 @@ module _ (g : Graph) (u : Usable) (chosen : List (Option ℕ)) (good : IsGoodGra
       let term : vehicle_term g u ms v ≡ w.0 = ap (λ (p : Option ℤ). unwrap_or p (pos 0)) (w.1) in
       let row = good.rows k may.row.within in
       let riders : multiplier_sum ms (riders_at g k) ≡ int_sum_below g.riders (λ r. part (has_rider g k r) (multiplier_at ms r)) =
-            multiplier_sum_is ms g.riders (riders_at g k) row.members.rising row.members.below in
+      multiplier_sum_is ms g.riders (riders_at g k) row.members.rising row.members.below in
       omega (arith, ints)
 
   vehicles_are : (ms : List ℤ) → int_sum_below g.vehicles (vehicle_term g u ms) ≡ (pos (1024 * sum_below g.vehicles (λ v. choice_cost g (choice_at chosen v))) -ℤ int_sum_below g.riders (λ r. part (ltb 0 (times_chosen g chosen r)) (multiplier_at ms r)))
   vehicles_are ms =
       let each : int_sum_below g.vehicles (vehicle_term g u ms) ≡ int_sum_below g.vehicles (λ v. pos (1024 * choice_cost g (choice_at chosen v)) -ℤ riders_give g ms (choice_at chosen v)) =
-            int_sum_same g.vehicles (vehicle_term g u ms) (λ v. pos (1024 * choice_cost g (choice_at chosen v)) -ℤ riders_give g ms (choice_at chosen v))
-              (λ v l. term_is ms v l (choice_at chosen v) refl) in
+      int_sum_same g.vehicles (vehicle_term g u ms) (λ v. pos (1024 * choice_cost g (choice_at chosen v)) -ℤ riders_give g ms (choice_at chosen v))
+      (λ v l. term_is ms v l (choice_at chosen v) refl) in
       let apart : int_sum_below g.vehicles (λ v. pos (1024 * choice_cost g (choice_at chosen v)) -ℤ riders_give g ms (choice_at chosen v)) ≡ int_sum_below g.vehicles (λ v. pos (1024 * choice_cost g (choice_at chosen v))) -ℤ int_sum_below g.vehicles (λ v. riders_give g ms (choice_at chosen v)) =
-            int_sum_minus g.vehicles (λ v. pos (1024 * choice_cost g (choice_at chosen v))) (λ v. riders_give g ms (choice_at chosen v)) in
+      int_sum_minus g.vehicles (λ v. pos (1024 * choice_cost g (choice_at chosen v))) (λ v. riders_give g ms (choice_at chosen v)) in
       let costs : int_sum_below g.vehicles (λ v. pos (1024 * choice_cost g (choice_at chosen v))) ≡ pos (sum_below g.vehicles (λ v. 1024 * choice_cost g (choice_at chosen v))) =
-            int_sum_pos g.vehicles (λ v. 1024 * choice_cost g (choice_at chosen v)) in
+      int_sum_pos g.vehicles (λ v. 1024 * choice_cost g (choice_at chosen v)) in
       let scaled : sum_below g.vehicles (λ v. 1024 * choice_cost g (choice_at chosen v)) ≡ 1024 * sum_below g.vehicles (λ v. choice_cost g (choice_at chosen v)) =
-            sum_below_scale g.vehicles 1024 (λ v. choice_cost g (choice_at chosen v)) in
+      sum_below_scale g.vehicles 1024 (λ v. choice_cost g (choice_at chosen v)) in
       let swapped : int_sum_below g.vehicles (λ v. riders_give g ms (choice_at chosen v)) ≡ int_sum_below g.riders (λ r. int_sum_below g.vehicles (λ v. part (is_in g (choice_at chosen v) r) (multiplier_at ms r))) =
-            int_sum_swap g.vehicles g.riders (λ v r. part (is_in g (choice_at chosen v) r) (multiplier_at ms r)) in
+      int_sum_swap g.vehicles g.riders (λ v r. part (is_in g (choice_at chosen v) r) (multiplier_at ms r)) in
       let counted : int_sum_below g.riders (λ r. int_sum_below g.vehicles (λ v. part (is_in g (choice_at chosen v) r) (multiplier_at ms r))) ≡ int_sum_below g.riders (λ r. part (ltb 0 (times_chosen g chosen r)) (multiplier_at ms r)) =
-            int_sum_same g.riders (λ r. int_sum_below g.vehicles (λ v. part (is_in g (choice_at chosen v) r) (multiplier_at ms r))) (λ r. part (ltb 0 (times_chosen g chosen r)) (multiplier_at ms r))
-              (λ r l. once_given r) in
+      int_sum_same g.riders (λ r. int_sum_below g.vehicles (λ v. part (is_in g (choice_at chosen v) r) (multiplier_at ms r))) (λ r. part (ltb 0 (times_chosen g chosen r)) (multiplier_at ms r))
+      (λ r l. once_given r) in
       omega (arith, ints)
     where
       once_given : (r : ℕ) → int_sum_below g.vehicles (λ v. part (is_in g (choice_at chosen v) r) (multiplier_at ms r)) ≡ part (ltb 0 (times_chosen g chosen r)) (multiplier_at ms r)
@@ -167,49 +166,49 @@ module _ (g : Graph) (u : Usable) (chosen : List (Option ℕ)) (good : IsGoodGra
           let count : times_chosen g chosen r ≡ count_below g.vehicles (λ v. is_in g (choice_at chosen v) r) = times_served_as_count g chosen g.vehicles r in
           let low : times_chosen g chosen r ≤ 1 = sole_once r in
           int_sum_once g.vehicles (λ v. is_in g (choice_at chosen v) r) (multiplier_at ms r) (omega arith)
-            ∙ ap (λ (n : ℕ). part (ltb 0 n) (multiplier_at ms r)) (sym count)
+          ∙ ap (λ (n : ℕ). part (ltb 0 n) (multiplier_at ms r)) (sym count)
 
 -- a rider's term is at least her multiplier where she is served, and the penalty where she is left out
 rider_term_ge : (g : Graph) (ms : List ℤ) (r t : ℕ) → multiplier_at ms r ≤ℤ pos (1024 * g.penalty) → (t ≡ 0 → multiplier_at ms r ≡ pos (1024 * g.penalty)) → (part (ltb 0 t) (multiplier_at ms r) +ℤ pos (1024 * (g.penalty * flag (t == 0)))) ≤ℤ rider_term g ms r
 rider_term_ge g ms r t most all =
     let least = int_min_is (multiplier_at ms r) (pos (1024 * g.penalty)) in
     let term : rider_term g ms r ≡ multiplier_at ms r =
-          ⊎_elim
-            (λ (must : must_be_served g r ≡ true). cond-true (must_be_served g r) (multiplier_at ms r) (int_min (multiplier_at ms r) (pos (1024 * g.penalty))) must)
-            (λ (may : must_be_served g r ≡ false).
-              let is : rider_term g ms r ≡ int_min (multiplier_at ms r) (pos (1024 * g.penalty)) = cond-false (must_be_served g r) (multiplier_at ms r) (int_min (multiplier_at ms r) (pos (1024 * g.penalty))) may in
-              omega (arith, ints))
-            (cases_Bool (must_be_served g r)) in
     ⊎_elim
-      (λ (left : t ≡ 0).
-        let served : part (ltb 0 t) (multiplier_at ms r) ≡ pos 0 = cond-false (ltb 0 t) (multiplier_at ms r) (pos 0) (le-ltb 0 t (omega arith)) in
-        let counted : flag (t == 0) ≡ 1 = flag-true _ (eq-eqb t 0 left) in
-        let price : g.penalty * flag (t == 0) ≡ g.penalty = ap (λ (n : ℕ). g.penalty * n) counted ∙ omega arith in
-        let full : multiplier_at ms r ≡ pos (1024 * g.penalty) = all left in
-        omega (arith, ints))
-      (λ (some : t ≡ 0 → ⊥).
-        let served : part (ltb 0 t) (multiplier_at ms r) ≡ multiplier_at ms r = cond-true (ltb 0 t) (multiplier_at ms r) (pos 0) (lt-ltb 0 t (omega arith)) in
-        let counted : flag (t == 0) ≡ 0 = flag-false _ (ne_eqb t 0 some) in
-        let price : g.penalty * flag (t == 0) ≡ 0 = ap (λ (n : ℕ). g.penalty * n) counted ∙ omega arith in
-        omega (arith, ints))
-      (cases_eq t 0)
+    (λ (must : must_be_served g r ≡ true). cond-true (must_be_served g r) (multiplier_at ms r) (int_min (multiplier_at ms r) (pos (1024 * g.penalty))) must)
+    (λ (may : must_be_served g r ≡ false).
+    let is : rider_term g ms r ≡ int_min (multiplier_at ms r) (pos (1024 * g.penalty)) = cond-false (must_be_served g r) (multiplier_at ms r) (int_min (multiplier_at ms r) (pos (1024 * g.penalty))) may in
+    omega (arith, ints))
+    (cases_Bool (must_be_served g r)) in
+    ⊎_elim
+    (λ (left : t ≡ 0).
+    let served : part (ltb 0 t) (multiplier_at ms r) ≡ pos 0 = cond-false (ltb 0 t) (multiplier_at ms r) (pos 0) (le-ltb 0 t (omega arith)) in
+    let counted : flag (t == 0) ≡ 1 = flag-true _ (eq-eqb t 0 left) in
+    let price : g.penalty * flag (t == 0) ≡ g.penalty = ap (λ (n : ℕ). g.penalty * n) counted ∙ omega arith in
+    let full : multiplier_at ms r ≡ pos (1024 * g.penalty) = all left in
+    omega (arith, ints))
+    (λ (some : t ≡ 0 → ⊥).
+    let served : part (ltb 0 t) (multiplier_at ms r) ≡ multiplier_at ms r = cond-true (ltb 0 t) (multiplier_at ms r) (pos 0) (lt-ltb 0 t (omega arith)) in
+    let counted : flag (t == 0) ≡ 0 = flag-false _ (ne_eqb t 0 some) in
+    let price : g.penalty * flag (t == 0) ≡ 0 = ap (λ (n : ℕ). g.penalty * n) counted ∙ omega arith in
+    omega (arith, ints))
+    (cases_eq t 0)
 
 riders_ge : (g : Graph) (ms : List ℤ) (chosen : List (Option ℕ)) → ((r : ℕ) → r < g.riders → multiplier_at ms r ≤ℤ pos (1024 * g.penalty)) → ((r : ℕ) → r < g.riders → times_chosen g chosen r ≡ 0 → multiplier_at ms r ≡ pos (1024 * g.penalty))
     → (int_sum_below g.riders (λ r. part (ltb 0 (times_chosen g chosen r)) (multiplier_at ms r)) +ℤ pos (1024 * (g.penalty * left_out g chosen))) ≤ℤ int_sum_below g.riders (rider_term g ms)
 riders_ge g ms chosen most all =
     let each : int_sum_below g.riders (λ r. part (ltb 0 (times_chosen g chosen r)) (multiplier_at ms r) +ℤ pos (1024 * (g.penalty * flag (times_chosen g chosen r == 0)))) ≤ℤ int_sum_below g.riders (rider_term g ms) =
-          int_sum_le g.riders (λ r. part (ltb 0 (times_chosen g chosen r)) (multiplier_at ms r) +ℤ pos (1024 * (g.penalty * flag (times_chosen g chosen r == 0)))) (rider_term g ms)
-            (λ r l. rider_term_ge g ms r (times_chosen g chosen r) (most r l) (all r l)) in
+    int_sum_le g.riders (λ r. part (ltb 0 (times_chosen g chosen r)) (multiplier_at ms r) +ℤ pos (1024 * (g.penalty * flag (times_chosen g chosen r == 0)))) (rider_term g ms)
+    (λ r l. rider_term_ge g ms r (times_chosen g chosen r) (most r l) (all r l)) in
     let apart : int_sum_below g.riders (λ r. part (ltb 0 (times_chosen g chosen r)) (multiplier_at ms r) +ℤ pos (1024 * (g.penalty * flag (times_chosen g chosen r == 0)))) ≡ int_sum_below g.riders (λ r. part (ltb 0 (times_chosen g chosen r)) (multiplier_at ms r)) +ℤ int_sum_below g.riders (λ r. pos (1024 * (g.penalty * flag (times_chosen g chosen r == 0)))) =
-          int_sum_plus g.riders (λ r. part (ltb 0 (times_chosen g chosen r)) (multiplier_at ms r)) (λ r. pos (1024 * (g.penalty * flag (times_chosen g chosen r == 0)))) in
+    int_sum_plus g.riders (λ r. part (ltb 0 (times_chosen g chosen r)) (multiplier_at ms r)) (λ r. pos (1024 * (g.penalty * flag (times_chosen g chosen r == 0)))) in
     let prices : int_sum_below g.riders (λ r. pos (1024 * (g.penalty * flag (times_chosen g chosen r == 0)))) ≡ pos (sum_below g.riders (λ r. 1024 * (g.penalty * flag (times_chosen g chosen r == 0)))) =
-          int_sum_pos g.riders (λ r. 1024 * (g.penalty * flag (times_chosen g chosen r == 0))) in
+    int_sum_pos g.riders (λ r. 1024 * (g.penalty * flag (times_chosen g chosen r == 0))) in
     let scaled : sum_below g.riders (λ r. 1024 * (g.penalty * flag (times_chosen g chosen r == 0))) ≡ 1024 * sum_below g.riders (λ r. g.penalty * flag (times_chosen g chosen r == 0)) =
-          sum_below_scale g.riders 1024 (λ r. g.penalty * flag (times_chosen g chosen r == 0)) in
+    sum_below_scale g.riders 1024 (λ r. g.penalty * flag (times_chosen g chosen r == 0)) in
     let counted : sum_below g.riders (λ r. g.penalty * flag (times_chosen g chosen r == 0)) ≡ g.penalty * left_out g chosen =
-          sum_below_scale g.riders g.penalty (λ r. flag (times_chosen g chosen r == 0)) in
+    sum_below_scale g.riders g.penalty (λ r. flag (times_chosen g chosen r == 0)) in
     let whole : pos (sum_below g.riders (λ r. 1024 * (g.penalty * flag (times_chosen g chosen r == 0)))) ≡ pos (1024 * (g.penalty * left_out g chosen)) =
-          ap pos (scaled ∙ ap (λ (n : ℕ). 1024 * n) counted) in
+    ap pos (scaled ∙ ap (λ (n : ℕ). 1024 * n) counted) in
     omega (arith, ints)
 
 -- ---- the first-fit multipliers there
@@ -222,22 +221,22 @@ first_fit_read g u (suc n) r l =
     let next = first_fit_of g u before n in
     let long : length before ≡ n = length-first_fit g u n in
     ⊎_elim
-      (λ (here : r ≡ n). get_or_push before next (pos 0) r (long ∙ sym here) ∙ ap (λ (q : ℕ). first_fit_of g u (first_fit_below g u q) q) (sym here))
-      (λ (other : r ≡ n → ⊥). get_or_append_left before (next ∷ []) (pos 0) r (omega (arith, l, other, long)) ∙ first_fit_read g u n r (omega (arith, l, other)))
-      (cases_eq r n)
+    (λ (here : r ≡ n). get_or_push before next (pos 0) r (long ∙ sym here) ∙ ap (λ (q : ℕ). first_fit_of g u (first_fit_below g u q) q) (sym here))
+    (λ (other : r ≡ n → ⊥). get_or_append_left before (next ∷ []) (pos 0) r (omega (arith, l, other, long)) ∙ first_fit_read g u n r (omega (arith, l, other)))
+    (cases_eq r n)
 
 first_fit_most : (g : Graph) (u : Usable) (r : ℕ) → r < g.riders → multiplier_at (first_fit g u) r ≤ℤ pos (1024 * g.penalty)
 first_fit_most g u r l =
     let is = first_fit_read g u g.riders r l in
     let most : first_fit_of g u (first_fit_below g u r) r ≤ℤ pos (1024 * g.penalty) =
-          lesser-le_right (least_below (length g.rows) (λ k. u k && has_rider g k r) (room_at g u (first_fit_below g u r))) (pos (1024 * g.penalty)) in
+    lesser-le_right (least_below (length g.rows) (λ k. u k && has_rider g k r) (room_at g u (first_fit_below g u r))) (pos (1024 * g.penalty)) in
     subst (λ (z : ℤ). z ≤ℤ pos (1024 * g.penalty)) (sym is) most
 
 first_fit_left : (g : Graph) (u : Usable) (r : ℕ) → r < g.riders → ((k : ℕ) → k < length g.rows → u k ≡ true → has_rider g k r ≡ true → ⊥) → multiplier_at (first_fit g u) r ≡ pos (1024 * g.penalty)
 first_fit_left g u r l nowhere =
     first_fit_read g u g.riders r l
-      ∙ ap (λ (o : Option ℤ). lesser o (pos (1024 * g.penalty)))
-          (least_below_none (length g.rows) (λ k. u k && has_rider g k r) (room_at g u (first_fit_below g u r)) (λ k low. not_both k low (u k && has_rider g k r) refl))
+    ∙ ap (λ (o : Option ℤ). lesser o (pos (1024 * g.penalty)))
+    (least_below_none (length g.rows) (λ k. u k && has_rider g k r) (room_at g u (first_fit_below g u r)) (λ k low. not_both k low (u k && has_rider g k r) refl))
   where
     not_both : (k : ℕ) → k < length g.rows → (b : Bool) → (u k && has_rider g k r) ≡ b → (u k && has_rider g k r) ≡ false
     not_both k low false e = e
@@ -258,7 +257,7 @@ module _ (g : Graph) (u : Usable) (chosen : List (Option ℕ)) (good : IsGoodGra
   value_reaches =
       let vehicles = vehicles_are g u chosen good sized sole fixed has alive (first_fit g u) in
       let riders = riders_ge g (first_fit g u) chosen (first_fit_most g u)
-            (λ r l none. first_fit_left g u r l (λ k low may e. omega (arith, none, sole_serves g u chosen good sized sole fixed has alive r k low may e))) in
+      (λ r l none. first_fit_left g u r l (λ k low may e. omega (arith, none, sole_serves g u chosen good sized sole fixed has alive r k low may e))) in
       omega (arith, ints)
 
   -- the one plan costs no more than the value shows

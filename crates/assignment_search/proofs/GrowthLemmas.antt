@@ -96,13 +96,15 @@ pub branched : (g : Graph) (low : ℤ) (limit : ℕ) (nodes : List Node) (values
     → IsGrown g low limit (every_row ∷ []) (take i nodes ++ (Branch v k ∷ first ∷ second ∷ drop (suc i) nodes)) (take i values ++ (x ∷ a ∷ b ∷ drop (suc i) values)) []
 branched g low limit nodes values i v k parent first second a b x grown l leaf s can worth floor_a floor_b end_a end_b =
     let after : IsGrown g low limit s.later (drop (suc i) nodes) (drop (suc i) values) [] =
-          subst (λ (n : Node). IsGrown g low limit (coming_after g s.usable n s.later) (drop (suc i) nodes) (drop (suc i) values) []) leaf s.after in
-    let third : IsGrown g low limit (without_row s.usable k ∷ s.later) (second ∷ drop (suc i) nodes) (b ∷ drop (suc i) values) [] =
-          (new_end_good g low limit (without_row s.usable k) parent second b floor_b rounded_up_mono end_b,
-           subst (λ (c : List Usable). IsGrown g low limit c (drop (suc i) nodes) (drop (suc i) values) []) (sym (new_end_ends g (without_row s.usable k) (without_row s.usable k) parent second b s.later end_b)) after) in
-    let both : IsGrown g low limit (only_row g s.usable v k ∷ without_row s.usable k ∷ s.later) (first ∷ second ∷ drop (suc i) nodes) (a ∷ b ∷ drop (suc i) values) [] =
-          (new_end_good g low limit (only_row g s.usable v k) parent first a floor_a rounded_up_mono end_a,
-           subst (λ (c : List Usable). IsGrown g low limit c (second ∷ drop (suc i) nodes) (b ∷ drop (suc i) values) []) (sym (new_end_ends g (only_row g s.usable v k) (only_row g s.usable v k) parent first a (without_row s.usable k ∷ s.later) end_a)) third) in
+    subst (λ (n : Node). IsGrown g low limit (coming_after g s.usable n s.later) (drop (suc i) nodes) (drop (suc i) values) []) leaf s.after in
+    let third : IsGrown g low limit (without_row s.usable k ∷ s.later) (second ∷ drop (suc i) nodes) (b ∷ drop (suc i) values) [] = (
+      new_end_good g low limit (without_row s.usable k) parent second b floor_b rounded_up_mono end_b,
+      subst (λ (c : List Usable). IsGrown g low limit c (drop (suc i) nodes) (drop (suc i) values) []) (sym (new_end_ends g (without_row s.usable k) (without_row s.usable k) parent second b s.later end_b)) after,
+    ) in
+    let both : IsGrown g low limit (only_row g s.usable v k ∷ without_row s.usable k ∷ s.later) (first ∷ second ∷ drop (suc i) nodes) (a ∷ b ∷ drop (suc i) values) [] = (
+      new_end_good g low limit (only_row g s.usable v k) parent first a floor_a rounded_up_mono end_a,
+      subst (λ (c : List Usable). IsGrown g low limit c (second ∷ drop (suc i) nodes) (b ∷ drop (suc i) values) []) (sym (new_end_ends g (only_row g s.usable v k) (only_row g s.usable v k) parent first a (without_row s.usable k ∷ s.later) end_a)) third,
+    ) in
     grown_join g low limit (take i nodes) (take i values) (Branch v k ∷ first ∷ second ∷ drop (suc i) nodes) (x ∷ a ∷ b ∷ drop (suc i) values) (every_row ∷ []) (s.usable ∷ s.later) [] s.before ((can, worth), both)
 
 -- ---- the bound rises
@@ -124,9 +126,10 @@ raised g low new limit [] [] coming rest up above h = h
 raised g low new limit [] (z ∷ values) coming rest up above h = h
 raised g low new limit (n ∷ nodes) [] coming rest up above h = h
 raised g low new limit (n ∷ nodes) (z ∷ values) [] rest up above h = h
-raised g low new limit (n ∷ nodes) (z ∷ values) (u ∷ us) rest up above h =
-    ( raise_node g low new limit u n z up (λ ms e. above 0 ms (omega arith) e) (h.0)
-    , raised g low new limit nodes values (coming_after g u n us) rest up (λ k ms l e. above (suc k) ms (omega (arith, l)) e) (h.1) )
+raised g low new limit (n ∷ nodes) (z ∷ values) (u ∷ us) rest up above h = (
+  raise_node g low new limit u n z up (λ ms e. above 0 ms (omega arith) e) (h.0),
+  raised g low new limit nodes values (coming_after g u n us) rest up (λ k ms l e. above (suc k) ms (omega (arith, l)) e) (h.1),
+)
 
 -- no leaf is below the lowest
 pub lowest_above : (nodes : List Node) (values : List ℤ) (i : ℕ) → IsLowest nodes values i → LeavesAbove (rounded_up (get_or values i (pos 0))) nodes values
@@ -236,7 +239,7 @@ branches_justified g low limit held greedy (n ∷ nodes) (z ∷ values) (u ∷ u
         record {
           at_most = worth.at_most;
           below_held = omega (arith, ints);
-          below_greedy = λ chosen is lawful. let least : limit ≤ cost_of g chosen = greedy chosen is lawful in omega (arith, ints)
+          below_greedy = λ chosen is lawful. let least : limit ≤ cost_of g chosen = greedy chosen is lawful in omega (arith, ints);
         }
 
 -- ---- vehicles keep a usable row
@@ -244,35 +247,38 @@ branches_justified g low limit held greedy (n ∷ nodes) (z ∷ values) (u ∷ u
 only_usable : (g : Graph) (u : Usable) (v k : ℕ) → CanBranch g u v k → HasUsable g u → HasUsable g (only_row g u v k)
 only_usable g u v k can has w i row =
     ⊎_elim
-      (λ (here : w ≡ v).
-        ( k
-        , record {
-            row = subst (λ (q : ℕ). IsRowOf g q k) (sym here) can.row.row;
-            usable_row = and_from (u k) (not (vehicle_at g k == v) || k == k) can.row.usable_row (or_right (not (vehicle_at g k == v)) (k == k) (eq-eqb k k refl))
-          } ))
-      (λ (other : w ≡ v → ⊥).
-        let j = has w i row in
-        let own = (j.1).row in
-        let apart : not (vehicle_at g (j.0) == v) ≡ true = ap not (ne_eqb (vehicle_at g (j.0)) v (λ (e : vehicle_at g (j.0) ≡ v). other (sym own.own ∙ e))) in
-        ( j.0
-        , record { row = own; usable_row = and_from (u (j.0)) (not (vehicle_at g (j.0) == v) || (j.0) == k) (j.1).usable_row (or_left (not (vehicle_at g (j.0) == v)) ((j.0) == k) apart) } ))
-      (cases_eq w v)
+    (λ (here : w ≡ v). (
+      k,
+      record {
+        row = subst (λ (q : ℕ). IsRowOf g q k) (sym here) can.row.row;
+        usable_row = and_from (u k) (not (vehicle_at g k == v) || k == k) can.row.usable_row (or_right (not (vehicle_at g k == v)) (k == k) (eq-eqb k k refl));
+      },
+    ))
+    (λ (other : w ≡ v → ⊥).
+    let j = has w i row in
+    let own = (j.1).row in
+    let apart : not (vehicle_at g (j.0) == v) ≡ true = ap not (ne_eqb (vehicle_at g (j.0)) v (λ (e : vehicle_at g (j.0) ≡ v). other (sym own.own ∙ e))) in (
+      j.0,
+      record { row = own; usable_row = and_from (u (j.0)) (not (vehicle_at g (j.0) == v) || (j.0) == k) (j.1).usable_row (or_left (not (vehicle_at g (j.0) == v)) ((j.0) == k) apart) },
+    ))
+    (cases_eq w v)
 
 without_usable : (g : Graph) (u : Usable) (v k : ℕ) → CanBranch g u v k → HasUsable g u → HasUsable g (without_row u k)
 without_usable g u v k can has w i row =
     ⊎_elim
-      (λ (here : w ≡ v).
-        ( can.other
-        , record {
-            row = subst (λ (q : ℕ). IsRowOf g q can.other) (sym here) can.other_row.row;
-            usable_row = and_from (u can.other) (not (can.other == k)) can.other_row.usable_row (ap not (ne_eqb can.other k can.differs))
-          } ))
-      (λ (other : w ≡ v → ⊥).
-        let j = has w i row in
-        let own = (j.1).row in
-        let apart : not ((j.0) == k) ≡ true = ap not (ne_eqb (j.0) k (λ (e : j.0 ≡ k). other (sym own.own ∙ ap (vehicle_at g) e ∙ can.row.row.own))) in
-        (j.0, record { row = own; usable_row = and_from (u (j.0)) (not ((j.0) == k)) (j.1).usable_row apart }))
-      (cases_eq w v)
+    (λ (here : w ≡ v). (
+      can.other,
+      record {
+        row = subst (λ (q : ℕ). IsRowOf g q can.other) (sym here) can.other_row.row;
+        usable_row = and_from (u can.other) (not (can.other == k)) can.other_row.usable_row (ap not (ne_eqb can.other k can.differs));
+      },
+    ))
+    (λ (other : w ≡ v → ⊥).
+    let j = has w i row in
+    let own = (j.1).row in
+    let apart : not ((j.0) == k) ≡ true = ap not (ne_eqb (j.0) k (λ (e : j.0 ≡ k). other (sym own.own ∙ ap (vehicle_at g) e ∙ can.row.row.own))) in
+    (j.0, record { row = own; usable_row = and_from (u (j.0)) (not ((j.0) == k)) (j.1).usable_row apart }))
+    (cases_eq w v)
 
 -- each of these leaves each vehicle a row
 abbrev AllUsable : Graph → List Usable → Type 0

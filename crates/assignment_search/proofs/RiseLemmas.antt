@@ -30,7 +30,7 @@ term_rises g u w ms v fewer has = by_least (least_below (length g.rows) (is_usab
     by_least : (o : Option ℤ) → least_below (length g.rows) (is_usable_by g w v) (reduced_cost g ms) ≡ o → vehicle_term g u ms v ≤ℤ unwrap_or o (pos 0)
     by_least None e =
         let none : least_below (length g.rows) (is_usable_by g u v) (reduced_cost g ms) ≡ None =
-              least_below_none (length g.rows) (is_usable_by g u v) (reduced_cost g ms) (λ k l. none_at e k l (is_usable_by g u v k) refl) in
+        least_below_none (length g.rows) (is_usable_by g u v) (reduced_cost g ms) (λ k l. none_at e k l (is_usable_by g u v k) refl) in
         let term : vehicle_term g u ms v ≡ pos 0 = ap (λ (o : Option ℤ). unwrap_or o (pos 0)) none in
         omega (arith, ints)
     by_least (Some z) e =
@@ -47,7 +47,7 @@ pub value_rises : (g : Graph) (u w : Usable) (ms : List ℤ) → ((k : ℕ) → 
 unfolding leaf_value
 value_rises g u w ms fewer has =
     let vehicles : int_sum_below g.vehicles (vehicle_term g u ms) ≤ℤ int_sum_below g.vehicles (vehicle_term g w ms) =
-          int_sum_le g.vehicles (vehicle_term g u ms) (vehicle_term g w ms) (λ v l. term_rises g u w ms v fewer (has v)) in
+    int_sum_le g.vehicles (vehicle_term g u ms) (vehicle_term g w ms) (λ v l. term_rises g u w ms v fewer (has v)) in
     omega (arith, ints)
 
 pub only_fewer : (g : Graph) (u : Usable) (v k j : ℕ) → only_row g u v k j ≡ true → u j ≡ true

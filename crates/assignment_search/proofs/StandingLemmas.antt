@@ -15,16 +15,16 @@ use Rattle.plan_rules.proofs.PathLemmas.{standing_start, standing_push}
 pub coming_entered : (g : Graph) (old new : List Decision) (v k : ℕ) → new ≡ old ++ record { vehicle = v; row = k; alone = true } ∷ [] → (standing_of g new).usable ∷ (standing_of g new).coming ≡ coming_after g (standing_of g old).usable (Branch v k) (standing_of g old).coming
 coming_entered g old new v k e =
     ap (λ (p : List Decision). (standing_of g p).usable ∷ (standing_of g p).coming) e
-      ∙ ap (λ (s : Standing). s.usable ∷ s.coming) (standing_push g old (record { vehicle = v; row = k; alone = true }))
+    ∙ ap (λ (s : Standing). s.usable ∷ s.coming) (standing_push g old (record { vehicle = v; row = k; alone = true }))
 
 pub path_push : (g : Graph) (path : List Decision) (e : Decision) → IsPathOf g path → (e.vehicle < g.vehicles) × IsRowOf g e.vehicle e.row → IsPathOf g (path ++ e ∷ [])
 path_push g path e before here k d l =
     ⊎_elim
-      (λ (last : k ≡ length path). subst (λ (q : Decision). (q.vehicle < g.vehicles) × IsRowOf g q.vehicle q.row) (sym (get_or_push path e d k (sym last))) here)
-      (λ (other : k ≡ length path → ⊥).
-        let low : k < length path = omega (arith, l, length_push path e) in
-        subst (λ (q : Decision). (q.vehicle < g.vehicles) × IsRowOf g q.vehicle q.row) (sym (get_or_append_left path (e ∷ []) d k low)) (before k d low))
-      (cases_eq k (length path))
+    (λ (last : k ≡ length path). subst (λ (q : Decision). (q.vehicle < g.vehicles) × IsRowOf g q.vehicle q.row) (sym (get_or_push path e d k (sym last))) here)
+    (λ (other : k ≡ length path → ⊥).
+    let low : k < length path = omega (arith, l, length_push path e) in
+    subst (λ (q : Decision). (q.vehicle < g.vehicles) × IsRowOf g q.vehicle q.row) (sym (get_or_append_left path (e ∷ []) d k low)) (before k d low))
+    (cases_eq k (length path))
 
 pub path_none : (g : Graph) (path : List Decision) → path ≡ [] → IsPathOf g path
 path_none g path e = subst (IsPathOf g) (sym e) (λ k d l. absurd (omega (arith, l)))

@@ -26,21 +26,21 @@ tried_one_way g j k p q = one_way (length (riders_at g j)) (length (riders_at g 
 tried_ranks : (g : Graph) (j k : ℕ) → IsGoodGraph g → j < length g.rows → k < length g.rows → IsTriedBefore g j k → rank_of g j < rank_of g k
 tried_ranks g j k good lj lk tried =
     ⊎_elim
-      (λ (low : rank_of g j < rank_of g k). low)
-      (λ (high : rank_of g k ≤ rank_of g j).
-        ⊎_elim
-          (λ (same : j ≡ k). absurd (tried_one_way g k k (subst (λ (i : ℕ). IsTriedBefore g i k) same tried) (subst (λ (i : ℕ). IsTriedBefore g i k) same tried)))
-          (λ (other : j ≡ k → ⊥). absurd (tried_one_way g j k tried (rank_before g k j good lk lj (λ (e : k ≡ j). other (sym e)) high)))
-          (cases_eq j k))
-      (cases_lt (rank_of g j) (rank_of g k))
+    (λ (low : rank_of g j < rank_of g k). low)
+    (λ (high : rank_of g k ≤ rank_of g j).
+    ⊎_elim
+    (λ (same : j ≡ k). absurd (tried_one_way g k k (subst (λ (i : ℕ). IsTriedBefore g i k) same tried) (subst (λ (i : ℕ). IsTriedBefore g i k) same tried)))
+    (λ (other : j ≡ k → ⊥). absurd (tried_one_way g j k tried (rank_before g k j good lk lj (λ (e : k ≡ j). other (sym e)) high)))
+    (cases_eq j k))
+    (cases_lt (rank_of g j) (rank_of g k))
 
 -- what one greedy plan takes, so does another
 taken_same : (n : ℕ) (g : Graph) (a b : List (Option ℕ)) → IsGoodGraph g → IsGreedy g a → IsGreedy g b → (k : ℕ) → rank_of g k < n → k < length g.rows → IsTaken g a k → IsTaken g b k
 taken_same zero g a b good first second k low l taken = absurd (omega (arith, low))
 taken_same (suc n) g a b good first second k low l taken =
     second.taken k l (λ j lj tried other.
-      let lower : rank_of g j < rank_of g k = tried_ranks g j k good lj l tried in
-      first.apart j k lj l tried (taken_same n g b a good second first j (omega (arith, lower, low)) lj other) taken)
+    let lower : rank_of g j < rank_of g k = tried_ranks g j k good lj l tried in
+    first.apart j k lj l tried (taken_same n g b a good second first j (omega (arith, lower, low)) lj other) taken)
 
 pub greedy_unique : (g : Graph) (a b : List (Option ℕ)) → IsGoodGraph g → IsGreedy g a → IsGreedy g b → a ≡ b
 greedy_unique g a b good first second =

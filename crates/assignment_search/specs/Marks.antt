@@ -18,4 +18,3 @@ pub record MarksSole (g : Graph) (usable : Usable) (n : ℕ) (marks : List Bool)
 abbrev pub IsOnlyOf : Graph → Usable → ℕ → ℕ → Option ℕ → Type 0
 IsOnlyOf g usable v n sole =
     MatchOption sole ((j : ℕ) → j < n → MayUse g usable v j → ⊥) (λ k. (k < n) × MayUse g usable v k × ((j : ℕ) → j < n → MayUse g usable v j → j ≡ k))
-

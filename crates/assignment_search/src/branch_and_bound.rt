@@ -13,8 +13,8 @@ use crate::found::Found;
 use crate::growth::grow;
 use crate::lowest_leaf::{bound_at, lowest};
 use crate::root::root_leaf;
-use crate::step::{next, Outcome};
-use plan_rules::{cost_of, Node, Plan, Tree, TripGraph};
+use crate::step::{Outcome, next};
+use plan_rules::{Node, Plan, Tree, TripGraph, cost_of};
 use pool_base::OutOfMemory;
 use std::alloc::Global;
 

@@ -27,7 +27,12 @@ pub struct Judged {
 
 /// The end at these allowed rows. A leaf has the best of the first-fit multipliers, its parent's, and
 /// what an ascent finds.
-pub fn new_end(alloc: Global, graph: &TripGraph, allowed: &[bool], parent: &[i64]) -> Result<End, OutOfMemory>
+pub fn new_end(
+    alloc: Global,
+    graph: &TripGraph,
+    allowed: &[bool],
+    parent: &[i64],
+) -> Result<End, OutOfMemory>
     requires allowed { length allowed.now ≡ length graph.now.rows }
     requires parent { length parent.now ≡ graph.now.riders }
     ensures { IfOk result (λ end. IsNewEnd graph.now (usable_of allowed.now) parent.now end.node end.value) }
@@ -49,7 +54,12 @@ pub fn new_end(alloc: Global, graph: &TripGraph, allowed: &[bool], parent: &[i64
 }
 
 /// The better of the first-fit multipliers and the parent's.
-fn best_of(alloc: Global, graph: &TripGraph, allowed: &[bool], parent: &[i64]) -> Result<Judged, OutOfMemory>
+fn best_of(
+    alloc: Global,
+    graph: &TripGraph,
+    allowed: &[bool],
+    parent: &[i64],
+) -> Result<Judged, OutOfMemory>
     requires allowed { length allowed.now ≡ length graph.now.rows }
     requires parent { length parent.now ≡ graph.now.riders }
     ensures sized { IfOk result (λ best. length best.multipliers ≡ graph.now.riders) }

@@ -5,7 +5,7 @@ ghost use Rattle.plan_rules.specs.Graph.{IsRowOf, choice_at, ChoosesRows, has_ri
 ghost use Rattle.plan_rules.specs.Plan.{IsLawful, cost_of};
 ghost use Rattle.assignment_search.specs.Change.{HasNoBetterChange, BettersNothing, IsShared};
 
-use plan_rules::{cost_of, is_lawful, Plan, TripGraph};
+use plan_rules::{Plan, TripGraph, cost_of, is_lawful};
 use pool_base::OutOfMemory;
 use std::alloc::Global;
 
@@ -41,7 +41,13 @@ fn better_change(alloc: Global, graph: &TripGraph, plan: &Plan) -> Result<Option
 }
 
 /// A lawful plan that gives this vehicle another row and costs less than this.
-fn change_of(alloc: Global, graph: &TripGraph, chosen: &[Option<u32>], cost: u64, vehicle: usize) -> Result<Option<Plan>, OutOfMemory>
+fn change_of(
+    alloc: Global,
+    graph: &TripGraph,
+    chosen: &[Option<u32>],
+    cost: u64,
+    vehicle: usize,
+) -> Result<Option<Plan>, OutOfMemory>
     requires lawful { IsLawful graph.now chosen.now }
     requires cost { cost ≡ cost_of graph.now chosen.now }
     requires vehicle { vehicle < graph.now.vehicles }
@@ -59,7 +65,14 @@ fn change_of(alloc: Global, graph: &TripGraph, chosen: &[Option<u32>], cost: u64
 }
 
 /// The plan that gives the vehicle this row, where it is lawful and costs less than this.
-fn change_to(alloc: Global, graph: &TripGraph, chosen: &[Option<u32>], cost: u64, vehicle: usize, row: usize) -> Result<Option<Plan>, OutOfMemory>
+fn change_to(
+    alloc: Global,
+    graph: &TripGraph,
+    chosen: &[Option<u32>],
+    cost: u64,
+    vehicle: usize,
+    row: usize,
+) -> Result<Option<Plan>, OutOfMemory>
     requires lawful { IsLawful graph.now chosen.now }
     requires cost { cost ≡ cost_of graph.now chosen.now }
     requires vehicle { vehicle < graph.now.vehicles }
@@ -83,7 +96,12 @@ fn change_to(alloc: Global, graph: &TripGraph, chosen: &[Option<u32>], cost: u64
 }
 
 /// The choices with this row for the vehicle.
-fn with_row(alloc: Global, chosen: &[Option<u32>], vehicle: usize, row: usize) -> Result<Plan, OutOfMemory>
+fn with_row(
+    alloc: Global,
+    chosen: &[Option<u32>],
+    vehicle: usize,
+    row: usize,
+) -> Result<Plan, OutOfMemory>
     requires vehicle { vehicle < length chosen.now }
     requires row { row < 2 ^ 32 }
     ensures { IfOk result (λ plan. plan ≡ slice_set chosen.now vehicle (Some row)) }

@@ -5,7 +5,7 @@ ghost use Rattle.plan_rules.specs.Greedy.{IsGreedy};
 ghost use Rattle.assignment_search.specs.Change.{HasNoBetterChange};
 
 use crate::exchange::exchange;
-use plan_rules::{cost_of, greedy, held_plan, is_lawful, Plan, TripGraph};
+use plan_rules::{Plan, TripGraph, cost_of, greedy, held_plan, is_lawful};
 use pool_base::OutOfMemory;
 use std::alloc::Global;
 

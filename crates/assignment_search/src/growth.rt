@@ -9,7 +9,12 @@ use plan_rules::Node;
 use pool_base::OutOfMemory;
 
 /// Puts the branch in the leaf's place, and its ends after it.
-pub fn grow(nodes: &mut Vec<Node>, values: &mut Vec<i128>, place: usize, ends: Ends) -> Result<(), OutOfMemory>
+pub fn grow(
+    nodes: &mut Vec<Node>,
+    values: &mut Vec<i128>,
+    place: usize,
+    ends: Ends,
+) -> Result<(), OutOfMemory>
     requires place { place < length nodes.old.items }
     requires values { length values.old.items ≡ length nodes.old.items }
     requires first { IsSmallSum 1500 ends.first.value }
@@ -23,8 +28,14 @@ pub fn grow(nodes: &mut Vec<Node>, values: &mut Vec<i128>, place: usize, ends: E
         first,
         second,
     } = ends;
-    let End { node: left, value: left_value } = first;
-    let End { node: right, value: right_value } = second;
+    let End {
+        node: left,
+        value: left_value,
+    } = first;
+    let End {
+        node: right,
+        value: right_value,
+    } = second;
     nodes.remove(place);
     nodes.insert(place, Node::Branch { vehicle, row })?;
     nodes.insert(place + 1, left)?;

@@ -21,5 +21,5 @@ mod step;
 #[cfg(test)]
 mod tests;
 
-pub use found::Found;
 pub use branch_and_bound::search;
+pub use found::Found;

@@ -7,7 +7,7 @@ ghost use Rattle.plan_rules.specs.Path.{standing_of, IsPathOf};
 ghost use Rattle.assignment_search.specs.Growth.{IsNewEnd};
 ghost use Rattle.assignment_search.specs.Next.{IsParting};
 
-use crate::child::{new_end, End};
+use crate::child::{End, new_end};
 use plan_rules::{Path, TripGraph};
 use pool_base::OutOfMemory;
 use std::alloc::Global;
@@ -22,7 +22,14 @@ pub struct Ends {
 }
 
 /// Parts the rows at the end of this path.
-pub fn part(alloc: Global, graph: &TripGraph, path: Path, parent: &[i64], vehicle: usize, row: usize) -> Result<Ends, OutOfMemory>
+pub fn part(
+    alloc: Global,
+    graph: &TripGraph,
+    path: Path,
+    parent: &[i64],
+    vehicle: usize,
+    row: usize,
+) -> Result<Ends, OutOfMemory>
     requires path { IsPathOf graph.now path }
     requires can { CanBranch graph.now (standing_of graph.now path).usable vehicle row }
     requires vehicle { vehicle < graph.now.vehicles }

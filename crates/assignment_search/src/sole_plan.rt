@@ -9,7 +9,11 @@ use pool_base::OutOfMemory;
 use std::alloc::Global;
 
 /// For each vehicle a row that it may use, if it has one.
-pub fn sole_rows(alloc: Global, graph: &TripGraph, allowed: &[bool]) -> Result<Vec<Option<u32>>, OutOfMemory>
+pub fn sole_rows(
+    alloc: Global,
+    graph: &TripGraph,
+    allowed: &[bool],
+) -> Result<Vec<Option<u32>>, OutOfMemory>
     requires { length allowed.now ≡ length graph.now.rows }
     ensures len { IfOk result (λ chosen. length chosen.items ≡ graph.now.vehicles) }
     ensures rows { IfOk result (λ chosen. IsSolePlan graph.now (usable_of allowed.now) chosen.items) }

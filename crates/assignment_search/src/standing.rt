@@ -10,7 +10,12 @@ use pool_base::OutOfMemory;
 use std::alloc::Global;
 
 /// The decisions from the root to this node.
-pub fn path_to(alloc: Global, graph: &TripGraph, nodes: &[Node], place: usize) -> Result<Path, OutOfMemory>
+pub fn path_to(
+    alloc: Global,
+    graph: &TripGraph,
+    nodes: &[Node],
+    place: usize,
+) -> Result<Path, OutOfMemory>
     requires sound { IsSoundTree graph.now nodes.now }
     requires place { place < length nodes.now }
     ensures path { IfOk result (IsPathOf graph.now) }

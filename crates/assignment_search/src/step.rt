@@ -7,7 +7,7 @@ ghost use Rattle.assignment_search.specs.Next.{IsNext};
 
 use crate::branching::branch_row;
 use crate::lowest_leaf::is_met;
-use crate::parting::{allowed_at, part, Ends};
+use crate::parting::{Ends, allowed_at, part};
 use crate::sole_plan::sole_rows;
 use crate::standing::path_to;
 use plan_rules::{Node, Plan, TripGraph};
@@ -28,7 +28,15 @@ pub enum Outcome {
 }
 
 /// What comes next at the leaf of least value.
-pub fn next(alloc: Global, graph: &TripGraph, nodes: &[Node], values: &[i128], place: usize, limit: u64, budget: usize) -> Result<Outcome, OutOfMemory>
+pub fn next(
+    alloc: Global,
+    graph: &TripGraph,
+    nodes: &[Node],
+    values: &[i128],
+    place: usize,
+    limit: u64,
+    budget: usize,
+) -> Result<Outcome, OutOfMemory>
     requires lowest { IsLowest nodes.now values.now place }
     requires grown { IsGrown graph.now (rounded_up (slice_index_or values.now place (pos 0))) limit (every_row ∷ []) nodes.now values.now [] }
     ensures { IfOk result (IsNext graph.now nodes.now values.now place limit budget) }
@@ -47,7 +55,14 @@ pub fn next(alloc: Global, graph: &TripGraph, nodes: &[Node], values: &[i128], p
             if is_full(nodes, budget) {
                 return Ok(Outcome::Full);
             }
-            let ends = part(alloc, graph, path, multipliers_of(&nodes[place]), vehicle, row)?;
+            let ends = part(
+                alloc,
+                graph,
+                path,
+                multipliers_of(&nodes[place]),
+                vehicle,
+                row,
+            )?;
             Ok(Outcome::Parted(ends))
         }
     }

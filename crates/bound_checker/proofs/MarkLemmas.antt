@@ -20,16 +20,16 @@ pub record AddsRow (g : Graph) (k : ℕ) (old new : List Bool) : Type 0 where
 pub marks_from : (g : Graph) (k : ℕ) (old new : List Bool) (r : ℕ) → AddsRow g k old new → get_or new r false ≡ true → (get_or old r false ≡ true) ⊎ (has_rider g k r ≡ true)
 marks_from g k old new r adds e =
     ⊎_elim
-      (λ (low : r < length old). or_cases (get_or old r false) (has_rider g k r) (sym (adds.marked r low) ∙ e))
-      (λ (high : length old ≤ r). absurd (both_ways false refl (sym (get_or_past new r false (omega (arith, adds.sized, high))) ∙ e)))
-      (cases_lt r (length old))
+    (λ (low : r < length old). or_cases (get_or old r false) (has_rider g k r) (sym (adds.marked r low) ∙ e))
+    (λ (high : length old ≤ r). absurd (both_ways false refl (sym (get_or_past new r false (omega (arith, adds.sized, high))) ∙ e)))
+    (cases_lt r (length old))
 
 pub marks_old : (g : Graph) (k : ℕ) (old new : List Bool) (r : ℕ) → AddsRow g k old new → get_or old r false ≡ true → get_or new r false ≡ true
 marks_old g k old new r adds e =
     ⊎_elim
-      (λ (low : r < length old). adds.marked r low ∙ or_left (get_or old r false) (has_rider g k r) e)
-      (λ (high : length old ≤ r). absurd (both_ways false refl (sym (get_or_past old r false high) ∙ e)))
-      (cases_lt r (length old))
+    (λ (low : r < length old). adds.marked r low ∙ or_left (get_or old r false) (has_rider g k r) e)
+    (λ (high : length old ≤ r). absurd (both_ways false refl (sym (get_or_past old r false high) ∙ e)))
+    (cases_lt r (length old))
 
 pub marks_new : (g : Graph) (k : ℕ) (old new : List Bool) (r : ℕ) → AddsRow g k old new → length old ≡ g.riders → IsRow g.vehicles g.riders (row_at g k) → has_rider g k r ≡ true → get_or new r false ≡ true
 marks_new g k old new r adds sized row e =
@@ -40,33 +40,33 @@ marks_new g k old new r adds sized row e =
 
 pub usable_none : (g : Graph) (usable : Usable) (marks : List Bool) → ((r : ℕ) → get_or marks r false ≡ false) → MarksUsable g usable 0 marks
 usable_none g usable marks clear = record {
-    from_row = λ r e. absurd (both_ways _ (clear r) e);
-    of_row = λ k r l may e. absurd (omega (arith, l))
-  }
+  from_row = λ r e. absurd (both_ways _ (clear r) e);
+  of_row = λ k r l may e. absurd (omega (arith, l));
+}
 
 pub usable_more : (g : Graph) (usable : Usable) (n : ℕ) (old new : List Bool) → AddsRow g n old new → length old ≡ g.riders → IsRow g.vehicles g.riders (row_at g n) → usable n ≡ true → MarksUsable g usable n old → MarksUsable g usable (n + 1) new
 usable_more g usable n old new adds sized row may before = record {
-    from_row = λ r e.
+  from_row = λ r e.
       ⊎_elim
-        (λ (was : get_or old r false ≡ true). let w = before.from_row r was in (w.0, omega (arith, w.1), w.2, w.3))
-        (λ (new_one : has_rider g n r ≡ true). (n, omega arith, may, new_one))
-        (marks_from g n old new r adds e);
-    of_row = λ k r l use_it e.
+      (λ (was : get_or old r false ≡ true). let w = before.from_row r was in (w.0, omega (arith, w.1), w.2, w.3))
+      (λ (new_one : has_rider g n r ≡ true). (n, omega arith, may, new_one))
+      (marks_from g n old new r adds e);
+  of_row = λ k r l use_it e.
       ⊎_elim
-        (λ (here : k ≡ n). marks_new g n old new r adds sized row (subst (λ (j : ℕ). has_rider g j r ≡ true) here e))
-        (λ (other : k ≡ n → ⊥). marks_old g n old new r adds (before.of_row k r (omega (arith, l)) use_it e))
-        (cases_eq k n)
-  }
+      (λ (here : k ≡ n). marks_new g n old new r adds sized row (subst (λ (j : ℕ). has_rider g j r ≡ true) here e))
+      (λ (other : k ≡ n → ⊥). marks_old g n old new r adds (before.of_row k r (omega (arith, l)) use_it e))
+      (cases_eq k n);
+}
 
 pub usable_kept : (g : Graph) (usable : Usable) (n : ℕ) (marks : List Bool) → usable n ≡ false → MarksUsable g usable n marks → MarksUsable g usable (n + 1) marks
 usable_kept g usable n marks out before = record {
-    from_row = λ r e. let w = before.from_row r e in (w.0, omega (arith, w.1), w.2, w.3);
-    of_row = λ k r l use_it e.
+  from_row = λ r e. let w = before.from_row r e in (w.0, omega (arith, w.1), w.2, w.3);
+  of_row = λ k r l use_it e.
       ⊎_elim
-        (λ (here : k ≡ n). absurd (both_ways _ out (subst (λ (j : ℕ). usable j ≡ true) here use_it)))
-        (λ (other : k ≡ n → ⊥). before.of_row k r (omega (arith, l)) use_it e)
-        (cases_eq k n)
-  }
+      (λ (here : k ≡ n). absurd (both_ways _ out (subst (λ (j : ℕ). usable j ≡ true) here use_it)))
+      (λ (other : k ≡ n → ⊥). before.of_row k r (omega (arith, l)) use_it e)
+      (cases_eq k n);
+}
 
 -- a rider who must be served is one of the graph's
 pub must_below : (g : Graph) (r : ℕ) → IsGoodGraph g → must_be_served g r ≡ true → r < g.riders
@@ -86,56 +86,56 @@ not_stranded g usable marks good marked all s =
 
 pub sole_none : (g : Graph) (usable : Usable) (marks : List Bool) → ((r : ℕ) → get_or marks r false ≡ false) → MarksSole g usable 0 marks
 sole_none g usable marks clear = record {
-    from_sole = λ r e. absurd (both_ways _ (clear r) e);
-    of_sole = λ v k r l sole e. absurd (omega (arith, l));
-    apart = λ v w j k r l m differ a b d e. absurd (omega (arith, l))
-  }
+  from_sole = λ r e. absurd (both_ways _ (clear r) e);
+  of_sole = λ v k r l sole e. absurd (omega (arith, l));
+  apart = λ v w j k r l m differ a b d e. absurd (omega (arith, l));
+}
 
 pub sole_kept : (g : Graph) (usable : Usable) (n : ℕ) (marks : List Bool) → ((k : ℕ) → IsSoleRow g usable n k → ⊥) → MarksSole g usable n marks → MarksSole g usable (n + 1) marks
 sole_kept g usable n marks none before = record {
-    from_sole = λ r e. let w = before.from_sole r e in (w.0, w.1, omega (arith, w.2), w.3, w.4);
-    of_sole = λ v k r l sole e.
+  from_sole = λ r e. let w = before.from_sole r e in (w.0, w.1, omega (arith, w.2), w.3, w.4);
+  of_sole = λ v k r l sole e.
       ⊎_elim
-        (λ (here : v ≡ n). absurd (none k (subst (λ (q : ℕ). IsSoleRow g usable q k) here sole)))
-        (λ (other : v ≡ n → ⊥). before.of_sole v k r (omega (arith, l)) sole e)
-        (cases_eq v n);
-    apart = λ v w j k r l m differ a b d e.
+      (λ (here : v ≡ n). absurd (none k (subst (λ (q : ℕ). IsSoleRow g usable q k) here sole)))
+      (λ (other : v ≡ n → ⊥). before.of_sole v k r (omega (arith, l)) sole e)
+      (cases_eq v n);
+  apart = λ v w j k r l m differ a b d e.
       ⊎_elim
-        (λ (here : v ≡ n). absurd (none j (subst (λ (q : ℕ). IsSoleRow g usable q j) here a)))
-        (λ (other : v ≡ n → ⊥).
-          ⊎_elim
-            (λ (there : w ≡ n). absurd (none k (subst (λ (q : ℕ). IsSoleRow g usable q k) there b)))
-            (λ (apart : w ≡ n → ⊥). before.apart v w j k r (omega (arith, l)) (omega (arith, m)) differ a b d e)
-            (cases_eq w n))
-        (cases_eq v n)
-  }
+      (λ (here : v ≡ n). absurd (none j (subst (λ (q : ℕ). IsSoleRow g usable q j) here a)))
+      (λ (other : v ≡ n → ⊥).
+      ⊎_elim
+      (λ (there : w ≡ n). absurd (none k (subst (λ (q : ℕ). IsSoleRow g usable q k) there b)))
+      (λ (apart : w ≡ n → ⊥). before.apart v w j k r (omega (arith, l)) (omega (arith, m)) differ a b d e)
+      (cases_eq w n))
+      (cases_eq v n);
+}
 
 pub sole_more : (g : Graph) (usable : Usable) (n k : ℕ) (old new : List Bool) → AddsRow g k old new → length old ≡ g.riders → IsRow g.vehicles g.riders (row_at g k) → IsSoleRow g usable n k → (list_any (λ q. get_or old q false) (riders_at g k) ≡ false) → MarksSole g usable n old → MarksSole g usable (n + 1) new
 sole_more g usable n k old new adds sized row here unmarked before = record {
-    from_sole = λ r e.
+  from_sole = λ r e.
       ⊎_elim
-        (λ (was : get_or old r false ≡ true). let w = before.from_sole r was in (w.0, w.1, omega (arith, w.2), w.3, w.4))
-        (λ (new_one : has_rider g k r ≡ true). (n, k, omega arith, here, new_one))
-        (marks_from g k old new r adds e);
-    of_sole = λ v j r l sole e.
+      (λ (was : get_or old r false ≡ true). let w = before.from_sole r was in (w.0, w.1, omega (arith, w.2), w.3, w.4))
+      (λ (new_one : has_rider g k r ≡ true). (n, k, omega arith, here, new_one))
+      (marks_from g k old new r adds e);
+  of_sole = λ v j r l sole e.
       ⊎_elim
-        (λ (last : v ≡ n). marks_new g k old new r adds sized row (subst (λ (q : ℕ). has_rider g q r ≡ true) (is_it v j last sole) e))
-        (λ (other : v ≡ n → ⊥). marks_old g k old new r adds (before.of_sole v j r (omega (arith, l)) sole e))
-        (cases_eq v n);
-    apart = λ v w i j r l m differ a b d e.
+      (λ (last : v ≡ n). marks_new g k old new r adds sized row (subst (λ (q : ℕ). has_rider g q r ≡ true) (is_it v j last sole) e))
+      (λ (other : v ≡ n → ⊥). marks_old g k old new r adds (before.of_sole v j r (omega (arith, l)) sole e))
+      (cases_eq v n);
+  apart = λ v w i j r l m differ a b d e.
       ⊎_elim
-        (λ (first : v ≡ n).
-          ⊎_elim
-            (λ (second : w ≡ n). absurd (differ (first ∙ sym second)))
-            (λ (other : w ≡ n → ⊥). clash w j r (omega (arith, m)) b e (subst (λ (q : ℕ). has_rider g q r ≡ true) (is_it v i first a) d))
-            (cases_eq w n))
-        (λ (other : v ≡ n → ⊥).
-          ⊎_elim
-            (λ (second : w ≡ n). clash v i r (omega (arith, l)) a d (subst (λ (q : ℕ). has_rider g q r ≡ true) (is_it w j second b) e))
-            (λ (apart : w ≡ n → ⊥). before.apart v w i j r (omega (arith, l)) (omega (arith, m)) differ a b d e)
-            (cases_eq w n))
-        (cases_eq v n)
-  }
+      (λ (first : v ≡ n).
+      ⊎_elim
+      (λ (second : w ≡ n). absurd (differ (first ∙ sym second)))
+      (λ (other : w ≡ n → ⊥). clash w j r (omega (arith, m)) b e (subst (λ (q : ℕ). has_rider g q r ≡ true) (is_it v i first a) d))
+      (cases_eq w n))
+      (λ (other : v ≡ n → ⊥).
+      ⊎_elim
+      (λ (second : w ≡ n). clash v i r (omega (arith, l)) a d (subst (λ (q : ℕ). has_rider g q r ≡ true) (is_it w j second b) e))
+      (λ (apart : w ≡ n → ⊥). before.apart v w i j r (omega (arith, l)) (omega (arith, m)) differ a b d e)
+      (cases_eq w n))
+      (cases_eq v n);
+}
   where
     is_it : (v j : ℕ) → v ≡ n → IsSoleRow g usable v j → j ≡ k
     is_it v j last sole = here.sole j (subst (λ (q : ℕ). IsSoleRow g usable q j) last sole).row
@@ -158,7 +158,7 @@ clash_from g usable n k marks here some before =
       first_sole = w.3;
       second_sole = here;
       in_first = w.4;
-      in_second = r.1
+      in_second = r.1;
     }
 
 pub no_clash : (g : Graph) (usable : Usable) (marks : List Bool) → IsGoodGraph g → MarksSole g usable g.vehicles marks → IsClash g usable → ⊥

@@ -26,16 +26,16 @@ coming_left g false old new h = sym h
 pub coming_entered : (g : Graph) (old new : List Decision) (v k : ℕ) → new ≡ old ++ record { vehicle = v; row = k; alone = true } ∷ [] → (standing_of g new).usable ∷ (standing_of g new).coming ≡ (decided g (standing_of g old) (record { vehicle = v; row = k; alone = true })).usable ∷ (decided g (standing_of g old) (record { vehicle = v; row = k; alone = true })).coming
 coming_entered g old new v k e =
     ap (λ (p : List Decision). (standing_of g p).usable ∷ (standing_of g p).coming) e
-      ∙ ap (λ (s : Standing). s.usable ∷ s.coming) (standing_push g old (record { vehicle = v; row = k; alone = true }))
+    ∙ ap (λ (s : Standing). s.usable ∷ s.coming) (standing_push g old (record { vehicle = v; row = k; alone = true }))
 
 pub path_push : (g : Graph) (path : List Decision) (e : Decision) → IsPathOf g path → (e.vehicle < g.vehicles) × IsRowOf g e.vehicle e.row → IsPathOf g (path ++ e ∷ [])
 path_push g path e before here k d l =
     ⊎_elim
-      (λ (last : k ≡ length path). subst (λ (q : Decision). (q.vehicle < g.vehicles) × IsRowOf g q.vehicle q.row) (sym (get_or_push path e d k (sym last))) here)
-      (λ (other : k ≡ length path → ⊥).
-        let low : k < length path = omega (arith, l, length_push path e) in
-        subst (λ (q : Decision). (q.vehicle < g.vehicles) × IsRowOf g q.vehicle q.row) (sym (get_or_append_left path (e ∷ []) d k low)) (before k d low))
-      (cases_eq k (length path))
+    (λ (last : k ≡ length path). subst (λ (q : Decision). (q.vehicle < g.vehicles) × IsRowOf g q.vehicle q.row) (sym (get_or_push path e d k (sym last))) here)
+    (λ (other : k ≡ length path → ⊥).
+    let low : k < length path = omega (arith, l, length_push path e) in
+    subst (λ (q : Decision). (q.vehicle < g.vehicles) × IsRowOf g q.vehicle q.row) (sym (get_or_append_left path (e ∷ []) d k low)) (before k d low))
+    (cases_eq k (length path))
 
 pub path_none : (g : Graph) (path : List Decision) → path ≡ [] → IsPathOf g path
 path_none g path e = subst (IsPathOf g) (sym e) (λ k d l. absurd (omega (arith, l)))
@@ -53,7 +53,7 @@ fault_here g nodes i usable later node (BadBranch j) reads within here h =
       vehicle = k.0;
       row = k.1;
       reached = subst (λ (q : ℕ). IsReached g nodes q (usable ∷ later) (Branch (k.0) (k.1))) (sym (h.0)) (record { before = reads; within = within; here = here ∙ ap Some (k.2) });
-      wrong = k.3
+      wrong = k.3;
     }
 fault_here g nodes i usable later node (BadLeaf j) reads within here h =
     let k = h.1 in
@@ -62,14 +62,14 @@ fault_here g nodes i usable later node (BadLeaf j) reads within here h =
       later = later;
       multipliers = k.0;
       reached = subst (λ (q : ℕ). IsReached g nodes q (usable ∷ later) (Leaf (k.0))) (sym (h.0)) (record { before = reads; within = within; here = here ∙ ap Some (k.1) });
-      wrong = k.2
+      wrong = k.2;
     }
 fault_here g nodes i usable later node (BadDead j) reads within here h = record {
-    usable = usable;
-    later = later;
-    reached = subst (λ (q : ℕ). IsReached g nodes q (usable ∷ later) Dead) (sym (h.0)) (record { before = reads; within = within; here = here ∙ ap Some (h.1) });
-    wrong = h.2
-  }
+  usable = usable;
+  later = later;
+  reached = subst (λ (q : ℕ). IsReached g nodes q (usable ∷ later) Dead) (sym (h.0)) (record { before = reads; within = within; here = here ∙ ap Some (h.1) });
+  wrong = h.2;
+}
 fault_here g nodes i usable later node Unfinished reads within here h = absurd h
 fault_here g nodes i usable later node (Extra j) reads within here h = absurd h
 fault_here g nodes i usable later node OutOfMemory reads within here h = tt
@@ -78,6 +78,6 @@ fault_here g nodes i usable later node OutOfMemory reads within here h = tt
 pub least_more : (g : Graph) (nodes : List Node) (i : ℕ) (node : Node) (usable : Usable) (later : List Usable) (old new : Option ℤ) → take (i + 1) nodes ≡ take i nodes ++ node ∷ [] → Reads g (every_row ∷ []) (take i nodes) (usable ∷ later) → old ≡ least_leaf g (places g (take i nodes)) → new ≡ with_leaf g usable node old → new ≡ least_leaf g (places g (take (i + 1) nodes))
 least_more g nodes i node usable later old new more reads before here =
     here ∙ ap (with_leaf g usable node) before
-      ∙ sym (ap (λ (xs : List Node). least_leaf g (places g xs)) more
-          ∙ ap (least_leaf g) (places_push g (take i nodes) node (every_row ∷ []) usable later reads)
-          ∙ least_leaf_push g (places g (take i nodes)) (record { node = node; usable = usable }))
+    ∙ sym (ap (λ (xs : List Node). least_leaf g (places g xs)) more
+    ∙ ap (least_leaf g) (places_push g (take i nodes) node (every_row ∷ []) usable later reads)
+    ∙ least_leaf_push g (places g (take i nodes)) (record { node = node; usable = usable }))

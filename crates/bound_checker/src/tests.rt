@@ -73,19 +73,34 @@ fn the_first_wrong_node_is_named(rt: HostRuntime) -> Result<(), Fail> {
     let alloc = rt.alloc();
     let graph = three_pairs(alloc)?;
     let none = Tree::of(Vec::new(alloc));
-    assert_eq!(rt; fault(check(alloc, &graph, &none)), Some(CheckFault::Unfinished));
+    assert_eq!(rt;
+        fault(check(alloc, &graph, &none)),
+        Some(CheckFault::Unfinished)
+    );
     let dead = Tree::of(vec![in alloc; Node::Dead]?);
-    assert_eq!(rt; fault(check(alloc, &graph, &dead)), Some(CheckFault::BadDead { node: 0 }));
+    assert_eq!(rt;
+        fault(check(alloc, &graph, &dead)),
+        Some(CheckFault::BadDead { node: 0 })
+    );
     let short = Node::Leaf {
         multipliers: Multipliers::of(vec![in alloc; 0, 0]?),
     };
     let short = Tree::of(vec![in alloc; short]?);
-    assert_eq!(rt; fault(check(alloc, &graph, &short)), Some(CheckFault::BadLeaf { node: 0 }));
+    assert_eq!(rt;
+        fault(check(alloc, &graph, &short)),
+        Some(CheckFault::BadLeaf { node: 0 })
+    );
     let branch = Node::Branch { vehicle: 0, row: 2 };
     let foreign = Tree::of(vec![in alloc; branch, leaf(alloc, 0)?, leaf(alloc, 0)?]?);
-    assert_eq!(rt; fault(check(alloc, &graph, &foreign)), Some(CheckFault::BadBranch { node: 0 }));
+    assert_eq!(rt;
+        fault(check(alloc, &graph, &foreign)),
+        Some(CheckFault::BadBranch { node: 0 })
+    );
     let two = Tree::of(vec![in alloc; leaf(alloc, 0)?, leaf(alloc, 0)?]?);
-    assert_eq!(rt; fault(check(alloc, &graph, &two)), Some(CheckFault::Extra { node: 1 }));
+    assert_eq!(rt;
+        fault(check(alloc, &graph, &two)),
+        Some(CheckFault::Extra { node: 1 })
+    );
     Ok(())
 }
 

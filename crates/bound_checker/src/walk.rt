@@ -39,7 +39,13 @@ impl Walk {
         }
     }
 
-    fn visit_branch(&mut self, graph: &TripGraph, vehicle: u32, row: u32, place: usize) -> Result<(), CheckFault>
+    fn visit_branch(
+        &mut self,
+        graph: &TripGraph,
+        vehicle: u32,
+        row: u32,
+        place: usize,
+    ) -> Result<(), CheckFault>
         requires ready { IsReady graph.now self.old }
         requires running { self.old.ended ≡ false }
         ensures ok { OnOk result (IsVisit graph.now (Branch vehicle row) self.old self.new) }
@@ -53,7 +59,12 @@ impl Walk {
         Ok(())
     }
 
-    fn visit_leaf(&mut self, graph: &TripGraph, multipliers: &[i64], place: usize) -> Result<(), CheckFault>
+    fn visit_leaf(
+        &mut self,
+        graph: &TripGraph,
+        multipliers: &[i64],
+        place: usize,
+    ) -> Result<(), CheckFault>
         requires ready { IsReady graph.now self.old }
         requires running { self.old.ended ≡ false }
         ensures ok { OnOk result (IsVisit graph.now (Leaf multipliers.now) self.old self.new) }

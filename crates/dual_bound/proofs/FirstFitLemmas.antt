@@ -14,7 +14,7 @@ use Rattle.dual_bound.specs.Size.{IsModest}
 pub least_take : (n : ℕ) (p : ℕ → Bool) (f : ℕ → ℤ) (o : Option ℤ) (z : ℤ) → p n ≡ true → o ≡ least_below n p f → z ≡ f n → Some (lesser o z) ≡ least_below (n + 1) p f
 least_take n p f o z passes e value =
     ap (λ (q : Option ℤ). Some (lesser q z)) e ∙ ap (λ (w : ℤ). Some (lesser (least_below n p f) w)) value
-      ∙ sym (least_below_more n p f ∙ cond-true (p n) (Some (lesser (least_below n p f) (f n))) (least_below n p f) passes)
+    ∙ sym (least_below_more n p f ∙ cond-true (p n) (Some (lesser (least_below n p f) (f n))) (least_below n p f) passes)
 
 pub least_pass : (n : ℕ) (p : ℕ → Bool) (f : ℕ → ℤ) (o : Option ℤ) → p n ≡ false → o ≡ least_below n p f → o ≡ least_below (n + 1) p f
 least_pass n p f o fails e =
@@ -24,16 +24,16 @@ least_pass n p f o fails e =
 pub push_all : (P : ℕ → ℤ → Type 0) (xs : List ℤ) (n : ℕ) (z : ℤ) → length xs ≡ n → ((v : ℕ) → v < n → P v (get_or xs v (pos 0))) → P n z → (v : ℕ) → v < n + 1 → P v (get_or (xs ++ z ∷ []) v (pos 0))
 push_all P xs n z long before here v l =
     ⊎_elim
-      (λ (last : v ≡ n).
-        subst (P v) (sym (get_or_push xs z (pos 0) v (long ∙ sym last))) (subst (λ (w : ℕ). P w z) (sym last) here))
-      (λ (other : v ≡ n → ⊥). subst (P v) (sym (get_or_append_left xs (z ∷ []) (pos 0) v (omega (arith, l, long)))) (before v (omega (arith, l))))
-      (cases_eq v n)
+    (λ (last : v ≡ n).
+    subst (P v) (sym (get_or_push xs z (pos 0) v (long ∙ sym last))) (subst (λ (w : ℕ). P w z) (sym last) here))
+    (λ (other : v ≡ n → ⊥). subst (P v) (sym (get_or_append_left xs (z ∷ []) (pos 0) v (omega (arith, l, long)))) (before v (omega (arith, l))))
+    (cases_eq v n)
 
 pub room_from : (g : Graph) (usable : Usable) (ms : List ℤ) (k : ℕ) (x : TripRow) (least value : ℤ) → x ≡ row_at g k → least ≡ least_cost g usable x.vehicle → value ≡ (pos 1024 *ℤ (pos x.cost -ℤ least) -ℤ multiplier_sum ms x.riders.items) → value ≡ room_at g usable ms k
 room_from g usable ms k x least value read cheapest is =
     is
-      ∙ ap (λ (l : ℤ). pos 1024 *ℤ (pos x.cost -ℤ l) -ℤ multiplier_sum ms x.riders.items) cheapest
-      ∙ ap (λ (r : TripRow). pos 1024 *ℤ (pos r.cost -ℤ least_cost g usable r.vehicle) -ℤ multiplier_sum ms r.riders.items) read
+    ∙ ap (λ (l : ℤ). pos 1024 *ℤ (pos x.cost -ℤ l) -ℤ multiplier_sum ms x.riders.items) cheapest
+    ∙ ap (λ (r : TripRow). pos 1024 *ℤ (pos r.cost -ℤ least_cost g usable r.vehicle) -ℤ multiplier_sum ms r.riders.items) read
 
 -- ---- the multipliers so far
 
@@ -75,19 +75,19 @@ first_fit_more g usable n ms m l same value r =
     let found : m ≡ next = value ∙ first_fit_of_same g usable ms before n same in
     let suc_is = sym (ap (λ (xs : List ℤ). multiplier_at xs r) (first_fit_suc g usable n)) in
     ⊎_elim
-      (λ (here : r ≡ n).
-        ap (λ (q : ℕ). get_or (set ms n m) q (pos 0)) here ∙ get_or-set_same ms n m (pos 0) l ∙ found
-          ∙ sym (get_or_push before next (pos 0) r (long ∙ sym here)) ∙ suc_is)
-      (λ (other : r ≡ n → ⊥).
-        get_or-set_other ms n r m (pos 0) other ∙ same r
-          ∙ ⊎_elim
-              (λ (low : r < n). sym (get_or_append_left before (next ∷ []) (pos 0) r (omega (arith, low, long))))
-              (λ (high : n ≤ r).
-                get_or_past before r (pos 0) (omega (arith, high, long))
-                  ∙ sym (get_or_past (before ++ next ∷ []) r (pos 0) (omega (arith, high, other, long, length_push before next))))
-              (cases_lt r n)
-          ∙ suc_is)
-      (cases_eq r n)
+    (λ (here : r ≡ n).
+    ap (λ (q : ℕ). get_or (set ms n m) q (pos 0)) here ∙ get_or-set_same ms n m (pos 0) l ∙ found
+    ∙ sym (get_or_push before next (pos 0) r (long ∙ sym here)) ∙ suc_is)
+    (λ (other : r ≡ n → ⊥).
+    get_or-set_other ms n r m (pos 0) other ∙ same r
+    ∙ ⊎_elim
+    (λ (low : r < n). sym (get_or_append_left before (next ∷ []) (pos 0) r (omega (arith, low, long))))
+    (λ (high : n ≤ r).
+    get_or_past before r (pos 0) (omega (arith, high, long))
+    ∙ sym (get_or_past (before ++ next ∷ []) r (pos 0) (omega (arith, high, other, long, length_push before next))))
+    (cases_lt r n)
+    ∙ suc_is)
+    (cases_eq r n)
 
 pub first_fit_done : (g : Graph) (usable : Usable) (n : ℕ) (ms : List ℤ) → length ms ≡ n → ((r : ℕ) → multiplier_at ms r ≡ multiplier_at (first_fit_below g usable n) r) → ms ≡ first_fit_below g usable n
 first_fit_done g usable n ms long same =
@@ -99,6 +99,6 @@ modest_zero z e = record { low = omega (arith, ints, e); high = omega (arith, in
 pub modest_set : (ms : List ℤ) (n : ℕ) (m : ℤ) → IsModest m → ((r : ℕ) → IsModest (multiplier_at ms r)) → n < length ms → (r : ℕ) → IsModest (multiplier_at (set ms n m) r)
 modest_set ms n m here others l r =
     ⊎_elim
-      (λ (same : r ≡ n). subst IsModest (sym (ap (λ (q : ℕ). get_or (set ms n m) q (pos 0)) same ∙ get_or-set_same ms n m (pos 0) l)) here)
-      (λ (other : r ≡ n → ⊥). subst IsModest (sym (get_or-set_other ms n r m (pos 0) other)) (others r))
-      (cases_eq r n)
+    (λ (same : r ≡ n). subst IsModest (sym (ap (λ (q : ℕ). get_or (set ms n m) q (pos 0)) same ∙ get_or-set_same ms n m (pos 0) l)) here)
+    (λ (other : r ≡ n → ⊥). subst IsModest (sym (get_or-set_other ms n r m (pos 0) other)) (others r))
+    (cases_eq r n)

@@ -9,7 +9,11 @@ use pool_base::OutOfMemory;
 use std::alloc::Global;
 
 /// For each vehicle the least cost of an allowed row, 0 where it has none.
-pub fn least_costs(alloc: Global, graph: &TripGraph, allowed: &[bool]) -> Result<Vec<i64>, OutOfMemory>
+pub fn least_costs(
+    alloc: Global,
+    graph: &TripGraph,
+    allowed: &[bool],
+) -> Result<Vec<i64>, OutOfMemory>
     requires { length allowed.now ≡ length graph.now.rows }
     ensures { IfOk result (λ costs. HasLeastCosts graph.now (usable_of allowed.now) costs.items) }
 {

@@ -12,7 +12,11 @@ use std::alloc::Global;
 /// For each rider by rising index the least of the penalty and, over the allowed rows that have her, of
 /// what the row costs above its vehicle's cheapest allowed one, less the multipliers of its earlier
 /// riders, in 1/1024 second.
-pub fn first_fit(alloc: Global, graph: &TripGraph, allowed: &[bool]) -> Result<Multipliers, OutOfMemory>
+pub fn first_fit(
+    alloc: Global,
+    graph: &TripGraph,
+    allowed: &[bool],
+) -> Result<Multipliers, OutOfMemory>
     requires { length allowed.now ≡ length graph.now.rows }
     ensures value { IfOk result (λ ms. ms ≡ first_fit graph.now (usable_of allowed.now)) }
     ensures len { IfOk result (λ ms. length ms ≡ graph.now.riders) }

@@ -5,8 +5,8 @@
 //! keeps the best multipliers that a leaf value has judged.
 #![tactic(auto)]
 
-mod first_fit_pass;
 mod cheapest;
+mod first_fit_pass;
 mod value;
 
 pub use first_fit_pass::first_fit;

@@ -28,23 +28,23 @@ loop-values-init c =
         costs = costs;
         held = omega (arith, costs, c.in_ok-plan.ensures.held);
         greedy = λ chosen is fair. let least = c.in_ok-plan.ensures.greedy chosen is fair in omega (arith, costs, least);
-        change = c.in_ok-plan.ensures.best
+        change = c.in_ok-plan.ensures.best;
       };
       tree = so_far_start g c.args.budget limit ms z c.push.new.self.items c.push-2.new.self.items c.requires leaf
-        (c.in_ok-push.ensures.items ∙ ap (λ (xs : List Node). xs ++ Leaf ms ∷ []) c.new-nodes.ensures.items)
-        (c.in_ok-push-2.ensures.items ∙ (λ i. c.new-values.ensures.items i ++ small_back z leaf.small i ∷ []))
+          (c.in_ok-push.ensures.items ∙ ap (λ (xs : List Node). xs ++ Leaf ms ∷ []) c.new-nodes.ensures.items)
+          (c.in_ok-push-2.ensures.items ∙ (λ i. c.new-values.ensures.items i ++ small_back z leaf.small i ∷ []));
     }
 
 pub lowest-place-requires-clause-len : goal.lowest-place-requires-clause-len
 lowest-place-requires-clause-len c =
     ap (λ (xs : List ℤ). length xs) c.deref-in-loop-values.ensures.value
-      ∙ so_far_length c.args.graph.now c.args.budget c.cost_of-limit.result c.loop-values.nodes.items c.loop-values.values.items c.loop-values.invariant.tree
-      ∙ sym (ap (λ (xs : List Node). length xs) c.deref.ensures.value)
+    ∙ so_far_length c.args.graph.now c.args.budget c.cost_of-limit.result c.loop-values.nodes.items c.loop-values.values.items c.loop-values.invariant.tree
+    ∙ sym (ap (λ (xs : List Node). length xs) c.deref.ensures.value)
 
 pub lowest-place-requires-clause-leaf : goal.lowest-place-requires-clause-leaf
 lowest-place-requires-clause-leaf c =
     subst HasLeaf (sym c.deref.ensures.value)
-      (so_far_leaf c.args.graph.now c.args.budget c.cost_of-limit.result c.loop-values.nodes.items c.loop-values.values.items c.root_leaf.ensures.good c.loop-values.invariant.tree)
+    (so_far_leaf c.args.graph.now c.args.budget c.cost_of-limit.result c.loop-values.nodes.items c.loop-values.values.items c.root_leaf.ensures.good c.loop-values.invariant.tree)
 
 pub bound_at-bound-requires-clause-place : goal.bound_at-bound-requires-clause-place
 bound_at-bound-requires-clause-place c =
@@ -64,9 +64,9 @@ bound_at-bound-requires-clause-small c =
     let p = c.lowest-place.result in
     let t = c.loop-values.invariant.tree in
     let lowest : IsLowest nodes values p = subst (λ (ns : List Node). IsLowest ns values p) c.deref.ensures.value
-          (subst (λ (zs : List ℤ). IsLowest c.deref.result.now zs p) c.deref-in-loop-values.ensures.value c.lowest-place.ensures) in
+    (subst (λ (zs : List ℤ). IsLowest c.deref.result.now zs p) c.deref-in-loop-values.ensures.value c.lowest-place.ensures) in
     subst (λ (zs : List ℤ). IsSmallSum 1500 (get_or zs p (pos 0))) (sym c.deref-in-loop-values-2.ensures.value)
-      (lowest_small c.args.graph.now t.low c.cost_of-limit.result nodes values p t.grown lowest)
+    (lowest_small c.args.graph.now t.low c.cost_of-limit.result nodes values p t.grown lowest)
 
 pub next-requires-clause-grown : goal.next-requires-clause-grown
 next-requires-clause-grown c =
@@ -76,10 +76,10 @@ next-requires-clause-grown c =
     let values : List ℤ = c.loop-values.values.items in
     let p = c.lowest-place.result in
     let lowest : IsLowest nodes values p = subst (λ (ns : List Node). IsLowest ns values p) c.deref.ensures.value
-          (subst (λ (zs : List ℤ). IsLowest c.deref.result.now zs p) c.deref-in-loop-values.ensures.value c.lowest-place.ensures) in
+    (subst (λ (zs : List ℤ). IsLowest c.deref.result.now zs p) c.deref-in-loop-values.ensures.value c.lowest-place.ensures) in
     subst (λ (ns : List Node). IsGrown g (rounded_up (get_or c.deref-in-loop-values-4.result.now p (pos 0))) limit (every_row ∷ []) ns c.deref-in-loop-values-4.result.now []) (sym c.deref-in-loop-values-3.ensures.value)
-      (subst (λ (zs : List ℤ). IsGrown g (rounded_up (get_or zs p (pos 0))) limit (every_row ∷ []) nodes zs []) (sym c.deref-in-loop-values-4.ensures.value)
-        (so_far_raised g c.args.budget limit nodes values p c.loop-values.invariant.tree lowest))
+    (subst (λ (zs : List ℤ). IsGrown g (rounded_up (get_or zs p (pos 0))) limit (every_row ∷ []) nodes zs []) (sym c.deref-in-loop-values-4.ensures.value)
+    (so_far_raised g c.args.budget limit nodes values p c.loop-values.invariant.tree lowest))
 
 pub grow-requires-clause-values : goal.grow-requires-clause-values
 grow-requires-clause-values c =
@@ -119,14 +119,14 @@ loop-values-preserved c =
     let p = c.lowest-place.result in
     let ends = c.in-Parted.ends in
     let lowest : IsLowest nodes values p = subst (λ (ns : List Node). IsLowest ns values p) c.deref.ensures.value
-          (subst (λ (zs : List ℤ). IsLowest c.deref.result.now zs p) c.deref-in-loop-values.ensures.value c.lowest-place.ensures) in
+    (subst (λ (zs : List ℤ). IsLowest c.deref.result.now zs p) c.deref-in-loop-values.ensures.value c.lowest-place.ensures) in
     let said : IsNext g nodes values p limit budget c.in_ok-ends.field-0 = subst (λ (ns : List Node). IsNext g ns values p limit budget c.in_ok-ends.field-0) c.deref-in-loop-values-3.ensures.value
-          (subst (λ (zs : List ℤ). IsNext g c.deref-in-loop-values-3.result.now zs p limit budget c.in_ok-ends.field-0) c.deref-in-loop-values-4.ensures.value c.in_ok-ends.ensures) in
+    (subst (λ (zs : List ℤ). IsNext g c.deref-in-loop-values-3.result.now zs p limit budget c.in_ok-ends.field-0) c.deref-in-loop-values-4.ensures.value c.in_ok-ends.ensures) in
     let parted : IsNext g nodes values p limit budget (Parted ends) = subst (IsNext g nodes values p limit budget) c.in-Parted.is said in
     record {
       plan = c.loop-values.invariant.plan;
       tree = so_far_grow g budget limit nodes values p ends c.grow.new.nodes.items c.grow.new.values.items c.loop-values.invariant.tree lowest (parted.0) (parted.1) (parted.2)
-        c.in_ok-grow-in-Parted.ensures.nodes c.in_ok-grow-in-Parted.ensures.values
+          c.in_ok-grow-in-Parted.ensures.nodes c.in_ok-grow-in-Parted.ensures.values;
     }
 
 pub returns-in-Fixed : goal.returns-in-Fixed
@@ -143,15 +143,15 @@ returns-in-Fixed c =
     let tree = c.loop-values.invariant.tree in
     let start = c.loop-values.invariant.plan in
     let lowest : IsLowest nodes values p = subst (λ (ns : List Node). IsLowest ns values p) c.deref.ensures.value
-          (subst (λ (zs : List ℤ). IsLowest c.deref.result.now zs p) c.deref-in-loop-values.ensures.value c.lowest-place.ensures) in
+    (subst (λ (zs : List ℤ). IsLowest c.deref.result.now zs p) c.deref-in-loop-values.ensures.value c.lowest-place.ensures) in
     let said : IsNext g nodes values p limit budget c.in_ok-ends.field-0 = subst (λ (ns : List Node). IsNext g ns values p limit budget c.in_ok-ends.field-0) c.deref-in-loop-values-3.ensures.value
-          (subst (λ (zs : List ℤ). IsNext g c.deref-in-loop-values-3.result.now zs p limit budget c.in_ok-ends.field-0) c.deref-in-loop-values-4.ensures.value c.in_ok-ends.ensures) in
+    (subst (λ (zs : List ℤ). IsNext g c.deref-in-loop-values-3.result.now zs p limit budget c.in_ok-ends.field-0) c.deref-in-loop-values-4.ensures.value c.in_ok-ends.ensures) in
     let fixed : IsNext g nodes values p limit budget (Fixed best) = subst (IsNext g nodes values p limit budget) c.in-Fixed.is said in
     let met : pos c.cost_of.result ≤ℤ low = subst (λ (n : ℕ). pos n ≤ℤ low) (sym c.cost_of.ensures) (fixed.1) in
     let back : to_z w128 (of_z w128 c.bound_at-bound.result) ≡ c.bound_at-bound.result = to_z-of_z w128 c.bound_at-bound.result (record { sfits = c.bound_at-bound.type_inv }) in
     let right = right_from_least g best c.cost_of.result low good (fixed.0) c.cost_of.ensures met (low_is_bound g limit p nodes values good (so_far_raised g budget limit nodes values p tree lowest) lowest) in
     answer g budget limit p best c.cost_of.result nodes values (to_z w128 (of_z w128 c.bound_at-bound.result)) c.of.result good tree lowest start.held start.greedy right (inl met)
-      (back ∙ c.bound_at-bound.ensures ∙ ap (λ (zs : List ℤ). rounded_up (get_or zs p (pos 0))) c.deref-in-loop-values-2.ensures.value) c.of.ensures
+    (back ∙ c.bound_at-bound.ensures ∙ ap (λ (zs : List ℤ). rounded_up (get_or zs p (pos 0))) c.deref-in-loop-values-2.ensures.value) c.of.ensures
 
 pub returns-in_default : goal.returns-in_default
 returns-in_default c =
@@ -165,10 +165,10 @@ returns-in_default c =
     let tree = c.loop-values.invariant.tree in
     let start = c.loop-values.invariant.plan in
     let lowest : IsLowest nodes values p = subst (λ (ns : List Node). IsLowest ns values p) c.deref.ensures.value
-          (subst (λ (zs : List ℤ). IsLowest c.deref.result.now zs p) c.deref-in-loop-values.ensures.value c.lowest-place.ensures) in
+    (subst (λ (zs : List ℤ). IsLowest c.deref.result.now zs p) c.deref-in-loop-values.ensures.value c.lowest-place.ensures) in
     let said : IsNext g nodes values p limit budget c.in_ok-ends.field-0 = subst (λ (ns : List Node). IsNext g ns values p limit budget c.in_ok-ends.field-0) c.deref-in-loop-values-3.ensures.value
-          (subst (λ (zs : List ℤ). IsNext g c.deref-in-loop-values-3.result.now zs p limit budget c.in_ok-ends.field-0) c.deref-in-loop-values-4.ensures.value c.in_ok-ends.ensures) in
+    (subst (λ (zs : List ℤ). IsNext g c.deref-in-loop-values-3.result.now zs p limit budget c.in_ok-ends.field-0) c.deref-in-loop-values-4.ensures.value c.in_ok-ends.ensures) in
     let back : to_z w128 (of_z w128 c.bound_at-bound.result) ≡ c.bound_at-bound.result = to_z-of_z w128 c.bound_at-bound.result (record { sfits = c.bound_at-bound.type_inv }) in
     answer g budget limit p c.loop-values.plan limit nodes values (to_z w128 (of_z w128 c.bound_at-bound.result)) c.of-in_default.result good tree lowest start.held start.greedy start
-      (ended g nodes values p limit budget c.in_ok-ends.field-0 said c.in_default.not-Fixed c.in_default.not-Parted)
-      (back ∙ c.bound_at-bound.ensures ∙ ap (λ (zs : List ℤ). rounded_up (get_or zs p (pos 0))) c.deref-in-loop-values-2.ensures.value) c.of-in_default.ensures
+    (ended g nodes values p limit budget c.in_ok-ends.field-0 said c.in_default.not-Fixed c.in_default.not-Parted)
+    (back ∙ c.bound_at-bound.ensures ∙ ap (λ (zs : List ℤ). rounded_up (get_or zs p (pos 0))) c.deref-in-loop-values-2.ensures.value) c.of-in_default.ensures

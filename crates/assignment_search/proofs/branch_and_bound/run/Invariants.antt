@@ -5,7 +5,7 @@ use Rattle.assignment_search.proofs.branch_and_bound.run.Given as goal
 abbrev pub invariant-loop-values : goal.invariant-loop-values
 invariant-loop-values l = record {
   plan : IsRightPlan l.graph l.plan l.limit;
-  tree : IsTreeSoFar l.graph l.budget l.limit l.nodes.items l.values.items
+  tree : IsTreeSoFar l.graph l.budget l.limit l.nodes.items l.values.items;
 }
 
 abbrev pub decreases-loop-values : goal.decreases-loop-values

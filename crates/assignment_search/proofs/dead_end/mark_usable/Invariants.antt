@@ -6,5 +6,5 @@ use Rattle.assignment_search.proofs.dead_end.mark_usable.Given as goal
 abbrev pub invariant-loop-row : goal.invariant-loop-row
 invariant-loop-row l = record {
   marked : MarksUsable l.graph (usable_of l.allowed) l.row l.marks;
-  len : length l.marks ≡ l.graph.riders
+  len : length l.marks ≡ l.graph.riders;
 }

@@ -13,7 +13,8 @@ pub returns-then-contains : goal.returns-then-contains
 returns-then-contains c = λ _.
     let w = c.if-contains.ensures.cases in
     let r = get_or c.args.first.now c.loop-rider.rider-index 0 in
-    let same : get_or c.args.second.now (w.0) 0 ≡ r = eqb-true (get_or c.args.second.now (w.0) 0) r (w.2 0) in
-    ( r
-    , has_at c.args.first.now c.loop-rider.rider-index c.loop-rider-test.true
-    , subst (λ (q : ℕ). list_any (λ x. x == q) c.args.second.now ≡ true) same (has_at c.args.second.now (w.0) (w.1)) )
+    let same : get_or c.args.second.now (w.0) 0 ≡ r = eqb-true (get_or c.args.second.now (w.0) 0) r (w.2 0) in (
+      r,
+      has_at c.args.first.now c.loop-rider.rider-index c.loop-rider-test.true,
+      subst (λ (q : ℕ). list_any (λ x. x == q) c.args.second.now ≡ true) same (has_at c.args.second.now (w.0) (w.1)),
+    )

@@ -15,10 +15,10 @@ returns-clause-nodes c =
     let first : Node = c.args.ends.first.node in
     let second : Node = c.args.ends.second.node in
     c.in_ok-insert-3.ensures.items
-      ∙ ap (λ (xs : List Node). insert xs (p + 2) second) (c.in_ok-insert-2.ensures.items
-        ∙ ap (λ (xs : List Node). insert xs (p + 1) first) (c.in_ok-insert.ensures.items
-          ∙ ap (λ (xs : List Node). insert xs p branch) c.remove.ensures.items))
-      ∙ edit_replace nodes p branch first second c.requires.place
+    ∙ ap (λ (xs : List Node). insert xs (p + 2) second) (c.in_ok-insert-2.ensures.items
+    ∙ ap (λ (xs : List Node). insert xs (p + 1) first) (c.in_ok-insert.ensures.items
+    ∙ ap (λ (xs : List Node). insert xs p branch) c.remove.ensures.items))
+    ∙ edit_replace nodes p branch first second c.requires.place
 
 pub returns-clause-values : goal.returns-clause-values
 returns-clause-values c =
@@ -28,6 +28,6 @@ returns-clause-values c =
     let b : ℤ = c.args.ends.second.value in
     let low : p < length values = omega (arith, c.requires.place, c.requires.values) in
     c.in_ok-insert-5.ensures.items
-      ∙ ap (λ (z : ℤ). insert c.insert-4.new.self.items (p + 2) z) (small_back b c.requires.second)
-      ∙ ap (λ (xs : List ℤ). insert xs (p + 2) b) (c.in_ok-insert-4.ensures.items ∙ ap (λ (z : ℤ). insert values (p + 1) z) (small_back a c.requires.first))
-      ∙ edit_keep values p a b (pos 0) low
+    ∙ ap (λ (z : ℤ). insert c.insert-4.new.self.items (p + 2) z) (small_back b c.requires.second)
+    ∙ ap (λ (xs : List ℤ). insert xs (p + 2) b) (c.in_ok-insert-4.ensures.items ∙ ap (λ (z : ℤ). insert values (p + 1) z) (small_back a c.requires.first))
+    ∙ edit_keep values p a b (pos 0) low

@@ -15,4 +15,4 @@ returns c =
     let parent = c.args.parent.now in
     let agree : Agree g w u = λ k l. ap (λ (xs : List Bool). get_or xs k false) c.deref.ensures.value ∙ c.in_ok-allowed.ensures.allowed k l in
     if_ok_map (λ (end : End). IsNewEnd g w parent end.node end.value) (λ (end : End). IsNewEnd g u parent end.node end.value)
-      (λ end. new_end_agrees g w u parent end.node end.value agree) c.new_end.result c.new_end.ensures
+    (λ end. new_end_agrees g w u parent end.node end.value agree) c.new_end.result c.new_end.ensures

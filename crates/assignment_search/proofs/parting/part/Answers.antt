@@ -11,8 +11,8 @@ pub end_of-requires-2-clause-path : goal.end_of-requires-2-clause-path
 end_of-requires-2-clause-path c =
     let g = c.args.graph.now in
     c.leave.ensures.path g
-      (subst (IsPathOf g) (sym c.in_ok-enter.ensures.ok)
-        (path_push g c.args.path (record { vehicle = c.args.vehicle; row = c.args.row; alone = true }) c.requires.path (c.requires.vehicle, c.requires.can.row.row)))
+    (subst (IsPathOf g) (sym c.in_ok-enter.ensures.ok)
+    (path_push g c.args.path (record { vehicle = c.args.vehicle; row = c.args.row; alone = true }) c.requires.path (c.requires.vehicle, c.requires.can.row.row)))
 
 pub returns : goal.returns
 returns c =
@@ -32,5 +32,5 @@ returns c =
     record {
       can = c.requires.can;
       first = subst (λ (w : Usable). IsNewEnd g w parent c.in_ok-first.first.node c.in_ok-first.first.value) only_is c.in_ok-first.ensures;
-      second = subst (λ (w : Usable). IsNewEnd g w parent c.in_ok-second.second.node c.in_ok-second.second.value) without_is c.in_ok-second.ensures
+      second = subst (λ (w : Usable). IsNewEnd g w parent c.in_ok-second.second.node c.in_ok-second.second.value) without_is c.in_ok-second.ensures;
     }

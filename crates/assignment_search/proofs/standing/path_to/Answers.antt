@@ -11,9 +11,9 @@ use Rattle.assignment_search.proofs.standing.path_to.Goals as goal
 
 pub loop-k-init : goal.loop-k-init
 loop-k-init c = record {
-    reads = coming_start c.args.graph.now c.new-path.result c.new-path.ensures;
-    path = path_none c.args.graph.now c.new-path.result c.new-path.ensures
-  }
+  reads = coming_start c.args.graph.now c.new-path.result c.new-path.ensures;
+  path = path_none c.args.graph.now c.new-path.result c.new-path.ensures;
+}
 
 pub loop-k-preserved : goal.loop-k-preserved
 loop-k-preserved c =
@@ -32,12 +32,12 @@ loop-k-preserved c =
     let after : Reads g (every_row ∷ []) (take (suc k) nodes) (coming_after g w.usable (get_or nodes k Dead) w.later) = w.after in
     let next = next_of g nodes (every_row ∷ []) [] (coming_after g w.usable (get_or nodes k Dead) w.later) (suc k) c.requires.sound below after in
     let same : coming_after g (standing_of g old).usable node (standing_of g old).coming ≡ coming_after g w.usable (get_or nodes k Dead) w.later =
-          λ i. coming_after g (u_is i) (here i) (l_is i) in
+    λ i. coming_after g (u_is i) (here i) (l_is i) in
     let stands : (standing_of g new).usable ∷ (standing_of g new).coming ≡ next.usable ∷ next.later = c.in_ok-follow.ensures.next g next.usable next.later (same ∙ next.here) in
     let sound : IsSoundNode g (standing_of g old).usable node =
-          subst (λ (u : Usable). IsSoundNode g u node) (sym u_is) (subst (λ (n : Node). IsSoundNode g w.usable n) (sym here) w.sound) in
+    subst (λ (u : Usable). IsSoundNode g u node) (sym u_is) (subst (λ (n : Node). IsSoundNode g w.usable n) (sym here) w.sound) in
     record {
       reads = subst (λ (us : List Usable). Reads g (every_row ∷ []) (take (k + 1) nodes) us) (next.here ∙ sym stands)
-        (subst (λ (n : ℕ). Reads g (every_row ∷ []) (take n nodes) (coming_after g w.usable (get_or nodes k Dead) w.later)) (sym (add-one k)) after);
-      path = c.in_ok-follow.ensures.path g c.vehicle_count-count.ensures.good sound c.loop-k.invariant.path
+          (subst (λ (n : ℕ). Reads g (every_row ∷ []) (take n nodes) (coming_after g w.usable (get_or nodes k Dead) w.later)) (sym (add-one k)) after);
+      path = c.in_ok-follow.ensures.path g c.vehicle_count-count.ensures.good sound c.loop-k.invariant.path;
     }

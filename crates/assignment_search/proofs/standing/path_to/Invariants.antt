@@ -6,5 +6,5 @@ use Rattle.assignment_search.proofs.standing.path_to.Given as goal
 abbrev pub invariant-loop-k : goal.invariant-loop-k
 invariant-loop-k l = record {
   reads : Reads l.graph (every_row ∷ []) (take l.k l.nodes) ((standing_of l.graph l.path).usable ∷ (standing_of l.graph l.path).coming);
-  path : IsPathOf l.graph l.path
+  path : IsPathOf l.graph l.path;
 }

@@ -37,7 +37,7 @@ returns-then-is_full c =
     let full : c.args.budget < length c.args.nodes.now + 2 = c.if-is_full.ensures in
     let can : CanBranch g (usable_of allowed) v k = subst (λ (xs : List Bool). CanBranch g (usable_of xs) v k) c.deref.ensures.value (c.in-Some.ensures.found.0) in
     let short = full_answer g c.args.limit c.args.place c.args.nodes.now c.args.values.now (standing_of g path).usable (standing_of g path).coming allowed c.allowed_at.ensures.good
-          c.requires.lowest c.requires.grown c.in_ok-path.ensures.reads c.in_ok-allowed.ensures.allowed v k (c.in-Some.ensures.found.1) can in
+    c.requires.lowest c.requires.grown c.in_ok-path.ensures.reads c.in_ok-allowed.ensures.allowed v k (c.in-Some.ensures.found.1) can in
     (full, omega (arith, full, short))
 
 pub part-requires-clause-parent : goal.part-requires-clause-parent
@@ -47,7 +47,7 @@ part-requires-clause-parent c =
     let node : Node = c.index-nodes-place.result in
     let here : node ≡ get_or nodes c.args.place Dead = get_or_read nodes c.args.place node c.requires.lowest.within c.index-nodes-place.is Dead in
     parent_sized c.args.graph.now (rounded_up (get_or values c.args.place (pos 0))) c.args.limit nodes values c.args.place c.multipliers_of.result.now c.requires.grown c.requires.lowest
-      (sym here ∙ c.multipliers_of.ensures)
+    (sym here ∙ c.multipliers_of.ensures)
 
 pub returns-in_ok-chosen-in-None : goal.returns-in_ok-chosen-in-None
 returns-in_ok-chosen-in-None c =
@@ -59,5 +59,5 @@ returns-in_ok-chosen-in-None c =
     let fixed : IsFixed g (usable_of allowed) = subst (λ (xs : List Bool). IsFixed g (usable_of xs)) c.deref.ensures.value c.in-None.ensures.none in
     let sole : IsSolePlan g (usable_of allowed) chosen = subst (λ (xs : List Bool). IsSolePlan g (usable_of xs) chosen) c.deref-in-None.ensures.value c.in_ok-chosen-in-None.ensures.rows in
     subst (λ (p : List (Option ℕ)). IsLawful g p × (pos (cost_of g p) ≤ℤ rounded_up (get_or values c.args.place (pos 0)))) (sym c.of.ensures)
-      (fixed_answer g c.args.limit c.args.place c.args.nodes.now values (standing_of g path).usable (standing_of g path).coming allowed c.allowed_at.ensures.good
-        c.requires.lowest c.requires.grown c.in_ok-path.ensures.reads c.in_ok-allowed.ensures.allowed chosen fixed c.in_ok-chosen-in-None.ensures.len sole)
+    (fixed_answer g c.args.limit c.args.place c.args.nodes.now values (standing_of g path).usable (standing_of g path).coming allowed c.allowed_at.ensures.good
+    c.requires.lowest c.requires.grown c.in_ok-path.ensures.reads c.in_ok-allowed.ensures.allowed chosen fixed c.in_ok-chosen-in-None.ensures.len sole)

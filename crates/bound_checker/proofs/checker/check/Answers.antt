@@ -17,14 +17,14 @@ use Rattle.bound_checker.proofs.checker.check.Goals as goal
 
 pub loop-place-init : goal.loop-place-init
 loop-place-init c = record {
-    reads = coming_start c.args.graph.now c.new.result c.new.ensures;
-    least = refl;
-    ready = record {
-      path = path_none c.args.graph.now c.new.result c.new.ensures;
-      usable = omega (arith, c.in_ok-usable.ensures.len, c.in_ok-usable.usable.ok.0, ap length c.rows.ensures.value);
-      marks = omega (arith, c.in_ok-marks.ensures.len, c.in_ok-marks.marks.ok.0, c.rider_count.ensures.value)
-    }
-  }
+  reads = coming_start c.args.graph.now c.new.result c.new.ensures;
+  least = refl;
+  ready = record {
+    path = path_none c.args.graph.now c.new.result c.new.ensures;
+    usable = omega (arith, c.in_ok-usable.ensures.len, c.in_ok-usable.usable.ok.0, ap length c.rows.ensures.value);
+    marks = omega (arith, c.in_ok-marks.ensures.len, c.in_ok-marks.marks.ok.0, c.rider_count.ensures.value);
+  };
+}
 
 pub loop-place-preserved : goal.loop-place-preserved
 loop-place-preserved c =
@@ -44,9 +44,9 @@ loop-place-preserved c =
     let pushed = reads_push g (take i nodes) node (every_row ∷ []) u later reads visit.sound in
     record {
       reads = subst (λ (xs : List Node). Reads g (every_row ∷ []) xs (coming_of g new.ended new.path)) (sym more)
-        (subst (λ (us : List Usable). Reads g (every_row ∷ []) (take i nodes ++ node ∷ []) us) (sym visit.coming) pushed);
+          (subst (λ (us : List Usable). Reads g (every_row ∷ []) (take i nodes ++ node ∷ []) us) (sym visit.coming) pushed);
       least = least_more g nodes i node u later c.loop-place.walk.least new.least more reads c.loop-place.invariant.least visit.least;
-      ready = visit.ready
+      ready = visit.ready;
     }
 
 pub returns-in-Err-clause-fault : goal.returns-in-Err-clause-fault

@@ -7,5 +7,5 @@ abbrev pub invariant-loop-place : goal.invariant-loop-place
 invariant-loop-place l = record {
   reads : Reads l.graph (every_row ∷ []) (take l.place l.tree) (coming_of l.graph l.walk.ended l.walk.path);
   least : l.walk.least ≡ least_leaf l.graph (places l.graph (take l.place l.tree));
-  ready : IsReady l.graph l.walk
+  ready : IsReady l.graph l.walk;
 }

@@ -6,5 +6,5 @@ use Rattle.bound_checker.proofs.dead_end.has_clash.Given as goal
 abbrev pub invariant-loop-vehicle : goal.invariant-loop-vehicle
 invariant-loop-vehicle l = record {
   marked : MarksSole l.graph (usable_of l.allowed) l.vehicle l.marks;
-  len : length l.marks ≡ l.graph.riders
+  len : length l.marks ≡ l.graph.riders;
 }

@@ -23,15 +23,15 @@ loop-row-preserved c =
           let read : x ≡ row_at g k = sym w.index-rows-row.is ∙ row_read g c.rows-rows.result.now k w.index-rows-row.result c.rows-rows.ensures.value low w.index-rows-row.is in
           let riders : w.as_slice.result.now ≡ (row_at g k).riders.items = w.as_slice.ensures.value ∙ ap (λ (r : TripRow). r.riders.items) read in
           let adds : AddsRow g k old w.mark_riders.new.marks = record {
-                sized = w.mark_riders.ensures.len;
-                marked = λ r l. w.mark_riders.ensures.marked r l ∙ ap (λ (xs : List ℕ). get_or old r false || list_any (λ y. y == r) xs) riders
-              } in
+            sized = w.mark_riders.ensures.len;
+            marked = λ r l. w.mark_riders.ensures.marked r l ∙ ap (λ (xs : List ℕ). get_or old r false || list_any (λ y. y == r) xs) riders;
+          } in
           record {
             marked = subst (MarksUsable g u (k + 1)) (sym w.marks-is) (usable_more g u k old w.mark_riders.new.marks adds c.loop-row.invariant.len row w.if-allowed-row.true c.loop-row.invariant.marked);
-            len = ap length w.marks-is ∙ w.mark_riders.ensures.len ∙ c.loop-row.invariant.len
+            len = ap length w.marks-is ∙ w.mark_riders.ensures.len ∙ c.loop-row.invariant.len;
           }
       | else-allowed-row w ↦ record {
-            marked = subst (MarksUsable g u (k + 1)) (sym w.marks-is) (usable_kept g u k old w.if-allowed-row.false c.loop-row.invariant.marked);
-            len = ap length w.marks-is ∙ c.loop-row.invariant.len
-          }
+        marked = subst (MarksUsable g u (k + 1)) (sym w.marks-is) (usable_kept g u k old w.if-allowed-row.false c.loop-row.invariant.marked);
+        len = ap length w.marks-is ∙ c.loop-row.invariant.len;
+      }
     ]

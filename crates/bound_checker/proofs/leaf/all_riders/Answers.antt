@@ -9,5 +9,5 @@ loop-rider-preserved c =
     let more = int_sum_more c.loop-rider.rider (rider_term c.args.graph.now c.args.multipliers.now) in
     record {
       value = omega (arith, ints, more, c.one_rider-total.ensures.value);
-      small = record { low = omega (arith, ints); high = omega (arith, ints) }
+      small = record { low = omega (arith, ints); high = omega (arith, ints) };
     }

@@ -7,5 +7,5 @@ use Rattle.bound_checker.proofs.leaf.one_vehicle.Given as goal
 abbrev pub invariant-loop-row : goal.invariant-loop-row
 invariant-loop-row l = record {
   value : l.least ≡ least_below l.row (is_usable_by l.graph (usable_of l.allowed) l.vehicle) (reduced_cost l.graph l.multipliers);
-  small : IfSome l.least IsSmall
+  small : IfSome l.least IsSmall;
 }

@@ -13,9 +13,9 @@ use Rattle.dual_bound.proofs.cheapest.least_cost_of.Goals.{then-allowed-row, els
 
 pub loop-row-init : goal.loop-row-init
 loop-row-init c = record {
-    value = sym (none_before c.args.graph.now (usable_of c.args.allowed.now) (λ k. pos (cost_at c.args.graph.now k)) c.args.vehicle c.first_row-row.result c.first_row-row.ensures);
-    cost = tt
-  }
+  value = sym (none_before c.args.graph.now (usable_of c.args.allowed.now) (λ k. pos (cost_at c.args.graph.now k)) c.args.vehicle c.first_row-row.result c.first_row-row.ensures);
+  cost = tt;
+}
 
 pub loop-row-preserved : goal.loop-row-preserved
 loop-row-preserved c =
@@ -32,13 +32,13 @@ loop-row-preserved c =
           let back : to_z w64 (of_z w64 w.lesser_cost.result) ≡ w.lesser_cost.result = to_z-of_z w64 w.lesser_cost.result (record { sfits = w.lesser_cost.type_inv }) in
           record {
             value = w.least-is ∙ ap Some (back ∙ w.lesser_cost.ensures.value)
-              ∙ least_taken g u f c.args.vehicle k c.loop-row.least (pos row.cost) own.own w.if-allowed-row.true c.loop-row.invariant.value value;
-            cost = subst (λ (o : Option ℤ). IfSome o IsCost) (sym (w.least-is ∙ ap Some back)) w.lesser_cost.ensures.cost
+                ∙ least_taken g u f c.args.vehicle k c.loop-row.least (pos row.cost) own.own w.if-allowed-row.true c.loop-row.invariant.value value;
+            cost = subst (λ (o : Option ℤ). IfSome o IsCost) (sym (w.least-is ∙ ap Some back)) w.lesser_cost.ensures.cost;
           }
       | else-allowed-row w ↦ record {
-            value = w.least-is ∙ least_passed g u f c.args.vehicle k c.loop-row.least w.if-allowed-row.false c.loop-row.invariant.value;
-            cost = subst (λ (o : Option ℤ). IfSome o IsCost) (sym w.least-is) c.loop-row.invariant.cost
-          }
+        value = w.least-is ∙ least_passed g u f c.args.vehicle k c.loop-row.least w.if-allowed-row.false c.loop-row.invariant.value;
+        cost = subst (λ (o : Option ℤ). IfSome o IsCost) (sym w.least-is) c.loop-row.invariant.cost;
+      }
     ]
 
 pub returns-clause-value : goal.returns-clause-value
@@ -51,5 +51,5 @@ returns-clause-value c =
     let ended : c.loop-row.row ≡ c.first_row-row-end.result = omega (arith, rise) in
     let back : to_z w64 (of_z w64 c.unwrap_or.result) ≡ c.unwrap_or.result = to_z-of_z w64 c.unwrap_or.result (record { sfits = c.unwrap_or.type_inv }) in
     back ∙ c.unwrap_or.ensures
-      ∙ ap (λ (o : Option ℤ). unwrap_or o (pos 0))
-          (c.loop-row.invariant.value ∙ ap (λ (j : ℕ). least_below j (is_usable_by g u v) f) ended ∙ sym (none_after g u f v c.first_row-row-end.result c.first_row-row-end.ensures))
+    ∙ ap (λ (o : Option ℤ). unwrap_or o (pos 0))
+    (c.loop-row.invariant.value ∙ ap (λ (j : ℕ). least_below j (is_usable_by g u v) f) ended ∙ sym (none_after g u f v c.first_row-row-end.result c.first_row-row-end.ensures))

@@ -29,19 +29,19 @@ loop-row-preserved c =
           let passed : to_z w64 (of_z w64 w.room_of.result) ≡ w.room_of.result = to_z-of_z w64 w.room_of.result (record { sfits = w.room_of.type_inv }) in
           record {
             value = w.least-is ∙ ap Some (back ∙ w.lesser_room.ensures.value ∙ ap (lesser c.loop-row.least) passed)
-              ∙ least_take k p f c.loop-row.least w.room_of.result (and_from (u k) (has_rider g k r) w.if-allowed-row.true has) c.loop-row.invariant.value w.room_of.ensures.value;
-            small = subst (λ (o : Option ℤ). IfSome o (λ z. neg_ℤ (pos 8000000000000) ≤ℤ z)) (sym (w.least-is ∙ ap Some back)) w.lesser_room.ensures.low
+                ∙ least_take k p f c.loop-row.least w.room_of.result (and_from (u k) (has_rider g k r) w.if-allowed-row.true has) c.loop-row.invariant.value w.room_of.ensures.value;
+            small = subst (λ (o : Option ℤ). IfSome o (λ z. neg_ℤ (pos 8000000000000) ≤ℤ z)) (sym (w.least-is ∙ ap Some back)) w.lesser_room.ensures.low;
           }
       | else-allowed-row w ↦
           let fails : p k ≡ false = elim w.else-allowed-row.branch [
-                | else-allowed-row-via-then-allowed-row+else-contains w' ↦
-                    let read : w'.index-rows-row.result ≡ row_at g k = row_read g c.rows-rows.result.now k w'.index-rows-row.result c.rows-rows.ensures.value low w'.index-rows-row.is in
-                    let riders : w'.as_slice.result.now ≡ (row_at g k).riders.items = w'.as_slice.ensures.value ∙ ap (λ (x : TripRow). x.riders.items) (sym w'.index-rows-row.is ∙ read) in
-                    and_right (u k) (has_rider g k r) (ap (list_any (λ x. x == r)) (sym riders) ∙ sym w'.contains.ensures.value ∙ w'.if-contains.false)
-                | else-allowed-row-via-else-allowed-row w' ↦ and_left (u k) (has_rider g k r) w'.if-allowed-row.false
-              ] in
+            | else-allowed-row-via-then-allowed-row+else-contains w' ↦
+                let read : w'.index-rows-row.result ≡ row_at g k = row_read g c.rows-rows.result.now k w'.index-rows-row.result c.rows-rows.ensures.value low w'.index-rows-row.is in
+                let riders : w'.as_slice.result.now ≡ (row_at g k).riders.items = w'.as_slice.ensures.value ∙ ap (λ (x : TripRow). x.riders.items) (sym w'.index-rows-row.is ∙ read) in
+                and_right (u k) (has_rider g k r) (ap (list_any (λ x. x == r)) (sym riders) ∙ sym w'.contains.ensures.value ∙ w'.if-contains.false)
+            | else-allowed-row-via-else-allowed-row w' ↦ and_left (u k) (has_rider g k r) w'.if-allowed-row.false
+          ] in
           record {
             value = w.least-is ∙ least_pass k p f c.loop-row.least fails c.loop-row.invariant.value;
-            small = subst (λ (o : Option ℤ). IfSome o (λ z. neg_ℤ (pos 8000000000000) ≤ℤ z)) (sym w.least-is) c.loop-row.invariant.small
+            small = subst (λ (o : Option ℤ). IfSome o (λ z. neg_ℤ (pos 8000000000000) ≤ℤ z)) (sym w.least-is) c.loop-row.invariant.small;
           }
     ]

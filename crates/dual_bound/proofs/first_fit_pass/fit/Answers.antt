@@ -7,9 +7,9 @@ use Rattle.dual_bound.proofs.first_fit_pass.fit.Goals as goal
 
 pub loop-rider-init : goal.loop-rider-init
 loop-rider-init c = record {
-    value = λ r. c.requires.none r ∙ sym (first_fit_none c.args.graph.now (usable_of c.args.allowed.now) r);
-    modest = λ r. modest_zero _ (c.requires.none r)
-  }
+  value = λ r. c.requires.none r ∙ sym (first_fit_none c.args.graph.now (usable_of c.args.allowed.now) r);
+  modest = λ r. modest_zero _ (c.requires.none r);
+}
 
 pub loop-rider-preserved : goal.loop-rider-preserved
 loop-rider-preserved c =
@@ -22,7 +22,7 @@ loop-rider-preserved c =
     let low : n < length ms = omega arith in
     record {
       value = λ r. ap (λ (z : ℤ). multiplier_at (set ms n z) r) back ∙ first_fit_more g u n ms m low c.loop-rider.invariant.value c.first_fit_at-next.ensures.value r;
-      modest = λ r. subst (λ (z : ℤ). IsModest (multiplier_at (set ms n z) r)) (sym back) (modest_set ms n m c.first_fit_at-next.ensures.modest c.loop-rider.invariant.modest low r)
+      modest = λ r. subst (λ (z : ℤ). IsModest (multiplier_at (set ms n z) r)) (sym back) (modest_set ms n m c.first_fit_at-next.ensures.modest c.loop-rider.invariant.modest low r);
     }
 
 pub returns-clause-value : goal.returns-clause-value
@@ -31,4 +31,4 @@ returns-clause-value c =
     let u = usable_of c.args.allowed.now in
     let ended : c.loop-rider.rider ≡ g.riders = omega (arith, c.requires.multipliers) in
     first_fit_done g u g.riders c.loop-rider.multipliers (omega (arith, c.requires.multipliers))
-      (λ r. c.loop-rider.invariant.value r ∙ ap (λ (n : ℕ). multiplier_at (first_fit_below g u n) r) ended)
+    (λ r. c.loop-rider.invariant.value r ∙ ap (λ (n : ℕ). multiplier_at (first_fit_below g u n) r) ended)

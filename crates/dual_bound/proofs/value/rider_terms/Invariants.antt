@@ -7,5 +7,5 @@ use Rattle.dual_bound.proofs.value.rider_terms.Given as goal
 abbrev pub invariant-loop-rider : goal.invariant-loop-rider
 invariant-loop-rider l = record {
   value : l.total ≡ int_sum_below l.rider (rider_term l.graph l.multipliers);
-  small : IsSmallSum l.rider l.total
+  small : IsSmallSum l.rider l.total;
 }

@@ -6,5 +6,5 @@ abbrev pub invariant-loop-rider : goal.invariant-loop-rider
 invariant-loop-rider l = record {
   value : l.sum +ℤ multiplier_sum l.multipliers (drop l.rider-index l.riders) ≡ multiplier_sum l.multipliers l.riders;
   low : neg_ℤ (pos (l.rider-index * 9223372036854775808)) ≤ℤ l.sum;
-  high : l.sum ≤ℤ pos (l.rider-index * 9223372036854775808)
+  high : l.sum ≤ℤ pos (l.rider-index * 9223372036854775808);
 }

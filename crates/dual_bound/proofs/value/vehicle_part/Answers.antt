@@ -14,9 +14,9 @@ use Rattle.dual_bound.proofs.value.vehicle_part.Goals.{then-allowed-row, else-al
 
 pub loop-row-init : goal.loop-row-init
 loop-row-init c = record {
-    value = sym (none_before c.args.graph.now (usable_of c.args.allowed.now) (reduced_cost c.args.graph.now c.args.multipliers.now) c.args.vehicle c.first_row-row.result c.first_row-row.ensures);
-    small = tt
-  }
+  value = sym (none_before c.args.graph.now (usable_of c.args.allowed.now) (reduced_cost c.args.graph.now c.args.multipliers.now) c.args.vehicle c.first_row-row.result c.first_row-row.ensures);
+  small = tt;
+}
 
 pub loop-row-preserved : goal.loop-row-preserved
 loop-row-preserved c =
@@ -33,13 +33,13 @@ loop-row-preserved c =
           let passed : to_z w128 (of_z w128 w.reduced_cost.result) ≡ w.reduced_cost.result = to_z-of_z w128 w.reduced_cost.result (record { sfits = w.reduced_cost.type_inv }) in
           record {
             value = w.least-is ∙ ap Some (back ∙ w.lesser_of.ensures.value ∙ ap (lesser c.loop-row.least) passed)
-              ∙ least_taken g u f c.args.vehicle k c.loop-row.least w.reduced_cost.result own.own w.if-allowed-row.true c.loop-row.invariant.value value;
-            small = subst (λ (o : Option ℤ). IfSome o IsSmall) (sym (w.least-is ∙ ap Some back)) w.lesser_of.ensures.small
+                ∙ least_taken g u f c.args.vehicle k c.loop-row.least w.reduced_cost.result own.own w.if-allowed-row.true c.loop-row.invariant.value value;
+            small = subst (λ (o : Option ℤ). IfSome o IsSmall) (sym (w.least-is ∙ ap Some back)) w.lesser_of.ensures.small;
           }
       | else-allowed-row w ↦ record {
-            value = w.least-is ∙ least_passed g u f c.args.vehicle k c.loop-row.least w.if-allowed-row.false c.loop-row.invariant.value;
-            small = subst (λ (o : Option ℤ). IfSome o IsSmall) (sym w.least-is) c.loop-row.invariant.small
-          }
+        value = w.least-is ∙ least_passed g u f c.args.vehicle k c.loop-row.least w.if-allowed-row.false c.loop-row.invariant.value;
+        small = subst (λ (o : Option ℤ). IfSome o IsSmall) (sym w.least-is) c.loop-row.invariant.small;
+      }
     ]
 
 pub returns-clause-value : goal.returns-clause-value
@@ -52,5 +52,5 @@ returns-clause-value c =
     let ended : c.loop-row.row ≡ c.first_row-row-end.result = omega (arith, rise) in
     let back : to_z w128 (of_z w128 c.unwrap_or.result) ≡ c.unwrap_or.result = to_z-of_z w128 c.unwrap_or.result (record { sfits = c.unwrap_or.type_inv }) in
     back ∙ c.unwrap_or.ensures
-      ∙ ap (λ (o : Option ℤ). unwrap_or o (pos 0))
-          (c.loop-row.invariant.value ∙ ap (λ (j : ℕ). least_below j (is_usable_by g u v) f) ended ∙ sym (none_after g u f v c.first_row-row-end.result c.first_row-row-end.ensures))
+    ∙ ap (λ (o : Option ℤ). unwrap_or o (pos 0))
+    (c.loop-row.invariant.value ∙ ap (λ (j : ℕ). least_below j (is_usable_by g u v) f) ended ∙ sym (none_after g u f v c.first_row-row-end.result c.first_row-row-end.ensures))

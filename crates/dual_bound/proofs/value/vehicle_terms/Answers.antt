@@ -9,5 +9,5 @@ loop-vehicle-preserved c =
     let more = int_sum_more c.loop-vehicle.vehicle (vehicle_term c.args.graph.now (usable_of c.args.allowed.now) c.args.multipliers.now) in
     record {
       value = omega (arith, ints, more, c.vehicle_part-total.ensures.value);
-      small = record { low = omega (arith, ints); high = omega (arith, ints) }
+      small = record { low = omega (arith, ints); high = omega (arith, ints) };
     }

@@ -33,6 +33,6 @@ returns-clause-ok c =
       ready = record {
         path = subst (IsPathOf g) (sym entered) (path_push g walk.path (record { vehicle = c.args.vehicle; row = c.args.row; alone = true }) c.requires.ready.path (vehicle, row));
         usable = ap length items ∙ long;
-        marks = c.requires.ready.marks
-      }
+        marks = c.requires.ready.marks;
+      };
     }

@@ -42,6 +42,6 @@ returns-clause-ok c =
       ready = record {
         path = c.leave.ensures.path g c.requires.ready.path;
         usable = ap length items ∙ long;
-        marks = ap length marks ∙ marked
-      }
+        marks = ap length marks ∙ marked;
+      };
     }

@@ -27,7 +27,7 @@ returns-clause-ok c =
     let b : to_z w128 (of_z w128 c.rounded_up-value.result) ≡ c.rounded_up-value.result = to_z-of_z w128 c.rounded_up-value.result (record { sfits = c.rounded_up-value.type_inv }) in
     let d : to_z w128 (of_z w128 c.lesser.result) ≡ c.lesser.result = to_z-of_z w128 c.lesser.result (record { sfits = c.lesser.type_inv }) in
     let value : c.rounded_up-value.result ≡ rounded_up (leaf_value g u ms) =
-          c.rounded_up-value.ensures ∙ ap rounded_up (a ∙ c.value_at_leaf.ensures.value ∙ leaf_value_agrees g (usable_of c.deref.result.now) u ms agree) in
+    c.rounded_up-value.ensures ∙ ap rounded_up (a ∙ c.value_at_leaf.ensures.value ∙ leaf_value_agrees g (usable_of c.deref.result.now) u ms agree) in
     record {
       sound = c.if-multipliers-rider_count.false ∙ c.rider_count.ensures.value;
       coming = coming_left g c.leave.result walk.path c.leave.new.self (c.leave.ensures.next g);
@@ -35,6 +35,6 @@ returns-clause-ok c =
       ready = record {
         path = c.leave.ensures.path g c.requires.ready.path;
         usable = ap length items ∙ long;
-        marks = c.requires.ready.marks
-      }
+        marks = c.requires.ready.marks;
+      };
     }
