@@ -1,3 +1,4 @@
 pub mod ReadingLemmas
 pub mod ExitLemmas
 pub mod WriteLemmas
+pub mod CompleteLemmas

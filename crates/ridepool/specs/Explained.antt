@@ -1,5 +1,5 @@
 -- How a run ends, and what stands then.
-use Rattle.std.specs.Prelude.{◌≡◌, ℕ, List, Option, Some, None, Ok, ◌⊎◌}
+use Rattle.std.specs.Prelude.{◌≡◌, ℕ, List, Option, Some, None, Ok, ◌⊎◌, ◌+◌, true, is_some}
 use Rattle.std.specs.List.{All}
 use Rattle.std.specs.Io.KnownBytes.{Appends, Keeps}
 use Rattle.dispatch_engine.specs.Run.{IsPlainRound}
@@ -92,3 +92,25 @@ IsWordsFault words _ = ⊥
 abbrev pub IsPartFault : List NumberedLanes → RunStatus → Type 0
 IsPartFault rounds (Unsupported part.Script) = HasSeal rounds
 IsPartFault rounds _ = ⊥
+
+-- a source tells its bytes, didn't give too many, and had no fault
+pub record IsFaultlessSource (s : SeenSource) : Type 0 where
+  pub told : is_some s.told ≡ true
+  pub short : s.taken_after ≡ s.taken_before + 67108865 → ⊥
+  pub faults : Rose s.faults_before s.faults_after → ⊥
+
+-- the inputs pass and can be run, and neither a source nor the sink had a fault
+pub record IsFaultless (seen : Seen) : Type 0 where
+  pub inputs : Inputs
+  pub accepted : AreAccepted seen inputs
+  pub plain : All IsPlainRound inputs.rounds
+  pub network : IsFaultlessSource seen.network
+  pub fleet : IsFaultlessSource seen.fleet
+  pub script : IsFaultlessSource seen.script
+  pub sink : Rose seen.faults_before seen.faults_after → ⊥
+
+-- all was done, or there was no memory
+abbrev pub IsDoneOrMemory : RunStatus → Type 0
+IsDoneOrMemory Done = Unit {0}
+IsDoneOrMemory OutOfMemory = Unit {0}
+IsDoneOrMemory _ = ⊥

@@ -8,6 +8,8 @@
 mod reading;
 mod run;
 mod status;
+#[cfg(test)]
+mod tests;
 mod text;
 mod writing;
 

@@ -2,7 +2,7 @@ ghost use Rattle.std.specs.Prelude.{◌≡◌, ◌≤◌, None, map, IfOk, IfErr
 ghost use Rattle.std.specs.List.{All};
 ghost use Rattle.std.specs.String.{string_bytes};
 ghost use Rattle.dispatch_engine.specs.Run.{IsPlainRound};
-ghost use Rattle.ridepool.specs.Explained.{Seen, AreGood, Explains, IsWordsFault, IsPartFault};
+ghost use Rattle.ridepool.specs.Explained.{Seen, AreGood, IsFaultless, IsDoneOrMemory, Explains, IsWordsFault, IsPartFault};
 ghost use Rattle.ridepool.specs.declared.status.RunStatus.TheVariants as status;
 
 use crate::reading::{fleet_from, network_from, script_from};
@@ -23,7 +23,8 @@ use std::alloc::Global;
 /// `Script` come exactly where that input is refused and the earlier ones pass; `TooLong` exactly where
 /// 67,108,865 bytes were taken from that source; `ReadFault` and `WriteFault` only where that object's count
 /// of faults rose; `Unsupported` exactly where the words are good for `load`, or all inputs pass and some
-/// lane has a seal. After all of these but `WriteFault` nothing is written; after `WriteFault` and
+/// lane has a seal. Where nothing of this is so, the answer is `Done` or `OutOfMemory`. After all of these
+/// but `WriteFault` nothing is written; after `WriteFault` and
 /// `OutOfMemory` a beginning of the report of a run of the script's first rounds stands.
 pub fn ridepool<N: Source, F: Source, S: Source, K: Sink>(
     alloc: Global,
@@ -43,6 +44,17 @@ pub fn ridepool<N: Source, F: Source, S: Source, K: Sink>(
       faults_before = K.faults out.old;
       faults_after = K.faults out.new;
     }) result }
+    ensures complete { let seen : Seen = record {
+      words = map string_bytes words.now;
+      network = record { told = N.left network.old; taken_before = N.taken network.old; taken_after = N.taken network.new; faults_before = N.faults network.old; faults_after = N.faults network.new };
+      fleet = record { told = F.left fleet.old; taken_before = F.taken fleet.old; taken_after = F.taken fleet.new; faults_before = F.faults fleet.old; faults_after = F.faults fleet.new };
+      script = record { told = S.left script.old; taken_before = S.taken script.old; taken_after = S.taken script.new; faults_before = S.faults script.old; faults_after = S.faults script.new };
+      written_before = K.written out.old;
+      written_after = K.written out.new;
+      faults_before = K.faults out.old;
+      faults_after = K.faults out.new;
+    } in
+        IsFaultless seen → IsDoneOrMemory result }
 {
     match run(alloc, words, network, fleet, script, out) {
         Ok(()) => RunStatus::Done,

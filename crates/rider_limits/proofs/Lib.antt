@@ -1,2 +1,3 @@
 pub mod WordsLemmas
 pub mod GivenLemmas
+pub mod ModeLemmas
