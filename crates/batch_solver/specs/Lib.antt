@@ -1,0 +1,4 @@
+pub mod Told
+pub mod Trips
+pub mod Moves
+pub mod Outcome

@@ -1,0 +1,61 @@
+-- The trips that a plan gives, and the orders of late vehicles.
+use Rattle.std.specs.Prelude.{◌≡◌, ℕ, ◌≤◌, ⊥, not, List, [], Option, Some, MatchOption, length, filter}
+use Rattle.std.specs.List.{AllZip, range_with_len}
+use Rattle.arrayvec.specs.declared.array_vec.ArrayVec.{ArrayVec}
+use Rattle.plan_rules.specs.Graph.{Graph, choice_at, riders_at, cost_at}
+use Rattle.request_book.specs.declared.outcome.ChosenTrip.{ChosenTrip}
+use Rattle.request_book.specs.declared.outcome.LateVehicle.{LateVehicle}
+use Rattle.request_book.specs.declared.outcome.PlannedStop.{PlannedStop}
+use Rattle.stop_orders.specs.Settled.{vehicle_at, trip_task}
+use Rattle.stop_orders.specs.Task.{Serves, IsOrderOf, ReachesAll, order_delay}
+use Rattle.stop_orders.specs.declared.settled.Settled.{Settled}
+use Rattle.stop_orders.specs.declared.stop.Stop.{Stop}
+use Rattle.batch_solver.specs.Told.{vehicle_id, told_stops}
+
+-- the vehicles that aren't late, and those that are, rising
+abbrev pub vehicles_in_time : Settled → List ℕ
+vehicles_in_time settled = filter (λ v. not (vehicle_at settled v).late) (range_with_len 0 (length settled.vehicles))
+
+abbrev pub late_vehicles : Settled → List ℕ
+late_vehicles settled = filter (λ v. (vehicle_at settled v).late) (range_with_len 0 (length settled.vehicles))
+
+-- the vehicle's trip is that of its chosen row, with an order of stops that serves it and whose delay is the row's cost
+pub record IsTripOf (points : List ℕ) (tau : ℕ → ℕ → ℕ) (settled : Settled) (graph : Graph) (chosen : List (Option ℕ)) (v : ℕ) (trip : ChosenTrip) : Type 0 where
+  pub row : ℕ
+  pub chooses : choice_at chosen v ≡ Some row
+  pub vehicle : trip.vehicle ≡ vehicle_id settled v
+  pub cost : trip.cost ≡ cost_at graph row
+  pub stops : List Stop
+  pub serves : Serves tau (trip_task settled v (riders_at graph row)) stops
+  pub delay : order_delay tau (trip_task settled v (riders_at graph row)) stops ≡ trip.cost
+  pub told : trip.stops.items ≡ told_stops points tau settled v (riders_at graph row) stops
+
+-- one trip for each vehicle that isn't late
+abbrev pub AreTrips : List ℕ → (ℕ → ℕ → ℕ) → Settled → Graph → List (Option ℕ) → List ChosenTrip → Type 0
+AreTrips points tau settled graph chosen trips =
+    AllZip (IsTripOf points tau settled graph chosen) (vehicles_in_time settled) trips
+
+-- no order of the vehicle's passengers reaches all their places
+abbrev pub HasNoOrder : (ℕ → ℕ → ℕ) → Settled → ℕ → Type 0
+HasNoOrder tau settled v =
+    (others : List Stop) → IsOrderOf (trip_task settled v []) others → ReachesAll tau (trip_task settled v []) others → ⊥
+
+-- an order of the passengers that reaches all their places, with the least delay of such orders
+pub record IsLateOrder (points : List ℕ) (tau : ℕ → ℕ → ℕ) (settled : Settled) (v delay : ℕ) (lines : List PlannedStop) : Type 0 where
+  pub stops : List Stop
+  pub order : IsOrderOf (trip_task settled v []) stops
+  pub reaches : ReachesAll tau (trip_task settled v []) stops
+  pub has_delay : order_delay tau (trip_task settled v []) stops ≡ delay
+  pub least : (others : List Stop) → IsOrderOf (trip_task settled v []) others → ReachesAll tau (trip_task settled v []) others
+      → delay ≤ order_delay tau (trip_task settled v []) others
+  pub told : lines ≡ told_stops points tau settled v [] stops
+
+-- the late vehicle with such an order; without one, and with delay 0, where there is none
+pub record IsLate (points : List ℕ) (tau : ℕ → ℕ → ℕ) (settled : Settled) (v : ℕ) (late : LateVehicle) : Type 0 where
+  pub vehicle : late.vehicle ≡ vehicle_id settled v
+  pub stops : MatchOption late.stops (HasNoOrder tau settled v × (late.delay ≡ 0))
+      (λ lines. IsLateOrder points tau settled v late.delay lines.items)
+
+-- one for each late vehicle
+abbrev pub AreLate : List ℕ → (ℕ → ℕ → ℕ) → Settled → List LateVehicle → Type 0
+AreLate points tau settled late = AllZip (IsLate points tau settled) (late_vehicles settled) late

@@ -1,0 +1,16 @@
+//! A batch, solved: its travel times, limits, graphs, plan, bound and moves, told in the files' ids.
+//!
+//! The outcome lists exactly the vehicle-trip pairs that some order of stops serves, each at its least delay;
+//! its plan is lawful, and no lawful plan costs less than its bound. It is an overflow exactly where there
+//! are more pairs than the settings allow.
+#![tactic(auto)]
+
+mod late;
+mod left;
+mod lines;
+mod moves;
+mod solving;
+mod told;
+mod trips;
+
+pub use solving::solve_batch;

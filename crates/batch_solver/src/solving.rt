@@ -1,0 +1,111 @@
+ghost use Rattle.std.specs.Prelude.{◌≡◌, All, Contains, IfOk, length};
+ghost use Rattle.batch_snapshot.specs.Points.{named_nodes};
+ghost use Rattle.pair_graph.specs.RrGraph.{IsRrGraph};
+ghost use Rattle.pair_graph.specs.RvGraph.{IsRvGraph};
+ghost use Rattle.pool_base.specs.Times.{point_count, travel_time};
+ghost use Rattle.stop_orders.specs.Settled.{IsSound};
+ghost use Rattle.trip_graph.specs.Answer.{IsTripGraphOf};
+ghost use Rattle.batch_solver.specs.Outcome.{IsGoodAnswer, IsGoodOutcome, IsGoodPlan};
+
+use crate::late::late_lines;
+use crate::left::left_riders;
+use crate::lines::{lapsed_ids, rider_ids, row_lines, rr_lines, rv_lines};
+use crate::moves::move_lines;
+use crate::trips::chosen_trips;
+use assignment_search::search;
+use batch_snapshot::{Points, Snapshot};
+use pair_graph::RvEdge;
+use plan_rules::TripGraph;
+use pool_base::{OutOfMemory, Sequence, Times};
+use promise_check::settle;
+use request_book::{Answer, Outcome, Planned};
+use rider_limits::Settings;
+use road_network::Network;
+use std::alloc::Global;
+use std::thread::Threads;
+use stop_orders::{PairList, Settled};
+use travel_times::times_between;
+use trip_graph::{GraphAnswer, grow_graph};
+
+/// Solves a batch, after Alonso-Mora, Samaranayake, Wallar, Frazzoli and Rus (2017): travel times between its
+/// nodes, limits, the graphs, an assignment with its bound, and moves of idle vehicles.
+///
+/// The answer is an overflow exactly where the trip graph has more rows than `settings.pairs`. It fails only
+/// for want of memory.
+pub fn solve_batch(
+    rt: &(impl Threads + Sync),
+    alloc: Global,
+    snapshot: &Snapshot,
+    network: &Network,
+    settings: &Settings,
+) -> Result<Outcome, OutOfMemory>
+    requires { All (λ node. Contains network.now.nodes node) (named_nodes snapshot.now) }
+    ensures { IfOk result (IsGoodOutcome settings.entry.now network.entry.now snapshot.entry.now) }
+{
+    let points = snapshot.points(alloc)?;
+    let times = times_between(rt, alloc, network, points.nodes())?;
+    let settled = settle(alloc, snapshot, settings, &points, &times)?;
+    let expired = Vec::from_slice(alloc, snapshot.expired.as_slice())?;
+    let answer = answer_of(alloc, settings, &points, &times, &settled)?;
+    Ok(Outcome {
+        expired: Sequence::of(expired),
+        answer,
+    })
+}
+
+/// The plan of the batch, or an overflow.
+fn answer_of(
+    alloc: Global,
+    settings: &Settings,
+    points: &Points,
+    times: &Times,
+    settled: &Settled,
+) -> Result<Answer, OutOfMemory>
+    requires table { point_count times.now ≡ length points.now }
+    requires sound { IsSound settings.now.trip (point_count times.now) (travel_time times.now) settled.now }
+    ensures { IfOk result (IsGoodAnswer settings.now points.now (travel_time times.now) settled.now) }
+{
+    match grow_graph(alloc, settled, times, settings)? {
+        GraphAnswer::Overflow => Ok(Answer::Overflow),
+        GraphAnswer::Graph { graph, rv, rr } => {
+            let planned = planned_of(alloc, settings, points, times, settled, &graph, rv.as_slice(), &rr)?;
+            Ok(Answer::Planned(planned))
+        }
+    }
+}
+
+/// A plan of the trip graph, with all that it rests on.
+fn planned_of(
+    alloc: Global,
+    settings: &Settings,
+    points: &Points,
+    times: &Times,
+    settled: &Settled,
+    graph: &TripGraph,
+    rv: &[RvEdge],
+    rr: &PairList,
+) -> Result<Planned, OutOfMemory>
+    requires table { point_count times.now ≡ length points.now }
+    requires sound { IsSound settings.now.trip (point_count times.now) (travel_time times.now) settled.now }
+    requires graph { IsTripGraphOf settings.now (travel_time times.now) settled.now graph.now }
+    requires rv { IsRvGraph (travel_time times.now) settled.now rv.now }
+    requires rr { IsRrGraph (travel_time times.now) settled.now rr.now }
+    ensures { IfOk result (IsGoodPlan settings.now points.now (travel_time times.now) settled.now) }
+{
+    let found = search(alloc, graph, settings.budget)?;
+    let chosen = found.plan.chosen();
+    let left = left_riders(alloc, graph, chosen)?;
+    Ok(Planned {
+        lapsed: Sequence::of(lapsed_ids(alloc, settled)?),
+        late: Sequence::of(late_lines(alloc, points, times, settled)?),
+        rv: Sequence::of(rv_lines(alloc, settled, rv)?),
+        rr: Sequence::of(rr_lines(alloc, settled, rr.all())?),
+        rows: Sequence::of(row_lines(alloc, settled, graph.rows())?),
+        chosen: Sequence::of(chosen_trips(alloc, points, times, settled, graph, chosen)?),
+        left: Sequence::of(rider_ids(alloc, settled, &left)?),
+        moves: Sequence::of(move_lines(alloc, times, settled, graph, chosen, &left)?),
+        cost: found.cost,
+        bound: found.bound,
+        tree: found.tree,
+    })
+}
