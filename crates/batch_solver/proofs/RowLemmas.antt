@@ -1,0 +1,62 @@
+use Rattle.std.proofs.Common.{◌≡◌, ℕ, ◌<◌, ◌≤◌, Bool, true, false, List, length, get_or, Option, Some, None, MatchOption, sym, ap, ◌∙◌, subst, arith}
+use Rattle.std.specs.Bool.{MatchBool}
+use Rattle.std.proofs.lemmas.List.{get_or_default}
+use Rattle.plan_rules.specs.declared.row.TripRow.{TripRow}
+use Rattle.plan_rules.specs.Graph.{Graph, IsRowOf, HasNoRow, choice_at, riders_at, cost_at, no_row}
+use Rattle.plan_rules.specs.Plan.{IsLawful}
+use Rattle.rider_limits.specs.declared.settings.Settings.{Settings}
+use Rattle.stop_orders.specs.declared.settled.Settled.{Settled}
+use Rattle.stop_orders.specs.declared.stop.Stop.{Stop}
+use Rattle.stop_orders.specs.declared.task.Task.{Task}
+use Rattle.stop_orders.specs.Settled.{IsTrip, trip_task, vehicle_at}
+use Rattle.stop_orders.specs.Task.{IsLeastDelay, Serves, order_delay}
+use Rattle.stop_orders.specs.Visit.{Reaches, ServesFrom}
+use Rattle.trip_graph.specs.Answer.{IsTripGraphOf, IsRowWith}
+
+-- a row of the trip graph: its trip, and the least delay of an order of the vehicle that serves it
+pub record IsServedRow (tau : ℕ → ℕ → ℕ) (settled : Settled) (graph : Graph) (v row : ℕ) : Type 0 where
+  pub within : row < length graph.rows
+  pub trip : IsTrip (length settled.riders) (riders_at graph row)
+  pub size : length (riders_at graph row) ≤ 6
+  pub costs : IsLeastDelay tau (trip_task settled v (riders_at graph row)) (cost_at graph row)
+
+-- what is chosen for a vehicle is what stands at its number
+pub choice_read : (chosen : List (Option ℕ)) (v : ℕ) (x : Option ℕ) → v < length chosen → get_or chosen v x ≡ choice_at chosen v
+choice_read chosen v x h = get_or_default chosen v x None h
+
+pub row_read : (graph : Graph) (rows : List TripRow) (k : ℕ) (x : TripRow) → rows ≡ graph.rows → k < length graph.rows → get_or rows k x ≡ get_or graph.rows k no_row
+row_read graph rows k x e h = ap (λ (list : List TripRow). get_or list k x) e ∙ get_or_default graph.rows k x no_row h
+
+module _ (settings : Settings) (tau : ℕ → ℕ → ℕ) (settled : Settled) (graph : Graph) (chosen : List (Option ℕ)) (exact : IsTripGraphOf settings tau settled graph) (lawful : IsLawful graph chosen) where
+  pub chosen_long : (v : ℕ) → v < length settled.vehicles → v < length chosen
+  chosen_long v h = omega (arith, exact.vehicle_total, lawful.plan.sized)
+
+  own_choice : (v : ℕ) → v < length settled.vehicles → MatchOption (choice_at chosen v) (HasNoRow graph v) (IsRowOf graph v)
+  own_choice v h = lawful.plan.own v (omega (arith, exact.vehicle_total))
+
+  -- a vehicle that isn't late has a row, and so is given one
+  pub choice_some : (v : ℕ) → v < length settled.vehicles → (vehicle_at settled v).late ≡ false → choice_at chosen v ≡ None → ⊥
+  choice_some v h in_time none =
+      let held = rw in_time at (exact.hold.each v h) in
+      let row : IsRowWith graph.rows v (vehicle_at settled v).held.items held.0 = held.2 in
+      let no : HasNoRow graph v = rw none at (own_choice v h) in
+      no held.0 (record { within = row.within; own = row.own })
+
+  pub served_row : (v row : ℕ) → v < length settled.vehicles → choice_at chosen v ≡ Some row → IsServedRow tau settled graph v row
+  served_row v row h choice =
+      let own : IsRowOf graph v row = rw choice at (own_choice v h) in
+      let right = exact.exact.right row own.within in
+      record {
+        within = own.within;
+        trip = right.riders;
+        size = (exact.good.rows row own.within).few;
+        costs = subst (λ n. IsLeastDelay tau (trip_task settled n (riders_at graph row)) (cost_at graph row)) own.own right.costs;
+      }
+
+-- a serving order of least delay has the delay of any other such order
+pub least_same : (tau : ℕ → ℕ → ℕ) (task : Task) (stops : List Stop) (cost : ℕ) → IsLeastDelay tau task cost → Serves tau task stops
+    → ((others : List Stop) → Serves tau task others → order_delay tau task stops ≤ order_delay tau task others) → order_delay tau task stops ≡ cost
+least_same tau task stops cost known serves least =
+    let below = known.least stops serves in
+    let above = least known.stops known.serves in
+    omega (arith, known.has_delay)
