@@ -4,14 +4,16 @@ use Rattle.std.proofs.lemmas.List.{get_or_default}
 use Rattle.plan_rules.specs.declared.row.TripRow.{TripRow}
 use Rattle.plan_rules.specs.Graph.{Graph, IsRowOf, HasNoRow, choice_at, riders_at, cost_at, no_row}
 use Rattle.plan_rules.specs.Plan.{IsLawful}
+use Rattle.request_book.specs.declared.outcome.ChosenTrip.{ChosenTrip}
 use Rattle.rider_limits.specs.declared.settings.Settings.{Settings}
 use Rattle.stop_orders.specs.declared.settled.Settled.{Settled}
 use Rattle.stop_orders.specs.declared.stop.Stop.{Stop}
 use Rattle.stop_orders.specs.declared.task.Task.{Task}
 use Rattle.stop_orders.specs.Settled.{IsTrip, trip_task, vehicle_at}
 use Rattle.stop_orders.specs.Task.{IsLeastDelay, Serves, order_delay}
-use Rattle.stop_orders.specs.Visit.{Reaches, ServesFrom}
 use Rattle.trip_graph.specs.Answer.{IsTripGraphOf, IsRowWith}
+use Rattle.batch_solver.specs.Told.{vehicle_id, told_stops}
+use Rattle.batch_solver.specs.Trips.{IsTripOf}
 
 -- a row of the trip graph: its trip, and the least delay of an order of the vehicle that serves it
 pub record IsServedRow (tau : ℕ → ℕ → ℕ) (settled : Settled) (graph : Graph) (v row : ℕ) : Type 0 where
@@ -60,3 +62,16 @@ least_same tau task stops cost known serves least =
     let below = known.least stops serves in
     let above = least known.stops known.serves in
     omega (arith, known.has_delay)
+
+-- the trip that a search finds is that of the chosen row
+pub trip_found : (nodes : List ℕ) (tau : ℕ → ℕ → ℕ) (settled : Settled) (graph : Graph) (chosen : List (Option ℕ)) (v row : ℕ) (task : Task) (stops : List Stop) (delay : ℕ) (trip : ChosenTrip)
+    → choice_at chosen v ≡ Some row → IsServedRow tau settled graph v row → trip.vehicle ≡ vehicle_id settled v → trip.cost ≡ cost_at graph row → task ≡ trip_task settled v (riders_at graph row)
+    → Serves tau task stops → delay ≡ order_delay tau task stops → ((others : List Stop) → Serves tau task others → delay ≤ order_delay tau task others)
+    → trip.stops.items ≡ told_stops nodes tau settled v (riders_at graph row) stops → IsTripOf nodes tau settled graph chosen v trip
+trip_found nodes tau settled graph chosen v row task stops delay trip choice served id cost same serves has_delay least told =
+    let own = trip_task settled v (riders_at graph row) in
+    let own_serves = subst (λ (t : Task). Serves tau t stops) same serves in
+    let own_delay = subst (λ (t : Task). delay ≡ order_delay tau t stops) same has_delay in
+    let own_least = subst (λ (t : Task). (others : List Stop) → Serves tau t others → delay ≤ order_delay tau t others) same least in
+    let costs = least_same tau own stops (cost_at graph row) served.costs own_serves (λ others s. subst (λ d. d ≤ order_delay tau own others) own_delay (own_least others s)) in
+    record { row = row; chooses = choice; vehicle = id; cost = cost; stops = stops; serves = own_serves; delay = costs ∙ sym cost; told = told }
