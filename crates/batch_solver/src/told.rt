@@ -85,7 +85,7 @@ fn tell_stop(
     }
 }
 
-/// The id of a passenger.
+/// The id of a passenger: the ids stand beside the legs.
 fn passenger_id(settled: &Settled, vehicle: usize, passenger: usize) -> RiderId
     requires { vehicle < length settled.now.vehicles }
     ensures { result ≡ slice_index (vehicle_at settled.entry.now vehicle).aboard_ids.items passenger }

@@ -1,4 +1,4 @@
-use Rattle.std.proofs.Common.{◌≡◌, ℕ, ◌<◌, ◌≤◌, List, [], length, refl, sym, ap, ◌∙◌, subst, arith}
+use Rattle.std.proofs.Common.{◌≡◌, ℕ, ◌<◌, List, [], length, refl, sym, ap, subst, arith}
 use Rattle.pool_base.specs.Times.{point_count, travel_time}
 use Rattle.stop_orders.specs.declared.settled_vehicle.SettledVehicle.{SettledVehicle}
 use Rattle.stop_orders.specs.declared.stop.Stop.{Stop}
@@ -41,5 +41,25 @@ tell_stops-stops-requires c =
     let task = c.task_of-task.result in
     let found : IsOrderOf task c.in-Some.route.stops.items = rw c.in-Some.is at c.in_ok-least_delay_unlimited.ensures.order in
     let order : IsOrderOf task c.as_slice-order.result.now = subst (IsOrderOf task) (sym c.as_slice-order.ensures.value) found in
-    let valid = valid_task c.args.settled.now c.args.vehicle (point_count c.args.times.now) (travel_time c.args.times.now) task c.requires.sound c.requires.vehicle c.task_of-task.ensures in (omega arith, (c.requires.table, (c.requires.vehicle, (λ i d lt. absurd (omega arith), (c.task_of-task.ensures, (valid, (order,
-    passengers_few (point_count c.args.times.now) task c.as_slice-order.result.now valid (ap (λ (t : Task). t.riders.items) c.task_of-task.ensures) order)))))))
+    let valid = valid_task c.args.settled.now c.args.vehicle (point_count c.args.times.now) (travel_time c.args.times.now) task c.requires.sound c.requires.vehicle c.task_of-task.ensures in (
+      omega arith,
+      (
+        c.requires.table,
+        (
+          c.requires.vehicle,
+          (
+            λ i d lt. absurd (omega arith),
+            (
+              c.task_of-task.ensures,
+              (
+                valid,
+                (
+                  order,
+                  passengers_few (point_count c.args.times.now) task c.as_slice-order.result.now valid (ap (λ (t : Task). t.riders.items) c.task_of-task.ensures) order,
+                ),
+              ),
+            ),
+          ),
+        ),
+      ),
+    )

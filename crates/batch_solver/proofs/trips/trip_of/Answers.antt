@@ -36,11 +36,11 @@ returns g c =
     let riders_is : c.as_slice-riders.result.now ≡ riders_at graph number = c.as_slice-riders.ensures.value ∙ ap (λ (row : TripRow). row.riders.items) row_is in
     let found = c.in_ok-route.ensures in
     trip_found c.args.points.now tau settled graph chosen v number c.task_of-task.result c.in-Some-2.route.stops.items c.in-Some-2.route.delay _
-        choice served
-        (ap (λ (one : SettledVehicle). one.id) (vehicle_read settled c.as_slice.result.now v _ c.as_slice.ensures c.requires.vehicle))
-        (ap (λ (row : TripRow). row.cost) row_is)
-        (c.task_of-task.ensures ∙ ap (trip_task settled v) riders_is)
-        (rw c.in-Some-2.is at found.serves) (rw c.in-Some-2.is at found.delay) (rw c.in-Some-2.is at found.least)
-        (c.tell_stops-stops.ensures
-        ∙ ap (λ (trip : List ℕ). told_stops c.args.points.now tau settled v trip c.as_slice-order.result.now) riders_is
-        ∙ ap (λ (stops : List Stop). told_stops c.args.points.now tau settled v (riders_at graph number) stops) c.as_slice-order.ensures.value)
+    choice served
+    (ap (λ (one : SettledVehicle). one.id) (vehicle_read settled c.as_slice.result.now v _ c.as_slice.ensures c.requires.vehicle))
+    (ap (λ (row : TripRow). row.cost) row_is)
+    (c.task_of-task.ensures ∙ ap (trip_task settled v) riders_is)
+    (rw c.in-Some-2.is at found.serves) (rw c.in-Some-2.is at found.delay) (rw c.in-Some-2.is at found.least)
+    (c.tell_stops-stops.ensures
+    ∙ ap (λ (trip : List ℕ). told_stops c.args.points.now tau settled v trip c.as_slice-order.result.now) riders_is
+    ∙ ap (λ (stops : List Stop). told_stops c.args.points.now tau settled v (riders_at graph number) stops) c.as_slice-order.ensures.value)
