@@ -15,7 +15,7 @@ pub(crate) fn left_riders(
     chosen: &[Option<u32>],
 ) -> Result<Vec<usize>, OutOfMemory>
     requires { IsPlan graph.now chosen.now }
-    ensures value { IfOk result (λ left. left.items ≡ left_riders graph.now chosen.now) }
+    ensures left { IfOk result (λ left. left.items ≡ left_riders graph.now chosen.now) }
     ensures within { IfOk result (λ left. All (λ r. r < graph.now.riders) left.items) }
     ensures few { IfOk result (λ left. length left.items ≤ 1000) }
 {

@@ -1,4 +1,4 @@
-use Rattle.std.proofs.Common.{◌≡◌, ◌==◌, ℕ, ◌+◌, ◌<◌, ◌≤◌, [], ◌∷◌, ◌++◌, length, filter, sym, ap, ◌∙◌, arith}
+use Rattle.std.proofs.Common.{◌≡◌, ◌==◌, ◌<◌, [], ◌∷◌, ◌++◌, sym, ap, ◌∙◌, arith}
 use Rattle.batch_solver.proofs.LeftLemmas.{left_takes, left_skips, kept_below, kept_few}
 use Rattle.plan_rules.specs.Plan.{times_chosen}
 use Rattle.batch_solver.proofs.left.left_riders.Goals as goal
