@@ -1,3 +1,5 @@
+pub mod LeftLemmas
+pub mod MoveLemmas
+pub mod RowLemmas
 pub mod ToldLemmas
 pub mod TripLemmas
-pub mod RowLemmas
