@@ -71,7 +71,16 @@ fn answer_of(
     match grow_graph(alloc, settled, times, settings)? {
         GraphAnswer::Overflow => Ok(Answer::Overflow),
         GraphAnswer::Graph { graph, rv, rr } => {
-            let planned = planned_of(alloc, settings, points, times, settled, &graph, rv.as_slice(), &rr)?;
+            let planned = planned_of(
+                alloc,
+                settings,
+                points,
+                times,
+                settled,
+                &graph,
+                rv.as_slice(),
+                &rr,
+            )?;
             Ok(Answer::Planned(planned))
         }
     }
