@@ -3,4 +3,5 @@ pub mod TextLemmas
 pub mod NetworkLemmas
 pub mod NodeLemmas
 pub mod FleetLemmas
+pub mod ScriptLemmas
 pub mod ShapeLemmas

@@ -1,5 +1,5 @@
 use Rattle.made_inputs.proofs.ShapeLemmas.{accepted}
-use Rattle.made_inputs.proofs.network_and_fleet_are_accepted.Goals as goal
+use Rattle.made_inputs.proofs.made_inputs_are_accepted.Goals as goal
 
 -- src/lib.rt:11:1
 pub returns : goal.returns
