@@ -5,3 +5,4 @@ pub mod NodeLemmas
 pub mod FleetLemmas
 pub mod ScriptLemmas
 pub mod ShapeLemmas
+pub mod ReadLemmas

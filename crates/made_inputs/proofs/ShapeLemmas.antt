@@ -23,16 +23,24 @@ accepted shape range =
     let script = script_accepted shape range.side_least range.side_most range.vehicles_most range.riders_most range.rounds_most in
     let read : GiveScript (map fields_of lines) = script.1 in
     record {
-      network = record { columns = 3; records = map fields_of arcs };
-      network_rows = table_of-under network_header 3 arcs IsHeader-network (omega arith) network.0;
       roads = roads_of (map fields_of arcs);
-      network_is = network.1;
-      fleet = record { columns = 4; records = map fields_of rows };
-      fleet_rows = table_of-under fleet_header 4 rows IsHeader-fleet (omega arith) fleet.0;
       vehicles = given.vehicles;
-      fleet_is = given.is;
-      script = record { columns = 7; records = map fields_of lines };
-      script_rows = table_of-under script_header 7 lines IsHeader-script (omega arith) script.0;
       rounds = read.rounds;
-      script_is = read.is;
+      read = record {
+        network = record {
+          table = record { columns = 3; records = map fields_of arcs };
+          rows = table_of-under network_header 3 arcs IsHeader-network (omega arith) network.0;
+          is = network.1;
+        };
+        fleet = record {
+          table = record { columns = 4; records = map fields_of rows };
+          rows = table_of-under fleet_header 4 rows IsHeader-fleet (omega arith) fleet.0;
+          is = given.is;
+        };
+        script = record {
+          table = record { columns = 7; records = map fields_of lines };
+          rows = table_of-under script_header 7 lines IsHeader-script (omega arith) script.0;
+          is = read.is;
+        };
+      };
     }
