@@ -7,4 +7,4 @@
 mod lane;
 mod round;
 
-pub use round::{may_run, run_round};
+pub use round::run_round;
