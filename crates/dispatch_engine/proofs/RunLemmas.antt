@@ -17,12 +17,11 @@ use Rattle.request_book.specs.declared.command.Command.TheVariants.{Submit, Canc
 use Rattle.request_book.specs.declared.journal.Entry.{Entry}
 use Rattle.request_book.specs.declared.outcome.Outcome.{Outcome}
 use Rattle.request_book.specs.declared.reply.Reply.{Reply}
-use Rattle.request_book.specs.declared.reply.Reply.TheVariants.{Sealed, Closed}
 use Rattle.request_book.specs.declared.state.State.{State}
 use Rattle.rider_limits.specs.declared.settings.Settings.{Settings}
 use Rattle.road_network.specs.Roads.{Roads}
 use Rattle.script_rows.specs.Round.{NumberedLanes, lane_at}
-use Rattle.dispatch_engine.specs.Run.{of_lane, sealed_by, IsCloseOf, IsLaneRun, IsLaneRunFrom, IsGoodClose, ClosesAreGood, IsRoundRun, IsSameRun, IsReady, IsPlain, HasTaken, HasRun, HasRunRound, journal_of}
+use Rattle.dispatch_engine.specs.Run.{of_lane, sealed_by, IsLaneRun, IsLaneRunFrom, IsGoodClose, ClosesAreGood, IsRoundRun, IsSameRun, IsReady, IsPlain, HasTaken, HasRun, HasRunRound, journal_of}
 use Rattle.dispatch_engine.proofs.StepLemmas.{SealsNone, Seals, Closes, plain-seals_none, seal-seals_none, seal-seals, close-closes, sealed-contained}
 
 -- more commands of a lane, and more entries
@@ -155,7 +154,7 @@ module _ (settings : Settings) (roads : Roads) where
       let f : Entry = record { lane = lane; command = close-command; reply = close.reply } in
       let mid-is : mid.state ≡ (step roads.nodes settings.wait old.state (Seal now)).0 = ap (λ p. p.0) seal-is in
       let good-here : IsGoodClose settings roads mid.state close-command close.reply =
-          subst (λ r. IsGoodClose settings roads mid.state close-command r) (sym closed.reply) (b, sealed.state, good)
+      subst (λ r. IsGoodClose settings roads mid.state close-command r) (sym closed.reply) (b, sealed.state, good)
       in
       record {
         same = same_run-trans old mid new (same_run-applied old mid lane (Seal now) seal.reply seal.applied) (same_run-applied mid new lane close-command close.reply close.applied);

@@ -1,9 +1,8 @@
-ghost use Rattle.std.specs.Prelude.{◌≡◌, ◌∷◌, [], Some, All, OnOk};
-ghost use Rattle.request_book.specs.Book.{would_seal, IsBook};
+ghost use Rattle.std.specs.Prelude.{◌≡◌, ◌∷◌, [], All, OnOk};
+ghost use Rattle.request_book.specs.Book.{IsBook};
 ghost use Rattle.script_rows.specs.Round.{MayStand};
 ghost use Rattle.dispatch_engine.specs.Run.{IsPlain, IsReady, HasRun, HasTaken};
 
-use batch_snapshot::Snapshot;
 use batch_solver::solve_batch;
 use pool_base::{OutOfMemory, Second};
 use request_book::{Book, Command};
@@ -51,7 +50,7 @@ fn run_command(
     }
 }
 
-/// Lets the book take a seal, and the close of the batch that it puts up.
+/// Lets the book take a seal and, where it put a batch up, at once the close of that batch.
 fn run_seal(
     rt: &(impl Threads + Sync),
     alloc: Global,
@@ -64,34 +63,19 @@ fn run_seal(
     requires ready { IsReady settings.now network.now book.old }
     ensures { OnOk result (HasRun settings.now network.now book.old lane (Command.Seal now ∷ []) book.new) }
 {
-    match book.would_seal(now)? {
-        Some(snapshot) => run_batch(rt, alloc, book, lane, now, &snapshot, network, settings),
-        None => take(book, lane, Command::Seal { now }),
-    }
-}
-
-/// Seals a batch, of which this is the snapshot, and closes it at once.
-fn run_batch(
-    rt: &(impl Threads + Sync),
-    alloc: Global,
-    book: &mut Book,
-    lane: u8,
-    now: Second,
-    snapshot: &Snapshot,
-    network: &Network,
-    settings: &Settings,
-) -> Result<(), OutOfMemory>
-    requires ready { IsReady settings.now network.now book.old }
-    requires seals { would_seal settings.now.wait book.old.state now ≡ Some snapshot.now }
-    ensures { OnOk result (HasRun settings.now network.now book.old lane (Command.Seal now ∷ []) book.new) }
-{
+    let sealed = book.would_seal(now)?;
     take(book, lane, Command::Seal { now })?;
-    let outcome = solve_batch(rt, alloc, snapshot, network, settings)?;
-    let close = Command::Close {
-        batch: snapshot.batch,
-        outcome,
-    };
-    take(book, lane, close)
+    match sealed {
+        Some(snapshot) => {
+            let outcome = solve_batch(rt, alloc, &snapshot, network, settings)?;
+            let close = Command::Close {
+                batch: snapshot.batch,
+                outcome,
+            };
+            take(book, lane, close)
+        }
+        None => Ok(()),
+    }
 }
 
 fn take(book: &mut Book, lane: u8, command: Command) -> Result<(), OutOfMemory>

@@ -51,7 +51,15 @@ fn run_lanes(
     ensures { OnOk result (HasRunRound settings.now network.now book.old round.now book.new) }
 {
     for lane in 0..16 {
-        run_lane(rt, alloc, book, lane as u8, round.lane(lane), network, settings)?;
+        run_lane(
+            rt,
+            alloc,
+            book,
+            lane as u8,
+            round.lane(lane),
+            network,
+            settings,
+        )?;
     }
     Ok(())
 }

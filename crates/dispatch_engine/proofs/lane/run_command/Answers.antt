@@ -1,4 +1,4 @@
-use Rattle.std.proofs.Common.{rules, ◌≡◌, subst}
+use Rattle.std.proofs.Common.{rules, subst}
 use Rattle.std.proofs.lemmas.Result.{on_ok_weaker}
 use Rattle.dispatch_engine.specs.Run.{IsPlain, HasTaken}
 use Rattle.dispatch_engine.proofs.RunLemmas.{runs_plain}
