@@ -7,7 +7,7 @@ use Rattle.rebalancing.specs.Matching.{IsBestMatching, seconds_of}
 use Rattle.request_book.specs.declared.outcome.MoveLine.{MoveLine}
 use Rattle.stop_orders.specs.Settled.{vehicle_at, rider_at}
 use Rattle.stop_orders.specs.declared.settled.Settled.{Settled}
-use Rattle.batch_solver.specs.Told.{vehicle_id, rider_id, left_riders}
+use Rattle.batch_solver.specs.Told.{vehicle_id, rider_id}
 
 -- a vehicle is idle where nobody is aboard, it isn't late, and its chosen trip has no rider
 abbrev pub is_idle : Settled → Graph → List (Option ℕ) → ℕ → Bool
@@ -40,3 +40,16 @@ pub record AreMoves (tau : ℕ → ℕ → ℕ) (settled : Settled) (idle left :
   pub best : IsBestMatching tau (starts_of settled idle) (origins_of settled left) pairs
   pub rising : AllPairs (λ (p q : ℕ × ℕ). p.0 < q.0) pairs
   pub told : moves ≡ map (move_line tau settled idle left) pairs
+
+-- the move of a vehicle to a rider
+abbrev pub move_from_to : (ℕ → ℕ → ℕ) → Settled → ℕ → ℕ → MoveLine
+move_from_to tau settled v r = record {
+  vehicle = vehicle_id settled v;
+  rider = rider_id settled r;
+  seconds = tau (vehicle_at settled v).start (rider_at settled r).leg.origin;
+}
+
+-- vehicles stand and riders wait at places of a table of so many
+pub record HasPlaces (points : ℕ) (settled : Settled) : Type 0 where
+  pub vehicles : (v : ℕ) → v < length settled.vehicles → (vehicle_at settled v).start < points
+  pub riders : (r : ℕ) → r < length settled.riders → (rider_at settled r).leg.origin < points

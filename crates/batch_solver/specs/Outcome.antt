@@ -60,9 +60,9 @@ IsGoodAnswer settings points tau settled (answer.Planned planned) = IsGoodPlan s
 
 -- the batch's nodes, the travel times between them on the network, and the limits that follow from them
 pub record IsPosed (settings : Settings) (roads : Roads) (batch : Batch) (points : List ℕ) (times : Times) (settled : Settled) : Type 0 where
-  pub points : ArePoints batch points
-  pub times : AreTravelTimes roads.arcs (map (index_in roads.nodes) points) times
-  pub settled : IsSettled settings points (travel_time times) batch settled
+  pub nodes : ArePoints batch points
+  pub table : AreTravelTimes roads.arcs (map (index_in roads.nodes) points) times
+  pub limits : IsSettled settings points (travel_time times) batch settled
 
 -- the outcome is a good answer for the batch, and tells who expired
 pub record IsGoodOutcome (settings : Settings) (roads : Roads) (batch : Batch) (outcome : Outcome) : Type 0 where

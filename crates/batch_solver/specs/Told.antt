@@ -1,5 +1,5 @@
 -- How the numbers of a settled batch are told: vehicles, riders and nodes by the files' ids.
-use Rattle.std.specs.Prelude.{ℕ, ◌==◌, true, false, List, map, filter, length, slice_index}
+use Rattle.std.specs.Prelude.{ℕ, ◌==◌, true, false, List, Option, map, filter, slice_index}
 use Rattle.std.specs.List.{range_with_len, zip}
 use Rattle.plan_rules.specs.Graph.{Graph}
 use Rattle.plan_rules.specs.Plan.{times_chosen}

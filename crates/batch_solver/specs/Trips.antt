@@ -1,7 +1,6 @@
 -- The trips that a plan gives, and the orders of late vehicles.
-use Rattle.std.specs.Prelude.{◌≡◌, ℕ, ◌≤◌, ⊥, not, List, [], Option, Some, MatchOption, length, filter}
+use Rattle.std.specs.Prelude.{◌≡◌, ℕ, ◌≤◌, not, List, [], Option, Some, MatchOption, length, filter}
 use Rattle.std.specs.List.{AllZip, range_with_len}
-use Rattle.arrayvec.specs.declared.array_vec.ArrayVec.{ArrayVec}
 use Rattle.plan_rules.specs.Graph.{Graph, choice_at, riders_at, cost_at}
 use Rattle.request_book.specs.declared.outcome.ChosenTrip.{ChosenTrip}
 use Rattle.request_book.specs.declared.outcome.LateVehicle.{LateVehicle}

@@ -1,7 +1,10 @@
-ghost use Rattle.std.specs.Prelude.{◌≡◌, All, Contains, IfOk, length};
+ghost use Rattle.std.specs.Prelude.{◌≡◌, ◌≤◌, All, Contains, IfOk, length};
+ghost use Rattle.assignment_search.specs.Found.{IsAnswer};
 ghost use Rattle.batch_snapshot.specs.Points.{named_nodes};
 ghost use Rattle.pair_graph.specs.RrGraph.{IsRrGraph};
 ghost use Rattle.pair_graph.specs.RvGraph.{IsRvGraph};
+ghost use Rattle.plan_rules.specs.Graph.{IsGoodGraph};
+ghost use Rattle.plan_rules.specs.Plan.{IsBound};
 ghost use Rattle.pool_base.specs.Times.{point_count, travel_time};
 ghost use Rattle.stop_orders.specs.Settled.{IsSound};
 ghost use Rattle.trip_graph.specs.Answer.{IsTripGraphOf};
@@ -12,10 +15,10 @@ use crate::left::left_riders;
 use crate::lines::{lapsed_ids, rider_ids, row_lines, rr_lines, rv_lines};
 use crate::moves::move_lines;
 use crate::trips::chosen_trips;
-use assignment_search::search;
+use assignment_search::{Found, search};
 use batch_snapshot::{Points, Snapshot};
 use pair_graph::RvEdge;
-use plan_rules::TripGraph;
+use plan_rules::{TripGraph, tree_value_is_a_bound};
 use pool_base::{OutOfMemory, Sequence, Times};
 use promise_check::settle;
 use request_book::{Answer, Outcome, Planned};
@@ -63,7 +66,7 @@ fn answer_of(
 ) -> Result<Answer, OutOfMemory>
     requires table { point_count times.now ≡ length points.now }
     requires sound { IsSound settings.now.trip (point_count times.now) (travel_time times.now) settled.now }
-    ensures { IfOk result (IsGoodAnswer settings.now points.now (travel_time times.now) settled.now) }
+    ensures { IfOk result (IsGoodAnswer settings.now points.now (travel_time times.now) settled.entry.now) }
 {
     match grow_graph(alloc, settled, times, settings)? {
         GraphAnswer::Overflow => Ok(Answer::Overflow),
@@ -90,9 +93,9 @@ fn planned_of(
     requires graph { IsTripGraphOf settings.now (travel_time times.now) settled.now graph.now }
     requires rv { IsRvGraph (travel_time times.now) settled.now rv.now }
     requires rr { IsRrGraph (travel_time times.now) settled.now rr.now }
-    ensures { IfOk result (IsGoodPlan settings.now points.now (travel_time times.now) settled.now) }
+    ensures { IfOk result (IsGoodPlan settings.now points.now (travel_time times.now) settled.entry.now) }
 {
-    let found = search(alloc, graph, settings.budget)?;
+    let found = bounded(alloc, graph, settings.budget)?;
     let chosen = found.plan.chosen();
     let left = left_riders(alloc, graph, chosen)?;
     Ok(Planned {
@@ -105,7 +108,25 @@ fn planned_of(
         left: Sequence::of(rider_ids(alloc, settled, &left)?),
         moves: Sequence::of(move_lines(alloc, times, settled, graph, chosen, &left)?),
         cost: found.cost,
-        bound: found.bound,
+        bound: bound_of(&found),
         tree: found.tree,
     })
+}
+
+/// A plan of the graph, and a bound below which no lawful plan costs.
+fn bounded(alloc: Global, graph: &TripGraph, budget: u32) -> Result<Found, OutOfMemory>
+    requires budget { 1 ≤ budget }
+    requires good { IsGoodGraph graph.now }
+    ensures plan { IfOk result (IsAnswer graph.now budget) }
+    ensures bound { IfOk result (λ found. IsBound graph.now found.bound) }
+{
+    tree_value_is_a_bound();
+    search(alloc, graph, budget)
+}
+
+/// The bound, a number of its type's range.
+fn bound_of(found: &Found) -> i128
+    ensures { result ≡ found.now.bound }
+{
+    found.bound
 }

@@ -1,9 +1,7 @@
 -- Where nothing is wrong, a run is done or out of memory.
-use Rattle.std.proofs.Common.{◌≡◌, ℕ, Bool, true, false, List, [], ◌∷◌, Option, Some, None, Result, Ok, Err, refl, sym, subst, ap, ◌∙◌}
+use Rattle.std.proofs.Common.{◌≡◌, ℕ, true, List, Option, Some, None, Result, Ok, Err, sym, subst, ap, ◌∙◌}
 use Rattle.std.specs.Prelude.{is_some, IfSome}
-use Rattle.std.specs.List.{All}
 use Rattle.std.proofs.lemmas.Bool.{false≢true}
-use Rattle.dispatch_engine.specs.Run.{IsPlainRound}
 use Rattle.pool_base.specs.declared.which.Which.TheVariants as file
 use Rattle.rider_limits.proofs.ModeLemmas.{both_run}
 use Rattle.rider_limits.specs.Words.{fault_of}
@@ -71,6 +69,3 @@ complete seen (ReadFault file.Fleet) f why = f.fleet.faults why.0.3.1
 complete seen (ReadFault file.Script) f why = f.script.faults why.0.3.1
 complete seen WriteFault f why = f.sink why.0
 complete seen (Unsupported part.Words) f why = why.3 (both_run seen.words f.inputs.settings why.0 f.accepted.words.given f.accepted.words.run why.2)
-complete seen (Unsupported part.Script) f why =
-    let b = both seen.script.told (λ bytes. script_in bytes ≡ Ok f.inputs.rounds) (λ bytes. script_in bytes ≡ Ok why.0.0.rounds) f.script.told f.accepted.script why.0.1.script in
-    why.0.2 (subst (All IsPlainRound) (same_value (script_in b.0) f.inputs.rounds why.0.0.rounds b.1 b.2) f.plain)

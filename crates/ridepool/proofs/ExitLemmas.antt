@@ -8,7 +8,7 @@ use Rattle.rider_limits.specs.declared.settings.Mode.{Mode}
 use Rattle.rider_limits.specs.declared.settings.Mode.TheVariants.{Run, Load}
 use Rattle.rider_limits.specs.declared.settings.Settings.{Settings}
 use Rattle.road_network.specs.Roads.{Roads}
-use Rattle.ridepool.specs.Explained.{Seen, AreGood, PassNetwork, AreAccepted, NothingWritten, CameToSource, Explains, IsWordsFault, IsPartFault}
+use Rattle.ridepool.specs.Explained.{Seen, AreGood, PassNetwork, AreAccepted, NothingWritten, CameToSource, Explains, IsWordsFault}
 use Rattle.ridepool.specs.Reading.{Gives, fleet_in, IsNetworkFault, IsFleetFault, IsScriptFault}
 use Rattle.ridepool.specs.Report.{Inputs, RunsRounds, report_text}
 use Rattle.ridepool.specs.Writing.{IsWritingFault}
@@ -33,7 +33,6 @@ kept (Some xs) = refl
 pub words_exit : (seen : Seen) (s : RunStatus) → IsWordsFault seen.words s → NothingWritten seen → Explains seen s
 words_exit seen (Words fault) why nothing = (why, nothing)
 words_exit seen (Unsupported part.Words) why nothing = (why.0, why.1, why.2, why.3, nothing)
-words_exit seen (Unsupported part.Script) why nothing = absurd why
 words_exit seen Done why nothing = absurd why
 words_exit seen (Network fault) why nothing = absurd why
 words_exit seen (Fleet fault) why nothing = absurd why
@@ -91,19 +90,6 @@ script_exit seen i (Network fault) pass fleet why nothing = absurd why
 script_exit seen i (Fleet fault) pass fleet why nothing = absurd why
 script_exit seen i WriteFault pass fleet why nothing = absurd why
 script_exit seen i (Unsupported p) pass fleet why nothing = absurd why
-
-pub part_exit : (seen : Seen) (i : Inputs) (s : RunStatus) → AreAccepted seen i → IsPartFault i.rounds s → NothingWritten seen → Explains seen s
-part_exit seen i (Unsupported part.Script) accepted why nothing = ((i, accepted, why), nothing)
-part_exit seen i (Unsupported part.Words) accepted why nothing = absurd why
-part_exit seen i Done accepted why nothing = absurd why
-part_exit seen i (Words fault) accepted why nothing = absurd why
-part_exit seen i (Network fault) accepted why nothing = absurd why
-part_exit seen i (Fleet fault) accepted why nothing = absurd why
-part_exit seen i (Script fault) accepted why nothing = absurd why
-part_exit seen i (TooLong w) accepted why nothing = absurd why
-part_exit seen i (ReadFault w) accepted why nothing = absurd why
-part_exit seen i WriteFault accepted why nothing = absurd why
-part_exit seen i OutOfMemory accepted why nothing = absurd why
 
 writing_fault_exit : (seen : Seen) (i : Inputs) (s : RunStatus) → AreAccepted seen i → IsWritingFault i seen.written_before seen.written_after seen.faults_before seen.faults_after s → Explains seen s
 writing_fault_exit seen i WriteFault accepted why = (why.0, (i, accepted, why.1))

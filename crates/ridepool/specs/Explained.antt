@@ -1,8 +1,6 @@
 -- How a run ends, and what stands then.
 use Rattle.std.specs.Prelude.{◌≡◌, ℕ, List, Option, Some, None, Ok, ◌⊎◌, ◌+◌, true, is_some}
-use Rattle.std.specs.List.{All}
 use Rattle.std.specs.Io.KnownBytes.{Appends, Keeps}
-use Rattle.dispatch_engine.specs.Run.{IsPlainRound}
 use Rattle.pool_base.specs.declared.which.Which.{Which}
 use Rattle.pool_base.specs.declared.which.Which.TheVariants as file
 use Rattle.pool_io.specs.Faults.{Rose}
@@ -12,7 +10,6 @@ use Rattle.rider_limits.specs.Words.{fault_of}
 use Rattle.rider_limits.specs.declared.settings.Mode.TheVariants.{Run}
 use Rattle.rider_limits.specs.declared.settings.Settings.{Settings}
 use Rattle.road_network.specs.Roads.{Roads}
-use Rattle.script_rows.specs.Round.{NumberedLanes}
 use Rattle.ridepool.specs.Reading.{network_in, fleet_in, script_in, SeenSource, Gives, IsNetworkFault, IsFleetFault, IsScriptFault}
 use Rattle.ridepool.specs.Report.{Inputs, RunsRounds, report_text, IsPart}
 use Rattle.ridepool.specs.declared.status.Part.TheVariants as part
@@ -60,10 +57,6 @@ CameToSource seen file.Script status =
     (i : Inputs) × PassNetwork seen i.settings i.roads × Gives seen.fleet (λ bytes. fleet_in i.roads.nodes bytes ≡ Ok i.vehicles)
     × IsScriptFault seen.script status
 
--- some lane of the script has a seal
-abbrev pub HasSeal : List NumberedLanes → Type 0
-HasSeal rounds = All IsPlainRound rounds → ⊥
-
 -- why a run ended as it did, and what is written
 abbrev pub Explains : Seen → RunStatus → Type 0
 Explains seen Done =
@@ -80,7 +73,6 @@ Explains seen WriteFault =
     × ((i : Inputs) × AreAccepted seen i × IsPart i seen.written_before seen.written_after)
 Explains seen OutOfMemory = NothingWritten seen ⊎ ((i : Inputs) × AreAccepted seen i × IsPart i seen.written_before seen.written_after)
 Explains seen (Unsupported part.Words) = (s : Settings) × (fault_of seen.words ≡ None) × AreGiven seen.words s × (s.mode ≡ Run → ⊥) × NothingWritten seen
-Explains seen (Unsupported part.Script) = ((i : Inputs) × AreAccepted seen i × HasSeal i.rounds) × NothingWritten seen
 
 -- why the words aren't good for a run
 abbrev pub IsWordsFault : List (List ℕ) → RunStatus → Type 0
@@ -88,22 +80,16 @@ IsWordsFault words (Words fault) = fault_of words ≡ Some fault
 IsWordsFault words (Unsupported part.Words) = (s : Settings) × (fault_of words ≡ None) × AreGiven words s × (s.mode ≡ Run → ⊥)
 IsWordsFault words _ = ⊥
 
--- why the rounds can't be run
-abbrev pub IsPartFault : List NumberedLanes → RunStatus → Type 0
-IsPartFault rounds (Unsupported part.Script) = HasSeal rounds
-IsPartFault rounds _ = ⊥
-
 -- a source tells its bytes, didn't give too many, and had no fault
 pub record IsFaultlessSource (s : SeenSource) : Type 0 where
   pub told : is_some s.told ≡ true
   pub short : s.taken_after ≡ s.taken_before + 67108865 → ⊥
   pub faults : Rose s.faults_before s.faults_after → ⊥
 
--- the inputs pass and can be run, and neither a source nor the sink had a fault
+-- the inputs pass, and neither a source nor the sink had a fault
 pub record IsFaultless (seen : Seen) : Type 0 where
   pub inputs : Inputs
   pub accepted : AreAccepted seen inputs
-  pub plain : All IsPlainRound inputs.rounds
   pub network : IsFaultlessSource seen.network
   pub fleet : IsFaultlessSource seen.fleet
   pub script : IsFaultlessSource seen.script

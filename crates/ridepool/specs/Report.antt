@@ -20,7 +20,7 @@ pub record Inputs : Type 0 where
 
 -- journals are a run of these rounds, from an empty book with all vehicles as the fleet gives them
 abbrev pub RunsRounds : Inputs → List NumberedLanes → List Journal → Type 0
-RunsRounds i rounds journals = IsRun i.roads.nodes i.settings.wait (opening i.vehicles) 0 rounds journals
+RunsRounds i rounds journals = IsRun i.settings i.roads (opening i.vehicles) 0 rounds journals
 
 -- the texts of rounds, one after the other
 abbrev pub rounds_text : Bool → List NumberedLanes → List Journal → List ℕ

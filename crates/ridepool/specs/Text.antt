@@ -71,7 +71,6 @@ input_text own (Own fault) = own fault
 
 abbrev pub part_name : Part → List ℕ
 part_name part.Words = codes "words"
-part_name part.Script = codes "script"
 
 -- why a run ended; nothing where all is done
 abbrev pub status_text : RunStatus → List ℕ

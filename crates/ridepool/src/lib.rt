@@ -1,7 +1,7 @@
 //! The whole program as one call: words and three inputs in, a report out.
 //!
 //! A successful run prints the report of one legal journal for each round of the script, with each lane's
-//! commands once, in their order. Every other answer has its cause in the contract of the call, and a
+//! commands once, in their order, and a good outcome for each batch. Every other answer has its cause in the contract of the call, and a
 //! refused input leaves nothing written.
 #![tactic(auto)]
 

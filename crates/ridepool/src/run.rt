@@ -1,18 +1,15 @@
 ghost use Rattle.std.specs.Prelude.{◌≡◌, ◌≤◌, None, map, IfOk, IfErr, MatchResult};
-ghost use Rattle.std.specs.List.{All};
 ghost use Rattle.std.specs.String.{string_bytes};
-ghost use Rattle.dispatch_engine.specs.Run.{IsPlainRound};
-ghost use Rattle.ridepool.specs.Explained.{Seen, AreGood, IsFaultless, IsDoneOrMemory, Explains, IsWordsFault, IsPartFault};
+ghost use Rattle.ridepool.specs.Explained.{Seen, AreGood, IsFaultless, IsDoneOrMemory, Explains, IsWordsFault};
 ghost use Rattle.ridepool.specs.declared.status.RunStatus.TheVariants as status;
 
 use crate::reading::{fleet_from, network_from, script_from};
 use crate::status::{Part, RunStatus};
 use crate::writing::write_report;
-use dispatch_engine::may_run;
 use pool_io::{Sink, Source};
 use rider_limits::{Mode, Settings, read_words};
-use script_rows::Script;
 use std::alloc::Global;
+use std::thread::Threads;
 
 /// Reads the words and the three inputs, runs the script, and writes the report.
 ///
@@ -22,11 +19,11 @@ use std::alloc::Global;
 /// `Done` says that the report of a run of the whole script is written. `Words`, `Network`, `Fleet` and
 /// `Script` come exactly where that input is refused and the earlier ones pass; `TooLong` exactly where
 /// 67,108,865 bytes were taken from that source; `ReadFault` and `WriteFault` only where that object's count
-/// of faults rose; `Unsupported` exactly where the words are good for `load`, or all inputs pass and some
-/// lane has a seal. Where nothing of this is so, the answer is `Done` or `OutOfMemory`. After all of these
-/// but `WriteFault` nothing is written; after `WriteFault` and
-/// `OutOfMemory` a beginning of the report of a run of the script's first rounds stands.
+/// of faults rose; `Unsupported` exactly where the words are good for `load`. Where nothing of this is so, the
+/// answer is `Done` or `OutOfMemory`. After all of these but `WriteFault` nothing is written; after
+/// `WriteFault` and `OutOfMemory` a beginning of the report of a run of the script's first rounds stands.
 pub fn ridepool<N: Source, F: Source, S: Source, K: Sink>(
+    rt: &(impl Threads + Sync),
     alloc: Global,
     words: &[String],
     network: &mut N,
@@ -56,13 +53,14 @@ pub fn ridepool<N: Source, F: Source, S: Source, K: Sink>(
     } in
         IsFaultless seen → IsDoneOrMemory result }
 {
-    match run(alloc, words, network, fleet, script, out) {
+    match run(rt, alloc, words, network, fleet, script, out) {
         Ok(()) => RunStatus::Done,
         Err(status) => status,
     }
 }
 
 fn run<N: Source, F: Source, S: Source, K: Sink>(
+    rt: &(impl Threads + Sync),
     alloc: Global,
     words: &[String],
     network: &mut N,
@@ -86,8 +84,7 @@ fn run<N: Source, F: Source, S: Source, K: Sink>(
     let network = network_from(alloc, network)?;
     let fleet = fleet_from(alloc, fleet, &network)?;
     let script = script_from(alloc, script)?;
-    judge_rounds(&script)?;
-    write_report(alloc, out, &settings, &network, fleet, &script)
+    write_report(rt, alloc, out, &settings, &network, fleet, &script)
 }
 
 /// The settings of words that are good for a run.
@@ -102,17 +99,4 @@ fn settings_from(words: &[String]) -> Result<Settings, RunStatus>
             Mode::Load(_) => Err(RunStatus::Unsupported(Part::Words)),
         },
     }
-}
-
-/// Whether every round can be run: no lane has a seal.
-fn judge_rounds(script: &Script) -> Result<(), RunStatus>
-    ensures plain { IfOk result (λ _. All IsPlainRound script.now) }
-    ensures cause { IfErr result (IsPartFault script.now) }
-{
-    for round in script.rounds() {
-        if !may_run(round) {
-            return Err(RunStatus::Unsupported(Part::Script));
-        }
-    }
-    Ok(())
 }

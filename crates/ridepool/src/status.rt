@@ -12,8 +12,6 @@ use script_rows::ScriptFault;
 pub enum Part {
     /// The command `load`.
     Words,
-    /// Scripts with a seal.
-    Script,
 }
 
 /// How a run ended.
@@ -37,7 +35,7 @@ pub enum RunStatus {
     WriteFault,
     /// There was no memory.
     OutOfMemory,
-    /// The words or the script ask for a part that isn't there yet.
+    /// The words ask for a part that isn't there yet.
     Unsupported(Part),
 }
 

@@ -52,7 +52,6 @@ fn put_status(text: &mut Vec<u8>, status: &RunStatus) -> Result<(), OutOfMemory>
         RunStatus::WriteFault => put(text, b"report: write failed"),
         RunStatus::OutOfMemory => put(text, b"out of memory"),
         RunStatus::Unsupported(Part::Words) => put(text, b"words: not built yet"),
-        RunStatus::Unsupported(Part::Script) => put(text, b"script: not built yet"),
     }
 }
 

@@ -1,7 +1,7 @@
 ghost use Rattle.std.specs.Prelude.{◌≡◌, ◌≤◌, [], List, MatchResult};
 ghost use Rattle.std.specs.Io.KnownBytes.{Appends};
 ghost use Rattle.std.specs.List.{All};
-ghost use Rattle.dispatch_engine.specs.Run.{IsPlainRound};
+ghost use Rattle.dispatch_engine.specs.Run.{IsReady};
 ghost use Rattle.request_book.specs.Consistent.{IsNode};
 ghost use Rattle.request_book.specs.declared.journal.Journal.{Journal};
 ghost use Rattle.ridepool.specs.Report.{Inputs, RunsRounds, report_text};
@@ -17,9 +17,11 @@ use rider_limits::Settings;
 use road_network::Network;
 use script_rows::{Round, Script};
 use std::alloc::Global;
+use std::thread::Threads;
 
 /// Runs the script and writes its report, round by round.
 pub(crate) fn write_report<K: Sink>(
+    rt: &(impl Threads + Sync),
     alloc: Global,
     out: &mut K,
     settings: &Settings,
@@ -27,7 +29,6 @@ pub(crate) fn write_report<K: Sink>(
     fleet: Fleet,
     script: &Script,
 ) -> Result<(), RunStatus>
-    requires plain { All IsPlainRound script.now }
     requires named { All (λ v. IsNode network.now.nodes v.node) fleet }
     ensures report { let i : Inputs = record { settings = settings.now; roads = network.now; vehicles = fleet; rounds = script.now } in
         MatchResult result
@@ -41,26 +42,28 @@ pub(crate) fn write_report<K: Sink>(
     let Ok(book) = Book::new(alloc, network, fleet, settings.wait) else {
         return Err(RunStatus::OutOfMemory);
     };
-    write_rounds(alloc, out, book, script.rounds(), settings.proof)
+    write_rounds(rt, alloc, out, book, script.rounds(), network, settings)
 }
 
 fn write_rounds<K: Sink>(
+    rt: &(impl Threads + Sync),
     alloc: Global,
     out: &mut K,
     book: Book,
     rounds: &[Round],
-    proof: bool,
+    network: &Network,
+    settings: &Settings,
 ) -> Result<(), RunStatus>
-    requires plain { All IsPlainRound rounds.now }
+    requires ready { IsReady settings.now network.now book }
     requires empty { book.entries ≡ [] }
     ensures rounds { MatchResult result
-        (λ _. WritesRounds book rounds.now proof (K.written out.old) (K.written out.new))
-        (IsRoundsFault book rounds.now proof (K.written out.old) (K.written out.new) (K.faults out.old) (K.faults out.new)) }
+        (λ _. WritesRounds settings.now network.now book rounds.now (K.written out.old) (K.written out.new))
+        (IsRoundsFault settings.now network.now book rounds.now (K.written out.old) (K.written out.new) (K.faults out.old) (K.faults out.new)) }
     ensures never_falls { K.faults out.old ≤ K.faults out.new }
 {
     let mut current = book;
     for round in rounds {
-        current = write_next(alloc, out, current, round, proof)?;
+        current = write_next(rt, alloc, out, current, round, network, settings)?;
     }
     match write_end(alloc, out, current.next_position()) {
         Ok(()) => Ok(()),
@@ -70,26 +73,28 @@ fn write_rounds<K: Sink>(
 
 /// Runs a round, writes its text, and gives its journal up.
 fn write_next<K: Sink>(
+    rt: &(impl Threads + Sync),
     alloc: Global,
     out: &mut K,
     book: Book,
     round: &Round,
-    proof: bool,
+    network: &Network,
+    settings: &Settings,
 ) -> Result<Book, RunStatus>
-    requires plain { IsPlainRound round.now }
+    requires ready { IsReady settings.now network.now book }
     requires empty { book.entries ≡ [] }
     ensures round { MatchResult result
-        (WritesRound book round.now proof (K.written out.old) (K.written out.new))
-        (IsRoundFault book round.now proof (K.written out.old) (K.written out.new) (K.faults out.old) (K.faults out.new)) }
+        (WritesRound settings.now network.now book round.now (K.written out.old) (K.written out.new))
+        (IsRoundFault settings.now network.now book round.now (K.written out.old) (K.written out.new) (K.faults out.old) (K.faults out.new)) }
     ensures never_falls { K.faults out.old ≤ K.faults out.new }
 {
-    let Ok(mut book) = run_round(book, round) else {
+    let Ok(mut book) = run_round(rt, alloc, book, round, network, settings) else {
         return Err(RunStatus::OutOfMemory);
     };
     let Ok(journal) = book.take_round() else {
         return Err(RunStatus::OutOfMemory);
     };
-    match write_round(alloc, out, round.number(), &journal, proof) {
+    match write_round(alloc, out, round.number(), &journal, settings.proof) {
         Ok(()) => Ok(book),
         Err(fault) => Err(status_of(fault)),
     }

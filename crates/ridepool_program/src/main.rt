@@ -104,6 +104,7 @@ fn run(rt: &HostRuntime, words: &[String]) -> RunStatus {
     let mut script = source_of(rt, words, "script");
     let mut sink = StdSink::over(&mut output);
     let status = ridepool(
+        rt,
         rt.alloc(),
         words,
         &mut network,

@@ -210,3 +210,131 @@ fn least_of_two_orders(rt: HostRuntime) -> Result<(), Fail> {
     );
     Ok(())
 }
+
+/// A vehicle's task with one rider, who was asked for at a second, may wait 120 seconds and be late by 180.
+fn alone(start: usize, ready: u64, dwell: u16, from: usize, to: usize, asked: u64) -> Task {
+    let mut task = vehicle(ready, dwell, 4);
+    task.start = start;
+    let way = 60u64.saturating_mul(from.abs_diff(to) as u64);
+    let ideal = asked.saturating_add(way);
+    let _rider = task.riders.try_push(Leg {
+        origin: from,
+        destination: to,
+        latest_pickup: asked.saturating_add(120),
+        ideal,
+        latest_dropoff: ideal.saturating_add(180),
+        party: Party::ONE,
+    });
+    task
+}
+
+/// A vehicle's task with one passenger, who may be late by 180.
+fn carrying(start: usize, ready: u64, to: usize, ideal: u64) -> Task {
+    let mut task = vehicle(ready, 0, 4);
+    task.start = start;
+    let _passenger = task.aboard.try_push(Leg {
+        origin: 0,
+        destination: to,
+        latest_pickup: 0,
+        ideal,
+        latest_dropoff: ideal.saturating_add(180),
+        party: Party::ONE,
+    });
+    task
+}
+
+/// The chosen trips of worked batches with one rider, and the same one minute too late.
+#[test]
+fn trips_of_one_rider(rt: HostRuntime) -> Result<(), Fail> {
+    let times = line(rt.alloc())?;
+    let stops = [Stop::Pick(0), Stop::Drop(0)];
+    check(
+        &rt,
+        &alone(0, 0, 0, 1, 3, 0),
+        &times,
+        &stops,
+        &[60, 180],
+        60,
+    );
+    check(
+        &rt,
+        &alone(2, 0, 0, 1, 0, 0),
+        &times,
+        &stops,
+        &[60, 120],
+        60,
+    );
+    check(&rt, &alone(0, 0, 0, 0, 4, 0), &times, &stops, &[0, 240], 0);
+    check(
+        &rt,
+        &alone(0, 30, 0, 1, 0, 0),
+        &times,
+        &stops,
+        &[90, 150],
+        90,
+    );
+    check(
+        &rt,
+        &alone(0, 100, 0, 1, 3, 100),
+        &times,
+        &stops,
+        &[160, 280],
+        60,
+    );
+    check(
+        &rt,
+        &alone(0, 0, 50, 1, 3, 0),
+        &times,
+        &stops,
+        &[60, 230],
+        110,
+    );
+    check_not(&rt, &alone(0, 61, 0, 1, 0, 0), &times, &stops);
+    Ok(())
+}
+
+/// Passengers' drops of worked batches: in time, and with a limit missed by one second.
+#[test]
+fn drops_of_passengers(rt: HostRuntime) -> Result<(), Fail> {
+    let times = line(rt.alloc())?;
+    let stops = [Stop::Alight(0)];
+    check(&rt, &carrying(0, 0, 4, 240), &times, &stops, &[240], 0);
+    check(&rt, &carrying(1, 60, 3, 120), &times, &stops, &[180], 60);
+    check(&rt, &carrying(1, 110, 3, 120), &times, &stops, &[230], 110);
+    check(&rt, &carrying(1, 180, 3, 120), &times, &stops, &[300], 180);
+    check_not(&rt, &carrying(1, 181, 3, 120), &times, &stops);
+    Ok(())
+}
+
+/// Two riders to one place, the second of them picked up on the way.
+#[test]
+fn two_riders_to_one_place(rt: HostRuntime) -> Result<(), Fail> {
+    let times = line(rt.alloc())?;
+    let mut task = vehicle(0, 0, 2);
+    let _first = task.riders.try_push(leg(0, 3, 180, Party::ONE));
+    let _second = task.riders.try_push(leg(1, 3, 120, Party::ONE));
+    let stops = [Stop::Pick(0), Stop::Pick(1), Stop::Drop(0), Stop::Drop(1)];
+    check(&rt, &task, &times, &stops, &[0, 60, 180, 180], 60);
+    Ok(())
+}
+
+/// The greatest second that files may name, on a street that takes no time.
+#[test]
+fn at_the_greatest_second(rt: HostRuntime) -> Result<(), Fail> {
+    let times = Times::checked(2, vec![in rt.alloc(); 0, 0, 0, 0]?)?;
+    let mut task = vehicle(1_000_000_000, 0, 4);
+    let _rider = task.riders.try_push(Leg {
+        latest_pickup: 1_000_000_120,
+        ..leg(0, 1, 1_000_000_000, Party::ONE)
+    });
+    let stops = [Stop::Pick(0), Stop::Drop(0)];
+    check(
+        &rt,
+        &task,
+        &times,
+        &stops,
+        &[1_000_000_000, 1_000_000_000],
+        0,
+    );
+    Ok(())
+}

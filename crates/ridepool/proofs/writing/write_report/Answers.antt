@@ -26,8 +26,8 @@ returns-clause-report g c =
     let middle = g.K.Sink.faults c.write_head.new.sink in
     let high = g.K.Sink.faults c.write_rounds.new.out in
     let P : BookView → List NumberedLanes → Type 0 =
-    λ book rounds. MatchResult c.write_rounds.result (λ _. WritesRounds book rounds c.args.settings.now.proof here after)
-    (IsRoundsFault book rounds c.args.settings.now.proof here after middle high) in
+    λ book rounds. MatchResult c.write_rounds.result (λ _. WritesRounds c.args.settings.now c.args.network.now book rounds here after)
+    (IsRoundsFault c.args.settings.now c.args.network.now book rounds here after middle high) in
     report_from i before here after (g.K.Sink.faults c.args.out.now) middle high c.write_rounds.result c.in_default.ensures.whole c.write_head.ensures.never_falls
     (subst (λ rounds. P (opened i) rounds) c.rounds.ensures
     (subst (λ book. P book c.rounds.result.now) c.in-Ok.ensures c.write_rounds.ensures.rounds))

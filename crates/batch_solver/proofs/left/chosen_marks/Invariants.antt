@@ -1,0 +1,5 @@
+use Rattle.batch_solver.specs.Left.{MarksChosen}
+use Rattle.batch_solver.proofs.left.chosen_marks.Given as goal
+
+abbrev pub invariant-loop-vehicle : goal.invariant-loop-vehicle
+invariant-loop-vehicle l = MarksChosen l.graph l.chosen l.vehicle l.marks.items

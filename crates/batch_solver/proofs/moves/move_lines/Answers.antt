@@ -1,0 +1,30 @@
+use Rattle.std.proofs.Common.{◌≡◌, ◌==◌, ◌<◌, ◌≤◌, length, sym, ◌∙◌, arith}
+use Rattle.std.proofs.lemmas.List.{nil_from_length}
+use Rattle.plan_rules.specs.Plan.{times_chosen}
+use Rattle.pool_base.specs.Times.{point_count, travel_time}
+use Rattle.batch_solver.specs.Moves.{idle_vehicles}
+use Rattle.batch_solver.proofs.LeftLemmas.{kept_below, kept_few}
+use Rattle.batch_solver.proofs.MoveLemmas.{has_places, no_moves}
+use Rattle.batch_solver.proofs.moves.move_lines.Goals as goal
+
+pub returns-then-is_empty : goal.returns-then-is_empty
+returns-then-is_empty c =
+    let none : length c.in_ok-idle.idle.items ≡ 0 = grind (arith, c.is_empty.ensures, c.if-is_empty.true) in
+    no_moves (travel_time c.args.times.now) c.args.settled.now (idle_vehicles c.args.settled.now c.args.graph.now c.args.chosen.now) c.args.left.now c.new.result.items (sym c.in_ok-idle.ensures.value ∙ nil_from_length c.in_ok-idle.idle.items none) c.new.ensures.items
+
+pub best_moves-requires-clause-places : goal.best_moves-requires-clause-places
+best_moves-requires-clause-places c =
+    let some : 0 < length c.in_ok-idle.idle.items = grind (arith, c.is_empty.ensures, c.if-is_empty.false) in
+    let few : length c.in_ok-idle.idle.items ≤ length c.args.settled.now.vehicles = c.in_ok-idle.ensures.few in
+    has_places c.requires.sound.0 (point_count c.args.times.now) (travel_time c.args.times.now) c.args.settled.now c.requires.sound.1 (omega arith)
+
+pub best_moves-requires-clause-riders : goal.best_moves-requires-clause-riders
+best_moves-requires-clause-riders c =
+    let total = c.requires.riders in
+    rw (c.requires.left, ← total) (kept_below (λ r. times_chosen c.args.graph.now c.args.chosen.now r == 0) c.args.graph.now.riders)
+
+pub best_moves-requires-clause-few_riders : goal.best_moves-requires-clause-few_riders
+best_moves-requires-clause-few_riders c =
+    let few = kept_few (λ r. times_chosen c.args.graph.now c.args.chosen.now r == 0) c.args.graph.now.riders in
+    let most : length c.args.settled.now.riders ≤ 1000 = c.requires.sound.1.rider_count in
+    rw c.requires.left (omega arith)

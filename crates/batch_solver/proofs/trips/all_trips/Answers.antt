@@ -1,0 +1,31 @@
+use Rattle.std.proofs.Common.{◌≡◌, ℕ, ◌<◌, not, true, false, List, [], ◌∷◌, ◌++◌, length, sym, ap, ◌∙◌, subst}
+use Rattle.std.specs.List.{AllZip, filter, range_with_len}
+use Rattle.pool_base.specs.Times.{travel_time}
+use Rattle.promise_check.proofs.Promises.{filter_range_skips, filter_range_takes}
+use Rattle.stop_orders.specs.declared.settled_vehicle.SettledVehicle.{SettledVehicle}
+use Rattle.stop_orders.specs.Settled.{vehicle_at}
+use Rattle.batch_solver.specs.Trips.{IsTripOf}
+use Rattle.batch_solver.proofs.TripLemmas.{all_zip_push, vehicle_read}
+use Rattle.batch_solver.proofs.trips.all_trips.Goals as goal
+
+pub loop-vehicle-preserved-then-vehicles-vehicle : goal.loop-vehicle-preserved-then-vehicles-vehicle
+loop-vehicle-preserved-then-vehicles-vehicle g c =
+    let settled = c.args.settled.now in let v = c.loop-vehicle.vehicle in
+    let R = IsTripOf c.args.points.now (travel_time c.args.times.now) settled c.args.graph.now c.args.chosen.now in
+    let within = subst (λ (list : List SettledVehicle). v < length list) c.as_slice-vehicles.ensures c.loop-vehicle-test.true in
+    let here = ap (λ (one : SettledVehicle). one.late) (vehicle_read settled c.as_slice-vehicles.result.now v _ c.as_slice-vehicles.ensures within) in
+    let late : (vehicle_at settled v).late ≡ true = sym here ∙ c.if-vehicles-vehicle.true in
+    subst (λ (list : List ℕ). AllZip R list c.loop-vehicle.trips.items)
+    (sym (filter_range_skips (λ n. not (vehicle_at settled n).late) v (ap not late))) c.loop-vehicle.invariant
+
+pub loop-vehicle-preserved : goal.loop-vehicle-preserved
+loop-vehicle-preserved g c =
+    let settled = c.args.settled.now in let v = c.loop-vehicle.vehicle in
+    let R = IsTripOf c.args.points.now (travel_time c.args.times.now) settled c.args.graph.now c.args.chosen.now in
+    let within = subst (λ (list : List SettledVehicle). v < length list) c.as_slice-vehicles.ensures c.loop-vehicle-test.true in
+    let here = ap (λ (one : SettledVehicle). one.late) (vehicle_read settled c.as_slice-vehicles.result.now v _ c.as_slice-vehicles.ensures within) in
+    let in_time : (vehicle_at settled v).late ≡ false = sym here ∙ c.if-vehicles-vehicle.false in
+    rw c.in_ok-push.ensures.items
+    (subst (λ (list : List ℕ). AllZip R list (c.loop-vehicle.trips.items ++ c.in_ok-trip.trip ∷ []))
+    (sym (filter_range_takes (λ n. not (vehicle_at settled n).late) v (ap not in_time)))
+    (all_zip_push R (filter (λ n. not (vehicle_at settled n).late) (range_with_len 0 v)) c.loop-vehicle.trips.items v c.in_ok-trip.trip c.loop-vehicle.invariant c.in_ok-trip.ensures))

@@ -1,0 +1,46 @@
+use Rattle.std.proofs.Common.{◌≡◌, ℕ, List, sym, ap, ◌∙◌, subst}
+use Rattle.pool_base.specs.Times.{travel_time}
+use Rattle.plan_rules.specs.declared.row.TripRow.{TripRow}
+use Rattle.plan_rules.specs.Graph.{riders_at}
+use Rattle.stop_orders.specs.declared.settled_vehicle.SettledVehicle.{SettledVehicle}
+use Rattle.stop_orders.specs.declared.stop.Stop.{Stop}
+use Rattle.stop_orders.specs.declared.task.Task.{Task}
+use Rattle.stop_orders.specs.Settled.{trip_task}
+use Rattle.stop_orders.specs.Task.{Serves}
+use Rattle.batch_solver.specs.Told.{told_stops}
+use Rattle.batch_solver.proofs.TripLemmas.{vehicle_read}
+use Rattle.batch_solver.proofs.RowLemmas.{choice_read, row_read, chosen_long, served_row, trip_found}
+use Rattle.batch_solver.proofs.trips.trip_of.Goals as goal
+
+pub unreachable-requires-in_default-2 : goal.unreachable-requires-in_default-2
+unreachable-requires-in_default-2 g c =
+    let tau = travel_time c.args.times.now in let settled = c.args.settled.now in let graph = c.args.graph.now in let chosen = c.args.chosen.now in
+    let v = c.args.vehicle in let number = c.in-Some.number in
+    let long = chosen_long c.requires.graph.0 tau settled graph chosen c.requires.graph.1 c.requires.lawful v c.requires.vehicle in
+    let choice = sym (choice_read chosen v _ long) ∙ c.in-Some.is in
+    let served = served_row c.requires.graph.0 tau settled graph chosen c.requires.graph.1 c.requires.lawful v number c.requires.vehicle choice in
+    let row_is = c.index-rows-number.is ∙ row_read graph c.rows.result.now number _ c.rows.ensures.value served.within in
+    let riders_is : c.as_slice-riders.result.now ≡ riders_at graph number = c.as_slice-riders.ensures.value ∙ ap (λ (row : TripRow). row.riders.items) row_is in
+    let task_is = c.task_of-task.ensures ∙ ap (trip_task settled v) riders_is in
+    let none = rw c.in_default-2.is at c.in_ok-route.ensures.none in
+    none served.costs.stops (subst (λ (t : Task). Serves tau t served.costs.stops) (sym task_is) served.costs.serves)
+
+pub returns : goal.returns
+returns g c =
+    let tau = travel_time c.args.times.now in let settled = c.args.settled.now in let graph = c.args.graph.now in let chosen = c.args.chosen.now in
+    let v = c.args.vehicle in let number = c.in-Some.number in
+    let long = chosen_long c.requires.graph.0 tau settled graph chosen c.requires.graph.1 c.requires.lawful v c.requires.vehicle in
+    let choice = sym (choice_read chosen v _ long) ∙ c.in-Some.is in
+    let served = served_row c.requires.graph.0 tau settled graph chosen c.requires.graph.1 c.requires.lawful v number c.requires.vehicle choice in
+    let row_is = c.index-rows-number.is ∙ row_read graph c.rows.result.now number _ c.rows.ensures.value served.within in
+    let riders_is : c.as_slice-riders.result.now ≡ riders_at graph number = c.as_slice-riders.ensures.value ∙ ap (λ (row : TripRow). row.riders.items) row_is in
+    let found = c.in_ok-route.ensures in
+    trip_found c.args.points.now tau settled graph chosen v number c.task_of-task.result c.in-Some-2.route.stops.items c.in-Some-2.route.delay _
+    choice served
+    (ap (λ (one : SettledVehicle). one.id) (vehicle_read settled c.as_slice.result.now v _ c.as_slice.ensures c.requires.vehicle))
+    (ap (λ (row : TripRow). row.cost) row_is)
+    (c.task_of-task.ensures ∙ ap (trip_task settled v) riders_is)
+    (rw c.in-Some-2.is at found.serves) (rw c.in-Some-2.is at found.delay) (rw c.in-Some-2.is at found.least)
+    (c.tell_stops-stops.ensures
+    ∙ ap (λ (trip : List ℕ). told_stops c.args.points.now tau settled v trip c.as_slice-order.result.now) riders_is
+    ∙ ap (λ (stops : List Stop). told_stops c.args.points.now tau settled v (riders_at graph number) stops) c.as_slice-order.ensures.value)

@@ -1,0 +1,95 @@
+ghost use Rattle.std.specs.Prelude.{◌≡◌, ◌<◌, ◌≤◌, All, length, slice_index};
+ghost use Rattle.pool_base.specs.Times.{point_count, travel_time};
+ghost use Rattle.stop_orders.specs.Order.{IsKnown};
+ghost use Rattle.stop_orders.specs.Settled.{trip_task, vehicle_at};
+ghost use Rattle.stop_orders.specs.Task.{IsTask, IsOrderOf};
+ghost use Rattle.batch_solver.specs.Told.{rider_id, told_stop, told_stops};
+
+use arrayvec::ArrayVec;
+use batch_snapshot::Points;
+use pool_base::{RiderId, Times};
+use request_book::PlannedStop;
+use stop_orders::{Settled, Stop, Task, visit_of};
+
+/// Tells the stops of a vehicle's order for a trip, each with its second. The task is the vehicle's with
+/// the trip.
+pub(crate) fn tell_stops<const N: usize>(
+    points: &Points,
+    times: &Times,
+    settled: &Settled,
+    vehicle: usize,
+    trip: &[usize],
+    task: &Task,
+    stops: &[Stop],
+) -> ArrayVec<PlannedStop, N>
+    requires table { point_count times.now ≡ length points.now }
+    requires vehicle { vehicle < length settled.now.vehicles }
+    requires riders { All (λ r. r < length settled.now.riders) trip.now }
+    requires task { task.now ≡ trip_task settled.now vehicle trip.now }
+    requires valid { IsTask (point_count times.now) task.now }
+    requires order { IsOrderOf task.now stops.now }
+    requires room { length stops.now ≤ N }
+    ensures { result.items ≡ told_stops points.entry.now (travel_time times.entry.now) settled.entry.now vehicle trip.entry.now stops.entry.now }
+{
+    let mut told = ArrayVec::new();
+    let mut place = task.start;
+    let mut free = task.ready;
+    for stop in stops {
+        let to = visit_of(task, *stop).place();
+        let second = free + times.seconds(place, to) as u64;
+        told.push(tell_stop(points, settled, vehicle, trip, task, *stop, second));
+        place = to;
+        free = second + task.dwell as u64;
+    }
+    told
+}
+
+/// Tells whom a stop picks up or drops, and at which node.
+fn tell_stop(
+    points: &Points,
+    settled: &Settled,
+    vehicle: usize,
+    trip: &[usize],
+    task: &Task,
+    stop: Stop,
+    second: u64,
+) -> PlannedStop
+    requires vehicle { vehicle < length settled.now.vehicles }
+    requires riders { All (λ r. r < length settled.now.riders) trip.now }
+    requires task { task.now ≡ trip_task settled.now vehicle trip.now }
+    requires valid { IsTask (length points.now) task.now }
+    requires known { IsKnown (length task.now.riders.items) (length task.now.aboard.items) stop }
+    ensures { result ≡ told_stop points.entry.now settled.entry.now vehicle trip.entry.now (stop, second) }
+{
+    let nodes = points.nodes();
+    let riders = settled.riders.as_slice();
+    match stop {
+        Stop::Pick(i) => PlannedStop {
+            pick: true,
+            rider: riders[trip[i as usize]].id,
+            node: nodes[task.riders[i as usize].origin],
+            second,
+        },
+        Stop::Drop(i) => PlannedStop {
+            pick: false,
+            rider: riders[trip[i as usize]].id,
+            node: nodes[task.riders[i as usize].destination],
+            second,
+        },
+        Stop::Alight(j) => PlannedStop {
+            pick: false,
+            rider: passenger_id(settled, vehicle, j as usize),
+            node: nodes[task.aboard[j as usize].destination],
+            second,
+        },
+    }
+}
+
+/// The id of a passenger: the ids stand beside the legs.
+fn passenger_id(settled: &Settled, vehicle: usize, passenger: usize) -> RiderId
+    requires { vehicle < length settled.now.vehicles }
+    ensures { result ≡ slice_index (vehicle_at settled.entry.now vehicle).aboard_ids.items passenger }
+{
+    let ids = settled.vehicles.as_slice()[vehicle].aboard_ids.as_slice();
+    ids.get(passenger).copied().unwrap_or_default()
+}
