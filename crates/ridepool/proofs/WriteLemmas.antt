@@ -8,7 +8,7 @@ use Rattle.std.proofs.Math.Seq.{take-suc}
 use Rattle.pool_io.specs.Sink.{AppendsPart}
 use Rattle.dispatch_engine.specs.Run.{IsReady, IsRoundRun, IsRun, IsSameRun, state_after_run, position_after_run, journal_of}
 use Rattle.dispatch_report.specs.Head.{head_text}
-use Rattle.dispatch_report.specs.Round.{round_text, end_text}
+use Rattle.dispatch_report.specs.Round.{end_text}
 use Rattle.dispatch_report.specs.declared.fault.ReportFault.{ReportFault}
 use Rattle.dispatch_report.specs.declared.fault.ReportFault.TheVariants as report
 use Rattle.pool_io.specs.Faults.{Rose}
@@ -16,13 +16,20 @@ use Rattle.request_book.specs.Book.{BookView, IsBook, next_position, opening}
 use Rattle.request_book.specs.Replay.{state_after}
 use Rattle.request_book.specs.declared.journal.Journal.{Journal}
 use Rattle.request_book.specs.declared.state.State.{State}
+use Rattle.batch_snapshot.specs.declared.vehicle.Vehicle.{Vehicle}
+use Rattle.rider_limits.specs.declared.settings.Mode.{Mode}
+use Rattle.rider_limits.specs.declared.settings.Mode.TheVariants.{Run}
 use Rattle.rider_limits.specs.declared.settings.Settings.{Settings}
 use Rattle.road_network.specs.Roads.{Roads}
 use Rattle.script_rows.specs.Round.{NumberedLanes}
-use Rattle.ridepool.specs.Report.{Inputs, RunsRounds, rounds_text, begun_text, report_text, Begins, IsPart}
+use Rattle.ridepool.specs.Report.{Inputs, RunsRounds, first_text, added_text, rounds_text, begun_text, report_text, Begins, IsPart}
 use Rattle.ridepool.specs.Writing.{NextJournal, WritesRound, WritesPart, WritesRounds, WritesFirst, LacksEnd, IsRoundFault, IsRoundsFault, IsWritingFault, status_of}
 use Rattle.ridepool.specs.declared.status.RunStatus.{RunStatus}
-use Rattle.ridepool.specs.declared.status.RunStatus.TheVariants.{Done, Words, Network, Fleet, Script, TooLong, ReadFault, WriteFault, OutOfMemory, Unsupported}
+use Rattle.ridepool.specs.declared.status.RunStatus.TheVariants.{Done, Words, Network, Fleet, Script, TooLong, ReadFault, WriteFault, OutOfMemory}
+
+-- the first lines of a run
+pub first_of_run : (m : Mode) (settings : Settings) (roads : Roads) (vehicles : List Vehicle) → m ≡ Run → first_text m settings roads vehicles ≡ head_text settings roads vehicles
+first_of_run m settings roads vehicles is = ap (λ x. first_text x settings roads vehicles) is
 
 -- positions of runs
 pub position_after_run-more : (position : ℕ) (js : List Journal) (j : Journal) → position_after_run position (js ++ j ∷ []) ≡ next_position (position_after_run position js) j.entries
@@ -73,19 +80,19 @@ module _ (settings : Settings) (roads : Roads) where
 
   -- the texts of rounds, and of one more
   pub rounds_text-more : (s : State) (position : ℕ) (rs : List NumberedLanes) (js : List Journal) (r : NumberedLanes) (j : Journal)
-      → IsRun settings roads s position rs js → rounds_text settings.proof (rs ++ r ∷ []) (js ++ j ∷ []) ≡ rounds_text settings.proof rs js ++ round_text r.number settings.proof j
-  rounds_text-more s position [] [] r j run = append-nil (round_text r.number settings.proof j)
+      → IsRun settings roads s position rs js → rounds_text settings (rs ++ r ∷ []) (js ++ j ∷ []) ≡ rounds_text settings rs js ++ added_text settings.mode settings.proof r.number j
+  rounds_text-more s position [] [] r j run = append-nil (added_text settings.mode settings.proof r.number j)
   rounds_text-more s position [] (k ∷ js) r j run = absurd run
   rounds_text-more s position (q ∷ rs) [] r j run = absurd run
   rounds_text-more s position (q ∷ rs) (k ∷ js) r j run =
-      ap (λ t. round_text q.number settings.proof k ++ t) (rounds_text-more (state_after roads.nodes settings.wait s k.entries) (next_position position k.entries) rs js r j run.3)
-      ∙ sym (append_assoc (round_text q.number settings.proof k) (rounds_text settings.proof rs js) (round_text r.number settings.proof j))
+      ap (λ t. added_text settings.mode settings.proof q.number k ++ t) (rounds_text-more (state_after roads.nodes settings.wait s k.entries) (next_position position k.entries) rs js r j run.3)
+      ∙ sym (append_assoc (added_text settings.mode settings.proof q.number k) (rounds_text settings rs js) (added_text settings.mode settings.proof r.number j))
 
   -- what stands after some rounds: their journals and texts, and the book that comes next
   pub record HasWritten (book : BookView) (rounds : List NumberedLanes) (before after : Option (List ℕ)) (current : BookView) : Type 0 where
     pub journals : List Journal
     pub run : IsRun settings roads book.base book.first rounds journals
-    pub text : Appends before after (rounds_text settings.proof rounds journals)
+    pub text : Appends before after (rounds_text settings rounds journals)
     pub ready : IsReady settings roads current
     pub base : current.base ≡ state_after_run roads.nodes settings.wait book.base journals
     pub first : current.first ≡ position_after_run book.first journals
@@ -110,7 +117,7 @@ module _ (settings : Settings) (roads : Roads) where
         run = next_run book current rounds r a b x.journal w x.is;
         text =
             subst (λ t. Appends a c t) (sym (rounds_text-more book.base book.first rounds w.journals r x.journal w.run))
-            (Appends-trans a b c (rounds_text settings.proof rounds w.journals) (round_text r.number settings.proof x.journal) w.text x.text);
+            (Appends-trans a b c (rounds_text settings rounds w.journals) (added_text settings.mode settings.proof r.number x.journal) w.text x.text);
         ready = x.ready;
         base =
             x.base
@@ -138,7 +145,7 @@ module _ (settings : Settings) (roads : Roads) where
         count = i;
         journals = w.journals;
         run = w.run;
-        text = begins_whole a c (rounds_text settings.proof (take i rounds) w.journals) (Appends-kept a b c (rounds_text settings.proof (take i rounds) w.journals) w.text keeps);
+        text = begins_whole a c (rounds_text settings (take i rounds) w.journals) (Appends-kept a b c (rounds_text settings (take i rounds) w.journals) w.text keeps);
       }
 
   part_first : (book current : BookView) (rounds : List NumberedLanes) (i : ℕ) (r : NumberedLanes) (a b c : Option (List ℕ))
@@ -146,14 +153,14 @@ module _ (settings : Settings) (roads : Roads) where
       → HasWritten book (take i rounds) a b current → WritesPart settings roads current r b c → WritesFirst settings roads book rounds a c
   part_first book current rounds i r a b c within is w x =
       let js = w.journals ++ x.journal ∷ [] in
-      let front = rounds_text settings.proof (take i rounds) w.journals in
-      let back = round_text r.number settings.proof x.journal in
+      let front = rounds_text settings (take i rounds) w.journals in
+      let back = added_text settings.mode settings.proof r.number x.journal in
       record {
         count = i + 1;
         journals = js;
         run = subst (λ rs. IsRun settings roads book.base book.first rs js) (take_next rounds i r within is) (next_run book current (take i rounds) r a b x.journal w x.is);
         text =
-            subst (λ rs. Begins a c (rounds_text settings.proof rs js)) (take_next rounds i r within is)
+            subst (λ rs. Begins a c (rounds_text settings rs js)) (take_next rounds i r within is)
             (subst (λ t. Begins a c t) (sym (rounds_text-more book.base book.first (take i rounds) w.journals r x.journal w.run))
             (begins_after a b c front back w.text (begins_part b c back x.part).0));
       }
@@ -175,7 +182,6 @@ module _ (settings : Settings) (roads : Roads) where
   round_fault book current rounds i r a b c low middle high (Script fault) within is up w why = absurd why
   round_fault book current rounds i r a b c low middle high (TooLong f) within is up w why = absurd why
   round_fault book current rounds i r a b c low middle high (ReadFault f) within is up w why = absurd why
-  round_fault book current rounds i r a b c low middle high (Unsupported p) within is up w why = absurd why
 
   -- the last line's number, from the book behind all rounds
   last_number : (book current : BookView) (rounds : List NumberedLanes) (a b : Option (List ℕ)) → (w : HasWritten book rounds a b current)
@@ -189,7 +195,7 @@ module _ (settings : Settings) (roads : Roads) where
         journals = w.journals;
         run = w.run;
         text =
-            Appends-trans a b c (rounds_text settings.proof rounds w.journals) (end_text (next_position (position_after_run book.first w.journals) [])) w.text
+            Appends-trans a b c (rounds_text settings rounds w.journals) (end_text (next_position (position_after_run book.first w.journals) [])) w.text
             (subst (λ n. Appends b c (end_text n)) (is ∙ last_number book current rounds a b w) last);
       }
 
@@ -202,7 +208,7 @@ module _ (settings : Settings) (roads : Roads) where
       record {
         journals = w.journals;
         run = w.run;
-        text = begins_after a b c (rounds_text settings.proof rounds w.journals) line w.text x.0;
+        text = begins_after a b c (rounds_text settings rounds w.journals) line w.text x.0;
         lacks = x.1;
       }
 
@@ -232,7 +238,7 @@ module _ (settings : Settings) (roads : Roads) where
   pub wrote_round : (book after next : BookView) (r : NumberedLanes) (a b : Option (List ℕ)) (j : Journal)
       → IsRoundRun settings roads r (journal_of after) → IsSameRun book after → IsBook after → IsReady settings roads after → j ≡ journal_of after
       → next ≡ record { nodes = after.nodes; wait = after.wait; first = next_position after.first after.entries; base = after.state; entries = []; state = after.state; spare = 0 }
-      → Appends a b (round_text r.number settings.proof j) → WritesRound settings roads book r a b next
+      → Appends a b (added_text settings.mode settings.proof r.number j) → WritesRound settings roads book r a b next
   wrote_round book after next r a b j run same kept ready is emptied text =
       record {
         journal = j;
@@ -255,7 +261,7 @@ module _ (settings : Settings) (roads : Roads) where
 
 -- the text before the first round
 abbrev pub head_of : Inputs → List ℕ
-head_of i = head_text i.settings i.roads i.vehicles
+head_of i = first_text i.settings.mode i.settings i.roads i.vehicles
 
 -- the report before the first round
 begun_none : (i : Inputs) → begun_text i [] [] ≡ head_of i
@@ -285,7 +291,7 @@ last_position js = omega (arith, position_after_run-most 0 js (omega arith))
 pub report_whole : (i : Inputs) (a b c : Option (List ℕ)) → Appends a b (head_of i) → WritesRounds i.settings i.roads (opened i) i.rounds b c
     → (journals : List Journal) × RunsRounds i i.rounds journals × Appends a c (report_text i journals)
 report_whole i a b c head w =
-    let texts = rounds_text i.settings.proof i.rounds w.journals in (
+    let texts = rounds_text i.settings i.rounds w.journals in (
       w.journals,
       w.run,
       subst (Appends a c) (sym (append_assoc (head_of i) texts (end_text (position_after_run 0 w.journals))))
@@ -297,9 +303,9 @@ part_of_rounds : (i : Inputs) (a b c : Option (List ℕ)) → Appends a b (head_
     → WritesFirst i.settings i.roads (opened i) i.rounds b c ⊎ LacksEnd i.settings i.roads (opened i) i.rounds b c → IsPart i a c
 unfolding begins_after
 part_of_rounds i a b c head (inl w) =
-    IsPart.rounds w.count w.journals w.run (begins_after a b c (head_of i) (rounds_text i.settings.proof (take w.count i.rounds) w.journals) head w.text)
+    IsPart.rounds w.count w.journals w.run (begins_after a b c (head_of i) (rounds_text i.settings (take w.count i.rounds) w.journals) head w.text)
 part_of_rounds i a b c head (inr w) =
-    let texts = rounds_text i.settings.proof i.rounds w.journals in
+    let texts = rounds_text i.settings i.rounds w.journals in
     let line = end_text (next_position (position_after_run 0 w.journals) []) in
     let begun = begins_after a b c (head_of i) (texts ++ line) head w.text in
     let whole : head_of i ++ (texts ++ line) ≡ report_text i w.journals =
@@ -319,7 +325,6 @@ rounds_unwritten i a b c low middle high (Fleet fault) head up why = absurd why
 rounds_unwritten i a b c low middle high (Script fault) head up why = absurd why
 rounds_unwritten i a b c low middle high (TooLong f) head up why = absurd why
 rounds_unwritten i a b c low middle high (ReadFault f) head up why = absurd why
-rounds_unwritten i a b c low middle high (Unsupported p) head up why = absurd why
 
 -- the report, from its head and from what became of the rounds
 pub report_from : (i : Inputs) (a b c : Option (List ℕ)) (low middle high : ℕ) (r : Result (Unit {0}) RunStatus) → Appends a b (head_of i) → low ≤ middle

@@ -2,7 +2,7 @@
 use Rattle.std.specs.Prelude.{◌≡◌, ℕ, ◌<◌, List, [], ◌++◌, length, take, Option, ◌⊎◌}
 use Rattle.std.specs.Io.KnownBytes.{Appends, Keeps}
 use Rattle.dispatch_engine.specs.Run.{IsReady, IsRoundRun, IsRun, position_after_run}
-use Rattle.dispatch_report.specs.Round.{round_text, end_text}
+use Rattle.dispatch_report.specs.Round.{end_text}
 use Rattle.pool_io.specs.Faults.{Rose}
 use Rattle.pool_io.specs.Sink.{AppendsPart}
 use Rattle.request_book.specs.Book.{BookView, next_position}
@@ -11,7 +11,7 @@ use Rattle.request_book.specs.declared.journal.Journal.{Journal}
 use Rattle.rider_limits.specs.declared.settings.Settings.{Settings}
 use Rattle.road_network.specs.Roads.{Roads}
 use Rattle.script_rows.specs.Round.{NumberedLanes}
-use Rattle.ridepool.specs.Report.{Inputs, rounds_text, Begins, IsPart}
+use Rattle.ridepool.specs.Report.{Inputs, added_text, rounds_text, Begins, IsPart}
 use Rattle.dispatch_report.specs.declared.fault.ReportFault.{ReportFault}
 use Rattle.dispatch_report.specs.declared.fault.ReportFault.TheVariants as report
 use Rattle.ridepool.specs.declared.status.RunStatus.{RunStatus}
@@ -33,7 +33,7 @@ module _ (settings : Settings) (roads : Roads) where
   pub record WritesRound (book : BookView) (round : NumberedLanes) (before after : Option (List ℕ)) (next : BookView) : Type 0 where
     pub journal : Journal
     pub is : NextJournal book round journal
-    pub text : Appends before after (round_text round.number settings.proof journal)
+    pub text : Appends before after (added_text settings.mode settings.proof round.number journal)
     pub ready : IsReady settings roads next
     pub first : next.first ≡ next_position book.first journal.entries
     pub base : next.base ≡ state_after roads.nodes settings.wait book.base journal.entries
@@ -43,7 +43,7 @@ module _ (settings : Settings) (roads : Roads) where
   pub record WritesPart (book : BookView) (round : NumberedLanes) (before after : Option (List ℕ)) : Type 0 where
     pub journal : Journal
     pub is : NextJournal book round journal
-    pub part : AppendsPart before after (round_text round.number settings.proof journal)
+    pub part : AppendsPart before after (added_text settings.mode settings.proof round.number journal)
 
   -- why a round wasn't written whole
   abbrev pub IsRoundFault : BookView → NumberedLanes → Option (List ℕ) → Option (List ℕ) → ℕ → ℕ → RunStatus → Type 0
@@ -55,20 +55,20 @@ module _ (settings : Settings) (roads : Roads) where
   pub record WritesRounds (book : BookView) (rounds : List NumberedLanes) (before after : Option (List ℕ)) : Type 0 where
     pub journals : List Journal
     pub run : IsRun settings roads book.base book.first rounds journals
-    pub text : Appends before after (rounds_text settings.proof rounds journals ++ end_text (next_position (position_after_run book.first journals) []))
+    pub text : Appends before after (rounds_text settings rounds journals ++ end_text (next_position (position_after_run book.first journals) []))
 
   -- the first rounds were run, and a beginning of their texts was written
   pub record WritesFirst (book : BookView) (rounds : List NumberedLanes) (before after : Option (List ℕ)) : Type 0 where
     pub count : ℕ
     pub journals : List Journal
     pub run : IsRun settings roads book.base book.first (take count rounds) journals
-    pub text : Begins before after (rounds_text settings.proof (take count rounds) journals)
+    pub text : Begins before after (rounds_text settings (take count rounds) journals)
 
   -- all rounds were run, and their texts written but for something of the last line
   pub record LacksEnd (book : BookView) (rounds : List NumberedLanes) (before after : Option (List ℕ)) : Type 0 where
     pub journals : List Journal
     pub run : IsRun settings roads book.base book.first rounds journals
-    pub text : Begins before after (rounds_text settings.proof rounds journals ++ end_text (next_position (position_after_run book.first journals) []))
+    pub text : Begins before after (rounds_text settings rounds journals ++ end_text (next_position (position_after_run book.first journals) []))
     pub lacks : 0 < length text.unwritten
 
   -- why rounds weren't written whole
