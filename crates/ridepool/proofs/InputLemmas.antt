@@ -9,7 +9,6 @@ use Rattle.pool_base.specs.declared.which.Which.TheVariants as file
 use Rattle.pool_io.specs.Table.{Table, table_of}
 use Rattle.pool_io.specs.declared.records.RowFault.{RowFault}
 use Rattle.rider_limits.specs.declared.load_shape.LoadShape.{LoadShape}
-use Rattle.rider_limits.specs.declared.settings.Mode.{Mode}
 use Rattle.rider_limits.specs.declared.settings.Mode.TheVariants.{Load}
 use Rattle.road_network.specs.Roads.{Roads}
 use Rattle.road_network.specs.Reading.{network_of}
@@ -41,11 +40,6 @@ inputs_made shape sources roads vehicles rounds read = record {
   fleet = fleet_made roads.nodes (texts_of shape).fleet vehicles read.fleet;
   script = script_made (texts_of shape).script rounds read.script;
 }
-
--- the same inputs under other names
-pub inputs_same : (m : Mode) (s : SeenSources) (r other_r : Roads) (v other_v : List Vehicle) (n other_n : List NumberedLanes) → other_r ≡ r → other_v ≡ v → other_n ≡ n → AreInputs m s r v n → AreInputs m s other_r other_v other_n
-inputs_same m s r other_r v other_v n other_n roads vehicles rounds inputs =
-    subst (λ x. AreInputs m s x other_v other_n) (sym roads) (subst (λ x. AreInputs m s r x other_n) (sym vehicles) (subst (λ x. AreInputs m s r v x) (sym rounds) inputs))
 
 -- the first source wasn't read
 pub network_stops : (s : SeenSources) (e : RunStatus) → IsNetworkFault s.network e → IsSourceFault s e

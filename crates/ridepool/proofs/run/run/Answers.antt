@@ -3,7 +3,6 @@ use Rattle.std.specs.String.{string_bytes}
 use Rattle.std.proofs.lemmas.Result.{err_from_is_err_and}
 use Rattle.ridepool.specs.Explained.{Seen}
 use Rattle.ridepool.proofs.ExitLemmas.{kept, input_exit, touches, writing_exit}
-use Rattle.ridepool.proofs.InputLemmas.{inputs_same}
 use Rattle.ridepool.proofs.run.run.Goals as goal
 
 pub returns-in_err-network-clause-explained : goal.returns-in_err-network-clause-explained
@@ -53,7 +52,7 @@ returns-clause-explained g c =
       faults_before = g.K.Sink.faults c.args.out.now;
       faults_after = g.K.Sink.faults c.write_report.new.out;
     } in
-    writing_exit seen (record { settings = c.in_ok-settings.settings; roads = c.in_ok-network.network; vehicles = c.in_ok-network.fleet; rounds = c.in_ok-network.script }) c.write_report.result (record { words = c.in_ok-settings.ensures.settings; inputs = inputs_same c.in_ok-settings.settings.mode seen.sources c.in_ok-network.field-0.network c.in_ok-network.network c.in_ok-network.field-0.fleet c.in_ok-network.fleet c.in_ok-network.field-0.script c.in_ok-network.script c.in_ok-network.network-is c.in_ok-network.fleet-is c.in_ok-network.script-is c.in_ok-network.ensures.inputs }) c.write_report.ensures.report
+    writing_exit seen (record { settings = c.in_ok-settings.settings; roads = c.in_ok-network.field-0.network; vehicles = c.in_ok-network.field-0.fleet; rounds = c.in_ok-network.field-0.script }) c.write_report.result (record { words = c.in_ok-settings.ensures.settings; inputs = c.in_ok-network.ensures.inputs }) c.write_report.ensures.report
 
 pub returns-clause-untouched : goal.returns-clause-untouched
 returns-clause-untouched g c =
