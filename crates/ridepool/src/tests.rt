@@ -46,9 +46,39 @@ fn shown(
         &mut script,
         &mut out,
     );
-    let mut text = line_of(alloc, &status)?;
+    line_before(alloc, &status, out.written())
+}
+
+// What a made workload shows, beside sources whose every read would fail.
+fn summed_up(
+    rt: &(impl Threads + Sync),
+    alloc: Global,
+    text: &str,
+    pieces: usize,
+    failing_write: Option<u64>,
+) -> Result<Vec<u8>, AllocError> {
+    let words = words(alloc, text)?;
+    let mut network = source(alloc, b"", 1, Some(0))?;
+    let mut fleet = source(alloc, b"", 1, Some(0))?;
+    let mut script = source(alloc, b"", 1, Some(0))?;
+    let mut out = MemorySink::new(alloc, pieces.max(1), planned(alloc, failing_write)?);
+    let status = ridepool(
+        rt,
+        alloc,
+        &words,
+        &mut network,
+        &mut fleet,
+        &mut script,
+        &mut out,
+    );
+    line_before(alloc, &status, out.written())
+}
+
+// The line of a fault, and a bar before what was written.
+fn line_before(alloc: Global, status: &RunStatus, written: &[u8]) -> Result<Vec<u8>, AllocError> {
+    let mut text = line_of(alloc, status)?;
     text.push(b'|')?;
-    text.extend_from_slice(out.written())?;
+    text.extend_from_slice(written)?;
     Ok(text)
 }
 
@@ -120,6 +150,30 @@ fn a_failing_write_leaves_a_beginning(rt: HostRuntime) -> Result<(), Fail> {
     assert_eq!(rt;
         text.as_slice(),
         b"report: write failed|ridepool report 1\n".as_slice()
+    );
+    Ok(())
+}
+
+#[test]
+fn the_smallest_workload_is_summed_up_in_pieces_of_any_size(rt: HostRuntime) -> Result<(), Fail> {
+    let words = "load side=2 vehicles=1 riders=1 rounds=1";
+    let summary = b"|load seed=1 side=2 vehicles=1 riders=1 rounds=1\nbatch 1 served 1 out 0 rows 2 trips 1 cost 74 bound 74\ndone 3\n";
+    for pieces in [1, 7, 100_000] {
+        let text = summed_up(&rt, rt.alloc(), words, pieces, None)?;
+        assert_eq!(rt; text.as_slice(), summary.as_slice());
+    }
+    Ok(())
+}
+
+#[test]
+fn a_failing_write_leaves_a_beginning_of_a_summary(rt: HostRuntime) -> Result<(), Fail> {
+    let words = "load side=2 vehicles=1 riders=1 rounds=1";
+    let text = summed_up(&rt, rt.alloc(), words, 10, Some(0))?;
+    assert_eq!(rt; text.as_slice(), b"report: write failed|".as_slice());
+    let text = summed_up(&rt, rt.alloc(), words, 10, Some(2))?;
+    assert_eq!(rt;
+        text.as_slice(),
+        b"report: write failed|load seed=1 side=2 v".as_slice()
     );
     Ok(())
 }
@@ -228,7 +282,8 @@ fn refused_words_have_their_lines(rt: HostRuntime) -> Result<(), Fail> {
     assert!(rt; refuses_words(&rt, alloc, "run", "words: missing network")?);
     assert!(rt; refuses_words(&rt, alloc, "run network=n", "words: missing fleet")?);
     assert!(rt; refuses_words(&rt, alloc, "run network=n fleet=f", "words: missing script")?);
-    assert!(rt; refuses_words(&rt, alloc, "load", "words: not built yet")?);
+    assert!(rt; refuses_words(&rt, alloc, "load side=1", "words: bad value at word 2")?);
+    assert!(rt; refuses_words(&rt, alloc, "load network=n", "words: unknown key at word 2")?);
     Ok(())
 }
 
