@@ -115,7 +115,7 @@ step-seals nodes wait s (Close batch outcome) b e = absurd cc
 
 pub applied-fits : (old new : BookView) (lane : ℕ) (command : Command) (reply : Reply) (snapshot : Option Batch)
     → IsBook new → IsApplied old lane command reply new → snapshot ≡ snapshot_before old.wait old.state command
-    → Fits (root_of old) command (record { reply = reply; snapshot = snapshot })
+    → Fits old.nodes command (record { reply = reply; snapshot = snapshot })
 applied-fits old new lane command reply snapshot book applied is =
     let after = step old.nodes old.wait old.state command in
     let told : reply ≡ after.1 = ap (λ p. p.1) applied.stepped in

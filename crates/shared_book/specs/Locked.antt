@@ -61,6 +61,10 @@ snapshot_before wait s (Close batch outcome) = None
 abbrev pub call_of : State → Entry → Logged Command LockedReply
 call_of s e = record { lane = e.lane; call = e.command; reply = record { reply = e.reply; snapshot = snapshot_after e.reply s } }
 
+-- a call as an entry of the journal
+abbrev pub entry_of : Logged Command LockedReply → Entry
+entry_of c = record { lane = c.lane; command = c.call; reply = c.reply.reply }
+
 -- the entries of a journal as calls, replayed from the state before them
 unfoldable pub calls_from : List ℕ → ℕ → State → List Entry → List (Logged Command LockedReply)
 calls_from nodes wait s [] = []
@@ -75,10 +79,10 @@ log_of b = calls_from b.nodes b.wait b.base b.entries
 abbrev pub root_of : BookView → BookRoot
 root_of b = record { nodes = b.nodes; wait = b.wait; first = b.first; base = b.base }
 
--- the batch is there exactly where the reply says that one is sealed; it names only nodes of the root, has the
--- reply's number, and only a seal has one
-pub record Fits (root : BookRoot) (command : Command) (reply : LockedReply) : Type 0 where
+-- a batch is there exactly where the reply says that one is sealed; it names only these nodes, has the reply's
+-- number, and only a seal has one
+pub record Fits (nodes : List ℕ) (command : Command) (reply : LockedReply) : Type 0 where
   pub sealed : is_some reply.snapshot ≡ is_sealed reply.reply
-  pub named : (b : Batch) → reply.snapshot ≡ Some b → All (IsNode root.nodes) (named_nodes b)
+  pub named : (b : Batch) → reply.snapshot ≡ Some b → All (IsNode nodes) (named_nodes b)
   pub numbered : (b : Batch) → reply.snapshot ≡ Some b → reply.reply ≡ Sealed b.number
   pub seals : (b : Batch) → reply.snapshot ≡ Some b → is_light command ≡ false

@@ -6,5 +6,7 @@
 #![tactic(auto)]
 
 mod locked;
+mod shared;
 
 pub use locked::{BookRoot, LockedBook, LockedReply};
+pub use shared::{Pass, Receipt, SealReceipt, SharedBook, UnfinishedBook};

@@ -1,5 +1,6 @@
 //! A book as the lock plays it.
 ghost use Rattle.std.specs.Prelude.{◌≡◌, ◌^◌, ◌<◌, IfOk, IsOk, IsTrue, length};
+ghost use Rattle.request_book.specs.Book.{IsBook};
 ghost use Rattle.shared_book.specs.Locked.{is_light, snapshot_before};
 
 use batch_snapshot::Snapshot;
@@ -57,7 +58,7 @@ impl Logged for LockedBook {
 
     ghost light = { is_light };
 
-    ghost fits = { Fits };
+    ghost fits = { λ root command reply. Fits root.nodes command reply };
 
     fn play(
         &mut self,
@@ -73,6 +74,21 @@ impl Logged for LockedBook {
 }
 
 impl LockedBook {
+    pub(crate) fn of(book: Book) -> LockedBook
+        ensures { result ≡ book }
+    {
+        let _entries = book.entries();
+        LockedBook { book }
+    }
+
+    pub(crate) fn into_book(self) -> Book
+        ensures book { result ≡ self }
+        ensures kept { IsBook self }
+    {
+        let LockedBook { book } = self;
+        book
+    }
+
     // The batch that the command would seal, if it is a seal.
     fn snapshot_for(&self, command: &Command) -> Result<Option<Snapshot>, OutOfMemory>
         ensures snapshot { IfOk result (λ snapshot. snapshot ≡ snapshot_before self.now.wait self.now.state command.now) }
