@@ -54,13 +54,13 @@ pub finished : (start book : BookView) (passes : List BookPass) → IsBook start
 finished start book passes opened closed root gains =
     let since : List Entry = map entry_of gains.since in
     let gained : calls_from start.nodes start.wait start.base book.entries ≡ log_of start ++ gains.since =
-        sym (ap (λ (r : BookRoot). calls_from r.nodes r.wait r.base book.entries) root) ∙ gains.gained in
+    sym (ap (λ (r : BookRoot). calls_from r.nodes r.wait r.base book.entries) root) ∙ gains.gained in
     let entries : book.entries ≡ start.entries ++ since = gained-entries start.nodes start.wait start.base start.entries book.entries gains.since gained in
     let calls : calls_from start.nodes start.wait start.state since ≡ gains.since =
-        ap (λ (s : State). calls_from start.nodes start.wait s since) opened.state
-        ∙ gained-calls start.nodes start.wait start.base start.entries book.entries gains.since gained in
+    ap (λ (s : State). calls_from start.nodes start.wait s since) opened.state
+    ∙ gained-calls start.nodes start.wait start.base start.entries book.entries gains.since gained in
     let replies : RepliesAreSteps start.nodes start.wait start.base (start.entries ++ since) =
-        subst (λ (es : List Entry). RepliesAreSteps start.nodes start.wait start.base es) entries (subst (λ (r : BookRoot). RepliesAreSteps r.nodes r.wait r.base book.entries) root closed.replies) in
+    subst (λ (es : List Entry). RepliesAreSteps start.nodes start.wait start.base es) entries (subst (λ (r : BookRoot). RepliesAreSteps r.nodes r.wait r.base book.entries) root closed.replies) in
     record {
       nodes = ap (λ (r : BookRoot). r.nodes) root;
       wait = ap (λ (r : BookRoot). r.wait) root;

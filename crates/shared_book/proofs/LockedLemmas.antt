@@ -63,10 +63,10 @@ applied-call old new lane command reply snapshot book applied is =
     let after : State = state_after old.nodes old.wait old.base old.entries in
     let made : (new.state, reply) ≡ step old.nodes old.wait after command = applied.stepped ∙ ap (λ s. step old.nodes old.wait s command) book.state in
     let shown : snapshot_after reply (step old.nodes old.wait after command).0 ≡ snapshot =
-        ap (λ p. snapshot_after p (step old.nodes old.wait after command).0) (ap (λ p. p.1) made)
-        ∙ step-snapshot old.nodes old.wait after command
-        ∙ ap (λ s. snapshot_before old.wait s command) (sym book.state)
-        ∙ sym is in
+    ap (λ p. snapshot_after p (step old.nodes old.wait after command).0) (ap (λ p. p.1) made)
+    ∙ step-snapshot old.nodes old.wait after command
+    ∙ ap (λ s. snapshot_before old.wait s command) (sym book.state)
+    ∙ sym is in
     (λ i. calls_from (applied.nodes i) (applied.wait i) (applied.base i) (applied.entries i))
     ∙ calls-push old.nodes old.wait old.base old.entries e
     ∙ ap (λ o. log_of old ++ call o ∷ []) shown

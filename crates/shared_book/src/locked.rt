@@ -60,12 +60,7 @@ impl Logged for LockedBook {
 
     ghost fits = { λ root command reply. Fits root.nodes command reply };
 
-    fn play(
-        &mut self,
-        alloc: Global,
-        lane: u8,
-        call: Command,
-    ) -> Result<LockedReply, OutOfMemory> {
+    fn play(&mut self, alloc: Global, lane: u8, call: Command) -> Result<LockedReply, OutOfMemory> {
         let snapshot = self.snapshot_for(&call)?;
         let reply = self.book.apply(lane, call)?;
         let _count = count_entries(self.book.entries());
