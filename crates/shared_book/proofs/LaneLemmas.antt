@@ -6,10 +6,10 @@ use Rattle.std.proofs.lemmas.Bool.{cases_eq, cases_lt, eq-eqb, eqb-true, eqb-fal
 use Rattle.batch_snapshot.specs.Batch.{Batch}
 use Rattle.request_book.specs.Book.{BookView, IsBook, batch_unless}
 use Rattle.request_book.specs.Closing.{closed_state}
-use Rattle.request_book.specs.Refusals.{first_of, not_this_batch, batch_open, clock_back}
+use Rattle.request_book.specs.Refusals.{first_of, unknown_node, unknown_rider, is_aboard, has_ended, unknown_vehicle, time_back, not_promised, vehicle_full, not_aboard, not_this_batch}
 use Rattle.request_book.specs.Replay.{state_after, RepliesAreSteps}
 use Rattle.request_book.specs.Sealing.{batch_of, one_more, sealed_state}
-use Rattle.request_book.specs.State.{find_rider}
+use Rattle.request_book.specs.State.{find_rider, find_vehicle}
 use Rattle.request_book.specs.Step.{answer, rider_becomes, vehicle_becomes, stands_at, picked_up, dropped_off, submit_refusal, seal_refusal, submit_step, cancel_step, report_step, pickup_step, dropoff_step, seal_step, close_step, step}
 use Rattle.request_book.specs.declared.command.Command.{Command}
 use Rattle.request_book.specs.declared.command.Command.TheVariants.{Submit, Cancel, Report, Pickup, Dropoff, Seal, Close}
@@ -20,6 +20,7 @@ use Rattle.request_book.specs.declared.reply.BookRefusal.{BookRefusal}
 use Rattle.request_book.specs.declared.reply.Reply.{Reply}
 use Rattle.request_book.specs.declared.reply.Reply.TheVariants.{Accepted, Cancelled, Placed, Picked, Dropped, Sealed, Closed, Refused}
 use Rattle.request_book.specs.declared.rider.BookRider.{BookRider}
+use Rattle.request_book.specs.declared.rider.Status.TheVariants.{Waiting, Cancelled as GivenUp}
 use Rattle.request_book.specs.declared.state.State.{State}
 use Rattle.seat_lock.specs.Values.{calls_of}
 use Rattle.seat_lock.specs.declared.logged.Entry.{Entry as Logged}
@@ -30,10 +31,10 @@ use Rattle.shared_book.specs.Lanes.{of_lane, calls_of_lane, calls_of_pass, IsPla
 use Rattle.shared_book.proofs.FinishLemmas.{calls-entries}
 
 -- what a plain command changes
-record IsQuiet (s : State) (after : State × Reply) : Type 0 where
-  sealed : after.0.sealed ≡ s.sealed
-  shown : snapshot_after after.1 after.0 ≡ None
-  told : sealed_by after.1 ≡ None
+pub record IsQuiet (s : State) (after : State × Reply) : Type 0 where
+  pub sealed : after.0.sealed ≡ s.sealed
+  pub shown : snapshot_after after.1 after.0 ≡ None
+  pub told : sealed_by after.1 ≡ None
 
 answer-quiet : (s next : State) (o : Option BookRefusal) (reply : Reply) → next.sealed ≡ s.sealed → ((t : State) → snapshot_after reply t ≡ None) → sealed_by reply ≡ None → IsQuiet s (answer s o reply next)
 answer-quiet s next None reply same shown told = record { sealed = same; shown = shown next; told = told }
@@ -49,11 +50,23 @@ dropped-sealed s (Some r) vehicle time = refl
 
 pub plain-quiet : (nodes : List ℕ) (wait : ℕ) (s : State) (command : Command) → IsPlain command → IsQuiet s (step nodes wait s command)
 unfolding step submit_step cancel_step report_step pickup_step dropoff_step
-plain-quiet nodes wait s (Submit rider origin destination time party) plain = answer-quiet s _ _ Accepted refl (λ t. refl) refl
-plain-quiet nodes wait s (Cancel rider) plain = answer-quiet s _ _ Cancelled refl (λ t. refl) refl
-plain-quiet nodes wait s (Report vehicle node time) plain = answer-quiet s _ _ Placed refl (λ t. refl) refl
-plain-quiet nodes wait s (Pickup vehicle rider time) plain = answer-quiet s _ _ Picked (picked-sealed s (find_rider rider s.riders) vehicle time) (λ t. refl) refl
-plain-quiet nodes wait s (Dropoff vehicle rider time) plain = answer-quiet s _ _ Dropped (dropped-sealed s (find_rider rider s.riders) vehicle time) (λ t. refl) refl
+plain-quiet nodes wait s (Submit rider origin destination time party) plain =
+    let r : BookRider = record { id = rider; origin = origin; destination = destination; time = time; party = party; status = Waiting } in
+    answer-quiet s (record s { riders = s.riders ++ r ∷ [] }) (submit_refusal nodes s r) Accepted refl (λ t. refl) refl
+plain-quiet nodes wait s (Cancel rider) plain =
+    let r = find_rider rider s.riders in
+    answer-quiet s (rider_becomes s rider GivenUp) (first_of (unknown_rider r ∷ is_aboard r ∷ has_ended r ∷ [])) Cancelled refl (λ t. refl) refl
+plain-quiet nodes wait s (Report vehicle node time) plain =
+    let v = find_vehicle vehicle s.vehicles in
+    answer-quiet s (vehicle_becomes s vehicle (stands_at node time)) (first_of (unknown_vehicle v ∷ unknown_node nodes node ∷ time_back v time ∷ [])) Placed refl (λ t. refl) refl
+plain-quiet nodes wait s (Pickup vehicle rider time) plain =
+    let v = find_vehicle vehicle s.vehicles in
+    let r = find_rider rider s.riders in
+    answer-quiet s (picked_up s r vehicle time) (first_of (unknown_vehicle v ∷ unknown_rider r ∷ is_aboard r ∷ has_ended r ∷ not_promised r vehicle ∷ time_back v time ∷ vehicle_full v r ∷ [])) Picked (picked-sealed s r vehicle time) (λ t. refl) refl
+plain-quiet nodes wait s (Dropoff vehicle rider time) plain =
+    let v = find_vehicle vehicle s.vehicles in
+    let r = find_rider rider s.riders in
+    answer-quiet s (dropped_off s r vehicle time) (first_of (unknown_vehicle v ∷ unknown_rider r ∷ not_aboard r vehicle ∷ time_back v time ∷ [])) Dropped (dropped-sealed s r vehicle time) (λ t. refl) refl
 plain-quiet nodes wait s (Seal now) plain = absurd plain
 plain-quiet nodes wait s (Close batch outcome) plain = absurd plain
 
@@ -65,12 +78,12 @@ quiet-last : (s : State) (after : State × Reply) (last : Option Batch) → IsQu
 quiet-last s after last quiet is b e = ap (last_sealed last) quiet.shown ∙ is b (sym quiet.sealed ∙ e)
 
 -- the states and batches after a close
-closed-none : (s : State) (answer : Answer) → (closed_state s answer).sealed ≡ None
+closed-none : (s : State) (outcome : Answer) → (closed_state s outcome).sealed ≡ None
 unfolding closed_state
-closed-none s answer = by s.sealed refl
+closed-none s outcome = by s.sealed refl
   where
-    by : (o : Option Batch) → s.sealed ≡ o → (closed_state s answer).sealed ≡ None
-    by None e = rw e e
+    by : (o : Option Batch) → s.sealed ≡ o → (closed_state s outcome).sealed ≡ None
+    by None e = rw e refl
     by (Some b) e = rw e refl
 
 -- a close is taken where its batch is the one that stands sealed
@@ -78,15 +91,6 @@ close-refused : (o : Option Batch) (batch : ℕ) → first_of (not_this_batch o 
 unfolding first_of
 close-refused None batch e = absurd cc
 close-refused (Some b) batch e = (b, refl)
-
-step-last : (nodes : List ℕ) (wait : ℕ) (s : State) (command : Command) (last : Option Batch) → IsLast s last → IsLast (step nodes wait s command).0 (last_sealed last (snapshot_after (step nodes wait s command).1 (step nodes wait s command).0))
-step-last nodes wait s (Submit rider origin destination time party) last is = quiet-last s _ last (plain-quiet nodes wait s (Submit rider origin destination time party) tt) is
-step-last nodes wait s (Cancel rider) last is = quiet-last s _ last (plain-quiet nodes wait s (Cancel rider) tt) is
-step-last nodes wait s (Report vehicle node time) last is = quiet-last s _ last (plain-quiet nodes wait s (Report vehicle node time) tt) is
-step-last nodes wait s (Pickup vehicle rider time) last is = quiet-last s _ last (plain-quiet nodes wait s (Pickup vehicle rider time) tt) is
-step-last nodes wait s (Dropoff vehicle rider time) last is = quiet-last s _ last (plain-quiet nodes wait s (Dropoff vehicle rider time) tt) is
-step-last nodes wait s (Seal now) last is = seal-last wait s now last is
-step-last nodes wait s (Close batch outcome) last is = close-last s batch outcome.answer last is
 
 seal-last : (wait : ℕ) (s : State) (now : ℕ) (last : Option Batch) → IsLast s last → IsLast (seal_step wait s now).0 (last_sealed last (snapshot_after (seal_step wait s now).1 (seal_step wait s now).0))
 unfolding seal_step sealed_state
@@ -103,6 +107,16 @@ close-last s batch outcome last is = by (first_of (not_this_batch s.sealed batch
     by : (o : Option BookRefusal) → IsLast (answer s o Closed (closed_state s outcome)).0 (last_sealed last (snapshot_after (answer s o Closed (closed_state s outcome)).1 (answer s o Closed (closed_state s outcome)).0))
     by None b e = (let none : None ≡ Some b = sym (closed-none s outcome) ∙ e in absurd cc)
     by (Some refusal) b e = is b e
+
+step-last : (nodes : List ℕ) (wait : ℕ) (s : State) (command : Command) (last : Option Batch) → IsLast s last → IsLast (step nodes wait s command).0 (last_sealed last (snapshot_after (step nodes wait s command).1 (step nodes wait s command).0))
+unfolding step
+step-last nodes wait s (Submit rider origin destination time party) last is = quiet-last s _ last (plain-quiet nodes wait s (Submit rider origin destination time party) tt) is
+step-last nodes wait s (Cancel rider) last is = quiet-last s _ last (plain-quiet nodes wait s (Cancel rider) tt) is
+step-last nodes wait s (Report vehicle node time) last is = quiet-last s _ last (plain-quiet nodes wait s (Report vehicle node time) tt) is
+step-last nodes wait s (Pickup vehicle rider time) last is = quiet-last s _ last (plain-quiet nodes wait s (Pickup vehicle rider time) tt) is
+step-last nodes wait s (Dropoff vehicle rider time) last is = quiet-last s _ last (plain-quiet nodes wait s (Dropoff vehicle rider time) tt) is
+step-last nodes wait s (Seal now) last is = seal-last wait s now last is
+step-last nodes wait s (Close batch outcome) last is = close-last s batch outcome.answer last is
 
 -- a rule of each element
 abbrev Each : {X : Type 0} → (X → Type 0) → List X → Type 0

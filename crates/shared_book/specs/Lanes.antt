@@ -1,5 +1,5 @@
 -- What each lane did, and what follows for the one history in which all of them stand.
-use Rattle.std.specs.Prelude.{◌≡◌, ◌≢◌, ⊥, ℕ, ◌==◌, ◌<◌, ◌≤◌, List, [], ◌∷◌, Option, None, Some, filter, map, length, slice_index_or}
+use Rattle.std.specs.Prelude.{◌≡◌, ◌≢◌, ℕ, ◌==◌, ◌<◌, ◌≤◌, List, [], ◌∷◌, Option, None, Some, filter, map, length, slice_index_or}
 use Rattle.batch_snapshot.specs.Batch.{Batch}
 use Rattle.request_book.specs.Replay.{state_after}
 use Rattle.request_book.specs.Step.{step}
@@ -96,7 +96,7 @@ module _ (Good : Batch → Outcome → Type 0) where
     pub beyond : (k : ℕ) → length passes ≤ k → lanes k ≡ []
 
   -- the entries are a run of each lane's commands, every close is good, and no batch waits for its close
-  pub record IsJointRun (nodes : List ℕ) (wait : ℕ) (s : State) (lanes : ℕ → List Command) (entries : List Entry) : Type 0 where
-    pub lanes : (k : ℕ) → IsLaneRun (lanes k) (of_lane k entries)
+  pub record IsJointRun (nodes : List ℕ) (wait : ℕ) (s : State) (commands : ℕ → List Command) (entries : List Entry) : Type 0 where
+    pub lanes : (k : ℕ) → IsLaneRun (commands k) (of_lane k entries)
     pub closes : ClosesAreGood nodes wait s entries
     pub closed : (state_after nodes wait s entries).sealed ≡ None
