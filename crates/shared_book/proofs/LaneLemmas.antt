@@ -163,7 +163,8 @@ module _ (nodes : List ℕ) (wait : ℕ) (Good : Batch → Outcome → Type 0) w
   good-close s (Close batch outcome) (Refused refusal) last is good e = tt
   good-close s (Close batch outcome) Closed last is good e =
       let stands = close-refused s.sealed batch (answered s (closed_state s outcome.answer) _ e) in
-      (stands.0, stands.1, good stands.0 (is stands.0 stands.1))
+      let same : good.0 ≡ stands.0 = (let both : Some good.0 ≡ Some stands.0 = sym good.1 ∙ is stands.0 stands.1 in cc) in
+      (stands.0, stands.1, subst (λ (b : Batch). Good b outcome) same good.2)
 
   -- one entry more
   close-first : (s : State) (last : Option Batch) (e : Entry) (rest : List (Logged Command LockedReply)) (More : Type 0)

@@ -1,3 +1,4 @@
 pub mod LockedLemmas
 pub mod FinishLemmas
 pub mod LaneLemmas
+pub mod PassLemmas

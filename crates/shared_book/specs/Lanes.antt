@@ -1,5 +1,5 @@
 -- What each lane did, and what follows for the one history in which all of them stand.
-use Rattle.std.specs.Prelude.{◌≡◌, ◌≢◌, ℕ, ◌==◌, ◌<◌, ◌≤◌, List, [], ◌∷◌, Option, None, Some, filter, map, length, slice_index_or}
+use Rattle.std.specs.Prelude.{◌≡◌, ◌≢◌, ℕ, ◌==◌, ◌<◌, ◌≤◌, List, [], ◌∷◌, ◌++◌, Option, None, Some, filter, map, length, slice_index_or}
 use Rattle.batch_snapshot.specs.Batch.{Batch}
 use Rattle.request_book.specs.Replay.{state_after}
 use Rattle.request_book.specs.Step.{step}
@@ -69,13 +69,20 @@ last_sealed last (Some b) = Some b
 module _ (Good : Batch → Outcome → Type 0) where
   -- a close has an outcome that is good for the batch that was sealed last
   abbrev pub IsGoodFor : Option Batch → Command → Type 0
-  IsGoodFor last (Close batch outcome) = (b : Batch) → last ≡ Some b → Good b outcome
+  IsGoodFor last (Close batch outcome) = (b : Batch) × (last ≡ Some b) × Good b outcome
   IsGoodFor last _ = Unit {0}
 
   -- each close of a lane has an outcome that is good for the batch that the lane itself sealed last before it
   abbrev pub LaneClosesAreGood : Option Batch → List (Logged Command LockedReply) → Type 0
   LaneClosesAreGood last [] = Unit {0}
   LaneClosesAreGood last (c ∷ cs) = IsGoodFor last c.call × LaneClosesAreGood (last_sealed last c.reply.snapshot) cs
+
+  -- the pass has gained a run of these commands, with good closes
+  pub record HasRun (commands : List Command) (old new : BookPass) : Type 0 where
+    pub more : List (ℕ × Logged Command LockedReply)
+    pub calls : new.calls ≡ old.calls ++ more
+    pub run : IsLaneRun commands (map (λ c. entry_of c.1) more)
+    pub closes : LaneClosesAreGood None (map (λ c. c.1) more)
 
   -- where a close was answered `closed`, its outcome is good for the batch that is sealed in the state before it
   abbrev pub IsGoodClose : State → Command → Reply → Type 0

@@ -1,9 +1,9 @@
 //! What holds of the one history of all lanes: a call with no code, whose clause is the law.
-ghost use Rattle.std.specs.Prelude.{◌≡◌, ℕ, List, None};
+ghost use Rattle.std.specs.Prelude.{◌≡◌, ◌++◌, ℕ, List, None};
 ghost use Rattle.request_book.specs.Book.{BookView};
 ghost use Rattle.request_book.specs.declared.command.Command.{Command};
 ghost use Rattle.shared_book.specs.Shared.{BookPass, IsFinished};
-ghost use Rattle.shared_book.specs.Lanes.{HaveRun, IsJointRun};
+ghost use Rattle.shared_book.specs.Lanes.{HasRun, HaveRun, IsJointRun};
 
 /// What makes an outcome good for a batch. Contracts alone speak of it.
 pub trait Judge {
@@ -19,4 +19,10 @@ pub trait Judge {
 pub fn lanes_run_as_one<J: Judge>()
     ensures { (lanes : ℕ → List Command) (start book : BookView) (passes : List BookPass) (done : IsFinished start passes book)
         → start.state.sealed ≡ None → HaveRun J.good lanes passes → IsJointRun J.good start.nodes start.wait start.state lanes done.since }
+{}
+
+/// Where a pass has gained a run of some commands and then of others, it has gained a run of all.
+pub fn runs_join<J: Judge>()
+    ensures { (first after last : BookPass) (commands more : List Command)
+        → HasRun J.good commands first after → HasRun J.good more after last → HasRun J.good (commands ++ more) first last }
 {}

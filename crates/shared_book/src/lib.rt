@@ -11,6 +11,6 @@ mod shared;
 #[cfg(test)]
 mod tests;
 
-pub use laws::{Judge, lanes_run_as_one};
+pub use laws::{Judge, lanes_run_as_one, runs_join};
 pub use locked::{BookRoot, LockedBook, LockedReply};
 pub use shared::{Pass, Receipt, SealReceipt, SharedBook, UnfinishedBook};

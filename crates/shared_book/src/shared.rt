@@ -54,7 +54,7 @@ pub struct SealReceipt {
 /// and says so: it never gives this answer.
 #[derive(Drop)]
 pub struct UnfinishedBook {
-    pub book: SharedBook,
+    pub lock: SharedBook,
     pub passes: Vec<Pass>,
 }
 
@@ -132,7 +132,7 @@ impl SharedBook {
         match self.lock.finish(passes) {
             Ok(locked) => Ok(locked.into_book()),
             Err(unfinished) => Err(UnfinishedBook {
-                book: SharedBook {
+                lock: SharedBook {
                     lock: unfinished.lock,
                 },
                 passes: unfinished.passes,
