@@ -105,6 +105,11 @@ impl Relaxation {
         }
     }
 
+    /// What the row costs, less the prices of its conditions, in 2^-20 seconds.
+    pub fn reduced_cost_of(&self, graph: &TripGraph, allowed: &[bool], row: usize) -> i64 {
+        self.reduced_cost(graph, allowed, Basic::Row(row))
+    }
+
     /// Takes a vehicle's held row into the first solution.
     fn hold(&mut self, graph: &TripGraph, vehicle: usize) {
         if vehicle >= self.basis.len() || vehicle >= self.inverse.len() {
