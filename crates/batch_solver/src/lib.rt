@@ -10,6 +10,8 @@ mod left;
 mod lines;
 mod moves;
 mod solving;
+#[cfg(test)]
+mod tests;
 mod told;
 mod trips;
 

@@ -71,7 +71,16 @@ fn answer_of(
     match grow_graph(alloc, settled, times, settings)? {
         GraphAnswer::Overflow => Ok(Answer::Overflow),
         GraphAnswer::Graph { graph, rv, rr } => {
-            let planned = planned_of(alloc, settings, points, times, settled, &graph, rv.as_slice(), &rr)?;
+            let planned = planned_of(
+                alloc,
+                settings,
+                points,
+                times,
+                settled,
+                &graph,
+                rv.as_slice(),
+                &rr,
+            )?;
             Ok(Answer::Planned(planned))
         }
     }
@@ -95,7 +104,7 @@ fn planned_of(
     requires rr { IsRrGraph (travel_time times.now) settled.now rr.now }
     ensures { IfOk result (IsGoodPlan settings.now points.now (travel_time times.now) settled.entry.now) }
 {
-    let found = bounded(alloc, graph, settings.budget)?;
+    let found = bounded_plan(alloc, graph, settings.budget)?;
     let chosen = found.plan.chosen();
     let left = left_riders(alloc, graph, chosen)?;
     Ok(Planned {
@@ -114,7 +123,7 @@ fn planned_of(
 }
 
 /// A plan of the graph, and a bound below which no lawful plan costs.
-fn bounded(alloc: Global, graph: &TripGraph, budget: u32) -> Result<Found, OutOfMemory>
+fn bounded_plan(alloc: Global, graph: &TripGraph, budget: u32) -> Result<Found, OutOfMemory>
     requires budget { 1 ≤ budget }
     requires good { IsGoodGraph graph.now }
     ensures plan { IfOk result (IsAnswer graph.now budget) }
@@ -124,7 +133,7 @@ fn bounded(alloc: Global, graph: &TripGraph, budget: u32) -> Result<Found, OutOf
     search(alloc, graph, budget)
 }
 
-/// The bound, a number of its type's range.
+/// The bound. It is a call, so that a caller knows that it is within its type's range.
 fn bound_of(found: &Found) -> i128
     ensures { result ≡ found.now.bound }
 {

@@ -11,6 +11,7 @@ use rider_limits::value_of;
 use std::fs::File;
 use std::io::{BufWriter, Write};
 use std::process::ExitCode;
+use std::thread::Threads;
 use std::{env, io};
 
 const HELP: &str = "\
@@ -60,7 +61,7 @@ fn main(rt: HostRuntime) -> ExitCode {
     };
     let status = match page_of(&words) {
         Some(page) => print_page(&rt, page),
-        None => run(&rt, &words),
+        None => run(&rt, &rt, &words),
     };
     report(&rt, &status)
 }
@@ -107,7 +108,7 @@ fn print_page(rt: &HostRuntime, page: &str) -> RunStatus {
 }
 
 /// Runs the words on the files that they name, with standard output as the sink.
-fn run(rt: &HostRuntime, words: &[String]) -> RunStatus {
+fn run(rt: &HostRuntime, threads: &(impl Threads + Sync), words: &[String]) -> RunStatus {
     let Ok(mut output) = BufWriter::new(rt.alloc(), rt.stdout()) else {
         return RunStatus::OutOfMemory;
     };
@@ -116,7 +117,7 @@ fn run(rt: &HostRuntime, words: &[String]) -> RunStatus {
     let mut script = source_of(rt, words, "script");
     let mut sink = StdSink::over(&mut output);
     let status = ridepool(
-        rt,
+        threads,
         rt.alloc(),
         words,
         &mut network,

@@ -3,7 +3,7 @@ use Rattle.std.proofs.lemmas.Bool.{cases_eq}
 use Rattle.plan_rules.specs.Graph.{vehicle_at}
 use Rattle.plan_rules.specs.Multipliers.{usable_of}
 use Rattle.plan_rules.specs.Tree.{MayUse}
-use Rattle.assignment_search.proofs.branching.branch_row.Goals as goal
+use Rattle.assignment_search.proofs.branching.first_branch.Goals as goal
 
 pub loop-vehicle-preserved : goal.loop-vehicle-preserved
 loop-vehicle-preserved c = λ v j k l a b.
