@@ -21,7 +21,7 @@ use Rattle.assignment_search.specs.Found.{IsAtLeastFirstFit, IsBranchJustified, 
 use Rattle.assignment_search.specs.Next.{IsParting, IsPartedAt, IsNext}
 use Rattle.assignment_search.specs.declared.parting.Ends.{Ends}
 use Rattle.assignment_search.specs.declared.step.Outcome.{Outcome}
-use Rattle.assignment_search.specs.declared.step.Outcome.TheVariants.{Met, Full, Fixed, Parted}
+use Rattle.assignment_search.specs.declared.step.Outcome.TheVariants.{Met, Better, Full, Fixed, Parted}
 use Rattle.assignment_search.proofs.GrowthLemmas.{IsSplit, grown_split, grown_reads, grown_length, branched, raised, lowest_above, lowest_floor, value_is, leaves_fit, branches_justified, usable_here, usable_only, usable_without, reads_unique, rounded_up_mono}
 use Rattle.assignment_search.proofs.RiseLemmas.{value_rises, only_fewer, without_fewer}
 use Rattle.assignment_search.proofs.CountLemmas.{tree_short}
@@ -66,11 +66,10 @@ new_end_small g u parent Dead z h = subst (IsSmallSum 1500) (sym (h.1)) (record 
 new_end_small g u parent (Branch v k) z h = absurd h
 
 pub root_is_good : (g : Graph) (allowed : List Bool) (ms : List ℤ) (value : ℤ) → IsGoodGraph g → ((k : ℕ) → k < length g.rows → usable_of allowed k ≡ true) → length ms ≡ g.riders
-    → ms ≡ first_fit g (usable_of allowed) → value ≡ leaf_value g (usable_of allowed) ms → IsSmallSum 1500 value → IsGoodLeaf g (rounded_up value) every_row ms value
+    → first_fit_value g (usable_of allowed) ≤ℤ value → value ≡ leaf_value g (usable_of allowed) ms → IsSmallSum 1500 value → IsGoodLeaf g (rounded_up value) every_row ms value
 root_is_good g allowed ms value good all sized fitted judged small =
     let agree : Agree g (usable_of allowed) every_row = all in
     let fit : first_fit_value g (usable_of allowed) ≡ first_fit_value g every_row = first_fit_value_agrees g (usable_of allowed) every_row agree in
-    let same : value ≡ first_fit_value g (usable_of allowed) = judged ∙ ap (leaf_value g (usable_of allowed)) fitted in
     record {
       sized = sized;
       judged = judged ∙ leaf_value_agrees g (usable_of allowed) every_row ms agree;
@@ -257,10 +256,11 @@ answer g budget limit place plan cost nodes values bound tree good t lowest held
     (subst (λ (ns : List Node). IsAnswer g budget (record { plan = plan; cost = cost; bound = rounded_up (get_or values place (pos 0)); tree = ns })) (sym same)
     (answer_of g budget limit place plan cost nodes values good t lowest held greedy right done))
 
--- where the outcome is neither one plan nor a parting, the value meets the limit or the budget is spent
-pub ended : (g : Graph) (nodes : List Node) (values : List ℤ) (place limit budget : ℕ) (o : Outcome) → IsNext g nodes values place limit budget o → ((plan : List (Option ℕ)) → o ≡ Fixed plan → ⊥) → ((ends : Ends) → o ≡ Parted ends → ⊥)
+-- where the outcome is neither a plan nor a parting, the value meets the limit or the budget is spent
+pub ended : (g : Graph) (nodes : List Node) (values : List ℤ) (place limit budget : ℕ) (o : Outcome) → IsNext g nodes values place limit budget o → ((plan : List (Option ℕ)) → o ≡ Better plan → ⊥) → ((plan : List (Option ℕ)) → o ≡ Fixed plan → ⊥) → ((ends : Ends) → o ≡ Parted ends → ⊥)
     → (pos limit ≤ℤ rounded_up (get_or values place (pos 0))) ⊎ ((budget < length nodes + 2) × (budget < 2 * choice_count g every_row))
-ended g nodes values place limit budget Met h fixed parted = inl h
-ended g nodes values place limit budget Full h fixed parted = inr h
-ended g nodes values place limit budget (Fixed plan) h fixed parted = absurd (fixed plan refl)
-ended g nodes values place limit budget (Parted ends) h fixed parted = absurd (parted ends refl)
+ended g nodes values place limit budget Met h better fixed parted = inl h
+ended g nodes values place limit budget (Better plan) h better fixed parted = absurd (better plan refl)
+ended g nodes values place limit budget Full h better fixed parted = inr h
+ended g nodes values place limit budget (Fixed plan) h better fixed parted = absurd (fixed plan refl)
+ended g nodes values place limit budget (Parted ends) h better fixed parted = absurd (parted ends refl)

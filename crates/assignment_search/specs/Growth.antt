@@ -12,6 +12,12 @@ pub record IsWorthBranching (g : Graph) (low : ℤ) (limit : ℕ) (usable : Usab
   pub at_most : rounded_up (first_fit_value g usable) ≤ℤ low
   pub below : rounded_up (first_fit_value g usable) <ℤ pos limit
 
+-- multipliers with the leaf value that they have at these rows
+pub record IsJudged (g : Graph) (usable : Usable) (ms : List ℤ) (value : ℤ) : Type 0 where
+  pub sized : length ms ≡ g.riders
+  pub judged : value ≡ leaf_value g usable ms
+  pub small : IsSmallSum 1500 value
+
 -- a leaf with its value, which is at least the first-fit one and, in seconds, at least `low`; it is no dead end
 pub record IsGoodLeaf (g : Graph) (low : ℤ) (usable : Usable) (ms : List ℤ) (value : ℤ) : Type 0 where
   pub sized : length ms ≡ g.riders

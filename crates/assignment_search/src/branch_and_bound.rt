@@ -8,12 +8,14 @@ ghost use Rattle.assignment_search.specs.Change.{HasNoBetterChange};
 ghost use Rattle.assignment_search.specs.Found.{IsAtLeastFirstFit, IsBranchJustified, IsAnswer};
 ghost use Rattle.assignment_search.specs.Growth.{choice_count};
 
+use crate::exchange::exchange;
 use crate::first_plan::first_plan;
 use crate::found::Found;
 use crate::growth::grow;
 use crate::lowest_leaf::{bound_at, lowest};
 use crate::root::root_leaf;
 use crate::step::{Outcome, next};
+use dual_bound::Relaxation;
 use plan_rules::{Node, Plan, Tree, TripGraph, cost_of};
 use pool_base::OutOfMemory;
 use std::alloc::Global;
@@ -44,9 +46,10 @@ fn run(alloc: Global, graph: &TripGraph, budget: u32) -> Result<Found, OutOfMemo
     requires { 1 ≤ budget }
     ensures { IfOk result (IsAnswer graph.now budget) }
 {
-    let plan = first_plan(alloc, graph)?;
-    let limit = cost_of(graph, &plan);
-    let root = root_leaf(alloc, graph)?;
+    let mut plan = first_plan(alloc, graph)?;
+    let mut limit = cost_of(graph, &plan);
+    let mut relaxation = Relaxation::new(alloc, graph)?;
+    let root = root_leaf(alloc, graph, &mut relaxation)?;
     let mut nodes = Vec::new(alloc);
     nodes.push(Node::Leaf {
         multipliers: root.multipliers,
@@ -56,8 +59,21 @@ fn run(alloc: Global, graph: &TripGraph, budget: u32) -> Result<Found, OutOfMemo
     loop {
         let place = lowest(&nodes, &values);
         let bound = bound_at(&values, place);
-        match next(alloc, graph, &nodes, &values, place, limit, budget as usize)? {
+        match next(
+            alloc,
+            graph,
+            &nodes,
+            &values,
+            place,
+            limit,
+            budget as usize,
+            &mut relaxation,
+        )? {
             Outcome::Parted(ends) => grow(&mut nodes, &mut values, place, ends)?,
+            Outcome::Better(better) => {
+                plan = exchange(alloc, graph, better)?;
+                limit = cost_of(graph, &plan);
+            }
             Outcome::Fixed(best) => {
                 return Ok(Found {
                     cost: cost_of(graph, &best),

@@ -1,13 +1,92 @@
 //! On which row a leaf is branched.
-ghost use Rattle.std.specs.Prelude.{◌≡◌, ◌<◌, ◌≤◌, ℕ, IfSome, IfNone, length};
+ghost use Rattle.std.specs.Prelude.{◌≡◌, ◌≢◌, ◌<◌, ◌≤◌, ℕ, IfSome, IfNone, length};
 ghost use Rattle.plan_rules.specs.Multipliers.{usable_of};
 ghost use Rattle.plan_rules.specs.Tree.{CanBranch, MayUse};
 ghost use Rattle.assignment_search.specs.Growth.{IsFixed};
 
+use dual_bound::Relaxation;
 use plan_rules::TripGraph;
 
-/// A vehicle that may use two rows, and one of them.
-pub fn branch_row(graph: &TripGraph, allowed: &[bool]) -> Option<(usize, usize)>
+/// A vehicle that may use two rows, and one of them: the row that the relaxation chooses most nearly by
+/// half, the larger trip first, or the first row that there is.
+pub fn branch_row(
+    graph: &TripGraph,
+    allowed: &[bool],
+    relaxation: &Relaxation,
+) -> Option<(usize, usize)>
+    requires { length allowed.now ≡ length graph.now.rows }
+    ensures found { IfSome result (λ at. CanBranch graph.now (usable_of allowed.now) at.0 at.1 × (at.0 < graph.now.vehicles)) }
+    ensures none { IfNone result (IsFixed graph.now (usable_of allowed.now)) }
+{
+    if let Some(row) = split_row(graph, allowed, relaxation) {
+        if let Some(at) = branch_at(graph, allowed, row) {
+            return Some(at);
+        }
+    }
+    first_branch(graph, allowed)
+}
+
+/// The allowed row that the relaxation chooses most nearly by half, if it chooses one in part.
+fn split_row(graph: &TripGraph, allowed: &[bool], relaxation: &Relaxation) -> Option<usize> {
+    let mut least = None;
+    let mut nearest = None;
+    for place in 0..relaxation.places() {
+        if let Some((row, share)) = relaxation.share(place) {
+            let rank = rank_of(graph, allowed, row, share);
+            if rank.is_some() && (least.is_none() || rank < least) {
+                least = rank;
+                nearest = Some(row);
+            }
+        }
+    }
+    nearest
+}
+
+/// A number that rises with the distance of the share from one half, then as the trip is smaller, then
+/// with the row's number; none for a row that isn't allowed or isn't chosen in part.
+fn rank_of(graph: &TripGraph, allowed: &[bool], row: usize, share: i64) -> Option<u64> {
+    let rows = graph.rows();
+    if row >= rows.len() || row >= allowed.len() || !allowed[row] || share <= 0 || share >= 1024 {
+        return None;
+    }
+    let distance = (2 * share - 1024).unsigned_abs() / 64;
+    let smaller = 6_u64.saturating_sub(rows[row].riders.len() as u64);
+    Some((distance * 7 + smaller) * 2_000_000 + row as u64)
+}
+
+/// The row with its vehicle, where the row is allowed and another one of the vehicle is too.
+fn branch_at(graph: &TripGraph, allowed: &[bool], row: usize) -> Option<(usize, usize)>
+    requires { length allowed.now ≡ length graph.now.rows }
+    ensures { IfSome result (λ at. CanBranch graph.now (usable_of allowed.now) at.0 at.1 × (at.0 < graph.now.vehicles)) }
+{
+    let rows = graph.rows();
+    if row >= rows.len() || !allowed[row] {
+        return None;
+    }
+    let vehicle = rows[row].vehicle;
+    let other = other_row(graph, allowed, vehicle, row)?;
+    prove!(other != row);
+    Some((vehicle, row))
+}
+
+/// A row that the vehicle may use beside this one.
+fn other_row(graph: &TripGraph, allowed: &[bool], vehicle: usize, row: usize) -> Option<usize>
+    requires allowed { length allowed.now ≡ length graph.now.rows }
+    requires vehicle { vehicle < graph.now.vehicles }
+    ensures { IfSome result (λ j. MayUse graph.now (usable_of allowed.now) vehicle j × (j ≢ row)) }
+{
+    let count = graph.vehicle_count();
+    prove!(vehicle < count);
+    for other in graph.first_row(vehicle)..graph.first_row(vehicle + 1) {
+        if other != row && allowed[other] {
+            return Some(other);
+        }
+    }
+    None
+}
+
+/// The first vehicle that may use two rows, and the second of them.
+fn first_branch(graph: &TripGraph, allowed: &[bool]) -> Option<(usize, usize)>
     requires { length allowed.now ≡ length graph.now.rows }
     ensures found { IfSome result (λ at. CanBranch graph.now (usable_of allowed.now) at.0 at.1 × (at.0 < graph.now.vehicles)) }
     ensures none { IfNone result (IsFixed graph.now (usable_of allowed.now)) }

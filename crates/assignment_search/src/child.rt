@@ -2,11 +2,10 @@
 ghost use Rattle.std.specs.Prelude.{◌≡◌, ◌≤ℤ◌, IfOk, length};
 ghost use Rattle.plan_rules.specs.Multipliers.{usable_of, leaf_value, first_fit_value};
 ghost use Rattle.plan_rules.specs.Tree.{IsDeadEnd};
-ghost use Rattle.assignment_search.specs.Growth.{IsNewEnd, IsNewLeaf};
-ghost use Rattle.dual_bound.specs.Size.{IsSmallSum};
+ghost use Rattle.assignment_search.specs.Growth.{IsJudged, IsNewEnd, IsNewLeaf};
 
 use crate::dead_end::is_dead_end;
-use dual_bound::{first_fit, leaf_value};
+use dual_bound::{Relaxation, first_fit, leaf_value};
 use plan_rules::{Multipliers, Node, TripGraph};
 use pool_base::OutOfMemory;
 use std::alloc::Global;
@@ -25,13 +24,13 @@ pub struct Judged {
     pub value: i128,
 }
 
-/// The end at these allowed rows. A leaf has the best of the first-fit multipliers, its parent's, and
-/// what an ascent finds.
+/// The end at these allowed rows.
 pub fn new_end(
     alloc: Global,
     graph: &TripGraph,
     allowed: &[bool],
     parent: &[i64],
+    relaxation: &mut Relaxation,
 ) -> Result<End, OutOfMemory>
     requires allowed { length allowed.now ≡ length graph.now.rows }
     requires parent { length parent.now ≡ graph.now.riders }
@@ -44,7 +43,7 @@ pub fn new_end(
             value: 0,
         });
     }
-    let best = best_of(alloc, graph, allowed, parent)?;
+    let best = best_of(alloc, graph, allowed, parent, relaxation)?;
     Ok(End {
         node: Node::Leaf {
             multipliers: best.multipliers,
@@ -53,33 +52,46 @@ pub fn new_end(
     })
 }
 
-/// The better of the first-fit multipliers and the parent's.
-fn best_of(
+/// The best of the first-fit multipliers, the parent's and the relaxation's.
+pub fn best_of(
     alloc: Global,
     graph: &TripGraph,
     allowed: &[bool],
     parent: &[i64],
+    relaxation: &mut Relaxation,
 ) -> Result<Judged, OutOfMemory>
     requires allowed { length allowed.now ≡ length graph.now.rows }
     requires parent { length parent.now ≡ graph.now.riders }
-    ensures sized { IfOk result (λ best. length best.multipliers ≡ graph.now.riders) }
-    ensures judged { IfOk result (λ best. best.value ≡ leaf_value graph.now (usable_of allowed.now) best.multipliers) }
+    ensures judged { IfOk result (λ best. IsJudged graph.now (usable_of allowed.now) best.multipliers best.value) }
     ensures first_fit { IfOk result (λ best. first_fit_value graph.now (usable_of allowed.now) ≤ℤ best.value) }
     ensures inherited { IfOk result (λ best. leaf_value graph.now (usable_of allowed.now) parent.now ≤ℤ best.value) }
-    ensures small { IfOk result (λ best. IsSmallSum 1500 best.value) }
 {
-    let fitted = first_fit(alloc, graph, allowed)?;
-    let value = leaf_value(graph, allowed, fitted.as_slice());
-    let inherited = leaf_value(graph, allowed, parent);
-    if inherited > value {
-        Ok(Judged {
-            multipliers: Multipliers::of(Vec::from_slice(alloc, parent)?),
-            value: inherited,
-        })
-    } else {
-        Ok(Judged {
-            multipliers: fitted,
+    let multipliers = first_fit(alloc, graph, allowed)?;
+    let value = leaf_value(graph, allowed, multipliers.as_slice());
+    let fitted = Judged { multipliers, value };
+    let inherited = Multipliers::of(Vec::from_slice(alloc, parent)?);
+    let better = better_of(graph, allowed, fitted, inherited);
+    relaxation.solve(graph, allowed)?;
+    let relaxed = relaxation.multipliers(alloc, graph)?;
+    Ok(better_of(graph, allowed, better, relaxed))
+}
+
+/// The multipliers of greater leaf value.
+fn better_of(graph: &TripGraph, allowed: &[bool], best: Judged, other: Multipliers) -> Judged
+    requires allowed { length allowed.now ≡ length graph.now.rows }
+    requires best { IsJudged graph.now (usable_of allowed.now) best.multipliers best.value }
+    requires other { length other ≡ graph.now.riders }
+    ensures judged { IsJudged graph.now (usable_of allowed.now) result.multipliers result.value }
+    ensures best { best.value ≤ℤ result.value }
+    ensures other { leaf_value graph.now (usable_of allowed.now) other ≤ℤ result.value }
+{
+    let value = leaf_value(graph, allowed, other.as_slice());
+    if value > best.value {
+        Judged {
+            multipliers: other,
             value,
-        })
+        }
+    } else {
+        best
     }
 }

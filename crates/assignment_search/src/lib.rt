@@ -15,6 +15,7 @@ mod growth;
 mod lowest_leaf;
 mod parting;
 mod root;
+mod rounding;
 mod sole_plan;
 mod standing;
 mod step;

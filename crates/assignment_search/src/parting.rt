@@ -8,6 +8,7 @@ ghost use Rattle.assignment_search.specs.Growth.{IsNewEnd};
 ghost use Rattle.assignment_search.specs.Next.{IsParting};
 
 use crate::child::{End, new_end};
+use dual_bound::Relaxation;
 use plan_rules::{Path, TripGraph};
 use pool_base::OutOfMemory;
 use std::alloc::Global;
@@ -29,6 +30,7 @@ pub fn part(
     parent: &[i64],
     vehicle: usize,
     row: usize,
+    relaxation: &mut Relaxation,
 ) -> Result<Ends, OutOfMemory>
     requires path { IsPathOf graph.now path }
     requires can { CanBranch graph.now (standing_of graph.now path).usable vehicle row }
@@ -42,9 +44,9 @@ pub fn part(
     prove!(row < size);
     let mut path = path;
     path.enter(vehicle as u32, row as u32)?;
-    let first = end_of(alloc, graph, &path, parent)?;
+    let first = end_of(alloc, graph, &path, parent, relaxation)?;
     path.leave();
-    let second = end_of(alloc, graph, &path, parent)?;
+    let second = end_of(alloc, graph, &path, parent, relaxation)?;
     Ok(Ends {
         vehicle: vehicle as u32,
         row: row as u32,
@@ -54,13 +56,19 @@ pub fn part(
 }
 
 /// The end where this path leads.
-fn end_of(alloc: Global, graph: &TripGraph, path: &Path, parent: &[i64]) -> Result<End, OutOfMemory>
+fn end_of(
+    alloc: Global,
+    graph: &TripGraph,
+    path: &Path,
+    parent: &[i64],
+    relaxation: &mut Relaxation,
+) -> Result<End, OutOfMemory>
     requires path { IsPathOf graph.now path.now }
     requires parent { length parent.now ≡ graph.now.riders }
     ensures { IfOk result (λ end. IsNewEnd graph.now (standing_of graph.now path.now).usable parent.now end.node end.value) }
 {
     let allowed = allowed_at(alloc, graph, path)?;
-    new_end(alloc, graph, &allowed, parent)
+    new_end(alloc, graph, &allowed, parent, relaxation)
 }
 
 /// The rows that may be chosen where this path leads.

@@ -4,19 +4,23 @@ ghost use Rattle.plan_rules.specs.Graph.{IsGoodGraph};
 ghost use Rattle.plan_rules.specs.Tree.{every_row, rounded_up};
 ghost use Rattle.assignment_search.specs.Growth.{IsGoodLeaf};
 
-use crate::child::Judged;
-use dual_bound::{first_fit, leaf_value};
+use crate::child::{Judged, best_of};
+use dual_bound::Relaxation;
 use plan_rules::TripGraph;
 use pool_base::OutOfMemory;
 use std::alloc::Global;
 
 /// A leaf at the root.
-pub fn root_leaf(alloc: Global, graph: &TripGraph) -> Result<Judged, OutOfMemory>
+pub fn root_leaf(
+    alloc: Global,
+    graph: &TripGraph,
+    relaxation: &mut Relaxation,
+) -> Result<Judged, OutOfMemory>
     ensures good { IsGoodGraph graph.now }
     ensures leaf { IfOk result (λ leaf. IsGoodLeaf graph.now (rounded_up leaf.value) every_row leaf.multipliers leaf.value) }
 {
     let allowed = vec![in alloc; true; graph.rows().len()]?;
-    let multipliers = first_fit(alloc, graph, &allowed)?;
-    let value = leaf_value(graph, &allowed, multipliers.as_slice());
-    Ok(Judged { multipliers, value })
+    let zeros: Vec<i64> = vec![in alloc; 0; graph.rider_count()]?;
+    let best = best_of(alloc, graph, &allowed, &zeros, relaxation)?;
+    Ok(best)
 }

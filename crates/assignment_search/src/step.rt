@@ -8,8 +8,10 @@ ghost use Rattle.assignment_search.specs.Next.{IsNext};
 use crate::branching::branch_row;
 use crate::lowest_leaf::is_met;
 use crate::parting::{Ends, allowed_at, part};
+use crate::rounding::cheaper_plan;
 use crate::sole_plan::sole_rows;
 use crate::standing::path_to;
+use dual_bound::Relaxation;
 use plan_rules::{Node, Plan, TripGraph};
 use pool_base::OutOfMemory;
 use std::alloc::Global;
@@ -19,6 +21,8 @@ use std::alloc::Global;
 pub enum Outcome {
     /// Its value meets the limit.
     Met,
+    /// This plan is lawful and costs less than the limit.
+    Better(Plan),
     /// It holds more than one plan, and the budget has no room for two more nodes.
     Full,
     /// It holds this plan alone.
@@ -36,9 +40,10 @@ pub fn next(
     place: usize,
     limit: u64,
     budget: usize,
+    relaxation: &mut Relaxation,
 ) -> Result<Outcome, OutOfMemory>
     requires lowest { IsLowest nodes.now values.now place }
-    requires grown { IsGrown graph.now (rounded_up (slice_index_or values.now place (pos 0))) limit (every_row ∷ []) nodes.now values.now [] }
+    requires grown { (first : ℕ) × IsGrown graph.now (rounded_up (slice_index_or values.now place (pos 0))) first (every_row ∷ []) nodes.now values.now [] }
     ensures { IfOk result (IsNext graph.now nodes.now values.now place limit budget) }
 {
     if is_met(values, place, limit) {
@@ -46,7 +51,11 @@ pub fn next(
     }
     let path = path_to(alloc, graph, nodes, place)?;
     let allowed = allowed_at(alloc, graph, &path)?;
-    match branch_row(graph, &allowed) {
+    relaxation.solve(graph, &allowed)?;
+    if let Some(better) = cheaper_plan(alloc, graph, &allowed, relaxation, limit)? {
+        return Ok(Outcome::Better(better));
+    }
+    match branch_row(graph, &allowed, relaxation) {
         None => {
             let chosen = sole_rows(alloc, graph, &allowed)?;
             Ok(Outcome::Fixed(Plan::of(chosen)))
@@ -62,6 +71,7 @@ pub fn next(
                 multipliers_of(&nodes[place]),
                 vehicle,
                 row,
+                relaxation,
             )?;
             Ok(Outcome::Parted(ends))
         }

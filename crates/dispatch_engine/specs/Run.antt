@@ -1,11 +1,12 @@
-use Rattle.std.specs.Prelude.{◌≡◌, ◌≢◌, ⊥, ℕ, ◌==◌, ◌<◌, List, [], ◌∷◌, ◌++◌, filter, Option, None, Some}
+use Rattle.std.specs.Prelude.{◌≡◌, ℕ, ◌==◌, List, [], ◌∷◌, ◌++◌, filter, Option, None, Some}
+use Rattle.std.specs.List.{All}
 use Rattle.batch_snapshot.specs.Batch.{Batch}
 use Rattle.batch_solver.specs.Outcome.{IsGoodOutcome}
-use Rattle.request_book.specs.Book.{BookView, next_position}
+use Rattle.request_book.specs.Book.{BookView, IsApplied, next_position}
 use Rattle.request_book.specs.Replay.{state_after, RepliesAreSteps}
 use Rattle.request_book.specs.Step.{step}
 use Rattle.request_book.specs.declared.command.Command.{Command}
-use Rattle.request_book.specs.declared.command.Command.TheVariants.{Submit, Cancel, Report, Pickup, Dropoff, Seal, Close}
+use Rattle.request_book.specs.declared.command.Command.TheVariants.{Seal, Close}
 use Rattle.request_book.specs.declared.journal.Entry.{Entry}
 use Rattle.request_book.specs.declared.journal.Journal.{Journal}
 use Rattle.request_book.specs.declared.reply.Reply.{Reply}
@@ -97,3 +98,32 @@ pub record IsReady (settings : Settings) (roads : Roads) (b : BookView) : Type 0
   pub nodes : b.nodes ≡ roads.nodes
   pub wait : b.wait ≡ settings.wait
   pub closed : b.state.sealed ≡ None
+
+-- a command that needs no batch: no seal, and no close
+abbrev pub IsPlain : Command → Type 0
+IsPlain (Seal now) = ⊥
+IsPlain (Close batch outcome) = ⊥
+IsPlain _ = Unit {0}
+
+-- the command was taken, whatever was replied
+pub record HasTaken (old : BookView) (lane : ℕ) (command : Command) (new : BookView) : Type 0 where
+  pub reply : Reply
+  pub applied : IsApplied old lane command reply new
+
+-- the book has run these commands of a lane, and nothing of other lanes
+pub record HasRun (settings : Settings) (roads : Roads) (old : BookView) (lane : ℕ) (commands : List Command) (new : BookView) : Type 0 where
+  pub same : IsSameRun old new
+  pub ready : IsReady settings roads new
+  pub added : List Entry
+  pub entries : new.entries ≡ old.entries ++ added
+  pub mine : All (λ e. e.lane ≡ lane) added
+  pub run : IsLaneRun commands added
+  pub state : new.state ≡ state_after roads.nodes settings.wait old.state added
+  pub closes : ClosesAreGood settings roads old.state added
+
+-- the book, which had no entry, has run each lane's commands
+pub record HasRunRound (settings : Settings) (roads : Roads) (old : BookView) (round : NumberedLanes) (new : BookView) : Type 0 where
+  pub same : IsSameRun old new
+  pub ready : IsReady settings roads new
+  pub lanes : (lane : ℕ) → IsLaneRun (lane_at round lane) (of_lane lane new.entries)
+  pub closes : ClosesAreGood settings roads old.state new.entries

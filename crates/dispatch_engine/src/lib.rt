@@ -1,10 +1,11 @@
-//! A round of a run: every lane's commands, taken by the book in their order.
+//! A round of a run: every lane's commands, taken by the book in their order, with the batches that they seal.
 //!
 //! The journal of a round is a run of it: each reply is the step table's in the state that the entries
-//! before leave, and the entries of each lane are that lane's commands, each once, in their order.
+//! before leave; the entries of each lane are that lane's commands, each once, in their order, each seal
+//! followed at once by the close of its batch; and the outcome of each close is good for the batch.
 #![tactic(auto)]
 
 mod lane;
 mod round;
 
-pub use round::{may_run, run_round};
+pub use round::run_round;

@@ -4,3 +4,4 @@ pub mod Entry
 pub mod Block
 pub mod Round
 pub mod Head
+pub mod Summary

@@ -197,14 +197,20 @@ fn put_number_line(line: &mut Vec<u8>, word: &[u8], number: u64) -> Result<(), O
     put_spaced(line, number)
 }
 
-fn put_signed_line(line: &mut Vec<u8>, word: &[u8], number: &i128) -> Result<(), OutOfMemory>
+/// Appends a word and a signed number.
+pub(crate) fn put_signed_line(
+    line: &mut Vec<u8>,
+    word: &[u8],
+    number: &i128,
+) -> Result<(), OutOfMemory>
     ensures { OnOk result (line.new.items ≡ line.old.items ++ (word.now ++ spaced_signed number.now)) }
 {
     line.extend_from_slice(word)?;
     put_spaced_signed(line, *number)
 }
 
-fn put_words(line: &mut Vec<u8>, words: &[u8]) -> Result<(), OutOfMemory>
+/// Appends these words.
+pub(crate) fn put_words(line: &mut Vec<u8>, words: &[u8]) -> Result<(), OutOfMemory>
     ensures { OnOk result (line.new.items ≡ line.old.items ++ words.now) }
 {
     line.extend_from_slice(words)?;

@@ -80,8 +80,9 @@ fn write_fleet<K: Sink>(sink: &mut K, line: &mut Vec<u8>, fleet: &Fleet) -> Resu
     write_line(sink, line)
 }
 
+/// Appends a name and a number.
 #[tactic(auto, unfolding(crate::specs::Head::named))]
-fn put_named(line: &mut Vec<u8>, name: &[u8], number: u64) -> Result<(), OutOfMemory>
+pub(crate) fn put_named(line: &mut Vec<u8>, name: &[u8], number: u64) -> Result<(), OutOfMemory>
     ensures { OnOk result (line.new.items ≡ line.old.items ++ named name.now number) }
 {
     line.extend_from_slice(name)?;

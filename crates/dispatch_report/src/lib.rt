@@ -1,4 +1,5 @@
-//! The texts that the program writes: the head of a report, a round with its batches, and the end.
+//! The texts that the program writes: the head of a report, a round with its batches, and the end; of a
+//! made workload its shape and a line for each batch.
 //!
 //! Every text is a list of lines, and each call says which lines the sink has taken: all of them, or with
 //! an error a beginning that isn't the whole. At most one line is kept in memory at a time.
@@ -11,8 +12,10 @@ mod head;
 mod lines;
 mod reply;
 mod round;
+mod summary;
 mod words;
 
 pub use fault::ReportFault;
 pub use head::write_head;
 pub use round::{write_end, write_round};
+pub use summary::{write_load, write_summary};

@@ -7,7 +7,10 @@
 
 mod cheapest;
 mod first_fit_pass;
+mod fixed_point;
+mod relaxation;
 mod value;
 
 pub use first_fit_pass::first_fit;
+pub use relaxation::Relaxation;
 pub use value::leaf_value;

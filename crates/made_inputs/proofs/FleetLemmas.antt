@@ -48,7 +48,7 @@ drawn_known shape s two small =
     let area : 2 * 2 ≤ shape.side * shape.side = mul-le-mul two two in
     node_known shape ((next_u64 s).0 % (shape.side * shape.side)) two small (mod_below (next_u64 s).0 (shape.side * shape.side) (omega (arith, area)))
 
-drawn_small : (side : ℕ) (s : Stream) → 2 ≤ side → side ≤ 100 → (drawn_node side s).0 ≤ 1000000000
+pub drawn_small : (side : ℕ) (s : Stream) → 2 ≤ side → side ≤ 100 → (drawn_node side s).0 ≤ 1000000000
 unfolding drawn_node draw
 drawn_small side s two small =
     let least : 2 * 2 ≤ side * side = mul-le-mul two two in

@@ -3,13 +3,14 @@ use Rattle.road_network.specs.Reading.{nodes_of, roads_of}
 use Rattle.rider_limits.specs.declared.load_shape.LoadShape.{LoadShape}
 use Rattle.rider_limits.specs.Range.{IsShapeInRange}
 use Rattle.load_maker.specs.declared.row.Field.{Field}
-use Rattle.load_maker.specs.Texts.{texts_of, network_header, fleet_header}
+use Rattle.load_maker.specs.Texts.{texts_of, network_header, fleet_header, script_header}
 use Rattle.made_inputs.specs.Accepted.{AreAccepted}
-use Rattle.made_inputs.proofs.TextLemmas.{fields_of, IsHeader-network, IsHeader-fleet, table_of-under}
+use Rattle.made_inputs.proofs.TextLemmas.{fields_of, IsHeader-network, IsHeader-fleet, IsHeader-script, table_of-under}
 use Rattle.made_inputs.proofs.NetworkLemmas.{network_rows, network_accepted}
 use Rattle.made_inputs.proofs.FleetLemmas.{GiveFleet, fleet_rows, fleet_accepted}
+use Rattle.made_inputs.proofs.ScriptLemmas.{GiveScript, script_rows, script_accepted}
 
--- the network and the fleet of a shape are accepted
+-- the network, the fleet and the script of a shape are accepted
 pub accepted : (shape : LoadShape) → IsShapeInRange shape.seed shape.side shape.vehicles shape.riders shape.rounds → AreAccepted (texts_of shape)
 unfolding texts_of
 accepted shape range =
@@ -18,13 +19,28 @@ accepted shape range =
     let network = network_accepted shape range.side_most in
     let fleet = fleet_accepted shape range.side_least range.side_most range.vehicles_most in
     let given : GiveFleet (nodes_of (map fields_of arcs)) (map fields_of rows) = fleet.1 in
+    let lines : List (List Field) = script_rows shape in
+    let script = script_accepted shape range.side_least range.side_most range.vehicles_most range.riders_most range.rounds_most in
+    let read : GiveScript (map fields_of lines) = script.1 in
     record {
-      network = record { columns = 3; records = map fields_of arcs };
-      network_rows = table_of-under network_header 3 arcs IsHeader-network (omega arith) network.0;
       roads = roads_of (map fields_of arcs);
-      network_is = network.1;
-      fleet = record { columns = 4; records = map fields_of rows };
-      fleet_rows = table_of-under fleet_header 4 rows IsHeader-fleet (omega arith) fleet.0;
       vehicles = given.vehicles;
-      fleet_is = given.is;
+      rounds = read.rounds;
+      read = record {
+        network = record {
+          table = record { columns = 3; records = map fields_of arcs };
+          rows = table_of-under network_header 3 arcs IsHeader-network (omega arith) network.0;
+          is = network.1;
+        };
+        fleet = record {
+          table = record { columns = 4; records = map fields_of rows };
+          rows = table_of-under fleet_header 4 rows IsHeader-fleet (omega arith) fleet.0;
+          is = given.is;
+        };
+        script = record {
+          table = record { columns = 7; records = map fields_of lines };
+          rows = table_of-under script_header 7 lines IsHeader-script (omega arith) script.0;
+          is = read.is;
+        };
+      };
     }

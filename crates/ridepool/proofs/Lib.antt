@@ -2,3 +2,4 @@ pub mod ReadingLemmas
 pub mod ExitLemmas
 pub mod WriteLemmas
 pub mod CompleteLemmas
+pub mod InputLemmas

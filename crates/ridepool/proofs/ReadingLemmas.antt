@@ -4,7 +4,7 @@ use Rattle.std.proofs.lemmas.Result.{MatchResult-weaker}
 use Rattle.pool_base.specs.declared.which.Which.TheVariants as file
 use Rattle.ridepool.specs.Reading.{SeenSource, network_in, fleet_in, script_in, IsReadingFault, IsNetworkFault, IsFleetFault, IsScriptFault, RefusesNetwork, RefusesFleet, RefusesRounds}
 use Rattle.ridepool.specs.declared.status.RunStatus.{RunStatus}
-use Rattle.ridepool.specs.declared.status.RunStatus.TheVariants.{Done, Words, Network, Fleet, Script, TooLong, ReadFault, WriteFault, OutOfMemory, Unsupported}
+use Rattle.ridepool.specs.declared.status.RunStatus.TheVariants.{Done, Words, Network, Fleet, Script, TooLong, ReadFault, WriteFault, OutOfMemory}
 
 -- what holds of the bytes that were read holds of the bytes that were told
 pub told_is : (o : Option (List ℕ)) (bytes : List ℕ) (P : List ℕ → Type 0) → IfSome o (λ told. bytes ≡ told) → P bytes → IfSome o P
@@ -24,7 +24,6 @@ network_unread s (TooLong w) why = why
 network_unread s (ReadFault w) why = why
 network_unread s WriteFault why = absurd why
 network_unread s OutOfMemory why = tt
-network_unread s (Unsupported p) why = absurd why
 
 pub network_refused : (s : SeenSource) (bytes : List ℕ) → IfSome s.told (λ told. bytes ≡ told) → (e : RunStatus) → RefusesNetwork bytes e → IsNetworkFault s e
 network_refused s bytes told Done why = absurd why
@@ -36,7 +35,6 @@ network_refused s bytes told (TooLong w) why = absurd why
 network_refused s bytes told (ReadFault w) why = absurd why
 network_refused s bytes told WriteFault why = absurd why
 network_refused s bytes told OutOfMemory why = tt
-network_refused s bytes told (Unsupported p) why = absurd why
 
 pub fleet_unread : (s : SeenSource) (nodes : List ℕ) (e : RunStatus) → IsReadingFault s file.Fleet e → IsFleetFault s nodes e
 fleet_unread s nodes Done why = absurd why
@@ -48,7 +46,6 @@ fleet_unread s nodes (TooLong w) why = why
 fleet_unread s nodes (ReadFault w) why = why
 fleet_unread s nodes WriteFault why = absurd why
 fleet_unread s nodes OutOfMemory why = tt
-fleet_unread s nodes (Unsupported p) why = absurd why
 
 pub fleet_refused : (s : SeenSource) (nodes : List ℕ) (bytes : List ℕ) → IfSome s.told (λ told. bytes ≡ told) → (e : RunStatus) → RefusesFleet nodes bytes e → IsFleetFault s nodes e
 fleet_refused s nodes bytes told Done why = absurd why
@@ -60,7 +57,6 @@ fleet_refused s nodes bytes told (TooLong w) why = absurd why
 fleet_refused s nodes bytes told (ReadFault w) why = absurd why
 fleet_refused s nodes bytes told WriteFault why = absurd why
 fleet_refused s nodes bytes told OutOfMemory why = tt
-fleet_refused s nodes bytes told (Unsupported p) why = absurd why
 
 pub script_unread : (s : SeenSource) (e : RunStatus) → IsReadingFault s file.Script e → IsScriptFault s e
 script_unread s Done why = absurd why
@@ -72,7 +68,6 @@ script_unread s (TooLong w) why = why
 script_unread s (ReadFault w) why = why
 script_unread s WriteFault why = absurd why
 script_unread s OutOfMemory why = tt
-script_unread s (Unsupported p) why = absurd why
 
 pub script_refused : (s : SeenSource) (bytes : List ℕ) → IfSome s.told (λ told. bytes ≡ told) → (e : RunStatus) → RefusesRounds (script_in bytes) e → IsScriptFault s e
 script_refused s bytes told Done why = absurd why
@@ -84,4 +79,3 @@ script_refused s bytes told (TooLong w) why = absurd why
 script_refused s bytes told (ReadFault w) why = absurd why
 script_refused s bytes told WriteFault why = absurd why
 script_refused s bytes told OutOfMemory why = tt
-script_refused s bytes told (Unsupported p) why = absurd why

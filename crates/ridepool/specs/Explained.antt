@@ -1,97 +1,77 @@
--- How a run ends, and what stands then.
-use Rattle.std.specs.Prelude.{◌≡◌, ℕ, List, Option, Some, None, Ok, ◌⊎◌, ◌+◌, true, is_some}
-use Rattle.std.specs.List.{All}
+-- How a call ends, and what stands then.
+use Rattle.std.specs.Prelude.{◌≡◌, ℕ, List, Option, Some, None, ◌⊎◌, ◌+◌, true, is_some}
 use Rattle.std.specs.Io.KnownBytes.{Appends, Keeps}
-use Rattle.dispatch_engine.specs.Run.{IsPlainRound}
-use Rattle.pool_base.specs.declared.which.Which.{Which}
-use Rattle.pool_base.specs.declared.which.Which.TheVariants as file
 use Rattle.pool_io.specs.Faults.{Rose}
 use Rattle.request_book.specs.declared.journal.Journal.{Journal}
 use Rattle.rider_limits.specs.Settings.{AreGiven}
 use Rattle.rider_limits.specs.Words.{fault_of}
 use Rattle.rider_limits.specs.declared.settings.Mode.TheVariants.{Run}
 use Rattle.rider_limits.specs.declared.settings.Settings.{Settings}
-use Rattle.road_network.specs.Roads.{Roads}
-use Rattle.script_rows.specs.Round.{NumberedLanes}
-use Rattle.ridepool.specs.Reading.{network_in, fleet_in, script_in, SeenSource, Gives, IsNetworkFault, IsFleetFault, IsScriptFault}
+use Rattle.ridepool.specs.Inputs.{SeenSources, AreInputs, IsSourceFault, AreUntouched}
+use Rattle.ridepool.specs.Reading.{SeenSource}
 use Rattle.ridepool.specs.Report.{Inputs, RunsRounds, report_text, IsPart}
-use Rattle.ridepool.specs.declared.status.Part.TheVariants as part
 use Rattle.ridepool.specs.declared.status.RunStatus.{RunStatus}
-use Rattle.ridepool.specs.declared.status.RunStatus.TheVariants.{Done, Words, Network, Fleet, Script, TooLong, ReadFault, WriteFault, OutOfMemory, Unsupported}
+use Rattle.ridepool.specs.declared.status.RunStatus.TheVariants.{Done, Words, Network, Fleet, Script, TooLong, ReadFault, WriteFault, OutOfMemory}
 
 -- what is seen of a call: its words, its sources, and its sink's bytes and count of faults
 pub record Seen : Type 0 where
   pub words : List (List ℕ)
-  pub network : SeenSource
-  pub fleet : SeenSource
-  pub script : SeenSource
+  pub sources : SeenSources
   pub written_before : Option (List ℕ)
   pub written_after : Option (List ℕ)
   pub faults_before : ℕ
   pub faults_after : ℕ
 
--- the words are good for a run with these settings
+-- the words are good, and give these settings
 pub record AreGood (words : List (List ℕ)) (settings : Settings) : Type 0 where
   pub faultless : fault_of words ≡ None
   pub given : AreGiven words settings
-  pub run : settings.mode ≡ Run
 
--- the words pass, and the network's bytes are this network
-pub record PassNetwork (seen : Seen) (settings : Settings) (roads : Roads) : Type 0 where
-  pub words : AreGood seen.words settings
-  pub network : Gives seen.network (λ bytes. network_in bytes ≡ Ok roads)
+-- the words are good for a run
+abbrev pub AreForRun : List (List ℕ) → Type 0
+AreForRun words = (s : Settings) × AreGood words s × (s.mode ≡ Run)
 
--- all inputs pass, and are these
+-- the words are good for a made workload
+abbrev pub AreForLoad : List (List ℕ) → Type 0
+AreForLoad words = (s : Settings) × AreGood words s × (s.mode ≡ Run → ⊥)
+
+-- all inputs pass, and are these: the sources' bytes, or the texts of a made workload
 pub record AreAccepted (seen : Seen) (i : Inputs) : Type 0 where
   pub words : AreGood seen.words i.settings
-  pub network : Gives seen.network (λ bytes. network_in bytes ≡ Ok i.roads)
-  pub fleet : Gives seen.fleet (λ bytes. fleet_in i.roads.nodes bytes ≡ Ok i.vehicles)
-  pub script : Gives seen.script (λ bytes. script_in bytes ≡ Ok i.rounds)
+  pub inputs : AreInputs i.settings.mode seen.sources i.roads i.vehicles i.rounds
 
 -- nothing was written
 abbrev pub NothingWritten : Seen → Type 0
 NothingWritten seen = Keeps seen.written_before seen.written_after
 
--- a source couldn't be read, the inputs before it having passed
-abbrev pub CameToSource : Seen → Which → RunStatus → Type 0
-CameToSource seen file.Network status = (s : Settings) × AreGood seen.words s × IsNetworkFault seen.network status
-CameToSource seen file.Fleet status = (s : Settings) × (r : Roads) × PassNetwork seen s r × IsFleetFault seen.fleet r.nodes status
-CameToSource seen file.Script status =
-    (i : Inputs) × PassNetwork seen i.settings i.roads × Gives seen.fleet (λ bytes. fleet_in i.roads.nodes bytes ≡ Ok i.vehicles)
-    × IsScriptFault seen.script status
+-- a source of a run couldn't be read, and nothing was written
+abbrev pub StopsAtSource : Seen → RunStatus → Type 0
+StopsAtSource seen status = AreForRun seen.words × IsSourceFault seen.sources status × NothingWritten seen
 
--- some lane of the script has a seal
-abbrev pub HasSeal : List NumberedLanes → Type 0
-HasSeal rounds = All IsPlainRound rounds → ⊥
-
--- why a run ended as it did, and what is written
+-- why a call ended as it did, and what is written
 abbrev pub Explains : Seen → RunStatus → Type 0
 Explains seen Done =
     (i : Inputs) × (journals : List Journal) × AreAccepted seen i × RunsRounds i i.rounds journals
     × Appends seen.written_before seen.written_after (report_text i journals)
 Explains seen (Words fault) = (fault_of seen.words ≡ Some fault) × NothingWritten seen
-Explains seen (Network fault) = CameToSource seen file.Network (Network fault) × NothingWritten seen
-Explains seen (Fleet fault) = CameToSource seen file.Fleet (Fleet fault) × NothingWritten seen
-Explains seen (Script fault) = CameToSource seen file.Script (Script fault) × NothingWritten seen
-Explains seen (TooLong w) = CameToSource seen w (TooLong w) × NothingWritten seen
-Explains seen (ReadFault w) = CameToSource seen w (ReadFault w) × NothingWritten seen
+Explains seen (Network fault) = StopsAtSource seen (Network fault)
+Explains seen (Fleet fault) = StopsAtSource seen (Fleet fault)
+Explains seen (Script fault) = StopsAtSource seen (Script fault)
+Explains seen (TooLong w) = StopsAtSource seen (TooLong w)
+Explains seen (ReadFault w) = StopsAtSource seen (ReadFault w)
 Explains seen WriteFault =
     Rose seen.faults_before seen.faults_after
     × ((i : Inputs) × AreAccepted seen i × IsPart i seen.written_before seen.written_after)
 Explains seen OutOfMemory = NothingWritten seen ⊎ ((i : Inputs) × AreAccepted seen i × IsPart i seen.written_before seen.written_after)
-Explains seen (Unsupported part.Words) = (s : Settings) × (fault_of seen.words ≡ None) × AreGiven seen.words s × (s.mode ≡ Run → ⊥) × NothingWritten seen
-Explains seen (Unsupported part.Script) = ((i : Inputs) × AreAccepted seen i × HasSeal i.rounds) × NothingWritten seen
 
--- why the words aren't good for a run
+-- the sources are as they were, unless the words are good for a run
+abbrev pub TouchesForRun : Seen → Type 0
+TouchesForRun seen = AreForRun seen.words ⊎ AreUntouched seen.sources
+
+-- why the words aren't good
 abbrev pub IsWordsFault : List (List ℕ) → RunStatus → Type 0
 IsWordsFault words (Words fault) = fault_of words ≡ Some fault
-IsWordsFault words (Unsupported part.Words) = (s : Settings) × (fault_of words ≡ None) × AreGiven words s × (s.mode ≡ Run → ⊥)
 IsWordsFault words _ = ⊥
-
--- why the rounds can't be run
-abbrev pub IsPartFault : List NumberedLanes → RunStatus → Type 0
-IsPartFault rounds (Unsupported part.Script) = HasSeal rounds
-IsPartFault rounds _ = ⊥
 
 -- a source tells its bytes, didn't give too many, and had no fault
 pub record IsFaultlessSource (s : SeenSource) : Type 0 where
@@ -99,14 +79,18 @@ pub record IsFaultlessSource (s : SeenSource) : Type 0 where
   pub short : s.taken_after ≡ s.taken_before + 67108865 → ⊥
   pub faults : Rose s.faults_before s.faults_after → ⊥
 
--- the inputs pass and can be run, and neither a source nor the sink had a fault
-pub record IsFaultless (seen : Seen) : Type 0 where
+-- in a run the inputs pass, and no source had a fault
+pub record IsFaultlessRun (seen : Seen) : Type 0 where
   pub inputs : Inputs
   pub accepted : AreAccepted seen inputs
-  pub plain : All IsPlainRound inputs.rounds
-  pub network : IsFaultlessSource seen.network
-  pub fleet : IsFaultlessSource seen.fleet
-  pub script : IsFaultlessSource seen.script
+  pub run : inputs.settings.mode ≡ Run
+  pub network : IsFaultlessSource seen.sources.network
+  pub fleet : IsFaultlessSource seen.sources.fleet
+  pub script : IsFaultlessSource seen.sources.script
+
+-- the inputs of a run pass, or the words are good for a made workload; and the sink had no fault
+pub record IsFaultless (seen : Seen) : Type 0 where
+  pub inputs : IsFaultlessRun seen ⊎ AreForLoad seen.words
   pub sink : Rose seen.faults_before seen.faults_after → ⊥
 
 -- all was done, or there was no memory

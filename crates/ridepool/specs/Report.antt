@@ -1,12 +1,15 @@
--- The report of a run.
+-- What a run writes: its report, or of a made workload its summary.
 use Rattle.std.specs.Prelude.{◌≡◌, ℕ, ◌<◌, Bool, List, [], ◌∷◌, ◌++◌, length, take, Option}
 use Rattle.std.specs.Io.KnownBytes.{Appends}
 use Rattle.batch_snapshot.specs.declared.vehicle.Vehicle.{Vehicle}
 use Rattle.dispatch_engine.specs.Run.{IsRun, position_after_run}
 use Rattle.dispatch_report.specs.Head.{head_text}
 use Rattle.dispatch_report.specs.Round.{round_text, end_text}
+use Rattle.dispatch_report.specs.Summary.{load_text, summary_text}
 use Rattle.request_book.specs.Book.{opening}
 use Rattle.request_book.specs.declared.journal.Journal.{Journal}
+use Rattle.rider_limits.specs.declared.settings.Mode.{Mode}
+use Rattle.rider_limits.specs.declared.settings.Mode.TheVariants.{Run, Load}
 use Rattle.rider_limits.specs.declared.settings.Settings.{Settings}
 use Rattle.road_network.specs.Roads.{Roads}
 use Rattle.script_rows.specs.Round.{NumberedLanes}
@@ -20,19 +23,29 @@ pub record Inputs : Type 0 where
 
 -- journals are a run of these rounds, from an empty book with all vehicles as the fleet gives them
 abbrev pub RunsRounds : Inputs → List NumberedLanes → List Journal → Type 0
-RunsRounds i rounds journals = IsRun i.roads.nodes i.settings.wait (opening i.vehicles) 0 rounds journals
+RunsRounds i rounds journals = IsRun i.settings i.roads (opening i.vehicles) 0 rounds journals
 
--- the texts of rounds, one after the other
-abbrev pub rounds_text : Bool → List NumberedLanes → List Journal → List ℕ
-rounds_text proof [] js = []
-rounds_text proof (r ∷ rs) [] = []
-rounds_text proof (r ∷ rs) (j ∷ js) = round_text r.number proof j ++ rounds_text proof rs js
+-- the first lines, by the command: the head of a report, or the shape of a made workload
+abbrev pub first_text : Mode → Settings → Roads → List Vehicle → List ℕ
+first_text Run settings roads vehicles = head_text settings roads vehicles
+first_text (Load shape) settings roads vehicles = load_text shape
+
+-- what a round adds, by the command: its whole text, or the lines of its batches
+abbrev pub added_text : Mode → Bool → ℕ → Journal → List ℕ
+added_text Run proof number journal = round_text number proof journal
+added_text (Load shape) proof number journal = summary_text journal
+
+-- what rounds add, one after the other
+abbrev pub rounds_text : Settings → List NumberedLanes → List Journal → List ℕ
+rounds_text s [] js = []
+rounds_text s (r ∷ rs) [] = []
+rounds_text s (r ∷ rs) (j ∷ js) = added_text s.mode s.proof r.number j ++ rounds_text s rs js
 
 -- the report of the first rounds, without its last line
 abbrev pub begun_text : Inputs → List NumberedLanes → List Journal → List ℕ
-begun_text i rounds journals = head_text i.settings i.roads i.vehicles ++ rounds_text i.settings.proof rounds journals
+begun_text i rounds journals = first_text i.settings.mode i.settings i.roads i.vehicles ++ rounds_text i.settings rounds journals
 
--- the report of a run of the whole script
+-- the report of a run of the whole script, or the summary of a made workload
 abbrev pub report_text : Inputs → List Journal → List ℕ
 report_text i journals = begun_text i i.rounds journals ++ end_text (position_after_run 0 journals)
 

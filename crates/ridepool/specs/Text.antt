@@ -13,10 +13,8 @@ use Rattle.road_network.specs.declared.fault.NetworkFault.{NetworkFault}
 use Rattle.road_network.specs.declared.fault.NetworkFault.TheVariants as network
 use Rattle.script_rows.specs.declared.fault.ScriptFault.{ScriptFault}
 use Rattle.script_rows.specs.declared.fault.ScriptFault.TheVariants as script
-use Rattle.ridepool.specs.declared.status.Part.{Part}
-use Rattle.ridepool.specs.declared.status.Part.TheVariants as part
 use Rattle.ridepool.specs.declared.status.RunStatus.{RunStatus}
-use Rattle.ridepool.specs.declared.status.RunStatus.TheVariants.{Done, Words, Network, Fleet, Script, TooLong, ReadFault, WriteFault, OutOfMemory, Unsupported}
+use Rattle.ridepool.specs.declared.status.RunStatus.TheVariants.{Done, Words, Network, Fleet, Script, TooLong, ReadFault, WriteFault, OutOfMemory}
 
 -- words, and the number of a row, a word or a column after them
 unfoldable pub at_number : List ℕ → ℕ → List ℕ
@@ -69,10 +67,6 @@ abbrev pub input_text : {F : Type 0} → (F → List ℕ) → Input F → List �
 input_text own (Rows fault) = row_text fault
 input_text own (Own fault) = own fault
 
-abbrev pub part_name : Part → List ℕ
-part_name part.Words = codes "words"
-part_name part.Script = codes "script"
-
 -- why a run ended; nothing where all is done
 abbrev pub status_text : RunStatus → List ℕ
 status_text Done = []
@@ -84,4 +78,3 @@ status_text (TooLong w) = name_of w ++ codes ": longer than 67108864 bytes"
 status_text (ReadFault w) = name_of w ++ codes ": read failed"
 status_text WriteFault = codes "report: write failed"
 status_text OutOfMemory = codes "out of memory"
-status_text (Unsupported p) = part_name p ++ codes ": not built yet"

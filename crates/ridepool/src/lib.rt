@@ -1,10 +1,12 @@
-//! The whole program as one call: words and three inputs in, a report out.
+//! The whole program as one call: words and inputs in, a report or a summary out.
 //!
 //! A successful run prints the report of one legal journal for each round of the script, with each lane's
-//! commands once, in their order. Every other answer has its cause in the contract of the call, and a
-//! refused input leaves nothing written.
+//! commands once, in their order, and a good outcome for each batch; for a made workload it prints one line
+//! for each batch instead. Every other answer has its cause in the contract of the call, and a refused input
+//! leaves nothing written.
 #![tactic(auto)]
 
+mod inputs;
 mod reading;
 mod run;
 mod status;
@@ -14,5 +16,5 @@ mod text;
 mod writing;
 
 pub use run::ridepool;
-pub use status::{Part, RunStatus};
+pub use status::RunStatus;
 pub use text::fault_text;

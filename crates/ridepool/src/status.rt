@@ -7,16 +7,7 @@ use rider_limits::WordFault;
 use road_network::NetworkFault;
 use script_rows::ScriptFault;
 
-/// A part of the program that isn't there yet.
-#[derive(Clone, Copy, Debug, PartialEq, Eq)]
-pub enum Part {
-    /// The command `load`.
-    Words,
-    /// Scripts with a seal.
-    Script,
-}
-
-/// How a run ended.
+/// How a call ended.
 #[derive(Debug, Drop)]
 pub enum RunStatus {
     /// Everything was read, run and written.
@@ -37,8 +28,6 @@ pub enum RunStatus {
     WriteFault,
     /// There was no memory.
     OutOfMemory,
-    /// The words or the script ask for a part that isn't there yet.
-    Unsupported(Part),
 }
 
 impl RunStatus {
@@ -58,7 +47,6 @@ impl RunStatus {
             RunStatus::ReadFault(_) => 7,
             RunStatus::WriteFault => 8,
             RunStatus::OutOfMemory => 9,
-            RunStatus::Unsupported(_) => 10,
         }
     }
 }

@@ -2,6 +2,7 @@ use crate::{RunStatus, fault_text, ridepool};
 use pool_io::{MemorySink, MemorySource};
 use std::alloc::{AllocError, Global};
 use std::test::Fail;
+use std::thread::Threads;
 
 const NETWORK: &[u8] =
     b"from,to,seconds\n1,2,60\n2,1,60\n2,3,60\n3,2,60\n3,4,60\n4,3,60\n4,5,60\n5,4,60\n";
@@ -24,6 +25,7 @@ done 4\n";
 
 // What a run shows: its exit status, the line of its fault and a bar before the bytes that were written.
 fn shown(
+    rt: &(impl Threads + Sync),
     alloc: Global,
     script: &[u8],
     pieces: usize,
@@ -36,6 +38,7 @@ fn shown(
     let mut script = source(alloc, script, pieces, None)?;
     let mut out = MemorySink::new(alloc, pieces.max(1), planned(alloc, failing_write)?);
     let status = ridepool(
+        rt,
         alloc,
         &words,
         &mut network,
@@ -43,9 +46,39 @@ fn shown(
         &mut script,
         &mut out,
     );
-    let mut text = line_of(alloc, &status)?;
+    line_before(alloc, &status, out.written())
+}
+
+// What a made workload shows, beside sources whose every read would fail.
+fn summed_up(
+    rt: &(impl Threads + Sync),
+    alloc: Global,
+    text: &str,
+    pieces: usize,
+    failing_write: Option<u64>,
+) -> Result<Vec<u8>, AllocError> {
+    let words = words(alloc, text)?;
+    let mut network = source(alloc, b"", 1, Some(0))?;
+    let mut fleet = source(alloc, b"", 1, Some(0))?;
+    let mut script = source(alloc, b"", 1, Some(0))?;
+    let mut out = MemorySink::new(alloc, pieces.max(1), planned(alloc, failing_write)?);
+    let status = ridepool(
+        rt,
+        alloc,
+        &words,
+        &mut network,
+        &mut fleet,
+        &mut script,
+        &mut out,
+    );
+    line_before(alloc, &status, out.written())
+}
+
+// The line of a fault, and a bar before what was written.
+fn line_before(alloc: Global, status: &RunStatus, written: &[u8]) -> Result<Vec<u8>, AllocError> {
+    let mut text = line_of(alloc, status)?;
     text.push(b'|')?;
-    text.extend_from_slice(out.written())?;
+    text.extend_from_slice(written)?;
     Ok(text)
 }
 
@@ -94,7 +127,7 @@ fn whole(alloc: Global) -> Result<Vec<u8>, AllocError> {
 fn submits_give_their_report_in_pieces_of_any_size(rt: HostRuntime) -> Result<(), Fail> {
     let expected = whole(rt.alloc())?;
     for pieces in [1, 2, 7, 100_000] {
-        let text = shown(rt.alloc(), SUBMITS, pieces, None, None)?;
+        let text = shown(&rt, rt.alloc(), SUBMITS, pieces, None, None)?;
         assert_eq!(rt; text.as_slice(), expected.as_slice());
     }
     Ok(())
@@ -103,7 +136,7 @@ fn submits_give_their_report_in_pieces_of_any_size(rt: HostRuntime) -> Result<()
 #[test]
 fn a_failing_read_is_blamed_on_its_file(rt: HostRuntime) -> Result<(), Fail> {
     for call in 0..3 {
-        let text = shown(rt.alloc(), SUBMITS, 10, Some(call), None)?;
+        let text = shown(&rt, rt.alloc(), SUBMITS, 10, Some(call), None)?;
         assert_eq!(rt; text.as_slice(), b"fleet: read failed|".as_slice());
     }
     Ok(())
@@ -111,9 +144,9 @@ fn a_failing_read_is_blamed_on_its_file(rt: HostRuntime) -> Result<(), Fail> {
 
 #[test]
 fn a_failing_write_leaves_a_beginning(rt: HostRuntime) -> Result<(), Fail> {
-    let text = shown(rt.alloc(), SUBMITS, 10, None, Some(0))?;
+    let text = shown(&rt, rt.alloc(), SUBMITS, 10, None, Some(0))?;
     assert_eq!(rt; text.as_slice(), b"report: write failed|".as_slice());
-    let text = shown(rt.alloc(), SUBMITS, 10, None, Some(2))?;
+    let text = shown(&rt, rt.alloc(), SUBMITS, 10, None, Some(2))?;
     assert_eq!(rt;
         text.as_slice(),
         b"report: write failed|ridepool report 1\n".as_slice()
@@ -122,25 +155,44 @@ fn a_failing_write_leaves_a_beginning(rt: HostRuntime) -> Result<(), Fail> {
 }
 
 #[test]
-fn what_is_not_there_yet_writes_nothing(rt: HostRuntime) -> Result<(), Fail> {
-    let seal = b"round,lane,command,a,b,c,d\n0,0,submit,1,2,4,0\n1,0,seal,5,,,\n";
-    let text = shown(rt.alloc(), seal, 10, None, None)?;
-    assert_eq!(rt; text.as_slice(), b"script: not built yet|".as_slice());
-    let bad = b"round,lane,command,a,b,c,d\n0,0,submit,1,2,4,0\n0,1,seal,5,,,\n";
-    let text = shown(rt.alloc(), bad, 10, None, None)?;
-    assert!(rt; text.starts_with(b"script: "));
-    assert!(rt; text.ends_with(b"|"));
+fn the_smallest_workload_is_summed_up_in_pieces_of_any_size(rt: HostRuntime) -> Result<(), Fail> {
+    let words = "load side=2 vehicles=1 riders=1 rounds=1";
+    let summary = b"|load seed=1 side=2 vehicles=1 riders=1 rounds=1\nbatch 1 served 1 out 0 rows 2 trips 1 cost 74 bound 74\ndone 3\n";
+    for pieces in [1, 7, 100_000] {
+        let text = summed_up(&rt, rt.alloc(), words, pieces, None)?;
+        assert_eq!(rt; text.as_slice(), summary.as_slice());
+    }
+    Ok(())
+}
+
+#[test]
+fn a_failing_write_leaves_a_beginning_of_a_summary(rt: HostRuntime) -> Result<(), Fail> {
+    let words = "load side=2 vehicles=1 riders=1 rounds=1";
+    let text = summed_up(&rt, rt.alloc(), words, 10, Some(0))?;
+    assert_eq!(rt; text.as_slice(), b"report: write failed|".as_slice());
+    let text = summed_up(&rt, rt.alloc(), words, 10, Some(2))?;
+    assert_eq!(rt;
+        text.as_slice(),
+        b"report: write failed|load seed=1 side=2 v".as_slice()
+    );
     Ok(())
 }
 
 // Whether a run of these words and files ends with this line and writes nothing.
-fn refuses(alloc: Global, given: &str, files: [&[u8]; 3], line: &str) -> Result<bool, AllocError> {
+fn refuses(
+    rt: &(impl Threads + Sync),
+    alloc: Global,
+    given: &str,
+    files: [&[u8]; 3],
+    line: &str,
+) -> Result<bool, AllocError> {
     let words = words(alloc, given)?;
     let mut network = source(alloc, files[0], 4096, None)?;
     let mut fleet = source(alloc, files[1], 4096, None)?;
     let mut script = source(alloc, files[2], 4096, None)?;
     let mut out = MemorySink::new(alloc, 4096, Vec::new(alloc));
     let status = ridepool(
+        rt,
         alloc,
         &words,
         &mut network,
@@ -152,12 +204,23 @@ fn refuses(alloc: Global, given: &str, files: [&[u8]; 3], line: &str) -> Result<
     Ok(text.as_slice() == line.as_bytes() && out.written().is_empty())
 }
 
-fn refuses_words(alloc: Global, given: &str, line: &str) -> Result<bool, AllocError> {
-    refuses(alloc, given, [NETWORK, FLEET, SUBMITS], line)
+fn refuses_words(
+    rt: &(impl Threads + Sync),
+    alloc: Global,
+    given: &str,
+    line: &str,
+) -> Result<bool, AllocError> {
+    refuses(rt, alloc, given, [NETWORK, FLEET, SUBMITS], line)
 }
 
-fn refuses_network(alloc: Global, network: &[u8], line: &str) -> Result<bool, AllocError> {
+fn refuses_network(
+    rt: &(impl Threads + Sync),
+    alloc: Global,
+    network: &[u8],
+    line: &str,
+) -> Result<bool, AllocError> {
     refuses(
+        rt,
         alloc,
         "run network=n fleet=f script=s",
         [network, b"", b""],
@@ -165,8 +228,14 @@ fn refuses_network(alloc: Global, network: &[u8], line: &str) -> Result<bool, Al
     )
 }
 
-fn refuses_fleet(alloc: Global, fleet: &[u8], line: &str) -> Result<bool, AllocError> {
+fn refuses_fleet(
+    rt: &(impl Threads + Sync),
+    alloc: Global,
+    fleet: &[u8],
+    line: &str,
+) -> Result<bool, AllocError> {
     refuses(
+        rt,
         alloc,
         "run network=n fleet=f script=s",
         [NETWORK, fleet, b""],
@@ -174,8 +243,14 @@ fn refuses_fleet(alloc: Global, fleet: &[u8], line: &str) -> Result<bool, AllocE
     )
 }
 
-fn refuses_script(alloc: Global, script: &[u8], line: &str) -> Result<bool, AllocError> {
+fn refuses_script(
+    rt: &(impl Threads + Sync),
+    alloc: Global,
+    script: &[u8],
+    line: &str,
+) -> Result<bool, AllocError> {
     refuses(
+        rt,
         alloc,
         "run network=n fleet=f script=s",
         [NETWORK, FLEET, script],
@@ -186,29 +261,46 @@ fn refuses_script(alloc: Global, script: &[u8], line: &str) -> Result<bool, Allo
 #[test]
 fn refused_words_have_their_lines(rt: HostRuntime) -> Result<(), Fail> {
     let alloc = rt.alloc();
-    assert!(rt; refuses_words(alloc, "", "words: no command")?);
-    assert!(rt; refuses_words(alloc, "run fly=1", "words: unknown key at word 2")?);
-    assert!(rt; refuses_words(alloc, "run trip=2 trip=2", "words: repeated key at word 3")?);
+    assert!(rt; refuses_words(&rt, alloc, "", "words: no command")?);
+    assert!(rt; refuses_words(&rt, alloc, "run fly=1", "words: unknown key at word 2")?);
     assert!(rt;
         refuses_words(
+            &rt,
+            alloc,
+            "run trip=2 trip=2",
+            "words: repeated key at word 3"
+        )?
+    );
+    assert!(rt;
+        refuses_words(
+            &rt,
             alloc,
             "run network=n fleet=f script=s trip=7",
             "words: bad value at word 5"
         )?
     );
-    assert!(rt; refuses_words(alloc, "run", "words: missing network")?);
-    assert!(rt; refuses_words(alloc, "run network=n", "words: missing fleet")?);
-    assert!(rt; refuses_words(alloc, "run network=n fleet=f", "words: missing script")?);
-    assert!(rt; refuses_words(alloc, "load", "words: not built yet")?);
+    assert!(rt; refuses_words(&rt, alloc, "run", "words: missing network")?);
+    assert!(rt; refuses_words(&rt, alloc, "run network=n", "words: missing fleet")?);
+    assert!(rt; refuses_words(&rt, alloc, "run network=n fleet=f", "words: missing script")?);
+    assert!(rt; refuses_words(&rt, alloc, "load side=1", "words: bad value at word 2")?);
+    assert!(rt; refuses_words(&rt, alloc, "load network=n", "words: unknown key at word 2")?);
     Ok(())
 }
 
 #[test]
 fn a_refused_network_has_its_line(rt: HostRuntime) -> Result<(), Fail> {
     let alloc = rt.alloc();
-    assert!(rt; refuses_network(alloc, b"from,to\n", "network: wrong header of 2 fields")?);
     assert!(rt;
         refuses_network(
+            &rt,
+            alloc,
+            b"from,to\n",
+            "network: wrong header of 2 fields"
+        )?
+    );
+    assert!(rt;
+        refuses_network(
+            &rt,
             alloc,
             b"from,to,seconds\n1,2\n",
             "network: row 1 has another length"
@@ -216,6 +308,7 @@ fn a_refused_network_has_its_line(rt: HostRuntime) -> Result<(), Fail> {
     );
     assert!(rt;
         refuses_network(
+            &rt,
             alloc,
             b"from,to,seconds\n1,2,3\n1,x,3\n",
             "network: bad number at row 2 column 2"
@@ -223,6 +316,7 @@ fn a_refused_network_has_its_line(rt: HostRuntime) -> Result<(), Fail> {
     );
     assert!(rt;
         refuses_network(
+            &rt,
             alloc,
             b"from,to,seconds\n1,2,10001\n",
             "network: arc too long at row 1"
@@ -234,9 +328,10 @@ fn a_refused_network_has_its_line(rt: HostRuntime) -> Result<(), Fail> {
 #[test]
 fn a_refused_fleet_has_its_line(rt: HostRuntime) -> Result<(), Fail> {
     let alloc = rt.alloc();
-    assert!(rt; refuses_fleet(alloc, b"vehicle\n", "fleet: wrong header of 1 fields")?);
+    assert!(rt; refuses_fleet(&rt, alloc, b"vehicle\n", "fleet: wrong header of 1 fields")?);
     assert!(rt;
         refuses_fleet(
+            &rt,
             alloc,
             b"vehicle,seats,node,second\n1,1,1\n",
             "fleet: row 1 has another length"
@@ -244,6 +339,7 @@ fn a_refused_fleet_has_its_line(rt: HostRuntime) -> Result<(), Fail> {
     );
     assert!(rt;
         refuses_fleet(
+            &rt,
             alloc,
             b"vehicle,seats,node,second\n1,1,1,x\n",
             "fleet: bad number at row 1 column 4"
@@ -251,6 +347,7 @@ fn a_refused_fleet_has_its_line(rt: HostRuntime) -> Result<(), Fail> {
     );
     assert!(rt;
         refuses_fleet(
+            &rt,
             alloc,
             b"vehicle,seats,node,second\n1,11,1,0\n",
             "fleet: bad seats at row 1"
@@ -258,6 +355,7 @@ fn a_refused_fleet_has_its_line(rt: HostRuntime) -> Result<(), Fail> {
     );
     assert!(rt;
         refuses_fleet(
+            &rt,
             alloc,
             b"vehicle,seats,node,second\n1,10,6,0\n",
             "fleet: unknown node at row 1"
@@ -265,6 +363,7 @@ fn a_refused_fleet_has_its_line(rt: HostRuntime) -> Result<(), Fail> {
     );
     assert!(rt;
         refuses_fleet(
+            &rt,
             alloc,
             b"vehicle,seats,node,second\n1,1,1,0\n1,1,1,0\n",
             "fleet: repeated vehicle at row 2"
@@ -276,9 +375,17 @@ fn a_refused_fleet_has_its_line(rt: HostRuntime) -> Result<(), Fail> {
 #[test]
 fn a_refused_script_has_its_line(rt: HostRuntime) -> Result<(), Fail> {
     let alloc = rt.alloc();
-    assert!(rt; refuses_script(alloc, b"round,lane\n", "script: wrong header of 2 fields")?);
     assert!(rt;
         refuses_script(
+            &rt,
+            alloc,
+            b"round,lane\n",
+            "script: wrong header of 2 fields"
+        )?
+    );
+    assert!(rt;
+        refuses_script(
+            &rt,
             alloc,
             b"round,lane,command,a,b,c,d\n0,0\n",
             "script: row 1 has another length"
@@ -286,6 +393,7 @@ fn a_refused_script_has_its_line(rt: HostRuntime) -> Result<(), Fail> {
     );
     assert!(rt;
         refuses_script(
+            &rt,
             alloc,
             b"round,lane,command,a,b,c,d\n0,0,cancel,x,,,\n",
             "script: bad number at row 1 column 4"
@@ -293,6 +401,7 @@ fn a_refused_script_has_its_line(rt: HostRuntime) -> Result<(), Fail> {
     );
     assert!(rt;
         refuses_script(
+            &rt,
             alloc,
             b"round,lane,command,a,b,c,d\n0,16,cancel,1,,,\n",
             "script: lane above 15 at row 1"
@@ -300,6 +409,7 @@ fn a_refused_script_has_its_line(rt: HostRuntime) -> Result<(), Fail> {
     );
     assert!(rt;
         refuses_script(
+            &rt,
             alloc,
             b"round,lane,command,a,b,c,d\n1,0,cancel,1,,,\n0,0,cancel,1,,,\n",
             "script: round goes back at row 2"
@@ -307,6 +417,7 @@ fn a_refused_script_has_its_line(rt: HostRuntime) -> Result<(), Fail> {
     );
     assert!(rt;
         refuses_script(
+            &rt,
             alloc,
             b"round,lane,command,a,b,c,d\n0,0,fly,1,,,\n",
             "script: unknown command at row 1"
@@ -314,6 +425,7 @@ fn a_refused_script_has_its_line(rt: HostRuntime) -> Result<(), Fail> {
     );
     assert!(rt;
         refuses_script(
+            &rt,
             alloc,
             b"round,lane,command,a,b,c,d\n0,0,cancel,1,2,,\n",
             "script: field not empty at row 1"
@@ -321,6 +433,7 @@ fn a_refused_script_has_its_line(rt: HostRuntime) -> Result<(), Fail> {
     );
     assert!(rt;
         refuses_script(
+            &rt,
             alloc,
             b"round,lane,command,a,b,c,d\n0,1,seal,1,,,\n",
             "script: seal outside lane 0 at row 1"
@@ -328,6 +441,7 @@ fn a_refused_script_has_its_line(rt: HostRuntime) -> Result<(), Fail> {
     );
     assert!(rt;
         refuses_script(
+            &rt,
             alloc,
             b"round,lane,command,a,b,c,d,e\n0,0,submit,1,2,3,4,7\n",
             "script: bad party at row 1"

@@ -1,7 +1,7 @@
 ghost use Rattle.std.specs.Prelude.{◌≡◌, ◌++◌, IfOk, OnOk};
 ghost use Rattle.ridepool.specs.Text.{at_number, at_place, word_text, row_text, network_text, fleet_text, script_text, input_text, status_text};
 
-use crate::status::{Part, RunStatus};
+use crate::status::RunStatus;
 use fleet_state::FleetFault;
 use pool_base::{OutOfMemory, put_number};
 use pool_io::{Input, RowFault};
@@ -51,8 +51,6 @@ fn put_status(text: &mut Vec<u8>, status: &RunStatus) -> Result<(), OutOfMemory>
         }
         RunStatus::WriteFault => put(text, b"report: write failed"),
         RunStatus::OutOfMemory => put(text, b"out of memory"),
-        RunStatus::Unsupported(Part::Words) => put(text, b"words: not built yet"),
-        RunStatus::Unsupported(Part::Script) => put(text, b"script: not built yet"),
     }
 }
 

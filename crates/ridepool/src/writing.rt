@@ -1,25 +1,30 @@
-ghost use Rattle.std.specs.Prelude.{◌≡◌, ◌≤◌, [], List, MatchResult};
+ghost use Rattle.std.specs.Prelude.{◌≡◌, ◌≤◌, [], List, OnOk, OnErr, MatchResult};
 ghost use Rattle.std.specs.Io.KnownBytes.{Appends};
 ghost use Rattle.std.specs.List.{All};
-ghost use Rattle.dispatch_engine.specs.Run.{IsPlainRound};
+ghost use Rattle.std.specs.Result.{IsErrOf};
+ghost use Rattle.dispatch_engine.specs.Run.{IsReady};
 ghost use Rattle.request_book.specs.Consistent.{IsNode};
 ghost use Rattle.request_book.specs.declared.journal.Journal.{Journal};
-ghost use Rattle.ridepool.specs.Report.{Inputs, RunsRounds, report_text};
+ghost use Rattle.pool_io.specs.Faults.{Rose};
+ghost use Rattle.pool_io.specs.Sink.{AppendsPart};
+ghost use Rattle.ridepool.specs.Report.{Inputs, RunsRounds, first_text, added_text, report_text};
 ghost use Rattle.ridepool.specs.Writing.{IsWritingFault, IsRoundsFault, IsRoundFault, WritesRound, WritesRounds, status_of};
 
 use crate::status::RunStatus;
 use batch_snapshot::Fleet;
 use dispatch_engine::run_round;
-use dispatch_report::{ReportFault, write_end, write_head, write_round};
+use dispatch_report::{ReportFault, write_end, write_head, write_load, write_round, write_summary};
 use pool_io::Sink;
-use request_book::Book;
-use rider_limits::Settings;
+use request_book::{Book, Journal};
+use rider_limits::{Mode, Settings};
 use road_network::Network;
 use script_rows::{Round, Script};
 use std::alloc::Global;
+use std::thread::Threads;
 
-/// Runs the script and writes its report, round by round.
+/// Runs the script and writes its report, or a made workload's summary, round by round.
 pub(crate) fn write_report<K: Sink>(
+    rt: &(impl Threads + Sync),
     alloc: Global,
     out: &mut K,
     settings: &Settings,
@@ -27,7 +32,6 @@ pub(crate) fn write_report<K: Sink>(
     fleet: Fleet,
     script: &Script,
 ) -> Result<(), RunStatus>
-    requires plain { All IsPlainRound script.now }
     requires named { All (λ v. IsNode network.now.nodes v.node) fleet }
     ensures report { let i : Inputs = record { settings = settings.now; roads = network.now; vehicles = fleet; rounds = script.now } in
         MatchResult result
@@ -35,32 +39,34 @@ pub(crate) fn write_report<K: Sink>(
         (IsWritingFault i (K.written out.old) (K.written out.new) (K.faults out.old) (K.faults out.new)) }
     ensures never_falls { K.faults out.old ≤ K.faults out.new }
 {
-    if let Err(fault) = write_head(alloc, out, settings, network, &fleet) {
+    if let Err(fault) = write_first(alloc, out, settings, network, &fleet) {
         return Err(status_of(fault));
     }
     let Ok(book) = Book::new(alloc, network, fleet, settings.wait) else {
         return Err(RunStatus::OutOfMemory);
     };
-    write_rounds(alloc, out, book, script.rounds(), settings.proof)
+    write_rounds(rt, alloc, out, book, script.rounds(), network, settings)
 }
 
 fn write_rounds<K: Sink>(
+    rt: &(impl Threads + Sync),
     alloc: Global,
     out: &mut K,
     book: Book,
     rounds: &[Round],
-    proof: bool,
+    network: &Network,
+    settings: &Settings,
 ) -> Result<(), RunStatus>
-    requires plain { All IsPlainRound rounds.now }
+    requires ready { IsReady settings.now network.now book }
     requires empty { book.entries ≡ [] }
     ensures rounds { MatchResult result
-        (λ _. WritesRounds book rounds.now proof (K.written out.old) (K.written out.new))
-        (IsRoundsFault book rounds.now proof (K.written out.old) (K.written out.new) (K.faults out.old) (K.faults out.new)) }
+        (λ _. WritesRounds settings.now network.now book rounds.now (K.written out.old) (K.written out.new))
+        (IsRoundsFault settings.now network.now book rounds.now (K.written out.old) (K.written out.new) (K.faults out.old) (K.faults out.new)) }
     ensures never_falls { K.faults out.old ≤ K.faults out.new }
 {
     let mut current = book;
     for round in rounds {
-        current = write_next(alloc, out, current, round, proof)?;
+        current = write_next(rt, alloc, out, current, round, network, settings)?;
     }
     match write_end(alloc, out, current.next_position()) {
         Ok(()) => Ok(()),
@@ -70,28 +76,68 @@ fn write_rounds<K: Sink>(
 
 /// Runs a round, writes its text, and gives its journal up.
 fn write_next<K: Sink>(
+    rt: &(impl Threads + Sync),
     alloc: Global,
     out: &mut K,
     book: Book,
     round: &Round,
-    proof: bool,
+    network: &Network,
+    settings: &Settings,
 ) -> Result<Book, RunStatus>
-    requires plain { IsPlainRound round.now }
+    requires ready { IsReady settings.now network.now book }
     requires empty { book.entries ≡ [] }
     ensures round { MatchResult result
-        (WritesRound book round.now proof (K.written out.old) (K.written out.new))
-        (IsRoundFault book round.now proof (K.written out.old) (K.written out.new) (K.faults out.old) (K.faults out.new)) }
+        (WritesRound settings.now network.now book round.now (K.written out.old) (K.written out.new))
+        (IsRoundFault settings.now network.now book round.now (K.written out.old) (K.written out.new) (K.faults out.old) (K.faults out.new)) }
     ensures never_falls { K.faults out.old ≤ K.faults out.new }
 {
-    let Ok(mut book) = run_round(book, round) else {
+    let Ok(mut book) = run_round(rt, alloc, book, round, network, settings) else {
         return Err(RunStatus::OutOfMemory);
     };
     let Ok(journal) = book.take_round() else {
         return Err(RunStatus::OutOfMemory);
     };
-    match write_round(alloc, out, round.number(), &journal, proof) {
+    match write_added(alloc, out, settings, round.number(), &journal) {
         Ok(()) => Ok(book),
         Err(fault) => Err(status_of(fault)),
+    }
+}
+
+/// Writes the first lines: the head of a report, or the shape of a made workload.
+fn write_first<K: Sink>(
+    alloc: Global,
+    out: &mut K,
+    settings: &Settings,
+    network: &Network,
+    fleet: &Fleet,
+) -> Result<(), ReportFault>
+    ensures whole { OnOk result (Appends (K.written out.old) (K.written out.new) (first_text settings.now.mode settings.now network.now fleet.now)) }
+    ensures part { OnErr result (AppendsPart (K.written out.old) (K.written out.new) (first_text settings.now.mode settings.now network.now fleet.now)) }
+    ensures fault { IsErrOf result ReportFault.WriteFault → Rose (K.faults out.old) (K.faults out.new) }
+    ensures never_falls { K.faults out.old ≤ K.faults out.new }
+{
+    match &settings.mode {
+        Mode::Run => write_head(alloc, out, settings, network, fleet),
+        Mode::Load(shape) => write_load(alloc, out, shape),
+    }
+}
+
+/// Writes what a round adds: its whole text, or of a made workload the lines of its batches.
+fn write_added<K: Sink>(
+    alloc: Global,
+    out: &mut K,
+    settings: &Settings,
+    number: u32,
+    journal: &Journal,
+) -> Result<(), ReportFault>
+    ensures whole { OnOk result (Appends (K.written out.old) (K.written out.new) (added_text settings.now.mode settings.now.proof number journal.now)) }
+    ensures part { OnErr result (AppendsPart (K.written out.old) (K.written out.new) (added_text settings.now.mode settings.now.proof number journal.now)) }
+    ensures fault { IsErrOf result ReportFault.WriteFault → Rose (K.faults out.old) (K.faults out.new) }
+    ensures never_falls { K.faults out.old ≤ K.faults out.new }
+{
+    match &settings.mode {
+        Mode::Run => write_round(alloc, out, number, journal, settings.proof),
+        Mode::Load(_) => write_summary(alloc, out, journal),
     }
 }
 

@@ -11,17 +11,31 @@ use rider_limits::value_of;
 use std::fs::File;
 use std::io::{BufWriter, Write};
 use std::process::ExitCode;
+use std::thread::Threads;
 use std::{env, io};
 
 const HELP: &str = "\
 usage: ridepool run network=FILE fleet=FILE script=FILE [KEY=VALUE ..]
+       ridepool load [KEY=VALUE ..]
 
-Reads a road network, a fleet and a script of commands as CSV, runs the script, and prints its report.
-Where an input is refused, one line on standard error names the file, the row and the column.
+`run` reads a road network, a fleet and a script of commands as CSV, runs the script, and prints its
+report. Where an input is refused, one line on standard error names the file, the row and the column.
+`load` makes these three from a seed, runs them the same way, and prints one line for each batch.
 
+For `run`:
   network=FILE   streets: from,to,seconds
   fleet=FILE     vehicles: vehicle,seats,node,second
   script=FILE    commands: round,lane,command,a,b,c,d and, for parties, e
+  proof=0|1      print the tree that shows the bound (0)
+
+For `load`:
+  seed=N         what the workload is drawn from, 0 to 1000000000 (1)
+  side=N         nodes along one side of the square network, 2 to 100 (20)
+  vehicles=N     vehicles of four seats, 1 to 500 (100)
+  riders=N       requests of each batch, 1 to 1000 (150)
+  rounds=N       batches, 1 to 100 (4)
+
+For both:
   wait=S         longest wait for the pickup, 0 to 7200 seconds (120)
   delay=S        longest delay of the arrival, 0 to 7200 seconds (180)
   trip=N         most riders of a trip, 1 to 6 (4)
@@ -29,14 +43,13 @@ Where an input is refused, one line on standard error names the file, the row an
   budget=N       most nodes of the search tree, 1 to 50000 (200)
   pairs=N        most vehicle-trip pairs of a batch, 1 to 2000000 (200000)
   workers=N      workers that look for trips, 1 to 64 (4)
-  proof=0|1      print the tree that shows the bound (0)
   dwell=S        what each stop takes, 0 to 600 seconds (0)
 
   --help, -h     this text
   --version      the version
 
 Exit status: 0 done; 2 words; 3 network; 4 fleet; 5 script; 6 input too long; 7 read failed;
-8 write failed; 9 out of memory; 10 not built yet.
+8 write failed; 9 out of memory.
 ";
 
 const VERSION: &str = "ridepool 0.1.0\n";
@@ -48,7 +61,7 @@ fn main(rt: HostRuntime) -> ExitCode {
     };
     let status = match page_of(&words) {
         Some(page) => print_page(&rt, page),
-        None => run(&rt, &words),
+        None => run(&rt, &rt, &words),
     };
     report(&rt, &status)
 }
@@ -76,7 +89,7 @@ fn page_of(words: &[String]) -> Option<&'static str> {
     match first.as_str() {
         "--help" | "-h" => Some(HELP),
         "--version" => Some(VERSION),
-        "run" => {
+        "run" | "load" => {
             let second = words.get(1)?;
             match second.as_str() {
                 "--help" | "-h" => Some(HELP),
@@ -95,7 +108,7 @@ fn print_page(rt: &HostRuntime, page: &str) -> RunStatus {
 }
 
 /// Runs the words on the files that they name, with standard output as the sink.
-fn run(rt: &HostRuntime, words: &[String]) -> RunStatus {
+fn run(rt: &HostRuntime, threads: &(impl Threads + Sync), words: &[String]) -> RunStatus {
     let Ok(mut output) = BufWriter::new(rt.alloc(), rt.stdout()) else {
         return RunStatus::OutOfMemory;
     };
@@ -104,6 +117,7 @@ fn run(rt: &HostRuntime, words: &[String]) -> RunStatus {
     let mut script = source_of(rt, words, "script");
     let mut sink = StdSink::over(&mut output);
     let status = ridepool(
+        threads,
         rt.alloc(),
         words,
         &mut network,

@@ -1,2 +1,4 @@
 pub mod LevelSteps
 pub mod GraphSteps
+pub mod RowOrder
+pub mod GraphFaults

@@ -1,4 +1,5 @@
 ghost use Rattle.std.specs.Prelude.{◌≡◌, ◌+◌, ◌<◌, ◌≤◌, IfOk, length};
+ghost use Rattle.plan_rules.specs.declared.fault.GraphFault.TheVariants.{OutOfMemory as NoMemory};
 ghost use Rattle.pool_base.specs.Times.{point_count, travel_time};
 ghost use Rattle.stop_orders.specs.Settled.{IsSound};
 ghost use Rattle.trip_graph.specs.Levels.{AreLevels, level_total};
@@ -8,7 +9,7 @@ use crate::all_levels::all_levels;
 use crate::answer::GraphAnswer;
 use crate::rows::{add_vehicle, held_row};
 use pair_graph::{rider_rider, rider_vehicle};
-use plan_rules::{TripGraph, TripRow};
+use plan_rules::{GraphFault, TripGraph, TripRow};
 use pool_base::{OutOfMemory, Sequence, Times};
 use rider_limits::Settings;
 use std::alloc::Global;
@@ -65,6 +66,16 @@ fn graph_of(
     let riders = settled.riders.as_slice().len();
     match TripGraph::new(alloc, vehicles.len(), riders, settings.penalty, rows, held) {
         Ok(graph) => Ok(graph),
-        Err(_) => Err(OutOfMemory),
+        Err(fault) => Err(memory_of(fault)),
+    }
+}
+
+/// Nothing else is wrong with the rows.
+fn memory_of(fault: GraphFault) -> OutOfMemory
+    requires { fault ≡ NoMemory }
+{
+    match fault {
+        GraphFault::OutOfMemory => OutOfMemory,
+        _ => unreachable!(),
     }
 }

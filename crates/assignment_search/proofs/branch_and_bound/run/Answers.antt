@@ -1,11 +1,12 @@
-use Rattle.std.proofs.Common.{◌≡◌, ◌+◌, ◌-◌, ◌*◌, ◌<◌, ◌≤◌, ℕ, List, [], ◌∷◌, ◌++◌, length, get_or, Option, ℤ, pos, ◌≤ℤ◌, sym, ap, ◌∙◌, subst, inl, inr, arith, to_z, of_z}
+use Rattle.std.proofs.Common.{◌≡◌, ◌+◌, ◌-◌, ◌*◌, ◌<◌, ◌≤◌, ℕ, List, [], ◌∷◌, ◌++◌, length, get_or, Option, ℤ, pos, ◌≤ℤ◌, ◌<ℤ◌, sym, ap, ◌∙◌, subst, inl, inr, arith, to_z, of_z}
 use mir.Syntax.{w128}
-use Rattle.std.proofs.lemmas.Int.{to_z-of_z}
+use Rattle.std.proofs.lemmas.Int.{ints, to_z-of_z}
 use Rattle.plan_rules.specs.Plan.{IsLawful, cost_of}
 use Rattle.plan_rules.specs.Tree.{every_row, rounded_up}
 use Rattle.plan_rules.specs.declared.node.Node.{Node}
 use Rattle.plan_rules.specs.declared.node.Node.TheVariants.{Branch, Leaf}
 use Rattle.dual_bound.specs.Size.{IsSmallSum}
+use Rattle.assignment_search.specs.Found.{IsRightPlan}
 use Rattle.assignment_search.specs.Growth.{IsGrown, IsLowest, HasLeaf}
 use Rattle.assignment_search.specs.Next.{IsNext}
 use Rattle.assignment_search.specs.declared.step.Outcome.{Outcome}
@@ -22,14 +23,17 @@ loop-values-init c =
     let ms : List ℤ = c.in_ok-root.root.multipliers in
     let z : ℤ = c.in_ok-root.root.value in
     let leaf = c.in_ok-root.ensures.leaf in
+    let right : IsRightPlan g c.in_ok-plan.plan limit = record {
+      lawful = c.in_ok-plan.ensures.lawful;
+      costs = costs;
+      held = omega (arith, costs, c.in_ok-plan.ensures.held);
+      greedy = λ chosen is fair. let least = c.in_ok-plan.ensures.greedy chosen is fair in omega (arith, costs, least);
+      change = c.in_ok-plan.ensures.best;
+    } in
     record {
-      plan = record {
-        lawful = c.in_ok-plan.ensures.lawful;
-        costs = costs;
-        held = omega (arith, costs, c.in_ok-plan.ensures.held);
-        greedy = λ chosen is fair. let least = c.in_ok-plan.ensures.greedy chosen is fair in omega (arith, costs, least);
-        change = c.in_ok-plan.ensures.best;
-      };
+      plan = right;
+      first = right;
+      under = omega arith;
       tree = so_far_start g c.args.budget limit ms z c.push.new.self.items c.push-2.new.self.items c.requires leaf
           (c.in_ok-push.ensures.items ∙ ap (λ (xs : List Node). xs ++ Leaf ms ∷ []) c.new-nodes.ensures.items)
           (c.in_ok-push-2.ensures.items ∙ (λ i. c.new-values.ensures.items i ++ small_back z leaf.small i ∷ []));
@@ -77,9 +81,9 @@ next-requires-clause-grown c =
     let p = c.lowest-place.result in
     let lowest : IsLowest nodes values p = subst (λ (ns : List Node). IsLowest ns values p) c.deref.ensures.value
     (subst (λ (zs : List ℤ). IsLowest c.deref.result.now zs p) c.deref-in-loop-values.ensures.value c.lowest-place.ensures) in
-    subst (λ (ns : List Node). IsGrown g (rounded_up (get_or c.deref-in-loop-values-4.result.now p (pos 0))) limit (every_row ∷ []) ns c.deref-in-loop-values-4.result.now []) (sym c.deref-in-loop-values-3.ensures.value)
+    (limit, subst (λ (ns : List Node). IsGrown g (rounded_up (get_or c.deref-in-loop-values-4.result.now p (pos 0))) limit (every_row ∷ []) ns c.deref-in-loop-values-4.result.now []) (sym c.deref-in-loop-values-3.ensures.value)
     (subst (λ (zs : List ℤ). IsGrown g (rounded_up (get_or zs p (pos 0))) limit (every_row ∷ []) nodes zs []) (sym c.deref-in-loop-values-4.ensures.value)
-    (so_far_raised g c.args.budget limit nodes values p c.loop-values.invariant.tree lowest))
+    (so_far_raised g c.args.budget limit nodes values p c.loop-values.invariant.tree lowest)))
 
 pub grow-requires-clause-values : goal.grow-requires-clause-values
 grow-requires-clause-values c =
@@ -89,30 +93,31 @@ pub grow-requires-clause-second : goal.grow-requires-clause-second
 grow-requires-clause-second c =
     let g = c.args.graph.now in
     let ends = c.in-Parted.ends in
-    let said = subst (λ (o : Outcome). IsNext g c.deref-in-loop-values-3.result.now c.deref-in-loop-values-4.result.now c.lowest-place.result c.cost_of-limit.result c.args.budget o) c.in-Parted.is c.in_ok-ends.ensures in
+    let said = subst (λ (o : Outcome). IsNext g c.deref-in-loop-values-3.result.now c.deref-in-loop-values-4.result.now c.lowest-place.result c.loop-values.limit c.args.budget o) c.in-Parted.is c.in_ok-ends.ensures in
     new_end_small g _ (said.0).parent ends.second.node ends.second.value (said.0).parting.second
 
-pub loop-values-smaller : goal.loop-values-smaller
-loop-values-smaller c =
+pub loop-values-smaller-in-Continue-branch-8 : goal.loop-values-smaller-in-Continue-branch-8
+loop-values-smaller-in-Continue-branch-8 c =
     let g = c.args.graph.now in
     let nodes : List Node = c.loop-values.nodes.items in
     let new : List Node = c.grow.new.nodes.items in
     let ends = c.in-Parted.ends in
     let p = c.lowest-place.result in
-    let said = subst (λ (o : Outcome). IsNext g c.deref-in-loop-values-3.result.now c.deref-in-loop-values-4.result.now p c.cost_of-limit.result c.args.budget o) c.in-Parted.is c.in_ok-ends.ensures in
+    let said = subst (λ (o : Outcome). IsNext g c.deref-in-loop-values-3.result.now c.deref-in-loop-values-4.result.now p c.loop-values.limit c.args.budget o) c.in-Parted.is c.in_ok-ends.ensures in
     let a = ap (λ (xs : List Node). length xs) c.deref.ensures.value in
     let b = ap (λ (xs : List Node). length xs) c.deref-in-loop-values-3.ensures.value in
     let room : length c.deref-in-loop-values-3.result.now + 2 ≤ c.args.budget = said.1 in
     let within : p < length c.deref.result.now = c.lowest-place.ensures.within in
     let low : p < length nodes = omega (arith, within, a) in
     let size = ap (λ (xs : List Node). length xs) c.in_ok-grow-in-Parted.ensures.nodes ∙ edit_length nodes p (Branch ends.vehicle ends.row) ends.first.node ends.second.node low in
-    let less : c.args.budget - length new < c.args.budget - length nodes = omega (arith, size, room, b) in
+    let less : c.loop-values.limit + (c.args.budget - length new) < c.loop-values.limit + (c.args.budget - length nodes) = omega (arith, size, room, b) in
     less
 
-pub loop-values-preserved : goal.loop-values-preserved
-loop-values-preserved c =
+pub loop-values-preserved-in-Continue-branch-8 : goal.loop-values-preserved-in-Continue-branch-8
+loop-values-preserved-in-Continue-branch-8 c =
     let g = c.args.graph.now in
     let limit = c.cost_of-limit.result in
+    let now = c.loop-values.limit in
     let budget = c.args.budget in
     let nodes : List Node = c.loop-values.nodes.items in
     let values : List ℤ = c.loop-values.values.items in
@@ -120,12 +125,16 @@ loop-values-preserved c =
     let ends = c.in-Parted.ends in
     let lowest : IsLowest nodes values p = subst (λ (ns : List Node). IsLowest ns values p) c.deref.ensures.value
     (subst (λ (zs : List ℤ). IsLowest c.deref.result.now zs p) c.deref-in-loop-values.ensures.value c.lowest-place.ensures) in
-    let said : IsNext g nodes values p limit budget c.in_ok-ends.field-0 = subst (λ (ns : List Node). IsNext g ns values p limit budget c.in_ok-ends.field-0) c.deref-in-loop-values-3.ensures.value
-    (subst (λ (zs : List ℤ). IsNext g c.deref-in-loop-values-3.result.now zs p limit budget c.in_ok-ends.field-0) c.deref-in-loop-values-4.ensures.value c.in_ok-ends.ensures) in
-    let parted : IsNext g nodes values p limit budget (Parted ends) = subst (IsNext g nodes values p limit budget) c.in-Parted.is said in
+    let said : IsNext g nodes values p now budget c.in_ok-ends.field-0 = subst (λ (ns : List Node). IsNext g ns values p now budget c.in_ok-ends.field-0) c.deref-in-loop-values-3.ensures.value
+    (subst (λ (zs : List ℤ). IsNext g c.deref-in-loop-values-3.result.now zs p now budget c.in_ok-ends.field-0) c.deref-in-loop-values-4.ensures.value c.in_ok-ends.ensures) in
+    let parted : IsNext g nodes values p now budget (Parted ends) = subst (IsNext g nodes values p now budget) c.in-Parted.is said in
+    let under : now ≤ limit = c.loop-values.invariant.under in
+    let below : rounded_up (get_or values p (pos 0)) <ℤ pos now = parted.2 in
     record {
       plan = c.loop-values.invariant.plan;
-      tree = so_far_grow g budget limit nodes values p ends c.grow.new.nodes.items c.grow.new.values.items c.loop-values.invariant.tree lowest (parted.0) (parted.1) (parted.2)
+      first = c.loop-values.invariant.first;
+      under = under;
+      tree = so_far_grow g budget limit nodes values p ends c.grow.new.nodes.items c.grow.new.values.items c.loop-values.invariant.tree lowest (parted.0) (parted.1) (omega (arith, ints, under, below))
           c.in_ok-grow-in-Parted.ensures.nodes c.in_ok-grow-in-Parted.ensures.values;
     }
 
@@ -133,6 +142,7 @@ pub returns-in-Fixed : goal.returns-in-Fixed
 returns-in-Fixed c =
     let g = c.args.graph.now in
     let limit = c.cost_of-limit.result in
+    let now = c.loop-values.limit in
     let budget = c.args.budget in
     let nodes : List Node = c.loop-values.nodes.items in
     let values : List ℤ = c.loop-values.values.items in
@@ -141,12 +151,12 @@ returns-in-Fixed c =
     let low = rounded_up (get_or values p (pos 0)) in
     let good = c.root_leaf.ensures.good in
     let tree = c.loop-values.invariant.tree in
-    let start = c.loop-values.invariant.plan in
+    let start = c.loop-values.invariant.first in
     let lowest : IsLowest nodes values p = subst (λ (ns : List Node). IsLowest ns values p) c.deref.ensures.value
     (subst (λ (zs : List ℤ). IsLowest c.deref.result.now zs p) c.deref-in-loop-values.ensures.value c.lowest-place.ensures) in
-    let said : IsNext g nodes values p limit budget c.in_ok-ends.field-0 = subst (λ (ns : List Node). IsNext g ns values p limit budget c.in_ok-ends.field-0) c.deref-in-loop-values-3.ensures.value
-    (subst (λ (zs : List ℤ). IsNext g c.deref-in-loop-values-3.result.now zs p limit budget c.in_ok-ends.field-0) c.deref-in-loop-values-4.ensures.value c.in_ok-ends.ensures) in
-    let fixed : IsNext g nodes values p limit budget (Fixed best) = subst (IsNext g nodes values p limit budget) c.in-Fixed.is said in
+    let said : IsNext g nodes values p now budget c.in_ok-ends.field-0 = subst (λ (ns : List Node). IsNext g ns values p now budget c.in_ok-ends.field-0) c.deref-in-loop-values-3.ensures.value
+    (subst (λ (zs : List ℤ). IsNext g c.deref-in-loop-values-3.result.now zs p now budget c.in_ok-ends.field-0) c.deref-in-loop-values-4.ensures.value c.in_ok-ends.ensures) in
+    let fixed : IsNext g nodes values p now budget (Fixed best) = subst (IsNext g nodes values p now budget) c.in-Fixed.is said in
     let met : pos c.cost_of.result ≤ℤ low = subst (λ (n : ℕ). pos n ≤ℤ low) (sym c.cost_of.ensures) (fixed.1) in
     let back : to_z w128 (of_z w128 c.bound_at-bound.result) ≡ c.bound_at-bound.result = to_z-of_z w128 c.bound_at-bound.result (record { sfits = c.bound_at-bound.type_inv }) in
     let right = right_from_least g best c.cost_of.result low good (fixed.0) c.cost_of.ensures met (low_is_bound g limit p nodes values good (so_far_raised g budget limit nodes values p tree lowest) lowest) in
@@ -157,18 +167,19 @@ pub returns-in_default : goal.returns-in_default
 returns-in_default c =
     let g = c.args.graph.now in
     let limit = c.cost_of-limit.result in
+    let now = c.loop-values.limit in
     let budget = c.args.budget in
     let nodes : List Node = c.loop-values.nodes.items in
     let values : List ℤ = c.loop-values.values.items in
     let p = c.lowest-place.result in
     let good = c.root_leaf.ensures.good in
     let tree = c.loop-values.invariant.tree in
-    let start = c.loop-values.invariant.plan in
+    let start = c.loop-values.invariant.first in
     let lowest : IsLowest nodes values p = subst (λ (ns : List Node). IsLowest ns values p) c.deref.ensures.value
     (subst (λ (zs : List ℤ). IsLowest c.deref.result.now zs p) c.deref-in-loop-values.ensures.value c.lowest-place.ensures) in
-    let said : IsNext g nodes values p limit budget c.in_ok-ends.field-0 = subst (λ (ns : List Node). IsNext g ns values p limit budget c.in_ok-ends.field-0) c.deref-in-loop-values-3.ensures.value
-    (subst (λ (zs : List ℤ). IsNext g c.deref-in-loop-values-3.result.now zs p limit budget c.in_ok-ends.field-0) c.deref-in-loop-values-4.ensures.value c.in_ok-ends.ensures) in
+    let said : IsNext g nodes values p now budget c.in_ok-ends.field-0 = subst (λ (ns : List Node). IsNext g ns values p now budget c.in_ok-ends.field-0) c.deref-in-loop-values-3.ensures.value
+    (subst (λ (zs : List ℤ). IsNext g c.deref-in-loop-values-3.result.now zs p now budget c.in_ok-ends.field-0) c.deref-in-loop-values-4.ensures.value c.in_ok-ends.ensures) in
     let back : to_z w128 (of_z w128 c.bound_at-bound.result) ≡ c.bound_at-bound.result = to_z-of_z w128 c.bound_at-bound.result (record { sfits = c.bound_at-bound.type_inv }) in
-    answer g budget limit p c.loop-values.plan limit nodes values (to_z w128 (of_z w128 c.bound_at-bound.result)) c.of-in_default.result good tree lowest start.held start.greedy start
-    (ended g nodes values p limit budget c.in_ok-ends.field-0 said c.in_default.not-Fixed c.in_default.not-Parted)
+    answer g budget limit p c.loop-values.plan now nodes values (to_z w128 (of_z w128 c.bound_at-bound.result)) c.of-in_default.result good tree lowest start.held start.greedy c.loop-values.invariant.plan
+    (ended g nodes values p now budget c.in_ok-ends.field-0 said c.in_default.not-Better c.in_default.not-Fixed c.in_default.not-Parted)
     (back ∙ c.bound_at-bound.ensures ∙ ap (λ (zs : List ℤ). rounded_up (get_or zs p (pos 0))) c.deref-in-loop-values-2.ensures.value) c.of-in_default.ensures

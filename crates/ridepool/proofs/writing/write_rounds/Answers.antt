@@ -5,14 +5,14 @@ use Rattle.ridepool.proofs.WriteLemmas.{HasWritten, written_none, written_next, 
 use Rattle.ridepool.proofs.writing.write_rounds.Goals as goal
 
 pub loop-round-init : goal.loop-round-init
-loop-round-init g c = (written_none c.args.book c.args.proof (g.K.Sink.written c.args.out.now) c.requires.empty, omega arith)
+loop-round-init g c = (written_none c.args.settings.now c.args.network.now c.args.book (g.K.Sink.written c.args.out.now) c.requires.empty c.requires.ready, omega arith)
 
 pub loop-round-preserved : goal.loop-round-preserved
 loop-round-preserved g c =
     let rounds = c.args.rounds.now in
     let i = c.loop-round.round-index in
     let within : i < length rounds = omega arith in (
-      written_next c.args.book c.loop-round.current c.in_ok-current.current rounds i c.round-item.result c.args.proof
+      written_next c.args.settings.now c.args.network.now c.args.book c.loop-round.current c.in_ok-current.current rounds i c.round-item.result
           (g.K.Sink.written c.args.out.now) (g.K.Sink.written c.loop-round.out) (g.K.Sink.written c.write_next.new.out)
           within c.round-item.is c.loop-round.invariant.0 c.in_ok-current.ensures.round,
       omega (arith, c.loop-round.invariant.1, c.write_next.ensures.never_falls),
@@ -25,7 +25,7 @@ returns-in_err-current-clause-rounds g c =
     let within : i < length rounds = omega arith in
     let p = err_from_is_err_and c.from_residual.result c.from_residual.ensures.1 in
     rw (p.1, p.2)
-    (round_fault c.args.book c.loop-round.current rounds i c.round-item.result c.args.proof
+    (round_fault c.args.settings.now c.args.network.now c.args.book c.loop-round.current rounds i c.round-item.result
     (g.K.Sink.written c.args.out.now) (g.K.Sink.written c.loop-round.out) (g.K.Sink.written c.write_next.new.out)
     (g.K.Sink.faults c.args.out.now) (g.K.Sink.faults c.loop-round.out) (g.K.Sink.faults c.write_next.new.out)
     c.in_err-current.field-0.0 within c.round-item.is c.loop-round.invariant.1 c.loop-round.invariant.0 c.in_err-current.ensures.round)
@@ -38,9 +38,9 @@ returns-in-Ok-clause-rounds g c =
     let here = g.K.Sink.written c.loop-round.out in
     let end : i ≡ length rounds = omega arith in
     let whole : take i rounds ≡ rounds = ap (λ n. take n rounds) end ∙ take-length rounds in
-    let all : HasWritten c.args.book rounds c.args.proof before here c.loop-round.current =
-    subst (λ rs. HasWritten c.args.book rs c.args.proof before here c.loop-round.current) whole c.loop-round.invariant.0 in
-    written_all c.args.book c.loop-round.current rounds c.args.proof before here (g.K.Sink.written c.write_end.new.sink) c.next_position.result all c.next_position.ensures c.in-Ok.ensures.whole
+    let all : HasWritten c.args.settings.now c.args.network.now c.args.book rounds before here c.loop-round.current =
+    subst (λ rs. HasWritten c.args.settings.now c.args.network.now c.args.book rs before here c.loop-round.current) whole c.loop-round.invariant.0 in
+    written_all c.args.settings.now c.args.network.now c.args.book c.loop-round.current rounds before here (g.K.Sink.written c.write_end.new.sink) c.next_position.result all c.next_position.ensures c.in-Ok.ensures.whole
 
 pub returns-clause-rounds : goal.returns-clause-rounds
 returns-clause-rounds g c =
@@ -51,9 +51,9 @@ returns-clause-rounds g c =
     let after = g.K.Sink.written c.write_end.new.sink in
     let end : i ≡ length rounds = omega arith in
     let whole : take i rounds ≡ rounds = ap (λ n. take n rounds) end ∙ take-length rounds in
-    let all : HasWritten c.args.book rounds c.args.proof before here c.loop-round.current =
-    subst (λ rs. HasWritten c.args.book rs c.args.proof before here c.loop-round.current) whole c.loop-round.invariant.0 in
-    end_unwritten c.args.book rounds c.args.proof before after (g.K.Sink.faults c.args.out.now) (g.K.Sink.faults c.loop-round.out) (g.K.Sink.faults c.write_end.new.sink)
+    let all : HasWritten c.args.settings.now c.args.network.now c.args.book rounds before here c.loop-round.current =
+    subst (λ rs. HasWritten c.args.settings.now c.args.network.now c.args.book rs before here c.loop-round.current) whole c.loop-round.invariant.0 in
+    end_unwritten c.args.settings.now c.args.network.now c.args.book rounds before after (g.K.Sink.faults c.args.out.now) (g.K.Sink.faults c.loop-round.out) (g.K.Sink.faults c.write_end.new.sink)
     c.in-Err.fault c.status_of.result c.status_of.ensures
-    (lacks_end c.args.book c.loop-round.current rounds c.args.proof before here after c.next_position.result all c.next_position.ensures c.in-Err.ensures.part)
+    (lacks_end c.args.settings.now c.args.network.now c.args.book c.loop-round.current rounds before here after c.next_position.result all c.next_position.ensures c.in-Err.ensures.part)
     c.loop-round.invariant.1 (λ is. c.in-Err.ensures.fault (ap Err is))

@@ -6,6 +6,8 @@ use Rattle.stop_orders.specs.Settled.{vehicle_at, no_vehicle}
 use Rattle.trip_graph.specs.Answer.{AreRowsOf, HoldRows}
 use Rattle.trip_graph.specs.Rows.{vehicle_rows}
 use Rattle.trip_graph.proofs.GraphSteps as step
+use Rattle.trip_graph.proofs.RowOrder.{none_in_order, more_in_order}
+use Rattle.trip_graph.proofs.GraphFaults as faults
 use Rattle.trip_graph.proofs.graph_growth.graph_of.Goals as goal
 
 pub loop-vehicle-init : goal.loop-vehicle-init
@@ -14,6 +16,7 @@ loop-vehicle-init c =
     let tau = travel_time c.args.times.now in
     record {
       exact = rw c.new-rows.ensures.items (step.rows_none most tau c.args.settled.now);
+      order = rw c.new-rows.ensures.items none_in_order;
       hold = rw (c.new-rows.ensures.items, c.in_ok-held.ensures.items) (step.hold_none most tau c.args.settled.now);
       total = rw c.new-rows.ensures.items (sym (step.total_none c.args.levels.now));
     }
@@ -40,6 +43,7 @@ loop-vehicle-preserved c =
     vehicle (c.deref.ensures.value ∙ items) from c.held_row.ensures in
     record {
       exact = rw items (step.rows_more most tau settled v levels rows c.requires.levels few less inv.exact);
+      order = rw items (more_in_order most tau settled v levels rows c.requires.levels less inv.exact.below inv.order);
       hold = rw (c.in_ok-push.ensures.items, items)
           (step.hold_more most tau settled (point_count c.args.times.now) v levels rows held c.held_row.result c.requires.levels few less (c.requires.sound.each v less) inv.exact inv.hold found);
       total = rw items (step.total_more most tau settled v levels rows c.requires.levels less inv.total);
@@ -59,6 +63,26 @@ held_row-requires-clause-few c =
     let range = c.args.settings.now.in_range.pairs_most in
     let long = ap length (c.deref.ensures.value ∙ items) in
     omega arith
+
+pub memory_of-requires : goal.memory_of-requires
+memory_of-requires c =
+    let most = c.args.settings.now.trip in
+    let tau = travel_time c.args.times.now in
+    let settled = c.args.settled.now in
+    let inv = c.loop-vehicle.invariant in
+    let rows = c.loop-vehicle.rows.items in
+    let held = c.loop-vehicle.held.items in
+    let vehicles = length c.as_slice-vehicles.result.now in
+    let riders = length c.as_slice-riders.result.now in
+    let count : vehicles ≡ length settled.vehicles = ap length c.as_slice-vehicles.ensures in
+    let end = c.loop-vehicle.auto.vehicle-end in
+    let stop = c.loop-vehicle-test.false in
+    let e : c.loop-vehicle.vehicle ≡ length settled.vehicles = omega arith in
+    faults.memory_only most (point_count c.args.times.now) tau settled (let r = c.args.settings.now.in_range.trip_most in omega arith) c.args.times.now.table.times c.requires.sound
+    (record { vehicles = vehicles; riders = riders; penalty = c.args.settings.now.penalty; rows = rows; held = held }) count (ap length c.as_slice-riders.ensures)
+    (subst (λ (n : ℕ). AreRowsOf most tau settled n rows) e inv.exact)
+    (subst (λ (n : ℕ). HoldRows settled n rows held) e inv.hold)
+    inv.order c.in-Err.fault c.in-Err.ensures.fault
 
 pub new-requires : goal.new-requires
 new-requires c =

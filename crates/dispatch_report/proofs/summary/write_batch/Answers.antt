@@ -1,0 +1,9 @@
+use Rattle.std.proofs.lemmas.Result.{err_from_is_err_and}
+use Rattle.dispatch_report.specs.Summary.{batch_line}
+use Rattle.dispatch_report.proofs.LineLemmas.{nothing_yet}
+use Rattle.dispatch_report.proofs.summary.write_batch.Goals as goal
+
+pub returns-in_err-put_batch-clause-lines : goal.returns-in_err-put_batch-clause-lines
+returns-in_err-put_batch-clause-lines g c =
+    let p = err_from_is_err_and c.from_residual.result c.from_residual.ensures.1 in
+    rw p.1 (nothing_yet (g.K.Sink.written c.args.sink.now) (batch_line c.args.batch c.args.outcome.now))

@@ -1,0 +1,32 @@
+use Rattle.std.proofs.Common.{◌≡◌, ℕ, List, Result, Ok, Err, sym, ap, subst, ◌∙◌}
+use Rattle.pool_io.specs.Table.{Table, table_of}
+use Rattle.road_network.specs.Roads.{Roads}
+use Rattle.road_network.specs.Reading.{network_of}
+use Rattle.load_maker.specs.Texts.{Texts, network_header}
+use Rattle.made_inputs.specs.Accepted.{IsNetworkText, IsFleetText, IsScriptText, AreAccepted, IsSomeNetwork, IsSomeFleet, AreSomeRounds}
+
+value_or : {A E : Type 0} → A → Result A E → A
+value_or d (Ok x) = x
+value_or d (Err e) = d
+
+same_value : {A E : Type 0} (r : Result A E) (x y : A) → r ≡ Ok x → r ≡ Ok y → x ≡ y
+unfolding value_or
+same_value r x y p q = ap (λ s. value_or x s) (sym p ∙ q)
+
+-- a text is read as one network alone
+same_network : (text : List ℕ) (one other : Roads) → IsNetworkText text one → IsNetworkText text other → one ≡ other
+same_network text one other here there =
+    let table : here.table ≡ there.table = same_value (table_of network_header text) here.table there.table here.rows there.rows in
+    same_value (network_of here.table.records) one other here.is (ap (λ (t : Table). network_of t.records) table ∙ there.is)
+
+-- a text that is the network's, the fleet's and the script's
+pub some_network : (texts : Texts) (text : List ℕ) → AreAccepted texts → text ≡ texts.network → IsSomeNetwork text
+some_network texts text all is = (all.roads, subst (λ t. IsNetworkText t all.roads) (sym is) all.read.network)
+
+pub some_fleet : (texts : Texts) (text network : List ℕ) (roads : Roads) → AreAccepted texts → text ≡ texts.fleet → network ≡ texts.network → IsNetworkText network roads → IsSomeFleet roads.nodes text
+some_fleet texts text network roads all is from read =
+    let same : all.roads ≡ roads = same_network texts.network all.roads roads all.read.network (subst (λ t. IsNetworkText t roads) from read) in
+    (all.vehicles, subst (λ r. IsFleetText r.nodes text all.vehicles) same (subst (λ t. IsFleetText all.roads.nodes t all.vehicles) (sym is) all.read.fleet))
+
+pub some_rounds : (texts : Texts) (text : List ℕ) → AreAccepted texts → text ≡ texts.script → AreSomeRounds text
+some_rounds texts text all is = (all.rounds, subst (λ t. IsScriptText t all.rounds) (sym is) all.read.script)

@@ -1,0 +1,278 @@
+use Rattle.std.proofs.Common.{◌≡◌, ℕ, zero, suc, ◌+◌, ◌-◌, ◌*◌, ◌%◌, ◌<◌, ◌≤◌, Bool, true, false, cond, ltb, List, [], ◌∷◌, ◌++◌, Some, Result, Ok, Err, map, length, decimal, refl, ap, ◌∙◌, arith}
+use Rattle.std.specs.Result.{is_ok}
+use Rattle.std.proofs.lemmas.Bool.{le-ltb, false≢true}
+use Rattle.std.proofs.lemmas.List.{length-append, length-map}
+use Rattle.std.proofs.lemmas.Nat.{mod_below}
+use Rattle.std.proofs.Math.Nat.{mul-le-mul, suc-mul}
+use Rattle.rand_core.specs.Stream.{Stream, next_u64}
+use Rattle.pool_base.specs.Numeral.{number_up_to}
+use Rattle.request_book.specs.declared.command.Command.{Command}
+use Rattle.request_book.specs.declared.command.Command.TheVariants as command
+use Rattle.script_rows.specs.declared.fault.ScriptFault.{ScriptFault}
+use Rattle.script_rows.specs.declared.fault.ScriptFault.TheVariants.{TooManyRows}
+use Rattle.script_rows.specs.declared.version.ScriptVersion.TheVariants.{One}
+use Rattle.script_rows.specs.Word.{word_of}
+use Rattle.script_rows.specs.Line.{◌>>=◌, number_in, party_in, submit_in, report_in, command_in, leaves_empty, line_in}
+use Rattle.script_rows.specs.Round.{NumberedLanes}
+use Rattle.script_rows.specs.Script.{lines_in, rounds_of, script_of}
+use Rattle.rider_limits.specs.declared.load_shape.LoadShape.{LoadShape}
+use Rattle.load_maker.specs.declared.row.Field.{Field}
+use Rattle.load_maker.specs.declared.row.Field.TheVariants as field
+use Rattle.load_maker.specs.Part.{draws_of, draw, Part, nothing, plain, both, each}
+use Rattle.load_maker.specs.Texts.{drawn_node, report_row, all_reports, reports, other_than, submit_row, submits, seal_row, batch_rows, script_part, fleet_part, network_part}
+use Rattle.made_inputs.proofs.FieldLemmas.{AllFit, number_up_to-decimal}
+use Rattle.made_inputs.proofs.TextLemmas.{fields_of, RowsFit}
+use Rattle.made_inputs.proofs.FleetLemmas.{drawn_small}
+
+-- the row of a command of this round, which is accepted behind a row of this round or an earlier one
+pub record IsLine (round : ℕ) (row : List Field) : Type 0 where
+  pub long : length row ≡ 7
+  pub fits : AllFit row
+  pub lane : ℕ
+  pub command : Command
+  pub given : (number last : ℕ) → last ≤ round → line_in One number last (fields_of row) ≡ Ok (record { round = round; lane = lane; command = command })
+
+-- rows of commands whose rounds never fall, from one round on and up to another
+abbrev pub AreLines : ℕ → ℕ → List (List Field) → Type 0
+AreLines low high [] = low ≤ high
+AreLines low high (row ∷ rows) = (round : ℕ) × (low ≤ round) × IsLine round row × AreLines round high rows
+
+AreLines-lower : (low mid high : ℕ) (rows : List (List Field)) → low ≤ mid → AreLines mid high rows → AreLines low high rows
+AreLines-lower low mid high [] below lines = omega arith
+AreLines-lower low mid high (row ∷ rows) below lines = (lines.0, omega (arith, lines.1), lines.2, lines.3)
+
+AreLines-append : (low mid high : ℕ) (xs ys : List (List Field)) → AreLines low mid xs → AreLines mid high ys → AreLines low high (xs ++ ys)
+AreLines-append low mid high [] ys left right = AreLines-lower low mid high ys left right
+AreLines-append low mid high (row ∷ xs) ys left right = (left.0, left.1, left.2, AreLines-append left.0 mid high xs ys left.3 right)
+
+-- a part of so many such rows at the most
+pub record IsLines (low high most : ℕ) (part : Part) : Type 0 where
+  pub lines : (s : Stream) → AreLines low high (part s).0
+  pub few : (s : Stream) → length (part s).0 ≤ most
+
+IsLines-nothing : (low high most : ℕ) → low ≤ high → IsLines low high most nothing
+IsLines-nothing low high most below = record { lines = λ s. below; few = λ s. omega arith }
+
+IsLines-both : (low mid high m n : ℕ) (first second : Part) → IsLines low mid m first → IsLines mid high n second → IsLines low high (m + n) (both first second)
+IsLines-both low mid high m n first second here rest = record {
+  lines = λ s. AreLines-append low mid high (first s).0 (second (first s).1).0 (here.lines s) (rest.lines (first s).1);
+  few = λ s.
+      let one : length (first s).0 ≤ m = here.few s in
+      let two : length (second (first s).1).0 ≤ n = rest.few (first s).1 in
+      omega (arith, one, two, length-append (first s).0 (second (first s).1).0);
+}
+
+-- parts, each of which goes on at the round where the one before ended
+IsLines-each : (round : ℕ → ℕ) (most : ℕ) (parts : ℕ → Part) (n : ℕ) → ((k : ℕ) → k < n → IsLines (round k) (round (suc k)) most (parts k)) → IsLines (round 0) (round n) (n * most) (each parts n)
+IsLines-each round most parts zero all = record { lines = λ s. omega arith; few = λ s. omega arith }
+IsLines-each round most parts (suc n) all =
+    let before : IsLines (round 0) (round n) (n * most) (each parts n) = IsLines-each round most parts n (λ k below. all k (omega arith)) in
+    let here : IsLines (round n) (round (suc n)) most (parts n) = all n (omega arith) in
+    record {
+      lines = λ s. AreLines-append (round 0) (round n) (round (suc n)) (each parts n s).0 (parts n (each parts n s).1).0 (before.lines s) (here.lines (each parts n s).1);
+      few = λ s.
+          let one : length (each parts n s).0 ≤ n * most = before.few s in
+          let two : length (parts n (each parts n s).1).0 ≤ most = here.few (each parts n s).1 in
+          let size : suc n * most ≡ n * most + most = suc-mul n most in
+          omega (arith, one, two, size, length-append (each parts n s).0 (parts n (each parts n s).1).0);
+    }
+
+IsLines-cond : (low high most : ℕ) (c : Bool) (one other : Part) → IsLines low high most one → IsLines low high most other → IsLines low high most (cond c one other)
+IsLines-cond low high most true one other one_is other_is = one_is
+IsLines-cond low high most false one other one_is other_is = other_is
+
+-- a row alone
+one_line : (low round high : ℕ) (row : List Field) → low ≤ round → round ≤ high → IsLine round row → AreLines low high (row ∷ [])
+one_line low round high row below above line = (round, below, line, above)
+
+-- a vehicle's report is accepted
+report_given : (round vehicle node time number last : ℕ) → round ≤ 1000000000 → vehicle ≤ 1000000000 → node ≤ 1000000000 → time ≤ 1000000000 → last ≤ round
+    → line_in One number last (fields_of (field.Number round ∷ field.Number 0 ∷ field.Report ∷ field.Number vehicle ∷ field.Number node ∷ field.Number time ∷ field.Empty ∷ []))
+    ≡ Ok (record { round = round; lane = 0; command = command.Report vehicle node time })
+unfolding line_in number_in command_in report_in leaves_empty word_of
+report_given round vehicle node time number last round_small vehicle_small node_small time_small behind =
+    let one : number_up_to 1000000000 (decimal round) ≡ Some round = number_up_to-decimal 1000000000 round round_small (omega arith) in
+    let two : number_up_to 1000000000 (decimal 0) ≡ Some 0 = number_up_to-decimal 1000000000 0 (omega arith) (omega arith) in
+    let three : number_up_to 1000000000 (decimal vehicle) ≡ Some vehicle = number_up_to-decimal 1000000000 vehicle vehicle_small (omega arith) in
+    let four : number_up_to 1000000000 (decimal node) ≡ Some node = number_up_to-decimal 1000000000 node node_small (omega arith) in
+    let five : number_up_to 1000000000 (decimal time) ≡ Some time = number_up_to-decimal 1000000000 time time_small (omega arith) in
+    rw (one, two, three, four, five, le-ltb round last behind) refl
+
+-- a request is accepted
+submit_given : (round lane rider origin destination time number last : ℕ) → round ≤ 1000000000 → lane ≤ 15 → rider ≤ 1000000000 → origin ≤ 1000000000 → destination ≤ 1000000000 → time ≤ 1000000000 → last ≤ round
+    → line_in One number last (fields_of (field.Number round ∷ field.Number lane ∷ field.Submit ∷ field.Number rider ∷ field.Number origin ∷ field.Number destination ∷ field.Number time ∷ []))
+    ≡ Ok (record { round = round; lane = lane; command = command.Submit rider origin destination time 1 })
+unfolding line_in number_in command_in submit_in party_in leaves_empty word_of
+submit_given round lane rider origin destination time number last round_small lane_small rider_small origin_small destination_small time_small behind =
+    let one : number_up_to 1000000000 (decimal round) ≡ Some round = number_up_to-decimal 1000000000 round round_small (omega arith) in
+    let two : number_up_to 1000000000 (decimal lane) ≡ Some lane = number_up_to-decimal 1000000000 lane (omega arith) (omega arith) in
+    let three : number_up_to 1000000000 (decimal rider) ≡ Some rider = number_up_to-decimal 1000000000 rider rider_small (omega arith) in
+    let four : number_up_to 1000000000 (decimal origin) ≡ Some origin = number_up_to-decimal 1000000000 origin origin_small (omega arith) in
+    let five : number_up_to 1000000000 (decimal destination) ≡ Some destination = number_up_to-decimal 1000000000 destination destination_small (omega arith) in
+    let six : number_up_to 1000000000 (decimal time) ≡ Some time = number_up_to-decimal 1000000000 time time_small (omega arith) in
+    rw (one, two, three, four, five, six, le-ltb 15 lane lane_small, le-ltb round last behind) refl
+
+-- a seal is accepted
+seal_given : (round now number last : ℕ) → round ≤ 1000000000 → now ≤ 1000000000 → last ≤ round
+    → line_in One number last (fields_of (field.Number round ∷ field.Number 0 ∷ field.Seal ∷ field.Number now ∷ field.Empty ∷ field.Empty ∷ field.Empty ∷ []))
+    ≡ Ok (record { round = round; lane = 0; command = command.Seal now })
+unfolding line_in number_in command_in leaves_empty word_of
+seal_given round now number last round_small now_small behind =
+    let one : number_up_to 1000000000 (decimal round) ≡ Some round = number_up_to-decimal 1000000000 round round_small (omega arith) in
+    let two : number_up_to 1000000000 (decimal 0) ≡ Some 0 = number_up_to-decimal 1000000000 0 (omega arith) (omega arith) in
+    let three : number_up_to 1000000000 (decimal now) ≡ Some now = number_up_to-decimal 1000000000 now now_small (omega arith) in
+    rw (one, two, three, le-ltb round last behind) refl
+
+-- the reports of a batch
+IsLines-report : (shape : LoadShape) (k v : ℕ) → 2 ≤ shape.side → shape.side ≤ 100 → k < 100 → v ≤ 500 → IsLines (2 * k) (2 * k) 1 (report_row shape k v)
+unfolding report_row
+IsLines-report shape k v two small early few = record {
+  lines = λ s.
+      let node : ℕ = (drawn_node shape.side s).0 in
+      let node_small : node ≤ 1000000000 = drawn_small shape.side s two small in
+      one_line (2 * k) (2 * k) (2 * k) (field.Number (2 * k) ∷ field.Number 0 ∷ field.Report ∷ field.Number v ∷ field.Number node ∷ field.Number (60 * k) ∷ field.Empty ∷ []) (omega arith) (omega arith)
+      (record {
+        long = refl;
+        fits = (omega arith, (omega arith, (tt, (omega arith, (node_small, (omega arith, (tt, tt)))))));
+        lane = 0;
+        command = command.Report v node (60 * k);
+        given = λ number last behind. report_given (2 * k) v node (60 * k) number last (omega arith) (omega arith) node_small (omega arith) behind;
+      });
+  few = λ s. omega arith;
+}
+
+IsLines-reports : (shape : LoadShape) (k : ℕ) → 2 ≤ shape.side → shape.side ≤ 100 → shape.vehicles ≤ 500 → k < 100 → IsLines (2 * k) (2 * k) (shape.vehicles * 1) (reports shape k)
+unfolding reports all_reports
+IsLines-reports shape k two small few early =
+    IsLines-cond (2 * k) (2 * k) (shape.vehicles * 1) (ltb 0 k) (each (λ n. report_row shape k (n + 1)) shape.vehicles) nothing
+    (IsLines-each (λ n. 2 * k) 1 (λ n. report_row shape k (n + 1)) shape.vehicles (λ n below. IsLines-report shape k (n + 1) two small early (omega arith)))
+    (IsLines-nothing (2 * k) (2 * k) (shape.vehicles * 1) (omega arith))
+
+other_small_by : (origin n : ℕ) (c : Bool) → cond c n (n + 1) ≤ n + 1
+other_small_by origin n true = omega arith
+other_small_by origin n false = omega arith
+
+-- the requests of a batch
+IsLines-submit : (shape : LoadShape) (k m : ℕ) → 2 ≤ shape.side → shape.side ≤ 100 → shape.riders ≤ 1000 → k < 100 → m ≤ 1000 → IsLines (2 * k) (2 * k) 1 (submit_row shape k m)
+unfolding submit_row draw
+IsLines-submit shape k m two small few early within = record {
+  lines = λ s.
+      let least : 2 * 2 ≤ shape.side * shape.side = mul-le-mul two two in
+      let most : shape.side * shape.side ≤ 100 * 100 = mul-le-mul small small in
+      let origin : ℕ = (drawn_node shape.side s).0 in
+      let origin_small : origin ≤ 1000000000 = drawn_small shape.side s two small in
+      let rest : Stream = (drawn_node shape.side s).1 in
+      let drawn : ℕ = (next_u64 rest).0 % (shape.side * shape.side - 1) in
+      let drawn_below : drawn < shape.side * shape.side - 1 = mod_below (next_u64 rest).0 (shape.side * shape.side - 1) (omega (arith, least)) in
+      let destination : ℕ = other_than origin (1 + drawn) in
+      let destination_most : destination ≤ 1 + drawn + 1 = other_small_by origin (1 + drawn) (ltb (1 + drawn) origin) in
+      let destination_small : destination ≤ 1000000000 = omega (arith, destination_most, drawn_below, most) in
+      let later : Stream = (next_u64 rest).1 in
+      let second : ℕ = (next_u64 later).0 % 60 in
+      let second_below : second < 60 = mod_below (next_u64 later).0 60 (omega arith) in
+      let third : m % 3 < 3 = mod_below m 3 (omega arith) in
+      let ids : k * shape.riders ≤ 100 * 1000 = mul-le-mul (let low : k ≤ 100 = omega arith in low) few in
+      one_line (2 * k) (2 * k) (2 * k)
+      (field.Number (2 * k) ∷ field.Number (1 + m % 3) ∷ field.Submit ∷ field.Number (k * shape.riders + m) ∷ field.Number origin ∷ field.Number destination ∷ field.Number (60 * k + second) ∷ []) (omega arith) (omega arith)
+      (record {
+        long = refl;
+        fits = (omega arith, (omega (arith, third), (tt, (omega (arith, ids), (origin_small, (destination_small, (omega (arith, second_below), tt)))))));
+        lane = 1 + m % 3;
+        command = command.Submit (k * shape.riders + m) origin destination (60 * k + second) 1;
+        given = λ number last behind.
+            submit_given (2 * k) (1 + m % 3) (k * shape.riders + m) origin destination (60 * k + second) number last (omega arith) (omega (arith, third)) (omega (arith, ids)) origin_small destination_small
+            (omega (arith, second_below)) behind;
+      });
+  few = λ s. omega arith;
+}
+
+IsLines-submits : (shape : LoadShape) (k : ℕ) → 2 ≤ shape.side → shape.side ≤ 100 → shape.riders ≤ 1000 → k < 100 → IsLines (2 * k) (2 * k) (shape.riders * 1) (submits shape k)
+unfolding submits
+IsLines-submits shape k two small few early =
+    IsLines-each (λ n. 2 * k) 1 (λ n. submit_row shape k (n + 1)) shape.riders (λ n below. IsLines-submit shape k (n + 1) two small few early (omega arith))
+
+-- the seal of a batch, before the round of the next
+IsLines-seal : (k : ℕ) → k < 100 → IsLines (2 * k) (2 * suc k) 1 (plain (seal_row k ∷ []))
+IsLines-seal k early = record {
+  lines = λ s.
+      one_line (2 * k) (2 * k + 1) (2 * suc k) (seal_row k) (omega arith) (omega arith)
+      (record {
+        long = refl;
+        fits = (omega arith, (omega arith, (tt, (omega arith, (tt, (tt, (tt, tt)))))));
+        lane = 0;
+        command = command.Seal (60 * (k + 1));
+        given = λ number last behind. seal_given (2 * k + 1) (60 * (k + 1)) number last (omega arith) (omega arith) behind;
+      });
+  few = λ s. omega arith;
+}
+
+IsLines-batch : (shape : LoadShape) (k : ℕ) → 2 ≤ shape.side → shape.side ≤ 100 → shape.vehicles ≤ 500 → shape.riders ≤ 1000 → k < 100 → IsLines (2 * k) (2 * suc k) (shape.vehicles * 1 + (shape.riders * 1 + 1)) (batch_rows shape k)
+unfolding batch_rows
+IsLines-batch shape k two small vehicles riders early =
+    IsLines-both (2 * k) (2 * k) (2 * suc k) (shape.vehicles * 1) (shape.riders * 1 + 1) (reports shape k) (both (submits shape k) (plain (seal_row k ∷ [])))
+    (IsLines-reports shape k two small vehicles early)
+    (IsLines-both (2 * k) (2 * k) (2 * suc k) (shape.riders * 1) 1 (submits shape k) (plain (seal_row k ∷ [])) (IsLines-submits shape k two small riders early) (IsLines-seal k early))
+
+IsLines-script : (shape : LoadShape) → 2 ≤ shape.side → shape.side ≤ 100 → shape.vehicles ≤ 500 → shape.riders ≤ 1000 → shape.rounds ≤ 100 → IsLines 0 (2 * shape.rounds) (shape.rounds * (shape.vehicles * 1 + (shape.riders * 1 + 1))) (script_part shape)
+unfolding script_part
+IsLines-script shape two small vehicles riders rounds =
+    IsLines-each (λ k. 2 * k) (shape.vehicles * 1 + (shape.riders * 1 + 1)) (batch_rows shape) shape.rounds (λ k below. IsLines-batch shape k two small vehicles riders (omega arith))
+
+rows_fit : (low high : ℕ) (rows : List (List Field)) → AreLines low high rows → RowsFit 7 rows
+rows_fit low high [] lines = tt
+rows_fit low high (row ∷ rows) lines =
+    let line : IsLine lines.0 row = lines.2 in
+    (line.long, line.fits, rows_fit lines.0 high rows lines.3)
+
+-- what is accepted stays so where it is only changed
+then_ok : {A B : Type 0} (r : Result A ScriptFault) (f : A → B) → is_ok (r >>= λ x. Ok (f x)) ≡ is_ok r
+then_ok (Ok x) f = refl
+then_ok (Err fault) f = refl
+
+-- a first that is accepted, and then the rest
+first_ok : {A B C : Type 0} (r : Result A ScriptFault) (x : A) (next : A → Result B ScriptFault) (f : A → B → C) → r ≡ Ok x → is_ok (next x) ≡ true → is_ok (r >>= λ y. (next y >>= λ z. Ok (f y z))) ≡ true
+first_ok r x next f is rest = ap (λ q. is_ok (q >>= λ y. (next y >>= λ z. Ok (f y z)))) is ∙ then_ok (next x) (f x) ∙ rest
+
+the_ok : {A : Type 0} (r : Result A ScriptFault) → is_ok r ≡ true → (x : A) × (r ≡ Ok x)
+the_ok (Ok x) is = (x, refl)
+the_ok (Err fault) is = absurd (false≢true is)
+
+-- rows of commands whose rounds never fall are accepted
+lines_given : (number low high : ℕ) (rows : List (List Field)) → AreLines low high rows → is_ok (lines_in One number low (map fields_of rows)) ≡ true
+lines_given number low high [] lines = refl
+lines_given number low high (row ∷ rows) lines =
+    let line : IsLine lines.0 row = lines.2 in
+    first_ok (line_in One number low (fields_of row)) (record { round = lines.0; lane = line.lane; command = line.command })
+    (λ l. lines_in One (number + 1) l.round (map fields_of rows)) (λ l ls. l ∷ ls) (line.given number low lines.1)
+    (lines_given (number + 1) lines.0 high rows lines.3)
+
+-- the rounds that rows give
+pub record GiveScript (records : List (List (List ℕ))) : Type 0 where
+  pub rounds : List NumberedLanes
+  pub is : script_of One records ≡ Ok rounds
+
+script_given : (high : ℕ) (rows : List (List Field)) → AreLines 0 high rows → length rows ≤ 200000 → GiveScript (map fields_of rows)
+script_given high rows lines few =
+    let records : List (List (List ℕ)) = map fields_of rows in
+    let size : length records ≡ length rows = length-map rows fields_of in
+    let accepted : is_ok (script_of One records) ≡ true =
+    ap (λ b. is_ok (cond b (Err TooManyRows) (lines_in One 1 0 records >>= λ ls. Ok (rounds_of ls)))) (le-ltb 200000 (length records) (omega (arith, size, few)))
+    ∙ then_ok (lines_in One 1 0 records) (λ ls. rounds_of ls)
+    ∙ lines_given 1 0 high rows lines in
+    let given = the_ok (script_of One records) accepted in
+    record { rounds = given.0; is = given.1 }
+
+-- the rows of the script of a shape
+abbrev pub script_rows : LoadShape → List (List Field)
+script_rows shape = (script_part shape (fleet_part shape (network_part shape (draws_of shape.seed)).1).1).0
+
+-- the rows of a shape's script give its rounds
+pub script_accepted : (shape : LoadShape) → 2 ≤ shape.side → shape.side ≤ 100 → shape.vehicles ≤ 500 → shape.riders ≤ 1000 → shape.rounds ≤ 100 → RowsFit 7 (script_rows shape) × GiveScript (map fields_of (script_rows shape))
+script_accepted shape two small vehicles riders rounds =
+    let is : IsLines 0 (2 * shape.rounds) (shape.rounds * (shape.vehicles * 1 + (shape.riders * 1 + 1))) (script_part shape) = IsLines-script shape two small vehicles riders rounds in
+    let draws : Stream = (fleet_part shape (network_part shape (draws_of shape.seed)).1).1 in
+    let lines : AreLines 0 (2 * shape.rounds) (script_rows shape) = is.lines draws in
+    let count : length (script_rows shape) ≤ shape.rounds * (shape.vehicles * 1 + (shape.riders * 1 + 1)) = is.few draws in
+    let batch : shape.vehicles * 1 + (shape.riders * 1 + 1) ≤ 1501 = omega (arith, vehicles, riders) in
+    let most : shape.rounds * (shape.vehicles * 1 + (shape.riders * 1 + 1)) ≤ 100 * 1501 = mul-le-mul rounds batch in
+    (rows_fit 0 (2 * shape.rounds) (script_rows shape) lines, script_given (2 * shape.rounds) (script_rows shape) lines (omega (arith, count, most)))

@@ -1,0 +1,4 @@
+pub mod LockedLemmas
+pub mod FinishLemmas
+pub mod LaneLemmas
+pub mod PassLemmas

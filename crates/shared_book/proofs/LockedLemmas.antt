@@ -1,0 +1,129 @@
+-- The calls in a book's journal, entry by entry.
+use Rattle.std.proofs.Common.{◌≡◌, ℕ, suc, Bool, true, false, List, [], ◌∷◌, ◌++◌, length, Option, Some, None, refl, sym, ap, subst, ◌∙◌}
+use Rattle.std.specs.Prelude.{All, is_some}
+use Rattle.batch_snapshot.specs.Batch.{Batch}
+use Rattle.batch_snapshot.specs.Points.{named_nodes}
+use Rattle.request_book.specs.Book.{BookView, IsApplied, IsBook, would_seal, batch_unless}
+use Rattle.request_book.specs.Consistent.{IsNode, NamesNodes}
+use Rattle.request_book.specs.Closing.{closed_state}
+use Rattle.request_book.specs.Replay.{state_after}
+use Rattle.request_book.specs.Sealing.{batch_of, one_more, sealed_state}
+use Rattle.request_book.specs.State.{find_rider}
+use Rattle.request_book.specs.Step.{answer, rider_becomes, vehicle_becomes, stands_at, picked_up, dropped_off, seal_refusal, submit_step, cancel_step, report_step, pickup_step, dropoff_step, seal_step, close_step, step}
+use Rattle.request_book.specs.declared.command.Command.{Command}
+use Rattle.request_book.specs.declared.command.Command.TheVariants.{Submit, Cancel, Report, Pickup, Dropoff, Seal, Close}
+use Rattle.request_book.specs.declared.journal.Entry.{Entry}
+use Rattle.request_book.specs.declared.reply.BookRefusal.{BookRefusal}
+use Rattle.request_book.specs.declared.reply.Reply.{Reply}
+use Rattle.request_book.specs.declared.reply.Reply.TheVariants.{Accepted, Cancelled, Placed, Picked, Dropped, Sealed, Closed, Refused}
+use Rattle.request_book.specs.declared.state.State.{State}
+use Rattle.seat_lock.specs.declared.logged.Entry.{Entry as Logged}
+use Rattle.shared_book.specs.Locked.{is_light, is_sealed, snapshot_after, snapshot_before, call_of, calls_from, log_of, root_of, Fits}
+
+module _ (nodes : List ℕ) (wait : ℕ) where
+  -- one more entry is one more call
+  pub calls-push : (s : State) (es : List Entry) (e : Entry) → calls_from nodes wait s (es ++ e ∷ []) ≡ calls_from nodes wait s es ++ call_of (step nodes wait (state_after nodes wait s es) e.command).0 e ∷ []
+  unfolding calls_from state_after
+  calls-push s [] e = refl
+  calls-push s (f ∷ es) e = ap (λ l. call_of (step nodes wait s f.command).0 f ∷ l) (calls-push (step nodes wait s f.command).0 es e)
+
+  pub calls-length : (s : State) (es : List Entry) → length (calls_from nodes wait s es) ≡ length es
+  unfolding calls_from
+  calls-length s [] = refl
+  calls-length s (e ∷ es) = ap suc (calls-length (step nodes wait s e.command).0 es)
+
+-- only a seal is answered with a batch
+answer-none : (s next : State) (o : Option BookRefusal) (reply : Reply) → ((t : State) → snapshot_after reply t ≡ None) → snapshot_after (answer s o reply next).1 (answer s o reply next).0 ≡ None
+answer-none s next None reply none = none next
+answer-none s next (Some refusal) reply none = refl
+
+answer-sealed : (wait : ℕ) (s : State) (now : ℕ) (o : Option BookRefusal) → snapshot_after (answer s o (Sealed (one_more s.batches)) (sealed_state wait s now)).1 (answer s o (Sealed (one_more s.batches)) (sealed_state wait s now)).0 ≡ batch_unless o (batch_of wait s now)
+unfolding sealed_state
+answer-sealed wait s now None = refl
+answer-sealed wait s now (Some refusal) = refl
+
+-- the batch that a command seals is the one that it would seal
+pub step-snapshot : (nodes : List ℕ) (wait : ℕ) (s : State) (command : Command) → snapshot_after (step nodes wait s command).1 (step nodes wait s command).0 ≡ snapshot_before wait s command
+unfolding step submit_step cancel_step report_step pickup_step dropoff_step seal_step close_step
+step-snapshot nodes wait s (Submit rider origin destination time party) = answer-none s _ _ Accepted (λ t. refl)
+step-snapshot nodes wait s (Cancel rider) = answer-none s _ _ Cancelled (λ t. refl)
+step-snapshot nodes wait s (Report vehicle node time) = answer-none s _ _ Placed (λ t. refl)
+step-snapshot nodes wait s (Pickup vehicle rider time) = answer-none s _ _ Picked (λ t. refl)
+step-snapshot nodes wait s (Dropoff vehicle rider time) = answer-none s _ _ Dropped (λ t. refl)
+step-snapshot nodes wait s (Seal now) = answer-sealed wait s now (seal_refusal s now)
+step-snapshot nodes wait s (Close batch outcome) = answer-none s _ _ Closed (λ t. refl)
+
+-- a command that was applied is one more call
+pub applied-call : (old new : BookView) (lane : ℕ) (command : Command) (reply : Reply) (snapshot : Option Batch)
+    → IsBook old → IsApplied old lane command reply new → snapshot ≡ snapshot_before old.wait old.state command
+    → log_of new ≡ log_of old ++ (record { lane = lane; call = command; reply = record { reply = reply; snapshot = snapshot } }) ∷ []
+applied-call old new lane command reply snapshot book applied is =
+    let e : Entry = record { lane = lane; command = command; reply = reply } in
+    let call : Option Batch → Logged _ _ = λ o. record { lane = lane; call = command; reply = record { reply = reply; snapshot = o } } in
+    let after : State = state_after old.nodes old.wait old.base old.entries in
+    let made : (new.state, reply) ≡ step old.nodes old.wait after command = applied.stepped ∙ ap (λ s. step old.nodes old.wait s command) book.state in
+    let shown : snapshot_after reply (step old.nodes old.wait after command).0 ≡ snapshot =
+    ap (λ p. snapshot_after p (step old.nodes old.wait after command).0) (ap (λ p. p.1) made)
+    ∙ step-snapshot old.nodes old.wait after command
+    ∙ ap (λ s. snapshot_before old.wait s command) (sym book.state)
+    ∙ sym is in
+    (λ i. calls_from (applied.nodes i) (applied.wait i) (applied.base i) (applied.entries i))
+    ∙ calls-push old.nodes old.wait old.base old.entries e
+    ∙ ap (λ o. log_of old ++ call o ∷ []) shown
+
+pub same-root : (old new : BookView) → new.nodes ≡ old.nodes → new.wait ≡ old.wait → new.first ≡ old.first → new.base ≡ old.base → root_of new ≡ root_of old
+same-root old new nodes wait first base = λ i. record { nodes = nodes i; wait = wait i; first = first i; base = base i }
+
+-- a reply goes with the root and the command
+not-sealed : (s next : State) (o : Option BookRefusal) (reply : Reply) → is_sealed reply ≡ false → false ≡ is_sealed (answer s o reply next).1
+not-sealed s next None reply e = sym e
+not-sealed s next (Some refusal) reply e = refl
+
+pub step-sealed : (nodes : List ℕ) (wait : ℕ) (s : State) (command : Command) → is_some (snapshot_before wait s command) ≡ is_sealed (step nodes wait s command).1
+unfolding step submit_step cancel_step report_step pickup_step dropoff_step seal_step close_step
+step-sealed nodes wait s (Submit rider origin destination time party) = not-sealed s _ _ Accepted refl
+step-sealed nodes wait s (Cancel rider) = not-sealed s _ _ Cancelled refl
+step-sealed nodes wait s (Report vehicle node time) = not-sealed s _ _ Placed refl
+step-sealed nodes wait s (Pickup vehicle rider time) = not-sealed s _ _ Picked refl
+step-sealed nodes wait s (Dropoff vehicle rider time) = not-sealed s _ _ Dropped refl
+step-sealed nodes wait s (Seal now) = by (seal_refusal s now)
+  where
+    by : (o : Option BookRefusal) → is_some (batch_unless o (batch_of wait s now)) ≡ is_sealed (answer s o (Sealed (one_more s.batches)) (sealed_state wait s now)).1
+    by None = refl
+    by (Some refusal) = refl
+step-sealed nodes wait s (Close batch outcome) = not-sealed s _ _ Closed refl
+
+-- where a command seals a batch, it is a seal, the reply has the batch's number, and the batch stands sealed
+pub record HasSealed (command : Command) (after : State × Reply) (b : Batch) : Type 0 where
+  pub seals : is_light command ≡ false
+  pub numbered : after.1 ≡ Sealed b.number
+  pub stands : after.0.sealed ≡ Some b
+
+pub step-seals : (nodes : List ℕ) (wait : ℕ) (s : State) (command : Command) (b : Batch) → snapshot_before wait s command ≡ Some b → HasSealed command (step nodes wait s command) b
+unfolding step seal_step batch_of sealed_state
+step-seals nodes wait s (Submit rider origin destination time party) b e = absurd cc
+step-seals nodes wait s (Cancel rider) b e = absurd cc
+step-seals nodes wait s (Report vehicle node time) b e = absurd cc
+step-seals nodes wait s (Pickup vehicle rider time) b e = absurd cc
+step-seals nodes wait s (Dropoff vehicle rider time) b e = absurd cc
+step-seals nodes wait s (Seal now) b e = by (seal_refusal s now) e
+  where
+    by : (o : Option BookRefusal) → batch_unless o (batch_of wait s now) ≡ Some b → HasSealed (Seal now) (answer s o (Sealed (one_more s.batches)) (sealed_state wait s now)) b
+    by None f = let is : batch_of wait s now ≡ b = cc in record { seals = refl; numbered = ap (λ t. Sealed t.number) is; stands = f }
+    by (Some refusal) f = absurd cc
+step-seals nodes wait s (Close batch outcome) b e = absurd cc
+
+pub applied-fits : (old new : BookView) (lane : ℕ) (command : Command) (reply : Reply) (snapshot : Option Batch)
+    → IsBook new → IsApplied old lane command reply new → snapshot ≡ snapshot_before old.wait old.state command
+    → Fits old.nodes command (record { reply = reply; snapshot = snapshot })
+applied-fits old new lane command reply snapshot book applied is =
+    let after = step old.nodes old.wait old.state command in
+    let told : reply ≡ after.1 = ap (λ p. p.1) applied.stepped in
+    let state : new.state ≡ after.0 = ap (λ p. p.0) applied.stepped in
+    let sealed : (b : Batch) → snapshot ≡ Some b → HasSealed command after b = λ b e. step-seals old.nodes old.wait old.state command b (sym is ∙ e) in
+    record {
+      sealed = ap is_some is ∙ step-sealed old.nodes old.wait old.state command ∙ ap is_sealed (sym told);
+      named = λ b e. subst (λ nodes. All (IsNode nodes) (named_nodes b)) applied.nodes (book.named.sealed b (ap (λ (t : State). t.sealed) state ∙ (sealed b e).stands));
+      numbered = λ b e. told ∙ (sealed b e).numbered;
+      seals = λ b e. (sealed b e).seals;
+    }

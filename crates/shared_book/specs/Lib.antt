@@ -1,0 +1,3 @@
+pub mod Locked
+pub mod Shared
+pub mod Lanes

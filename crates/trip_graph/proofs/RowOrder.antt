@@ -1,0 +1,129 @@
+-- The rows stand by vehicle, then size, then riders.
+use Rattle.std.proofs.Common.{◌≡◌, ℕ, suc, ◌+◌, ◌-◌, ◌<◌, ◌≤◌, inl, inr, List, [], ◌∷◌, ◌++◌, length, get_or, map, refl, sym, ◌∙◌, subst, arith, Ordering}
+use Rattle.std.specs.declared.cmp.Ordering.TheVariants.{Less, Equal, Greater}
+use Rattle.std.specs.Ordering.{MatchOrdering, nat_cmp}
+use Rattle.std.specs.Cmp.{nat_cmp_is}
+use Rattle.std.specs.Cmp.Lexicographic.{slice_cmp}
+use Rattle.std.specs.List.{All}
+use Rattle.std.proofs.lemmas.Bool.{cases_lt}
+use Rattle.std.proofs.lemmas.List.{length-map, length-append, get_or_append_left, get_or-append_right, get_or-map}
+use Rattle.std.proofs.lemmas.List.Elements.{All-append, All-nil}
+use Rattle.std.proofs.lemmas.List.Concat.{flat_map-cons}
+use Rattle.stop_orders.specs.declared.settled.Settled.{Settled}
+use Rattle.plan_rules.specs.declared.row.TripRow.{TripRow}
+use Rattle.plan_rules.specs.Graph.{no_row, row_cmp}
+use Rattle.trip_growth.specs.declared.trip_of.TripOf.{TripOf}
+use Rattle.trip_growth.specs.Trip.{IsLower, ComesBefore}
+use Rattle.trip_growth.specs.Rows.{AreRowsOfSize}
+use Rattle.trip_growth.proofs.TripOrder.{lower_irrefl, lower_asym}
+use Rattle.trip_growth.proofs.TripSearch.{compared}
+use Rattle.trip_graph.specs.Rows.{trip_row, vehicle_rows}
+use Rattle.trip_graph.specs.Levels.{AreLevels}
+
+-- each row stands before all later ones
+abbrev pub AreInOrder : List TripRow → Type 0
+AreInOrder rows = (i j : ℕ) → i < j → j < length rows → row_cmp (get_or rows i no_row) (get_or rows j no_row) ≡ Less
+
+less_cmp : (x y : ℕ) → x < y → nat_cmp x y ≡ Less
+less_cmp x y h = sym (nat_cmp_is x y Less h)
+
+same_cmp : (x y : ℕ) → x ≡ y → nat_cmp x y ≡ Equal
+same_cmp x y h = sym (nat_cmp_is x y Equal h)
+
+lower_cmp : (a b : List ℕ) → length a ≡ length b → IsLower a b → slice_cmp nat_cmp a b ≡ Less
+lower_cmp a b e low = by (slice_cmp nat_cmp a b) (compared a b e)
+  where
+    by : (o : Ordering) → MatchOrdering o (IsLower a b) (a ≡ b) (IsLower b a) → o ≡ Less
+    by Less h = refl
+    by Equal h = absurd (lower_irrefl b (subst (λ (x : List ℕ). IsLower x b) h low))
+    by Greater h = absurd (lower_asym a b low h)
+
+by_vehicle : (a b : TripRow) → a.vehicle < b.vehicle → row_cmp a b ≡ Less
+by_vehicle a b h = rw (less_cmp a.vehicle b.vehicle h) refl
+
+by_size : (a b : TripRow) → a.vehicle ≡ b.vehicle → length a.riders.items < length b.riders.items → row_cmp a b ≡ Less
+by_size a b e h = rw (same_cmp a.vehicle b.vehicle e, less_cmp (length a.riders.items) (length b.riders.items) h) refl
+
+by_riders : (a b : TripRow) → a.vehicle ≡ b.vehicle → length a.riders.items ≡ length b.riders.items → IsLower a.riders.items b.riders.items → row_cmp a b ≡ Less
+by_riders a b e s h = rw (same_cmp a.vehicle b.vehicle e, same_cmp (length a.riders.items) (length b.riders.items) s, lower_cmp a.riders.items b.riders.items s h) refl
+
+pub none_in_order : AreInOrder []
+none_in_order i j less lt = absurd (omega arith)
+
+-- rows in order behind rows in order that all stand before them
+pub join_in_order : (xs ys : List TripRow) → AreInOrder xs → AreInOrder ys
+    → ((i j : ℕ) → i < length xs → j < length ys → row_cmp (get_or xs i no_row) (get_or ys j no_row) ≡ Less) → AreInOrder (xs ++ ys)
+join_in_order xs ys first second across i j less lt =
+    let n = length-append xs ys in
+    elim (cases_lt j (length xs)) as (λ _. row_cmp (get_or (xs ++ ys) i no_row) (get_or (xs ++ ys) j no_row) ≡ Less) [
+      | inl low ↦ rw (get_or_append_left xs ys no_row i (omega arith), get_or_append_left xs ys no_row j low) (first i j less low)
+      | inr high ↦ elim (cases_lt i (length xs)) as (λ _. row_cmp (get_or (xs ++ ys) i no_row) (get_or (xs ++ ys) j no_row) ≡ Less) [
+        | inl low ↦ rw (get_or_append_left xs ys no_row i low, get_or-append_right xs ys (length xs) j no_row refl high) (across i (j - length xs) low (omega arith))
+        | inr ge ↦ rw (get_or-append_right xs ys (length xs) i no_row refl ge, get_or-append_right xs ys (length xs) j no_row refl high)
+            (second (i - length xs) (j - length xs) (omega arith) (omega arith))
+      ]
+    ]
+
+-- a row of the vehicle with at least so many riders
+record IsFrom (v size : ℕ) (row : TripRow) : Type 0 where
+  own : row.vehicle ≡ v
+  large : size ≤ length row.riders.items
+
+same_size : (a b : List ℕ) → length a ≡ length b → ComesBefore a b → IsLower a b
+same_size a b e (inl h) = absurd (omega arith)
+same_size a b e (inr h) = h.1
+
+module _ (tau : ℕ → ℕ → ℕ) (settled : Settled) (v : ℕ) where
+  no_trip : TripOf
+  no_trip = record { riders = record { items = [] }; cost = 0 }
+
+  level_in_order : (size : ℕ) (trips : List TripOf) → AreRowsOfSize tau settled v size trips → AreInOrder (map (trip_row v) trips)
+  level_in_order size trips level i j less lt =
+      let f : TripOf → List ℕ = λ row. row.riders.items in
+      let n = length-map trips (trip_row v) in
+      let m = length-map trips f in
+      let a = level.sized i no_trip (omega arith) in
+      let b = level.sized j no_trip (omega arith) in
+      let low : IsLower (get_or trips i no_trip).riders.items (get_or trips j no_trip).riders.items =
+      same_size _ _ (a ∙ sym b) (rw (get_or-map f trips i no_trip [] (omega arith), get_or-map f trips j no_trip [] (omega arith)) at (level.rising i j less (omega arith))) in
+      rw (get_or-map (trip_row v) trips i no_trip no_row (omega arith), get_or-map (trip_row v) trips j no_trip no_row (omega arith))
+      (by_riders (trip_row v (get_or trips i no_trip)) (trip_row v (get_or trips j no_trip)) refl (a ∙ sym b) low)
+
+  level_from : (least size : ℕ) (trips : List TripOf) → least ≤ size → AreRowsOfSize tau settled v size trips → All (IsFrom v least) (map (trip_row v) trips)
+  level_from least size trips le level k d lt =
+      let n = length-map trips (trip_row v) in
+      let sized = level.sized k no_trip (omega arith) in
+      rw (get_or-map (trip_row v) trips k no_trip d (omega arith)) (record { own = refl; large = omega arith })
+
+  -- a level is of one size, and the levels behind it have larger ones
+  levels_from : (least : ℕ) (levels : List (List (List TripOf))) → ((k : ℕ) → k < length levels → AreRowsOfSize tau settled v (least + k) (get_or (get_or levels k []) v []))
+      → AreInOrder (vehicle_rows levels v) × All (IsFrom v least) (vehicle_rows levels v)
+  levels_from least [] each = (none_in_order, All-nil (IsFrom v least))
+  levels_from least (lists ∷ levels) each =
+      let f : List (List TripOf) → List TripRow = λ ls. map (trip_row v) (get_or ls v []) in
+      let own : AreRowsOfSize tau settled v least (get_or lists v []) = subst (λ (n : ℕ). AreRowsOfSize tau settled v n (get_or lists v [])) (let e : least + 0 ≡ least = omega arith in e) (each 0 (omega arith)) in
+      let later : (k : ℕ) → k < length levels → AreRowsOfSize tau settled v (least + 1 + k) (get_or (get_or levels k []) v []) =
+      (λ k lt. subst (λ (n : ℕ). AreRowsOfSize tau settled v n (get_or (get_or levels k []) v [])) (let e : least + suc k ≡ least + 1 + k = omega arith in e) (each (suc k) (omega arith))) in
+      let rest = levels_from (least + 1) levels later in
+      let here = level_in_order least (get_or lists v []) own in
+      let low = level_from least least (get_or lists v []) (omega arith) own in
+      rw (flat_map-cons f lists levels) (
+        join_in_order (f lists) (vehicle_rows levels v) here rest.0
+            (λ i j lt less.
+            let n = length-map (get_or lists v []) (trip_row v) in
+            let sized = own.sized i no_trip (omega arith) in
+            let at = get_or-map (trip_row v) (get_or lists v []) i no_trip no_row (omega arith) in
+            let o = rest.1 j no_row less in
+            let large = o.large in
+            rw at (by_size (trip_row v (get_or (get_or lists v []) i no_trip)) (get_or (vehicle_rows levels v) j no_row) (sym o.own) (omega arith))),
+        All-append (IsFrom v least) (f lists) (vehicle_rows levels v) low (λ k d lt. let o = rest.1 k d lt in record { own = o.own; large = (let l = o.large in omega arith) }),
+      )
+
+-- the rows of one vehicle more
+pub more_in_order : (most : ℕ) (tau : ℕ → ℕ → ℕ) (settled : Settled) (v : ℕ) (levels : List (List (List TripOf))) (rows : List TripRow) → AreLevels tau settled (most + 1) levels → v < length settled.vehicles
+    → ((k : ℕ) → k < length rows → (get_or rows k no_row).vehicle < v) → AreInOrder rows → AreInOrder (rows ++ vehicle_rows levels v)
+more_in_order most tau settled v levels rows all less below before =
+    let own = levels_from tau settled v 0 levels
+    (λ k lt. let c = all.count in subst (λ (n : ℕ). AreRowsOfSize tau settled v n (get_or (get_or levels k []) v [])) (let e : k ≡ 0 + k = omega arith in e) ((all.each k (omega arith)).each v less)) in
+    join_in_order rows (vehicle_rows levels v) before own.0
+    (λ i j lt within. let b = below i lt in let o = (own.1 j no_row within).own in by_vehicle (get_or rows i no_row) (get_or (vehicle_rows levels v) j no_row) (omega arith))
