@@ -1,5 +1,5 @@
 -- The rows of a good graph name vehicles and riders that exist.
-use Rattle.std.proofs.Common.{◌≡◌, ℕ, ◌<◌, ◌≤◌, List, length, get_or, All, subst, sym}
+use Rattle.std.proofs.Common.{◌≡◌, ℕ, ◌<◌, ◌≤◌, length, get_or, All, subst}
 use Rattle.std.proofs.lemmas.List.{get_or_default}
 use Rattle.plan_rules.specs.declared.row.TripRow.{TripRow}
 use Rattle.plan_rules.specs.Graph.{Graph, IsGoodGraph, IsRow, no_row}

@@ -1,4 +1,4 @@
-use Rattle.std.proofs.Common.{◌≡◌, ℕ, List, All, Contains, map, sym, ap, ◌∙◌, subst}
+use Rattle.std.proofs.Common.{ℕ, List, All, Contains, map, sym, ap, ◌∙◌, subst}
 use Rattle.batch_snapshot.specs.Batch.{Batch}
 use Rattle.road_network.specs.Roads.{index_in}
 use Rattle.travel_times.specs.Table.{AreTravelTimes}
