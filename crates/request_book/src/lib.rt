@@ -20,6 +20,8 @@ mod riding;
 mod running;
 mod sealing;
 mod state;
+#[cfg(test)]
+mod tests;
 
 pub use book::Book;
 pub use command::Command;
