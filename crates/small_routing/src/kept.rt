@@ -19,6 +19,8 @@ pub struct Entry {
 pub struct Kept {
     pub entries: Vec<Entry>,
     heads: Vec<usize>,
+    /// How many chains the task has: a power of two, or 0.
+    chains: usize,
 }
 
 /// The room for labels that searches need, to be handed from one to the next.
@@ -34,6 +36,7 @@ impl Workspace {
             kept: Kept {
                 entries: Vec::new(alloc),
                 heads: Vec::new(alloc),
+                chains: 0,
             },
         }
     }
@@ -45,8 +48,8 @@ impl Kept {
         ensures { OnOk result (labels_of self.new ≡ []) }
     {
         self.entries.clear();
-        let chains = chain_count(stops);
-        for _chain in self.heads.len()..chains {
+        self.chains = chain_count(stops);
+        for _chain in self.heads.len()..self.chains {
             self.heads.push(usize::MAX)?;
         }
         Ok(())
@@ -87,10 +90,10 @@ impl Kept {
 
     /// The chain of the labels with these stops done; `usize::MAX` where there are no chains.
     fn chain_of(&self, done: Done) -> usize {
-        if self.heads.is_empty() {
+        if self.chains == 0 {
             return usize::MAX;
         }
-        done.hash() as usize % self.heads.len()
+        done.hash() as usize & (self.chains - 1)
     }
 
     /// The first entry of a chain. What an earlier task left there is none.

@@ -11,9 +11,9 @@ use stop_orders::{Done, Stop, Task, arrival, visit_of};
 #[derive(Clone, Copy, Debug)]
 pub struct Label {
     pub done: Done,
+    pub room: u32,
     pub place: usize,
     pub free: u64,
-    pub room: u32,
     pub delay: u64,
 }
 

@@ -5,7 +5,7 @@ ghost use Rattle.stop_orders.specs.Done.{left_count};
 ghost use Rattle.stop_orders.specs.Plain.{IsFound, NoneBetter};
 ghost use Rattle.small_routing.specs.Label.{IsRoutable, IsSmall, rider_count, passenger_count};
 ghost use Rattle.small_routing.specs.Kept.{labels_of};
-ghost use Rattle.small_routing.specs.Search.{LeadsTo, IsSettled, Searched};
+ghost use Rattle.small_routing.specs.Search.{LeadsTo, IsExhausted, IsSettled, Searched};
 
 use crate::ahead::look_ahead;
 use crate::candidate::candidates_after;
@@ -15,10 +15,34 @@ use arrayvec::ArrayVec;
 use pool_base::{OutOfMemory, Times};
 use stop_orders::{Route, Stop, Task};
 
-/// Tries all ways on from a label, depth first and the soonest stop first. A label is left where someone
-/// can't be served any more, where no way on can be better than what was found, or where a label from
-/// which all ways on were tried dominates it.
+/// Tries all ways on from a label, depth first and the soonest stop first, but for those from labels that
+/// are hopeless.
 pub fn search(
+    task: &Task,
+    times: &Times,
+    label: &Label,
+    path: &mut ArrayVec<Stop, 22>,
+    best: &mut Option<Route>,
+    kept: &mut Kept,
+) -> Result<(), OutOfMemory>
+    requires valid { IsRoutable (point_count times.now) task.now }
+    requires leads { LeadsTo (travel_time times.now) task.now path.old.items label.now }
+    requires small { IsSmall (point_count times.now) (left_count (rider_count task.now) (passenger_count task.now) label.now.done) label.now }
+    requires room { length path.old.items + left_count (rider_count task.now) (passenger_count task.now) label.now.done ≤ 22 }
+    requires found { IsFound (travel_time times.now) task.now best.old }
+    requires settled { All (IsSettled (point_count times.now) (travel_time times.now) task.now best.old) (labels_of kept.old) }
+    ensures path { OnOk result (path.new.items ≡ path.old.items) }
+    ensures searched { OnOk result (Searched (point_count times.now) (travel_time times.now) task.now label.now best.old best.new (labels_of kept.new)) }
+{
+    if is_hopeless(task, times, label, best, kept) {
+        return Ok(());
+    }
+    try_all(task, times, label, path, best, kept)
+}
+
+/// Tries all ways on from a label. Its candidates take much room on the stack, so a label is judged before
+/// the call and not in it.
+fn try_all(
     task: &Task,
     times: &Times,
     label: &Label,
@@ -44,23 +68,40 @@ pub fn search(
         }
         return Ok(());
     }
-    let Some(ahead) = look_ahead(task, times, label) else {
-        return Ok(());
-    };
-    if !is_better(label.delay + ahead, best) {
-        return Ok(());
-    }
-    if kept.dominates(times, label) {
-        return Ok(());
-    }
     let candidates = candidates_after(task, times, label);
     for candidate in candidates.as_slice() {
         let next = candidate.label;
+        if is_hopeless(task, times, &next, best, kept) {
+            continue;
+        }
         path.push(candidate.stop);
-        search(task, times, &next, path, best, kept)?;
+        try_all(task, times, &next, path, best, kept)?;
         path.pop();
     }
     kept.keep(*label)
+}
+
+/// Whether it is seen at once that no way on from a label is better than what was found: someone can't be
+/// served any more, or not with less delay, or a label from which all ways on were tried dominates it.
+fn is_hopeless(
+    task: &Task,
+    times: &Times,
+    label: &Label,
+    best: &Option<Route>,
+    kept: &Kept,
+) -> bool
+    requires valid { IsRoutable (point_count times.now) task.now }
+    requires small { IsSmall (point_count times.now) (left_count (rider_count task.now) (passenger_count task.now) label.now.done) label.now }
+    requires settled { All (IsSettled (point_count times.now) (travel_time times.now) task.now best.now) (labels_of kept.now) }
+    ensures { IsTrue result → IsExhausted (travel_time times.now) task.now best.now label.now }
+{
+    let Some(ahead) = look_ahead(task, times, label) else {
+        return true;
+    };
+    if !is_better(label.delay + ahead, best) {
+        return true;
+    }
+    kept.dominates(times, label)
 }
 
 /// Whether this delay is less than that of what was found.

@@ -1,6 +1,10 @@
+ghost use Rattle.std.specs.Prelude.{◌<◌};
+
 use crate::{are_known, times_between, times_by_repeated_relaxation};
 use pool_base::{NodeId, OutOfMemory, Times, put_number};
 use pool_io::rows;
+use rand_xoshiro::SplitMix64;
+use rand_xoshiro::rand_core::{Rng, SeedableRng};
 use road_network::{Network, read_network};
 use std::alloc::Global;
 use std::process::Abort;
@@ -80,46 +84,104 @@ fn grid(alloc: Global, side: u64) -> Result<Vec<u8>, Fail> {
         for column in 0..side {
             let node = row.wrapping_mul(side).wrapping_add(column).wrapping_add(1);
             if column.wrapping_add(1) < side {
-                put_arc(&mut text, node, node.wrapping_add(1))?;
+                put_grid_arc(&mut text, node, node.wrapping_add(1))?;
             }
             if row.wrapping_add(1) < side {
-                put_arc(&mut text, node, node.wrapping_add(side))?;
+                put_grid_arc(&mut text, node, node.wrapping_add(side))?;
             }
             if node % 3 == 0 && column > 0 {
-                put_arc(&mut text, node, node.wrapping_sub(1))?;
+                put_grid_arc(&mut text, node, node.wrapping_sub(1))?;
             }
         }
     }
     Ok(text)
 }
 
-fn put_arc(text: &mut Vec<u8>, from: u64, to: u64) -> Result<(), Fail> {
+fn put_grid_arc(text: &mut Vec<u8>, from: u64, to: u64) -> Result<(), OutOfMemory> {
+    let mixed = from
+        .wrapping_mul(7919)
+        .wrapping_add(to.wrapping_mul(104_729));
+    put_arc(text, from, to, mixed % 10_001)
+}
+
+/// The row of an arc.
+fn put_arc(text: &mut Vec<u8>, from: u64, to: u64, seconds: u64) -> Result<(), OutOfMemory> {
     put_number(text, from)?;
     text.push(b',')?;
     put_number(text, to)?;
     text.push(b',')?;
-    put_number(
-        text,
-        from.wrapping_mul(7919)
-            .wrapping_add(to.wrapping_mul(104_729))
-            % 10_001,
-    )?;
+    put_number(text, seconds)?;
     text.push(b'\n')?;
     Ok(())
 }
 
+/// The tables of all nodes by both versions are the same; `None` for want of memory or a refused file.
+fn versions_agree(rt: &(impl Threads + Sync), alloc: Global, text: &[u8]) -> Option<bool> {
+    let table = rows(alloc, text, b"from,to,seconds").ok()?;
+    let network = read_network(alloc, &table).ok()?;
+    let nodes = nodes_of(alloc, &network).ok()?;
+    let fast = fast(rt, alloc, &network, &nodes)?.ok()?;
+    let plain = plain(alloc, &network, &nodes)?.ok()?;
+    Some(fast.len() == nodes.len() && have_same_cells(&fast, &plain))
+}
+
+fn nodes_of(alloc: Global, network: &Network) -> Result<Vec<NodeId>, OutOfMemory> {
+    let mut nodes = Vec::new(alloc);
+    for index in 0..network.node_count() {
+        nodes.push(network.node_at(index))?;
+    }
+    Ok(nodes)
+}
+
+fn have_same_cells(one: &Times, other: &Times) -> bool {
+    if one.len() != other.len() {
+        return false;
+    }
+    for a in 0..one.len() {
+        for b in 0..one.len() {
+            if one.seconds(a, b) != other.seconds(a, b) {
+                return false;
+            }
+        }
+    }
+    true
+}
+
 #[test]
 fn threads_agree_with_repeated_relaxation(rt: HostRuntime) -> Result<(), Fail> {
-    let network = read(&rt, rt.alloc(), &grid(rt.alloc(), 15)?);
-    let nodes = nodes_to(rt.alloc(), &rt, 225)?;
-    let fast = fast(&rt, rt.alloc(), &network, &nodes).ok_or("an unknown node")??;
-    let plain = plain(rt.alloc(), &network, &nodes).ok_or("an unknown node")??;
-    assert_eq!(rt; fast.len(), 225);
-    assert_eq!(rt; plain.len(), 225);
-    for a in 0..225 {
-        for b in 0..225 {
-            assert_eq!(rt; fast.seconds(a, b), plain.seconds(a, b), "from {a} to {b}");
-        }
+    let text = grid(rt.alloc(), 15)?;
+    assert_eq!(rt; versions_agree(&rt, rt.alloc(), &text), Some(true));
+    Ok(())
+}
+
+/// A number below `most`.
+fn draw(draws: &mut SplitMix64, most: u64) -> u64
+    requires { 0 < most }
+    ensures { result < most }
+{
+    draws.next_u64() % most
+}
+
+/// A network of at most 8 nodes: one-way arcs, of no seconds too, from a node to itself too, several between the
+/// same two nodes, and at times too few to reach all.
+fn drawn(alloc: Global, draws: &mut SplitMix64) -> Result<Vec<u8>, OutOfMemory> {
+    let mut text = Vec::from_slice(alloc, b"from,to,seconds\n")?;
+    for _arc in 0..draw(draws, 20) {
+        let from = draw(draws, 8);
+        let to = draw(draws, 8);
+        let seconds = draw(draws, 3) * draw(draws, 3334);
+        put_arc(&mut text, from, to, seconds)?;
+    }
+    Ok(text)
+}
+
+#[test]
+fn drawn_networks_agree_with_repeated_relaxation(rt: HostRuntime) -> Result<(), Fail> {
+    assert_eq!(rt; versions_agree(&rt, rt.alloc(), TOWN), Some(true));
+    let mut draws = SplitMix64::seed_from_u64(4);
+    for _network in 0..300u32 {
+        let text = drawn(rt.alloc(), &mut draws)?;
+        assert_eq!(rt; versions_agree(&rt, rt.alloc(), &text), Some(true));
     }
     Ok(())
 }

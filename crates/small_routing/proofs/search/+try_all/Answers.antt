@@ -12,8 +12,8 @@ use Rattle.small_routing.specs.Label.{rider_count, passenger_count, IsSmall}
 use Rattle.small_routing.specs.Kept.{labels_of, IsPlaced}
 use Rattle.small_routing.specs.Search.{LeadsTo, IsCandidate, IsTried, IsSettled, Searched}
 use Rattle.small_routing.proofs.LabelLemmas.{small_next, leads_next}
-use Rattle.small_routing.proofs.SearchLemmas.{searched_better, searched_no_better, exhausted_none, exhausted_bound, exhausted_dominated, exhausted_tried, tried_searched, tries_more}
-use Rattle.small_routing.proofs.search.+search.Goals as goal
+use Rattle.small_routing.proofs.SearchLemmas.{searched_better, searched_no_better, exhausted_tried, tried_searched, tries_more}
+use Rattle.small_routing.proofs.search.+try_all.Goals as goal
 
 -- an element of the slice is one of the candidates
 candidate_at : (P : Candidate → Type 0) (items slice : List Candidate) (i : ℕ) (c : Candidate) → slice ≡ items → i < length slice → c ≡ get_or slice i c → All P items → P c
@@ -32,20 +32,36 @@ returns-then-is_better-clause-searched t c =
     searched_better (point_count c.args.times.now) (travel_time c.args.times.now) c.args.times.now.table.times task c.requires.valid c.args.path.now.items c.args.path.now.items label c.args.best.now
     (record { stops = c.copy_of.result; delay = label.delay }) (labels_of c.args.kept.now) c.requires.leads all same refl (λ n. true≢false (sym c.if-is_better.true ∙ c.is_better.ensures.1 n)) c.requires.settled
 
-pub returns-in_default-clause-searched : goal.returns-in_default-clause-searched
-returns-in_default-clause-searched t c =
-    searched_no_better (point_count c.args.times.now) (travel_time c.args.times.now) c.args.times.now.table.times c.args.task.now c.requires.valid c.args.label.now c.args.best.now (labels_of c.args.kept.now) c.requires.found
-    (exhausted_none (point_count c.args.times.now) (travel_time c.args.times.now) c.args.times.now.table.times c.args.task.now c.requires.valid c.args.label.now c.args.best.now c.in_default.ensures.none) c.requires.settled
+pub is_hopeless-requires-clause-small : goal.is_hopeless-requires-clause-small
+is_hopeless-requires-clause-small t c =
+    let task = c.args.task.now in
+    let label = c.args.label.now in
+    let tau = travel_time c.args.times.now in
+    let points = point_count c.args.times.now in
+    let s = c.candidate-item.result.stop in
+    let is = candidate_at (IsCandidate tau task label) c.candidates_after-candidates.result.items c.as_slice-candidate-items.result.now c.loop-candidate.candidate-index c.candidate-item.result
+    c.as_slice-candidate-items.ensures.value c.loop-candidate-test.true c.candidate-item.is c.candidates_after-candidates.ensures.each in
+    let fall = left_count-falls (rider_count task) (passenger_count task) label.done c.requires.valid.rider_count s is.next in
+    subst (λ l. IsSmall points (left_count (rider_count task) (passenger_count task) l.done) l) (sym is.after)
+    (small_next points tau c.args.times.now.table.times task c.requires.valid label s (left_count (rider_count task) (passenger_count task) label.done) (left_count (rider_count task) (passenger_count task) (with_stop label.done s)) c.requires.small fall is.next is.can)
 
-pub returns-then-not-is_better-clause-searched : goal.returns-then-not-is_better-clause-searched
-returns-then-not-is_better-clause-searched t c =
-    searched_no_better (point_count c.args.times.now) (travel_time c.args.times.now) c.args.times.now.table.times c.args.task.now c.requires.valid c.args.label.now c.args.best.now (labels_of c.args.kept.now) c.requires.found
-    (exhausted_bound (point_count c.args.times.now) (travel_time c.args.times.now) c.args.times.now.table.times c.args.task.now c.requires.valid c.args.label.now c.args.best.now c.in-Some.ahead c.in-Some.ensures.bound (c.is_better-2.ensures.0 c.if-not-is_better.true)) c.requires.settled
-
-pub returns-then-dominates-clause-searched : goal.returns-then-dominates-clause-searched
-returns-then-dominates-clause-searched t c =
-    searched_no_better (point_count c.args.times.now) (travel_time c.args.times.now) c.args.times.now.table.times c.args.task.now c.requires.valid c.args.label.now c.args.best.now (labels_of c.args.kept.now) c.requires.found
-    (exhausted_dominated (point_count c.args.times.now) (travel_time c.args.times.now) c.args.times.now.table.times c.args.task.now c.requires.valid c.args.label.now c.args.best.now (labels_of c.args.kept.now) (c.dominates.ensures c.if-dominates.true) c.requires.settled) c.requires.settled
+pub loop-candidate-preserved-then-is_hopeless : goal.loop-candidate-preserved-then-is_hopeless
+loop-candidate-preserved-then-is_hopeless t c =
+    let task = c.args.task.now in
+    let label = c.args.label.now in
+    let tau = travel_time c.args.times.now in
+    let points = point_count c.args.times.now in
+    let time = c.args.times.now.table.times in
+    let inv = c.loop-candidate.invariant in
+    let best = c.loop-candidate.best in
+    let labels = labels_of c.loop-candidate.kept in
+    let candidate = c.candidate-item.result in
+    let is = candidate_at (IsCandidate tau task label) c.candidates_after-candidates.result.items c.as_slice-candidate-items.result.now c.loop-candidate.candidate-index candidate
+    c.as_slice-candidate-items.ensures.value c.loop-candidate-test.true c.candidate-item.is c.candidates_after-candidates.ensures.each in
+    let searched = searched_no_better points tau time task c.requires.valid candidate.label best labels inv.found (c.is_hopeless.ensures c.if-is_hopeless.true) inv.settled in
+    let tried = tried_searched points tau time task c.requires.valid label candidate.label candidate.stop best best labels is.after searched in
+    tries_more points tau task label candidate.label c.args.path.now.items c.loop-candidate.path.items c.loop-candidate.path.items c.args.best.now best best labels labels
+    c.as_slice-candidate-items.result.now c.loop-candidate.candidate-index candidate c.loop-candidate-test.true c.candidate-item.is inv.same searched tried inv
 
 pub push-requires : goal.push-requires
 push-requires t c =
@@ -58,8 +74,8 @@ push-requires t c =
     let room : length c.loop-candidate.path.items < 22 = omega (arith, c.requires.room, fall, same) in
     (omega arith, room)
 
-pub search-requires : goal.search-requires
-search-requires t c =
+pub try_all-requires : goal.try_all-requires
+try_all-requires t c =
     let task = c.args.task.now in
     let label = c.args.label.now in
     let tau = travel_time c.args.times.now in
@@ -107,10 +123,10 @@ loop-candidate-preserved t c =
     let is = candidate_at (IsCandidate tau task label) c.candidates_after-candidates.result.items c.as_slice-candidate-items.result.now c.loop-candidate.candidate-index c.candidate-item.result
     c.as_slice-candidate-items.ensures.value c.loop-candidate-test.true c.candidate-item.is c.candidates_after-candidates.ensures.each in
     let pushed : c.push.new.self.items ≡ path ++ s ∷ [] = c.push.ensures.items ∙ ap (λ xs. xs ++ s ∷ []) c.loop-candidate.invariant.same in
-    let back = path_back path c.search.new.path.items c.pop.new.self.items s (c.in_ok-search.ensures.path ∙ pushed) c.pop.ensures.rest in
-    let searched = c.in_ok-search.ensures.searched in
-    let tried = tried_searched points tau time task c.requires.valid label candidate.label s c.loop-candidate.best c.search.new.best (labels_of c.search.new.kept) is.after searched in
-    tries_more points tau task label candidate.label path c.loop-candidate.path.items c.pop.new.self.items c.args.best.now c.loop-candidate.best c.search.new.best (labels_of c.loop-candidate.kept) (labels_of c.search.new.kept)
+    let back = path_back path c.try_all.new.path.items c.pop.new.self.items s (c.in_ok-try_all.ensures.path ∙ pushed) c.pop.ensures.rest in
+    let searched = c.in_ok-try_all.ensures.searched in
+    let tried = tried_searched points tau time task c.requires.valid label candidate.label s c.loop-candidate.best c.try_all.new.best (labels_of c.try_all.new.kept) is.after searched in
+    tries_more points tau task label candidate.label path c.loop-candidate.path.items c.pop.new.self.items c.args.best.now c.loop-candidate.best c.try_all.new.best (labels_of c.loop-candidate.kept) (labels_of c.try_all.new.kept)
     c.as_slice-candidate-items.result.now c.loop-candidate.candidate-index candidate c.loop-candidate-test.true c.candidate-item.is back searched tried c.loop-candidate.invariant
 
 pub returns-clause-searched : goal.returns-clause-searched

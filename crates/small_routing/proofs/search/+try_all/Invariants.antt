@@ -4,10 +4,10 @@ use Rattle.stop_orders.specs.Done.{left_count}
 use Rattle.small_routing.specs.Label.{rider_count, passenger_count}
 use Rattle.small_routing.specs.Kept.{labels_of}
 use Rattle.small_routing.proofs.SearchLemmas.{TriesAll}
-use Rattle.small_routing.proofs.search.+search.Given as goal
+use Rattle.small_routing.proofs.search.+try_all.Given as goal
 
 abbrev pub invariant-loop-candidate : goal.invariant-loop-candidate
 invariant-loop-candidate l = TriesAll (point_count l.times) (travel_time l.times) l.task l.label l.fn.path.items l.path.items l.fn.best l.best (labels_of l.kept) (take l.candidate-index l.candidate-items)
 
-abbrev pub decreases-search : goal.decreases-search
-decreases-search l = left_count (rider_count l.task.now) (passenger_count l.task.now) l.label.now.done
+abbrev pub decreases-try_all : goal.decreases-try_all
+decreases-try_all l = left_count (rider_count l.task.now) (passenger_count l.task.now) l.label.now.done

@@ -1,0 +1,174 @@
+//! Times tables of shortest times: how long `times_between` takes on a network, between nodes spread evenly
+//! over it, and the sum of each table's cells, by which another program's table can be compared.
+#![tactic(auto)]
+
+ghost use Rattle.std.specs.Prelude.{◌<◌, ◌≤◌, IfSome};
+
+use pool_base::{NodeId, OutOfMemory, Times, read_number_up_to};
+use pool_io::{StdSource, read_all, rows};
+use road_network::{Network, read_network};
+use std::alloc::Global;
+use std::fs::File;
+use std::process::ExitCode;
+use std::thread::{Threads, available_parallelism};
+use std::time::Instant;
+use std::{env, io};
+use travel_times::{are_known, times_between};
+
+const USAGE: &str = "\
+usage: times_bench NETWORK POINTS REPEATS
+
+Prints how many threads there are, and then a line for each repeat: the microseconds that a table of
+shortest times took, and the sum of its cells modulo 2^64.
+
+  NETWORK   a file of streets: from,to,seconds
+  POINTS    how many nodes, spread evenly over the network, 0 to 12500
+  REPEATS   how many times the table is made, 0 to 1000
+
+Exit status: 0 done; 2 words; 3 network; 4 clock or output; 5 out of memory.
+";
+
+/// A file is no longer than this many bytes.
+const LONGEST_FILE: u64 = 67_108_864;
+
+const MOST_POINTS: u64 = 12_500;
+
+/// What the words ask for.
+#[derive(Drop)]
+struct Wish {
+    network: String,
+    points: usize,
+    repeats: u64,
+}
+
+/// Why not all was measured.
+#[derive(Clone, Copy)]
+enum Fault {
+    Words,
+    Network,
+    Io,
+    OutOfMemory,
+}
+
+impl From<OutOfMemory> for Fault {
+    fn from(_error: OutOfMemory) -> Fault {
+        Fault::OutOfMemory
+    }
+}
+
+impl From<io::Error> for Fault {
+    fn from(_error: io::Error) -> Fault {
+        Fault::Io
+    }
+}
+
+fn main(rt: HostRuntime) -> ExitCode {
+    match measure(&rt, &rt) {
+        Ok(()) => ExitCode::SUCCESS,
+        Err(Fault::Words) => {
+            let _ = rt.print(USAGE);
+            ExitCode::from(2)
+        }
+        Err(Fault::Network) => ExitCode::from(3),
+        Err(Fault::Io) => ExitCode::from(4),
+        Err(Fault::OutOfMemory) => ExitCode::from(5),
+    }
+}
+
+fn measure(rt: &HostRuntime, threads: &(impl Threads + Sync)) -> Result<(), Fault> {
+    let Some(wish) = wish_of(rt) else {
+        return Err(Fault::Words);
+    };
+    let network = network_of(rt, &wish.network)?;
+    let nodes = spread_nodes(rt.alloc(), &network, wish.points)?;
+    println!(rt; "threads {}", available_parallelism(threads)?)?;
+    for _repeat in 0..wish.repeats {
+        let start = Instant::now(rt)?;
+        let times = table_of(threads, rt.alloc(), &network, &nodes)?;
+        let took = start.elapsed(rt)?.as_micros();
+        println!(rt; "{took} microseconds, cells {}", sum_of(&times))?;
+    }
+    Ok(())
+}
+
+/// What the words ask for; `None` where they aren't a path and two numbers.
+fn wish_of(rt: &HostRuntime) -> Option<Wish>
+    ensures { IfSome result (λ wish. wish.points ≤ 12500) }
+{
+    let mut words = env::args(rt).ok()?.skip(1);
+    let network = words.next()?;
+    let points = read_number_up_to(words.next()?.as_bytes(), MOST_POINTS)? as usize;
+    let repeats = read_number_up_to(words.next()?.as_bytes(), 1000)?;
+    Some(Wish {
+        network,
+        points,
+        repeats,
+    })
+}
+
+fn network_of(rt: &HostRuntime, path: &str) -> Result<Network, Fault> {
+    let Ok(file) = File::open(rt, path) else {
+        return Err(Fault::Network);
+    };
+    let Ok(text) = read_all(rt.alloc(), &mut StdSource::over(file), LONGEST_FILE) else {
+        return Err(Fault::Network);
+    };
+    let Ok(streets) = rows(rt.alloc(), &text, b"from,to,seconds") else {
+        return Err(Fault::Network);
+    };
+    match read_network(rt.alloc(), &streets) {
+        Ok(network) => Ok(network),
+        Err(_) => Err(Fault::Network),
+    }
+}
+
+/// As many nodes, spread evenly over those of the network in their order there; the same one again where
+/// there are fewer nodes than that.
+fn spread_nodes(alloc: Global, network: &Network, count: usize) -> Result<Vec<NodeId>, OutOfMemory>
+    requires { count ≤ 12500 }
+{
+    let all = network.node_count();
+    let mut nodes = Vec::with_capacity(alloc, count)?;
+    if all > 0 {
+        for place in 0..count {
+            nodes.push(network.node_at(spread_index(place, count, all)))?;
+        }
+    }
+    Ok(nodes)
+}
+
+/// The index of the place among so many that are spread evenly.
+fn spread_index(place: usize, count: usize, all: usize) -> usize
+    requires place { place < count }
+    requires count { count ≤ 12500 }
+    requires some { 0 < all }
+    requires few { all ≤ 100000 }
+    ensures { result < all }
+{
+    place * all / count
+}
+
+/// The table of these nodes, if the network has them all.
+fn table_of(
+    threads: &(impl Threads + Sync),
+    alloc: Global,
+    network: &Network,
+    nodes: &[NodeId],
+) -> Result<Times, Fault> {
+    if nodes.len() <= 12_500 && are_known(network, nodes) {
+        Ok(times_between(threads, alloc, network, nodes)?)
+    } else {
+        Err(Fault::Network)
+    }
+}
+
+/// The sum of all cells, modulo 2^64.
+fn sum_of(times: &Times) -> u64 {
+    let mut sum = 0u64;
+    for a in 0..times.len() {
+        for b in 0..times.len() {
+            sum = sum.wrapping_add(u64::from(times.seconds(a, b)));
+        }
+    }
+    sum
+}
