@@ -157,7 +157,8 @@ fn a_failing_write_leaves_a_beginning(rt: HostRuntime) -> Result<(), Fail> {
 #[test]
 fn the_smallest_workload_is_summed_up_in_pieces_of_any_size(rt: HostRuntime) -> Result<(), Fail> {
     let words = "load side=2 vehicles=1 riders=1 rounds=1";
-    let summary = b"|load seed=1 side=2 vehicles=1 riders=1 rounds=1\nbatch 1 served 1 out 0 rows 2 trips 1 cost 74 bound 74\ndone 3\n";
+    let summary =
+        b"|load seed=1 side=2 vehicles=1 riders=1 rounds=1\nbatch 1 served 1 out 0 rows 2 trips 1 cost 74 bound 74\ndone 3\n";
     for pieces in [1, 7, 100_000] {
         let text = summed_up(&rt, rt.alloc(), words, pieces, None)?;
         assert_eq!(rt; text.as_slice(), summary.as_slice());
