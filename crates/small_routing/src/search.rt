@@ -83,13 +83,7 @@ fn try_all(
 
 /// Whether it is seen at once that no way on from a label is better than what was found: someone can't be
 /// served any more, or not with less delay, or a label from which all ways on were tried dominates it.
-fn is_hopeless(
-    task: &Task,
-    times: &Times,
-    label: &Label,
-    best: &Option<Route>,
-    kept: &Kept,
-) -> bool
+fn is_hopeless(task: &Task, times: &Times, label: &Label, best: &Option<Route>, kept: &Kept) -> bool
     requires valid { IsRoutable (point_count times.now) task.now }
     requires small { IsSmall (point_count times.now) (left_count (rider_count task.now) (passenger_count task.now) label.now.done) label.now }
     requires settled { All (IsSettled (point_count times.now) (travel_time times.now) task.now best.now) (labels_of kept.now) }
