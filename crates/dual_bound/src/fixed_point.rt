@@ -22,6 +22,11 @@ pub fn add_at(numbers: &mut [i64], place: usize, more: i64) {
     }
 }
 
+/// Whether a number is no more than what rounding leaves of 0.
+pub fn is_noise(number: i64) -> bool {
+    -64 <= number && number <= 64
+}
+
 /// Writes the number at this place, if there is one.
 pub fn set_at(numbers: &mut [i64], place: usize, number: i64) {
     if place < numbers.len() {

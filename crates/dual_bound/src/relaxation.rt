@@ -6,13 +6,15 @@
 //! solution is: a leaf value judges any multipliers.
 ghost use Rattle.std.specs.Prelude.{◌≡◌, ◌≤ℤ◌, pos, IfOk, length};
 
-use crate::fixed_point::{ONE, add_all, add_at, at, quotient, set_at, take_multiple, times};
+use crate::fixed_point::{
+    ONE, add_all, add_at, at, is_noise, quotient, set_at, take_multiple, times,
+};
 use plan_rules::{Multipliers, TripGraph};
 use pool_base::OutOfMemory;
 use std::alloc::Global;
 
-/// How many rounds over all vehicles a solution has at most.
-const MOST_ROUNDS: usize = 200;
+/// How many rounds over all rows a solution has at most.
+const MOST_ROUNDS: usize = 1000;
 
 /// A reduced cost counts from here on, in units of 2^-20 seconds.
 const LEAST_GAIN: i64 = 1 << 9;
@@ -44,6 +46,8 @@ pub struct Relaxation {
     entering: Vec<i64>,
     /// The places where the entering column isn't 0.
     touched: Vec<usize>,
+    /// What may enter in this round.
+    candidates: Vec<Basic>,
 }
 
 impl Relaxation {
@@ -57,6 +61,7 @@ impl Relaxation {
             levels: first_levels(alloc, count)?,
             entering: vec![in alloc; 0; count]?,
             touched: Vec::new(alloc),
+            candidates: Vec::new(alloc),
         };
         for vehicle in 0..graph.vehicle_count() {
             relaxation.hold(graph, vehicle);
@@ -65,12 +70,16 @@ impl Relaxation {
     }
 
     /// Goes on to a solution over the allowed rows.
+    ///
+    /// A round looks at all rows once. What would better the solution most enters first, and as long as it
+    /// betters it a quarter as much as the first of the round did.
     pub fn solve(&mut self, graph: &TripGraph, allowed: &[bool]) -> Result<(), OutOfMemory> {
         for _ in 0..MOST_ROUNDS {
             self.reprice(graph, allowed);
-            let rows = self.enter_rows(graph, allowed)?;
-            let riders = self.enter_riders(graph, allowed)?;
-            if !rows && !riders {
+            self.candidates.clear();
+            let rows = self.find_rows(graph, allowed)?;
+            let riders = self.find_riders(graph, allowed)?;
+            if !self.enter_candidates(graph, allowed, rows.min(riders) / 4)? {
                 return Ok(());
             }
         }
@@ -136,35 +145,72 @@ impl Relaxation {
         }
     }
 
-    /// Takes in each vehicle's cheapest row, where it betters the solution. Whether one did.
-    fn enter_rows(&mut self, graph: &TripGraph, allowed: &[bool]) -> Result<bool, OutOfMemory> {
-        let mut any = false;
+    /// Makes each vehicle's cheapest row a candidate, where it betters the solution. The least reduced cost.
+    fn find_rows(&mut self, graph: &TripGraph, allowed: &[bool]) -> Result<i64, OutOfMemory> {
+        let mut least = 0;
         for vehicle in 0..graph.vehicle_count() {
-            if let Some(row) = self.cheapest_row(graph, allowed, vehicle) {
-                if self.enter(graph, allowed, Basic::Row(row))? {
-                    any = true;
+            if let Some((row, cost)) = self.cheapest_row(graph, allowed, vehicle) {
+                self.candidates.push(Basic::Row(row))?;
+                least = cost.min(least);
+            }
+        }
+        Ok(least)
+    }
+
+    /// Makes it a candidate to leave out a rider, where that betters the solution. The least reduced cost.
+    fn find_riders(&mut self, graph: &TripGraph, allowed: &[bool]) -> Result<i64, OutOfMemory> {
+        let mut least = 0;
+        for rider in 0..graph.rider_count() {
+            let cost = self.reduced_cost(graph, allowed, Basic::Out(rider));
+            if cost < -LEAST_GAIN {
+                self.candidates.push(Basic::Out(rider))?;
+                least = cost.min(least);
+            }
+        }
+        Ok(least)
+    }
+
+    /// Takes in the candidates of least reduced cost, as long as that is at most this. Whether any came in.
+    fn enter_candidates(
+        &mut self,
+        graph: &TripGraph,
+        allowed: &[bool],
+        most: i64,
+    ) -> Result<bool, OutOfMemory> {
+        for count in 0..self.basis.len() {
+            match self.best_candidate(graph, allowed, most.min(-LEAST_GAIN)) {
+                None => return Ok(count > 0),
+                Some(basic) => {
+                    if !self.enter(graph, allowed, basic)? {
+                        return Ok(false);
+                    }
                 }
             }
         }
-        Ok(any)
+        Ok(true)
     }
 
-    /// Takes in each rider to be left out, where that betters the solution. Whether one did.
-    fn enter_riders(&mut self, graph: &TripGraph, allowed: &[bool]) -> Result<bool, OutOfMemory> {
-        let mut any = false;
-        for rider in 0..graph.rider_count() {
-            let out = Basic::Out(rider);
-            if self.reduced_cost(graph, allowed, out) < -LEAST_GAIN
-                && self.enter(graph, allowed, out)?
-            {
-                any = true;
+    /// The candidate of least reduced cost, where that is at most this.
+    fn best_candidate(&self, graph: &TripGraph, allowed: &[bool], most: i64) -> Option<Basic> {
+        let mut least = most;
+        let mut best = None;
+        for candidate in &self.candidates {
+            let cost = self.reduced_cost(graph, allowed, *candidate);
+            if cost <= least {
+                least = cost;
+                best = Some(*candidate);
             }
         }
-        Ok(any)
+        best
     }
 
-    /// The vehicle's allowed row of least reduced cost, where that is below 0.
-    fn cheapest_row(&self, graph: &TripGraph, allowed: &[bool], vehicle: usize) -> Option<usize> {
+    /// The vehicle's allowed row of least reduced cost and that cost, where it betters the solution.
+    fn cheapest_row(
+        &self,
+        graph: &TripGraph,
+        allowed: &[bool],
+        vehicle: usize,
+    ) -> Option<(usize, i64)> {
         if vehicle >= graph.vehicle_count() {
             return None;
         }
@@ -175,7 +221,7 @@ impl Relaxation {
                 let cost = self.reduced_cost(graph, allowed, Basic::Row(row));
                 if cost < least {
                     least = cost;
-                    cheapest = Some(row);
+                    cheapest = Some((row, cost));
                 }
             }
         }
@@ -269,11 +315,14 @@ fn divide(
     place: usize,
     divisor: i64,
 ) -> i64 {
-    let factor = quotient(at(numbers, place), divisor);
-    if factor != 0 {
-        take_multiple(numbers, entering, touched, factor);
-        set_at(numbers, place, factor);
+    let number = at(numbers, place);
+    if is_noise(number) {
+        set_at(numbers, place, 0);
+        return 0;
     }
+    let factor = quotient(number, divisor);
+    take_multiple(numbers, entering, touched, factor);
+    set_at(numbers, place, factor);
     factor
 }
 
@@ -406,11 +455,11 @@ fn price_of_row(graph: &TripGraph, prices: &[i64], row: usize) -> i64 {
     price
 }
 
-/// The places where these numbers aren't 0; less than 2^-42 counts as 0.
+/// The places where these numbers aren't 0.
 fn find_touched(numbers: &[i64], touched: &mut Vec<usize>) -> Result<(), OutOfMemory> {
     touched.clear();
     for place in 0..numbers.len() {
-        if numbers[place] > 64 || numbers[place] < -64 {
+        if !is_noise(numbers[place]) {
             touched.push(place)?;
         }
     }
