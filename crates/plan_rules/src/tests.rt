@@ -121,6 +121,43 @@ fn refusals_name_the_first(rt: HostRuntime) -> Result<(), Fail> {
     Ok(())
 }
 
+/// The refusal of these rows of three vehicles, three riders and nothing held.
+fn refused_rows(alloc: Global, rows: Vec<TripRow>) -> Option<GraphFault> {
+    refusal(graph(alloc, 3, 3, rows, Vec::new(alloc)))
+}
+
+#[test]
+fn ranges_are_judged_row_by_row(rt: HostRuntime) -> Result<(), Fail> {
+    let alloc = rt.alloc();
+    let rider = vec![in alloc; row(0, &[3], 0), row(3, &[], 0)]?;
+    assert_eq!(rt;
+        refused_rows(alloc, rider),
+        Some(GraphFault::Range { row: 0 })
+    );
+    let vehicle = vec![in alloc; row(0, &[], 0), row(0, &[2], 0), row(3, &[], 0)]?;
+    assert_eq!(rt;
+        refused_rows(alloc, vehicle),
+        Some(GraphFault::Range { row: 2 })
+    );
+    let twice = vec![in alloc; row(0, &[], 0), row(0, &[1, 1], 0)]?;
+    assert_eq!(rt;
+        refused_rows(alloc, twice),
+        Some(GraphFault::Range { row: 1 })
+    );
+    let dear = vec![in alloc; row(0, &[], 1_000_000_000), row(1, &[], 1_000_000_001)]?;
+    assert_eq!(rt;
+        refused_rows(alloc, dear),
+        Some(GraphFault::Range { row: 1 })
+    );
+    // A row out of range is told before one out of order that stands above it.
+    let both = vec![in alloc; row(1, &[], 0), row(0, &[], 0), row(3, &[], 0)]?;
+    assert_eq!(rt;
+        refused_rows(alloc, both),
+        Some(GraphFault::Range { row: 2 })
+    );
+    Ok(())
+}
+
 #[test]
 fn answers_with_memory(rt: HostRuntime) -> Result<(), Fail> {
     let alloc = rt.alloc();
