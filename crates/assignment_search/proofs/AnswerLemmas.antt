@@ -255,12 +255,3 @@ answer g budget limit place plan cost nodes values bound tree good t lowest held
     subst (λ (z : ℤ). IsAnswer g budget (record { plan = plan; cost = cost; bound = z; tree = tree })) (sym is)
     (subst (λ (ns : List Node). IsAnswer g budget (record { plan = plan; cost = cost; bound = rounded_up (get_or values place (pos 0)); tree = ns })) (sym same)
     (answer_of g budget limit place plan cost nodes values good t lowest held greedy right done))
-
--- where the outcome is neither a plan nor a parting, the value meets the limit or the budget is spent
-pub ended : (g : Graph) (nodes : List Node) (values : List ℤ) (place limit budget : ℕ) (o : Outcome) → IsNext g nodes values place limit budget o → ((plan : List (Option ℕ)) → o ≡ Better plan → ⊥) → ((plan : List (Option ℕ)) → o ≡ Fixed plan → ⊥) → ((ends : Ends) → o ≡ Parted ends → ⊥)
-    → (pos limit ≤ℤ rounded_up (get_or values place (pos 0))) ⊎ ((budget < length nodes + 2) × (budget < 2 * choice_count g every_row))
-ended g nodes values place limit budget Met h better fixed parted = inl h
-ended g nodes values place limit budget (Better plan) h better fixed parted = absurd (better plan refl)
-ended g nodes values place limit budget Full h better fixed parted = inr h
-ended g nodes values place limit budget (Fixed plan) h better fixed parted = absurd (fixed plan refl)
-ended g nodes values place limit budget (Parted ends) h better fixed parted = absurd (parted ends refl)

@@ -71,8 +71,16 @@ fn run(alloc: Global, graph: &TripGraph, budget: u32) -> Result<Found, OutOfMemo
         )? {
             Outcome::Parted(ends) => grow(&mut nodes, &mut values, place, ends)?,
             Outcome::Better(better) => {
-                plan = exchange(alloc, graph, better)?;
-                limit = cost_of(graph, &plan);
+                limit = cost_of(graph, &better);
+                plan = better;
+            }
+            Outcome::Met => {
+                return Ok(Found {
+                    plan,
+                    cost: limit,
+                    bound,
+                    tree: Tree::of(nodes),
+                });
             }
             Outcome::Fixed(best) => {
                 return Ok(Found {
@@ -82,10 +90,11 @@ fn run(alloc: Global, graph: &TripGraph, budget: u32) -> Result<Found, OutOfMemo
                     tree: Tree::of(nodes),
                 });
             }
-            _ => {
+            Outcome::Full => {
+                let best = exchange(alloc, graph, plan)?;
                 return Ok(Found {
-                    plan,
-                    cost: limit,
+                    cost: cost_of(graph, &best),
+                    plan: best,
                     bound,
                     tree: Tree::of(nodes),
                 });

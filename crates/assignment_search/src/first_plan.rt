@@ -2,17 +2,14 @@
 ghost use Rattle.std.specs.Prelude.{◌≡◌, ◌≤◌, ℕ, IfOk, List, Option};
 ghost use Rattle.plan_rules.specs.Plan.{IsLawful, cost_of};
 ghost use Rattle.plan_rules.specs.Greedy.{IsGreedy};
-ghost use Rattle.assignment_search.specs.Change.{HasNoBetterChange};
 
-use crate::exchange::exchange;
 use plan_rules::{Plan, TripGraph, cost_of, greedy, held_plan, is_lawful};
 use pool_base::OutOfMemory;
 use std::alloc::Global;
 
-/// The better of the held and the greedy plan, bettered by one vehicle's row at a time.
+/// The better of the held and the greedy plan.
 pub fn first_plan(alloc: Global, graph: &TripGraph) -> Result<Plan, OutOfMemory>
     ensures lawful { IfOk result (IsLawful graph.now) }
-    ensures best { IfOk result (HasNoBetterChange graph.now) }
     ensures held { IfOk result (λ plan. cost_of graph.now plan ≤ cost_of graph.now graph.now.held) }
     ensures greedy { IfOk result (λ plan. (chosen : List (Option ℕ)) → IsGreedy graph.now chosen → IsLawful graph.now chosen → cost_of graph.now plan ≤ cost_of graph.now chosen) }
 {
@@ -20,8 +17,7 @@ pub fn first_plan(alloc: Global, graph: &TripGraph) -> Result<Plan, OutOfMemory>
     prove!(count <= 500);
     let held = held_plan(alloc, graph)?;
     let greedy = greedy(alloc, graph)?;
-    let start = better_of(graph, held, greedy);
-    exchange(alloc, graph, start)
+    Ok(better_of(graph, held, greedy))
 }
 
 fn better_of(graph: &TripGraph, held: Plan, greedy: Plan) -> Plan

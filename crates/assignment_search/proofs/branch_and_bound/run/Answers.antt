@@ -10,9 +10,9 @@ use Rattle.assignment_search.specs.Found.{IsRightPlan}
 use Rattle.assignment_search.specs.Growth.{IsGrown, IsLowest, HasLeaf}
 use Rattle.assignment_search.specs.Next.{IsNext}
 use Rattle.assignment_search.specs.declared.step.Outcome.{Outcome}
-use Rattle.assignment_search.specs.declared.step.Outcome.TheVariants.{Fixed, Parted}
+use Rattle.assignment_search.specs.declared.step.Outcome.TheVariants.{Full, Fixed, Parted}
 use Rattle.assignment_search.proofs.EditLemmas.{edit_length}
-use Rattle.assignment_search.proofs.AnswerLemmas.{small_back, new_end_small, so_far_start, so_far_leaf, so_far_length, so_far_raised, so_far_grow, lowest_small, right_from_least, low_is_bound, answer, ended}
+use Rattle.assignment_search.proofs.AnswerLemmas.{small_back, new_end_small, so_far_start, so_far_leaf, so_far_length, so_far_raised, so_far_grow, lowest_small, right_from_least, low_is_bound, answer}
 use Rattle.assignment_search.proofs.branch_and_bound.run.Goals as goal
 
 pub loop-values-init : goal.loop-values-init
@@ -23,17 +23,12 @@ loop-values-init c =
     let ms : List ℤ = c.in_ok-root.root.multipliers in
     let z : ℤ = c.in_ok-root.root.value in
     let leaf = c.in_ok-root.ensures.leaf in
-    let right : IsRightPlan g c.in_ok-plan.plan limit = record {
+    record {
       lawful = c.in_ok-plan.ensures.lawful;
       costs = costs;
+      under = omega arith;
       held = omega (arith, costs, c.in_ok-plan.ensures.held);
       greedy = λ chosen is fair. let least = c.in_ok-plan.ensures.greedy chosen is fair in omega (arith, costs, least);
-      change = c.in_ok-plan.ensures.best;
-    } in
-    record {
-      plan = right;
-      first = right;
-      under = omega arith;
       tree = so_far_start g c.args.budget limit ms z c.push.new.self.items c.push-2.new.self.items c.requires leaf
           (c.in_ok-push.ensures.items ∙ ap (λ (xs : List Node). xs ++ Leaf ms ∷ []) c.new-nodes.ensures.items)
           (c.in_ok-push-2.ensures.items ∙ (λ i. c.new-values.ensures.items i ++ small_back z leaf.small i ∷ []));
@@ -80,10 +75,12 @@ next-requires-clause-grown c =
     let values : List ℤ = c.loop-values.values.items in
     let p = c.lowest-place.result in
     let lowest : IsLowest nodes values p = subst (λ (ns : List Node). IsLowest ns values p) c.deref.ensures.value
-    (subst (λ (zs : List ℤ). IsLowest c.deref.result.now zs p) c.deref-in-loop-values.ensures.value c.lowest-place.ensures) in
-    (limit, subst (λ (ns : List Node). IsGrown g (rounded_up (get_or c.deref-in-loop-values-4.result.now p (pos 0))) limit (every_row ∷ []) ns c.deref-in-loop-values-4.result.now []) (sym c.deref-in-loop-values-3.ensures.value)
-    (subst (λ (zs : List ℤ). IsGrown g (rounded_up (get_or zs p (pos 0))) limit (every_row ∷ []) nodes zs []) (sym c.deref-in-loop-values-4.ensures.value)
-    (so_far_raised g c.args.budget limit nodes values p c.loop-values.invariant.tree lowest)))
+    (subst (λ (zs : List ℤ). IsLowest c.deref.result.now zs p) c.deref-in-loop-values.ensures.value c.lowest-place.ensures) in (
+      limit,
+      subst (λ (ns : List Node). IsGrown g (rounded_up (get_or c.deref-in-loop-values-4.result.now p (pos 0))) limit (every_row ∷ []) ns c.deref-in-loop-values-4.result.now []) (sym c.deref-in-loop-values-3.ensures.value)
+          (subst (λ (zs : List ℤ). IsGrown g (rounded_up (get_or zs p (pos 0))) limit (every_row ∷ []) nodes zs []) (sym c.deref-in-loop-values-4.ensures.value)
+          (so_far_raised g c.args.budget limit nodes values p c.loop-values.invariant.tree lowest)),
+    )
 
 pub grow-requires-clause-values : goal.grow-requires-clause-values
 grow-requires-clause-values c =
@@ -131,9 +128,11 @@ loop-values-preserved-in-Continue-branch-8 c =
     let under : now ≤ limit = c.loop-values.invariant.under in
     let below : rounded_up (get_or values p (pos 0)) <ℤ pos now = parted.2 in
     record {
-      plan = c.loop-values.invariant.plan;
-      first = c.loop-values.invariant.first;
+      lawful = c.loop-values.invariant.lawful;
+      costs = c.loop-values.invariant.costs;
       under = under;
+      held = c.loop-values.invariant.held;
+      greedy = c.loop-values.invariant.greedy;
       tree = so_far_grow g budget limit nodes values p ends c.grow.new.nodes.items c.grow.new.values.items c.loop-values.invariant.tree lowest (parted.0) (parted.1) (omega (arith, ints, under, below))
           c.in_ok-grow-in-Parted.ensures.nodes c.in_ok-grow-in-Parted.ensures.values;
     }
@@ -151,7 +150,6 @@ returns-in-Fixed c =
     let low = rounded_up (get_or values p (pos 0)) in
     let good = c.root_leaf.ensures.good in
     let tree = c.loop-values.invariant.tree in
-    let start = c.loop-values.invariant.first in
     let lowest : IsLowest nodes values p = subst (λ (ns : List Node). IsLowest ns values p) c.deref.ensures.value
     (subst (λ (zs : List ℤ). IsLowest c.deref.result.now zs p) c.deref-in-loop-values.ensures.value c.lowest-place.ensures) in
     let said : IsNext g nodes values p now budget c.in_ok-ends.field-0 = subst (λ (ns : List Node). IsNext g ns values p now budget c.in_ok-ends.field-0) c.deref-in-loop-values-3.ensures.value
@@ -160,11 +158,34 @@ returns-in-Fixed c =
     let met : pos c.cost_of.result ≤ℤ low = subst (λ (n : ℕ). pos n ≤ℤ low) (sym c.cost_of.ensures) (fixed.1) in
     let back : to_z w128 (of_z w128 c.bound_at-bound.result) ≡ c.bound_at-bound.result = to_z-of_z w128 c.bound_at-bound.result (record { sfits = c.bound_at-bound.type_inv }) in
     let right = right_from_least g best c.cost_of.result low good (fixed.0) c.cost_of.ensures met (low_is_bound g limit p nodes values good (so_far_raised g budget limit nodes values p tree lowest) lowest) in
-    answer g budget limit p best c.cost_of.result nodes values (to_z w128 (of_z w128 c.bound_at-bound.result)) c.of.result good tree lowest start.held start.greedy right (inl met)
+    answer g budget limit p best c.cost_of.result nodes values (to_z w128 (of_z w128 c.bound_at-bound.result)) c.of-in-Fixed.result good tree lowest c.loop-values.invariant.held c.loop-values.invariant.greedy right (inl met)
+    (back ∙ c.bound_at-bound.ensures ∙ ap (λ (zs : List ℤ). rounded_up (get_or zs p (pos 0))) c.deref-in-loop-values-2.ensures.value) c.of-in-Fixed.ensures
+
+pub returns-in-Met : goal.returns-in-Met
+returns-in-Met c =
+    let g = c.args.graph.now in
+    let limit = c.cost_of-limit.result in
+    let now = c.loop-values.limit in
+    let budget = c.args.budget in
+    let nodes : List Node = c.loop-values.nodes.items in
+    let values : List ℤ = c.loop-values.values.items in
+    let p = c.lowest-place.result in
+    let plan : List (Option ℕ) = c.loop-values.plan in
+    let low = rounded_up (get_or values p (pos 0)) in
+    let good = c.root_leaf.ensures.good in
+    let tree = c.loop-values.invariant.tree in
+    let lowest : IsLowest nodes values p = subst (λ (ns : List Node). IsLowest ns values p) c.deref.ensures.value
+    (subst (λ (zs : List ℤ). IsLowest c.deref.result.now zs p) c.deref-in-loop-values.ensures.value c.lowest-place.ensures) in
+    let said : IsNext g nodes values p now budget c.in_ok-ends.field-0 = subst (λ (ns : List Node). IsNext g ns values p now budget c.in_ok-ends.field-0) c.deref-in-loop-values-3.ensures.value
+    (subst (λ (zs : List ℤ). IsNext g c.deref-in-loop-values-3.result.now zs p now budget c.in_ok-ends.field-0) c.deref-in-loop-values-4.ensures.value c.in_ok-ends.ensures) in
+    let reached : pos now ≤ℤ low = subst (IsNext g nodes values p now budget) c.in-Met.is said in
+    let back : to_z w128 (of_z w128 c.bound_at-bound.result) ≡ c.bound_at-bound.result = to_z-of_z w128 c.bound_at-bound.result (record { sfits = c.bound_at-bound.type_inv }) in
+    let right = right_from_least g plan now low good c.loop-values.invariant.lawful c.loop-values.invariant.costs reached (low_is_bound g limit p nodes values good (so_far_raised g budget limit nodes values p tree lowest) lowest) in
+    answer g budget limit p plan now nodes values (to_z w128 (of_z w128 c.bound_at-bound.result)) c.of.result good tree lowest c.loop-values.invariant.held c.loop-values.invariant.greedy right (inl reached)
     (back ∙ c.bound_at-bound.ensures ∙ ap (λ (zs : List ℤ). rounded_up (get_or zs p (pos 0))) c.deref-in-loop-values-2.ensures.value) c.of.ensures
 
-pub returns-in_default : goal.returns-in_default
-returns-in_default c =
+pub returns-in-Full : goal.returns-in-Full
+returns-in-Full c =
     let g = c.args.graph.now in
     let limit = c.cost_of-limit.result in
     let now = c.loop-values.limit in
@@ -174,12 +195,23 @@ returns-in_default c =
     let p = c.lowest-place.result in
     let good = c.root_leaf.ensures.good in
     let tree = c.loop-values.invariant.tree in
-    let start = c.loop-values.invariant.first in
+    let best : List (Option ℕ) = c.in_ok-best-in-Full.best in
+    let cost = c.cost_of-in-Full.result in
     let lowest : IsLowest nodes values p = subst (λ (ns : List Node). IsLowest ns values p) c.deref.ensures.value
     (subst (λ (zs : List ℤ). IsLowest c.deref.result.now zs p) c.deref-in-loop-values.ensures.value c.lowest-place.ensures) in
     let said : IsNext g nodes values p now budget c.in_ok-ends.field-0 = subst (λ (ns : List Node). IsNext g ns values p now budget c.in_ok-ends.field-0) c.deref-in-loop-values-3.ensures.value
     (subst (λ (zs : List ℤ). IsNext g c.deref-in-loop-values-3.result.now zs p now budget c.in_ok-ends.field-0) c.deref-in-loop-values-4.ensures.value c.in_ok-ends.ensures) in
+    let spent : IsNext g nodes values p now budget Full = subst (IsNext g nodes values p now budget) c.in-Full.is said in
+    let costs : cost ≡ cost_of g best = c.cost_of-in-Full.ensures in
+    let less = c.in_ok-best-in-Full.ensures.cost in
+    let inv = c.loop-values.invariant in
+    let right : IsRightPlan g best cost = record {
+      lawful = c.in_ok-best-in-Full.ensures.lawful;
+      costs = costs;
+      held = omega (arith, costs, less, inv.costs, inv.under, inv.held);
+      greedy = λ chosen is fair. let least = inv.greedy chosen is fair in omega (arith, costs, less, inv.costs, inv.under, least);
+      change = c.in_ok-best-in-Full.ensures.best;
+    } in
     let back : to_z w128 (of_z w128 c.bound_at-bound.result) ≡ c.bound_at-bound.result = to_z-of_z w128 c.bound_at-bound.result (record { sfits = c.bound_at-bound.type_inv }) in
-    answer g budget limit p c.loop-values.plan now nodes values (to_z w128 (of_z w128 c.bound_at-bound.result)) c.of-in_default.result good tree lowest start.held start.greedy c.loop-values.invariant.plan
-    (ended g nodes values p now budget c.in_ok-ends.field-0 said c.in_default.not-Better c.in_default.not-Fixed c.in_default.not-Parted)
-    (back ∙ c.bound_at-bound.ensures ∙ ap (λ (zs : List ℤ). rounded_up (get_or zs p (pos 0))) c.deref-in-loop-values-2.ensures.value) c.of-in_default.ensures
+    answer g budget limit p best cost nodes values (to_z w128 (of_z w128 c.bound_at-bound.result)) c.of-in-Full.result good tree lowest inv.held inv.greedy right (inr spent)
+    (back ∙ c.bound_at-bound.ensures ∙ ap (λ (zs : List ℤ). rounded_up (get_or zs p (pos 0))) c.deref-in-loop-values-2.ensures.value) c.of-in-Full.ensures
