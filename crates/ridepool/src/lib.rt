@@ -6,7 +6,11 @@
 //! leaves nothing written.
 #![tactic(auto)]
 
+#[cfg(test)]
+mod batch_tests;
 mod inputs;
+#[cfg(test)]
+mod limit_tests;
 mod reading;
 mod run;
 mod status;
