@@ -1,0 +1,307 @@
+//! What the crates answer to a scene, as texts.
+ghost use Rattle.std.specs.Prelude.{◌≡◌, ℕ, ◌<◌, ◌≤◌, Contains, IfOk, length};
+ghost use Rattle.pool_base.specs.Times.{point_count, travel_time};
+ghost use Rattle.batch_snapshot.specs.Points.{ArePoints};
+ghost use Rattle.stop_orders.specs.Settled.{IsSound, IsRrEdge};
+
+use crate::scene::{Scene, batch};
+use batch_snapshot::{Points, Snapshot};
+use pair_graph::{rider_rider, rider_vehicle};
+use plan_rules::TripRow;
+use pool_base::{NodeId, OutOfMemory, Steps, Times};
+use promise_check::settle;
+use rider_limits::{Mode, Settings};
+use std::alloc::Global;
+use std::marker::Brand;
+use std::sync::ledger::{Blank, Ledger};
+use stop_orders::{PairList, Settled, SettledRider, SettledVehicle};
+use trip_graph::{GraphAnswer, grow_graph};
+use trip_growth::{Grown, TripOf, grow};
+
+/// What is asked of a scene.
+#[derive(Clone, Copy, Debug)]
+pub enum Asked {
+    /// Which vehicles are late and whom they hold, and the riders' limits.
+    Limits,
+    /// The edges between vehicles and riders, and those between riders.
+    Edges,
+    /// The trips of the first vehicle, where there is room for so many.
+    Trips { room: u64 },
+    /// The rows of the trip graph.
+    Rows,
+}
+
+/// The settings but for the numbers that a scene is tried with.
+pub fn settings(wait: u32, delay: u32, pairs: u32) -> Settings
+    requires wait { wait ≤ 7200 }
+    requires delay { delay ≤ 7200 }
+    requires some { 1 ≤ pairs }
+    requires most { pairs ≤ 2000000 }
+{
+    Settings {
+        mode: Mode::Run,
+        wait,
+        delay,
+        trip: 4,
+        penalty: 10_000,
+        budget: 200,
+        pairs,
+        workers: 1,
+        proof: false,
+        dwell: 0,
+    }
+}
+
+/// The seconds between two nodes of the line.
+fn seconds(a: NodeId, b: NodeId) -> u32 {
+    a.get().abs_diff(b.get()).saturating_mul(60)
+}
+
+/// The table of the seconds between points of the line.
+fn line_times(alloc: Global, points: &Points) -> Result<Times, OutOfMemory>
+    ensures { IfOk result (λ times. point_count times ≡ length points.entry.now) }
+{
+    let nodes = points.nodes();
+    let mut cells = Vec::new(alloc);
+    for from in nodes {
+        for to in nodes {
+            cells.push(seconds(*from, *to))?;
+        }
+    }
+    match Times::checked(nodes.len(), cells) {
+        Ok(times) => Ok(times),
+        Err(_) => Err(OutOfMemory),
+    }
+}
+
+/// The answer to what is asked of a scene; vehicles and riders stand by their numbers, limits by their ids.
+pub fn told(
+    alloc: Global,
+    scene: Scene,
+    settings: &Settings,
+    asked: Asked,
+) -> Result<String, OutOfMemory> {
+    let snapshot = batch(alloc, scene)?;
+    told_of_batch(alloc, &snapshot, settings, asked)
+}
+
+fn told_of_batch(
+    alloc: Global,
+    snapshot: &Snapshot,
+    settings: &Settings,
+    asked: Asked,
+) -> Result<String, OutOfMemory> {
+    let points = snapshot.points(alloc)?;
+    told_between(alloc, snapshot, &points, settings, asked)
+}
+
+fn told_between(
+    alloc: Global,
+    snapshot: &Snapshot,
+    points: &Points,
+    settings: &Settings,
+    asked: Asked,
+) -> Result<String, OutOfMemory>
+    requires { ArePoints snapshot.now points.now }
+{
+    let times = line_times(alloc, points)?;
+    told_over(alloc, snapshot, points, &times, settings, asked)
+}
+
+fn told_over(
+    alloc: Global,
+    snapshot: &Snapshot,
+    points: &Points,
+    times: &Times,
+    settings: &Settings,
+    asked: Asked,
+) -> Result<String, OutOfMemory>
+    requires points { ArePoints snapshot.now points.now }
+    requires table { point_count times.now ≡ length points.now }
+{
+    let settled = settle(alloc, snapshot, settings, points, times)?;
+    told_of_settled(alloc, &settled, times, settings, asked)
+}
+
+fn told_of_settled(
+    alloc: Global,
+    settled: &Settled,
+    times: &Times,
+    settings: &Settings,
+    asked: Asked,
+) -> Result<String, OutOfMemory>
+    requires { IsSound settings.now.trip (point_count times.now) (travel_time times.now) settled.now }
+{
+    match asked {
+        Asked::Limits => text_of_limits(alloc, settled),
+        Asked::Edges => text_of_edges(alloc, settled, times),
+        Asked::Trips { room } => text_of_trips(alloc, settled, times, room),
+        Asked::Rows => text_of_rows(alloc, settled, times, settings),
+    }
+}
+
+fn text_of_limits(alloc: Global, settled: &Settled) -> Result<String, OutOfMemory> {
+    let mut text = String::new(alloc);
+    for vehicle in settled.vehicles.as_slice() {
+        put_vehicle(alloc, &mut text, vehicle)?;
+    }
+    for rider in settled.riders.as_slice() {
+        put_rider(alloc, &mut text, rider)?;
+    }
+    Ok(text)
+}
+
+fn put_vehicle(
+    alloc: Global,
+    text: &mut String,
+    vehicle: &SettledVehicle,
+) -> Result<(), OutOfMemory> {
+    let id = vehicle.id.get();
+    let held = vehicle.held.as_slice();
+    let late = vehicle.late;
+    let line = format!(in alloc; "vehicle {id} held {held:?} late {late}\n")?;
+    text.push_str(line.as_str())?;
+    Ok(())
+}
+
+fn put_rider(alloc: Global, text: &mut String, rider: &SettledRider) -> Result<(), OutOfMemory> {
+    let id = rider.id.get();
+    let latest = rider.leg.latest_pickup;
+    let lapsed = rider.lapsed;
+    let line = format!(in alloc; "rider {id} by {latest} lapsed {lapsed}\n")?;
+    text.push_str(line.as_str())?;
+    Ok(())
+}
+
+fn text_of_edges(alloc: Global, settled: &Settled, times: &Times) -> Result<String, OutOfMemory>
+    requires { IsSound 6 (point_count times.now) (travel_time times.now) settled.now }
+{
+    let mut text = String::new(alloc);
+    put_rv(alloc, &mut text, settled, times)?;
+    put_rr(alloc, &mut text, settled, times)?;
+    Ok(text)
+}
+
+fn put_rv(
+    alloc: Global,
+    text: &mut String,
+    settled: &Settled,
+    times: &Times,
+) -> Result<(), OutOfMemory>
+    requires { IsSound 6 (point_count times.now) (travel_time times.now) settled.now }
+{
+    let edges = rider_vehicle(alloc, settled, times)?;
+    for edge in edges.as_slice() {
+        put_numbers(alloc, text, "rv", edge.vehicle, edge.rider)?;
+    }
+    Ok(())
+}
+
+fn put_rr(
+    alloc: Global,
+    text: &mut String,
+    settled: &Settled,
+    times: &Times,
+) -> Result<(), OutOfMemory>
+    requires { IsSound 6 (point_count times.now) (travel_time times.now) settled.now }
+{
+    let pairs = rider_rider(alloc, settled, times)?;
+    for (first, second) in pairs.all() {
+        put_numbers(alloc, text, "rr", *first, *second)?;
+    }
+    Ok(())
+}
+
+fn put_numbers(
+    alloc: Global,
+    text: &mut String,
+    word: &str,
+    one: usize,
+    other: usize,
+) -> Result<(), OutOfMemory> {
+    let line = format!(in alloc; "{word} {one} {other}\n")?;
+    text.push_str(line.as_str())?;
+    Ok(())
+}
+
+fn text_of_trips(
+    alloc: Global,
+    settled: &Settled,
+    times: &Times,
+    room: u64,
+) -> Result<String, OutOfMemory>
+    requires { IsSound 6 (point_count times.now) (travel_time times.now) settled.now }
+{
+    if settled.vehicles.as_slice().is_empty() {
+        return text_of(alloc, "no vehicle");
+    }
+    let pairs = rider_rider(alloc, settled, times)?;
+    text_of_first::<Brand>(alloc, settled, times, &pairs, room, Blank::new(1))
+}
+
+fn text_of(alloc: Global, word: &str) -> Result<String, OutOfMemory> {
+    Ok(String::from_str(alloc, word)?)
+}
+
+fn text_of_first<L: Ledger>(
+    alloc: Global,
+    settled: &Settled,
+    times: &Times,
+    pairs: &PairList,
+    room: u64,
+    blank: Blank,
+) -> Result<String, OutOfMemory>
+    requires sound { IsSound 6 (point_count times.now) (travel_time times.now) settled.now }
+    requires pairs { (a b : ℕ) → IsRrEdge (travel_time times.now) settled.now a b → Contains pairs.now (a, b) }
+    requires some { 0 < length settled.now.vehicles }
+    requires name { blank.name ≡ L.name }
+    requires parts { blank.parts ≡ L.parts }
+    requires share { 0 < blank.parts }
+{
+    let mut steps = Steps::<L>::new(blank);
+    match grow(alloc, settled, times, pairs, 0, 4, room, &mut steps)? {
+        Grown::All(trips) => text_of_grown(alloc, trips.rows()),
+        Grown::TooMany => text_of(alloc, "too many"),
+    }
+}
+
+fn text_of_grown(alloc: Global, trips: &[TripOf]) -> Result<String, OutOfMemory> {
+    let mut text = String::new(alloc);
+    for trip in trips {
+        put_trip(alloc, &mut text, trip.riders.as_slice(), trip.cost)?;
+    }
+    Ok(text)
+}
+
+fn put_trip(
+    alloc: Global,
+    text: &mut String,
+    riders: &[usize],
+    cost: u64,
+) -> Result<(), OutOfMemory> {
+    let line = format!(in alloc; "{riders:?} {cost}\n")?;
+    text.push_str(line.as_str())?;
+    Ok(())
+}
+
+fn text_of_rows(
+    alloc: Global,
+    settled: &Settled,
+    times: &Times,
+    settings: &Settings,
+) -> Result<String, OutOfMemory>
+    requires { IsSound settings.now.trip (point_count times.now) (travel_time times.now) settled.now }
+{
+    match grow_graph(alloc, settled, times, settings)? {
+        GraphAnswer::Graph { graph, .. } => text_of_graph(alloc, graph.rows()),
+        GraphAnswer::Overflow => text_of(alloc, "overflow"),
+    }
+}
+
+fn text_of_graph(alloc: Global, rows: &[TripRow]) -> Result<String, OutOfMemory> {
+    let mut text = String::new(alloc);
+    for row in rows {
+        put_trip(alloc, &mut text, row.riders.as_slice(), row.cost)?;
+    }
+    Ok(text)
+}
