@@ -4,10 +4,12 @@
 //! each two points, the least seconds over all walks, and says so exactly where there is none.
 #![tactic(auto)]
 
+mod arcs;
 mod plain;
 mod ring;
 mod rows;
 mod search;
+mod short_hop;
 mod table;
 #[cfg(test)]
 mod tests;

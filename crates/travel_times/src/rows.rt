@@ -1,6 +1,8 @@
 ghost use Rattle.std.specs.Prelude.{◌≡◌, ℕ, ◌+◌, ◌-◌, ◌++◌, ◌<◌, ◌≤◌, All, IfOk, OnOk, length, map, slice_index};
+ghost use Rattle.travel_times.specs.Arcs.{AreArcsOf};
 ghost use Rattle.travel_times.specs.Table.{AreRows};
 
+use crate::arcs::Arcs;
 use crate::search::Search;
 use pool_base::OutOfMemory;
 use road_network::Network;
@@ -10,10 +12,12 @@ use std::alloc::Global;
 pub fn rows_between(
     alloc: Global,
     network: &Network,
+    arcs: &Arcs,
     points: &[usize],
     from: usize,
     to: usize,
 ) -> Result<Vec<u32>, OutOfMemory>
+    requires arcs { AreArcsOf network.now.arcs (length network.now.nodes) arcs.now.ends.items arcs.now.hops.items }
     requires known { All (λ point. point < length network.now.nodes) points.now }
     requires few { length points.now ≤ 12500 }
     requires order { from ≤ to }
@@ -23,7 +27,7 @@ pub fn rows_between(
     let mut search = Search::new(alloc, network.node_count())?;
     let mut cells = Vec::with_capacity(alloc, (to - from) * points.len())?;
     for place in from..to {
-        search.run(network, points[place])?;
+        search.run(network, arcs, points[place])?;
         push_row(&mut cells, points, &search.seconds)?;
     }
     Ok(cells)

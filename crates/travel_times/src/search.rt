@@ -1,11 +1,14 @@
 ghost use Rattle.std.specs.Prelude.{◌≡◌, ℕ, ◌+◌, ◌<◌, ◌≤◌, true, false, All, IfOk, IfSome, IfNone, OnOk, length, replicate, slice_index};
 ghost use Rattle.pool_base.specs.TravelTime.{longest};
 ghost use Rattle.road_network.specs.Walk.{IsTimeBetween};
+ghost use Rattle.travel_times.specs.Arcs.{AreArcsOf};
 ghost use Rattle.travel_times.specs.Search.{IsTaken, Relaxes, waits};
 
+use crate::arcs::Arcs;
 use crate::ring::Ring;
+use crate::short_hop::ShortHop;
 use pool_base::{OutOfMemory, Times};
-use road_network::{Hop, Network};
+use road_network::Network;
 use std::alloc::Global;
 
 /// No travel time is longer: a shortest walk has at most 99,999 arcs of 10,000 seconds.
@@ -44,7 +47,9 @@ impl Search {
     }
 
     /// Finds the least seconds from one node to every node (Dijkstra 1959, with a ring of buckets by Dial 1969).
-    pub fn run(&mut self, network: &Network, start: usize) -> Result<(), OutOfMemory>
+    /// The arcs are the network's.
+    pub fn run(&mut self, network: &Network, arcs: &Arcs, start: usize) -> Result<(), OutOfMemory>
+        requires arcs { AreArcsOf network.now.arcs (length network.now.nodes) arcs.now.ends.items arcs.now.hops.items }
         requires seconds { length self.old.seconds.items ≡ length network.now.nodes }
         requires waiting { length self.old.waiting.items ≡ length network.now.nodes }
         requires start { start < length network.now.nodes }
@@ -60,7 +65,7 @@ impl Search {
         while let Some(node) = next_waiting(&mut self.ring, &mut self.waiting) {
             let here = self.seconds[node];
             relax(
-                network.arcs_from(node),
+                arcs.leaving(node),
                 here,
                 &mut self.seconds,
                 &mut self.waiting,
@@ -105,7 +110,7 @@ pub fn first_waiting(waiting: &[bool]) -> Option<usize>
 
 /// Relaxes the arcs of a node: where one gives fewer seconds, these are noted, and the node at its end waits.
 fn relax(
-    hops: &[Hop],
+    hops: &[ShortHop],
     here: u32,
     seconds: &mut [u32],
     waiting: &mut [bool],
@@ -120,11 +125,12 @@ fn relax(
     ensures waiting_length { length waiting.new ≡ length waiting.old }
 {
     for hop in hops {
-        let through = here + hop.seconds;
-        if through < seconds[hop.to] && through <= LONGEST {
-            seconds[hop.to] = through;
-            waiting[hop.to] = true;
-            ring.push(hop.to as u32, through)?;
+        let to = hop.to();
+        let through = here + hop.seconds();
+        if through < seconds[to] && through <= LONGEST {
+            seconds[to] = through;
+            waiting[to] = true;
+            ring.push(to as u32, through)?;
         }
     }
     Ok(())

@@ -1,7 +1,9 @@
 ghost use Rattle.std.specs.Prelude.{◌≡◌, ℕ, ◌+◌, ◌-◌, ◌*◌, ◌<◌, ◌≤◌, ◌↔◌, min, All, IsTrue, Contains, IfOk, length, map};
 ghost use Rattle.road_network.specs.Roads.{index_in};
+ghost use Rattle.travel_times.specs.Arcs.{AreArcsOf};
 ghost use Rattle.travel_times.specs.Table.{AreRows, AreTravelTimes};
 
+use crate::arcs::Arcs;
 use crate::rows::rows_between;
 use pool_base::{NodeId, OutOfMemory, Times};
 use rayon::prelude::*;
@@ -93,9 +95,10 @@ fn cells_between(
     requires few { length points.now ≤ 12500 }
     ensures { IfOk result (λ cells. AreRows network.now.arcs points.now 0 (length points.now) cells.items) }
 {
+    let arcs = Arcs::of(alloc, network)?;
     let rows = rows_of_a_piece(rt, points.len(), network.node_count());
     if points.len() <= rows {
-        return rows_between(alloc, network, points, 0, points.len());
+        return rows_between(alloc, network, &arcs, points, 0, points.len());
     }
     let pieces = points.len().div_ceil(rows);
     let mut parts = (0..pieces)
@@ -103,13 +106,14 @@ fn cells_between(
         .with_min_len(1)
         .map(
             |piece: usize| -> Result<Vec<u32>, OutOfMemory>
-                requires { (piece * rows < length points.now) × (rows < length points.now) × All (λ point. point < length network.now.nodes) points.now × (length points.now ≤ 12500) }
+                requires { AreArcsOf network.now.arcs (length network.now.nodes) arcs.ends.items arcs.hops.items × (piece * rows < length points.now) × (rows < length points.now) × All (λ point. point < length network.now.nodes) points.now × (length points.now ≤ 12500) }
                 ensures { IfOk result (λ cells. AreRows network.entry.now.arcs points.entry.now (piece * rows) (min (piece * rows + rows) (length points.entry.now) - piece * rows) cells.items) }
             {
                 let from = piece * rows;
                 rows_between(
                     alloc,
                     network,
+                    &arcs,
                     points,
                     from,
                     (from + rows).min(points.len()),

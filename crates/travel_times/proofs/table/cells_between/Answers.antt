@@ -3,6 +3,7 @@ use Rattle.std.specs.List.{range_with_len}
 use Rattle.std.proofs.lemmas.Grind.{div_ceil_times}
 use Rattle.rayon.specs.Numbers.{nat_range}
 use Rattle.rayon.proofs.ToStd.{nat_range-All}
+use Rattle.travel_times.specs.Arcs.{AreArcsOf}
 use Rattle.travel_times.specs.Table.{AreRows}
 use Rattle.travel_times.proofs.Tables.{piece_within, AreRows-none, AreRows-piece, AreBlocks-collected, AreBlocks-next}
 use Rattle.travel_times.proofs.table.cells_between.Goals as goal
@@ -17,8 +18,8 @@ collect-requires-clause-ready g c κs within =
     let bounds = div_ceil_times n rows positive in
     let tight : c.div_ceil-pieces.result * c.rows_of_a_piece-rows.result < length c.args.points.now + c.rows_of_a_piece-rows.result = rw c.div_ceil-pieces.ensures bounds.1 in
     let less : c.rows_of_a_piece-rows.result < length c.args.points.now = omega (arith, c.if-points-rows.false) in
-    let inside = nat_range-All (λ i. (i * rows < n) × (rows < n) × All (λ point. point < length c.args.network.now.nodes) c.args.points.now × (n ≤ 12500)) 0 pieces
-    (λ i low high. (piece_within i pieces rows n high tight, less, c.requires.known, c.requires.few)) in
+    let inside = nat_range-All (λ i. AreArcsOf c.args.network.now.arcs (length c.args.network.now.nodes) c.in_ok-arcs.arcs.ends.items c.in_ok-arcs.arcs.hops.items × (i * rows < n) × (rows < n) × All (λ point. point < length c.args.network.now.nodes) c.args.points.now × (n ≤ 12500)) 0 pieces
+    (λ i low high. (c.in_ok-arcs.ensures, piece_within i pieces rows n high tight, less, c.requires.known, c.requires.few)) in
     rw (c.map.ensures.base, c.map.ensures.f, c.with_min_len.ensures.base, ends.0, ends.1) (λ k d lt. (inside k d lt, λ y p. tt))
 
 pub loop-piece-init : goal.loop-piece-init

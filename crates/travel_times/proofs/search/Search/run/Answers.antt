@@ -20,7 +20,12 @@ loop-node-init c =
 
 pub relax-requires-clause-hops : goal.relax-requires-clause-hops
 relax-requires-clause-hops c =
-    rw (c.deref_mut-in-Some.ensures.value, c.loop-node.invariant.0.seconds_length, c.arcs_from.ensures)
+    let taken : IsTaken c.loop-node.self.waiting.items c.next_waiting.new.waiting c.in-Some.node = rw c.deref_mut.ensures.value at c.in-Some.ensures.some in
+    let below : c.in-Some.node < length c.args.network.now.nodes =
+    let b : length c.loop-node.self.waiting.items ≡ length c.args.network.now.nodes = c.loop-node.invariant.0.waiting_length in
+    let d : c.in-Some.node < length c.loop-node.self.waiting.items = taken.within in
+    omega arith in
+    rw (c.deref_mut-in-Some.ensures.value, c.loop-node.invariant.0.seconds_length, c.leaving.ensures, c.requires.arcs.placed c.in-Some.node below)
     (hops_among c.args.network.now.arcs (length c.args.network.now.nodes) c.in-Some.node c.loop-node.invariant.1.arcs)
 
 pub loop-node-preserved : goal.loop-node-preserved
@@ -32,6 +37,10 @@ loop-node-preserved c =
     let node = c.in-Some.node in
     let taken : IsTaken s.waiting.items c.next_waiting.new.waiting node = rw c.deref_mut.ensures.value at c.in-Some.ensures.some in
     let waiting_length : length c.next_waiting.new.waiting ≡ s.waiting.len = omega (arith, taken.same_length, s.waiting.ok.0) in
+    let below : c.in-Some.node < length c.args.network.now.nodes =
+    let b : length c.loop-node.self.waiting.items ≡ length c.args.network.now.nodes = inv.waiting_length in
+    let d : c.in-Some.node < length c.loop-node.self.waiting.items = taken.within in
+    omega arith in
     let within : c.in-Some.node < length c.loop-node.self.seconds.items =
     let a : length c.loop-node.self.seconds.items ≡ length c.args.network.now.nodes = inv.seconds_length in
     let b : length c.loop-node.self.waiting.items ≡ length c.args.network.now.nodes = inv.waiting_length in
@@ -40,7 +49,7 @@ loop-node-preserved c =
     let here : c.index-here.result.now ≡ slice_index s.seconds.items node = get_or_read s.seconds.items node c.index-here.result.now within c.index-here.ensures 0 in
     let waiting_is : c.deref_mut-in-Some-2.result.now ≡ c.next_waiting.new.waiting = c.deref_mut-in-Some-2.ensures.value ∙ with_items_is s.waiting c.next_waiting.new.waiting waiting_length in
     let relaxes : Relaxes (map hop_of (leaving node roads.arcs)) (length (map hop_of (leaving node roads.arcs))) (slice_index s.seconds.items node) s.seconds.items c.next_waiting.new.waiting c.relax.new.seconds c.relax.new.waiting =
-    rw (c.arcs_from.ensures, here, c.deref_mut-in-Some.ensures.value, waiting_is) at c.in_ok-relax.ensures.relaxes in
+    rw (c.leaving.ensures, c.requires.arcs.placed node below, here, c.deref_mut-in-Some.ensures.value, waiting_is) at c.in_ok-relax.ensures.relaxes in
     let seconds_length : length c.relax.new.seconds ≡ s.seconds.len = omega (arith, relaxes.seconds_length, s.seconds.ok.0) in
     let waiting_length' : length c.relax.new.waiting ≡ s.waiting.len = omega (arith, relaxes.waiting_length, waiting_length) in (
       rw (with_items_is s.seconds c.relax.new.seconds seconds_length, with_items_is (with_items s.waiting c.next_waiting.new.waiting) c.relax.new.waiting waiting_length')
