@@ -36,7 +36,7 @@ pub enum Wrong {
     Open,
     /// The checker refuses the tree, or gives another value.
     Check,
-    /// The tree isn't right as it is read plainly, or its least leaf isn't the bound.
+    /// The tree isn't sound or not justified as it is read plainly, or its least leaf isn't the bound.
     Tree,
 }
 
@@ -190,7 +190,10 @@ impl Answer {
         if self.checked != Some(self.found.bound) {
             return Some(Wrong::Check);
         }
-        if !self.seen.right || self.seen.least.map(i128::from) != Some(self.found.bound) {
+        if !self.seen.sound || !self.seen.justified {
+            return Some(Wrong::Tree);
+        }
+        if self.seen.least.map(i128::from) != Some(self.found.bound) {
             return Some(Wrong::Tree);
         }
         None

@@ -7,6 +7,8 @@
 #[cfg(test)]
 mod all_plans;
 #[cfg(test)]
+mod drawn_trees;
+#[cfg(test)]
 mod draws;
 #[cfg(test)]
 mod judging;

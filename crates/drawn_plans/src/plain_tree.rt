@@ -19,12 +19,14 @@ pub struct Seen {
     pub dead: u64,
     /// The least value of a leaf, in seconds, rounded up.
     pub least: Option<i64>,
-    /// Whether each branch is on one of several allowed rows and stands where it may, each leaf shows no
-    /// less than the first-fit multipliers do, and each dead end is one.
-    pub right: bool,
+    /// Whether each branch is on one of several allowed rows, each leaf has a multiplier for each rider,
+    /// each dead end is one, and the nodes end with the tree.
+    pub sound: bool,
+    /// Whether each branch stands where it may, and each leaf shows no less than the first-fit multipliers do.
+    pub justified: bool,
 }
 
-/// Walks through the nodes. They aren't right, too, where they end before the tree or go on after it.
+/// Walks through the nodes.
 pub fn walk(
     alloc: Global,
     graph: &TripGraph,
@@ -35,13 +37,14 @@ pub fn walk(
         branches: 0,
         dead: 0,
         least: None,
-        right: true,
+        sound: true,
+        justified: true,
     };
     let mut coming = Vec::new(alloc);
     coming.push(every_row(alloc, graph)?)?;
     for node in nodes {
         match coming.pop() {
-            None => seen.right = false,
+            None => seen.sound = false,
             Some(allowed) => {
                 let fitted = plain_first_fit(alloc, graph, &allowed)?;
                 let least = plain_value(graph, &allowed, &fitted);
@@ -50,7 +53,7 @@ pub fn walk(
             }
         }
     }
-    seen.right = seen.right && coming.is_empty();
+    seen.sound = seen.sound && coming.is_empty();
     Ok(seen)
 }
 
@@ -67,8 +70,8 @@ impl Seen {
         match node {
             Node::Branch { vehicle, row } => Seen {
                 branches: self.branches.saturating_add(1),
-                right: self.right
-                    && can_branch(graph, allowed, *vehicle as usize, *row as usize)
+                sound: self.sound && can_branch(graph, allowed, *vehicle as usize, *row as usize),
+                justified: self.justified
                     && whole(fitted) <= limits.bound
                     && whole(fitted) < limits.ceiling,
                 ..self
@@ -78,15 +81,14 @@ impl Seen {
                 let seconds = whole(value);
                 Seen {
                     least: Some(self.least.unwrap_or(seconds).min(seconds)),
-                    right: self.right
-                        && multipliers.as_slice().len() == graph.rider_count()
-                        && value >= fitted,
+                    sound: self.sound && multipliers.as_slice().len() == graph.rider_count(),
+                    justified: self.justified && value >= fitted,
                     ..self
                 }
             }
             Node::Dead => Seen {
                 dead: self.dead.saturating_add(1),
-                right: self.right && is_dead_end(graph, allowed),
+                sound: self.sound && is_dead_end(graph, allowed),
                 ..self
             },
         }
@@ -98,7 +100,7 @@ pub fn every_row(alloc: Global, graph: &TripGraph) -> Result<Vec<bool>, OutOfMem
 }
 
 /// Adds the subtrees below a branch, the first one last.
-fn descend(
+pub fn descend(
     alloc: Global,
     graph: &TripGraph,
     node: &Node,
@@ -132,7 +134,7 @@ fn allowed_rows(graph: &TripGraph, allowed: &[bool], vehicle: usize) -> u64 {
 }
 
 /// Whether the vehicle may use the row, and another one.
-fn can_branch(graph: &TripGraph, allowed: &[bool], vehicle: usize, row: usize) -> bool {
+pub fn can_branch(graph: &TripGraph, allowed: &[bool], vehicle: usize, row: usize) -> bool {
     match graph.rows().get(row) {
         None => false,
         Some(trip) => {
@@ -144,7 +146,7 @@ fn can_branch(graph: &TripGraph, allowed: &[bool], vehicle: usize, row: usize) -
 }
 
 /// Whether a rider stands in the only rows of two vehicles, or in none though she must be served.
-fn is_dead_end(graph: &TripGraph, allowed: &[bool]) -> bool {
+pub fn is_dead_end(graph: &TripGraph, allowed: &[bool]) -> bool {
     for rider in 0..graph.rider_count() {
         let (in_rows, in_sole) = standing(graph, allowed, rider);
         if in_sole > 1 || (in_rows == 0 && is_live(graph, rider)) {

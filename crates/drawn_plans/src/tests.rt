@@ -1,8 +1,10 @@
 use crate::all_plans::{Listed, list_plans};
+use crate::drawn_trees::{drawn_tree, judge_tree};
 use crate::draws::{drawn_allowed, drawn_graph, drawn_multipliers};
 use crate::judging::{Shown, Wrong, greedy_cost, judge};
 use crate::judging_bounds::{Astray, judge_bounds};
 use crate::plain_rules::is_live;
+use crate::plain_tree::Seen;
 use plan_rules::TripGraph;
 use rand_xoshiro::Xoshiro256PlusPlus;
 use rand_xoshiro::rand_core::SeedableRng;
@@ -21,8 +23,6 @@ struct Tally {
     late: u64,
     /// Where a search branches.
     branched: u64,
-    /// Where a search comes to a dead end.
-    dead: u64,
     /// Where some plan isn't lawful.
     unlawful: u64,
 }
@@ -79,7 +79,6 @@ impl Tally {
     fn count_answer(&mut self, budget: u32, shown: Shown) {
         add(&mut self.open, budget == 1 && shown.open);
         add(&mut self.branched, budget == 1000 && shown.branches > 0);
-        add(&mut self.dead, budget == 1000 && shown.dead > 0);
     }
 }
 
@@ -138,4 +137,33 @@ fn bounds_agree_with_all_plans(rt: HostRuntime) {
         let astray = judge_next_bounds(rt.alloc(), &mut draws);
         assert_eq!(rt; astray, None, "graph {number}");
     }
+}
+
+/// Draws a graph and a tree of it, and judges what the checker says of the tree.
+fn judge_next_tree(alloc: Global, draws: &mut Xoshiro256PlusPlus) -> Result<Seen, Wrong> {
+    match drawn_graph(alloc, draws) {
+        Err(_) => Err(Wrong::Drawn),
+        Ok(graph) => match (list_plans(alloc, &graph), drawn_tree(alloc, draws, &graph)) {
+            (Ok(listed), Ok(nodes)) => judge_tree(alloc, &graph, nodes, listed.least),
+            _ => Err(Wrong::NoMemory),
+        },
+    }
+}
+
+#[test]
+fn checks_agree_with_plain_walks(rt: HostRuntime) {
+    let mut draws = Xoshiro256PlusPlus::seed_from_u64(1961);
+    let mut branched: u64 = 0;
+    let mut dead: u64 = 0;
+    for number in 0..200u32 {
+        match judge_next_tree(rt.alloc(), &mut draws) {
+            Err(wrong) => assert_eq!(rt; Some(wrong), None, "graph {number}"),
+            Ok(seen) => {
+                add(&mut branched, seen.branches > 2);
+                add(&mut dead, seen.dead > 0);
+            }
+        }
+    }
+    assert!(rt; branched > 20, "{branched} trees have branches");
+    assert!(rt; dead > 20, "{dead} trees have dead ends");
 }
