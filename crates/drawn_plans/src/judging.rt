@@ -61,7 +61,6 @@ pub struct Shown {
     /// Whether the bound is below the cost.
     pub open: bool,
     pub branches: u64,
-    pub dead: u64,
 }
 
 /// What is wrong with a search's answer; what it shows where nothing is.
@@ -131,7 +130,6 @@ impl Answer {
         Shown {
             open: self.found.bound < i128::from(self.found.cost),
             branches: self.seen.branches,
-            dead: self.seen.dead,
         }
     }
 
