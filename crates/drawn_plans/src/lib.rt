@@ -1,0 +1,26 @@
+//! Drawn trip graphs whose plans are all listed: what a search, a bound and a check say of them.
+//!
+//! It has tests alone, of the crates from `plan_rules` to `bound_checker`, and judges by the rules as they
+//! are read plainly: it lists every plan, and writes costs, leaf values and first-fit multipliers anew.
+#![tactic(auto)]
+
+#[cfg(test)]
+mod all_plans;
+#[cfg(test)]
+mod drawn_trees;
+#[cfg(test)]
+mod draws;
+#[cfg(test)]
+mod judging;
+#[cfg(test)]
+mod judging_bounds;
+#[cfg(test)]
+mod plain_bounds;
+#[cfg(test)]
+mod plain_rules;
+#[cfg(test)]
+mod plain_tree;
+#[cfg(test)]
+mod tests;
+#[cfg(test)]
+mod worked;
