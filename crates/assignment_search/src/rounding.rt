@@ -8,7 +8,8 @@ use plan_rules::{Plan, TripGraph, cost_of, is_lawful};
 use pool_base::OutOfMemory;
 use std::alloc::Global;
 
-/// The plan that the relaxation suggests, where it is lawful and costs less than this.
+/// The plan that the relaxation suggests, where it is lawful and costs less than this. A relaxation that
+/// has ended has nothing new to suggest.
 pub fn cheaper_plan(
     alloc: Global,
     graph: &TripGraph,
@@ -17,6 +18,9 @@ pub fn cheaper_plan(
 ) -> Result<Option<Plan>, OutOfMemory>
     ensures { IfOk result (λ found. IfSome found (λ plan. IsLawful graph.now plan × (cost_of graph.now plan < limit))) }
 {
+    if relaxation.has_ended() {
+        return Ok(None);
+    }
     let plan = mended_plan(alloc, graph, rounded_plan(alloc, graph, relaxation)?)?;
     if is_lawful(graph, &plan) && cost_of(graph, &plan) < limit {
         Ok(Some(plan))

@@ -118,6 +118,11 @@ impl Relaxation {
         self.steps >= self.most_steps
     }
 
+    /// Whether all steps are taken, so that the solution stays as it is.
+    pub fn has_ended(&self) -> bool {
+        self.steps >= MOST_STEPS_IN_ALL
+    }
+
     /// What the solution costs, in seconds.
     pub fn cost(&self, graph: &TripGraph, allowed: &[bool]) -> i64 {
         let mut cost: i64 = 0;
