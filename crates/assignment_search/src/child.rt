@@ -5,10 +5,14 @@ ghost use Rattle.plan_rules.specs.Tree.{IsDeadEnd};
 ghost use Rattle.assignment_search.specs.Growth.{IsJudged, IsNewEnd, IsNewLeaf};
 
 use crate::dead_end::is_dead_end;
-use dual_bound::{Relaxation, first_fit, leaf_value};
+use crate::near::relax;
+use dual_bound::{Relaxation, climb, first_fit, leaf_value};
 use plan_rules::{Multipliers, Node, TripGraph};
 use pool_base::OutOfMemory;
 use std::alloc::Global;
+
+/// How many turns multipliers climb at most.
+const TURNS: u32 = 200;
 
 /// A leaf or a dead end, with the leaf's value.
 #[derive(Drop)]
@@ -52,7 +56,8 @@ pub fn new_end(
     })
 }
 
-/// The best of the first-fit multipliers, the parent's and the relaxation's.
+/// The best of the first-fit multipliers, the parent's and the relaxation's, and where that was broken off
+/// what they climb to.
 pub fn best_of(
     alloc: Global,
     graph: &TripGraph,
@@ -71,9 +76,36 @@ pub fn best_of(
     let fitted = Judged { multipliers, value };
     let inherited = Multipliers::of(Vec::from_slice(alloc, parent)?);
     let better = better_of(graph, allowed, fitted, inherited);
-    relaxation.solve(graph, allowed)?;
+    relax(alloc, graph, allowed, parent, relaxation)?;
     let relaxed = relaxation.multipliers(alloc, graph)?;
-    Ok(better_of(graph, allowed, better, relaxed))
+    let best = better_of(graph, allowed, better, relaxed);
+    climbed(alloc, graph, allowed, best, relaxation)
+}
+
+/// What the multipliers climb to, where the relaxation was broken off: its cost is near the best bound, and
+/// its prices are not.
+fn climbed(
+    alloc: Global,
+    graph: &TripGraph,
+    allowed: &[bool],
+    best: Judged,
+    relaxation: &Relaxation,
+) -> Result<Judged, OutOfMemory>
+    requires allowed { length allowed.now ≡ length graph.now.rows }
+    requires best { IsJudged graph.now (usable_of allowed.now) best.multipliers best.value }
+    ensures judged { IfOk result (λ higher. IsJudged graph.now (usable_of allowed.now) higher.multipliers higher.value) }
+    ensures rises { IfOk result (λ higher. best.value ≤ℤ higher.value) }
+{
+    if !relaxation.is_spent() {
+        return Ok(best);
+    }
+    let target = relaxation
+        .cost(graph, allowed)
+        .saturating_add(1)
+        .saturating_mul(1024);
+    let multipliers = climb(alloc, graph, allowed, best.multipliers, target, TURNS)?;
+    let value = leaf_value(graph, allowed, multipliers.as_slice());
+    Ok(Judged { multipliers, value })
 }
 
 /// The multipliers of greater leaf value.

@@ -13,6 +13,8 @@ mod first_plan;
 mod found;
 mod growth;
 mod lowest_leaf;
+mod mending;
+mod near;
 mod parting;
 mod root;
 mod rounding;

@@ -2,22 +2,26 @@
 ghost use Rattle.std.specs.Prelude.{◌<◌, IfOk, IfSome};
 ghost use Rattle.plan_rules.specs.Plan.{IsLawful, cost_of};
 
+use crate::mending::mended_plan;
 use dual_bound::Relaxation;
 use plan_rules::{Plan, TripGraph, cost_of, is_lawful};
 use pool_base::OutOfMemory;
 use std::alloc::Global;
 
-/// The plan that the relaxation suggests, where it is lawful and costs less than this.
+/// The plan that the relaxation suggests, where it is lawful and costs less than this. A relaxation that
+/// has ended has nothing new to suggest.
 pub fn cheaper_plan(
     alloc: Global,
     graph: &TripGraph,
-    allowed: &[bool],
     relaxation: &Relaxation,
     limit: u64,
 ) -> Result<Option<Plan>, OutOfMemory>
     ensures { IfOk result (λ found. IfSome found (λ plan. IsLawful graph.now plan × (cost_of graph.now plan < limit))) }
 {
-    let plan = rounded_plan(alloc, graph, allowed, relaxation)?;
+    if relaxation.has_ended() {
+        return Ok(None);
+    }
+    let plan = mended_plan(alloc, graph, rounded_plan(alloc, graph, relaxation)?)?;
     if is_lawful(graph, &plan) && cost_of(graph, &plan) < limit {
         Ok(Some(plan))
     } else {
@@ -26,11 +30,10 @@ pub fn cheaper_plan(
 }
 
 /// The rows that the relaxation chooses, by falling share, where they are apart; then for each vehicle that
-/// has none yet its row of least reduced cost that is apart from those taken.
+/// has none yet the row that saves most and is apart from those taken.
 fn rounded_plan(
     alloc: Global,
     graph: &TripGraph,
-    allowed: &[bool],
     relaxation: &Relaxation,
 ) -> Result<Plan, OutOfMemory> {
     let mut chosen: Vec<Option<u32>> = vec![in alloc; None; graph.vehicle_count()]?;
@@ -39,7 +42,7 @@ fn rounded_plan(
         take_row(graph, (rank % 2_000_000) as usize, &mut chosen, &mut served);
     }
     for vehicle in 0..graph.vehicle_count() {
-        if let Some(row) = best_row(graph, allowed, relaxation, &served, vehicle) {
+        if let Some(row) = best_row(graph, &served, vehicle) {
             take_row(graph, row, &mut chosen, &mut served);
         }
     }
@@ -95,25 +98,29 @@ fn is_apart(graph: &TripGraph, row: usize, served: &[bool]) -> bool {
     true
 }
 
-/// The vehicle's row of least reduced cost, of those that serve nobody who is served.
-fn best_row(
-    graph: &TripGraph,
-    allowed: &[bool],
-    relaxation: &Relaxation,
-    served: &[bool],
-    vehicle: usize,
-) -> Option<usize> {
+/// The vehicle's row of least cost with the penalties that it saves, of those that serve nobody who is served.
+fn best_row(graph: &TripGraph, served: &[bool], vehicle: usize) -> Option<usize> {
     if vehicle >= graph.vehicle_count() {
         return None;
     }
     let mut least = i64::MAX;
     let mut best = None;
     for row in graph.first_row(vehicle)..graph.first_row(vehicle + 1) {
-        let cost = relaxation.reduced_cost_of(graph, allowed, row);
+        let cost = saved_cost(graph, row);
         if cost < least && is_apart(graph, row, served) {
             least = cost;
             best = Some(row);
         }
     }
     best
+}
+
+/// What the row costs, less the penalties of its riders, in seconds.
+fn saved_cost(graph: &TripGraph, row: usize) -> i64 {
+    let rows = graph.rows();
+    if row >= rows.len() {
+        return 0;
+    }
+    let saved = i64::from(graph.penalty()).wrapping_mul(rows[row].riders.len() as i64);
+    (rows[row].cost.min(1_000_000_000) as i64).wrapping_sub(saved)
 }

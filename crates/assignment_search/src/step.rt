@@ -7,6 +7,7 @@ ghost use Rattle.assignment_search.specs.Next.{IsNext};
 
 use crate::branching::branch_row;
 use crate::lowest_leaf::is_met;
+use crate::near::relax;
 use crate::parting::{Ends, allowed_at, part};
 use crate::rounding::cheaper_plan;
 use crate::sole_plan::sole_rows;
@@ -51,8 +52,9 @@ pub fn next(
     }
     let path = path_to(alloc, graph, nodes, place)?;
     let allowed = allowed_at(alloc, graph, &path)?;
-    relaxation.solve(graph, &allowed)?;
-    if let Some(better) = cheaper_plan(alloc, graph, &allowed, relaxation, limit)? {
+    let parent = multipliers_of(&nodes[place]);
+    relax(alloc, graph, &allowed, parent, relaxation)?;
+    if let Some(better) = cheaper_plan(alloc, graph, relaxation, limit)? {
         return Ok(Outcome::Better(better));
     }
     match branch_row(graph, &allowed, relaxation) {
@@ -64,15 +66,7 @@ pub fn next(
             if is_full(nodes, budget) {
                 return Ok(Outcome::Full);
             }
-            let ends = part(
-                alloc,
-                graph,
-                path,
-                multipliers_of(&nodes[place]),
-                vehicle,
-                row,
-                relaxation,
-            )?;
+            let ends = part(alloc, graph, path, parent, vehicle, row, relaxation)?;
             Ok(Outcome::Parted(ends))
         }
     }

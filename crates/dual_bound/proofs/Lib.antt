@@ -1,2 +1,3 @@
 pub mod ValueLemmas
 pub mod FirstFitLemmas
+pub mod ClimbLemmas

@@ -5,12 +5,15 @@
 //! keeps the best multipliers that a leaf value has judged.
 #![tactic(auto)]
 
+mod ascent;
 mod cheapest;
+mod climbing;
 mod first_fit_pass;
 mod fixed_point;
 mod relaxation;
 mod value;
 
+pub use climbing::{ascend, climb};
 pub use first_fit_pass::first_fit;
 pub use relaxation::Relaxation;
 pub use value::leaf_value;

@@ -19,6 +19,11 @@ const MOST_ROUNDS: usize = 1000;
 /// A reduced cost counts from here on, in units of 2^-20 seconds.
 const LEAST_GAIN: i64 = 1 << 9;
 
+/// How many products a single solution takes at most, and all together.
+const MOST_STEPS: u64 = 20_000_000;
+
+const MOST_STEPS_IN_ALL: u64 = 2_000_000_000;
+
 /// A number of the entering column may be divided by from here on.
 const LEAST_PIVOT: i64 = 1 << 28;
 
@@ -48,6 +53,9 @@ pub struct Relaxation {
     touched: Vec<usize>,
     /// What may enter in this round.
     candidates: Vec<Basic>,
+    /// How many products were taken so far, and how many may be before the solution is broken off.
+    steps: u64,
+    most_steps: u64,
 }
 
 impl Relaxation {
@@ -62,6 +70,8 @@ impl Relaxation {
             entering: vec![in alloc; 0; count]?,
             touched: Vec::new(alloc),
             candidates: Vec::new(alloc),
+            steps: 0,
+            most_steps: 0,
         };
         for vehicle in 0..graph.vehicle_count() {
             relaxation.hold(graph, vehicle);
@@ -72,9 +82,14 @@ impl Relaxation {
     /// Goes on to a solution over the allowed rows.
     ///
     /// A round looks at all rows once. What would better the solution most enters first, and as long as it
-    /// betters it a quarter as much as the first of the round did.
+    /// betters it a quarter as much as the first of the round did. A solution that takes too many steps is
+    /// broken off: then it is one all the same, but not the best.
     pub fn solve(&mut self, graph: &TripGraph, allowed: &[bool]) -> Result<(), OutOfMemory> {
+        self.most_steps = self.steps.saturating_add(MOST_STEPS).min(MOST_STEPS_IN_ALL);
         for _ in 0..MOST_ROUNDS {
+            if self.is_spent() {
+                return Ok(());
+            }
             self.reprice(graph, allowed);
             self.candidates.clear();
             let rows = self.find_rows(graph, allowed)?;
@@ -98,6 +113,26 @@ impl Relaxation {
         Ok(Multipliers::of(multipliers))
     }
 
+    /// Whether the last solution was broken off.
+    pub fn is_spent(&self) -> bool {
+        self.steps >= self.most_steps
+    }
+
+    /// Whether all steps are taken, so that the solution stays as it is.
+    pub fn has_ended(&self) -> bool {
+        self.steps >= MOST_STEPS_IN_ALL
+    }
+
+    /// What the solution costs, in seconds.
+    pub fn cost(&self, graph: &TripGraph, allowed: &[bool]) -> i64 {
+        let mut cost: i64 = 0;
+        for place in 0..self.basis.len() {
+            let whole = cost_of(graph, allowed, self.basis[place]).wrapping_mul(1 << 20);
+            cost = cost.wrapping_add(times(whole, at(&self.levels, place)));
+        }
+        cost >> 20
+    }
+
     /// How many places the basis has.
     pub fn places(&self) -> usize {
         self.basis.len()
@@ -112,11 +147,6 @@ impl Relaxation {
             Basic::Row(row) => Some((row, at(&self.levels, place).wrapping_add(ONE >> 11) >> 38)),
             _ => None,
         }
-    }
-
-    /// What the row costs, less the prices of its conditions, in 2^-20 seconds.
-    pub fn reduced_cost_of(&self, graph: &TripGraph, allowed: &[bool], row: usize) -> i64 {
-        self.reduced_cost(graph, allowed, Basic::Row(row))
     }
 
     /// Takes a vehicle's held row into the first solution.
@@ -181,7 +211,7 @@ impl Relaxation {
             match self.best_candidate(graph, allowed, most.min(-LEAST_GAIN)) {
                 None => return Ok(count > 0),
                 Some(basic) => {
-                    if !self.enter(graph, allowed, basic)? {
+                    if self.is_spent() || !self.enter(graph, allowed, basic)? {
                         return Ok(false);
                     }
                 }
@@ -302,6 +332,12 @@ impl Relaxation {
             let column = self.inverse[condition].as_mut_slice();
             let factor = divide(column, &self.entering, &self.touched, place, divisor);
             add_at(&mut self.prices, condition, times(reduced, factor));
+            let steps = if factor == 0 {
+                1
+            } else {
+                self.touched.len() as u64
+            };
+            self.steps = self.steps.saturating_add(steps);
         }
     }
 }
