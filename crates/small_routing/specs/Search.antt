@@ -10,7 +10,7 @@ use Rattle.stop_orders.specs.Done.{IsNext}
 use Rattle.stop_orders.specs.Plain.{IsFound, NoneBetter, StaysGood, MakesOrders}
 use Rattle.small_routing.specs.declared.label.Label.{Label}
 use Rattle.small_routing.specs.declared.candidate.Candidate.{Candidate}
-use Rattle.small_routing.specs.Label.{rider_count, passenger_count, CanVisit, next_label, GoesOn, rest_delay}
+use Rattle.small_routing.specs.Label.{rider_count, passenger_count, CanVisit, GoesOn, rest_delay}
 use Rattle.small_routing.specs.Kept.{IsPlaced}
 
 -- these stops lead to the label: whatever goes on from it goes on from them
@@ -33,11 +33,10 @@ pub record IsSettled (points : ℕ) (tau : ℕ → ℕ → ℕ) (task : Task) (b
   pub placed : IsPlaced points label
   pub exhausted : IsExhausted tau task best label
 
--- a stop that may come next and can be served, with the label after it
+-- a stop that may come next and can be served
 pub record IsCandidate (tau : ℕ → ℕ → ℕ) (task : Task) (label : Label) (candidate : Candidate) : Type 0 where
   pub next : IsNext (rider_count task) (passenger_count task) label.done candidate.stop
   pub can : CanVisit tau task label candidate.stop
-  pub after : candidate.label ≡ next_label tau task label candidate.stop
 
 -- the candidates are all stops that may come next and can be served, of so many riders and passengers
 pub record AreCandidates (tau : ℕ → ℕ → ℕ) (task : Task) (label : Label) (riders passengers : ℕ) (candidates : List Candidate) : Type 0 where
