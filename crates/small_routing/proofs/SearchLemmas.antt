@@ -13,7 +13,7 @@ use Rattle.stop_orders.specs.Done.{IsAllDone, Completes}
 use Rattle.stop_orders.specs.Plain.{IsFound, NoneBetter, StaysGood}
 use Rattle.stop_orders.proofs.ClockLemmas.{soon_over, ServesFrom-soon}
 use Rattle.stop_orders.proofs.DoneLemmas.{IsAllDone-from_nil, Completes-none}
-use Rattle.stop_orders.proofs.PlainLemmas.{MakesOrders-all, rest_of_all, stop_with-bit_of}
+use Rattle.stop_orders.proofs.PlainLemmas.{MakesOrders-all, rest_of_all}
 use Rattle.small_routing.specs.declared.label.Label.{Label}
 use Rattle.small_routing.specs.declared.candidate.Candidate.{Candidate}
 use Rattle.small_routing.specs.Label.{IsRoutable, rider_count, passenger_count, next_label, GoesOn, rest_delay}
@@ -21,6 +21,7 @@ use Rattle.small_routing.specs.Ahead.{RiderCan, PassengerCan, least_ahead}
 use Rattle.small_routing.specs.Kept.{no_label, IsDominated}
 use Rattle.small_routing.specs.Search.{LeadsTo, IsExhausted, IsTried, IsSettled, AreCandidates, Searched}
 use Rattle.small_routing.proofs.AheadLemmas.{is_ahead, goes_on_next}
+use Rattle.small_routing.proofs.LabelLemmas.{known_next}
 
 -- a greater delay is no better either
 NoneBetter-more : (best : Option Route) (a b : ℕ) → a ≤ b → NoneBetter best a → NoneBetter best b
@@ -107,13 +108,12 @@ module _ (points : ℕ) (tau : ℕ → ℕ → ℕ) (t : IsTravelTime points tau
       subst (λ d. NoneBetter new d) same here
 
   -- where all candidates were tried
-  pub exhausted_tried : (label : Label) (best : Option Route) (candidates : List Candidate) → (IsAllDone (rider_count task) (passenger_count task) label.done → ⊥) → AreCandidates tau task label 22 candidates
+  pub exhausted_tried : (label : Label) (best : Option Route) (candidates : List Candidate) → (IsAllDone (rider_count task) (passenger_count task) label.done → ⊥) → AreCandidates tau task label (rider_count task) (passenger_count task) candidates
       → All (λ c. IsTried tau task best label c.stop) candidates → IsExhausted tau task best label
   exhausted_tried label best candidates more are tried [] way = absurd (more (IsAllDone-from_nil (rider_count task) (passenger_count task) label.done way.completes))
   exhausted_tried label best candidates more are tried (s ∷ rest) way =
       let on = goes_on_next points tau t task valid.rider_count label s rest way in
-      let bit = (stop_with-bit_of (rider_count task) (passenger_count task) label.done valid.rider_count valid.passenger_count s on.0).1 in
-      let listed = are.whole s on.0 bit on.1 in
+      let listed = are.whole s on.0 (known_next (rider_count task) (passenger_count task) label.done s on.0) on.1 in
       All-contains (IsTried tau task best label) (map (λ c. c.stop) candidates) s (All-map (IsTried tau task best label) (λ c. c.stop) candidates tried) listed rest way
 
 -- what holds in the loop over the candidates

@@ -1,14 +1,16 @@
-use Rattle.std.specs.Prelude.{◌≡◌, ℕ, ◌+◌, ◌<◌, ◌≤◌, All, Contains, List, ◌∷◌, ◌++◌, Option, length, map}
+use Rattle.std.specs.Prelude.{◌≡◌, ℕ, ◌+◌, ◌≤◌, ◌⊎◌, All, Contains, List, ◌∷◌, ◌++◌, Option, length, map}
+use Rattle.std.specs.List.Sorted.{IsPermutation}
 use Rattle.stop_orders.specs.declared.route.Route.{Route}
 use Rattle.stop_orders.specs.declared.task.Task.{Task}
 use Rattle.stop_orders.specs.declared.stop.Stop.{Stop}
 use Rattle.stop_orders.specs.Visit.{ServesFrom}
 use Rattle.stop_orders.specs.Task.{visits_of, free_seats, order_delay}
-use Rattle.stop_orders.specs.Done.{bit_of, IsNext}
+use Rattle.stop_orders.specs.Order.{IsKnown}
+use Rattle.stop_orders.specs.Done.{IsNext}
 use Rattle.stop_orders.specs.Plain.{IsFound, NoneBetter, StaysGood, MakesOrders}
 use Rattle.small_routing.specs.declared.label.Label.{Label}
 use Rattle.small_routing.specs.declared.candidate.Candidate.{Candidate}
-use Rattle.small_routing.specs.Label.{rider_count, passenger_count, CanVisit, next_label, GoesOn, rest_delay}
+use Rattle.small_routing.specs.Label.{rider_count, passenger_count, CanVisit, GoesOn, rest_delay}
 use Rattle.small_routing.specs.Kept.{IsPlaced}
 
 -- these stops lead to the label: whatever goes on from it goes on from them
@@ -31,18 +33,23 @@ pub record IsSettled (points : ℕ) (tau : ℕ → ℕ → ℕ) (task : Task) (b
   pub placed : IsPlaced points label
   pub exhausted : IsExhausted tau task best label
 
--- a stop that may come next and can be served, with the label after it
+-- a stop that may come next and can be served
 pub record IsCandidate (tau : ℕ → ℕ → ℕ) (task : Task) (label : Label) (candidate : Candidate) : Type 0 where
   pub next : IsNext (rider_count task) (passenger_count task) label.done candidate.stop
   pub can : CanVisit tau task label candidate.stop
-  pub after : candidate.label ≡ next_label tau task label candidate.stop
 
--- the candidates are all stops that may come next and can be served, up to a bit
-pub record AreCandidates (tau : ℕ → ℕ → ℕ) (task : Task) (label : Label) (bits : ℕ) (candidates : List Candidate) : Type 0 where
-  pub few : length candidates ≤ bits
+-- the candidates are all stops that may come next and can be served, of so many riders and passengers
+pub record AreCandidates (tau : ℕ → ℕ → ℕ) (task : Task) (label : Label) (riders passengers : ℕ) (candidates : List Candidate) : Type 0 where
+  pub few : length candidates ≤ riders + passengers
   pub each : All (IsCandidate tau task label) candidates
-  pub whole : (s : Stop) → IsNext (rider_count task) (passenger_count task) label.done s → bit_of s < bits → CanVisit tau task label s
+  pub whole : (s : Stop) → IsNext (rider_count task) (passenger_count task) label.done s → IsKnown riders passengers s → CanVisit tau task label s
       → Contains (map (λ candidate. candidate.stop) candidates) s
+
+-- the stop was added to the candidates, or it can't be served and they stayed the same
+abbrev pub AddsStop : (ℕ → ℕ → ℕ) → Task → Label → Stop → List Candidate → List Candidate → Type 0
+AddsStop tau task label stop before after =
+    ((CanVisit tau task label stop → ⊥) × (after ≡ before))
+    ⊎ ((candidate : Candidate) × (candidate.stop ≡ stop) × IsCandidate tau task label candidate × IsPermutation (candidate ∷ before) after)
 
 -- what a search from a label leaves: what was found is right, as good as before, and no way on is better
 pub record Searched (points : ℕ) (tau : ℕ → ℕ → ℕ) (task : Task) (label : Label) (old new : Option Route) (labels : List Label) : Type 0 where

@@ -10,7 +10,7 @@ ghost use Rattle.small_routing.specs.Search.{LeadsTo, IsExhausted, IsSettled, Se
 use crate::ahead::look_ahead;
 use crate::candidate::candidates_after;
 use crate::kept::Kept;
-use crate::label::Label;
+use crate::label::{Label, label_after};
 use arrayvec::ArrayVec;
 use pool_base::{OutOfMemory, Times};
 use stop_orders::{Route, Stop, Task};
@@ -70,11 +70,14 @@ fn try_all(
     }
     let candidates = candidates_after(task, times, label);
     for candidate in candidates.as_slice() {
-        let next = candidate.label;
+        let stop = candidate.stop;
+        let Some(next) = label_after(task, times, label, stop) else {
+            continue;
+        };
         if is_hopeless(task, times, &next, best, kept) {
             continue;
         }
-        path.push(candidate.stop);
+        path.push(stop);
         try_all(task, times, &next, path, best, kept)?;
         path.pop();
     }

@@ -1,9 +1,14 @@
-use Rattle.std.proofs.Common.{suc-mul, ◌≡◌, ℕ, ◌+◌, ◌<◌, ◌≤◌, inl, inr, suc, zero, ◌*◌, List, [], ◌∷◌, ◌++◌, length, get_or, take, refl, sym, ap, ◌∙◌, subst, arith}
+use Rattle.std.proofs.Common.{suc-mul, ◌≡◌, ℕ, ◌+◌, ◌<◌, ◌≤◌, inl, inr, suc, zero, ◌*◌, List, [], ◌∷◌, ◌++◌, length, map, get_or, take, refl, sym, ap, ◌∙◌, subst, arith}
 use Rattle.std.specs.List.{All, remove}
 use Rattle.std.proofs.lemmas.Bool.{cases_lt}
-use Rattle.std.proofs.lemmas.List.{length-map, length_push, length-take-le, get_or_default, get_or_past, get_or_append_left, get_or_push}
+use Rattle.std.proofs.lemmas.List.{length-map, map_push, length_push, length-take-le, get_or_default, get_or_past, get_or_append_left, get_or_push}
 use Rattle.std.proofs.lemmas.List.Elements.{All-push, All-nil}
-use Rattle.stop_orders.specs.Settled.{IsTrip}
+use Rattle.stop_orders.specs.declared.leg.Leg.{Leg}
+use Rattle.stop_orders.specs.declared.task.Task.{Task}
+use Rattle.stop_orders.specs.declared.settled.Settled.{Settled}
+use Rattle.stop_orders.specs.declared.settled_rider.SettledRider.{SettledRider}
+use Rattle.stop_orders.specs.Settled.{no_rider, rider_at, trip_task, IsTrip}
+use Rattle.trip_growth.specs.Rows.{task_with}
 use Rattle.trip_growth.specs.Trip.{IsLower}
 use Rattle.trip_growth.specs.Level.{trips_of, IsRow, IsLevel, IsLevelUpTo, IsTripRule, IsBelow, HasMoreThan}
 use Rattle.trip_growth.specs.declared.trip_of.TripOf.{TripOf}
@@ -196,3 +201,15 @@ read_at rows i row s h e = e ∙ sym (trip_at rows i row h)
 
 pub same_front : (m : ℕ) (s d t u : List ℕ) → s ≡ t → d ≡ u → take m s ≡ take m d → take m u ≡ take m t
 same_front m s d t u es ed e = ap (λ (v : List ℕ). take m v) (sym ed) ∙ sym e ∙ ap (λ (v : List ℕ). take m v) es
+
+-- the task of a row's trip with one more rider is that of the longer trip
+pub longer_task : (settled : Settled) (v : ℕ) (task : Task) (riders : List ℕ) (rider : ℕ) (all : List SettledRider) (d : SettledRider) → task ≡ trip_task settled v riders
+    → all ≡ settled.riders → IsTrip (length settled.riders) (riders ++ rider ∷ []) → task_with task (get_or all rider d).leg ≡ trip_task settled v (riders ++ rider ∷ [])
+longer_task settled v task riders rider all d is same trip =
+    let n = length_push riders rider in
+    let within : rider < length settled.riders = subst (λ (r : ℕ). r < length settled.riders) (get_or_push riders rider 0 (length riders) refl) (trip.within (length riders) 0 (omega arith)) in
+    let leg_of : ℕ → Leg = λ r. (rider_at settled r).leg in
+    let here : get_or all rider d ≡ rider_at settled rider = ap (λ (xs : List SettledRider). get_or xs rider d) same ∙ get_or_default settled.riders rider d no_rider within in
+    ap (λ (t : Task). task_with t (get_or all rider d).leg) is
+    ∙ ap (λ (legs : List Leg). record (trip_task settled v riders) { riders = record { items = legs } })
+    (ap (λ (y : SettledRider). map leg_of riders ++ y.leg ∷ []) here ∙ sym (map_push leg_of riders rider))

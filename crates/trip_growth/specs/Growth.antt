@@ -1,6 +1,7 @@
 use Rattle.std.specs.Prelude.{ℕ, ◌<◌, List, [], ◌∷◌, length, Contains}
 use Rattle.pool_base.specs.Times.{point_count, travel_time}
-use Rattle.stop_orders.specs.Settled.{IsSound}
+use Rattle.stop_orders.specs.declared.task.Task.{Task}
+use Rattle.stop_orders.specs.Settled.{IsSound, trip_task}
 use Rattle.trip_growth.specs.declared.growth.Growth.{Growth}
 use Rattle.trip_growth.specs.Rows.{CanServe, CostsLeast}
 use Rattle.trip_growth.specs.Level.{IsTripRule}
@@ -11,6 +12,10 @@ rider_count growth = length growth.settled.now.riders
 -- the vehicle of the growth can serve the trip
 abbrev pub serves : Growth → List ℕ → Type 0
 serves growth trip = CanServe (travel_time growth.times.now) growth.settled.now growth.vehicle trip
+
+-- the task of the vehicle with a trip
+abbrev pub task_of_trip : Growth → List ℕ → Task
+task_of_trip growth trip = trip_task growth.settled.now growth.vehicle trip
 
 abbrev pub costs : Growth → List ℕ → ℕ → Type 0
 costs growth trip cost = CostsLeast (travel_time growth.times.now) growth.settled.now growth.vehicle trip cost

@@ -1,4 +1,6 @@
-use Rattle.std.specs.Prelude.{ℕ, ◌+◌, ◌*◌, ◌≤◌, List, All, length}
+use Rattle.std.specs.Prelude.{ℕ, ◌+◌, ◌*◌, ◌≤◌, List, [], ◌∷◌, ◌++◌, All, length}
+use Rattle.stop_orders.specs.declared.leg.Leg.{Leg}
+use Rattle.stop_orders.specs.declared.task.Task.{Task}
 use Rattle.stop_orders.specs.declared.settled.Settled.{Settled}
 use Rattle.stop_orders.specs.Task.{IsServable, IsLeastDelay}
 use Rattle.stop_orders.specs.Settled.{IsTrip, trip_task}
@@ -9,6 +11,10 @@ use Rattle.trip_growth.specs.declared.level.Level.{Level}
 use Rattle.trip_growth.specs.declared.level.Level.TheVariants.{All as AllOfSize, TooMany as TooManyOfSize}
 use Rattle.trip_growth.specs.declared.grown.Grown.{Grown}
 use Rattle.trip_growth.specs.declared.grown.Grown.TheVariants.{All as AllRows, TooMany as TooManyRows}
+
+-- the task with one more rider
+abbrev pub task_with : Task → Leg → Task
+task_with task leg = record task { riders = record { items = task.riders.items ++ leg ∷ [] } }
 
 -- the riders are a trip of at most six, and some order of the vehicle serves it
 pub record CanServe (tau : ℕ → ℕ → ℕ) (settled : Settled) (vehicle : ℕ) (trip : List ℕ) : Type 0 where

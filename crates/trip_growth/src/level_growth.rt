@@ -11,9 +11,10 @@ use crate::trip_of::TripOf;
 use crate::vehicle_trips::VehicleTrips;
 use arrayvec::ArrayVec;
 use pool_base::{OutOfMemory, Steps, Times};
+use small_routing::Workspace;
 use std::alloc::Global;
 use std::sync::ledger::Ledger;
-use stop_orders::{PairList, Settled};
+use stop_orders::{PairList, Settled, task_of};
 
 /// The vehicle's rows of size 0: the empty trip, or nothing where no order serves the passengers in time.
 ///
@@ -30,7 +31,9 @@ pub fn empty_level<L: Ledger>(
     ensures rows { IfOk result (AreRowsOfSize (travel_time times.entry.now) settled.entry.now vehicle 0) }
     ensures steps { steps.new ≤ steps.old + 1 }
 {
-    let Some(cost) = least_cost(alloc, settled, times, vehicle, &[], steps)? else {
+    let mut workspace = Workspace::new(alloc);
+    let task = task_of(settled, vehicle, &[]);
+    let Some(cost) = least_cost(&mut workspace, &task, times, steps)? else {
         return Ok(VehicleTrips::new(alloc));
     };
     let mut rows = Vec::new(alloc);
@@ -75,9 +78,10 @@ pub fn grow_level<L: Ledger>(
         vehicle,
         room,
     };
+    let mut workspace = Workspace::new(alloc);
     let mut found = Vec::new(alloc);
     let all = grow_size(
-        alloc,
+        &mut workspace,
         &growth,
         below.rows(),
         level as usize,

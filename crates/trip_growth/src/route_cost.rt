@@ -1,35 +1,50 @@
-ghost use Rattle.std.specs.Prelude.{◌≡◌, ◌+◌, ◌<◌, ◌≤◌, IfOk, IfSome, IfNone, length};
+ghost use Rattle.std.specs.Prelude.{◌≡◌, ◌+◌, ◌<◌, IfOk, IfSome, IfNone, OnOk, length};
 ghost use Rattle.pool_base.specs.Times.{point_count, travel_time};
-ghost use Rattle.stop_orders.specs.Settled.{IsTrip, IsSound};
-ghost use Rattle.trip_growth.specs.Rows.{CanServe, CostsLeast};
+ghost use Rattle.stop_orders.specs.Task.{IsTask, IsServable, IsLeastDelay};
+ghost use Rattle.trip_growth.specs.Rows.{task_with};
 
 use pool_base::{OutOfMemory, Steps, Times};
-use small_routing::least_delay;
-use std::alloc::Global;
+use small_routing::{Workspace, least_delay_with};
 use std::sync::ledger::Ledger;
-use stop_orders::{Settled, task_of};
+use stop_orders::{Leg, Task};
 
-/// The least delay of an order of the vehicle that serves the trip; `None` where no order serves it. It is
-/// one search.
+/// The least delay of an order that serves the task; `None` where no order serves it. It is one search, in the
+/// room of earlier ones.
 pub fn least_cost<L: Ledger>(
-    alloc: Global,
-    settled: &Settled,
+    workspace: &mut Workspace,
+    task: &Task,
     times: &Times,
-    vehicle: usize,
-    trip: &[usize],
     steps: &mut Steps<L>,
 ) -> Result<Option<u64>, OutOfMemory>
-    requires sound { IsSound 6 (point_count times.now) (travel_time times.now) settled.now }
-    requires vehicle { vehicle < length settled.now.vehicles }
-    requires trip { IsTrip (length settled.now.riders) trip.now }
-    requires size { length trip.now ≤ 6 }
-    ensures least { IfOk result (λ answer. IfSome answer (CostsLeast (travel_time times.entry.now) settled.entry.now vehicle trip.entry.now)) }
-    ensures none { IfOk result (λ answer. IfNone answer (CanServe (travel_time times.entry.now) settled.entry.now vehicle trip.entry.now → ⊥)) }
+    requires valid { IsTask (point_count times.now) task.now }
+    ensures least { IfOk result (λ answer. IfSome answer (IsLeastDelay (travel_time times.entry.now) task.entry.now)) }
+    ensures none { IfOk result (λ answer. IfNone answer (IsServable (travel_time times.entry.now) task.entry.now → ⊥)) }
     ensures step { steps.new ≡ steps.old + 1 }
 {
-    let task = task_of(settled, vehicle, trip);
-    match least_delay(alloc, &task, times, steps)? {
+    match least_delay_with(workspace, task, times, steps)? {
         Some(route) => Ok(Some(route.delay)),
         None => Ok(None),
     }
+}
+
+/// The same of the task with one more rider. The task stays as it was, so that no copy of it is made for each rider
+/// who is tried.
+pub fn cost_with<L: Ledger>(
+    workspace: &mut Workspace,
+    task: &mut Task,
+    leg: Leg,
+    times: &Times,
+    steps: &mut Steps<L>,
+) -> Result<Option<u64>, OutOfMemory>
+    requires valid { IsTask (point_count times.now) (task_with task.old leg) }
+    requires room { length task.old.riders.items < 6 }
+    ensures least { IfOk result (λ answer. IfSome answer (IsLeastDelay (travel_time times.entry.now) (task_with task.old leg))) }
+    ensures none { IfOk result (λ answer. IfNone answer (IsServable (travel_time times.entry.now) (task_with task.old leg) → ⊥)) }
+    ensures task { OnOk result (task.new ≡ task.old) }
+    ensures step { steps.new ≡ steps.old + 1 }
+{
+    task.riders.push(leg);
+    let cost = least_cost(workspace, task, times, steps)?;
+    task.riders.pop();
+    Ok(cost)
 }

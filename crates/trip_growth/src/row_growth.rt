@@ -1,22 +1,24 @@
-ghost use Rattle.std.specs.Prelude.{◌≡◌, ◌+◌, ◌-◌, ◌*◌, ◌<◌, ◌≤◌, ◌++◌, ◌∷◌, [], IfOk, IfSome, IfNone, MatchBool, length, slice_index_or};
+ghost use Rattle.std.specs.Prelude.{◌≡◌, ◌+◌, ◌-◌, ◌*◌, ◌<◌, ◌≤◌, ◌++◌, ◌∷◌, [], IfOk, OnOk, MatchBool, length, slice_index_or};
 ghost use Rattle.stop_orders.specs.Settled.{IsTrip};
 ghost use Rattle.trip_growth.specs.Level.{trips_of, IsBelow, IsLevel, IsLevelUpTo, HasMoreThan};
-ghost use Rattle.trip_growth.specs.Growth.{CanGrow, rider_count, serves, costs};
+ghost use Rattle.trip_growth.specs.Growth.{CanGrow, rider_count, serves, costs, task_of_trip};
 
 use crate::candidate::{have_same_front, is_possible, with_rider};
 use crate::growth::Growth;
-use crate::route_cost::least_cost;
+use crate::route_cost::cost_with;
 use crate::trip_of::TripOf;
 use pool_base::{OutOfMemory, Steps};
-use std::alloc::Global;
+use small_routing::Workspace;
 use std::sync::ledger::Ledger;
+use stop_orders::{Task, task_of};
 
 /// Tries the trip of these riders and one more, and puts its row to the end of those found. `false` where
 /// there is no room for it.
 fn add_trip<L: Ledger>(
-    alloc: Global,
+    workspace: &mut Workspace,
     growth: &Growth<'_>,
     rows: &[TripOf],
+    task: &mut Task,
     riders: &[usize],
     rider: usize,
     found: &mut Vec<TripOf>,
@@ -26,6 +28,7 @@ fn add_trip<L: Ledger>(
     requires below { IsBelow (serves growth.now) (length riders.now) rows.now }
     requires trip { IsTrip (rider_count growth.now) (riders.now ++ rider ∷ []) }
     requires size { length riders.now < 6 }
+    requires task { task.old ≡ task_of_trip growth.now riders.now }
     requires upto { IsLevelUpTo (serves growth.now) (costs growth.now) (length riders.now + 1) (riders.now ++ rider ∷ []) found.old.items }
     requires room { length found.old.items ≤ growth.now.room }
     ensures answer { IfOk result (λ goes_on. MatchBool goes_on
@@ -33,21 +36,15 @@ fn add_trip<L: Ledger>(
         × (length found.new.items ≤ growth.now.room))
         (HasMoreThan (serves growth.now) (costs growth.now) (length riders.now + 1) growth.now.room)) }
     ensures steps { steps.new ≤ steps.old + 1 }
+    ensures task { OnOk result (task.new ≡ task.old) }
 {
     let longer = with_rider(riders, rider);
     let trip = longer.as_slice();
     if !is_possible(growth, rows, trip) {
         return Ok(true);
     }
-    let Some(cost) = least_cost(
-        alloc,
-        growth.settled,
-        growth.times,
-        growth.vehicle,
-        trip,
-        steps,
-    )?
-    else {
+    let leg = growth.settled.riders.as_slice()[rider].leg;
+    let Some(cost) = cost_with(workspace, task, leg, growth.times, steps)? else {
         return Ok(true);
     };
     if found.len() as u64 >= growth.room {
@@ -62,7 +59,7 @@ fn add_trip<L: Ledger>(
 
 /// Tries the trips of one row and the last rider of each later row that differs in that rider alone.
 fn grow_row<L: Ledger>(
-    alloc: Global,
+    workspace: &mut Workspace,
     growth: &Growth<'_>,
     rows: &[TripOf],
     row: usize,
@@ -83,13 +80,23 @@ fn grow_row<L: Ledger>(
     ensures steps { steps.new ≤ steps.old + rider_count growth.now }
 {
     let riders = rows[row].riders.as_slice();
+    let mut task = task_of(growth.settled, growth.vehicle, riders);
     let mut at = row;
     while at + 1 < rows.len() {
         let other = rows[at + 1].riders.as_slice();
         if !have_same_front(riders, other, size) {
             return Ok(true);
         }
-        if !add_trip(alloc, growth, rows, riders, other[size], found, steps)? {
+        if !add_trip(
+            workspace,
+            growth,
+            rows,
+            &mut task,
+            riders,
+            other[size],
+            found,
+            steps,
+        )? {
             return Ok(false);
         }
         at += 1;
@@ -99,7 +106,7 @@ fn grow_row<L: Ledger>(
 
 /// The trips of one rider more than the rows, which have `size + 1` riders each.
 fn grow_rows<L: Ledger>(
-    alloc: Global,
+    workspace: &mut Workspace,
     growth: &Growth<'_>,
     rows: &[TripOf],
     size: usize,
@@ -116,7 +123,7 @@ fn grow_rows<L: Ledger>(
     ensures steps { steps.new ≤ steps.old + length rows.now * rider_count growth.now }
 {
     for row in 0..rows.len() {
-        if !grow_row(alloc, growth, rows, row, size, found, steps)? {
+        if !grow_row(workspace, growth, rows, row, size, found, steps)? {
             return Ok(false);
         }
     }
@@ -125,7 +132,7 @@ fn grow_rows<L: Ledger>(
 
 /// The trips of one rider; the rows are the empty trip's.
 fn grow_first<L: Ledger>(
-    alloc: Global,
+    workspace: &mut Workspace,
     growth: &Growth<'_>,
     rows: &[TripOf],
     found: &mut Vec<TripOf>,
@@ -142,8 +149,9 @@ fn grow_first<L: Ledger>(
     if rows.is_empty() {
         return Ok(true);
     }
+    let mut task = task_of(growth.settled, growth.vehicle, &[]);
     for rider in 0..growth.settled.riders.as_slice().len() {
-        if !add_trip(alloc, growth, rows, &[], rider, found, steps)? {
+        if !add_trip(workspace, growth, rows, &mut task, &[], rider, found, steps)? {
             return Ok(false);
         }
     }
@@ -152,7 +160,7 @@ fn grow_first<L: Ledger>(
 
 /// The trips of `level` riders, 1 to 6, from the rows of one rider fewer. `false` where there is no room.
 pub fn grow_size<L: Ledger>(
-    alloc: Global,
+    workspace: &mut Workspace,
     growth: &Growth<'_>,
     rows: &[TripOf],
     level: usize,
@@ -170,7 +178,7 @@ pub fn grow_size<L: Ledger>(
     ensures steps { steps.new ≤ steps.old + length rows.now * rider_count growth.now }
 {
     if level == 1 {
-        return grow_first(alloc, growth, rows, found, steps);
+        return grow_first(workspace, growth, rows, found, steps);
     }
-    grow_rows(alloc, growth, rows, level - 2, found, steps)
+    grow_rows(workspace, growth, rows, level - 2, found, steps)
 }

@@ -1,9 +1,10 @@
 use Rattle.std.proofs.Common.{◌≡◌, ℕ, ◌<◌, ◌≤◌, ◌+◌, ◌∷◌, ◌++◌, [], List, length, get_or, length-append, Result, Ok, Err, OnOk, refl, subst, sym, ap, ◌∙◌, arith}
 use Rattle.std.specs.Prelude.{All}
 use Rattle.std.proofs.lemmas.Bool.{true≢false}
-use Rattle.std.proofs.lemmas.List.{take_all}
+use Rattle.std.proofs.lemmas.List.{take_all, get_or_default}
 use Rattle.std.proofs.lemmas.List.Elements.{All-push}
 use Rattle.pool_base.specs.Times.{point_count, travel_time}
+use Rattle.stop_orders.specs.declared.stop.Stop.TheVariants.{Pick}
 use Rattle.stop_orders.specs.Done.{with_stop, left_count}
 use Rattle.stop_orders.proofs.DoneLemmas.{left_count-falls}
 use Rattle.stop_orders.proofs.PlainLemmas.{IsAllDone-at, IsAllDone-not_at, path_back}
@@ -11,9 +12,16 @@ use Rattle.small_routing.specs.declared.candidate.Candidate.{Candidate}
 use Rattle.small_routing.specs.Label.{rider_count, passenger_count, IsSmall}
 use Rattle.small_routing.specs.Kept.{labels_of, IsPlaced}
 use Rattle.small_routing.specs.Search.{LeadsTo, IsCandidate, IsTried, IsSettled, Searched}
-use Rattle.small_routing.proofs.LabelLemmas.{small_next, leads_next}
+use Rattle.small_routing.proofs.LabelLemmas.{known_next, small_next, leads_next}
 use Rattle.small_routing.proofs.SearchLemmas.{searched_better, searched_no_better, exhausted_tried, tried_searched, tries_more}
 use Rattle.small_routing.proofs.search.+try_all.Goals as goal
+
+-- what is read where there is no such candidate
+abbrev no_candidate : Candidate
+no_candidate = record { stop = Pick 0; free = 0 }
+
+read_again : (items : List Candidate) (i : ℕ) → i < length items → get_or items i no_candidate ≡ get_or items i (get_or items i no_candidate)
+read_again items i h = get_or_default items i no_candidate (get_or items i no_candidate) h
 
 -- an element of the slice is one of the candidates
 candidate_at : (P : Candidate → Type 0) (items slice : List Candidate) (i : ℕ) (c : Candidate) → slice ≡ items → i < length slice → c ≡ get_or slice i c → All P items → P c
@@ -32,17 +40,33 @@ returns-then-is_better-clause-searched t c =
     searched_better (point_count c.args.times.now) (travel_time c.args.times.now) c.args.times.now.table.times task c.requires.valid c.args.path.now.items c.args.path.now.items label c.args.best.now
     (record { stops = c.copy_of.result; delay = label.delay }) (labels_of c.args.kept.now) c.requires.leads all same refl (λ n. true≢false (sym c.if-is_better.true ∙ c.is_better.ensures.1 n)) c.requires.settled
 
+pub label_after-requires-clause-known : goal.label_after-requires-clause-known
+label_after-requires-clause-known t c =
+    let task = c.args.task.now in
+    let label = c.args.label.now in
+    let is = candidate_at (IsCandidate (travel_time c.args.times.now) task label) c.candidates_after-candidates.result.items c.as_slice-candidate-items.result.now c.loop-candidate.candidate-index (get_or c.as_slice-candidate-items.result.now c.loop-candidate.candidate-index no_candidate)
+    c.as_slice-candidate-items.ensures.value c.loop-candidate-test.true (read_again c.as_slice-candidate-items.result.now c.loop-candidate.candidate-index c.loop-candidate-test.true) c.candidates_after-candidates.ensures.each in
+    known_next (rider_count task) (passenger_count task) label.done (get_or c.as_slice-candidate-items.result.now c.loop-candidate.candidate-index no_candidate).stop is.next
+
+pub loop-candidate-preserved-in_default : goal.loop-candidate-preserved-in_default
+loop-candidate-preserved-in_default t c =
+    let task = c.args.task.now in
+    let label = c.args.label.now in
+    let is = candidate_at (IsCandidate (travel_time c.args.times.now) task label) c.candidates_after-candidates.result.items c.as_slice-candidate-items.result.now c.loop-candidate.candidate-index (get_or c.as_slice-candidate-items.result.now c.loop-candidate.candidate-index no_candidate)
+    c.as_slice-candidate-items.ensures.value c.loop-candidate-test.true (read_again c.as_slice-candidate-items.result.now c.loop-candidate.candidate-index c.loop-candidate-test.true) c.candidates_after-candidates.ensures.each in
+    absurd (c.in_default.ensures is.can)
+
 pub is_hopeless-requires-clause-small : goal.is_hopeless-requires-clause-small
 is_hopeless-requires-clause-small t c =
     let task = c.args.task.now in
     let label = c.args.label.now in
     let tau = travel_time c.args.times.now in
     let points = point_count c.args.times.now in
-    let s = c.candidate-item.result.stop in
-    let is = candidate_at (IsCandidate tau task label) c.candidates_after-candidates.result.items c.as_slice-candidate-items.result.now c.loop-candidate.candidate-index c.candidate-item.result
-    c.as_slice-candidate-items.ensures.value c.loop-candidate-test.true c.candidate-item.is c.candidates_after-candidates.ensures.each in
+    let s = (get_or c.as_slice-candidate-items.result.now c.loop-candidate.candidate-index no_candidate).stop in
+    let is = candidate_at (IsCandidate tau task label) c.candidates_after-candidates.result.items c.as_slice-candidate-items.result.now c.loop-candidate.candidate-index (get_or c.as_slice-candidate-items.result.now c.loop-candidate.candidate-index no_candidate)
+    c.as_slice-candidate-items.ensures.value c.loop-candidate-test.true (read_again c.as_slice-candidate-items.result.now c.loop-candidate.candidate-index c.loop-candidate-test.true) c.candidates_after-candidates.ensures.each in
     let fall = left_count-falls (rider_count task) (passenger_count task) label.done c.requires.valid.rider_count s is.next in
-    subst (λ l. IsSmall points (left_count (rider_count task) (passenger_count task) l.done) l) (sym is.after)
+    subst (λ l. IsSmall points (left_count (rider_count task) (passenger_count task) l.done) l) (sym c.in-Some.ensures.1)
     (small_next points tau c.args.times.now.table.times task c.requires.valid label s (left_count (rider_count task) (passenger_count task) label.done) (left_count (rider_count task) (passenger_count task) (with_stop label.done s)) c.requires.small fall is.next is.can)
 
 pub loop-candidate-preserved-then-is_hopeless : goal.loop-candidate-preserved-then-is_hopeless
@@ -55,21 +79,21 @@ loop-candidate-preserved-then-is_hopeless t c =
     let inv = c.loop-candidate.invariant in
     let best = c.loop-candidate.best in
     let labels = labels_of c.loop-candidate.kept in
-    let candidate = c.candidate-item.result in
+    let candidate = (get_or c.as_slice-candidate-items.result.now c.loop-candidate.candidate-index no_candidate) in
     let is = candidate_at (IsCandidate tau task label) c.candidates_after-candidates.result.items c.as_slice-candidate-items.result.now c.loop-candidate.candidate-index candidate
-    c.as_slice-candidate-items.ensures.value c.loop-candidate-test.true c.candidate-item.is c.candidates_after-candidates.ensures.each in
-    let searched = searched_no_better points tau time task c.requires.valid candidate.label best labels inv.found (c.is_hopeless.ensures c.if-is_hopeless.true) inv.settled in
-    let tried = tried_searched points tau time task c.requires.valid label candidate.label candidate.stop best best labels is.after searched in
-    tries_more points tau task label candidate.label c.args.path.now.items c.loop-candidate.path.items c.loop-candidate.path.items c.args.best.now best best labels labels
-    c.as_slice-candidate-items.result.now c.loop-candidate.candidate-index candidate c.loop-candidate-test.true c.candidate-item.is inv.same searched tried inv
+    c.as_slice-candidate-items.ensures.value c.loop-candidate-test.true (read_again c.as_slice-candidate-items.result.now c.loop-candidate.candidate-index c.loop-candidate-test.true) c.candidates_after-candidates.ensures.each in
+    let searched = searched_no_better points tau time task c.requires.valid c.in-Some.next best labels inv.found (c.is_hopeless.ensures c.if-is_hopeless.true) inv.settled in
+    let tried = tried_searched points tau time task c.requires.valid label c.in-Some.next candidate.stop best best labels c.in-Some.ensures.1 searched in
+    tries_more points tau task label c.in-Some.next c.args.path.now.items c.loop-candidate.path.items c.loop-candidate.path.items c.args.best.now best best labels labels
+    c.as_slice-candidate-items.result.now c.loop-candidate.candidate-index candidate c.loop-candidate-test.true (read_again c.as_slice-candidate-items.result.now c.loop-candidate.candidate-index c.loop-candidate-test.true) inv.same searched tried inv
 
 pub push-requires : goal.push-requires
 push-requires t c =
     let task = c.args.task.now in
     let label = c.args.label.now in
-    let is = candidate_at (IsCandidate (travel_time c.args.times.now) task label) c.candidates_after-candidates.result.items c.as_slice-candidate-items.result.now c.loop-candidate.candidate-index c.candidate-item.result
-    c.as_slice-candidate-items.ensures.value c.loop-candidate-test.true c.candidate-item.is c.candidates_after-candidates.ensures.each in
-    let fall = left_count-falls (rider_count task) (passenger_count task) label.done c.requires.valid.rider_count c.candidate-item.result.stop is.next in
+    let is = candidate_at (IsCandidate (travel_time c.args.times.now) task label) c.candidates_after-candidates.result.items c.as_slice-candidate-items.result.now c.loop-candidate.candidate-index (get_or c.as_slice-candidate-items.result.now c.loop-candidate.candidate-index no_candidate)
+    c.as_slice-candidate-items.ensures.value c.loop-candidate-test.true (read_again c.as_slice-candidate-items.result.now c.loop-candidate.candidate-index c.loop-candidate-test.true) c.candidates_after-candidates.ensures.each in
+    let fall = left_count-falls (rider_count task) (passenger_count task) label.done c.requires.valid.rider_count (get_or c.as_slice-candidate-items.result.now c.loop-candidate.candidate-index no_candidate).stop is.next in
     let same : length c.loop-candidate.path.items ≡ length c.args.path.now.items = ap length c.loop-candidate.invariant.same in
     let room : length c.loop-candidate.path.items < 22 = omega (arith, c.requires.room, fall, same) in
     (omega arith, room)
@@ -81,26 +105,26 @@ try_all-requires t c =
     let tau = travel_time c.args.times.now in
     let points = point_count c.args.times.now in
     let time = c.args.times.now.table.times in
-    let candidate = c.candidate-item.result in
+    let candidate = (get_or c.as_slice-candidate-items.result.now c.loop-candidate.candidate-index no_candidate) in
     let s = candidate.stop in
-    let is = candidate_at (IsCandidate tau task label) c.candidates_after-candidates.result.items c.as_slice-candidate-items.result.now c.loop-candidate.candidate-index c.candidate-item.result
-    c.as_slice-candidate-items.ensures.value c.loop-candidate-test.true c.candidate-item.is c.candidates_after-candidates.ensures.each in
+    let is = candidate_at (IsCandidate tau task label) c.candidates_after-candidates.result.items c.as_slice-candidate-items.result.now c.loop-candidate.candidate-index (get_or c.as_slice-candidate-items.result.now c.loop-candidate.candidate-index no_candidate)
+    c.as_slice-candidate-items.ensures.value c.loop-candidate-test.true (read_again c.as_slice-candidate-items.result.now c.loop-candidate.candidate-index c.loop-candidate-test.true) c.candidates_after-candidates.ensures.each in
     let fall = left_count-falls (rider_count task) (passenger_count task) label.done c.requires.valid.rider_count s is.next in
     let pushed : c.push.new.self.items ≡ c.args.path.now.items ++ s ∷ [] = c.push.ensures.items ∙ ap (λ xs. xs ++ s ∷ []) c.loop-candidate.invariant.same in
     let longer : length c.push.new.self.items ≡ length c.args.path.now.items + 1 = ap length pushed ∙ length-append c.args.path.now.items (s ∷ []) in
-    let left : left_count (rider_count task) (passenger_count task) candidate.label.done + 1 ≤ left_count (rider_count task) (passenger_count task) label.done =
-    subst (λ l. left_count (rider_count task) (passenger_count task) l.done + 1 ≤ left_count (rider_count task) (passenger_count task) label.done) (sym is.after) fall in
+    let left : left_count (rider_count task) (passenger_count task) c.in-Some.next.done + 1 ≤ left_count (rider_count task) (passenger_count task) label.done =
+    subst (λ l. left_count (rider_count task) (passenger_count task) l.done + 1 ≤ left_count (rider_count task) (passenger_count task) label.done) (sym c.in-Some.ensures.1) fall in
     let measure = c.decreases in
-    let less : left_count (rider_count task) (passenger_count task) candidate.label.done < t = omega (arith, left, measure) in
+    let less : left_count (rider_count task) (passenger_count task) c.in-Some.next.done < t = omega (arith, left, measure) in
     let leads = leads_next points tau time task c.requires.valid label c.args.path.now.items s c.requires.leads is.next is.can in
     let small = small_next points tau time task c.requires.valid label s (left_count (rider_count task) (passenger_count task) label.done) (left_count (rider_count task) (passenger_count task) (with_stop label.done s)) c.requires.small fall is.next is.can in (
       less,
       (
         c.requires.valid,
         (
-          subst (λ p. LeadsTo tau task p candidate.label) (sym pushed) (subst (λ l. LeadsTo tau task (c.args.path.now.items ++ s ∷ []) l) (sym is.after) leads),
+          subst (λ p. LeadsTo tau task p c.in-Some.next) (sym pushed) (subst (λ l. LeadsTo tau task (c.args.path.now.items ++ s ∷ []) l) (sym c.in-Some.ensures.1) leads),
           (
-            subst (λ l. IsSmall points (left_count (rider_count task) (passenger_count task) l.done) l) (sym is.after) small,
+            subst (λ l. IsSmall points (left_count (rider_count task) (passenger_count task) l.done) l) (sym c.in-Some.ensures.1) small,
             (
               omega (arith, left, longer, c.requires.room),
               (c.loop-candidate.invariant.found, c.loop-candidate.invariant.settled),
@@ -118,16 +142,16 @@ loop-candidate-preserved t c =
     let points = point_count c.args.times.now in
     let time = c.args.times.now.table.times in
     let path = c.args.path.now.items in
-    let candidate = c.candidate-item.result in
+    let candidate = (get_or c.as_slice-candidate-items.result.now c.loop-candidate.candidate-index no_candidate) in
     let s = candidate.stop in
-    let is = candidate_at (IsCandidate tau task label) c.candidates_after-candidates.result.items c.as_slice-candidate-items.result.now c.loop-candidate.candidate-index c.candidate-item.result
-    c.as_slice-candidate-items.ensures.value c.loop-candidate-test.true c.candidate-item.is c.candidates_after-candidates.ensures.each in
+    let is = candidate_at (IsCandidate tau task label) c.candidates_after-candidates.result.items c.as_slice-candidate-items.result.now c.loop-candidate.candidate-index (get_or c.as_slice-candidate-items.result.now c.loop-candidate.candidate-index no_candidate)
+    c.as_slice-candidate-items.ensures.value c.loop-candidate-test.true (read_again c.as_slice-candidate-items.result.now c.loop-candidate.candidate-index c.loop-candidate-test.true) c.candidates_after-candidates.ensures.each in
     let pushed : c.push.new.self.items ≡ path ++ s ∷ [] = c.push.ensures.items ∙ ap (λ xs. xs ++ s ∷ []) c.loop-candidate.invariant.same in
     let back = path_back path c.try_all.new.path.items c.pop.new.self.items s (c.in_ok-try_all.ensures.path ∙ pushed) c.pop.ensures.rest in
     let searched = c.in_ok-try_all.ensures.searched in
-    let tried = tried_searched points tau time task c.requires.valid label candidate.label s c.loop-candidate.best c.try_all.new.best (labels_of c.try_all.new.kept) is.after searched in
-    tries_more points tau task label candidate.label path c.loop-candidate.path.items c.pop.new.self.items c.args.best.now c.loop-candidate.best c.try_all.new.best (labels_of c.loop-candidate.kept) (labels_of c.try_all.new.kept)
-    c.as_slice-candidate-items.result.now c.loop-candidate.candidate-index candidate c.loop-candidate-test.true c.candidate-item.is back searched tried c.loop-candidate.invariant
+    let tried = tried_searched points tau time task c.requires.valid label c.in-Some.next s c.loop-candidate.best c.try_all.new.best (labels_of c.try_all.new.kept) c.in-Some.ensures.1 searched in
+    tries_more points tau task label c.in-Some.next path c.loop-candidate.path.items c.pop.new.self.items c.args.best.now c.loop-candidate.best c.try_all.new.best (labels_of c.loop-candidate.kept) (labels_of c.try_all.new.kept)
+    c.as_slice-candidate-items.result.now c.loop-candidate.candidate-index candidate c.loop-candidate-test.true (read_again c.as_slice-candidate-items.result.now c.loop-candidate.candidate-index c.loop-candidate-test.true) back searched tried c.loop-candidate.invariant
 
 pub returns-clause-searched : goal.returns-clause-searched
 returns-clause-searched t c =

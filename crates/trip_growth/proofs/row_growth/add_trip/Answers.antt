@@ -1,8 +1,10 @@
 use Rattle.std.proofs.Common.{[], ◌∷◌, ◌++◌, sym, ◌∙◌, subst, arith}
 use Rattle.std.proofs.lemmas.List.{length_push}
+use Rattle.pool_base.specs.Times.{point_count, travel_time}
+use Rattle.stop_orders.specs.Task.{IsTask, IsServable, IsLeastDelay}
 use Rattle.trip_growth.specs.Growth.{serves, costs, rider_count}
 use Rattle.trip_growth.proofs.Levels.{taken, passed}
-use Rattle.trip_growth.proofs.RowGrowth.{row_of, one_too_many}
+use Rattle.trip_growth.proofs.RowGrowth.{row_of, one_too_many, longer_task}
 use Rattle.trip_growth.proofs.row_growth.add_trip.Goals as goal
 
 pub returns-then-not-is_possible-clause-answer : goal.returns-then-not-is_possible-clause-answer
@@ -17,18 +19,18 @@ returns-then-not-is_possible-clause-answer g c =
 pub returns-in_default-clause-answer : goal.returns-in_default-clause-answer
 returns-in_default-clause-answer g c =
     let growth = c.args.growth.now in
-    let is = c.as_slice-trip.ensures.value ∙ c.with_rider-longer.ensures in
+    let same = longer_task growth.settled.now growth.vehicle c.args.task.now c.args.riders.now c.args.rider c.as_slice.result.now c.index-as_slice-rider.result c.requires.task c.as_slice.ensures c.requires.trip in
     let none = rw c.in_default.is at c.in_ok-cost.ensures.none in (
       passed (rider_count growth) (serves growth) (costs growth) c.requires.can.rule c.args.riders.now c.args.rider c.args.found.now.items
-          (λ s. none (subst (serves growth) (sym is) s)) c.requires.upto,
+          (λ s. none (subst (IsServable (travel_time growth.times.now)) (sym same) s.servable)) c.requires.upto,
       c.requires.room,
     )
 
 pub returns-then-len-growth-clause-answer : goal.returns-then-len-growth-clause-answer
 returns-then-len-growth-clause-answer g c =
     let growth = c.args.growth.now in
-    let is = c.as_slice-trip.ensures.value ∙ c.with_rider-longer.ensures in
-    let least = subst (λ v. costs growth v c.in-Some.cost) is (rw c.in-Some.is at c.in_ok-cost.ensures.least) in
+    let same = longer_task growth.settled.now growth.vehicle c.args.task.now c.args.riders.now c.args.rider c.as_slice.result.now c.index-as_slice-rider.result c.requires.task c.as_slice.ensures c.requires.trip in
+    let least = subst (λ t. IsLeastDelay (travel_time growth.times.now) t c.in-Some.cost) same (rw c.in-Some.is at c.in_ok-cost.ensures.least) in
     let good = row_of (serves growth) (costs growth) (c.args.riders.now ++ c.args.rider ∷ []) (record { riders = c.with_rider-longer.result; cost = c.in-Some.cost }) c.with_rider-longer.ensures
     (record { riders = c.requires.trip; size = omega (arith, length_push c.args.riders.now c.args.rider); servable = (least.stops, least.serves) }) least in
     one_too_many (serves growth) (costs growth) _ growth.room _ c.args.found.now.items _
@@ -37,11 +39,19 @@ returns-then-len-growth-clause-answer g c =
 pub returns-clause-answer : goal.returns-clause-answer
 returns-clause-answer g c =
     let growth = c.args.growth.now in
-    let is = c.as_slice-trip.ensures.value ∙ c.with_rider-longer.ensures in
-    let least = subst (λ v. costs growth v c.in-Some.cost) is (rw c.in-Some.is at c.in_ok-cost.ensures.least) in
+    let same = longer_task growth.settled.now growth.vehicle c.args.task.now c.args.riders.now c.args.rider c.as_slice.result.now c.index-as_slice-rider.result c.requires.task c.as_slice.ensures c.requires.trip in
+    let least = subst (λ t. IsLeastDelay (travel_time growth.times.now) t c.in-Some.cost) same (rw c.in-Some.is at c.in_ok-cost.ensures.least) in
     let good = row_of (serves growth) (costs growth) (c.args.riders.now ++ c.args.rider ∷ []) (record { riders = c.with_rider-longer.result; cost = c.in-Some.cost }) c.with_rider-longer.ensures
     (record { riders = c.requires.trip; size = omega (arith, length_push c.args.riders.now c.args.rider); servable = (least.stops, least.serves) }) least in
     rw c.in_ok-push.ensures.items (
       taken (rider_count growth) (serves growth) (costs growth) c.requires.can.rule c.args.riders.now c.args.rider c.args.found.now.items _ c.with_rider-longer.ensures good c.requires.upto,
       omega (arith, length_push c.args.found.now.items (record { riders = c.with_rider-longer.result; cost = c.in-Some.cost })),
     )
+
+pub cost_with-requires-clause-valid : goal.cost_with-requires-clause-valid
+cost_with-requires-clause-valid g c =
+    let growth = c.args.growth.now in
+    let longer = length_push c.args.riders.now c.args.rider in
+    let same = longer_task growth.settled.now growth.vehicle c.args.task.now c.args.riders.now c.args.rider c.as_slice.result.now c.index-as_slice-rider.result c.requires.task c.as_slice.ensures c.requires.trip in
+    subst (IsTask (point_count growth.times.now)) (sym same)
+    ((c.requires.can.sound.each growth.vehicle c.requires.can.vehicle).tasks (c.args.riders.now ++ c.args.rider ∷ []) c.requires.trip (omega arith))

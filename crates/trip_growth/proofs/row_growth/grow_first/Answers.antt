@@ -19,6 +19,7 @@ loop-rider-init g c =
     record {
       upto = rw c.requires.none (first_begun (rider_count growth) (serves growth) (costs growth) c.requires.can.rule);
       room = rw c.requires.none (omega arith);
+      task = c.task_of-task.ensures;
       cost = omega arith;
     }
 

@@ -1,11 +1,12 @@
-use Rattle.std.proofs.Common.{◌+◌, ◌≤◌, [], ◌∷◌, length}
+use Rattle.std.proofs.Common.{◌≡◌, ◌+◌, ◌≤◌, [], ◌∷◌, length}
 use Rattle.trip_growth.specs.Level.{IsLevelUpTo}
-use Rattle.trip_growth.specs.Growth.{serves, costs}
+use Rattle.trip_growth.specs.Growth.{serves, costs, task_of_trip}
 use Rattle.trip_growth.proofs.row_growth.grow_first.Given as goal
 
 abbrev pub invariant-loop-rider : goal.invariant-loop-rider
 invariant-loop-rider g l = record {
   upto : IsLevelUpTo (serves l.growth) (costs l.growth) 1 (l.rider ∷ []) l.found.items;
   room : length l.found.items ≤ l.growth.room;
+  task : l.task ≡ task_of_trip l.growth [];
   cost : l.steps ≤ l.fn.steps + l.rider;
 }

@@ -13,6 +13,7 @@ loop-at-init g c =
       same = refl;
       upto = opened_at (rider_count growth) (serves growth) (costs growth) c.requires.can.rule c.args.size c.args.rows.now c.requires.below c.args.row c.args.found.now.items c.requires.row c.requires.upto;
       room = c.requires.room;
+      task = c.task_of-task.ensures;
       cost = omega arith;
     }
 
@@ -112,6 +113,7 @@ loop-at-preserved g c =
       same = next;
       upto = upto_as_stored (rider_count growth) (serves growth) (costs growth) c.requires.can.rule m rows c.requires.below c.args.row (c.loop-at.at + 1) _ _ _ c.requires.row es ed went.0;
       room = went.1;
+      task = c.in_ok-add_trip.ensures.task ∙ c.loop-at.invariant.task;
       cost = omega (
         arith,
         c.add_trip.ensures.steps,

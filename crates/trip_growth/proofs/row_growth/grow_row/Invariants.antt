@@ -1,6 +1,6 @@
 use Rattle.std.proofs.Common.{◌≡◌, ◌+◌, ◌-◌, ◌<◌, ◌≤◌, [], ◌∷◌, ◌++◌, length, take, slice_index, slice_index_or}
 use Rattle.trip_growth.specs.Level.{trips_of, IsLevelUpTo}
-use Rattle.trip_growth.specs.Growth.{serves, costs}
+use Rattle.trip_growth.specs.Growth.{serves, costs, task_of_trip}
 use Rattle.trip_growth.proofs.row_growth.grow_row.Given as goal
 
 abbrev pub invariant-loop-at : goal.invariant-loop-at
@@ -11,6 +11,7 @@ invariant-loop-at g l =
       same : take l.size there ≡ take l.size here;
       upto : IsLevelUpTo (serves l.growth) (costs l.growth) (l.size + 2) (here ++ (slice_index there l.size + 1) ∷ []) l.found.items;
       room : length l.found.items ≤ l.growth.room;
+      task : l.task ≡ task_of_trip l.growth l.riders;
       cost : l.steps + slice_index here l.size ≤ l.fn.steps + slice_index there l.size;
     }
 
