@@ -1,2 +1,2 @@
-pub mod StepLemmas
-pub mod RunLemmas
+pub mod CrewLemmas
+pub mod RoundLemmas

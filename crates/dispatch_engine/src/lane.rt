@@ -1,92 +1,107 @@
 ghost use Rattle.std.specs.Prelude.{◌≡◌, ◌∷◌, [], All, OnOk};
-ghost use Rattle.request_book.specs.Book.{IsBook};
+ghost use Rattle.batch_solver.specs.Outcome.{IsGoodOutcome};
 ghost use Rattle.script_rows.specs.Round.{MayStand};
-ghost use Rattle.dispatch_engine.specs.Run.{IsPlain, IsReady, HasRun, HasTaken};
+ghost use Rattle.seat_lock.specs.Values.{IsPassOf};
+ghost use Rattle.shared_book.specs.Lanes.{HasRun, IsPlain};
+ghost use Rattle.dispatch_engine.specs.Crew.{HasTaken};
 
 use batch_solver::solve_batch;
 use pool_base::{OutOfMemory, Second};
-use request_book::{Book, Command};
+use request_book::Command;
 use rider_limits::Settings;
 use road_network::Network;
+use shared_book::{Pass, SealReceipt, SharedBook};
 use std::alloc::Global;
+use std::sync::Wait;
 use std::thread::Threads;
 
-/// Lets the book take the commands of a lane, in their order, each seal followed by the close of its batch.
+/// Calls the book with a lane's commands, in their order, and closes each batch that a seal put up before
+/// the next command. The batch is solved while other lanes go on.
 pub(crate) fn run_lane(
-    rt: &(impl Threads + Sync),
+    rt: &(impl Threads + Wait + Sync),
     alloc: Global,
-    book: &mut Book,
-    lane: u8,
+    book: &SharedBook,
+    pass: &mut Pass,
     commands: &[Command],
     network: &Network,
     settings: &Settings,
 ) -> Result<(), OutOfMemory>
-    requires stand { All (MayStand lane) commands.now }
-    requires ready { IsReady settings.now network.now book.old }
-    ensures { OnOk result (HasRun settings.now network.now book.old lane commands.now book.new) }
+    requires own { IsPassOf book.now pass.old }
+    requires stand { All (MayStand pass.old.lane) commands.now }
+    requires nodes { book.now.start.nodes ≡ network.now.nodes }
+    ensures pass { IsPassOf book.now pass.new × (pass.new.lane ≡ pass.old.lane) }
+    ensures run { OnOk result (HasRun (IsGoodOutcome settings.now network.now) commands.now pass.old pass.new) }
 {
     for command in commands {
-        run_command(rt, alloc, book, lane, command, network, settings)?;
+        run_command(rt, alloc, book, pass, command, network, settings)?;
     }
     Ok(())
 }
 
 fn run_command(
-    rt: &(impl Threads + Sync),
+    rt: &(impl Threads + Wait + Sync),
     alloc: Global,
-    book: &mut Book,
-    lane: u8,
+    book: &SharedBook,
+    pass: &mut Pass,
     command: &Command,
     network: &Network,
     settings: &Settings,
 ) -> Result<(), OutOfMemory>
-    requires stands { MayStand lane command.now }
-    requires ready { IsReady settings.now network.now book.old }
-    ensures { OnOk result (HasRun settings.now network.now book.old lane (command.now ∷ []) book.new) }
+    requires own { IsPassOf book.now pass.old }
+    requires stands { MayStand pass.old.lane command.now }
+    requires nodes { book.now.start.nodes ≡ network.now.nodes }
+    ensures pass { IsPassOf book.now pass.new × (pass.new.lane ≡ pass.old.lane) }
+    ensures run { OnOk result (HasRun (IsGoodOutcome settings.now network.now) (command.now ∷ []) pass.old pass.new) }
 {
     match command {
-        Command::Seal { now } => run_seal(rt, alloc, book, lane, *now, network, settings),
-        _ => take(book, lane, copied(command)),
+        Command::Seal { now } => run_seal(rt, alloc, book, pass, *now, network, settings),
+        _ => take(rt, alloc, book, pass, copied(command)),
     }
 }
 
-/// Lets the book take a seal and, where it put a batch up, at once the close of that batch.
+/// Seals a batch and, where one was put up, solves it outside the lock and closes it.
 fn run_seal(
-    rt: &(impl Threads + Sync),
+    rt: &(impl Threads + Wait + Sync),
     alloc: Global,
-    book: &mut Book,
-    lane: u8,
+    book: &SharedBook,
+    pass: &mut Pass,
     now: Second,
     network: &Network,
     settings: &Settings,
 ) -> Result<(), OutOfMemory>
-    requires ready { IsReady settings.now network.now book.old }
-    ensures { OnOk result (HasRun settings.now network.now book.old lane (Command.Seal now ∷ []) book.new) }
+    requires own { IsPassOf book.now pass.old }
+    requires nodes { book.now.start.nodes ≡ network.now.nodes }
+    ensures pass { IsPassOf book.now pass.new × (pass.new.lane ≡ pass.old.lane) }
+    ensures run { OnOk result (HasRun (IsGoodOutcome settings.now network.now) (Command.Seal now ∷ []) pass.old pass.new) }
 {
-    let sealed = book.would_seal(now)?;
-    take(book, lane, Command::Seal { now })?;
-    match sealed {
-        Some(snapshot) => {
-            let outcome = solve_batch(rt, alloc, &snapshot, network, settings)?;
-            let close = Command::Close {
-                batch: snapshot.batch,
-                outcome,
-            };
-            take(book, lane, close)
-        }
-        None => Ok(()),
-    }
+    let SealReceipt {
+        receipt: _,
+        snapshot,
+    } = book.seal(rt, alloc, pass, now)?;
+    let Some(snapshot) = snapshot else {
+        return Ok(());
+    };
+    let outcome = solve_batch(rt, alloc, &snapshot, network, settings)?;
+    let close = Command::Close {
+        batch: snapshot.batch,
+        outcome,
+    };
+    take(rt, alloc, book, pass, close)
 }
 
-fn take(book: &mut Book, lane: u8, command: Command) -> Result<(), OutOfMemory>
-    ensures taken { OnOk result (HasTaken book.old lane command book.new) }
-    ensures kept { OnOk result (IsBook book.new) }
+fn take(
+    rt: &impl Wait,
+    alloc: Global,
+    book: &SharedBook,
+    pass: &mut Pass,
+    command: Command,
+) -> Result<(), OutOfMemory>
+    requires { IsPassOf book.now pass.old }
+    ensures pass { IsPassOf book.now pass.new × (pass.new.lane ≡ pass.old.lane) }
+    ensures taken { OnOk result (HasTaken book.now.start.nodes pass.old command pass.new) }
 {
-    match book.apply(lane, command) {
-        Ok(_reply) => {
-            let _entries = book.entries();
-            Ok(())
-        }
+    match book.call(rt, alloc, pass, command) {
+        Ok(_receipt) => Ok(()),
         Err(fault) => Err(fault),
     }
 }

@@ -1,10 +1,12 @@
-//! A round of a run: every lane's commands, taken by the book in their order, with the batches that they seal.
+//! A round of a run: every lane's commands, taken by one shared book, with the batches that are sealed.
 //!
-//! The journal of a round is a run of it: each reply is the step table's in the state that the entries
-//! before leave; the entries of each lane are that lane's commands, each once, in their order, each seal
-//! followed at once by the close of its batch; and the outcome of each close is good for the batch.
+//! The lanes run at the same time, each in its own order. The journal of a round is a run of it: each
+//! reply is the step table's in the state that the entries before leave; the entries of each lane are that
+//! lane's commands, each once, in their order, each seal followed at once by the close of its batch; and
+//! the outcome of each close is good for the batch. Which lane comes first is not said.
 #![tactic(auto)]
 
+mod crew;
 mod lane;
 mod round;
 

@@ -1,23 +1,29 @@
-ghost use Rattle.std.specs.Prelude.{◌≡◌, [], IfOk, OnOk};
+ghost use Rattle.std.specs.Prelude.{◌≡◌, ℕ, ◌<◌, ◌≤◌, [], All, IfOk};
 ghost use Rattle.request_book.specs.Book.{IsBook};
-ghost use Rattle.dispatch_engine.specs.Run.{HasRunRound, IsReady, IsRoundRun, IsSameRun, journal_of};
+ghost use Rattle.script_rows.specs.Round.{IsRound, lane_at};
+ghost use Rattle.seat_lock.specs.Values.{AreAllPasses, IsNew};
+ghost use Rattle.dispatch_engine.specs.Crew.{HaveRunLanes};
+ghost use Rattle.dispatch_engine.specs.Run.{IsReady, IsRoundRun, IsSameRun, journal_of};
 
-use crate::lane::run_lane;
+use crate::crew::{are_done, crew_of, passes_of, work_all};
 use pool_base::OutOfMemory;
 use request_book::Book;
 use rider_limits::Settings;
 use road_network::Network;
 use script_rows::Round;
+use shared_book::{Pass, SharedBook};
 use std::alloc::Global;
+use std::sync::Wait;
 use std::thread::Threads;
 
-/// Runs the lanes of a round, one after the other, each lane's commands in their order. Each seal is followed
-/// at once by the close of its batch, with an outcome that is good for it.
+/// Runs the lanes of a round at the same time, each lane's commands in their order. After each seal that
+/// puts a batch up, its lane solves the batch while the others go on, and closes it before its next
+/// command, with an outcome that is good for it.
 ///
 /// The book handed back has the nodes, the longest wait, and the journal's first position and base of the
 /// one taken in. For want of memory the book is given up.
 pub fn run_round(
-    rt: &(impl Threads + Sync),
+    rt: &(impl Threads + Wait + Sync),
     alloc: Global,
     book: Book,
     round: &Round,
@@ -32,34 +38,65 @@ pub fn run_round(
     ensures ready { IfOk result (IsReady settings.now network.now) }
 {
     let mut book = book;
+    book.reserve(most_entries(round))?;
     let _entries = book.entries();
-    run_lanes(rt, alloc, &mut book, round, network, settings)?;
-    let _entries = book.entries();
-    Ok(book)
+    let lanes = lanes_in_use(round);
+    let Ok((shared, passes)) = SharedBook::start(alloc, book, lanes) else {
+        return Err(OutOfMemory);
+    };
+    let passes = run_passes(rt, alloc, &shared, passes, round, network, settings)?;
+    match shared.finish(passes) {
+        Ok(book) => Ok(book),
+        Err(_) => Err(OutOfMemory),
+    }
 }
 
-fn run_lanes(
-    rt: &(impl Threads + Sync),
+/// Lets each pass run its lane's commands.
+fn run_passes(
+    rt: &(impl Threads + Wait + Sync),
     alloc: Global,
-    book: &mut Book,
+    book: &SharedBook,
+    passes: Vec<Pass>,
     round: &Round,
     network: &Network,
     settings: &Settings,
-) -> Result<(), OutOfMemory>
-    requires empty { book.old.entries ≡ [] }
-    requires ready { IsReady settings.now network.now book.old }
-    ensures { OnOk result (HasRunRound settings.now network.now book.old round.now book.new) }
+) -> Result<Vec<Pass>, OutOfMemory>
+    requires nodes { book.now.start.nodes ≡ network.now.nodes }
+    requires lanes { (0 < book.now.lanes) × (book.now.lanes ≤ 16) }
+    requires passes { AreAllPasses book.now passes.items }
+    requires fresh { All IsNew passes.items }
+    ensures passes { IfOk result (λ passes. AreAllPasses book.now passes.items) }
+    ensures run { IfOk result (λ passes. HaveRunLanes settings.now network.now round.now passes.items) }
 {
-    for lane in 0..16 {
-        run_lane(
-            rt,
-            alloc,
-            book,
-            lane as u8,
-            round.lane(lane),
-            network,
-            settings,
-        )?;
+    let mut crew = crew_of(alloc, passes)?;
+    work_all(rt, alloc, book, round, &mut crew, network, settings);
+    if are_done(crew.as_slice()) {
+        passes_of(alloc, crew)
+    } else {
+        Err(OutOfMemory)
     }
-    Ok(())
+}
+
+/// How many lanes the round uses, those below the last that has a command among them; at least one.
+fn lanes_in_use(round: &Round) -> u8
+    ensures some { (1 ≤ result) × (result ≤ 16) }
+    ensures rest { (lane : ℕ) → result ≤ lane → lane_at round.now lane ≡ [] }
+    ensures kept { IsRound round.now }
+{
+    let _first = round.lane(0);
+    let mut lanes = 16u8;
+    while lanes > 1 && round.lane(usize::from(lanes - 1)).is_empty() {
+        lanes -= 1;
+    }
+    lanes
+}
+
+/// At most how many entries a round makes: one for each command, and a close for each of lane 0. Room for
+/// them is made at the start, so that no lane asks for it while others wait.
+fn most_entries(round: &Round) -> u64 {
+    let mut most = round.lane(0).len() as u64;
+    for lane in 0..Round::LANES {
+        most = most.saturating_add(round.lane(lane).len() as u64);
+    }
+    most
 }

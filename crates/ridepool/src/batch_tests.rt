@@ -3,6 +3,7 @@ use crate::{RunStatus, ridepool};
 use pool_base::read_number;
 use pool_io::{MemorySink, MemorySource};
 use std::alloc::{AllocError, Global};
+use std::sync::Wait;
 use std::test::Fail;
 use std::thread::Threads;
 
@@ -180,7 +181,7 @@ struct Ending {
 
 /// A run of the words and the script, with a sink that takes so many bytes a write and fails at this call.
 fn shown(
-    rt: &(impl Threads + Sync),
+    rt: &(impl Threads + Wait + Sync),
     alloc: Global,
     given: &str,
     script: &[u8],
@@ -224,7 +225,7 @@ fn ending_of(alloc: Global, status: &RunStatus, written: &[u8]) -> Result<Ending
 }
 
 /// Whether the report of the script is read back as these fields.
-fn is_read_back(rt: &(impl Threads + Sync), alloc: Global) -> Result<bool, AllocError> {
+fn is_read_back(rt: &(impl Threads + Wait + Sync), alloc: Global) -> Result<bool, AllocError> {
     let shown = shown(rt, alloc, WORDS, SCRIPT, 4096, None)?;
     let reading = read_back(alloc, &shown.written)?;
     Ok(
@@ -235,7 +236,7 @@ fn is_read_back(rt: &(impl Threads + Sync), alloc: Global) -> Result<bool, Alloc
 }
 
 /// Whether a batch with more pairs than the words allow overflows.
-fn overflows(rt: &(impl Threads + Sync), alloc: Global) -> Result<bool, AllocError> {
+fn overflows(rt: &(impl Threads + Wait + Sync), alloc: Global) -> Result<bool, AllocError> {
     let words = "run network=n fleet=f script=s pairs=5";
     let shown = shown(rt, alloc, words, OVERFLOW, 4096, None)?;
     Ok(shown.code == 0 && shown.written.as_slice().ends_with(OVERFLOW_END))
@@ -244,7 +245,7 @@ fn overflows(rt: &(impl Threads + Sync), alloc: Global) -> Result<bool, AllocErr
 /// Whether a sink of so many bytes a write that fails at this call ends the run with 8 and a beginning of the
 /// report; `None` where there is no such call.
 fn fails_well(
-    rt: &(impl Threads + Sync),
+    rt: &(impl Threads + Wait + Sync),
     alloc: Global,
     whole: &[u8],
     most: usize,
@@ -259,7 +260,7 @@ fn fails_well(
 
 /// How many calls of such a sink fail well in turn, until there is no further call.
 fn failing_calls(
-    rt: &(impl Threads + Sync),
+    rt: &(impl Threads + Wait + Sync),
     alloc: Global,
     most: usize,
 ) -> Result<u64, AllocError> {

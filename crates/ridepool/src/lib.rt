@@ -10,6 +10,8 @@
 mod batch_tests;
 mod inputs;
 #[cfg(test)]
+mod lane_tests;
+#[cfg(test)]
 mod limit_tests;
 mod reading;
 mod run;

@@ -3,6 +3,7 @@ use crate::{fault_text, ridepool};
 use pool_base::put_number;
 use pool_io::{MemorySink, MemorySource};
 use std::alloc::{AllocError, Global};
+use std::sync::Wait;
 use std::test::Fail;
 use std::thread::Threads;
 
@@ -20,7 +21,7 @@ const SCRIPT_OF_PARTIES: &[u8] = b"round,lane,command,a,b,c,d,e\n";
 
 /// Whether a run of these words and files ends with this line; with none where all is done.
 fn ends(
-    rt: &(impl Threads + Sync),
+    rt: &(impl Threads + Wait + Sync),
     alloc: Global,
     given: &str,
     files: [&[u8]; 3],
@@ -58,7 +59,7 @@ fn source(alloc: Global, text: &[u8]) -> Result<MemorySource, AllocError> {
 
 /// Whether a run of each of these words ends with its line.
 fn all_words(
-    rt: &(impl Threads + Sync),
+    rt: &(impl Threads + Wait + Sync),
     alloc: Global,
     cases: &[(&str, &str)],
 ) -> Result<bool, AllocError> {
@@ -71,7 +72,7 @@ fn all_words(
 }
 
 fn ends_network(
-    rt: &(impl Threads + Sync),
+    rt: &(impl Threads + Wait + Sync),
     alloc: Global,
     network: &[u8],
     line: &str,
@@ -80,7 +81,7 @@ fn ends_network(
 }
 
 fn ends_fleet(
-    rt: &(impl Threads + Sync),
+    rt: &(impl Threads + Wait + Sync),
     alloc: Global,
     fleet: &[u8],
     line: &str,
@@ -89,7 +90,7 @@ fn ends_fleet(
 }
 
 fn ends_script(
-    rt: &(impl Threads + Sync),
+    rt: &(impl Threads + Wait + Sync),
     alloc: Global,
     script: &[u8],
     line: &str,
@@ -99,7 +100,7 @@ fn ends_script(
 
 /// Whether each of these networks ends with its line.
 fn all_networks(
-    rt: &(impl Threads + Sync),
+    rt: &(impl Threads + Wait + Sync),
     alloc: Global,
     cases: &[(&[u8], &str)],
 ) -> Result<bool, AllocError> {
@@ -113,7 +114,7 @@ fn all_networks(
 
 /// The same for rows under the header of a fleet, of a script and of a script with parties.
 fn all_under(
-    rt: &(impl Threads + Sync),
+    rt: &(impl Threads + Wait + Sync),
     alloc: Global,
     header: &[u8],
     cases: &[(&[u8], &str)],
@@ -128,7 +129,7 @@ fn all_under(
 
 /// Whether a header with the same row so many times ends with this line.
 fn ends_under(
-    rt: &(impl Threads + Sync),
+    rt: &(impl Threads + Wait + Sync),
     alloc: Global,
     header: &[u8],
     row: &[u8],
@@ -162,7 +163,7 @@ fn numbered(alloc: Global, header: &[u8], end: &[u8], rows: u64) -> Result<Vec<u
 
 /// Whether a network of so many nodes ends with this line.
 fn ends_nodes(
-    rt: &(impl Threads + Sync),
+    rt: &(impl Threads + Wait + Sync),
     alloc: Global,
     rows: u64,
     line: &str,
@@ -173,7 +174,7 @@ fn ends_nodes(
 
 /// Whether a fleet of so many vehicles ends with this line.
 fn ends_vehicles(
-    rt: &(impl Threads + Sync),
+    rt: &(impl Threads + Wait + Sync),
     alloc: Global,
     rows: u64,
     line: &str,
@@ -184,7 +185,7 @@ fn ends_vehicles(
 
 /// Whether a network of this length, all empty lines behind its header, ends with this line.
 fn ends_length(
-    rt: &(impl Threads + Sync),
+    rt: &(impl Threads + Wait + Sync),
     alloc: Global,
     length: usize,
     line: &str,

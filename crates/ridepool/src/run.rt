@@ -9,6 +9,7 @@ use crate::writing::write_report;
 use pool_io::{Sink, Source};
 use rider_limits::{Settings, read_words};
 use std::alloc::Global;
+use std::sync::Wait;
 use std::thread::Threads;
 
 /// Reads the words and the inputs, runs the script, and writes the report, or of a made workload its
@@ -26,7 +27,7 @@ use std::thread::Threads;
 /// nothing is written; after `WriteFault` and `OutOfMemory` a beginning of the report of a run of the
 /// script's first rounds stands.
 pub fn ridepool<N: Source, F: Source, S: Source, K: Sink>(
-    rt: &(impl Threads + Sync),
+    rt: &(impl Threads + Wait + Sync),
     alloc: Global,
     words: &[String],
     network: &mut N,
@@ -79,7 +80,7 @@ pub fn ridepool<N: Source, F: Source, S: Source, K: Sink>(
 }
 
 fn run<N: Source, F: Source, S: Source, K: Sink>(
-    rt: &(impl Threads + Sync),
+    rt: &(impl Threads + Wait + Sync),
     alloc: Global,
     words: &[String],
     network: &mut N,

@@ -1,6 +1,7 @@
 use crate::{RunStatus, fault_text, ridepool};
 use pool_io::{MemorySink, MemorySource};
 use std::alloc::{AllocError, Global};
+use std::sync::Wait;
 use std::test::Fail;
 use std::thread::Threads;
 
@@ -25,7 +26,7 @@ done 4\n";
 
 // What a run shows: its exit status, the line of its fault and a bar before the bytes that were written.
 fn shown(
-    rt: &(impl Threads + Sync),
+    rt: &(impl Threads + Wait + Sync),
     alloc: Global,
     script: &[u8],
     pieces: usize,
@@ -51,7 +52,7 @@ fn shown(
 
 // What a made workload shows, beside sources whose every read would fail.
 fn summed_up(
-    rt: &(impl Threads + Sync),
+    rt: &(impl Threads + Wait + Sync),
     alloc: Global,
     text: &str,
     pieces: usize,
@@ -181,7 +182,7 @@ fn a_failing_write_leaves_a_beginning_of_a_summary(rt: HostRuntime) -> Result<()
 
 // Whether a run of these words and files ends with this line and writes nothing.
 fn refuses(
-    rt: &(impl Threads + Sync),
+    rt: &(impl Threads + Wait + Sync),
     alloc: Global,
     given: &str,
     files: [&[u8]; 3],
@@ -206,7 +207,7 @@ fn refuses(
 }
 
 fn refuses_words(
-    rt: &(impl Threads + Sync),
+    rt: &(impl Threads + Wait + Sync),
     alloc: Global,
     given: &str,
     line: &str,
@@ -215,7 +216,7 @@ fn refuses_words(
 }
 
 fn refuses_network(
-    rt: &(impl Threads + Sync),
+    rt: &(impl Threads + Wait + Sync),
     alloc: Global,
     network: &[u8],
     line: &str,
@@ -230,7 +231,7 @@ fn refuses_network(
 }
 
 fn refuses_fleet(
-    rt: &(impl Threads + Sync),
+    rt: &(impl Threads + Wait + Sync),
     alloc: Global,
     fleet: &[u8],
     line: &str,
@@ -245,7 +246,7 @@ fn refuses_fleet(
 }
 
 fn refuses_script(
-    rt: &(impl Threads + Sync),
+    rt: &(impl Threads + Wait + Sync),
     alloc: Global,
     script: &[u8],
     line: &str,

@@ -20,11 +20,12 @@ use rider_limits::{Mode, Settings};
 use road_network::Network;
 use script_rows::{Round, Script};
 use std::alloc::Global;
+use std::sync::Wait;
 use std::thread::Threads;
 
 /// Runs the script and writes its report, or a made workload's summary, round by round.
 pub(crate) fn write_report<K: Sink>(
-    rt: &(impl Threads + Sync),
+    rt: &(impl Threads + Wait + Sync),
     alloc: Global,
     out: &mut K,
     settings: &Settings,
@@ -49,7 +50,7 @@ pub(crate) fn write_report<K: Sink>(
 }
 
 fn write_rounds<K: Sink>(
-    rt: &(impl Threads + Sync),
+    rt: &(impl Threads + Wait + Sync),
     alloc: Global,
     out: &mut K,
     book: Book,
@@ -76,7 +77,7 @@ fn write_rounds<K: Sink>(
 
 /// Runs a round, writes its text, and gives its journal up.
 fn write_next<K: Sink>(
-    rt: &(impl Threads + Sync),
+    rt: &(impl Threads + Wait + Sync),
     alloc: Global,
     out: &mut K,
     book: Book,

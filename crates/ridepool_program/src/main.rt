@@ -11,6 +11,7 @@ use rider_limits::value_of;
 use std::fs::File;
 use std::io::{BufWriter, Write};
 use std::process::ExitCode;
+use std::sync::Wait;
 use std::thread::Threads;
 use std::{env, io};
 
@@ -108,7 +109,7 @@ fn print_page(rt: &HostRuntime, page: &str) -> RunStatus {
 }
 
 /// Runs the words on the files that they name, with standard output as the sink.
-fn run(rt: &HostRuntime, threads: &(impl Threads + Sync), words: &[String]) -> RunStatus {
+fn run(rt: &HostRuntime, threads: &(impl Threads + Wait + Sync), words: &[String]) -> RunStatus {
     let Ok(mut output) = BufWriter::new(rt.alloc(), rt.stdout()) else {
         return RunStatus::OutOfMemory;
     };

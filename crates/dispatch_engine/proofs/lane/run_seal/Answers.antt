@@ -1,35 +1,39 @@
-use Rattle.std.proofs.Common.{◌≡◌, Some, None, sym, ap, subst, ◌∙◌}
+use Rattle.std.proofs.Common.{◌≡◌, Some, None, sym, ap, subst}
 use Rattle.std.proofs.lemmas.Result.{on_ok_weaker}
-use Rattle.request_book.specs.Book.{would_seal}
-use Rattle.request_book.specs.declared.command.Command.TheVariants.{Close}
-use Rattle.dispatch_engine.specs.Run.{HasTaken}
-use Rattle.dispatch_engine.proofs.RunLemmas.{runs_refused, seals_known, runs_batch}
+use Rattle.batch_solver.specs.Outcome.{IsGoodOutcome}
+use Rattle.request_book.specs.declared.command.Command.TheVariants.{Seal, Close}
+use Rattle.shared_book.specs.Shared.{HasCalled, with_snapshot}
+use Rattle.shared_book.proofs.PassLemmas.{runs-refused, runs-sealed}
+use Rattle.dispatch_engine.specs.Crew.{HasTaken}
+use Rattle.dispatch_engine.proofs.RoundLemmas.{snapshot-known}
 use Rattle.dispatch_engine.proofs.lane.run_seal.Goals as goal
 
-pub returns-in-None : goal.returns-in-None
-returns-in-None g c =
-    let none : would_seal c.args.settings.now.wait c.args.book.now.state c.args.now ≡ None =
-    ap (λ wait. would_seal wait c.args.book.now.state c.args.now) (sym c.requires.ready.wait) ∙ sym c.in_ok-sealed.ensures ∙ c.in-None.is
-    in
-    runs_refused c.args.settings.now c.args.network.now c.args.book.now c.take.new.book c.args.lane c.args.now none c.requires.ready c.in_ok-take.ensures.taken
+pub returns-in_default-clause-run : goal.returns-in_default-clause-run
+returns-in_default-clause-run g c =
+    let r = c.in_ok-snapshot.field-0.receipt in
+    let none : c.in_ok-snapshot.field-0.snapshot ≡ None = (let a = c.in_default.is in let b = c.in_ok-snapshot.snapshot-is in cc) in
+    runs-refused (IsGoodOutcome c.args.settings.now c.args.network.now) c.args.book.now.start.nodes c.args.pass.now c.seal.new.pass c.args.now r.position r.reply
+    (subst (λ o. HasCalled c.args.book.now.start.nodes c.args.pass.now (Seal c.args.now) r.position (with_snapshot r.reply o) c.seal.new.pass) none c.in_ok-snapshot.ensures.call)
 
 pub solve_batch-requires-after_bounds : goal.solve_batch-requires-after_bounds
 solve_batch-requires-after_bounds g c κs within =
-    let some : would_seal c.args.settings.now.wait c.args.book.now.state c.args.now ≡ Some c.in-Some.snapshot =
-    ap (λ wait. would_seal wait c.args.book.now.state c.args.now) (sym c.requires.ready.wait) ∙ sym c.in_ok-sealed.ensures ∙ c.in-Some.is
-    in
-    seals_known c.args.settings.now c.args.network.now c.args.book.now c.take.new.book c.args.lane c.args.now c.in-Some.snapshot
-    c.requires.ready some c.in_ok-take.ensures.taken c.in_ok-take.ensures.kept
+    let r = c.in_ok-snapshot.field-0.receipt in
+    let b = c.in-Some.snapshot in
+    let some : c.in_ok-snapshot.field-0.snapshot ≡ Some b = (let a = c.in-Some.is in let b = c.in_ok-snapshot.snapshot-is in cc) in
+    let called = subst (λ o. HasCalled c.args.book.now.start.nodes c.args.pass.now (Seal c.args.now) r.position (with_snapshot r.reply o) c.seal.new.pass) some c.in_ok-snapshot.ensures.call in
+    snapshot-known c.args.book.now.start.nodes c.args.network.now.nodes (Seal c.args.now) r.reply b c.requires.nodes called.fits
 
-pub returns-in_ok-outcome-in-Some : goal.returns-in_ok-outcome-in-Some
-returns-in_ok-outcome-in-Some g c =
-    let some : would_seal c.args.settings.now.wait c.args.book.now.state c.args.now ≡ Some c.in-Some.snapshot =
-    ap (λ wait. would_seal wait c.args.book.now.state c.args.now) (sym c.requires.ready.wait) ∙ sym c.in_ok-sealed.ensures ∙ c.in-Some.is
-    in
-    on_ok_weaker c.take-in-Some.result
+pub returns-clause-run : goal.returns-clause-run
+returns-clause-run g c =
+    let r = c.in_ok-snapshot.field-0.receipt in
+    let b = c.in-Some.snapshot in
+    let outcome = c.in_ok-outcome.outcome in
+    let nodes = c.args.book.now.start.nodes in
+    let some : c.in_ok-snapshot.field-0.snapshot ≡ Some b = (let a = c.in-Some.is in let b = c.in_ok-snapshot.snapshot-is in cc) in
+    let called = subst (λ o. HasCalled nodes c.args.pass.now (Seal c.args.now) r.position (with_snapshot r.reply o) c.seal.new.pass) some c.in_ok-snapshot.ensures.call in
+    on_ok_weaker c.take.result
     (λ taken.
-    runs_batch c.args.settings.now c.args.network.now c.args.book.now c.take.new.book c.take-in-Some.new.book c.args.lane c.args.now c.in-Some.snapshot c.in_ok-outcome-in-Some.outcome
-    c.requires.ready some c.in_ok-take.ensures.taken
-    (subst (λ n. HasTaken c.take.new.book c.args.lane (Close n c.in_ok-outcome-in-Some.outcome) c.take-in-Some.new.book) (ap (λ b. b.number) c.snapshot.view_is) taken)
-    c.in_ok-outcome-in-Some.ensures)
-    c.take-in-Some.ensures.taken
+    let closed = subst (λ n. HasTaken nodes c.seal.new.pass (Close n outcome) c.take.new.pass) (ap (λ b. b.number) c.snapshot.view_is) taken in
+    runs-sealed (IsGoodOutcome c.args.settings.now c.args.network.now) nodes c.args.pass.now c.seal.new.pass c.take.new.pass c.args.now r.position r.reply b outcome closed.receipt
+    called closed.called c.in_ok-outcome.ensures)
+    c.take.ensures.taken
