@@ -4,6 +4,7 @@ ghost use Rattle.dispatch_engine.specs.Crew.{AreInOrder, HasWorked, IsToWork, at
 
 use crate::lane::run_lane;
 use pool_base::OutOfMemory;
+use request_book::Command;
 use rider_limits::Settings;
 use road_network::Network;
 use script_rows::Round;
@@ -30,7 +31,8 @@ pub(crate) fn crew_of(alloc: Global, passes: Vec<Pass>) -> Result<Vec<LaneWork>,
     Ok(crew)
 }
 
-/// Each lane runs its commands on a thread of its own, or on the caller's where no thread can be made.
+/// Each lane runs its commands: in a round with a seal on a thread of its own, or on the caller's where no
+/// thread can be made.
 pub(crate) fn work_all(
     rt: &(impl Threads + Wait + Sync),
     alloc: Global,
@@ -48,15 +50,32 @@ pub(crate) fn work_all(
     ensures order { AreInOrder crew.new.items }
     ensures worked { All (HasWorked settings.now network.now round.now book.now) crew.new.items }
 {
-    let lanes = crew.len();
+    let threads = threads_for(round, crew.len());
     thread::for_each_mut(
         rt,
         crew.as_mut_slice(),
-        lanes,
+        threads,
         &|_: usize, lane: &mut LaneWork|
             requires { (book.now.start.nodes ≡ network.now.nodes) × IsToWork book.now lane.now }
         { work(rt, alloc, book, round, lane, network, settings) },
     );
+}
+
+/// How many threads the lanes are worth. Without a seal nothing takes time outside the lock, and threads
+/// would only wait for one another.
+fn threads_for(round: &Round, lanes: usize) -> usize
+    requires { 0 < lanes }
+    ensures { 0 < result }
+{
+    if round.lane(0).iter().any(is_seal) {
+        lanes
+    } else {
+        1
+    }
+}
+
+fn is_seal(command: &Command) -> bool {
+    matches!(command, Command::Seal { .. })
 }
 
 fn work(

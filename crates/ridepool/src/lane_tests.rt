@@ -29,7 +29,7 @@ fn rider(lane: usize, turn: usize) -> usize {
     lane % LANES * 10 + turn % EACH
 }
 
-/// A script whose lanes take turns.
+/// A script whose lanes take turns, and whose lane 0 then seals: such a round has a thread for each lane.
 fn script(alloc: Global) -> Result<String, AllocError> {
     let mut text = String::from_str(alloc, "round,lane,command,a,b,c,d\n")?;
     for turn in 0..EACH {
@@ -39,6 +39,7 @@ fn script(alloc: Global) -> Result<String, AllocError> {
             text.push_str(&row)?;
         }
     }
+    text.push_str("0,0,seal,0,,,\n")?;
     Ok(text)
 }
 
@@ -86,12 +87,14 @@ fn is_report(alloc: Global, written: &[u8]) -> Result<bool, AllocError> {
     }
 }
 
-/// Whether each line is the next one of some lane, until all lanes are done.
+/// Whether each line is the next one of some lane, until lane 0 has its close and all others their riders;
+/// the batch follows.
 fn are_turns(alloc: Global, lines: &str) -> Result<bool, AllocError> {
     let mut next = [0usize; LANES];
     for (position, line) in lines.lines().enumerate() {
-        if position == LANES * EACH {
-            return Ok(line == "done 80" && next.iter().all(|turn| *turn == EACH));
+        if position == LANES * EACH + 2 {
+            let ended = line == "batch 1" && lines.ends_with("\ndone 82\n");
+            return Ok(ended && next[0] == EACH + 2);
         }
         let Some(lane) = lane_of(alloc, line, position, &next)? else {
             return Ok(false);
@@ -99,6 +102,18 @@ fn are_turns(alloc: Global, lines: &str) -> Result<bool, AllocError> {
         next[lane] = next[lane].wrapping_add(1);
     }
     Ok(false)
+}
+
+/// The line of a lane's entry, if this is its position in the journal.
+fn line_at(alloc: Global, position: usize, lane: usize, turn: usize) -> Result<String, AllocError> {
+    if turn == EACH {
+        return format!(in alloc; "{position} {lane} seal 0 sealed 1");
+    }
+    if turn > EACH {
+        return format!(in alloc; "{position} {lane} close 1 closed");
+    }
+    let rider = rider(lane, turn);
+    format!(in alloc; "{position} {lane} submit {rider} 2 4 0 accepted")
 }
 
 /// The lane whose next line this is.
@@ -111,8 +126,7 @@ fn lane_of(
     ensures { IfOk result (λ lane. IfSome lane (λ lane. lane < 16)) }
 {
     for lane in 0..LANES {
-        let rider = rider(lane, next[lane]);
-        let expected = format!(in alloc; "{position} {lane} submit {rider} 2 4 0 accepted")?;
+        let expected = line_at(alloc, position, lane, next[lane])?;
         if line == expected.as_str() {
             return Ok(Some(lane));
         }
