@@ -35,7 +35,7 @@ pub fn batch(alloc: Global, scene: Scene) -> Result<Snapshot, OutOfMemory> {
 }
 
 /// What a seal at this second shows, where all commands before were taken.
-fn sealed(book: &Book, taken: bool, now: u64) -> Result<Snapshot, OutOfMemory> {
+pub fn sealed(book: &Book, taken: bool, now: u64) -> Result<Snapshot, OutOfMemory> {
     if !taken {
         return Err(OutOfMemory);
     }
