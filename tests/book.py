@@ -43,7 +43,7 @@ class Snapshot:
 class Book:
     def __init__(self, nodes, fleet, wait):
         self.nodes, self.wait = nodes, wait
-        self.vehicles = {it.id: it for it in sorted(fleet, key=lambda it: it.id)}
+        self.vehicles = {it.id: replace(it, aboard=[]) for it in sorted(fleet, key=lambda it: it.id)}
         self.riders = {}
         self.pool = set()  # who is waiting or promised
         self.last_seal = None

@@ -247,7 +247,8 @@ def judge_bound(lines, settings, plans, cost):
     lines.need(words[0] == "nodes" and words[-1].isdigit(), "here the number of nodes should stand")
     nodes = int(words[1])
     lines.take(f"nodes {nodes}")
-    lines.need(1 <= nodes <= settings.budget, "there are more nodes than the budget")
+    lines.need(nodes <= settings.budget, "there are more nodes than the budget")
+    lines.need(nodes % 2 == 1, "a tree whose branches have two subtrees has an odd number of nodes")
     choices = 1
     for numbers in everything.values():
         choices *= len(numbers)

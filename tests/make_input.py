@@ -19,13 +19,15 @@ def padded(header, length):
 
 
 def waves(riders, times):
-    """A script in which so many riders ask at a time and are all gone by the next seal, and then one more asks."""
+    """A script in which so many riders ask at a time and are all gone by the next seal; then one more asks, and one whom
+    the book has already."""
     riders, times = int(riders), int(times)
     rows = ["round,lane,command,a,b,c,d"]
     for k in range(times):
         rows += [f"{k},0,submit,{k * riders + it},1,2,{k}" for it in range(riders)]
         rows.append(f"{k},0,seal,{k + 1},,,")
-    return "\n".join([*rows, f"{times},0,submit,{riders * times},1,2,{times}", ""])
+    last = [f"{times},0,submit,{rider},1,2,{times}" for rider in (riders * times, 0)]
+    return "\n".join([*rows, *last, ""])
 
 
 WAYS = {"repeated": repeated, "numbered": numbered, "padded": padded, "waves": waves}

@@ -1,5 +1,5 @@
-"""Shows that the judge refuses wrong reports: takes right ones of drawn inputs, spoils each in many ways, and demands that
-each spoiled one is refused.
+"""Shows that the judge refuses wrong reports: takes right ones, of the cases and of drawn inputs, spoils each in many ways,
+and demands that each spoiled one is refused.
 
     spoiled.py PROGRAM [RUNS [SEED]]
 
@@ -18,6 +18,7 @@ from pathlib import Path
 from drawn import inputs_of, output_of, write_inputs
 from inputs import Run
 from judge import Wrong, judge
+from run import CASES, prepare
 
 
 def number_plus(word, place, by):
@@ -173,26 +174,44 @@ WAYS = {
 }
 
 
+def try_case(case):
+    """Which ways were tried on the report of a case, and which spoiled reports passed."""
+    with tempfile.TemporaryDirectory() as folder:
+        folder = Path(folder)
+        prepare(case, folder)
+        words = (case / "words").read_text().splitlines()
+        return spoil_all(case.name, Run(folder, words), (case / "stdout").read_text())
+
+
 def try_seed(program, seed):
-    """Which ways were tried on the report of the seed, and which spoiled reports passed."""
-    drawn, rng = inputs_of(seed), random.Random(seed)
-    tried, passed = Counter(), []
+    """The same for the program's report of the seed's inputs."""
+    drawn = inputs_of(seed)
     with tempfile.TemporaryDirectory() as folder:
         folder = Path(folder)
         write_inputs(drawn, folder)
-        report = output_of(program, drawn.words, folder)
-        lines = report.rstrip("\n").split("\n")
-        for way, spoil in WAYS.items():
-            places = [at for at in range(len(lines)) if spoil(lines, at)]
-            if places:
-                spoiled = "".join(f"{line}\n" for line in spoil(lines, rng.choice(places)))
-                tried[way] += 1
-                try:
-                    judge(Run(folder, drawn.words), spoiled)
-                    passed.append(f"{way} of seed {seed} is taken for right")
-                except Wrong:
-                    pass
+        return spoil_all(f"seed {seed}", Run(folder, drawn.words), output_of(program, drawn.words, folder))
+
+
+def spoil_all(name, run, report):
+    rng, tried, passed = random.Random(name), Counter(), []
+    lines = report.rstrip("\n").split("\n")
+    if not is_right(run, lines):
+        passed.append(("a right report", name))
+    for way, spoil in WAYS.items():
+        places = [at for at in range(len(lines)) if spoil(lines, at)]
+        if places:
+            tried[way] += 1
+            if is_right(run, spoil(lines, rng.choice(places))):
+                passed.append((way, name))
     return tried, passed
+
+
+def is_right(run, lines):
+    try:
+        judge(run, "".join(f"{line}\n" for line in lines))
+        return True
+    except Wrong:
+        return False
 
 
 def main():
@@ -201,15 +220,20 @@ def main():
     program = os.path.abspath(sys.argv[1])
     given = list(map(int, sys.argv[2:4]))
     runs, first = given + [40, 1][len(given) :]
+    cases = [it.parent for it in sorted(CASES.glob("*/judge")) if it.read_text() == "rules\n" and (it.parent / "stdout").exists()]
     with multiprocessing.Pool(len(os.sched_getaffinity(0))) as pool:
-        answers = pool.starmap(try_seed, [(program, seed) for seed in range(first, first + runs)], chunksize=4)
+        of_cases = pool.map_async(try_case, cases, chunksize=1)
+        of_seeds = pool.starmap_async(try_seed, [(program, seed) for seed in range(first, first + runs)], chunksize=1)
+        answers = of_cases.get() + of_seeds.get()
     tried = sum((it for it, _ in answers), Counter())
-    passed = [line for _, lines in answers for line in lines]
+    passed = [it for _, found in answers for it in found]
     untried = [way for way in WAYS if not tried[way]]
-    for line in passed + [f"{way}: no report had a place for it" for way in untried]:
-        print(line)
-    wrong = {way for way in WAYS for line in passed if line.startswith(f"{way} of seed ")} | {*untried}
-    print(f"{sum(tried.values())} spoiled reports were judged")
+    for way, name in passed:
+        print(f"{name}: {way} is judged wrongly")
+    for way in untried:
+        print(f"no report has a place for {way}")
+    wrong = {way for way, _ in passed} | {*untried}
+    print(f"{sum(tried.values())} spoiled reports of {len(answers)} right ones were judged")
     print(f"{len(WAYS) - len(wrong)} passed, {len(wrong)} failed")
     return bool(wrong)
 
