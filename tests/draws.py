@@ -13,21 +13,30 @@ class Draw:
     """A town, a fleet, and a script of some rounds in which riders ask, ride and are left behind."""
 
     choices = {
-        "wait": [0, 60, 200, 300, 600],
-        "delay": [0, 60, 100, 250, 600],
+        "wait": [0, 60, 200, 300, 300, 400, 400, 600],
+        "delay": [0, 60, 100, 250, 300, 400, 600],
         "trip": [1, 2, 3, 5, 6],
-        "penalty": [0, 40, 150, 1000],
+        "penalty": [0, 40, 150, 500, 1000],
         "budget": [1, 2, 3, 5, 50],
         "pairs": [1, 3, 6, 12],
         "workers": [1, 2, 64],
-        "dwell": [1, 10, 45, 600],
+        "dwell": [1, 5, 10, 20, 45, 600],
     }
-    shares = {"wait": 0.4, "delay": 0.4, "trip": 0.3, "penalty": 0.3, "budget": 0.3, "pairs": 0.1, "workers": 0.2, "dwell": 0.25}
+    shares = {
+        "wait": 0.8,
+        "delay": 0.4,
+        "trip": 0.3,
+        "penalty": 0.3,
+        "budget": 0.3,
+        "pairs": 0.1,
+        "workers": 0.2,
+        "dwell": 0.25,
+    }
 
     def __init__(self, seed):
         self.rng = random.Random(seed)
         self.nodes = self.rng.sample(range(1, 40), self.rng.randint(2, 6))
-        self.vehicles = self.rng.sample(range(1, 20), self.rng.choice([0, 1, 1, 2, 2, 2, 2, 3, 3, 4]))
+        self.vehicles = self.rng.sample(range(1, 20), self.rng.choice([0, 1, 2, 2, 2, 2, 3, 3, 4]))
         self.has_parties = self.chance(0.4)
         self.riders = []
         self.now = self.rng.choice([0, 0, 30, 100])
@@ -51,34 +60,36 @@ class Draw:
 
     def fleet(self):
         def row(vehicle):
-            return vehicle, self.rng.choice([1, 2, 2, 3, 4, 4, 10]), self.rng.choice(self.nodes), self.rng.choice([0, 0, 0, 50, 150])
+            seats, second = self.rng.choice([1, 2, 2, 3, 4, 4, 10]), self.rng.choice([0, 0, 60, 150, 300])
+            return vehicle, seats, self.rng.choice(self.nodes), second
 
         return table("vehicle,seats,node,second", map(row, self.vehicles))
 
     def script(self):
         rows, number = [], 0
-        for k in range(self.rng.randint(1, 4)):
+        for k in range(self.rng.randint(1, 5)):
             lanes = self.rng.choice([[0]] * 5 + [[0, 1], [0, 1, 2, 15]])
-            for word, *numbers in self.asks() + (self.rides() if k else []):
+            asks = self.asks(self.rng.choice([1, 1, 2, 3] if k else [2, 3, 4, 5]))
+            for word, *numbers in asks + (self.rides() if k else []):
                 rows.append((number, self.rng.choice(lanes), word, *numbers))
             for _ in range(self.rng.choice([0, 1, 1, 1, 1, 2])):
-                self.now += self.rng.choice([0, 0, 15, 30, 30, 60, 150])
+                self.now += self.rng.choice([0, 0, 0, 0, 15, 30, 60, 150])
                 rows.append((number, 0, "seal", self.now if self.chance(0.95) else self.now // 2))
             number += self.rng.choice([1, 1, 5])
         header = "round,lane,command,a,b,c,d" + ",e" * self.has_parties
         columns = header.count(",") + 1
         return table(header, [[*row, *[""] * (columns - len(row))] for row in rows])
 
-    def asks(self):
+    def asks(self, count):
         """New requests, of which some are refused."""
         commands = []
-        for _ in range(self.rng.choice([1, 2, 2, 3, 4])):
+        for _ in range(count):
             if len(self.riders) < SUBMITS:
                 name = self.rng.randint(1, 30)
                 places = self.rng.sample(self.nodes, 2) if len(self.nodes) > 1 else self.nodes * 2
-                if self.chance(0.04):
+                if self.chance(0.02):
                     places[0] = 77
-                second = max(0, self.now + self.rng.choice([-60, -20, 0, 0, 0, 15, 60]))
+                second = max(0, self.now + self.rng.choice([-60, -20, 0, 0, 0, 0, 0, 15, 60]))
                 party = [self.rng.choice([1, 1, 2, 3, 6])] if self.has_parties else []
                 commands.append(("submit", name, *places, second, *party))
                 self.riders.append(name)
@@ -90,12 +101,13 @@ class Draw:
         for rider in self.rng.sample(self.riders, len(self.riders)):
             if self.chance(0.08):
                 commands.append(("cancel", rider))
-            for word, share in (("pickup", 0.5), ("dropoff", 0.2)):
+            for word, share in (("pickup", 0.35), ("dropoff", 0.15)):
                 if self.chance(share):
-                    second = self.now + self.rng.choice([0, 0, 30, 60])
-                    commands += [(word, it, rider, second) for it in self.rng.sample(self.vehicles, len(self.vehicles))]
+                    for later in sorted(self.rng.sample([0, 30, 60, 120, 300], 2)):
+                        vehicles = self.rng.sample(self.vehicles, len(self.vehicles))
+                        commands += [(word, it, rider, self.now + later) for it in vehicles]
         for vehicle in self.vehicles:
-            if self.chance(0.4):
+            if self.chance(0.25):
                 second = self.now + self.rng.choice([0, 0, 30, 60, 200, 500])
                 commands.append(("report", vehicle, self.rng.choice(self.nodes), second))
         return commands
@@ -117,7 +129,8 @@ class Crowd(Draw):
 
     def fleet(self):
         vehicles = range(1, self.rng.randint(2, 5) + 1)
-        return table("vehicle,seats,node,second", [(it, self.rng.choice([1, 2, 4]), self.rng.choice(self.nodes), 0) for it in vehicles])
+        rows = [(it, self.rng.choice([1, 2, 4]), self.rng.choice(self.nodes), 0) for it in vehicles]
+        return table("vehicle,seats,node,second", rows)
 
     def script(self):
         riders = range(1, self.rng.randint(SUBMITS, SUBMITS + 2) + 1)

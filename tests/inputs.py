@@ -6,7 +6,17 @@ from types import SimpleNamespace
 from book import Vehicle
 from rules import travel_times
 
-DEFAULTS = {"wait": 120, "delay": 180, "trip": 4, "penalty": 10_000, "budget": 200, "pairs": 200_000, "workers": 4, "proof": 0, "dwell": 0}
+DEFAULTS = {
+    "wait": 120,
+    "delay": 180,
+    "trip": 4,
+    "penalty": 10_000,
+    "budget": 200,
+    "pairs": 200_000,
+    "workers": 4,
+    "proof": 0,
+    "dwell": 0,
+}
 LANES = 16
 
 

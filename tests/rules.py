@@ -216,9 +216,12 @@ class Plans:
     def leaf_value(self, usable, multipliers):
         """What the multipliers show, in 1024ths of a second: no lawful plan over the usable rows costs less."""
         of = dict(zip(self.riders, multipliers))
-        value = sum(
-            min(UNIT * self.rows[n][2] - sum(of[name] for name in self.rows[n][1]) for n in numbers) for numbers in usable.values()
-        )
+
+        def reduced(number):
+            _, names, cost = self.rows[number]
+            return UNIT * cost - sum(of[name] for name in names)
+
+        value = sum(min(map(reduced, numbers)) for numbers in usable.values())
         return value + sum(of[it] if it in self.live else min(of[it], UNIT * self.penalty) for it in self.riders)
 
     def first_fit(self, usable):

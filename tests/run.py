@@ -32,7 +32,8 @@ def difference(name, wanted, got):
     """The lines by which a text differs from what should come, or nothing."""
     if wanted == got:
         return []
-    lines = difflib.unified_diff(wanted.split("\n"), got.split("\n"), f"{name} that should come", f"{name} that came", "", "", 1, "")
+    names = f"{name} that should come", f"{name} that came"
+    lines = difflib.unified_diff(wanted.split("\n"), got.split("\n"), *names, n=1, lineterm="")
     lines = [line for line in lines if not line.startswith("@@")]
     return lines[:MOST_SHOWN] + [f".. and {len(lines) - MOST_SHOWN} more lines"] * (len(lines) > MOST_SHOWN)
 

@@ -94,6 +94,14 @@ def a_wrong_multiplier(lines, at):
     return [*lines[:at], " ".join(words), *lines[at + 1 :]]
 
 
+def an_overflow(lines, at):
+    """A planned batch that is said to overflow."""
+    start = next((k for k in range(at, 0, -1) if lines[k].startswith("batch ")), 0)
+    if not lines[at].startswith("rv ") or not start:
+        return None
+    return [*lines[: start + 1], "overflow", *lines[lines.index("end", at) :]]
+
+
 def dead_at_the_root(lines, at):
     return [*lines[:at], "dead", *lines[at + 1 :]] if lines[at].startswith("leaf") and lines[at - 1] == "nodes 1" else None
 
@@ -126,9 +134,7 @@ WAYS = {
     "an expired rider left out": left_out("expired"),
     "a rider expired twice": twice("expired"),
     "an overflow left out": left_out("overflow"),
-    "an overflow in place of a plan": lambda lines, at: (
-        [*lines[: at + 1], "overflow", *lines[lines.index("end", at) :]] if lines[at].startswith("batch ") and lines[at + 1] != "overflow" else None
-    ),
+    "an overflow in place of a plan": an_overflow,
     "a lapsed rider left out": left_out("lapsed"),
     "a late vehicle left out": left_out("late"),
     "another delay of a late vehicle": number_plus("late", 2, 1),
