@@ -69,17 +69,23 @@ def judged_by_rules(folder, case, words, got):
     return difference("what the rules determine", determined(text_in(case, "stdout")), determined(got))
 
 
-def judged_as_summary(folder, case, words, got):
-    """What `load` prints: the first batch's riders and pairs are determined, and no bound is above its cost."""
-    def kept(text):
-        lines = text.split("\n")
-        served = [list(map(int, re.findall(r"\d+", line))) for line in lines if line.startswith("batch 1 served")]
-        first = [f"batch 1: {it[1] + it[2]} riders, {it[3]} pairs" for it in served]
-        return "\n".join([re.sub(r"^(batch \d+) .*", r"\1", line) for line in lines] + first)
+def fixed_summary(text):
+    """What of a summary doesn't rest on a choice among equals, but for costs."""
+    lines = text.split("\n")
+    served = [list(map(int, re.findall(r"\d+", line))) for line in lines if line.startswith("batch 1 served")]
+    first = [f"batch 1: {served + out} riders, {pairs} pairs" for _, served, out, pairs, *_ in served]
+    return "\n".join([re.sub(r"^(batch \d+) .*", r"\1", line) for line in lines] + first)
 
-    costs = re.findall(r"cost (\d+) bound (-?\d+)$", got, re.M)
-    high = [f"the bound {bound} is above the cost {cost}" for cost, bound in costs if int(bound) > int(cost)]
-    return difference("what is determined", kept(text_in(case, "stdout")), kept(got)) + high
+
+def judged_as_summary(folder, case, words, got):
+    """What `load` prints: the first batch's riders and pairs are determined, and its cost, where that is its bound; and no
+    bound is above its cost."""
+    wanted = text_in(case, "stdout")
+    costs = [re.findall(r"cost (\d+) bound (-?\d+)$", text, re.M) for text in (wanted, got)]
+    first = [cost for batches in costs for cost, bound in batches[:1] if cost == bound]
+    high = [f"the bound {bound} is above the cost {cost}" for cost, bound in costs[1] if int(bound) > int(cost)]
+    other = [f"the first batch costs {first[1]}, and it can be {first[0]}"] if len({*first}) > 1 else []
+    return difference("what is determined", fixed_summary(wanted), fixed_summary(got)) + high + other
 
 
 JUDGES = {"rules": judged_by_rules, "summary": judged_as_summary}
