@@ -8,10 +8,10 @@ work=$(mktemp -d)
 trap 'rm -rf "$work"' EXIT
 g++ -O2 -march=x86-64-v2 -o "$work/native" bench/book.cpp
 python3 bench/book.py 200000 "$work"
-./ridepool --version > /dev/null
+program=$(release/find build)
 (cd crates/request_book && rt test > /dev/null)
 words=(run network="$work/network.csv" fleet="$work/fleet.csv" script="$work/script.csv")
-./ridepool "${words[@]}" > "$work/ours"
+"$program" "${words[@]}" > "$work/ours"
 "$work/native" "$work" > "$work/theirs"
 cmp "$work/ours" "$work/theirs"
 TIMEFORMAT='%U %S'
@@ -20,7 +20,6 @@ compare() {
   awk -v what="$1" -v ours="$2" -v theirs="$3" \
     'BEGIN { printf "%s: rattle %s s, native %s s, ratio %.2f\n", what, ours, theirs, ours / theirs }'
 }
-program=crates/ridepool_program/out/ridepool_program
 compare "files to report" "$(seconds_of "$program" "${words[@]}")" "$(seconds_of "$work/native" "$work")"
 tests=crates/request_book/out/request_book_tests
 compare "book alone" "$(seconds_of "$tests" tests::a_full_book_takes_nobody)" "$(seconds_of "$work/native" fill)"

@@ -81,4 +81,5 @@ def main():
         sys.stdout.buffer.write(made[("network", "fleet", "script").index(what)])
 
 
-main()
+if __name__ == "__main__":
+    main()
