@@ -37,7 +37,7 @@ class Day:
     def __init__(self, vehicles, batches, seed):
         self.draw = random.Random(seed)
         self.lines = ["ridepool report 1",
-                      "settings wait=300 delay=600 trip=3 penalty=10000 budget=200 pairs=200000 proof=0",
+                      "settings wait=3600 delay=3600 trip=3 penalty=10000 budget=200 pairs=200000 proof=0",
                       f"network nodes={SIDE * SIDE} arcs={len(network()) - 1}", f"fleet vehicles={vehicles}"]
         self.place = {vehicle: self.node() for vehicle in range(1, vehicles + 1)}
         self.stops = {vehicle: [] for vehicle in self.place}

@@ -18,7 +18,7 @@ from pictures import style
 from report import Trip
 from words import Fault
 
-MAP_WIDTH, LEAST_HEIGHT, MOST_HEIGHT = 7.4, 4.4, 10.5
+MAP_WIDTH, LEAST_HEIGHT, MOST_HEIGHT = 7.4, 3.4, 10.5
 LEFT, BELOW, TITLE, KEY_WIDTH = 0.15, 0.15, 0.45, 3.2
 MOST_NAMED, MOST_NODE_NAMES = 12, 40
 MARK = 11.0
@@ -114,7 +114,7 @@ def draw_streets(canvas, ground):
     canvas.axes.add_collection(LineCollection(lines, colors=style.PALE, linewidths=width, zorder=0, gid="streets"))
     if len(names) > MOST_NODE_NAMES:
         return []
-    below = {node: (ground.places[node][0], ground.places[node][1] - 9 / canvas.scale) for node in names}
+    below = {node: (ground.places[node][0], ground.places[node][1] - 1.3 * MARK / canvas.scale) for node in names}
     for node, place in below.items():
         canvas.axes.text(*place, str(node), color=style.GREY, fontsize=7, ha="center", va="center")
     return list(below.values())
@@ -148,8 +148,10 @@ def colour_of(rank):
 
 def strokes(rank):
     """How a named trip's line is drawn: where the colours come again, with white inside."""
-    inside = [Stroke(linewidth=0.8, foreground="white")] if rank >= len(style.TRIPS) else []
-    return {"color": colour_of(rank), "linewidth": 2.4, "path_effects": [Normal(), *inside]}
+    looks = {"color": colour_of(rank), "linewidth": 2.4}
+    if rank >= len(style.TRIPS):
+        looks["path_effects"] = [Normal(), Stroke(linewidth=0.8, foreground="white")]
+    return looks
 
 
 def draw_lines(canvas, ways):
@@ -198,10 +200,9 @@ def draw_left(canvas, batch, requests, before, ground):
     """Riders left out, and the moves towards them. Gives how many moves have no known beginning."""
     places = [ground.places[requests[rider].origin] for rider in batch.out]
     if places:
-        size = 45 if len(places) <= 40 else 16
-        halo = [Stroke(linewidth=3.2, foreground="white"), Normal()]
-        canvas.axes.scatter(*zip(*places), s=size, marker="x", color=style.BLACK, linewidths=1.4, zorder=7,
-                            gid="left-out", path_effects=halo)
+        size = 60 if len(places) <= 40 else 25
+        canvas.axes.scatter(*zip(*places), s=size, marker="X", color=style.BLACK, edgecolors="white",
+                            linewidths=0.8, zorder=7, gid="left-out")
     known = [move for move in batch.moves if move.vehicle in before]
     lines = [ground.line([before[move.vehicle], requests[move.rider].origin]) for move in known]
     canvas.axes.add_collection(LineCollection(
@@ -223,7 +224,7 @@ def key(canvas, named, others, batch, before):
     if before:
         shown.append((mark("o", markerfacecolor="white", markeredgecolor=style.DARK), "vehicle at this seal"))
     if batch.out:
-        shown.append((mark("x", color=style.BLACK, markeredgewidth=1.4), "rider left out"))
+        shown.append((mark("X", color=style.BLACK, markeredgewidth=0), "rider left out"))
     if batch.moves:
         shown.append((Line2D([], [], color=style.BLACK, linewidth=1.1, linestyle=(0, (4, 3))), "move of an idle vehicle"))
     canvas.axes.legend(*zip(*shown), loc="upper left", bbox_to_anchor=(1.0, 1.0), frameon=False, fontsize=8.5)

@@ -21,6 +21,7 @@ matplotlib.rcParams.update({
     "svg.fonttype": "none",
     "svg.hashsalt": "ridepool",
     "font.family": "sans-serif",
+    "font.sans-serif": ["DejaVu Sans", "Verdana", "Arial", "Helvetica"],
     "font.size": 9,
     "axes.titlesize": 10,
     "axes.spines.top": False,
