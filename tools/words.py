@@ -10,7 +10,7 @@ PACKAGES = {
     "scipy": "python3-scipy",
     "pyproj": "python3-pyproj",
 }
-INSTALL = "apt-get install " + " ".join(PACKAGES.values())
+INSTALL = "apt-get install sumo " + " ".join(PACKAGES.values())
 DEBIAN_PYTHON = "/usr/bin/python3"
 RESTARTED = "RIDEPOOL_TOOLS_RESTARTED"
 

@@ -200,7 +200,7 @@ def draw_left(canvas, batch, requests, before, ground):
     """Riders left out, and the moves towards them. Gives how many moves have no known beginning."""
     places = [ground.places[requests[rider].origin] for rider in batch.out]
     if places:
-        size = 60 if len(places) <= 40 else 25
+        size = 90 if len(places) <= 40 else 40
         canvas.axes.scatter(*zip(*places), s=size, marker="X", color=style.BLACK, edgecolors="white",
                             linewidths=0.8, zorder=7, gid="left-out")
     known = [move for move in batch.moves if move.vehicle in before]
@@ -224,7 +224,7 @@ def key(canvas, named, others, batch, before):
     if before:
         shown.append((mark("o", markerfacecolor="white", markeredgecolor=style.DARK), "vehicle at this seal"))
     if batch.out:
-        shown.append((mark("X", color=style.BLACK, markeredgewidth=0), "rider left out"))
+        shown.append((mark("X", color=style.BLACK, markeredgecolor="white", markersize=8), "rider left out"))
     if batch.moves:
         shown.append((Line2D([], [], color=style.BLACK, linewidth=1.1, linestyle=(0, (4, 3))), "move of an idle vehicle"))
     canvas.axes.legend(*zip(*shown), loc="upper left", bbox_to_anchor=(1.0, 1.0), frameon=False, fontsize=8.5)

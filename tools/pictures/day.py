@@ -137,19 +137,25 @@ def named_rows(vehicles, runs, row_height):
     return sorted(named)
 
 
+def bar_looks(planned, few):
+    """Planned bars are hatched; where there are many, all are darker, since they are thin."""
+    if planned and few:
+        return {"facecolor": style.MIST, "hatch": "//////", "edgecolor": style.SKY}
+    return {"facecolor": style.SKY if few else style.DARK_SKY}
+
+
 def draw_bars(axes, runs, rows):
-    """The bars, planned ones hatched, as thick as the persons aboard. Gives the most persons."""
+    """The bars, as thick as the persons aboard. Gives the most persons."""
     bars = [(rows[run.vehicle], bar) for run in runs for bar in bars_of(run)]
     most = max((bar.persons for _, bar in bars), default=1)
-    for planned, name, looks in (
-            (False, "aboard", {"facecolors": style.SKY}),
-            (True, "aboard-planned", {"facecolors": style.MIST, "hatch": "//////", "edgecolors": style.SKY})):
+    for planned, name in ((False, "aboard"), (True, "aboard-planned")):
         boxes = []
         for row, bar in bars:
             if bar.planned == planned:
                 half = BAR / 2 * bar.persons / most
                 low, high = row - half, row + half
                 boxes.append([(bar.start, low), (bar.start, high), (bar.end, high), (bar.end, low)])
+        looks = bar_looks(planned, len(rows) <= MOST_NAMED)
         axes.add_collection(PolyCollection(boxes, linewidths=0, gid=name, zorder=2, **looks))
     return most
 
@@ -178,7 +184,7 @@ def draw_lines(axes, count, seals):
     axes.add_collection(LineCollection(lines, colors=style.SEAL, linewidths=width, zorder=1, gid="seals"))
 
 
-def legend(picture, axes, runs, most):
+def legend(axes, runs, most, few):
     """What the shapes mean, above the picture."""
     planned = {mark.planned for run in runs for mark in run.marks}
     mark = (lambda shape, colour, hollow: Line2D(
@@ -187,10 +193,9 @@ def legend(picture, axes, runs, most):
     shown = []
     for hollow in sorted(planned):
         tail = ", planned" if hollow else ""
-        face = {"facecolor": style.MIST, "hatch": "//////", "edgecolor": style.SKY} if hollow else {
-            "facecolor": style.SKY}
         shown += [(mark("^", style.BLUE, hollow), "pickup" + tail), (mark("v", style.ORANGE, hollow), "drop-off" + tail)]
-        shown.append((Patch(linewidth=0, **face), f"aboard{tail} (thickest: {style.counted(most, 'person')})"))
+        bar = Patch(linewidth=0, **bar_looks(hollow, few))
+        shown.append((bar, f"aboard{tail} (thickest: {style.counted(most, 'person')})"))
     shown.append((Line2D([], [], color=style.SEAL, linewidth=0.8), "seal"))
     axes.legend(*zip(*shown), loc="lower left", bbox_to_anchor=(0, 1.0), ncols=4, frameon=False,
                 borderaxespad=0.2, handletextpad=0.5, columnspacing=1.4)
@@ -229,5 +234,5 @@ def draw(report):
     axes.set_xlabel("second")
     axes.set_ylabel("vehicle" if len(named) == len(vehicles) else "vehicle (the busiest are named)")
     picture.suptitle(title_of(vehicles, runs, entered), x=0.01, ha="left")
-    legend(picture, axes, runs, most)
+    legend(axes, runs, most, len(vehicles) <= MOST_NAMED)
     return picture

@@ -3,10 +3,13 @@
 import math
 from dataclasses import dataclass
 
+from matplotlib.ticker import MaxNLocator
+
 from pictures import style
 from words import Fault
 
 WIDTH, HEIGHT = 9.0, 9.5
+GAP = "gap,\n% of cost"
 
 
 @dataclass(frozen=True)
@@ -99,7 +102,9 @@ def draw_gap(axes, numbers, services):
     if known and max(known) == 0:
         axes.text(0.01, 0.5, "no gap: cost and bound meet", transform=axes.transAxes, va="center")
         axes.set_yticks([0])
-    axes.set_ylabel("gap,\n% of cost")
+    else:
+        axes.yaxis.set_major_locator(MaxNLocator(4))
+    axes.set_ylabel(GAP)
 
 
 def draw_pairs(axes, numbers, services):
@@ -112,7 +117,7 @@ def draw_pairs(axes, numbers, services):
 def finish(picture, panels, numbers):
     """Legends at the side, whole numbers at the axes, room for at least six batches."""
     for axes in panels:
-        if axes.get_ylabel() != "gap,\n% of cost":
+        if axes.get_ylabel() != GAP:
             style.whole_ticks(axes.yaxis)
         axes.grid(axis="y", color=style.PALE, linewidth=0.6)
         axes.set_axisbelow(True)

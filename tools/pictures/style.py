@@ -12,7 +12,8 @@ from matplotlib.ticker import FuncFormatter, MaxNLocator
 from words import Fault
 
 BLACK, DARK, GREY, OTHERS, PALE = "#000000", "#444444", "#777777", "#a8a8a8", "#dddddd"
-BLUE, ORANGE, SKY, MIST, SEAL = "#0072b2", "#d55e00", "#8ecbf0", "#cfe8f8", "#a0a0a0"
+BLUE, ORANGE, SEAL = "#0072b2", "#d55e00", "#a0a0a0"
+DARK_SKY, SKY, MIST = "#56b4e9", "#8ecbf0", "#cfe8f8"
 TRIPS = ("#332288", "#cc6677", "#117733", "#88ccee", "#882255", "#ddcc77", "#44aa99", "#aa4499", "#999933")
 ENDINGS = (".svg", ".png", ".pdf")
 COARSE, FINE = 110, 200
