@@ -10,6 +10,7 @@ every node reaches every other is kept.
 import math
 import os
 import re
+from collections import Counter
 from dataclasses import dataclass
 
 import tables
@@ -125,10 +126,7 @@ def largest_part(places, arcs):
     ends = [[index[arc.start] for arc in arcs], [index[arc.end] for arc in arcs]]
     graph = coo_matrix(([1] * len(arcs), ends), shape=(len(places), len(places)))
     _, part = connected_components(graph, directed=True, connection="strong")
-    sizes = {}
-    for label in part:
-        sizes[label] = sizes.get(label, 0) + 1
-    largest = max(sizes, key=sizes.get)
+    largest, _ = Counter(part).most_common(1)[0]
     kept = [place for place, label in zip(places, part) if label == largest]
     names = {place.name for place in kept}
     return kept, [arc for arc in arcs if arc.start in names and arc.end in names]
@@ -145,18 +143,20 @@ def check_limits(nodes, arcs, slowest):
         raise Fault(f"street {slowest.street} takes {figure}")
 
 
-def has_degrees(network):
-    """Whether the map says how its metres become longitude and latitude."""
-    return network._location.get("projParameter", "!") not in ("!", "-", "")
+def degrees_of(path, network, places):
+    """Longitude and latitude of each place, None for each where the map says nothing of them."""
+    projection = network._location.get("projParameter", "!")
+    if projection in ("!", "-", ""):
+        return [(None, None)] * len(places)
+    need("pyproj")
+    try:
+        return [network.convertXY2LonLat(place.x, place.y) for place in places]
+    except Exception:
+        raise Fault(f"{path}: not a projection: {projection}") from None
 
 
-def as_nodes(network, places):
+def as_nodes(places, degrees):
     """Places as nodes from 1 on."""
-    if has_degrees(network):
-        need("pyproj")
-        degrees = [network.convertXY2LonLat(place.x, place.y) for place in places]
-    else:
-        degrees = [(None, None)] * len(places)
     numbered = enumerate(zip(places, degrees), 1)
     return [tables.Node(at, place.x, place.y, *lonlat, place.name) for at, (place, lonlat) in numbered]
 
@@ -171,12 +171,12 @@ class Part:
     all_arcs: int
 
 
-def tell(path, streets, cars, part, words):
-    """Says what was left out and why. `words` are what places and arcs are called."""
+def tell(path, streets, cars, part, names):
+    """Says what was left out and why. `names` are what places and arcs are called."""
     print(f"{path}: {streets} streets")
     print(f"  left out: {streets - cars} that cars may not use")
-    print(f"  left out: {part.all_arcs - len(part.arcs)} {words[1]} and {part.all_places - len(part.places)} "
-          f"{words[0]} outside the largest part in which each reaches every other")
+    print(f"  left out: {part.all_arcs - len(part.arcs)} {names[1]} and {part.all_places - len(part.places)} "
+          f"{names[0]} outside the largest part in which each reaches every other")
 
 
 def kept_part(path, network, by_turns):
@@ -214,7 +214,7 @@ def convert(arguments):
     network = read_map(path)
     part = kept_part(path, network, by_turns)
     check_limits(len(part.places), len(part.arcs), max(part.arcs, key=lambda arc: arc.seconds))
-    nodes = as_nodes(network, part.places)
+    nodes = as_nodes(part.places, degrees_of(path, network, part.places))
     node = {at.name: at.node for at in nodes}
     write(out, nodes, sorted((node[arc.start], node[arc.end], arc.seconds) for arc in part.arcs))
 

@@ -23,6 +23,7 @@ LEFT, BELOW, TITLE, KEY_WIDTH = 0.15, 0.15, 0.45, 3.2
 MOST_NAMED, MOST_NODE_NAMES = 12, 40
 MARK = 11.0
 ASIDE, MOST_ASIDE = 1.6, 4.0
+DASHES = (0, (4, 3))
 
 
 @dataclass(frozen=True)
@@ -206,7 +207,7 @@ def draw_left(canvas, batch, requests, before, ground):
     known = [move for move in batch.moves if move.vehicle in before]
     lines = [ground.line([before[move.vehicle], requests[move.rider].origin]) for move in known]
     canvas.axes.add_collection(LineCollection(
-        lines, colors=style.BLACK, linewidths=1.1, linestyles=(0, (4, 3)), zorder=3.5, gid="moves"))
+        lines, colors=style.BLACK, linewidths=1.1, linestyles=DASHES, zorder=3.5, gid="moves"))
     return len(batch.moves) - len(known)
 
 
@@ -226,7 +227,8 @@ def key(canvas, named, others, batch, before):
     if batch.out:
         shown.append((mark("X", color=style.BLACK, markeredgecolor="white", markersize=8), "rider left out"))
     if batch.moves:
-        shown.append((Line2D([], [], color=style.BLACK, linewidth=1.1, linestyle=(0, (4, 3))), "move of an idle vehicle"))
+        dashes = Line2D([], [], color=style.BLACK, linewidth=1.1, linestyle=DASHES)
+        shown.append((dashes, "move of an idle vehicle"))
     canvas.axes.legend(*zip(*shown), loc="upper left", bbox_to_anchor=(1.0, 1.0), frameon=False, fontsize=8.5)
 
 

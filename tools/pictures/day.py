@@ -79,12 +79,14 @@ def entered_marks(report, requests):
 def entered_runs(report, marks, requests):
     """A run for each vehicle: what was entered, then what its last plan still holds."""
     done = {(mark.kind, mark.rider) for of_one in marks.values() for mark in of_one}
-    cancelled = {e.fields[0] for e in report.entries if e.reply == "cancelled"}
-    last = {trip.vehicle: trip for batch in report.batches for trip in batch.plans()}
+    gone = {e.fields[0] for e in report.entries if e.reply == "cancelled"}
+    gone.update(rider for batch in report.batches for rider in batch.expired)
+    solved = [batch for batch in report.batches if not batch.overflow]
+    last = {trip.vehicle: trip for batch in solved[-1:] for trip in batch.plans()}
     runs = []
     for vehicle in sorted(set(last) | set(marks)):
         left = planned_marks(last[vehicle], requests) if vehicle in last else ()
-        left = [m for m in left if (m.kind, m.rider) not in done and m.rider not in cancelled]
+        left = [m for m in left if (m.kind, m.rider) not in done and m.rider not in gone]
         runs.append(Run(vehicle, tuple(marks.get(vehicle, []) + left), 0))
     return runs
 
@@ -193,7 +195,8 @@ def legend(axes, runs, most, few):
     shown = []
     for hollow in sorted(planned):
         tail = ", planned" if hollow else ""
-        shown += [(mark("^", style.BLUE, hollow), "pickup" + tail), (mark("v", style.ORANGE, hollow), "drop-off" + tail)]
+        shown.append((mark("^", style.BLUE, hollow), "pickup" + tail))
+        shown.append((mark("v", style.ORANGE, hollow), "drop-off" + tail))
         bar = Patch(linewidth=0, **bar_looks(hollow, few))
         shown.append((bar, f"aboard{tail} (thickest: {style.counted(most, 'person')})"))
     shown.append((Line2D([], [], color=style.SEAL, linewidth=0.8), "seal"))
