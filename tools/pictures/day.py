@@ -204,10 +204,11 @@ def legend(axes, runs, most, few):
                 borderaxespad=0.2, handletextpad=0.5, columnspacing=1.4)
 
 
-def title_of(vehicles, runs, entered):
+def title_of(report, vehicles, runs, entered):
     """What the picture shows, in a line."""
     count = (lambda kind: sum(1 for run in runs for mark in run.marks if mark.kind == kind))
-    what = "Day" if entered else "Planned day (no stop was entered)"
+    until = ", each plan up to the next seal" if len(report.batches) > 1 else ""
+    what = "Day" if entered else f"Planned day (no stop was entered{until})"
     return f"{what}: {style.counted(len(vehicles), 'vehicle')}, {style.counted(count('pick'), 'pickup')}, " \
            f"{style.counted(count('drop'), 'drop-off')}"
 
@@ -236,6 +237,6 @@ def draw(report):
     style.whole_ticks(axes.xaxis, steps=(1, 2, 3, 6, 10))
     axes.set_xlabel("second")
     axes.set_ylabel("vehicle" if len(named) == len(vehicles) else "vehicle (the busiest are named)")
-    picture.suptitle(title_of(vehicles, runs, entered), x=0.01, ha="left")
+    picture.suptitle(title_of(report, vehicles, runs, entered), x=0.01, ha="left")
     legend(axes, runs, most, len(vehicles) <= MOST_NAMED)
     return picture

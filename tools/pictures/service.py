@@ -118,7 +118,7 @@ def finish(picture, panels, numbers):
     """Legends at the side, whole numbers at the axes, room for at least six batches."""
     for axes in panels:
         if axes.get_ylabel() != GAP:
-            style.whole_ticks(axes.yaxis)
+            style.whole_ticks(axes.yaxis, most=6)
         axes.grid(axis="y", color=style.PALE, linewidth=0.6)
         axes.set_axisbelow(True)
         handles, labels = axes.get_legend_handles_labels()

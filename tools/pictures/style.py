@@ -50,9 +50,9 @@ def write(picture, path):
     picture.savefig(path, dpi="figure", metadata=undated)
 
 
-def whole_ticks(axis, steps=(1, 2, 5, 10)):
-    """Ticks at whole numbers, with a comma before each three digits."""
-    axis.set_major_locator(MaxNLocator(integer=True, steps=steps, min_n_ticks=1))
+def whole_ticks(axis, most=10, steps=(1, 2, 5, 10)):
+    """So many ticks at most, at whole numbers, with a comma before each three digits."""
+    axis.set_major_locator(MaxNLocator(most, integer=True, steps=steps, min_n_ticks=1))
     axis.set_major_formatter(FuncFormatter(lambda value, _: f"{value:,.0f}"))
 
 
