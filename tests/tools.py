@@ -17,8 +17,8 @@ import traceback
 import xml.etree.ElementTree
 
 TOP = pathlib.Path(__file__).resolve().parent.parent
-TOOLS, DATA, LINE = TOP / "tools", TOP / "tests" / "tools", TOP / "examples" / "line"
-EXPECTED = DATA / "expected"
+TOOLS, DATA, EXPECTED = TOP / "tools", TOP / "tests" / "tools", TOP / "tests" / "tools" / "expected"
+LINE, TOWN, PICTURES = TOP / "examples" / "line", TOP / "examples" / "town", TOP / "docs" / "pictures"
 SVG = "{http://www.w3.org/2000/svg}"
 sys.dont_write_bytecode = True
 sys.path[:0] = [str(TOOLS), str(DATA)]
@@ -390,6 +390,32 @@ def test_pictures_of_500_vehicles(folder):
     assert sum(1 for text in svg.texts() if text.startswith("vehicle ") and "stops" in text) == 12
     assert any(re.fullmatch("[0-9]+ other trips: wider for more", text) for text in svg.texts())
     assert drawn(folder, report, "service").marks("cost") == 6
+
+
+def test_town(folder):
+    """The worked example: its map becomes a network where netconvert is there, its trips the day's files."""
+    works("from_trips", TOWN / "trips.csv", TOWN / "nodes.csv", folder, "vehicles=10",
+          "from=2015-01-15T08:00:00", "to=2015-01-15T08:30:00")
+    for name in ("fleet.csv", "script.csv"):
+        assert (folder / name).read_text() == (TOWN / name).read_text(), name
+    if shutil.which("netconvert"):
+        home = {"SUMO_HOME": "/usr/share/sumo", **os.environ}
+        net = folder / "town.net.xml"
+        subprocess.run(["netconvert", "--osm-files", TOWN / "town.osm", "--output-file", net],
+                       env=home, check=True, capture_output=True)
+        out = works("from_sumo", net, folder / "out")
+        assert "2 that cars may not use" in out and "with longitude and latitude" in out, out
+
+
+def test_pictures_in_the_documents(folder):
+    """The pictures in docs/pictures are of the town's day: as many marks as its report has stops."""
+    report = (TOWN / "day.report").read_text()
+    day, service, batch = (Svg(PICTURES / f"{name}.svg") for name in ("day", "service", "batch"))
+    assert day.marks("pickups") == report.count(" picked\n") == day.marks("dropoffs") == report.count(" dropped\n")
+    assert day.lines("seals") == service.marks("cost") == report.count(" sealed ") == 30
+    block = report.split("\nbatch 3\n")[1].split("\nend\n")[0]
+    assert batch.marks("pickups") == block.count(" pick:") and batch.marks("dropoffs") == block.count(" drop:")
+    assert batch.marks("left-out") == block.count("\nout ") and batch.lines("moves") == block.count("\nmove ")
 
 
 def test_cancelled_and_entered_stops(folder):
