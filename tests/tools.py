@@ -404,7 +404,7 @@ def test_town(folder):
         subprocess.run(["netconvert", "--osm-files", TOWN / "town.osm", "--output-file", net],
                        env=home, check=True, capture_output=True)
         out = works("from_sumo", net, folder / "out")
-        assert "2 that cars may not use" in out and "with longitude and latitude" in out, out
+        assert "that cars may not use" in out and "nodes, with longitude and latitude" in out, out
 
 
 def test_pictures_in_the_documents(folder):

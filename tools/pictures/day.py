@@ -200,7 +200,7 @@ def legend(axes, runs, most, few):
         bar = Patch(linewidth=0, **bar_looks(hollow, few))
         shown.append((bar, f"aboard{tail} (thickest: {style.counted(most, 'person')})"))
     shown.append((Line2D([], [], color=style.SEAL, linewidth=0.8), "seal"))
-    axes.legend(*zip(*shown), loc="lower left", bbox_to_anchor=(0, 1.0), ncols=4, frameon=False,
+    axes.legend(*zip(*shown), loc="lower left", bbox_to_anchor=(0, 1.0), ncol=4, frameon=False,
                 borderaxespad=0.2, handletextpad=0.5, columnspacing=1.4)
 
 
