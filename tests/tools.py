@@ -180,8 +180,8 @@ def test_limits_of_maps_and_scripts(folder):
     import from_trips
 
     arc = from_sumo.Arc("A", "B", 10_000, "AB")
-    from_sumo.check_limits(100_000, 400_000, arc)
-    from_trips.check_limits(100_000, 200_000, 1_000_000_000)
+    from_sumo.check_limits("map", 100_000, 400_000, arc)
+    from_trips.check_limits("trips", 100_000, 200_000, 1_000_000_000)
     for check, figures, text in (
             (from_sumo.check_limits, (100_001, 1, arc), "100001 nodes"),
             (from_sumo.check_limits, (1, 400_001, arc), "400001 arcs"),
@@ -189,10 +189,10 @@ def test_limits_of_maps_and_scripts(folder):
             (from_trips.check_limits, (1, 200_001, 1), "200001 rows"),
             (from_trips.check_limits, (1, 1, 1_000_000_001), "second 1000000001")):
         try:
-            check(*figures)
+            check("file", *figures)
             raise AssertionError(text)
         except words.Fault as fault:
-            assert text in str(fault), fault
+            assert str(fault).startswith("file: ") and text in str(fault), fault
 
 
 SPAN = ("from=2015-01-15T08:00:00", "to=2015-01-15 08:04")
@@ -334,6 +334,21 @@ def test_delays_of_two_riders(folder):
     found = service.service_of(report.batches[0], report.requests(), service.direct_times(report, streets))
     assert (found.waits, found.mean_delay, found.worst_delay) == ((60, 120), 90.0, 120.0), found
     assert (found.served, found.out, found.cost, found.bound, found.rows) == (2, 0, 180, 180, 4), found
+
+
+def test_delays_of_a_day(folder):
+    """On the town's day each trip's printed delay is the sum of its riders' delays over the network."""
+    from pictures import ground, service
+    from report import read_report
+
+    report = read_report(TOWN / "day.report")
+    streets = ground.streets_of(report, {"network": str(TOWN / "network.csv")})
+    requests, direct = report.requests(), service.direct_times(report, streets)
+    for batch in report.batches:
+        for trip in batch.plans():
+            drops = [stop for stop in trip.stops if stop.kind == "drop"]
+            delays = [service.delay_of(stop, requests, direct) for stop in drops]
+            assert sum(delays) == trip.delay, (batch.number, trip, delays)
 
 
 def test_map_of_two_riders(folder):

@@ -132,15 +132,15 @@ def largest_part(places, arcs):
     return kept, [arc for arc in arcs if arc.start in names and arc.end in names]
 
 
-def check_limits(nodes, arcs, slowest):
+def check_limits(path, nodes, arcs, slowest):
     """Refuses what ridepool doesn't take, with the figure. `slowest` is the arc of most seconds."""
     if nodes > tables.MOST_NODES:
-        raise Fault(f"{nodes} nodes, and ridepool takes {tables.MOST_NODES}: cut a smaller map")
+        raise Fault(f"{path}: {nodes} nodes, and ridepool takes {tables.MOST_NODES}: cut a smaller map")
     if arcs > tables.MOST_ARCS:
-        raise Fault(f"{arcs} arcs, and ridepool takes {tables.MOST_ARCS}: cut a smaller map")
+        raise Fault(f"{path}: {arcs} arcs, and ridepool takes {tables.MOST_ARCS}: cut a smaller map")
     if slowest.seconds > tables.MOST_SECONDS:
         figure = f"{slowest.seconds} seconds, and ridepool takes {tables.MOST_SECONDS}"
-        raise Fault(f"street {slowest.street} takes {figure}")
+        raise Fault(f"{path}: street {slowest.street} takes {figure}")
 
 
 def degrees_of(path, network, places):
@@ -213,7 +213,7 @@ def convert(arguments):
     need("sumolib", "scipy")
     network = read_map(path)
     part = kept_part(path, network, by_turns)
-    check_limits(len(part.places), len(part.arcs), max(part.arcs, key=lambda arc: arc.seconds))
+    check_limits(path, len(part.places), len(part.arcs), max(part.arcs, key=lambda arc: arc.seconds))
     nodes = as_nodes(part.places, degrees_of(path, network, part.places))
     node = {at.name: at.node for at in nodes}
     write(out, nodes, sorted((node[arc.start], node[arc.end], arc.seconds) for arc in part.arcs))

@@ -219,15 +219,16 @@ def from_span_start(requests, span):
     return shifted, end - start
 
 
-def check_limits(riders, rows, last):
+def check_limits(path, riders, rows, last):
     """Refuses what ridepool doesn't take, with the figure. `last` is the last seal's second."""
     shorter = "take a shorter span by from= and to="
     if riders > tables.MOST_RIDERS:
-        raise Fault(f"{riders} trips, and ridepool's book takes {tables.MOST_RIDERS} riders: {shorter}")
+        raise Fault(f"{path}: {riders} trips, and ridepool's book takes {tables.MOST_RIDERS} riders: {shorter}")
     if rows > tables.MOST_ROWS:
-        raise Fault(f"{rows} rows, and ridepool's script takes {tables.MOST_ROWS}: {shorter}")
+        raise Fault(f"{path}: {rows} rows, and ridepool's script takes {tables.MOST_ROWS}: {shorter}")
     if last > tables.MOST_NUMBER:
-        raise Fault(f"the last seal is at second {last}, and ridepool takes {tables.MOST_NUMBER}: {shorter}")
+        figure = f"second {last}, and ridepool takes {tables.MOST_NUMBER}"
+        raise Fault(f"{path}: the last seal is at {figure}: {shorter}")
 
 
 def tell(path, count, requests, left_out, seats):
@@ -262,7 +263,7 @@ def convert(arguments):
         raise Fault(f"{path}: none of the {count} trips can be used")
     requests, length = from_span_start(requests, span)
     seals = math.ceil(length / every)
-    check_limits(len(requests), len(requests) + seals, seals * every)
+    check_limits(path, len(requests), len(requests) + seals, seals * every)
     fleet, script = os.path.join(out, "fleet.csv"), os.path.join(out, "script.csv")
     tables.write_table(fleet, tables.FLEET, fleet_rows(plane.nodes, vehicles, seats, seed))
     tables.write_table(script, tables.SCRIPT, script_rows(requests, length, every))

@@ -39,13 +39,17 @@ def direct_times(report, streets):
     return {rider: pairs[r.origin, r.destination] for rider, r in requests.items()}
 
 
+def delay_of(stop, requests, direct):
+    """A drop-off's delay: its second less the earliest arrival possible, at least 0."""
+    return max(0.0, stop.second - requests[stop.rider].second - direct[stop.rider])
+
+
 def service_of(batch, requests, direct):
-    """A batch's service. A rider's delay is the drop-off less the earliest arrival possible, at least 0."""
+    """A batch's service."""
     stops = [stop for trip in batch.plans() for stop in trip.stops]
     drops = [stop for stop in stops if stop.kind == "drop"]
     waits = [stop.second - requests[stop.rider].second for stop in stops if stop.kind == "pick"]
-    delays = [max(0.0, drop.second - requests[drop.rider].second - direct[drop.rider])
-              for drop in drops if drop.rider in direct]
+    delays = [delay_of(drop, requests, direct) for drop in drops if drop.rider in direct]
     total = sum(trip.delay for trip in batch.plans())
     return Service(
         batch.number, len(waits), len(batch.out), tuple(waits),
