@@ -1,0 +1,53 @@
+#!/usr/bin/env python3
+"""Draws a printed report of ridepool: a day of its vehicles, the service of its batches, or one batch's map."""
+
+from report import read_report
+from tables import MOST_NUMBER
+from words import Fault, need, number, run_tool, split_words
+
+USAGE = ("use: draw.py REPORT day|service|batch=N [nodes=nodes.csv|made=1] [network=network.csv] "
+         "[fleet=fleet.csv] OUT.svg|png|pdf")
+PICTURES = ("day", "service")
+WORDS = ("batch", "nodes", "network", "fleet", "made")
+
+
+def which_picture(plain, values):
+    """The picture that the words ask for, and the words that are left: the report and the picture's file."""
+    asked = [word for word in plain if word in PICTURES] + ["batch"] * ("batch" in values)
+    files = [word for word in plain if word not in PICTURES]
+    if len(asked) != 1 or len(files) != 2:
+        raise Fault(USAGE)
+    return asked[0], files
+
+
+def picture_of(kind, report, values):
+    """The picture."""
+    if kind == "day":
+        from pictures import day
+
+        return day.draw(report)
+    from pictures import ground
+
+    if kind == "service":
+        from pictures import service
+
+        return service.draw(report, ground.streets_of(report, values))
+    from pictures import batch_map
+
+    batch = number(values, "batch", 1, MOST_NUMBER, 1)
+    return batch_map.draw(report, batch, ground.Ground.of(report, values))
+
+
+def convert(arguments):
+    """The tool."""
+    plain, values = split_words(arguments, WORDS, USAGE)
+    kind, (path, out) = which_picture(plain, values)
+    need("matplotlib", "scipy")
+    from pictures import style
+
+    style.check_ending(out)
+    style.write(picture_of(kind, read_report(path), values), out)
+
+
+if __name__ == "__main__":
+    run_tool(convert, USAGE)
