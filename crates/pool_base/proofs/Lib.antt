@@ -3,3 +3,5 @@ pub mod TableLemmas
 pub mod FaultLemmas
 pub mod NumberLemmas
 pub mod NumeralLemmas
+pub mod InOrderLemmas
+pub mod DistinctLemmas

@@ -1,12 +1,13 @@
-use Rattle.std.proofs.Common.{◌≡◌, ◌≢◌, ◌↔◌, ℕ, zero, suc, ◌<◌, ◌≤◌, ◌^◌, true, false, ◌&&◌, cond, List, [], ◌∷◌, Some, None, Result, Ok, Err, IsErr, length, slice_index, nat_le, refl, sym, ap, ◌∙◌, inl, inr, arith}
+use Rattle.std.proofs.Common.{◌≡◌, ◌≢◌, ◌↔◌, ℕ, zero, suc, ◌+◌, ◌<◌, ◌≤◌, ◌^◌, true, false, ◌&&◌, cond, List, [], ◌∷◌, Option, Some, None, unwrap_or, get_or, Result, Ok, Err, IsErr, length, slice_index, nat_le, refl, sym, ap, ◌∙◌, inl, inr, arith}
 use Rattle.std.specs.List.{list_all}
 use Rattle.std.specs.Char.{is_ascii_digit}
+use Rattle.std.specs.Option.{ok_or}
 use Rattle.std.specs.Result.{IsErrOf}
 use Rattle.std.proofs.lemmas.Bool.{and_from, and_left, and_right, and_parts, cases_Bool, le-leb, lt-leb, leb-true}
 use Rattle.pool_base.specs.declared.number.NumberFault.{NumberFault}
 use Rattle.pool_base.specs.declared.number.NumberFault.TheVariants.{Empty, NotDigit, TooLarge}
 use Rattle.pool_base.specs.Number.{IsDigit, AllDigits, value_of, IsFirstNoDigit}
-use Rattle.pool_base.specs.Numeral.{is_numeral, number_up_to}
+use Rattle.pool_base.specs.Numeral.{is_numeral, number_up_to, number_in, number_at}
 
 digit_passes : (c : ℕ) → IsDigit c → is_ascii_digit c ≡ true
 digit_passes c digit = and_from (nat_le 48 c) (nat_le c 57) (le-leb 48 c digit.0) (le-leb c 57 digit.1)
@@ -92,3 +93,21 @@ number_up_to-refused most text (Err (NotDigit place)) small err empty not_digit 
 number_up_to-refused most text (Err TooLarge) small err empty not_digit too_large =
     let large : 2 ^ 64 ≤ value_of text = (too_large.0 refl).1 in
     number_up_to-large most text (omega arith)
+
+-- the number that a column gives is the number in it
+pub number_in-at : {F : Type 0} (fault : ℕ → ℕ → F) (row : ℕ) (fields : List (List ℕ)) (column n : ℕ) → number_in fault row fields column ≡ Ok n → n ≡ number_at fields column
+number_in-at fault row fields column n given = by_number (number_up_to 1000000000 (get_or fields column [])) given
+  where
+    by_number : (o : Option ℕ) → ok_or o (fault row (column + 1)) ≡ Ok n → n ≡ unwrap_or o 0
+    by_number None given = absurd cc
+    by_number (Some m) given = cc
+
+-- and at most 1,000,000,000
+pub number_in-within : {F : Type 0} (fault : ℕ → ℕ → F) (row : ℕ) (fields : List (List ℕ)) (column n : ℕ) → number_in fault row fields column ≡ Ok n → n ≤ 1000000000
+number_in-within fault row fields column n given = by_number (number_up_to 1000000000 (get_or fields column [])) refl given
+  where
+    by_number : (o : Option ℕ) → number_up_to 1000000000 (get_or fields column []) ≡ o → ok_or o (fault row (column + 1)) ≡ Ok n → n ≤ 1000000000
+    by_number None here given = absurd cc
+    by_number (Some m) here given =
+        let same : m ≡ n = cc in
+        omega (arith, (number_up_to-some 1000000000 (get_or fields column []) m here).within, same)

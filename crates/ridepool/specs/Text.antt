@@ -2,7 +2,7 @@
 use Rattle.std.specs.Prelude.{ℕ, List, [], ◌∷◌, ◌++◌, codes, decimal}
 use Rattle.fleet_state.specs.declared.fault.FleetFault.{FleetFault}
 use Rattle.fleet_state.specs.declared.fault.FleetFault.TheVariants as fleet
-use Rattle.pool_base.specs.Which.{name_of}
+use Rattle.pool_base.specs.Which.{file_name}
 use Rattle.pool_io.specs.declared.input.Input.{Input}
 use Rattle.pool_io.specs.declared.input.Input.TheVariants.{Rows, Own}
 use Rattle.pool_io.specs.declared.records.RowFault.{RowFault}
@@ -29,7 +29,7 @@ word_text word.NoCommand = codes "no command"
 word_text (word.UnknownKey n) = at_number (codes "unknown key at word") n
 word_text (word.Repeated n) = at_number (codes "repeated key at word") n
 word_text (word.BadValue n) = at_number (codes "bad value at word") n
-word_text (word.MissingFile w) = codes "missing " ++ name_of w
+word_text (word.MissingFile w) = codes "missing " ++ file_name w
 
 abbrev pub row_text : RowFault → List ℕ
 row_text (row.Header n) = at_number (codes "wrong header of") n ++ codes " fields"
@@ -74,7 +74,7 @@ status_text (Words fault) = codes "words: " ++ word_text fault
 status_text (Network fault) = codes "network: " ++ input_text network_text fault
 status_text (Fleet fault) = codes "fleet: " ++ input_text fleet_text fault
 status_text (Script fault) = codes "script: " ++ input_text script_text fault
-status_text (TooLong w) = name_of w ++ codes ": longer than 67108864 bytes"
-status_text (ReadFault w) = name_of w ++ codes ": read failed"
+status_text (TooLong w) = file_name w ++ codes ": longer than 67108864 bytes"
+status_text (ReadFault w) = file_name w ++ codes ": read failed"
 status_text WriteFault = codes "report: write failed"
 status_text OutOfMemory = codes "out of memory"

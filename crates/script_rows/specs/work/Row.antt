@@ -4,13 +4,13 @@ use Rattle.script_rows.specs.declared.version.ScriptVersion.{ScriptVersion}
 use Rattle.script_rows.specs.Word.{columns_of}
 
 -- a row of a script, which has at most 200,000 of them, and the columns of its version
-pub record IsRowOf (table : Table) (row : ℕ) (version : ScriptVersion) : Type 0 where
+pub record IsScriptRow (table : Table) (row : ℕ) (version : ScriptVersion) : Type 0 where
   pub within : row < length table.records
   pub few : length table.records ≤ 200000
   pub columns : table.columns ≡ columns_of version
 
 -- a field of a row, which has 7 columns or 8
-pub record IsFieldOf (table : Table) (row column : ℕ) : Type 0 where
+pub record IsScriptField (table : Table) (row column : ℕ) : Type 0 where
   pub within : row < length table.records
   pub few : length table.records ≤ 200000
   pub inside : column < table.columns

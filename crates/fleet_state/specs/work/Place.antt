@@ -8,21 +8,21 @@ abbrev pub has_vehicle : List Vehicle → ℕ → Bool
 has_vehicle vehicles id = list_any (λ v. v.id == id) vehicles
 
 -- the vehicle at a place has this id
-abbrev pub stands_at : List Vehicle → ℕ → ℕ → Bool
-stands_at vehicles place id = nat_lt place (length vehicles) && (slice_index_or vehicles place (empty_vehicle 0 0 0 0)).id == id
+abbrev pub has_id_at : List Vehicle → ℕ → ℕ → Bool
+has_id_at vehicles place id = nat_lt place (length vehicles) && (slice_index_or vehicles place (empty_vehicle 0 0 0 0)).id == id
 
 -- how many vehicles at the front have lower ids
-abbrev pub place_of : List Vehicle → ℕ → ℕ
-place_of vehicles id = prefix_len (λ v. nat_lt v.id id) vehicles
+abbrev pub insertion_place : List Vehicle → ℕ → ℕ
+insertion_place vehicles id = prefix_len (λ v. nat_lt v.id id) vehicles
 
 -- vehicles by rising id, with one more at its place
 abbrev pub with_vehicle : List Vehicle → Vehicle → List Vehicle
-with_vehicle vehicles vehicle = insert vehicles (place_of vehicles vehicle.id) vehicle
+with_vehicle vehicles vehicle = insert vehicles (insertion_place vehicles vehicle.id) vehicle
 
 -- a new id's place among vehicles by rising id: behind all lower ids, and before all higher ones
 pub record IsPlaceOf (vehicles : List Vehicle) (id place : ℕ) : Type 0 where
   pub new : has_vehicle vehicles id ≡ false
-  pub place_is : place ≡ place_of vehicles id
+  pub place_is : place ≡ insertion_place vehicles id
   pub inside : place ≤ length vehicles
   pub lower : AllWithin (λ v. v.id < id) vehicles 0 place
   pub higher : AllWithin (λ v. id < v.id) vehicles place (length vehicles)

@@ -6,6 +6,7 @@ use Rattle.script_rows.specs.Round.{NumberedLanes, lane_at, MayStand}
 -- what a row keeps that stands behind a row of a round
 pub record IsBehind (last : ℕ) (line : Line) : Type 0 where
   pub round : last ≤ line.round
+  pub number : line.round ≤ 1000000000
   pub lane : line.lane < 16
   pub stands : MayStand line.lane line.command
 
