@@ -8,7 +8,8 @@ use Rattle.plan_rules.specs.Graph.{Graph, IsRowOf, vehicle_at, IsGoodGraph}
 use Rattle.plan_rules.specs.Plan.{IsLawful, cost_of}
 use Rattle.plan_rules.specs.Greedy.{IsGreedy}
 use Rattle.plan_rules.specs.Multipliers.{Usable, usable_of, leaf_value, first_fit, first_fit_value}
-use Rattle.plan_rules.specs.Tree.{every_row, only_row, without_row, CanBranch, MayUse, IsDeadEnd, Reads, IsSoundTree, Place, places, rounded_up, tree_value}
+use Rattle.plan_rules.specs.Tree.{every_row, only_row, without_row, CanBranch, MayUse, IsDeadEnd, Place, rounded_up}
+use Rattle.plan_rules.specs.Reading.{Reads, IsWholeTree, places_read, value_read}
 use Rattle.plan_rules.specs.declared.node.Node.{Node}
 use Rattle.plan_rules.specs.declared.node.Node.TheVariants.{Branch, Leaf, Dead}
 use Rattle.plan_rules.proofs.PlanLemmas.{held_is_lawful}
@@ -229,8 +230,8 @@ answer_of g budget limit place plan cost nodes values good t lowest held greedy 
       sound = grown_reads g low limit nodes values (every_row ∷ []) [] grown;
       bound = sym (value_is g limit nodes values place grown lowest);
       root = omega (arith, ints);
-      leaves = All-from_recursion (λ (p : Place). IsAtLeastFirstFit g p.usable p.node) (places g nodes) (leaves_fit g low limit nodes values (every_row ∷ []) [] grown);
-      branches = All-from_recursion (λ (p : Place). IsBranchJustified g low p.usable p.node) (places g nodes) (branches_justified g low limit held greedy nodes values (every_row ∷ []) [] grown);
+      leaves = All-from_recursion (λ (p : Place). IsAtLeastFirstFit g p.usable p.node) (places_read g nodes) (leaves_fit g low limit nodes values (every_row ∷ []) [] grown);
+      branches = All-from_recursion (λ (p : Place). IsBranchJustified g low p.usable p.node) (places_read g nodes) (branches_justified g low limit held greedy nodes values (every_row ∷ []) [] grown);
       limited = λ below. limited_from done below;
       closed = λ enough. closed_from done enough;
     }

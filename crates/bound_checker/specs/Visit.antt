@@ -1,7 +1,8 @@
 use Rattle.std.specs.Prelude.{◌≡◌, ◌≢◌, ℕ, ℤ, ◌<◌, Bool, true, false, IsTrue, List, [], ◌∷◌, length, slice_index_or, Option, MatchOption}
 use Rattle.plan_rules.specs.Graph.{Graph, has_rider}
 use Rattle.plan_rules.specs.Multipliers.{Usable}
-use Rattle.plan_rules.specs.Tree.{MayUse, IsSoleRow, CanBranch, IsDeadEnd, IsSoundNode, coming_after, with_leaf}
+use Rattle.plan_rules.specs.Tree.{MayUse, IsSoleRow, CanBranch, IsDeadEnd, with_leaf}
+use Rattle.plan_rules.specs.Reading.{IsSoundNode, coming_after}
 use Rattle.plan_rules.specs.Path.{standing_of, IsPathOf}
 use Rattle.plan_rules.specs.declared.node.Node.{Node}
 use Rattle.plan_rules.specs.declared.node.Node.TheVariants.{Branch, Leaf, Dead}

@@ -6,6 +6,7 @@ pub mod PlanLemmas
 pub mod GreedyLemmas
 pub mod DualityLemmas
 pub mod TreeLemmas
+pub mod SearchTreeLemmas
 pub mod PathLemmas
 pub mod HeldLemmas
 pub mod ReadLemmas
