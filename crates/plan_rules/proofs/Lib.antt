@@ -11,3 +11,5 @@ pub mod PathLemmas
 pub mod HeldLemmas
 pub mod ReadLemmas
 pub mod UsableLemmas
+pub mod DeadEndLemmas
+pub mod ValueLemmas

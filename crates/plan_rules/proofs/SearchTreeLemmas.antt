@@ -4,7 +4,7 @@ use Rattle.std.specs.Prelude.{ℤ, pos, Option, unwrap_or}
 use Rattle.std.proofs.lemmas.List.{length-append, append_assoc, append-nil}
 use Rattle.plan_rules.specs.Graph.{Graph, IsGoodGraph}
 use Rattle.plan_rules.specs.Multipliers.{Usable}
-use Rattle.plan_rules.specs.Tree.{every_row, only_row, without_row, SearchTree, Parted, Bounded, Closed, preorder, IsSoundTree, IsTreeOf, Place, places_within, places, least_leaf, tree_value, belongs_to_end, belongs_to_dead_end}
+use Rattle.plan_rules.specs.Tree.{every_row, only_row, without_row, SearchTree, Parted, Bounded, Closed, preorder, IsSoundTree, IsTreeOf, IsTreeOfValue, Place, places_within, places, least_leaf, tree_value, belongs_to_end, belongs_to_dead_end}
 use Rattle.plan_rules.specs.Reading.{coming_after, Reads, IsWholeTree, places_from, places_read, value_read}
 use Rattle.plan_rules.specs.Plan.{IsPlan, IsLawful, IsBound}
 use Rattle.plan_rules.proofs.TreeLemmas.{each_plan_at_one_end, no_plan_at_dead_ends, tree_value_bounds}
@@ -40,7 +40,7 @@ first_subtree g (suc size) usable coming rest (Branch v k ∷ nodes) small few r
           ap (λ (xs : List Node). Branch v k ∷ xs) (one.listed ∙ ap (λ (xs : List Node). preorder one.tree ++ xs) two.listed
           ∙ sym (append_assoc (preorder one.tree) (preorder two.tree) two.behind));
       sound = (reads.0, one.sound, two.sound);
-      reads = two.reads
+      reads = two.reads;
     }
 
 nothing_behind : (g : Graph) (nodes : List Node) → Reads g [] nodes [] → nodes ≡ []
@@ -50,11 +50,13 @@ nothing_behind g (n ∷ nodes) reads = absurd reads
 -- a tree that is read node by node
 pub tree_of_reads : (g : Graph) (nodes : List Node) → IsWholeTree g nodes → (t : SearchTree) × IsTreeOf g nodes t
 tree_of_reads g nodes reads =
-    let found = first_subtree g (length nodes) every_row [] [] nodes (omega arith) (omega arith) reads in
-    (found.tree, record {
-      listed = found.listed ∙ ap (λ (xs : List Node). preorder found.tree ++ xs) (nothing_behind g found.behind found.reads) ∙ append-nil (preorder found.tree);
-      sound = found.sound
-    })
+    let found = first_subtree g (length nodes) every_row [] [] nodes (omega arith) (omega arith) reads in (
+      found.tree,
+      record {
+        listed = found.listed ∙ ap (λ (xs : List Node). preorder found.tree ++ xs) (nothing_behind g found.behind found.reads) ∙ append-nil (preorder found.tree);
+        sound = found.sound;
+      },
+    )
 
 -- the places_read of a tree, and of what comes behind it
 places_of_tree : (g : Graph) (t : SearchTree) (usable : Usable) (coming : List Usable) (behind : List Node)
@@ -80,10 +82,12 @@ reads_of_sound : (g : Graph) (t : SearchTree) (usable : Usable) (coming rest : L
     → Reads g (usable ∷ coming) (preorder t ++ behind) rest
 reads_of_sound g (Bounded ms) usable coming rest behind sound reads = (sound, reads)
 reads_of_sound g Closed usable coming rest behind sound reads = (sound, reads)
-reads_of_sound g (Parted v k first second) usable coming rest behind sound reads =
-    (sound.0, subst (λ (xs : List Node). Reads g (only_row g usable v k ∷ without_row usable k ∷ coming) xs rest) (sym (append_assoc (preorder first) (preorder second) behind))
-    (reads_of_sound g first (only_row g usable v k) (without_row usable k ∷ coming) rest (preorder second ++ behind) (sound.1)
-    (reads_of_sound g second (without_row usable k) coming rest behind (sound.2) reads)))
+reads_of_sound g (Parted v k first second) usable coming rest behind sound reads = (
+  sound.0,
+  subst (λ (xs : List Node). Reads g (only_row g usable v k ∷ without_row usable k ∷ coming) xs rest) (sym (append_assoc (preorder first) (preorder second) behind))
+      (reads_of_sound g first (only_row g usable v k) (without_row usable k ∷ coming) rest (preorder second ++ behind) (sound.1)
+      (reads_of_sound g second (without_row usable k) coming rest behind (sound.2) reads)),
+)
 
 pub reads_of_tree : (g : Graph) (nodes : List Node) (t : SearchTree) → IsTreeOf g nodes t → IsWholeTree g nodes
 reads_of_tree g nodes t tree =
@@ -116,3 +120,9 @@ pub value_bounds : (g : Graph) (t : SearchTree) → IsGoodGraph g → IsSoundTre
 value_bounds g t good sound =
     let tree = tree_itself g t sound in
     subst (IsBound g) (value_is_read g (preorder t) t tree) (tree_value_bounds g (preorder t) good (reads_of_tree g (preorder t) t tree))
+
+-- what is read whole is a tree of the value that is read
+pub tree_of_value : (g : Graph) (nodes : List Node) → IsWholeTree g nodes → IsTreeOfValue g nodes (value_read g nodes)
+tree_of_value g nodes reads =
+    let t = tree_of_reads g nodes reads in
+    (t.0, t.1, value_is_read g nodes (t.0) (t.1))

@@ -9,3 +9,5 @@ pub mod Tree
 pub mod Reading
 pub mod Path
 pub mod Rank
+pub mod Size
+pub mod work

@@ -119,6 +119,10 @@ least_leaf g (p ∷ ps) = with_leaf g p.usable p.node (least_leaf g ps)
 abbrev pub tree_value : Graph → SearchTree → ℤ
 tree_value g tree = unwrap_or (least_leaf g (places g tree)) (pos 0)
 
+-- the nodes are a sound tree, in preorder, of this value
+abbrev pub IsTreeOfValue : Graph → List Node → ℤ → Type 0
+IsTreeOfValue g nodes value = (tree : SearchTree) × IsTreeOf g nodes tree × (value ≡ tree_value g tree)
+
 -- whether a choice is usable; to choose nothing always is
 abbrev pub is_choice_usable : Usable → Option ℕ → Bool
 is_choice_usable usable None = true
