@@ -12,7 +12,7 @@ names it. Definitions of the toolchain's library and the names that are made of 
 counted.
 
 A fault is: a definition on a way that lies in specs/work/; a file of specs/ that imports from specs/work/
-or from proofs/; a file of proofs/ that imports more than proofs/laws/ of another crate; a definition on a way without a
+or from proofs/; a file of proofs/ that imports more than proofs/lemmas/ of another crate; a definition on a way without a
 line of comment; lists of docs/DEFINITIONS.md that are not the ways'.
 """
 import re
@@ -231,7 +231,7 @@ def faults_of_files():
         crate = path.relative_to(CRATES).parts[0]
         for used, _, _ in uses_of(path.read_text()):
             parts = used.split(".")
-            if parts[1:2] == ["proofs"] and parts[2:3] != ["laws"] and parts[0] != crate and (CRATES / parts[0]).is_dir():
+            if parts[1:2] == ["proofs"] and parts[2:3] != ["lemmas"] and parts[0] != crate and (CRATES / parts[0]).is_dir():
                 found.append(f"{path.relative_to(TOP)} imports {used}")
     return found
 
