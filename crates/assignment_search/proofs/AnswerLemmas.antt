@@ -8,16 +8,18 @@ use Rattle.plan_rules.specs.Graph.{Graph, IsRowOf, vehicle_at, IsGoodGraph}
 use Rattle.plan_rules.specs.Plan.{IsLawful, cost_of}
 use Rattle.plan_rules.specs.Greedy.{IsGreedy}
 use Rattle.plan_rules.specs.Multipliers.{Usable, usable_of, leaf_value, first_fit, first_fit_value}
-use Rattle.plan_rules.specs.Tree.{every_row, only_row, without_row, CanBranch, MayUse, IsDeadEnd, Reads, IsSoundTree, Place, places, rounded_up, tree_value}
+use Rattle.plan_rules.specs.Tree.{every_row, only_row, without_row, CanBranch, MayUse, IsDeadEnd, Place, rounded_up, places}
+use Rattle.plan_rules.specs.Reading.{Reads, IsWholeTree, places_read, value_read}
 use Rattle.plan_rules.specs.declared.node.Node.{Node}
 use Rattle.plan_rules.specs.declared.node.Node.TheVariants.{Branch, Leaf, Dead}
 use Rattle.plan_rules.proofs.PlanLemmas.{held_is_lawful}
 use Rattle.plan_rules.proofs.TreeLemmas.{within_every_row, dead_end_holds_none, tree_value_bounds}
+use Rattle.plan_rules.proofs.SearchTreeLemmas.{tree_of_reads, places_are, value_is_read}
 use Rattle.plan_rules.proofs.UsableLemmas.{Agree, agree_back, leaf_value_agrees, first_fit_agrees, first_fit_value_agrees, dead_end_agrees, may_use_agrees, can_branch_agrees}
 use Rattle.std.proofs.lemmas.Bool.{both_ways}
-use Rattle.dual_bound.specs.Size.{IsSmallSum}
+use Rattle.plan_rules.specs.Size.{IsSmallSum}
 use Rattle.assignment_search.specs.Growth.{IsWorthBranching, IsGoodLeaf, IsGoodNode, IsGrown, HasUsable, IsFixed, IsSolePlan, IsLowest, HasLeaf, IsNewLeaf, IsNewEnd, choice_count}
-use Rattle.assignment_search.specs.Found.{IsAtLeastFirstFit, IsBranchJustified, IsRightPlan, IsAnswer, IsTreeSoFar}
+use Rattle.assignment_search.specs.Found.{IsAtLeastFirstFit, IsBranchJustified, IsRightPlan, IsAnswer, IsTreeSoFar, Shows}
 use Rattle.assignment_search.specs.Next.{IsParting, IsPartedAt, IsNext}
 use Rattle.assignment_search.specs.declared.parting.Ends.{Ends}
 use Rattle.assignment_search.specs.declared.step.Outcome.{Outcome}
@@ -214,6 +216,23 @@ low_is_bound g limit place nodes values good grown lowest chosen fair =
     subst (λ (z : ℤ). z ≤ℤ pos (cost_of g chosen)) (value_is g limit nodes values place grown lowest)
     (tree_value_bounds g nodes good (grown_reads g (rounded_up (get_or values place (pos 0))) limit nodes values (every_row ∷ []) [] grown) chosen fair)
 
+-- a grown tree shows its value
+shown_of : (g : Graph) (low : ℤ) (limit : ℕ) (nodes : List Node) (values : List ℤ) → limit ≤ cost_of g g.held
+    → ((chosen : List (Option ℕ)) → IsGreedy g chosen → IsLawful g chosen → limit ≤ cost_of g chosen) → low ≡ value_read g nodes
+    → IsGrown g low limit (every_row ∷ []) nodes values [] → Shows g low nodes
+shown_of g low limit nodes values held greedy is grown =
+    let t = tree_of_reads g nodes (grown_reads g low limit nodes values (every_row ∷ []) [] grown) in
+    let same : places_read g nodes ≡ places g (t.0) = places_are g nodes (t.0) (t.1) in
+    record {
+      tree = t.0;
+      shape = t.1;
+      value = is ∙ value_is_read g nodes (t.0) (t.1);
+      leaves = subst (λ (ps : List Place). All (λ p. IsAtLeastFirstFit g p.usable p.node) ps) same
+          (All-from_recursion (λ (p : Place). IsAtLeastFirstFit g p.usable p.node) (places_read g nodes) (leaves_fit g low limit nodes values (every_row ∷ []) [] grown));
+      branches = subst (λ (ps : List Place). All (λ p. IsBranchJustified g low p.usable p.node) ps) same
+          (All-from_recursion (λ (p : Place). IsBranchJustified g low p.usable p.node) (places_read g nodes) (branches_justified g low limit held greedy nodes values (every_row ∷ []) [] grown))
+    }
+
 answer_of : (g : Graph) (budget limit place : ℕ) (plan : List (Option ℕ)) (cost : ℕ) (nodes : List Node) (values : List ℤ) → IsGoodGraph g → IsTreeSoFar g budget limit nodes values → IsLowest nodes values place
     → limit ≤ cost_of g g.held → ((chosen : List (Option ℕ)) → IsGreedy g chosen → IsLawful g chosen → limit ≤ cost_of g chosen) → IsRightPlan g plan cost
     → (pos cost ≤ℤ rounded_up (get_or values place (pos 0))) ⊎ ((budget < length nodes + 2) × (budget < 2 * choice_count g every_row))
@@ -226,11 +245,8 @@ answer_of g budget limit place plan cost nodes values good t lowest held greedy 
     record {
       plan = right;
       nodes = t.short;
-      sound = grown_reads g low limit nodes values (every_row ∷ []) [] grown;
-      bound = sym (value_is g limit nodes values place grown lowest);
+      shown = shown_of g low limit nodes values held greedy (sym (value_is g limit nodes values place grown lowest)) grown;
       root = omega (arith, ints);
-      leaves = All-from_recursion (λ (p : Place). IsAtLeastFirstFit g p.usable p.node) (places g nodes) (leaves_fit g low limit nodes values (every_row ∷ []) [] grown);
-      branches = All-from_recursion (λ (p : Place). IsBranchJustified g low p.usable p.node) (places g nodes) (branches_justified g low limit held greedy nodes values (every_row ∷ []) [] grown);
       limited = λ below. limited_from done below;
       closed = λ enough. closed_from done enough;
     }

@@ -5,7 +5,8 @@ use Rattle.std.proofs.lemmas.Bool.{cases_eq, cases_Bool, and_from, or_right, bot
 use Rattle.plan_rules.specs.Sums.{sum_below, count_below}
 use Rattle.plan_rules.specs.Graph.{Graph, IsRowOf, vehicle_at}
 use Rattle.plan_rules.specs.Multipliers.{Usable, is_usable_by}
-use Rattle.plan_rules.specs.Tree.{every_row, only_row, without_row, MayUse, CanBranch, coming_after, Reads, IsSoundTree}
+use Rattle.plan_rules.specs.Tree.{every_row, only_row, without_row, MayUse, CanBranch}
+use Rattle.plan_rules.specs.Reading.{coming_after, Reads, IsWholeTree}
 use Rattle.plan_rules.specs.declared.node.Node.{Node}
 use Rattle.plan_rules.specs.declared.node.Node.TheVariants.{Branch, Leaf, Dead}
 use Rattle.plan_rules.proofs.SumLemmas.{flag, sum_below_same, sum_below_plus, count_below_same, count_below_some}

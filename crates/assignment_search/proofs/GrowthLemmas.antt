@@ -7,7 +7,8 @@ use Rattle.std.proofs.lemmas.Bool.{cases_eq, cases_lt, and_from, or_left, or_rig
 use Rattle.plan_rules.specs.Sums.{lesser}
 use Rattle.plan_rules.specs.Graph.{Graph, IsRowOf, vehicle_at, IsGoodGraph}
 use Rattle.plan_rules.specs.Multipliers.{Usable, leaf_value, first_fit_value}
-use Rattle.plan_rules.specs.Tree.{every_row, only_row, without_row, MayUse, CanBranch, IsDeadEnd, IsSoundNode, coming_after, Reads, IsSoundTree, Place, places_from, places, rounded_up, with_leaf, least_leaf, tree_value}
+use Rattle.plan_rules.specs.Tree.{every_row, only_row, without_row, MayUse, CanBranch, IsDeadEnd, Place, rounded_up, with_leaf, least_leaf}
+use Rattle.plan_rules.specs.Reading.{IsSoundNode, coming_after, Reads, IsWholeTree, places_from, places_read, value_read}
 use Rattle.plan_rules.specs.Plan.{IsLawful, cost_of}
 use Rattle.plan_rules.specs.Greedy.{IsGreedy}
 use Rattle.plan_rules.specs.declared.node.Node.{Node}
@@ -199,7 +200,7 @@ least_high g low limit (Branch v k ∷ nodes) (w ∷ values) (u ∷ us) rest zer
 least_high g low limit (Branch v k ∷ nodes) (w ∷ values) (u ∷ us) rest (suc i) ms h l e = least_high g low limit nodes values (only_row g u v k ∷ without_row u k ∷ us) rest i ms (h.1) (omega (arith, l)) e
 
 -- the tree's value is that of its lowest leaf
-pub value_is : (g : Graph) (limit : ℕ) (nodes : List Node) (values : List ℤ) (i : ℕ) → IsGrown g (rounded_up (get_or values i (pos 0))) limit (every_row ∷ []) nodes values [] → IsLowest nodes values i → tree_value g nodes ≡ rounded_up (get_or values i (pos 0))
+pub value_is : (g : Graph) (limit : ℕ) (nodes : List Node) (values : List ℤ) (i : ℕ) → IsGrown g (rounded_up (get_or values i (pos 0))) limit (every_row ∷ []) nodes values [] → IsLowest nodes values i → value_read g nodes ≡ rounded_up (get_or values i (pos 0))
 value_is g limit nodes values i grown lowest =
     let low = rounded_up (get_or values i (pos 0)) in
     let w = least_high g low limit nodes values (every_row ∷ []) [] i lowest.multipliers grown lowest.within lowest.leaf in

@@ -4,7 +4,8 @@ use Rattle.std.proofs.lemmas.Bool.{cases_eq}
 use Rattle.std.proofs.lemmas.List.{get_or_push, get_or_append_left, length_push}
 use Rattle.plan_rules.specs.Graph.{Graph, IsRowOf}
 use Rattle.plan_rules.specs.Multipliers.{Usable}
-use Rattle.plan_rules.specs.Tree.{every_row, Reads, IsSoundNode, coming_after}
+use Rattle.plan_rules.specs.Tree.{every_row}
+use Rattle.plan_rules.specs.Reading.{Reads, IsSoundNode, coming_after}
 use Rattle.plan_rules.specs.Path.{Standing, standing_of, root, decided, IsPathOf}
 use Rattle.plan_rules.specs.declared.node.Node.{Node}
 use Rattle.plan_rules.specs.declared.node.Node.TheVariants.{Branch, Leaf, Dead}

@@ -2,7 +2,8 @@ use Rattle.std.specs.Prelude.{◌≡◌, ℕ, ◌+◌, ◌*◌, ◌<◌, ◌≤�
 use Rattle.plan_rules.specs.Graph.{Graph}
 use Rattle.plan_rules.specs.Plan.{IsLawful, cost_of}
 use Rattle.plan_rules.specs.Multipliers.{Usable}
-use Rattle.plan_rules.specs.Tree.{every_row, only_row, without_row, CanBranch, Reads, rounded_up}
+use Rattle.plan_rules.specs.Tree.{every_row, only_row, without_row, CanBranch, rounded_up}
+use Rattle.plan_rules.specs.Reading.{Reads}
 use Rattle.plan_rules.specs.declared.node.Node.{Node}
 use Rattle.plan_rules.specs.declared.node.Node.TheVariants.{Leaf, Dead}
 use Rattle.assignment_search.specs.declared.parting.Ends.{Ends}

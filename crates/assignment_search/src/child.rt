@@ -4,10 +4,9 @@ ghost use Rattle.plan_rules.specs.Multipliers.{usable_of, leaf_value, first_fit_
 ghost use Rattle.plan_rules.specs.Tree.{IsDeadEnd};
 ghost use Rattle.assignment_search.specs.Growth.{IsJudged, IsNewEnd, IsNewLeaf};
 
-use crate::dead_end::is_dead_end;
 use crate::near::relax;
 use dual_bound::{Relaxation, climb, first_fit, leaf_value};
-use plan_rules::{Multipliers, Node, TripGraph};
+use plan_rules::{Multipliers, Node, TripGraph, is_dead_end};
 use pool_base::OutOfMemory;
 use std::alloc::Global;
 

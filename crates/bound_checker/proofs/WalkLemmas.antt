@@ -5,7 +5,8 @@ use Rattle.std.proofs.lemmas.Bool.{cases_eq}
 use Rattle.std.proofs.lemmas.List.{with_items_is, take_more, get_or_push, get_or_append_left, length_push}
 use Rattle.plan_rules.specs.Graph.{Graph, IsRowOf}
 use Rattle.plan_rules.specs.Multipliers.{Usable}
-use Rattle.plan_rules.specs.Tree.{every_row, Reads, Place, places, places_from, least_leaf, with_leaf}
+use Rattle.plan_rules.specs.Tree.{every_row, Place, least_leaf, with_leaf}
+use Rattle.plan_rules.specs.Reading.{Reads, places_read, places_from}
 use Rattle.plan_rules.specs.Path.{Standing, standing_of, root, decided, IsPathOf}
 use Rattle.plan_rules.specs.declared.node.Node.{Node}
 use Rattle.plan_rules.specs.declared.node.Node.TheVariants.{Branch, Leaf, Dead}
@@ -75,9 +76,9 @@ fault_here g nodes i usable later node (Extra j) reads within here h = absurd h
 fault_here g nodes i usable later node OutOfMemory reads within here h = tt
 
 -- one more node, and what its leaf shows
-pub least_more : (g : Graph) (nodes : List Node) (i : ℕ) (node : Node) (usable : Usable) (later : List Usable) (old new : Option ℤ) → take (i + 1) nodes ≡ take i nodes ++ node ∷ [] → Reads g (every_row ∷ []) (take i nodes) (usable ∷ later) → old ≡ least_leaf g (places g (take i nodes)) → new ≡ with_leaf g usable node old → new ≡ least_leaf g (places g (take (i + 1) nodes))
+pub least_more : (g : Graph) (nodes : List Node) (i : ℕ) (node : Node) (usable : Usable) (later : List Usable) (old new : Option ℤ) → take (i + 1) nodes ≡ take i nodes ++ node ∷ [] → Reads g (every_row ∷ []) (take i nodes) (usable ∷ later) → old ≡ least_leaf g (places_read g (take i nodes)) → new ≡ with_leaf g usable node old → new ≡ least_leaf g (places_read g (take (i + 1) nodes))
 least_more g nodes i node usable later old new more reads before here =
     here ∙ ap (with_leaf g usable node) before
-    ∙ sym (ap (λ (xs : List Node). least_leaf g (places g xs)) more
+    ∙ sym (ap (λ (xs : List Node). least_leaf g (places_read g xs)) more
     ∙ ap (least_leaf g) (places_push g (take i nodes) node (every_row ∷ []) usable later reads)
-    ∙ least_leaf_push g (places g (take i nodes)) (record { node = node; usable = usable }))
+    ∙ least_leaf_push g (places_read g (take i nodes)) (record { node = node; usable = usable }))

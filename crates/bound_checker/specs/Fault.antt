@@ -1,7 +1,8 @@
 use Rattle.std.specs.Prelude.{◌≡◌, ℕ, ◌<◌, List, [], ◌∷◌, length, take, slice_get, Some, ℤ, ◌⊎◌}
 use Rattle.plan_rules.specs.Graph.{Graph}
 use Rattle.plan_rules.specs.Multipliers.{Usable}
-use Rattle.plan_rules.specs.Tree.{every_row, CanBranch, IsDeadEnd, Reads}
+use Rattle.plan_rules.specs.Tree.{every_row, CanBranch, IsDeadEnd}
+use Rattle.plan_rules.specs.Reading.{Reads}
 use Rattle.plan_rules.specs.declared.node.Node.{Node}
 use Rattle.plan_rules.specs.declared.node.Node.TheVariants.{Branch, Leaf, Dead}
 use Rattle.bound_checker.specs.declared.fault.CheckFault.{CheckFault}

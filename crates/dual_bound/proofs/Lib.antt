@@ -1,3 +1,2 @@
-pub mod ValueLemmas
 pub mod FirstFitLemmas
 pub mod ClimbLemmas

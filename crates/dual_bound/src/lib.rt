@@ -11,9 +11,8 @@ mod climbing;
 mod first_fit_pass;
 mod fixed_point;
 mod relaxation;
-mod value;
 
 pub use climbing::{ascend, climb};
 pub use first_fit_pass::first_fit;
 pub use relaxation::Relaxation;
-pub use value::leaf_value;
+pub use plan_rules::leaf_value;

@@ -6,7 +6,10 @@ pub mod PlanLemmas
 pub mod GreedyLemmas
 pub mod DualityLemmas
 pub mod TreeLemmas
+pub mod SearchTreeLemmas
 pub mod PathLemmas
 pub mod HeldLemmas
 pub mod ReadLemmas
 pub mod UsableLemmas
+pub mod DeadEndLemmas
+pub mod ValueLemmas

@@ -5,7 +5,8 @@ use Rattle.std.specs.Int.{int_min}
 use Rattle.plan_rules.specs.Sums.{lesser}
 use Rattle.plan_rules.specs.Graph.{Graph}
 use Rattle.plan_rules.specs.Multipliers.{Usable, leaf_value}
-use Rattle.plan_rules.specs.Tree.{IsSoundNode, coming_after, Reads, Place, places_from, rounded_up, with_leaf, least_leaf}
+use Rattle.plan_rules.specs.Tree.{Place, rounded_up, with_leaf, least_leaf}
+use Rattle.plan_rules.specs.Reading.{IsSoundNode, coming_after, Reads, places_from}
 use Rattle.plan_rules.specs.declared.node.Node.{Node}
 use Rattle.plan_rules.specs.declared.node.Node.TheVariants.{Branch, Leaf, Dead}
 

@@ -8,7 +8,8 @@ use Rattle.plan_rules.specs.Sums.{all_below, lesser, count_below}
 use Rattle.plan_rules.specs.Graph.{Graph, row_at, vehicle_at, has_rider, IsRowOf, HasNoRow, choice_at, is_in, times_served, must_be_served, IsRow, IsGoodGraph}
 use Rattle.plan_rules.specs.Plan.{IsPlan, IsLawful, times_chosen, cost_of, IsBound}
 use Rattle.plan_rules.specs.Multipliers.{Usable, leaf_value}
-use Rattle.plan_rules.specs.Tree.{every_row, only_row, without_row, MayUse, CanBranch, IsSoleRow, IsClash, IsStranded, IsDeadEnd, IsSoundNode, coming_after, Reads, IsSoundTree, Place, places_from, places, rounded_up, least_leaf, tree_value, is_choice_usable, is_within, is_leaf, is_dead, belongs_to_end, belongs_to_dead_end}
+use Rattle.plan_rules.specs.Tree.{every_row, only_row, without_row, MayUse, CanBranch, IsSoleRow, IsClash, IsStranded, IsDeadEnd, Place, rounded_up, least_leaf, is_choice_usable, is_within, is_leaf, is_dead, belongs_to_end, belongs_to_dead_end}
+use Rattle.plan_rules.specs.Reading.{IsSoundNode, coming_after, Reads, IsWholeTree, places_from, places_read, value_read}
 use Rattle.plan_rules.specs.declared.node.Node.{Node}
 use Rattle.plan_rules.specs.declared.node.Node.TheVariants.{Branch, Leaf, Dead}
 use Rattle.plan_rules.proofs.SumLemmas.{flag, flag-true, flag-false, all_below_at, all_below_from, all_below_fails, all_below_same, count_below_two, lesser-le_left, lesser-le_right}
@@ -166,7 +167,7 @@ ends_count g chosen rows plan (Branch v k ∷ nodes) (u ∷ us) rest e =
     let later = ends_count g chosen rows plan nodes after rest (e.1) in
     omega (arith, first, second, third, fourth, parted, later)
 
-pub each_plan_at_one_end : (g : Graph) (nodes : List Node) (chosen : List (Option ℕ)) → IsGoodGraph g → IsSoundTree g nodes → IsPlan g chosen → count_by (belongs_to_end g chosen) (places g nodes) ≡ 1
+pub each_plan_at_one_end : (g : Graph) (nodes : List Node) (chosen : List (Option ℕ)) → IsGoodGraph g → IsWholeTree g nodes → IsPlan g chosen → count_by (belongs_to_end g chosen) (places_read g nodes) ≡ 1
 each_plan_at_one_end g nodes chosen good sound plan =
     let all = ends_count g chosen good.rows plan nodes (every_row ∷ []) [] sound in
     let root = count-cons (λ u. is_within g u chosen) every_row [] in
@@ -229,7 +230,7 @@ dead_count g chosen good lawful (Branch v k ∷ nodes) (u ∷ us) rest e =
     let first = count-cons (belongs_to_dead_end g chosen) (record { node = Branch v k; usable = u }) (places_from g after nodes) in
     omega (arith, first, dead_count g chosen good lawful nodes after rest (e.1))
 
-pub no_plan_at_dead_ends : (g : Graph) (nodes : List Node) (chosen : List (Option ℕ)) → IsGoodGraph g → IsSoundTree g nodes → IsLawful g chosen → count_by (belongs_to_dead_end g chosen) (places g nodes) ≡ 0
+pub no_plan_at_dead_ends : (g : Graph) (nodes : List Node) (chosen : List (Option ℕ)) → IsGoodGraph g → IsWholeTree g nodes → IsLawful g chosen → count_by (belongs_to_dead_end g chosen) (places_read g nodes) ≡ 0
 no_plan_at_dead_ends g nodes chosen good sound lawful = dead_count g chosen good lawful nodes (every_row ∷ []) [] sound
 
 -- ---- the value is a bound
@@ -280,11 +281,11 @@ least_leaf_le : (g : Graph) (chosen : List (Option ℕ)) → IsGoodGraph g → I
 least_leaf_le g chosen good lawful [] some none = absurd (omega (arith, some))
 least_leaf_le g chosen good lawful (p ∷ ps) some none = least_leaf_step g chosen good lawful p.node p.usable ps (least_leaf_le g chosen good lawful ps) some none
 
-pub tree_value_bounds : (g : Graph) (nodes : List Node) → IsGoodGraph g → IsSoundTree g nodes → IsBound g (tree_value g nodes)
+pub tree_value_bounds : (g : Graph) (nodes : List Node) → IsGoodGraph g → IsWholeTree g nodes → IsBound g (value_read g nodes)
 tree_value_bounds g nodes good sound chosen lawful =
     let one = each_plan_at_one_end g nodes chosen good sound lawful.plan in
     let none = no_plan_at_dead_ends g nodes chosen good sound lawful in
-    let w = least_leaf_le g chosen good lawful (places g nodes) (omega (arith, one)) none in
-    let value : tree_value g nodes ≡ w.0 = ap (λ (o : Option ℤ). unwrap_or o (pos 0)) (w.1) in
+    let w = least_leaf_le g chosen good lawful (places_read g nodes) (omega (arith, one)) none in
+    let value : value_read g nodes ≡ w.0 = ap (λ (o : Option ℤ). unwrap_or o (pos 0)) (w.1) in
     let below : w.0 ≤ℤ pos (cost_of g chosen) = w.2 in
     omega (arith, ints)

@@ -2,7 +2,8 @@ use Rattle.std.proofs.Common.{◌≡◌, ◌<◌, ℕ, suc, length, get_or, take
 use Rattle.std.proofs.lemmas.List.{get_or_read}
 use Rattle.plan_rules.specs.Graph.{Graph}
 use Rattle.plan_rules.specs.Multipliers.{Usable}
-use Rattle.plan_rules.specs.Tree.{every_row, Reads, IsSoundNode, coming_after}
+use Rattle.plan_rules.specs.Tree.{every_row}
+use Rattle.plan_rules.specs.Reading.{Reads, IsSoundNode, coming_after}
 use Rattle.plan_rules.specs.Path.{standing_of, IsPathOf}
 use Rattle.plan_rules.specs.declared.node.Node.{Node}
 use Rattle.plan_rules.specs.declared.node.Node.TheVariants.{Dead}

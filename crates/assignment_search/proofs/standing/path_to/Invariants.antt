@@ -1,5 +1,6 @@
 use Rattle.std.proofs.Common.{◌∷◌, [], take}
-use Rattle.plan_rules.specs.Tree.{every_row, Reads}
+use Rattle.plan_rules.specs.Tree.{every_row}
+use Rattle.plan_rules.specs.Reading.{Reads}
 use Rattle.plan_rules.specs.Path.{standing_of, IsPathOf}
 use Rattle.assignment_search.proofs.standing.path_to.Given as goal
 
