@@ -14,7 +14,8 @@ use Rattle.stop_orders.specs.declared.task.Task.{Task}
 use Rattle.stop_orders.specs.declared.route.Route.{Route}
 use Rattle.stop_orders.specs.Order.{IsOrder, is_of_rider}
 use Rattle.stop_orders.specs.Task.{IsTask, IsLeg, IsServable, Serves, no_leg}
-use Rattle.stop_orders.specs.Settled.{IsTrip, IsSound, IsRrEdge, pair_task, trip_task, IsRvEdge, rider_at, no_rider, no_vehicle, greatest}
+use Rattle.stop_orders.specs.Settled.{IsTrip, IsRrEdge, pair_task, trip_task, IsRvEdge, rider_at, no_rider, no_vehicle, greatest}
+use Rattle.stop_orders.specs.Sound.{IsSound}
 
 -- what is read of a rider is what stands at its number
 pub rider_read : (settled : Settled) (riders : List SettledRider) (r : ℕ) (x : SettledRider) → riders ≡ settled.riders → r < length settled.riders → get_or riders r x ≡ rider_at settled r

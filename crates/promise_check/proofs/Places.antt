@@ -5,8 +5,8 @@ use Rattle.batch_snapshot.specs.declared.passenger.Passenger.{Passenger}
 use Rattle.batch_snapshot.specs.declared.rider.Rider.{Rider}
 use Rattle.batch_snapshot.specs.Batch.{Batch}
 use Rattle.batch_snapshot.specs.Points.{ArePoints, vehicle_nodes, rider_nodes}
-use Rattle.promise_check.specs.Requests.{HasPlaces}
-use Rattle.promise_check.specs.Settling.{HasVehiclePlaces}
+use Rattle.promise_check.specs.work.Requests.{HasPlaces}
+use Rattle.promise_check.specs.work.Settling.{HasVehiclePlaces}
 
 in_flat_map : {X : Type 0} (f : X → List ℕ) (xs : List X) (k : ℕ) (d : X) (y : ℕ) → k < length xs → Contains (f (get_or xs k d)) y → Contains (flat_map f xs) y
 in_flat_map f [] k d y h c = absurd (omega arith)

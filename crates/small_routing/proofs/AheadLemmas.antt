@@ -7,12 +7,13 @@ use Rattle.stop_orders.specs.declared.stop.Stop.{Stop}
 use Rattle.stop_orders.specs.declared.stop.Stop.TheVariants.{Pick, Drop, Alight}
 use Rattle.stop_orders.specs.Visit.{place_of, lateness}
 use Rattle.stop_orders.specs.Task.{leg_at, visit_at}
-use Rattle.stop_orders.specs.Done.{has, IsNext, sum_below}
+use Rattle.stop_orders.specs.Done.{has, IsNext}
+use Rattle.stop_orders.specs.work.Rest.{sum_below}
 use Rattle.stop_orders.proofs.DoneLemmas.{has-with_same, has-with_other, Completes-front, IsAllDone-from_nil, sum_below-le}
 use Rattle.stop_orders.proofs.ClockLemmas.{AtLeastAsSoon, two_hops}
 use Rattle.small_routing.specs.declared.label.Label.{Label}
-use Rattle.small_routing.specs.Label.{rider_count, passenger_count, CanVisit, next_label, second_at, GoesOn, rest_delay}
-use Rattle.small_routing.specs.Ahead.{CanStill, late_at_once, RiderCan, rider_late, PassengerCan, passenger_late, least_ahead}
+use Rattle.small_routing.specs.work.Label.{rider_count, passenger_count, CanVisit, next_label, second_at, GoesOn, rest_delay}
+use Rattle.small_routing.specs.work.Ahead.{CanStill, late_at_once, RiderCan, rider_late, PassengerCan, passenger_late, least_ahead}
 
 sum_below-zero : (f : ℕ → ℕ) (n : ℕ) → ((k : ℕ) → k < n → f k ≤ 0) → sum_below f n ≤ 0
 sum_below-zero f zero h = omega arith

@@ -10,12 +10,13 @@ use Rattle.stop_orders.specs.declared.visit.Visit.TheVariants.{Pickup, Dropoff}
 use Rattle.stop_orders.specs.Order.{IsKnown}
 use Rattle.stop_orders.specs.Visit.{place_of, room_after, lateness, ServesFrom}
 use Rattle.stop_orders.specs.Task.{no_leg, IsLeg, IsTask, visit_at, visits_of, free_seats, order_delay}
-use Rattle.stop_orders.specs.Done.{IsNext, left_count}
+use Rattle.stop_orders.specs.Done.{IsNext}
+use Rattle.stop_orders.specs.work.Rest.{left_count}
 use Rattle.stop_orders.proofs.DoneLemmas.{left_count-most}
 use Rattle.stop_orders.proofs.PlainLemmas.{MakesOrders-next, MakesOrders-none, append_one}
 use Rattle.small_routing.specs.declared.label.Label.{Label}
-use Rattle.small_routing.specs.Label.{IsRoutable, IsRoutableLeg, rider_count, passenger_count, first_label, second_at, CanVisit, next_label, rest_delay, IsSmall}
-use Rattle.small_routing.specs.Search.{LeadsTo}
+use Rattle.small_routing.specs.work.Label.{IsRoutable, IsRoutableLeg, rider_count, passenger_count, first_label, second_at, CanVisit, next_label, rest_delay, IsSmall}
+use Rattle.small_routing.specs.work.Search.{LeadsTo}
 
 routable_leg : (points : ℕ) (leg : Leg) → IsLeg points leg → IsRoutableLeg points leg
 routable_leg points leg h = record { origin = h.origin; destination = h.destination; party = h.party }

@@ -9,17 +9,18 @@ use Rattle.stop_orders.specs.declared.task.Task.{Task}
 use Rattle.stop_orders.specs.declared.stop.Stop.{Stop}
 use Rattle.stop_orders.specs.Visit.{ServesFrom}
 use Rattle.stop_orders.specs.Task.{visits_of, free_seats, order_delay, Serves}
-use Rattle.stop_orders.specs.Done.{IsAllDone, Completes}
-use Rattle.stop_orders.specs.Plain.{IsFound, NoneBetter, StaysGood}
+use Rattle.stop_orders.specs.Done.{IsAllDone}
+use Rattle.stop_orders.specs.work.Rest.{Completes}
+use Rattle.stop_orders.specs.work.Plain.{IsFound, NoneBetter, StaysGood}
 use Rattle.stop_orders.proofs.ClockLemmas.{soon_over, ServesFrom-soon}
 use Rattle.stop_orders.proofs.DoneLemmas.{IsAllDone-from_nil, Completes-none}
 use Rattle.stop_orders.proofs.PlainLemmas.{MakesOrders-all, rest_of_all}
 use Rattle.small_routing.specs.declared.label.Label.{Label}
 use Rattle.small_routing.specs.declared.candidate.Candidate.{Candidate}
-use Rattle.small_routing.specs.Label.{IsRoutable, rider_count, passenger_count, next_label, GoesOn, rest_delay}
-use Rattle.small_routing.specs.Ahead.{RiderCan, PassengerCan, least_ahead}
-use Rattle.small_routing.specs.Kept.{no_label, IsDominated}
-use Rattle.small_routing.specs.Search.{LeadsTo, IsExhausted, IsTried, IsSettled, AreCandidates, Searched}
+use Rattle.small_routing.specs.work.Label.{IsRoutable, rider_count, passenger_count, next_label, GoesOn, rest_delay}
+use Rattle.small_routing.specs.work.Ahead.{RiderCan, PassengerCan, least_ahead}
+use Rattle.small_routing.specs.work.Kept.{no_label, IsDominated}
+use Rattle.small_routing.specs.work.Search.{LeadsTo, IsExhausted, IsTried, IsSettled, AreCandidates, Searched}
 use Rattle.small_routing.proofs.AheadLemmas.{is_ahead, goes_on_next}
 use Rattle.small_routing.proofs.LabelLemmas.{known_next}
 

@@ -1,8 +1,8 @@
 ghost use Rattle.std.specs.Prelude.{◌≡◌, ℕ, ◌+◌, ◌-◌, ◌*◌, ◌<◌, ◌≤◌, Bool, MatchOption, IfSome, IfNone};
 ghost use Rattle.pool_base.specs.Times.{point_count, travel_time};
 ghost use Rattle.pool_base.specs.TravelTime.{never};
-ghost use Rattle.small_routing.specs.Label.{IsRoutable, IsRoutableLeg, rider_count, passenger_count};
-ghost use Rattle.small_routing.specs.Ahead.{CanStill, late_at_once, RiderCan, PassengerCan, least_ahead, rider_late, passenger_late};
+ghost use Rattle.small_routing.specs.work.Label.{IsRoutable, IsRoutableLeg, rider_count, passenger_count};
+ghost use Rattle.small_routing.specs.work.Ahead.{CanStill, late_at_once, RiderCan, PassengerCan, least_ahead, rider_late, passenger_late};
 
 use crate::label::Label;
 use pool_base::Times;
@@ -10,7 +10,7 @@ use stop_orders::{Leg, Task, arrival};
 
 /// A lower bound of the delay from a label on, as if the vehicle went to each rider at once; `None` only
 /// where not even so someone is served in time.
-pub fn look_ahead(task: &Task, times: &Times, label: &Label) -> Option<u64>
+pub(crate) fn look_ahead(task: &Task, times: &Times, label: &Label) -> Option<u64>
     requires valid { IsRoutable (point_count times.now) task.now }
     requires place { label.now.place < point_count times.now }
     requires free { label.now.free ≤ 30000000000 }

@@ -1,11 +1,11 @@
 ghost use Rattle.std.specs.Prelude.{◌≡◌, ◌+◌, ◌<◌, ◌≤◌, ◌↔◌, All, IfOk, IsFalse, IsTrue, OnOk, length};
 ghost use Rattle.pool_base.specs.Times.{point_count, travel_time};
 ghost use Rattle.stop_orders.specs.Task.{IsOrderOf};
-ghost use Rattle.stop_orders.specs.Done.{left_count};
-ghost use Rattle.stop_orders.specs.Plain.{IsFound, NoneBetter};
-ghost use Rattle.small_routing.specs.Label.{IsRoutable, IsSmall, rider_count, passenger_count};
-ghost use Rattle.small_routing.specs.Kept.{labels_of};
-ghost use Rattle.small_routing.specs.Search.{LeadsTo, IsExhausted, IsSettled, Searched};
+ghost use Rattle.stop_orders.specs.work.Rest.{left_count};
+ghost use Rattle.stop_orders.specs.work.Plain.{IsFound, NoneBetter};
+ghost use Rattle.small_routing.specs.work.Label.{IsRoutable, IsSmall, rider_count, passenger_count};
+ghost use Rattle.small_routing.specs.work.Kept.{labels_of};
+ghost use Rattle.small_routing.specs.work.Search.{LeadsTo, IsExhausted, IsSettled, Searched};
 
 use crate::ahead::look_ahead;
 use crate::candidate::candidates_after;
@@ -17,7 +17,7 @@ use stop_orders::{Route, Stop, Task};
 
 /// Tries all ways on from a label, depth first and the soonest stop first, but for those from labels that
 /// are hopeless.
-pub fn search(
+pub(crate) fn search(
     task: &Task,
     times: &Times,
     label: &Label,
@@ -80,6 +80,9 @@ fn try_all(
         path.push(stop);
         try_all(task, times, &next, path, best, kept)?;
         path.pop();
+    }
+    if !kept.is_of_use() {
+        return Ok(());
     }
     kept.keep(*label)
 }

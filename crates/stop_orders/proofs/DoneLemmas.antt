@@ -6,7 +6,8 @@ use Rattle.std.specs.Int.{bit_at}
 use Rattle.stop_orders.specs.declared.stop.Stop.{Stop}
 use Rattle.stop_orders.specs.declared.stop.Stop.TheVariants.{Pick, Drop, Alight}
 use Rattle.stop_orders.specs.Order.{is_of_rider, is_of_passenger, IsOrder}
-use Rattle.stop_orders.specs.Done.{has, with_bit, with_stop, left_of_rider, left_of_passenger, Completes, IsNext, IsAllDone, sum_below, left_count}
+use Rattle.stop_orders.specs.Done.{has, with_bit, with_stop, IsNext, IsAllDone}
+use Rattle.stop_orders.specs.work.Rest.{left_of_rider, left_of_passenger, Completes, sum_below, left_count}
 
 -- nothing is in the empty set
 pub has-none : (k : ℕ) → has 0 k ≡ false

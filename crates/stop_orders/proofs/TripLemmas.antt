@@ -16,7 +16,8 @@ use Rattle.stop_orders.specs.Order.{IsKnown, IsOrder}
 use Rattle.stop_orders.specs.Visit.{place_of, latest_of, room_after, lateness, ServesFrom, delay_from}
 use Rattle.stop_orders.specs.Task.{no_leg, leg_at, IsTask, IsServable, IsLeastDelay, visit_at, visits_of, free_seats, Serves, order_delay}
 use Rattle.stop_orders.specs.Done.{IsNext}
-use Rattle.stop_orders.specs.Settled.{no_vehicle, no_rider, vehicle_at, rider_at, trip_task, pair_task, greatest, IsTrip, IsShort, IsSound, IsRrEdge}
+use Rattle.stop_orders.specs.Settled.{no_vehicle, no_rider, vehicle_at, rider_at, trip_task, pair_task, greatest, IsTrip, IsRrEdge}
+use Rattle.stop_orders.specs.Sound.{IsShort, IsSound}
 use Rattle.stop_orders.specs.Laws.{without_rider, without_passenger, stops_without_rider, stops_without_passenger, StillServes}
 use Rattle.stop_orders.proofs.ClockLemmas.{soon_there, ServesFrom-soon}
 use Rattle.stop_orders.proofs.DoneLemmas.{has-none, Completes-none, Completes-front}

@@ -1,6 +1,7 @@
 ghost use Rattle.std.specs.Prelude.{◌≡◌, ℕ, ◌+◌, ◌<◌, ◌≤◌, ◌↔◌, true, IsTrue};
 ghost use Rattle.stop_orders.specs.Order.{IsKnown};
-ghost use Rattle.stop_orders.specs.Done.{stop_with, has, with_bit, with_stop, IsNext, IsAllDone};
+ghost use Rattle.stop_orders.specs.Done.{has, with_bit, with_stop, IsNext, IsAllDone};
+ghost use Rattle.stop_orders.specs.work.Rest.{stop_with};
 
 use crate::Stop;
 use std::marker::Model;
@@ -143,7 +144,7 @@ impl Done {
 }
 
 /// The stop with this bit: riders' pickups from 0, their drop-offs from 6, passengers from 12.
-pub fn stop_of(bit: u8) -> Stop
+pub(crate) fn stop_of(bit: u8) -> Stop
     ensures { result ≡ stop_with bit }
 {
     if bit < 6 {

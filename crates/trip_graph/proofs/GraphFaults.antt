@@ -8,7 +8,8 @@ use Rattle.std.proofs.lemmas.Option.{none-some, same_Some}
 use Rattle.pool_base.specs.TravelTime.{IsTravelTime}
 use Rattle.stop_orders.specs.declared.settled.Settled.{Settled}
 use Rattle.stop_orders.specs.Task.{IsServable}
-use Rattle.stop_orders.specs.Settled.{IsTrip, IsSound, trip_task, vehicle_at}
+use Rattle.stop_orders.specs.Settled.{IsTrip, trip_task, vehicle_at}
+use Rattle.stop_orders.specs.Sound.{IsSound}
 use Rattle.stop_orders.proofs.TripLemmas.{sub_trip_servable, delay_small}
 use Rattle.plan_rules.specs.declared.row.TripRow.{TripRow}
 use Rattle.plan_rules.specs.declared.fault.GraphFault.{GraphFault}

@@ -10,7 +10,8 @@ use Rattle.std.proofs.lemmas.List.Sums.{sum_by-cons, sum_by_push, sum_by-take-le
 use Rattle.stop_orders.specs.declared.settled.Settled.{Settled}
 use Rattle.stop_orders.specs.declared.settled_vehicle.SettledVehicle.{SettledVehicle}
 use Rattle.stop_orders.specs.Task.{IsServable}
-use Rattle.stop_orders.specs.Settled.{IsTrip, IsRow, IsSoundVehicle, trip_task, vehicle_at}
+use Rattle.stop_orders.specs.Settled.{IsTrip, IsRow, trip_task, vehicle_at}
+use Rattle.stop_orders.specs.Sound.{IsSoundVehicle}
 use Rattle.plan_rules.specs.declared.row.TripRow.{TripRow}
 use Rattle.plan_rules.specs.Graph.{Graph, IsGoodGraph, no_row, choice_at}
 use Rattle.rider_limits.specs.declared.settings.Settings.{Settings}

@@ -1,7 +1,7 @@
 ghost use Rattle.std.specs.Prelude.{◌≡◌, ◌+◌, ◌<◌, ◌≤◌, IfOk, length};
 ghost use Rattle.plan_rules.specs.declared.fault.GraphFault.TheVariants.{OutOfMemory as NoMemory};
 ghost use Rattle.pool_base.specs.Times.{point_count, travel_time};
-ghost use Rattle.stop_orders.specs.Settled.{IsSound};
+ghost use Rattle.stop_orders.specs.Sound.{IsSound};
 ghost use Rattle.trip_graph.specs.Levels.{AreLevels, level_total};
 ghost use Rattle.trip_graph.specs.Answer.{IsAnswer, IsTripGraphOf, AreRowsOf, HoldRows};
 

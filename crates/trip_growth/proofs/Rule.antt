@@ -6,7 +6,8 @@ use Rattle.std.proofs.lemmas.List.{length_push, get_or_append_left, get_or_push}
 use Rattle.std.proofs.lemmas.List.Edits.{length-remove, get_or-remove_below, get_or-remove_above}
 use Rattle.pool_base.specs.TravelTime.{IsTravelTime}
 use Rattle.stop_orders.specs.declared.settled.Settled.{Settled}
-use Rattle.stop_orders.specs.Settled.{IsTrip, IsSound, IsRrEdge}
+use Rattle.stop_orders.specs.Settled.{IsTrip, IsRrEdge}
+use Rattle.stop_orders.specs.Sound.{IsSound}
 use Rattle.stop_orders.proofs.TripLemmas.{sub_trip_servable, pair_is_edge}
 use Rattle.trip_growth.specs.Level.{IsTripRule}
 use Rattle.trip_growth.specs.Rows.{CanServe}

@@ -1,7 +1,8 @@
 use Rattle.std.specs.Prelude.{ℕ, ◌<◌, List, [], ◌∷◌, length, Contains}
 use Rattle.pool_base.specs.Times.{point_count, travel_time}
 use Rattle.stop_orders.specs.declared.task.Task.{Task}
-use Rattle.stop_orders.specs.Settled.{IsSound, trip_task}
+use Rattle.stop_orders.specs.Settled.{trip_task}
+use Rattle.stop_orders.specs.Sound.{IsSound}
 use Rattle.trip_growth.specs.declared.growth.Growth.{Growth}
 use Rattle.trip_growth.specs.Rows.{CanServe, CostsLeast}
 use Rattle.trip_growth.specs.Level.{IsTripRule}

@@ -2,7 +2,7 @@
 ghost use Rattle.std.specs.Prelude.{◌≡◌, ℕ, ◌<◌, ◌≤◌, Contains, IfOk, length};
 ghost use Rattle.pool_base.specs.Times.{point_count, travel_time};
 ghost use Rattle.batch_snapshot.specs.Points.{ArePoints};
-ghost use Rattle.stop_orders.specs.Settled.{IsSound};
+ghost use Rattle.stop_orders.specs.Sound.{IsSound};
 
 use crate::drawn_trips::same_trips;
 use crate::plain_batch::{Cab, Person, PlainBatch, Row, Waiting};

@@ -1,7 +1,8 @@
 //! The trips of each vehicle by itself, beside the plain rows.
 ghost use Rattle.std.specs.Prelude.{◌≡◌, ℕ, ◌<◌, ◌≤◌, Contains, length};
 ghost use Rattle.pool_base.specs.Times.{point_count, travel_time};
-ghost use Rattle.stop_orders.specs.Settled.{IsSound, IsRrEdge};
+ghost use Rattle.stop_orders.specs.Settled.{IsRrEdge};
+ghost use Rattle.stop_orders.specs.Sound.{IsSound};
 
 use crate::plain_batch::{PlainBatch, Row};
 use pair_graph::rider_rider;

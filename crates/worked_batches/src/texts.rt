@@ -2,7 +2,8 @@
 ghost use Rattle.std.specs.Prelude.{◌≡◌, ℕ, ◌<◌, ◌≤◌, Contains, IfOk, length};
 ghost use Rattle.pool_base.specs.Times.{point_count, travel_time};
 ghost use Rattle.batch_snapshot.specs.Points.{ArePoints};
-ghost use Rattle.stop_orders.specs.Settled.{IsSound, IsRrEdge};
+ghost use Rattle.stop_orders.specs.Settled.{IsRrEdge};
+ghost use Rattle.stop_orders.specs.Sound.{IsSound};
 
 use crate::scene::{Scene, batch};
 use batch_snapshot::{Points, Snapshot};

@@ -3,7 +3,7 @@ use Rattle.pool_base.specs.Times.{travel_time}
 use Rattle.std.proofs.lemmas.List.{length_push}
 use Rattle.batch_snapshot.specs.declared.rider.Rider.{Rider}
 use Rattle.stop_orders.specs.Settled.{no_rider}
-use Rattle.promise_check.specs.Requests.{IsPlain, HasPlaces}
+use Rattle.promise_check.specs.work.Requests.{IsPlain, HasPlaces}
 use Rattle.promise_check.proofs.Pairing.{pairs_more, pairs_all}
 use Rattle.promise_check.proofs.requests.plain_riders.Goals as goal
 

@@ -6,8 +6,9 @@ use Rattle.std.proofs.lemmas.List.Elements.{All-push}
 use Rattle.batch_snapshot.specs.declared.passenger.Passenger.{Passenger}
 use Rattle.stop_orders.specs.declared.leg.Leg.{Leg}
 use Rattle.stop_orders.specs.Task.{IsLeg, no_leg}
-use Rattle.stop_orders.specs.Settled.{IsShort}
-use Rattle.promise_check.specs.Requests.{IsLegOf, HasPlaces}
+use Rattle.stop_orders.specs.Sound.{IsShort}
+use Rattle.promise_check.specs.Requests.{IsLegOf}
+use Rattle.promise_check.specs.work.Requests.{HasPlaces}
 use Rattle.promise_check.proofs.Pairing.{pairs_more, pairs_all}
 use Rattle.promise_check.proofs.Seats.{sum_by_push}
 use Rattle.promise_check.proofs.settled_vehicles.legs_of.Goals as goal

@@ -6,9 +6,10 @@ use Rattle.batch_snapshot.specs.declared.vehicle.Vehicle.{Vehicle}
 use Rattle.batch_snapshot.specs.Batch.{Batch}
 use Rattle.batch_snapshot.specs.Points.{ArePoints}
 use Rattle.batch_snapshot.specs.Vehicle.{HasSeats}
-use Rattle.stop_orders.specs.Settled.{IsSound}
-use Rattle.promise_check.specs.Requests.{HasPlaces, ArePlain}
-use Rattle.promise_check.specs.Settling.{IsSettled, HasVehiclePlaces, AreSettledVehicles}
+use Rattle.stop_orders.specs.Sound.{IsSound}
+use Rattle.promise_check.specs.work.Requests.{HasPlaces, ArePlain}
+use Rattle.promise_check.specs.Settling.{IsSettled}
+use Rattle.promise_check.specs.work.Settling.{HasVehiclePlaces, AreSettledVehicles}
 use Rattle.promise_check.proofs.Places.{rider_places, vehicle_places}
 use Rattle.promise_check.proofs.Assembly.{held_numbers, assembled, settled_right, settled_sound}
 use Rattle.promise_check.proofs.settling.settle.Goals as goal

@@ -5,13 +5,14 @@ use Rattle.std.proofs.lemmas.List.{take_all, get_or_default}
 use Rattle.std.proofs.lemmas.List.Elements.{All-push}
 use Rattle.pool_base.specs.Times.{point_count, travel_time}
 use Rattle.stop_orders.specs.declared.stop.Stop.TheVariants.{Pick}
-use Rattle.stop_orders.specs.Done.{with_stop, left_count}
+use Rattle.stop_orders.specs.Done.{with_stop}
+use Rattle.stop_orders.specs.work.Rest.{left_count}
 use Rattle.stop_orders.proofs.DoneLemmas.{left_count-falls}
 use Rattle.stop_orders.proofs.PlainLemmas.{IsAllDone-at, IsAllDone-not_at, path_back}
 use Rattle.small_routing.specs.declared.candidate.Candidate.{Candidate}
-use Rattle.small_routing.specs.Label.{rider_count, passenger_count, IsSmall}
-use Rattle.small_routing.specs.Kept.{labels_of, IsPlaced}
-use Rattle.small_routing.specs.Search.{LeadsTo, IsCandidate, IsTried, IsSettled, Searched}
+use Rattle.small_routing.specs.work.Label.{rider_count, passenger_count, IsSmall}
+use Rattle.small_routing.specs.work.Kept.{labels_of, IsPlaced}
+use Rattle.small_routing.specs.work.Search.{LeadsTo, IsCandidate, IsTried, IsSettled, Searched}
 use Rattle.small_routing.proofs.LabelLemmas.{known_next, small_next, leads_next}
 use Rattle.small_routing.proofs.SearchLemmas.{searched_better, searched_no_better, exhausted_tried, tried_searched, tries_more}
 use Rattle.small_routing.proofs.search.+try_all.Goals as goal
@@ -152,6 +153,24 @@ loop-candidate-preserved t c =
     let tried = tried_searched points tau time task c.requires.valid label c.in-Some.next s c.loop-candidate.best c.try_all.new.best (labels_of c.try_all.new.kept) c.in-Some.ensures.1 searched in
     tries_more points tau task label c.in-Some.next path c.loop-candidate.path.items c.pop.new.self.items c.args.best.now c.loop-candidate.best c.try_all.new.best (labels_of c.loop-candidate.kept) (labels_of c.try_all.new.kept)
     c.as_slice-candidate-items.result.now c.loop-candidate.candidate-index candidate c.loop-candidate-test.true (read_again c.as_slice-candidate-items.result.now c.loop-candidate.candidate-index c.loop-candidate-test.true) back searched tried c.loop-candidate.invariant
+
+pub returns-then-not-is_of_use-clause-searched : goal.returns-then-not-is_of_use-clause-searched
+returns-then-not-is_of_use-clause-searched t c =
+    let task = c.args.task.now in
+    let label = c.args.label.now in
+    let tau = travel_time c.args.times.now in
+    let points = point_count c.args.times.now in
+    let time = c.args.times.now.table.times in
+    let more = IsAllDone-not_at _ _ _ (rider_count task) (passenger_count task) label.done c.len.ensures.value c.len-2.ensures.value c.is_all.ensures c.if-is_all.false in
+    let inv = c.loop-candidate.invariant in
+    let best = c.loop-candidate.best in
+    let tried = subst (λ xs. All (λ c. IsTried tau task best label c.stop) xs) (take_all c.loop-candidate.candidate-index c.as_slice-candidate-items.result.now c.loop-candidate-test.false ∙ c.as_slice-candidate-items.ensures.value) inv.tried in
+    record {
+      found = inv.found;
+      good = inv.good;
+      exhausted = exhausted_tried points tau time task c.requires.valid label best c.candidates_after-candidates.result.items more c.candidates_after-candidates.ensures tried;
+      settled = inv.settled;
+    }
 
 pub returns-clause-searched : goal.returns-clause-searched
 returns-clause-searched t c =

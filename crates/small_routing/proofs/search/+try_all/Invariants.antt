@@ -1,8 +1,8 @@
 use Rattle.std.proofs.Common.{take}
 use Rattle.pool_base.specs.Times.{point_count, travel_time}
-use Rattle.stop_orders.specs.Done.{left_count}
-use Rattle.small_routing.specs.Label.{rider_count, passenger_count}
-use Rattle.small_routing.specs.Kept.{labels_of}
+use Rattle.stop_orders.specs.work.Rest.{left_count}
+use Rattle.small_routing.specs.work.Label.{rider_count, passenger_count}
+use Rattle.small_routing.specs.work.Kept.{labels_of}
 use Rattle.small_routing.proofs.SearchLemmas.{TriesAll}
 use Rattle.small_routing.proofs.search.+try_all.Given as goal
 

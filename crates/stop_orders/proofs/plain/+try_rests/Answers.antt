@@ -5,8 +5,9 @@ use Rattle.stop_orders.specs.declared.stop.Stop.{Stop}
 use Rattle.stop_orders.specs.declared.route.Route.{Route}
 use Rattle.stop_orders.specs.declared.task.Task.{Task}
 use Rattle.stop_orders.specs.Task.{IsOrderOf, Serves, order_delay}
-use Rattle.stop_orders.specs.Done.{stop_with, bit_of, IsNext, with_stop, left_count}
-use Rattle.stop_orders.specs.Plain.{NoneBetter, MakesOrders, AllTried, StaysGood, IsFound}
+use Rattle.stop_orders.specs.Done.{bit_of, IsNext, with_stop}
+use Rattle.stop_orders.specs.work.Rest.{stop_with, left_count}
+use Rattle.stop_orders.specs.work.Plain.{NoneBetter, MakesOrders, AllTried, StaysGood, IsFound}
 use Rattle.stop_orders.proofs.DoneLemmas.{left_count-falls}
 use Rattle.stop_orders.proofs.PlainLemmas.{MakesOrders-all, MakesOrders-next, AllTried-all, AllTried-next, AllTried-kept, IsNext-at, IsNext-not_at, IsAllDone-at, IsAllDone-not_at, stop_with-bit_of, path_back}
 use Rattle.stop_orders.proofs.plain.+try_rests.Invariants.{NextTried}

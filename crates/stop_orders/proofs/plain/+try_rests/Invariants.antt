@@ -3,8 +3,9 @@ use Rattle.pool_base.specs.Times.{travel_time}
 use Rattle.stop_orders.specs.declared.route.Route.{Route}
 use Rattle.stop_orders.specs.declared.stop.Stop.{Stop}
 use Rattle.stop_orders.specs.declared.task.Task.{Task}
-use Rattle.stop_orders.specs.Done.{bit_of, left_count, IsNext, with_stop}
-use Rattle.stop_orders.specs.Plain.{IsFound, StaysGood, AllTried}
+use Rattle.stop_orders.specs.Done.{bit_of, IsNext, with_stop}
+use Rattle.stop_orders.specs.work.Rest.{left_count}
+use Rattle.stop_orders.specs.work.Plain.{IsFound, StaysGood, AllTried}
 use Rattle.stop_orders.proofs.plain.+try_rests.Given as goal
 
 -- all next stops with a lower bit were tried

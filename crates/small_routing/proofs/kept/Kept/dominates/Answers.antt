@@ -2,7 +2,7 @@ use Rattle.std.proofs.Common.{◌≡◌, ℕ, ◌<◌, List, length, map, get_or
 use Rattle.std.specs.Prelude.{All}
 use Rattle.std.proofs.lemmas.List.{get_or-map, length-map}
 use Rattle.small_routing.specs.declared.kept.Entry.{Entry}
-use Rattle.small_routing.specs.Kept.{no_label, IsPlaced}
+use Rattle.small_routing.specs.work.Kept.{no_label, IsPlaced}
 use Rattle.small_routing.proofs.kept.Kept.dominates.Goals as goal
 
 -- the label of an entry is among the labels

@@ -7,11 +7,11 @@ use Rattle.stop_orders.specs.Visit.{ServesFrom}
 use Rattle.stop_orders.specs.Task.{visits_of, free_seats, order_delay}
 use Rattle.stop_orders.specs.Order.{IsKnown}
 use Rattle.stop_orders.specs.Done.{IsNext}
-use Rattle.stop_orders.specs.Plain.{IsFound, NoneBetter, StaysGood, MakesOrders}
+use Rattle.stop_orders.specs.work.Plain.{IsFound, NoneBetter, StaysGood, MakesOrders}
 use Rattle.small_routing.specs.declared.label.Label.{Label}
 use Rattle.small_routing.specs.declared.candidate.Candidate.{Candidate}
-use Rattle.small_routing.specs.Label.{rider_count, passenger_count, CanVisit, GoesOn, rest_delay}
-use Rattle.small_routing.specs.Kept.{IsPlaced}
+use Rattle.small_routing.specs.work.Label.{rider_count, passenger_count, CanVisit, GoesOn, rest_delay}
+use Rattle.small_routing.specs.work.Kept.{IsPlaced}
 
 -- these stops lead to the label: whatever goes on from it goes on from them
 pub record LeadsTo (tau : ℕ → ℕ → ℕ) (task : Task) (path : List Stop) (label : Label) : Type 0 where

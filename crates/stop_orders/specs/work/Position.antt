@@ -11,8 +11,8 @@ abbrev pub first_position : Task → Position
 first_position task = record { place = task.start; free = task.ready; room = free_seats task }
 
 -- a visit can be reached in time, and finds its seats
-abbrev pub CanServe : (ℕ → ℕ → ℕ) → Position → Visit → Type 0
-CanServe tau p v =
+abbrev pub CanVisitFrom : (ℕ → ℕ → ℕ) → Position → Visit → Type 0
+CanVisitFrom tau p v =
     (tau p.place (place_of v) < never) × (p.free + tau p.place (place_of v) ≤ latest_of v) × (boarding_of v ≤ p.room)
 
 -- the position after a visit

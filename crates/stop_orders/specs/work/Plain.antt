@@ -2,7 +2,7 @@ use Rattle.std.specs.Prelude.{◌≡◌, ℕ, ◌≤◌, List, ◌++◌, Option,
 use Rattle.stop_orders.specs.declared.route.Route.{Route}
 use Rattle.stop_orders.specs.declared.stop.Stop.{Stop}
 use Rattle.stop_orders.specs.declared.task.Task.{Task}
-use Rattle.stop_orders.specs.Done.{Completes}
+use Rattle.stop_orders.specs.work.Rest.{Completes}
 use Rattle.stop_orders.specs.Task.{IsOrderOf, Serves, order_delay}
 
 -- what was found serves, with its delay

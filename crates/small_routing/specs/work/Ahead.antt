@@ -3,9 +3,10 @@ use Rattle.pool_base.specs.TravelTime.{never}
 use Rattle.stop_orders.specs.declared.leg.Leg.{Leg}
 use Rattle.stop_orders.specs.declared.task.Task.{Task}
 use Rattle.stop_orders.specs.Task.{leg_at}
-use Rattle.stop_orders.specs.Done.{has, sum_below}
+use Rattle.stop_orders.specs.Done.{has}
+use Rattle.stop_orders.specs.work.Rest.{sum_below}
 use Rattle.small_routing.specs.declared.label.Label.{Label}
-use Rattle.small_routing.specs.Label.{rider_count, passenger_count}
+use Rattle.small_routing.specs.work.Label.{rider_count, passenger_count}
 
 -- a rider can still be served where the vehicle goes there at once: by whether the pickup and the drop-off are done
 abbrev pub CanStill : (ℕ → ℕ → ℕ) → ℕ → Leg → Bool → Bool → ℕ → ℕ → Type 0
