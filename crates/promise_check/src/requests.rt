@@ -3,7 +3,7 @@ ghost use Rattle.pool_base.specs.Times.{point_count, travel_time};
 ghost use Rattle.stop_orders.specs.Task.{IsLeg};
 ghost use Rattle.stop_orders.specs.Sound.{IsShort};
 ghost use Rattle.promise_check.specs.Requests.{IsLegOf, ideal_second};
-ghost use Rattle.promise_check.specs.work.Requests.{IsPlain, ArePlain, HasPlaces};
+ghost use Rattle.promise_check.specs.work.Requests.{IsPlain, ArePlain, IsBetweenPlaces};
 
 use batch_snapshot::{Points, Rider};
 use pool_base::{NodeId, OutOfMemory, Party, Second, Times};
@@ -22,7 +22,7 @@ pub(crate) fn leg_of(
     party: Party,
 ) -> Leg
     requires table { point_count times.now ≡ length points.now }
-    requires places { HasPlaces points.now origin destination }
+    requires places { IsBetweenPlaces points.now origin destination }
     ensures leg { IsLegOf settings.now points.now (travel_time times.now) origin destination time party result }
     ensures valid { IsLeg (length points.now) result }
     ensures short { IsShort result }
@@ -78,7 +78,7 @@ pub(crate) fn plain_riders(
     requests: &[Rider],
 ) -> Result<Vec<SettledRider>, OutOfMemory>
     requires table { point_count times.now ≡ length points.now }
-    requires places { All (λ r. HasPlaces points.now r.origin r.destination) requests.now }
+    requires places { All (λ r. IsBetweenPlaces points.now r.origin r.destination) requests.now }
     ensures { IfOk result (λ riders. ArePlain settings.now points.now (travel_time times.now) requests.now riders.items) }
 {
     let mut riders = Vec::with_capacity(alloc, requests.len())?;
@@ -90,7 +90,7 @@ pub(crate) fn plain_riders(
 
 fn plain_rider(settings: &Settings, points: &Points, times: &Times, request: &Rider) -> SettledRider
     requires table { point_count times.now ≡ length points.now }
-    requires places { HasPlaces points.now request.now.origin request.now.destination }
+    requires places { IsBetweenPlaces points.now request.now.origin request.now.destination }
     ensures { IsPlain settings.now points.now (travel_time times.now) request.now result }
 {
     let leg = leg_of(

@@ -5,7 +5,7 @@ ghost use Rattle.stop_orders.specs.Task.{IsLeg, IsTask, IsServable, persons};
 ghost use Rattle.stop_orders.specs.Settled.{no_rider, vehicle_task};
 ghost use Rattle.stop_orders.specs.Sound.{IsShort};
 ghost use Rattle.promise_check.specs.Requests.{request_at};
-ghost use Rattle.promise_check.specs.work.Requests.{HasPlaces, ArePlain, CanBeKept};
+ghost use Rattle.promise_check.specs.work.Requests.{IsBetweenPlaces, ArePlain, CanBeKept};
 ghost use Rattle.promise_check.specs.Promised.{promised_to, IsLive};
 ghost use Rattle.promise_check.specs.Settling.{AreLegsOf, IsPlaced};
 ghost use Rattle.promise_check.specs.work.Settling.{HasVehiclePlaces, IsSettledVehicle, AreSettledVehicles};
@@ -116,7 +116,7 @@ fn legs_of(
     passengers: &[Passenger],
 ) -> ArrayVec<Leg, 10>
     requires table { point_count times.now ≡ length points.now }
-    requires places { All (λ p. HasPlaces points.now p.origin p.destination) passengers.now }
+    requires places { All (λ p. IsBetweenPlaces points.now p.origin p.destination) passengers.now }
     requires count { length passengers.now ≤ 10 }
     ensures legs { AreLegsOf settings.now points.now (travel_time times.now) passengers.now result.items }
     ensures valid { All (IsLeg (length points.now)) result.items }

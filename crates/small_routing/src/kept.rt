@@ -1,6 +1,6 @@
 ghost use Rattle.std.specs.Prelude.{◌≡◌, ◌<◌, ◌≤◌, [], ◌∷◌, ◌++◌, IsTrue, All, OnOk};
 ghost use Rattle.pool_base.specs.Times.{point_count, travel_time};
-ghost use Rattle.small_routing.specs.work.Kept.{labels_of, Dominates, IsDominated, IsPlaced};
+ghost use Rattle.small_routing.specs.work.Kept.{labels_of, Dominates, IsDominated, IsLabelPlaced};
 
 use crate::label::Label;
 use pool_base::{OutOfMemory, Times};
@@ -75,7 +75,7 @@ impl Kept {
 
     /// Whether a kept label dominates this one.
     pub(crate) fn dominates(&self, times: &Times, label: &Label) -> bool
-        requires placed { All (IsPlaced (point_count times.now)) (labels_of self.now) }
+        requires placed { All (IsLabelPlaced (point_count times.now)) (labels_of self.now) }
         requires place { label.now.place < point_count times.now }
         ensures { IsTrue result → IsDominated (travel_time times.now) (labels_of self.now) label.now }
     {
@@ -128,7 +128,7 @@ fn chain_count(stops: usize) -> usize {
 /// Whether a label of the same stops is as soon wherever the other goes, with as much room and no more
 /// delay. That holds across places, since no way round is shorter.
 fn dominates(times: &Times, kept: &Label, label: &Label) -> bool
-    requires kept { IsPlaced (point_count times.now) kept.now }
+    requires kept { IsLabelPlaced (point_count times.now) kept.now }
     requires place { label.now.place < point_count times.now }
     ensures { IsTrue result → Dominates (travel_time times.now) kept.now label.now }
 {

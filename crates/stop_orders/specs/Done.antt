@@ -22,10 +22,10 @@ abbrev pub with_stop : ℕ → Stop → ℕ
 with_stop done stop = with_bit done (bit_of stop)
 
 -- the stop is of somebody whom there is, and may come next
-abbrev pub IsNext : ℕ → ℕ → ℕ → Stop → Type 0
-IsNext riders passengers done (Pick i) = (i < riders) × (has done i ≡ false) × (has done (6 + i) ≡ false)
-IsNext riders passengers done (Drop i) = (i < riders) × (has done i ≡ true) × (has done (6 + i) ≡ false)
-IsNext riders passengers done (Alight j) = (j < passengers) × (has done (12 + j) ≡ false)
+abbrev pub IsNextStop : ℕ → ℕ → ℕ → Stop → Type 0
+IsNextStop riders passengers done (Pick i) = (i < riders) × (has done i ≡ false) × (has done (6 + i) ≡ false)
+IsNextStop riders passengers done (Drop i) = (i < riders) × (has done i ≡ true) × (has done (6 + i) ≡ false)
+IsNextStop riders passengers done (Alight j) = (j < passengers) × (has done (12 + j) ≡ false)
 
 -- all have been dropped
 pub record IsAllDone (riders passengers done : ℕ) : Type 0 where

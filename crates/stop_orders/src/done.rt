@@ -1,6 +1,6 @@
 ghost use Rattle.std.specs.Prelude.{◌≡◌, ℕ, ◌+◌, ◌<◌, ◌≤◌, ◌↔◌, true, IsTrue};
 ghost use Rattle.stop_orders.specs.Order.{IsKnown};
-ghost use Rattle.stop_orders.specs.Done.{has, with_bit, with_stop, IsNext, IsAllDone};
+ghost use Rattle.stop_orders.specs.Done.{has, with_bit, with_stop, IsNextStop, IsAllDone};
 ghost use Rattle.stop_orders.specs.work.Rest.{stop_with};
 
 use crate::Stop;
@@ -91,7 +91,7 @@ impl Done {
     pub fn is_next(self, riders: usize, passengers: usize, stop: Stop) -> bool
         requires riders { riders ≤ 6 }
         requires passengers { passengers ≤ 10 }
-        ensures { IsTrue result ↔ IsNext riders passengers self stop }
+        ensures { IsTrue result ↔ IsNextStop riders passengers self stop }
     {
         match stop {
             Stop::Pick(i) => {

@@ -22,7 +22,7 @@ pub record ArePlain (settings : Settings) (points : List ℕ) (tau : ℕ → ℕ
   pub each : (k : ℕ) (x : Rider) → slice_get requests k ≡ Some x → IsPlain settings points tau x (slice_index_or riders k no_rider)
 
 -- the places of a request
-pub record HasPlaces (points : List ℕ) (origin destination : ℕ) : Type 0 where
+pub record IsBetweenPlaces (points : List ℕ) (origin destination : ℕ) : Type 0 where
   pub origin_named : Contains points origin
   pub destination_named : Contains points destination
 

@@ -8,7 +8,7 @@ use Rattle.stop_orders.specs.Settled.{no_vehicle, vehicle_task}
 use Rattle.stop_orders.specs.Sound.{IsShort}
 use Rattle.rider_limits.specs.declared.settings.Settings.{Settings}
 use Rattle.promise_check.specs.Settling.{IsPlaced, IsLateRight, HoldsPromised}
-use Rattle.promise_check.specs.work.Requests.{HasPlaces}
+use Rattle.promise_check.specs.work.Requests.{IsBetweenPlaces}
 
 -- a vehicle with its place, whether it is late, and the riders that it keeps; its tasks are valid
 pub record IsSettledVehicle (settings : Settings) (points : List ℕ) (tau : ℕ → ℕ → ℕ) (now : ℕ) (requests : List Rider) (riders : List SettledRider) (x : Vehicle) (y : SettledVehicle) : Type 0 where
@@ -26,4 +26,4 @@ pub record AreSettledVehicles (settings : Settings) (points : List ℕ) (tau : �
 -- the places of a vehicle and its passengers
 pub record HasVehiclePlaces (points : List ℕ) (x : Vehicle) : Type 0 where
   pub node : Contains points x.node
-  pub aboard : All (λ p. HasPlaces points p.origin p.destination) x.aboard.items
+  pub aboard : All (λ p. IsBetweenPlaces points p.origin p.destination) x.aboard.items

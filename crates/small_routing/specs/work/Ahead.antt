@@ -6,7 +6,7 @@ use Rattle.stop_orders.specs.Task.{leg_at}
 use Rattle.stop_orders.specs.Done.{has}
 use Rattle.stop_orders.specs.work.Rest.{sum_below}
 use Rattle.small_routing.specs.declared.label.Label.{Label}
-use Rattle.small_routing.specs.work.Label.{rider_count, passenger_count}
+use Rattle.small_routing.specs.work.Label.{task_riders, task_passengers}
 
 -- a rider can still be served where the vehicle goes there at once: by whether the pickup and the drop-off are done
 abbrev pub CanStill : (ℕ → ℕ → ℕ) → ℕ → Leg → Bool → Bool → ℕ → ℕ → Type 0
@@ -37,4 +37,4 @@ passenger_late tau task label j = late_at_once tau task.dwell (leg_at task.aboar
 
 -- the sum of those delays: no way on has less
 abbrev pub least_ahead : (ℕ → ℕ → ℕ) → Task → Label → ℕ
-least_ahead tau task label = sum_below (rider_late tau task label) (rider_count task) + sum_below (passenger_late tau task label) (passenger_count task)
+least_ahead tau task label = sum_below (rider_late tau task label) (task_riders task) + sum_below (passenger_late tau task label) (task_passengers task)

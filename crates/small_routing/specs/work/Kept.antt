@@ -24,6 +24,6 @@ abbrev pub IsDominated : (ℕ → ℕ → ℕ) → List Label → Label → Type
 IsDominated tau labels label = (k : ℕ) × (k < length labels) × Dominates tau (slice_index_or labels k no_label) label
 
 -- a label is in the table, with a second that is no overflow
-pub record IsPlaced (points : ℕ) (label : Label) : Type 0 where
+pub record IsLabelPlaced (points : ℕ) (label : Label) : Type 0 where
   pub place : label.place < points
   pub free : label.free ≤ 30000000000

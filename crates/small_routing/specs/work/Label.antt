@@ -27,11 +27,11 @@ pub record IsRoutable (points : ℕ) (task : Task) : Type 0 where
   pub passengers : All (IsRoutableLeg points) task.aboard.items
   pub riders : All (IsRoutableLeg points) task.riders.items
 
-abbrev pub rider_count : Task → ℕ
-rider_count task = length task.riders.items
+abbrev pub task_riders : Task → ℕ
+task_riders task = length task.riders.items
 
-abbrev pub passenger_count : Task → ℕ
-passenger_count task = length task.aboard.items
+abbrev pub task_passengers : Task → ℕ
+task_passengers task = length task.aboard.items
 
 -- the label before the first stop
 abbrev pub first_label : Task → Label
@@ -59,7 +59,7 @@ next_label tau task label stop = record {
 
 -- these stops complete what is done, and serve from the label
 pub record GoesOn (tau : ℕ → ℕ → ℕ) (task : Task) (label : Label) (rest : List Stop) : Type 0 where
-  pub completes : Completes (rider_count task) (passenger_count task) label.done rest
+  pub completes : Completes (task_riders task) (task_passengers task) label.done rest
   pub serves : ServesFrom tau task.dwell label.place label.free label.room (visits_of task rest)
 
 -- the delay of the stops from the label on
@@ -67,7 +67,7 @@ abbrev pub rest_delay : (ℕ → ℕ → ℕ) → Task → Label → List Stop �
 rest_delay tau task label rest = delay_from tau task.dwell label.place label.free (visits_of task rest)
 
 -- the label is in the table, and its numbers are small, with so many stops left
-pub record IsSmall (points left : ℕ) (label : Label) : Type 0 where
+pub record IsSmallLabel (points left : ℕ) (label : Label) : Type 0 where
   pub place : label.place < points
   pub free : label.free + left * 1000000600 ≤ 30000000000
   pub room : label.room + left * 6 ≤ 150
