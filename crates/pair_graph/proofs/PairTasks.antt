@@ -130,7 +130,7 @@ found_serves tau task other (Some route) answer same is serves none =
 pub rv_answer : (tau : ℕ → ℕ → ℕ) (settled : Settled) (v r : ℕ) (answer : Bool) → v < length settled.vehicles → r < length settled.riders
     → MatchBool answer (IsServable tau (trip_task settled v (r ∷ []))) (IsServable tau (trip_task settled v (r ∷ [])) → ⊥)
     → MatchBool answer (IsRvEdge tau settled v r) (IsRvEdge tau settled v r → ⊥)
-rv_answer tau settled v r true h k s = record { vehicle = h; rider = k; servable = s }
+rv_answer tau settled v r true h k s = record { vehicle = h; riders = one_trip (length settled.riders) r k; size = omega arith; servable = s }
 rv_answer tau settled v r false h k never = λ e. never e.servable
 
 -- the same of the second start, where the first serves no order

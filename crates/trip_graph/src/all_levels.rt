@@ -2,7 +2,8 @@ ghost use Rattle.std.specs.Prelude.{◌≡◌, ℕ, ◌+◌, ◌<◌, ◌≤◌,
 ghost use Rattle.pool_base.specs.Times.{point_count, travel_time};
 ghost use Rattle.stop_orders.specs.Settled.{IsRrEdge};
 ghost use Rattle.stop_orders.specs.Sound.{IsSound};
-ghost use Rattle.trip_graph.specs.Levels.{AreLevels, HasMoreRows, level_total};
+ghost use Rattle.trip_graph.specs.work.Levels.{AreLevels, level_total};
+ghost use Rattle.trip_graph.specs.Answer.{HasMoreRows};
 
 use crate::levels::{first_level, next_level};
 use pool_base::{OutOfMemory, Sequence, Times};
@@ -11,7 +12,7 @@ use stop_orders::{PairList, Settled};
 use trip_growth::VehicleTrips;
 
 /// The rows of all vehicles of each size from 0 to `most`; `None` exactly where they are more than `room`.
-pub fn all_levels(
+pub(crate) fn all_levels(
     alloc: Global,
     settled: &Settled,
     times: &Times,

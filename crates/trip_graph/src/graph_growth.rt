@@ -2,8 +2,8 @@ ghost use Rattle.std.specs.Prelude.{◌≡◌, ◌+◌, ◌<◌, ◌≤◌, IfOk
 ghost use Rattle.plan_rules.specs.declared.fault.GraphFault.TheVariants.{OutOfMemory as NoMemory};
 ghost use Rattle.pool_base.specs.Times.{point_count, travel_time};
 ghost use Rattle.stop_orders.specs.Sound.{IsSound};
-ghost use Rattle.trip_graph.specs.Levels.{AreLevels, level_total};
-ghost use Rattle.trip_graph.specs.Answer.{IsAnswer, IsTripGraphOf, AreRowsOf, HoldRows};
+ghost use Rattle.trip_graph.specs.work.Levels.{AreLevels, level_total, AreRowsUpTo};
+ghost use Rattle.trip_graph.specs.Answer.{IsAnswer, IsTripGraphOf, HoldRows};
 
 use crate::all_levels::all_levels;
 use crate::answer::GraphAnswer;

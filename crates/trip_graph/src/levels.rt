@@ -2,7 +2,7 @@ ghost use Rattle.std.specs.Prelude.{◌≡◌, ℕ, ◌+◌, ◌-◌, ◌<◌, �
 ghost use Rattle.pool_base.specs.Times.{point_count, travel_time};
 ghost use Rattle.stop_orders.specs.Settled.{IsRrEdge};
 ghost use Rattle.stop_orders.specs.Sound.{IsSound};
-ghost use Rattle.trip_graph.specs.Levels.{IsLevelUpTo, HasMoreOfSize, row_total};
+ghost use Rattle.trip_graph.specs.work.Levels.{AreLevelsUpTo, HasMoreOfSize, row_total};
 
 use crate::level_rows::LevelRows;
 use crate::pieces::{empty_piece, level_piece};
@@ -15,13 +15,13 @@ use trip_growth::{Level, VehicleTrips};
 const RUN: usize = 32;
 
 /// The rows of all vehicles without riders.
-pub fn first_level(
+pub(crate) fn first_level(
     alloc: Global,
     settled: &Settled,
     times: &Times,
 ) -> Result<LevelRows, OutOfMemory>
     requires { IsSound 6 (point_count times.now) (travel_time times.now) settled.now }
-    ensures level { IfOk result (λ level. IsLevelUpTo (travel_time times.entry.now) settled.entry.now 0 (length settled.entry.now.vehicles) level.lists.items) }
+    ensures level { IfOk result (λ level. AreLevelsUpTo (travel_time times.entry.now) settled.entry.now 0 (length settled.entry.now.vehicles) level.lists.items) }
     ensures total { IfOk result (λ level. level.total ≡ row_total level.lists.items) }
     ensures few { IfOk result (λ level. level.total ≤ 500) }
 {
@@ -38,7 +38,7 @@ pub fn first_level(
 
 /// The rows of all vehicles of `size + 1` riders, from those of `size` riders; `None` exactly where they are
 /// more than `room`.
-pub fn next_level(
+pub(crate) fn next_level(
     alloc: Global,
     settled: &Settled,
     times: &Times,
@@ -50,9 +50,9 @@ pub fn next_level(
     requires sound { IsSound 6 (point_count times.now) (travel_time times.now) settled.now }
     requires pairs { (a b : ℕ) → IsRrEdge (travel_time times.now) settled.now a b → Contains pairs.now (a, b) }
     requires size { size < 6 }
-    requires below { IsLevelUpTo (travel_time times.now) settled.now size (length settled.now.vehicles) below.now }
+    requires below { AreLevelsUpTo (travel_time times.now) settled.now size (length settled.now.vehicles) below.now }
     ensures { IfOk result (λ answer. MatchOption answer (HasMoreOfSize (travel_time times.entry.now) settled.entry.now (size + 1) room)
-        (λ level. IsLevelUpTo (travel_time times.entry.now) settled.entry.now (size + 1) (length settled.entry.now.vehicles) level.lists.items
+        (λ level. AreLevelsUpTo (travel_time times.entry.now) settled.entry.now (size + 1) (length settled.entry.now.vehicles) level.lists.items
         × (level.total ≡ row_total level.lists.items) × (level.total ≤ room))) }
 {
     let mut lists = Vec::with_capacity(alloc, below.len())?;
@@ -86,13 +86,13 @@ fn grow_run(
     requires sound { IsSound 6 (point_count times.now) (travel_time times.now) settled.now }
     requires pairs { (a b : ℕ) → IsRrEdge (travel_time times.now) settled.now a b → Contains pairs.now (a, b) }
     requires size { size < 6 }
-    requires below { IsLevelUpTo (travel_time times.now) settled.now size (length settled.now.vehicles) below.now }
+    requires below { AreLevelsUpTo (travel_time times.now) settled.now size (length settled.now.vehicles) below.now }
     requires next { length lists.old.items < length below.now }
-    requires level { IsLevelUpTo (travel_time times.now) settled.now (size + 1) (length lists.old.items) lists.old.items }
+    requires level { AreLevelsUpTo (travel_time times.now) settled.now (size + 1) (length lists.old.items) lists.old.items }
     requires total { total ≡ row_total lists.old.items }
     requires fits { total ≤ room }
     ensures { IfOk result (λ answer. MatchOption answer (HasMoreOfSize (travel_time times.entry.now) settled.entry.now (size + 1) room)
-        (λ found. IsLevelUpTo (travel_time times.entry.now) settled.entry.now (size + 1) (length lists.new.items) lists.new.items
+        (λ found. AreLevelsUpTo (travel_time times.entry.now) settled.entry.now (size + 1) (length lists.new.items) lists.new.items
         × (found ≡ row_total lists.new.items) × (found ≤ room)
         × (length lists.old.items < length lists.new.items) × (length lists.new.items ≤ length below.entry.now))) }
 {

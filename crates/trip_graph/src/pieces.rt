@@ -12,7 +12,7 @@ use stop_orders::{PairList, Settled};
 use trip_growth::{Level, VehicleTrips, empty_level, grow_level};
 
 /// The rows of one vehicle without riders.
-pub fn empty_piece(
+pub(crate) fn empty_piece(
     alloc: Global,
     settled: &Settled,
     times: &Times,
@@ -44,7 +44,7 @@ fn count_empty<L: Ledger>(
 }
 
 /// The rows of one vehicle of one size, from those of one rider fewer.
-pub fn level_piece(
+pub(crate) fn level_piece(
     alloc: Global,
     settled: &Settled,
     times: &Times,

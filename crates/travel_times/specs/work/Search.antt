@@ -28,7 +28,7 @@ abbrev pub work_left : List ℕ → List Bool → ℕ
 work_left seconds waiting = 2 * sum seconds + count_by (λ w. w) waiting
 
 -- a node that waited is taken, or none waits
-pub record IsTaken (waiting waiting' : List Bool) (node : ℕ) : Type 0 where
+pub record IsNextTaken (waiting waiting' : List Bool) (node : ℕ) : Type 0 where
   pub within : node < length waiting
   pub waited : waits waiting node ≡ true
   pub same_length : length waiting' ≡ length waiting
@@ -41,7 +41,7 @@ abbrev pub IsHopRelaxed : ℕ → List ℕ → Hop → Type 0
 IsHopRelaxed here seconds hop = (slice_index seconds hop.to ≤ here + hop.seconds) ⊎ (longest < here + hop.seconds)
 
 -- the first hops of a node whose seconds are `here` are relaxed
-pub record Relaxes (hops : List Hop) (count here : ℕ) (seconds : List ℕ) (waiting : List Bool) (seconds' : List ℕ) (waiting' : List Bool) : Type 0 where
+pub record RelaxesHops (hops : List Hop) (count here : ℕ) (seconds : List ℕ) (waiting : List Bool) (seconds' : List ℕ) (waiting' : List Bool) : Type 0 where
   pub seconds_length : length seconds' ≡ length seconds
   pub waiting_length : length waiting' ≡ length waiting
   pub no_later : (node : ℕ) → slice_index seconds' node ≤ slice_index seconds node

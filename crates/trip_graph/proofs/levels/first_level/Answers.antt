@@ -1,6 +1,6 @@
 use Rattle.std.proofs.Common.{◌≡◌, ℕ, ◌+◌, length, sym, ap, ◌∙◌, subst, arith}
 use Rattle.pool_base.specs.Times.{travel_time}
-use Rattle.trip_graph.specs.Levels.{IsLevelUpTo}
+use Rattle.trip_graph.specs.work.Levels.{AreLevelsUpTo}
 use Rattle.trip_graph.proofs.LevelSteps as step
 use Rattle.trip_graph.proofs.levels.first_level.Goals as goal
 
@@ -28,4 +28,4 @@ returns-clause-level c =
     let end = c.loop-vehicle.auto.vehicle-end in
     let stop = c.loop-vehicle-test.false in
     let e : c.loop-vehicle.vehicle ≡ length settled.vehicles = omega arith in
-    subst (λ (n : ℕ). IsLevelUpTo tau settled 0 n c.loop-vehicle.lists.items) e c.loop-vehicle.invariant.level
+    subst (λ (n : ℕ). AreLevelsUpTo tau settled 0 n c.loop-vehicle.lists.items) e c.loop-vehicle.invariant.level

@@ -4,11 +4,11 @@ use Rattle.stop_orders.specs.declared.settled.Settled.{Settled}
 use Rattle.pool_base.specs.Times.{travel_time}
 use Rattle.trip_growth.specs.declared.trip_of.TripOf.{TripOf}
 use Rattle.trip_growth.specs.Rows.{AreRowsOfSize}
-use Rattle.trip_graph.specs.Levels.{IsLevelUpTo}
+use Rattle.trip_graph.specs.work.Levels.{AreLevelsUpTo}
 use Rattle.trip_graph.proofs.LevelSteps as step
 use Rattle.trip_graph.proofs.levels.grow_run.Goals as goal
 
-read_below : (tau : ℕ → ℕ → ℕ) (settled : Settled) (size count v : ℕ) (lists : List (List TripOf)) (rows : List TripOf) → IsLevelUpTo tau settled size count lists → v < count
+read_below : (tau : ℕ → ℕ → ℕ) (settled : Settled) (size count v : ℕ) (lists : List (List TripOf)) (rows : List TripOf) → AreLevelsUpTo tau settled size count lists → v < count
     → rows ≡ get_or lists v rows → AreRowsOfSize tau settled v (size + 1 - 1) rows
 read_below tau settled size count v lists rows level lt is =
     let within : v < length lists = (let t = level.total in omega arith) in
@@ -48,7 +48,7 @@ returns-then-more-room c =
     let own = (rw c.in-All.is at c.in_ok-level.ensures).0 in
     let count : length c.rows.result.now ≡ length trips = ap length c.rows.ensures in
     step.more_than_room tau settled (c.args.size + 1) c.args.room c.loop-vehicle.vehicle c.loop-vehicle.lists.items trips inv.level
-    (step.some_rows tau settled c.loop-vehicle.vehicle (c.args.size + 1) trips own) lt
+    own.some lt
     (let g = c.if-more-room.true in let h = inv.counted in let f = inv.fits in omega arith)
 
 pub loop-vehicle-preserved : goal.loop-vehicle-preserved

@@ -1,26 +1,22 @@
-use Rattle.std.specs.Prelude.{◌≡◌, ℕ, ◌<◌, ◌≤◌, List, [], ◌∷◌, ◌++◌, length, map, All, Contains, slice_index, remove}
-use Rattle.trip_growth.specs.Trip.{IsLower, IsRising}
+use Rattle.std.specs.Prelude.{◌≡◌, ℕ, ◌<◌, ◌≤◌, List, [], ◌∷◌, ◌++◌, length, All, Contains, slice_index, remove}
+use Rattle.trip_growth.specs.Trip.{trips_of, IsLower, IsRising}
 use Rattle.trip_growth.specs.declared.trip_of.TripOf.{TripOf}
 
--- the riders of each row
-abbrev pub trips_of : List TripOf → List (List ℕ)
-trips_of rows = map (λ row. row.riders.items) rows
-
 -- the row's trip can be served, and its cost is right
-pub record IsRow (Serves : List ℕ → Type 0) (Costs : List ℕ → ℕ → Type 0) (row : TripOf) : Type 0 where
+pub record IsLevelRow (Serves : List ℕ → Type 0) (Costs : List ℕ → ℕ → Type 0) (row : TripOf) : Type 0 where
   pub served : Serves row.riders.items
   pub least : Costs row.riders.items row.cost
 
 -- the rows are those of this size, in order, each once
 pub record IsLevel (Serves : List ℕ → Type 0) (Costs : List ℕ → ℕ → Type 0) (size : ℕ) (rows : List TripOf) : Type 0 where
-  pub right : All (IsRow Serves Costs) rows
+  pub right : All (IsLevelRow Serves Costs) rows
   pub sized : All (λ row. length row.riders.items ≡ size) rows
   pub rising : IsRising (trips_of rows)
   pub whole : (trip : List ℕ) → length trip ≡ size → Serves trip → Contains (trips_of rows) trip
 
 -- the rows are those of this size that are lower than the limit, in order, each once
 pub record IsLevelUpTo (Serves : List ℕ → Type 0) (Costs : List ℕ → ℕ → Type 0) (size : ℕ) (limit : List ℕ) (rows : List TripOf) : Type 0 where
-  pub right : All (IsRow Serves Costs) rows
+  pub right : All (IsLevelRow Serves Costs) rows
   pub sized : All (λ row. length row.riders.items ≡ size) rows
   pub lower : All (λ row. IsLower row.riders.items limit) rows
   pub rising : IsRising (trips_of rows)
@@ -28,15 +24,15 @@ pub record IsLevelUpTo (Serves : List ℕ → Type 0) (Costs : List ℕ → ℕ 
 
 -- the rows are those of at most this size, in order, each once
 pub record AreRowsWithin (Serves : List ℕ → Type 0) (Costs : List ℕ → ℕ → Type 0) (most : ℕ) (rows : List TripOf) : Type 0 where
-  pub right : All (IsRow Serves Costs) rows
+  pub right : All (IsLevelRow Serves Costs) rows
   pub sized : All (λ row. length row.riders.items ≤ most) rows
   pub rising : IsRising (trips_of rows)
   pub whole : (trip : List ℕ) → length trip ≤ most → Serves trip → Contains (trips_of rows) trip
 
 -- there are more rows of this size than so many
-pub record HasMoreThan (Serves : List ℕ → Type 0) (Costs : List ℕ → ℕ → Type 0) (size : ℕ) (room : ℕ) : Type 0 where
+pub record HasMoreOfLevel (Serves : List ℕ → Type 0) (Costs : List ℕ → ℕ → Type 0) (size : ℕ) (room : ℕ) : Type 0 where
   pub rows : List TripOf
-  pub right : All (IsRow Serves Costs) rows
+  pub right : All (IsLevelRow Serves Costs) rows
   pub sized : All (λ row. length row.riders.items ≡ size) rows
   pub rising : IsRising (trips_of rows)
   pub more : room < length rows
@@ -44,7 +40,7 @@ pub record HasMoreThan (Serves : List ℕ → Type 0) (Costs : List ℕ → ℕ 
 -- there are more rows of at most this size than so many
 pub record HasMoreWithin (Serves : List ℕ → Type 0) (Costs : List ℕ → ℕ → Type 0) (most : ℕ) (room : ℕ) : Type 0 where
   pub rows : List TripOf
-  pub right : All (IsRow Serves Costs) rows
+  pub right : All (IsLevelRow Serves Costs) rows
   pub sized : All (λ row. length row.riders.items ≤ most) rows
   pub rising : IsRising (trips_of rows)
   pub more : room < length rows
