@@ -37,8 +37,6 @@ piece_size rows n q h =
 -- a chunk of a table that wasn't written is such a piece
 pub piece_of_chunk : (n rows start : ℕ) (cells chunk : List ℕ) → 0 < rows → 0 < n → length cells ≡ n * n → All (λ cell. cell ≡ never) cells → IsChunk cells (rows * n) start chunk → IsPiece n start chunk
 piece_of_chunk n rows start cells chunk some points size unwritten is =
-    let p : ℕ = start / (rows * n) in
-    let q : ℕ = p * rows in
     let whole : start ≡ start / (rows * n) * (rows * n) = whole_times start (rows * n) is.start_is_multiple in
     let begins : start ≡ start / (rows * n) * rows * n = omega arith in
     let nonempty = is.nonempty in
@@ -47,11 +45,12 @@ piece_of_chunk n rows start cells chunk some points size unwritten is =
       | inl lt ↦ lt
       | inr ge ↦ absurd (let le : n * n ≤ start / (rows * n) * rows * n = mul-le-mul_right n ge in omega arith)
     ] in
+    let left : length cells - start ≡ n * n - start / (rows * n) * rows * n = omega (arith, size, begins) in
     record {
-      from = q;
-      count = min rows (n - q);
+      from = start / (rows * n) * rows;
+      count = min rows (n - start / (rows * n) * rows);
       begins = begins;
-      size = is.len ∙ rw (size, begins) (piece_size rows n q (omega arith));
+      size = is.len ∙ ap (λ x. min (rows * n) x) left ∙ piece_size rows n (start / (rows * n) * rows) (omega arith);
       within = omega arith;
       unwritten = λ k d lt. rw (is.elements k d lt) (unwritten (start + k) d (omega arith));
     }
@@ -96,12 +95,13 @@ written_of_chunks arcs points rows before after some many size same chunk = reco
         let k_in : k < count = omega arith in
         let at : (j : ℕ) → j < m → slice_index (slice_chunk after (rows * m) p) (k * m + j) ≡ slice_index after (i * m + j) = λ j h.
         let inside : k * m + j < m * rows = mul-add-lt k m j rows k_few h in
-        let place : p * (rows * m) + (k * m + j) ≡ i * m + j = ap (λ x. x + j) (omega (arith, assoc)) ∙ omega arith in
+        let product : i * m ≡ p * rows * m + k * m = ap (λ x. x * m) here ∙ omega arith in
+        let place : p * (rows * m) + (k * m + j) ≡ i * m + j = omega (arith, assoc, product) in
         chunk_cell after (rows * m) p (k * m + j) (omega arith) ∙ ap (λ x. slice_index after x) place in
         ⊎_elim
-        (λ right. inl (λ j h. subst (λ x. IsTimeBetween arcs (slice_index points x) (slice_index points j) (slice_index after (i * m + j))) (sym here)
+        (λ right. inl (λ j h. subst (λ x. IsTimeBetween arcs (slice_index points x) (slice_index points j) (slice_index after (i * m + j))) (let e : p * rows + k ≡ 0 + i = omega arith in e)
         (subst (λ x. IsTimeBetween arcs (slice_index points (p * rows + k)) (slice_index points j) x) (at j h) (right j h))))
-        (λ left. inr (sym (at i lt) ∙ ap (λ x. slice_index (slice_chunk after (rows * m) p) (k * m + x)) here ∙ left))
+        (λ left. inr (ap (λ x. slice_index after (i * m + x)) (let e : 0 + i ≡ i = omega arith in e) ∙ sym (at i lt) ∙ ap (λ x. slice_index (slice_chunk after (rows * m) p) (k * m + x)) here ∙ left))
         (written.each k k_in)
 
 -- the rows so far are computed, and the others are not written yet
@@ -177,6 +177,6 @@ rows_of_written arcs points cells w all = record {
   size = w.size;
   times = λ i j hi hj. ⊎_elim
       (λ (right : IsRowAt arcs points 0 cells i). right j hj)
-      (λ (left : IsUnwritten points 0 cells i). absurd (all i hi left))
+      (λ (left : IsUnwritten points 0 cells i). absurd (all i hi (subst (λ x. slice_index cells (i * length points + x) ≡ never) (let e : 0 + i ≡ i = omega arith in e) left)))
       (w.each i hi);
 }

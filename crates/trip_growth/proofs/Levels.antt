@@ -40,6 +40,10 @@ remove_second_last : (q : List ℕ) (a e : ℕ) → remove ((q ++ a ∷ []) ++ e
 remove_second_last [] a e = refl
 remove_second_last (x ∷ xs) a e = ap (λ (v : List ℕ). x ∷ v) (remove_second_last xs a e)
 
+-- a list of so many and one more begins with them
+front_of : (t q : List ℕ) (x m : ℕ) → t ≡ q ++ x ∷ [] → length q ≡ m → take m t ≡ q
+front_of t q x m is e = ap (λ (v : List ℕ). take m v) is ∙ take_at q (x ∷ []) m e
+
 rising_push : (ts : List (List ℕ)) (t : List ℕ) → IsRising ts → ((i : ℕ) → i < length ts → ComesBefore (get_or ts i []) t) → IsRising (ts ++ t ∷ [])
 rising_push ts t up low i j h k =
     let n : length (ts ++ t ∷ []) ≡ length ts + 1 = length_push ts t in
@@ -241,7 +245,7 @@ module _ (riders : ℕ) (Serves : List ℕ → Type 0) (Costs : List ℕ → ℕ
           | inr ge ↦ inr (let same : j + 1 ≡ at.0 = omega arith in subst (λ (v : ℕ). get_or ts v [] ≡ q ++ d ∷ []) (sym same) at.2)
         ] in
         let w = squeeze q (get_or ts (j + 1) []) x d (omega (arith, b.sizes (j + 1) room)) first upto in
-        stop room (ap (λ (v : List ℕ). take m v) w.1 ∙ take_at q (w.0 ∷ []) m e)
+        stop room (front_of (get_or ts (j + 1) []) q w.0 m w.1 e)
 
     -- after the last sibling no trip of this row can be served
     pub closed : (i : ℕ) (q : List ℕ) (a j x : ℕ) (rows : List TripOf) → length q ≡ m → i ≤ j → j < length ts

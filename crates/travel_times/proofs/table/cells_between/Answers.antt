@@ -1,0 +1,21 @@
+use Rattle.std.proofs.Common.{◌≡◌, ℕ, ◌+◌, ◌*◌, ◌<◌, List, ◌++◌, length, slice_index, take, drop, ap, sym, ◌∙◌, subst, arith}
+use Rattle.std.proofs.lemmas.List.{take_at, length-replicate}
+use Rattle.pool_base.specs.TravelTime.{never}
+use Rattle.travel_times.specs.work.Table.{AreRows}
+use Rattle.travel_times.proofs.Pieces.{rows_of_written}
+use Rattle.travel_times.proofs.table.cells_between.Goals as goal
+
+pub returns : goal.returns
+returns g c =
+    let arcs = c.args.network.now.arcs in
+    let points = c.args.points.now in
+    let n = length points in
+    let new = c.write_pieces.new.cells in
+    let items = c.in_ok-cells.cells.items in
+    let held = c.in_ok-cells.cells.ok.0 in
+    let made = ap length c.in_ok-cells.ensures ∙ length-replicate (n * n) never in
+    let size = c.write_pieces.ensures.size in
+    let same : take c.in_ok-cells.cells.len (new ++ drop (length new) items) ≡ new = take_at new (drop (length new) items) c.in_ok-cells.cells.len (omega arith) in
+    let read = c.deref.ensures.value ∙ same in
+    let all = subst (λ xs. (i : ℕ) → i < n → slice_index xs (i * n + i) ≡ never → ⊥) read (c.are_computed.ensures c.if-not-are_computed.false) in
+    subst (λ xs. AreRows arcs points 0 n xs) (sym same) (rows_of_written arcs points new c.write_pieces.ensures all)
