@@ -15,15 +15,15 @@ read_level tau settled sizes k at levels lists all lt same is =
 
 pub returns-then-first-room : goal.returns-then-first-room
 returns-then-first-room c =
-    let tau = travel_time c.args.times.now in
-    let settled = c.args.settled.now in
+    let tau = travel_time c.args.growth.now.times.now in
+    let settled = c.args.growth.now.settled.now in
     let first = c.in_ok-first.ensures in
     step.more_of_first tau settled c.args.most c.args.room c.in_ok-first.first.lists.items c.requires.most first.level (let a = c.if-first-room.true in let b = first.total in omega arith)
 
 pub loop-size-init : goal.loop-size-init
 loop-size-init c =
-    let tau = travel_time c.args.times.now in
-    let settled = c.args.settled.now in
+    let tau = travel_time c.args.growth.now.times.now in
+    let settled = c.args.growth.now.settled.now in
     let lists = c.in_ok-first.first.lists.items in
     let first = c.in_ok-first.ensures in
     let fits = c.if-first-room.false in
@@ -36,13 +36,13 @@ loop-size-init c =
 
 pub next_level-requires-clause-below : goal.next_level-requires-clause-below
 next_level-requires-clause-below c =
-    rw c.as_slice-below.ensures (read_level (travel_time c.args.times.now) c.args.settled.now (c.loop-size.size + 1) c.loop-size.size c.from-in-loop-size.result c.loop-size.levels.items c.index.result.now
+    rw c.as_slice-below.ensures (read_level (travel_time c.args.growth.now.times.now) c.args.growth.now.settled.now (c.loop-size.size + 1) c.loop-size.size c.from-in-loop-size.result c.loop-size.levels.items c.index.result.now
     c.loop-size.invariant.levels (omega arith) c.from-in-loop-size.ensures c.index.ensures)
 
 pub returns-in_default : goal.returns-in_default
 returns-in_default c =
-    let tau = travel_time c.args.times.now in
-    let settled = c.args.settled.now in
+    let tau = travel_time c.args.growth.now.times.now in
+    let settled = c.args.growth.now.settled.now in
     let inv = c.loop-size.invariant in
     let more = rw c.in_default.is at c.in_ok-next.ensures in
     step.more_of_next tau settled c.args.most c.args.room (c.args.room - c.loop-size.total) (c.loop-size.size + 1) c.loop-size.levels.items c.requires.most inv.levels more
@@ -50,8 +50,8 @@ returns-in_default c =
 
 pub loop-size-preserved : goal.loop-size-preserved
 loop-size-preserved c =
-    let tau = travel_time c.args.times.now in
-    let settled = c.args.settled.now in
+    let tau = travel_time c.args.growth.now.times.now in
+    let settled = c.args.growth.now.settled.now in
     let inv = c.loop-size.invariant in
     let levels = c.loop-size.levels.items in
     let lists = c.in-Some.next.lists.items in

@@ -6,8 +6,8 @@ use Rattle.trip_graph.proofs.levels.first_level.Goals as goal
 
 pub loop-vehicle-preserved : goal.loop-vehicle-preserved
 loop-vehicle-preserved c =
-    let tau = travel_time c.args.times.now in
-    let settled = c.args.settled.now in
+    let tau = travel_time c.args.growth.now.times.now in
+    let settled = c.args.growth.now.settled.now in
     let inv = c.loop-vehicle.invariant in
     let lists = c.loop-vehicle.lists.items in
     let trips = c.in_ok-trips.trips in
@@ -22,8 +22,8 @@ loop-vehicle-preserved c =
 
 pub returns-clause-level : goal.returns-clause-level
 returns-clause-level c =
-    let tau = travel_time c.args.times.now in
-    let settled = c.args.settled.now in
+    let tau = travel_time c.args.growth.now.times.now in
+    let settled = c.args.growth.now.settled.now in
     let count = ap length c.as_slice-count.ensures in
     let end = c.loop-vehicle.auto.vehicle-end in
     let stop = c.loop-vehicle-test.false in

@@ -19,15 +19,15 @@ read_below tau settled size count v lists rows level lt is =
 pub level_piece-requires-clause-below : goal.level_piece-requires-clause-below
 level_piece-requires-clause-below c =
     let total = c.requires.below.total in
-    let lt : c.loop-vehicle.vehicle < length c.args.settled.now.vehicles =
+    let lt : c.loop-vehicle.vehicle < length c.args.growth.now.settled.now.vehicles =
     (let a = c.loop-vehicle-test.true in let b = c.min.ensures in let f = c.loop-vehicle.auto.vehicle in let g = c.requires.next in let h = c.len-from.ensures in omega arith) in
-    read_below (travel_time c.args.times.now) c.args.settled.now c.args.size (length c.args.settled.now.vehicles) c.loop-vehicle.vehicle c.args.below.now c.index-below-vehicle.result
+    read_below (travel_time c.args.growth.now.times.now) c.args.growth.now.settled.now c.args.size (length c.args.growth.now.settled.now.vehicles) c.loop-vehicle.vehicle c.args.below.now c.index-below-vehicle.result
     c.requires.below lt c.index-below-vehicle.is
 
 pub returns-in_default : goal.returns-in_default
 returns-in_default c =
-    let tau = travel_time c.args.times.now in
-    let settled = c.args.settled.now in
+    let tau = travel_time c.args.growth.now.times.now in
+    let settled = c.args.growth.now.settled.now in
     let inv = c.loop-vehicle.invariant in
     let total = c.requires.below.total in
     let lt : c.loop-vehicle.vehicle < length settled.vehicles =
@@ -38,8 +38,8 @@ returns-in_default c =
 
 pub returns-then-more-room : goal.returns-then-more-room
 returns-then-more-room c =
-    let tau = travel_time c.args.times.now in
-    let settled = c.args.settled.now in
+    let tau = travel_time c.args.growth.now.times.now in
+    let settled = c.args.growth.now.settled.now in
     let inv = c.loop-vehicle.invariant in
     let total = c.requires.below.total in
     let trips = c.in-All.trips in
@@ -53,8 +53,8 @@ returns-then-more-room c =
 
 pub loop-vehicle-preserved : goal.loop-vehicle-preserved
 loop-vehicle-preserved c =
-    let tau = travel_time c.args.times.now in
-    let settled = c.args.settled.now in
+    let tau = travel_time c.args.growth.now.times.now in
+    let settled = c.args.growth.now.settled.now in
     let inv = c.loop-vehicle.invariant in
     let lists = c.loop-vehicle.lists.items in
     let trips = c.in-All.trips in
