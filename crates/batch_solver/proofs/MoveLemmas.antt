@@ -5,7 +5,8 @@ use Rattle.std.proofs.lemmas.List.{length-map}
 use Rattle.std.proofs.lemmas.List.Elements.{All-nil, All-map}
 use Rattle.rebalancing.specs.Matching.{IsMatching, IsBestMatching}
 use Rattle.request_book.specs.declared.outcome.MoveLine.{MoveLine}
-use Rattle.stop_orders.specs.Settled.{IsSound, IsTrip, vehicle_at, rider_at}
+use Rattle.stop_orders.specs.Settled.{IsTrip, vehicle_at, rider_at}
+use Rattle.stop_orders.specs.Sound.{IsSound}
 use Rattle.stop_orders.specs.Task.{no_leg}
 use Rattle.stop_orders.specs.declared.settled.Settled.{Settled}
 use Rattle.batch_solver.specs.Moves.{AreMoves, HasPlaces, move_line, starts_of, origins_of}

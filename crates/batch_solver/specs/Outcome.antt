@@ -19,8 +19,7 @@ use Rattle.rider_limits.specs.declared.settings.Settings.{Settings}
 use Rattle.road_network.specs.Roads.{Roads, index_in}
 use Rattle.stop_orders.specs.declared.settled.Settled.{Settled}
 use Rattle.travel_times.specs.Table.{AreTravelTimes}
-use Rattle.trip_graph.specs.Answer.{IsTripGraphOf}
-use Rattle.trip_graph.specs.Levels.{HasMoreRows}
+use Rattle.trip_graph.specs.Answer.{IsTripGraphOf, HasMoreRows}
 use Rattle.batch_solver.specs.Told.{rv_line, rr_line, row_line, lapsed_ids, left_riders, left_ids}
 use Rattle.batch_solver.specs.Trips.{AreTrips, AreLate}
 use Rattle.batch_solver.specs.Moves.{AreMoves, idle_vehicles}

@@ -6,7 +6,7 @@ ghost use Rattle.pair_graph.specs.RvGraph.{IsRvGraph};
 ghost use Rattle.plan_rules.specs.Graph.{IsGoodGraph};
 ghost use Rattle.plan_rules.specs.Plan.{IsBound};
 ghost use Rattle.pool_base.specs.Times.{point_count, travel_time};
-ghost use Rattle.stop_orders.specs.Settled.{IsSound};
+ghost use Rattle.stop_orders.specs.Sound.{IsSound};
 ghost use Rattle.trip_graph.specs.Answer.{IsTripGraphOf};
 ghost use Rattle.batch_solver.specs.Outcome.{IsGoodAnswer, IsGoodOutcome, IsGoodPlan};
 

@@ -11,7 +11,8 @@ use Rattle.stop_orders.specs.declared.settled_rider.SettledRider.{SettledRider}
 use Rattle.stop_orders.specs.declared.settled_vehicle.SettledVehicle.{SettledVehicle}
 use Rattle.stop_orders.specs.Settled.{no_rider, no_vehicle, IsTrip}
 use Rattle.promise_check.specs.Requests.{request_at, no_request}
-use Rattle.promise_check.specs.Promised.{kept_rider, is_promised_to, promised_to, AreKept, IsHeld}
+use Rattle.promise_check.specs.Promised.{is_promised_to, promised_to}
+use Rattle.promise_check.specs.work.Promised.{kept_rider, AreKept, IsHeld}
 
 range_more : (n : ℕ) → range_with_len 0 (n + 1) ≡ range_with_len 0 n ++ n ∷ []
 range_more n =

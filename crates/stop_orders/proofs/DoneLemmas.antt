@@ -6,7 +6,8 @@ use Rattle.std.specs.Int.{bit_at}
 use Rattle.stop_orders.specs.declared.stop.Stop.{Stop}
 use Rattle.stop_orders.specs.declared.stop.Stop.TheVariants.{Pick, Drop, Alight}
 use Rattle.stop_orders.specs.Order.{is_of_rider, is_of_passenger, IsOrder}
-use Rattle.stop_orders.specs.Done.{has, with_bit, with_stop, left_of_rider, left_of_passenger, Completes, IsNext, IsAllDone, sum_below, left_count}
+use Rattle.stop_orders.specs.Done.{has, with_bit, with_stop, IsNextStop, IsAllDone}
+use Rattle.stop_orders.specs.work.Rest.{left_of_rider, left_of_passenger, Completes, sum_below, left_count}
 
 -- nothing is in the empty set
 pub has-none : (k : ℕ) → has 0 k ≡ false
@@ -59,7 +60,7 @@ alight_left false j rest e = (refl, cc)
 
 module _ (riders passengers done : ℕ) (few : riders ≤ 6) where
   -- what may stand in front of a rest, and what the rest then completes
-  pub Completes-front : (s : Stop) (rest : List Stop) → Completes riders passengers done (s ∷ rest) → IsNext riders passengers done s × Completes riders passengers (with_stop done s) rest
+  pub Completes-front : (s : Stop) (rest : List Stop) → Completes riders passengers done (s ∷ rest) → IsNextStop riders passengers done s × Completes riders passengers (with_stop done s) rest
   Completes-front (Pick i) rest c =
       let own = pick_left (has done i) (has done (6 + i)) i (filter (is_of_rider i) rest) (sym (filter_takes (is_of_rider i) (Pick i) rest (same i)) ∙ c.rides i c.known.0) in
       let below : i < riders = c.known.0 in (
@@ -107,7 +108,7 @@ module _ (riders passengers done : ℕ) (few : riders ≤ 6) where
       )
 
   -- a stop that may come next in front of a rest that completes what is done with it
-  pub Completes-back : (s : Stop) (rest : List Stop) → IsNext riders passengers done s → Completes riders passengers (with_stop done s) rest → Completes riders passengers done (s ∷ rest)
+  pub Completes-back : (s : Stop) (rest : List Stop) → IsNextStop riders passengers done s → Completes riders passengers (with_stop done s) rest → Completes riders passengers done (s ∷ rest)
   Completes-back (Pick i) rest next c = record {
     rides = λ k h. elim (cases_eq i k) [
       | inl e ↦ subst (λ n. filter (is_of_rider n) (Pick i ∷ rest) ≡ left_of_rider (has done n) (has done (6 + n)) n) e
@@ -210,7 +211,7 @@ sum_below-most f most (suc n) h =
     omega (arith, rest, last)
 
 -- a stop that is done is one less to do
-pub left_count-falls : (riders passengers done : ℕ) → riders ≤ 6 → (s : Stop) → IsNext riders passengers done s → left_count riders passengers (with_stop done s) + 1 ≤ left_count riders passengers done
+pub left_count-falls : (riders passengers done : ℕ) → riders ≤ 6 → (s : Stop) → IsNextStop riders passengers done s → left_count riders passengers (with_stop done s) + 1 ≤ left_count riders passengers done
 unfolding left_count
 left_count-falls riders passengers done few (Pick i) next =
     let here : length (left_of_rider (has (with_bit done i) i) (has (with_bit done i) (6 + i)) i) + 1 ≤ length (left_of_rider (has done i) (has done (6 + i)) i) =

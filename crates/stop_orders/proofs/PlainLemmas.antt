@@ -8,8 +8,9 @@ use Rattle.stop_orders.specs.declared.stop.Stop.TheVariants.{Pick, Drop, Alight}
 use Rattle.stop_orders.specs.declared.visit.Visit.{Visit}
 use Rattle.stop_orders.specs.Visit.{place_of, room_after, Reaches, ServesFrom}
 use Rattle.stop_orders.specs.Task.{IsOrderOf, Serves, ReachesAll, order_delay, free_seats, visits_of}
-use Rattle.stop_orders.specs.Done.{stop_with, bit_of, with_stop, Completes, IsNext, IsAllDone}
-use Rattle.stop_orders.specs.Plain.{NoneBetter, StaysGood, MakesOrders, AllTried}
+use Rattle.stop_orders.specs.Done.{bit_of, with_stop, IsNextStop, IsAllDone}
+use Rattle.stop_orders.specs.work.Rest.{stop_with, Completes}
+use Rattle.stop_orders.specs.work.Plain.{NoneBetter, StaysGood, MakesOrders, AllTried}
 use Rattle.stop_orders.proofs.DoneLemmas.{Completes-front, Completes-back, Completes-nil, IsAllDone-from_nil, IsOrder-from_none}
 
 -- what serves reaches all its places
@@ -21,7 +22,7 @@ pub ReachesAll-from_serves : (tau : ℕ → ℕ → ℕ) (task : Task) (stops : 
 ReachesAll-from_serves tau task stops s = Reaches-from_serves tau task.dwell task.start task.ready (free_seats task) (visits_of task stops) s.in_time
 
 -- where all are dropped no stop may come next
-pub none_next : (riders passengers done : ℕ) → IsAllDone riders passengers done → (s : Stop) → IsNext riders passengers done s → ⊥
+pub none_next : (riders passengers done : ℕ) → IsAllDone riders passengers done → (s : Stop) → IsNextStop riders passengers done s → ⊥
 none_next riders passengers done all (Pick i) next = false≢true (sym next.2 ∙ all.riders_out i next.0)
 none_next riders passengers done all (Drop i) next = false≢true (sym next.2 ∙ all.riders_out i next.0)
 none_next riders passengers done all (Alight j) next = false≢true (sym next.1 ∙ all.passengers_out j next.0)
@@ -32,7 +33,7 @@ rest_of_all riders passengers done few all [] c = refl
 rest_of_all riders passengers done few all (s ∷ rest) c = absurd (none_next riders passengers done all s (Completes-front riders passengers done few s rest c).0)
 
 -- a stop that may come next is the one with its bit
-pub stop_with-bit_of : (riders passengers done : ℕ) → riders ≤ 6 → passengers ≤ 10 → (s : Stop) → IsNext riders passengers done s → (stop_with (bit_of s) ≡ s) × (bit_of s < 22)
+pub stop_with-bit_of : (riders passengers done : ℕ) → riders ≤ 6 → passengers ≤ 10 → (s : Stop) → IsNextStop riders passengers done s → (stop_with (bit_of s) ≡ s) × (bit_of s < 22)
 stop_with-bit_of riders passengers done few seated (Pick i) next = (rw (lt-ltb i 6 (omega (arith, next.0))) refl, omega (arith, next.0))
 stop_with-bit_of riders passengers done few seated (Drop i) next =
     let e : 6 + i - 6 ≡ i = omega arith in
@@ -46,7 +47,7 @@ append_one path s rest = append_assoc path (s ∷ []) rest
 
 module _ (task : Task) (few : length task.riders.items ≤ 6) where
   -- a stop that may come next is one more of an order
-  pub MakesOrders-next : (done : ℕ) (path : List Stop) (s : Stop) → IsNext (length task.riders.items) (length task.aboard.items) done s → MakesOrders task done path → MakesOrders task (with_stop done s) (path ++ s ∷ [])
+  pub MakesOrders-next : (done : ℕ) (path : List Stop) (s : Stop) → IsNextStop (length task.riders.items) (length task.aboard.items) done s → MakesOrders task done path → MakesOrders task (with_stop done s) (path ++ s ∷ [])
   MakesOrders-next done path s next makes = λ rest c.
       subst (λ stops. IsOrderOf task stops) (sym (append_one path s rest)) (makes (s ∷ rest) (Completes-back (length task.riders.items) (length task.aboard.items) done few s rest next c))
 
@@ -66,7 +67,7 @@ module _ (task : Task) (few : length task.riders.items ≤ 6) where
 
   -- all is tried where each next stop is
   pub AllTried-next : (tau : ℕ → ℕ → ℕ) (done : ℕ) (path : List Stop) (best : Option Route) → (IsAllDone (length task.riders.items) (length task.aboard.items) done → ⊥)
-      → ((s : Stop) → IsNext (length task.riders.items) (length task.aboard.items) done s → AllTried tau task (with_stop done s) (path ++ s ∷ []) best) → AllTried tau task done path best
+      → ((s : Stop) → IsNextStop (length task.riders.items) (length task.aboard.items) done s → AllTried tau task (with_stop done s) (path ++ s ∷ []) best) → AllTried tau task done path best
   AllTried-next tau done path best more each [] c serves = absurd (more (IsAllDone-from_nil (length task.riders.items) (length task.aboard.items) done c))
   AllTried-next tau done path best more each (s ∷ rest) c serves =
       let front = Completes-front (length task.riders.items) (length task.aboard.items) done few s rest c in
@@ -77,11 +78,11 @@ pub MakesOrders-none : (task : Task) → MakesOrders task 0 []
 MakesOrders-none task = λ rest c. IsOrder-from_none (length task.riders.items) (length task.aboard.items) rest c
 
 -- the same at the numbers of the task
-pub IsNext-at : (n m riders passengers done : ℕ) (s : Stop) → n ≡ riders → m ≡ passengers → IsNext n m done s → IsNext riders passengers done s
-IsNext-at n m riders passengers done s e f next = subst (λ k. IsNext riders k done s) f (subst (λ k. IsNext k m done s) e next)
+pub IsNextStop-at : (n m riders passengers done : ℕ) (s : Stop) → n ≡ riders → m ≡ passengers → IsNextStop n m done s → IsNextStop riders passengers done s
+IsNextStop-at n m riders passengers done s e f next = subst (λ k. IsNextStop riders k done s) f (subst (λ k. IsNextStop k m done s) e next)
 
-pub IsNext-not_at : (b : Bool) (n m riders passengers done : ℕ) (s : Stop) → n ≡ riders → m ≡ passengers → ((b ≡ true → IsNext n m done s) × (IsNext n m done s → b ≡ true)) → b ≡ false → IsNext riders passengers done s → ⊥
-IsNext-not_at b n m riders passengers done s e f says is_not next = false≢true (sym is_not ∙ says.1 (IsNext-at riders passengers n m done s (sym e) (sym f) next))
+pub IsNextStop-not_at : (b : Bool) (n m riders passengers done : ℕ) (s : Stop) → n ≡ riders → m ≡ passengers → ((b ≡ true → IsNextStop n m done s) × (IsNextStop n m done s → b ≡ true)) → b ≡ false → IsNextStop riders passengers done s → ⊥
+IsNextStop-not_at b n m riders passengers done s e f says is_not next = false≢true (sym is_not ∙ says.1 (IsNextStop-at riders passengers n m done s (sym e) (sym f) next))
 
 pub IsAllDone-at : (n m riders passengers done : ℕ) → n ≡ riders → m ≡ passengers → IsAllDone n m done → IsAllDone riders passengers done
 IsAllDone-at n m riders passengers done e f all = subst (λ k. IsAllDone riders k done) f (subst (λ k. IsAllDone k m done) e all)

@@ -7,7 +7,7 @@ use Rattle.stop_orders.specs.declared.position.Position.{Position}
 use Rattle.stop_orders.specs.Order.{IsKnown}
 use Rattle.stop_orders.specs.Visit.{place_of, lateness, Reaches, delay_from, seconds_from}
 use Rattle.stop_orders.specs.Task.{IsTask, IsOrderOf, Serves, visit_at, visits_of, ReachesAll, order_delay, seconds_of}
-use Rattle.stop_orders.specs.Position.{first_position, position_after, CanServe, ServesAt}
+use Rattle.stop_orders.specs.work.Position.{first_position, position_after, CanVisitFrom, ServesAt}
 use Rattle.stop_orders.proofs.DoneLemmas.{length-IsOrder}
 use Rattle.stop_orders.proofs.VisitLemmas.{visit_place, visit_latest, visit_party}
 
@@ -41,7 +41,7 @@ module _ (points : ℕ) (tau : ℕ → ℕ → ℕ) (task : Task) (stops : List 
         from = λ s. record { order = order; in_time = s };
       })
 
-  pub serving_next : (s : Stop) (rest : List Stop) (p q : Position) → ServingScan points tau task stops (s ∷ rest) p → CanServe tau p (visit_at task s) → q ≡ position_after tau task.dwell p (visit_at task s)
+  pub serving_next : (s : Stop) (rest : List Stop) (p q : Position) → ServingScan points tau task stops (s ∷ rest) p → CanVisitFrom tau p (visit_at task s) → q ≡ position_after tau task.dwell p (visit_at task s)
       → ServingScan points tau task stops rest q
   serving_next s rest p q scan can e =
       let latest = visit_latest points task valid s scan.known.0 in
@@ -56,7 +56,7 @@ module _ (points : ℕ) (tau : ℕ → ℕ → ℕ) (task : Task) (stops : List 
         from = λ serves. scan.from (can.0, can.1, can.2, serves);
       })
 
-  pub serving_stuck : (s : Stop) (rest : List Stop) (p : Position) → ServingScan points tau task stops (s ∷ rest) p → (CanServe tau p (visit_at task s) → ⊥) → Serves tau task stops → ⊥
+  pub serving_stuck : (s : Stop) (rest : List Stop) (p : Position) → ServingScan points tau task stops (s ∷ rest) p → (CanVisitFrom tau p (visit_at task s) → ⊥) → Serves tau task stops → ⊥
   serving_stuck s rest p scan stuck serves =
       let here = scan.to serves in
       stuck (here.0, here.1, here.2)

@@ -8,7 +8,8 @@ use Rattle.std.proofs.lemmas.Option.{none-some, same_Some}
 use Rattle.pool_base.specs.TravelTime.{IsTravelTime}
 use Rattle.stop_orders.specs.declared.settled.Settled.{Settled}
 use Rattle.stop_orders.specs.Task.{IsServable}
-use Rattle.stop_orders.specs.Settled.{IsTrip, IsSound, trip_task, vehicle_at}
+use Rattle.stop_orders.specs.Settled.{IsTrip, trip_task, vehicle_at}
+use Rattle.stop_orders.specs.Sound.{IsSound}
 use Rattle.stop_orders.proofs.TripLemmas.{sub_trip_servable, delay_small}
 use Rattle.plan_rules.specs.declared.row.TripRow.{TripRow}
 use Rattle.plan_rules.specs.declared.fault.GraphFault.{GraphFault}
@@ -17,7 +18,8 @@ use Rattle.plan_rules.specs.Graph.{Graph, no_row, choice_at, riders_at, has_ride
 use Rattle.plan_rules.specs.GraphFault.{HasGoodRows, HasRowsInOrder, HasHeldRows, IsFaultOf}
 use Rattle.plan_rules.proofs.GraphLemmas.{tail_rises, times_served_found, in_choice}
 use Rattle.plan_rules.proofs.HeldLemmas.{holds_at}
-use Rattle.trip_graph.specs.Answer.{IsRowWith, AreRowsOf, HoldRows}
+use Rattle.trip_graph.specs.Answer.{IsRowWith, HoldRows}
+use Rattle.trip_graph.specs.work.Levels.{AreRowsUpTo}
 use Rattle.trip_graph.proofs.RowOrder.{AreInOrder}
 
 contains_of : (xs : List ℕ) (r : ℕ) → list_any (λ x. x == r) xs ≡ true → Contains xs r
@@ -41,16 +43,16 @@ module _ (most points : ℕ) (tau : ℕ → ℕ → ℕ) (settled : Settled) (fe
       (sub_trip_servable most points tau settled travel sound v less (r ∷ rs) riders short 0 (omega arith) served)
 
   module _ (g : Graph) (vehicles : g.vehicles ≡ length settled.vehicles) (riders : g.riders ≡ length settled.riders)
-      (exact : AreRowsOf most tau settled (length settled.vehicles) g.rows) (hold : HoldRows settled (length settled.vehicles) g.rows g.held) where
+      (exact : AreRowsUpTo most tau settled (length settled.vehicles) g.rows) (hold : HoldRows settled (length settled.vehicles) g.rows g.held) where
     good_rows : HasGoodRows g
     good_rows k lt =
         let row = exact.right k lt in
-        let size = row.size in
-        let small = delay_small most points tau settled (get_or g.rows k no_row).vehicle (get_or g.rows k no_row).riders.items row.costs.stops sound row.vehicle row.riders (omega arith) row.costs.serves in
-        let cost = row.costs.has_delay in
+        let size = row.served.size in
+        let small = delay_small most points tau settled (get_or g.rows k no_row).vehicle (get_or g.rows k no_row).riders.items row.least.stops sound row.served.vehicle row.served.riders (omega arith) row.least.serves in
+        let cost = row.least.has_delay in
         record {
-          vehicle = (let b = row.vehicle in omega arith);
-          members = record { below = λ i l. (let b = row.riders.within i 0 l in omega arith); rising = row.riders.rising };
+          vehicle = (let b = row.served.vehicle in omega arith);
+          members = record { below = λ i l. (let b = row.served.riders.within i 0 l in omega arith); rising = row.served.riders.rising };
           few = omega arith;
           cheap = omega arith;
         }
@@ -81,9 +83,9 @@ module _ (most points : ℕ) (tau : ℕ → ℕ → ℕ) (settled : Settled) (fe
     holds_by v less true unserved none =
         holds_at g v None none (λ k own.
         let row = exact.right k own.within in
-        let size = row.size in
-        let served = subst (λ (w : ℕ). IsServable tau (trip_task settled w (riders_at g k))) own.own (row.costs.stops, row.costs.serves) in
-        unserved (alone_served v (riders_at g k) less row.riders (omega arith) served))
+        let size = row.served.size in
+        let served = subst (λ (w : ℕ). IsServable tau (trip_task settled w (riders_at g k))) own.own row.served.servable in
+        unserved (alone_served v (riders_at g k) less row.served.riders (omega arith) served))
     holds_by v less false served found =
         holds_at g v (Some found.0) found.1 (record { within = found.2.within; own = found.2.own }, none_earlier v found.0 less found.2)
 
@@ -103,7 +105,7 @@ only_memory g OutOfMemory rows order held h = refl
 
 -- want of memory alone keeps such a graph from being made
 pub memory_only : (most points : ℕ) (tau : ℕ → ℕ → ℕ) (settled : Settled) → most ≤ 6 → IsTravelTime points tau → IsSound most points tau settled
-    → (g : Graph) → g.vehicles ≡ length settled.vehicles → g.riders ≡ length settled.riders → AreRowsOf most tau settled (length settled.vehicles) g.rows
+    → (g : Graph) → g.vehicles ≡ length settled.vehicles → g.riders ≡ length settled.riders → AreRowsUpTo most tau settled (length settled.vehicles) g.rows
     → HoldRows settled (length settled.vehicles) g.rows g.held → AreInOrder g.rows → (fault : GraphFault) → IsFaultOf g fault → fault ≡ OutOfMemory
 memory_only most points tau settled few travel sound g vehicles riders exact hold order fault h =
     only_memory g fault (good_rows most points tau settled few travel sound g vehicles riders exact hold)

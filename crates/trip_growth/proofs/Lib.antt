@@ -5,3 +5,4 @@ pub mod RowGrowth
 pub mod Rule
 pub mod Joined
 pub mod StepBound
+pub mod AllRows

@@ -6,8 +6,7 @@ use Rattle.std.specs.List.{All, Contains}
 use Rattle.std.proofs.lemmas.Cmp.{ranked}
 use Rattle.std.proofs.lemmas.Bool.{cases_lt}
 use Rattle.std.proofs.lemmas.List.{length-map, get_or_default}
-use Rattle.trip_growth.specs.Trip.{IsLower, IsRising}
-use Rattle.trip_growth.specs.Level.{trips_of}
+use Rattle.trip_growth.specs.Trip.{IsLower, IsRising, trips_of}
 use Rattle.trip_growth.specs.declared.trip_of.TripOf.{TripOf}
 use Rattle.trip_growth.proofs.TripOrder.{lower_irrefl, lower_trans}
 use Rattle.trip_growth.proofs.Levels.{trip_at, same_size}
