@@ -25,7 +25,7 @@ pub struct Register {
 }
 
 impl Register {
-    ghost use Rattle.request_book.specs.Register.{IsIndexed};
+    ghost use Rattle.request_book.specs.work.Register.{IsIndexed};
 
     /// Where a rider stands among the riders.
     pub fn rider_at(&self, rider: RiderId) -> Option<usize>

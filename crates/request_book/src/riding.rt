@@ -5,7 +5,7 @@ ghost use Rattle.std.specs.List.{list_any};
 ghost use Rattle.indexmap.specs.IndexSet.{spare};
 ghost use Rattle.batch_snapshot.specs.Vehicle.{HasSeats};
 ghost use Rattle.request_book.specs.Keyed.{look_up, changed_at, without, placed, KeysRise, KeysDiffer};
-ghost use Rattle.request_book.specs.Register.{state_of, IsIndexed, HasRoom};
+ghost use Rattle.request_book.specs.work.Register.{state_of, IsIndexed, HasRoom};
 ghost use Rattle.request_book.specs.Rider.{is_active};
 ghost use Rattle.request_book.specs.State.{find_rider, find_passenger, pool_count};
 ghost use Rattle.request_book.specs.Consistent.{IsConsistent};

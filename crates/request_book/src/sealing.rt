@@ -3,8 +3,9 @@
 ghost use Rattle.std.specs.Prelude.{◌≡◌, ◌+◌, ◌-◌, ◌^◌, ◌<◌, ◌≤◌, ℕ, min, map, ◌++◌, option_and_then, IfOk, OnOk, OnErr, vec_len, vec_capacity};
 ghost use Rattle.std.specs.List.{filter_map};
 ghost use Rattle.std.specs.Option.{option_to_list};
-ghost use Rattle.request_book.specs.Keyed.{changed_in_turn, KeysDiffer};
-ghost use Rattle.request_book.specs.Register.{state_of, pool_id, IsIndexed, HasRoom};
+ghost use Rattle.request_book.specs.Keyed.{KeysDiffer};
+ghost use Rattle.request_book.specs.work.Keyed.{changed_in_turn};
+ghost use Rattle.request_book.specs.work.Register.{state_of, pool_id, IsIndexed, HasRoom};
 ghost use Rattle.request_book.specs.Rider.{with_status, pool_promise};
 ghost use Rattle.request_book.specs.State.{find_rider};
 ghost use Rattle.request_book.specs.Consistent.{IsConsistent};
