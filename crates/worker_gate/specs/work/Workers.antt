@@ -3,7 +3,7 @@ use Rattle.std.specs.Prelude.{◌≡◌, ℕ, ◌<◌, ◌≤◌, List, [], ◌�
 use Rattle.atomic_table.specs.Seated.{TableId}
 use Rattle.worker_gate.specs.declared.worker.Done.{Done}
 use Rattle.worker_gate.specs.declared.worker.Worker.{Worker}
-use Rattle.worker_gate.specs.Claims.{draws, at, past}
+use Rattle.worker_gate.specs.work.Claims.{draws, at, past}
 
 module _ {O : Type 0} where
   -- the worker has a seat of this table, and has drawn nothing
