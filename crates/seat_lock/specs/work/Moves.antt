@@ -7,8 +7,8 @@ use Rattle.seat_lock.specs.declared.view.Claim.{Claim}
 use Rattle.seat_lock.specs.declared.view.Stage.{Stage}
 use Rattle.seat_lock.specs.declared.view.Stage.TheVariants.{Idle, Waiting, InTurn}
 use Rattle.seat_lock.specs.Values.{calls_of}
-use Rattle.seat_lock.specs.Views.{with_stage, in_turn, lane_view}
-use Rattle.seat_lock.specs.Rule.{Sound, Claimed}
+use Rattle.seat_lock.specs.work.Views.{with_stage, in_turn, lane_view}
+use Rattle.seat_lock.specs.work.Rule.{Sound, Claimed}
 
 -- the entries that the log of b has gained since the start
 abbrev pub since : {B C R : Type 0} → (B → List (Entry C R)) → B → B → List (Entry C R)

@@ -7,8 +7,8 @@ use Rattle.seat_lock.specs.declared.view.View.{View}
 use Rattle.seat_lock.specs.declared.view.Claim.{Claim}
 use Rattle.seat_lock.specs.declared.view.Stage.TheVariants.{Idle}
 use Rattle.seat_lock.specs.Values.{PassValue}
-use Rattle.seat_lock.specs.Views.{claim}
-use Rattle.seat_lock.specs.Rule.{Claimed, Laned}
+use Rattle.seat_lock.specs.work.Views.{claim}
+use Rattle.seat_lock.specs.work.Rule.{Claimed, Laned}
 
 module _ {B C R : Type 0} where
   -- a pass that has made no call

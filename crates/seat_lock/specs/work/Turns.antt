@@ -5,8 +5,8 @@ use Rattle.atomic_table.specs.declared.shared.Seat.{Seat}
 use Rattle.seat_lock.specs.declared.logged.Entry.{Entry}
 use Rattle.seat_lock.specs.declared.view.View.{View}
 use Rattle.seat_lock.specs.declared.view.Stage.TheVariants.{Idle, InTurn}
-use Rattle.seat_lock.specs.Views.{lane_view}
-use Rattle.seat_lock.specs.Rule.{Sound}
+use Rattle.seat_lock.specs.work.Views.{lane_view}
+use Rattle.seat_lock.specs.work.Rule.{Sound}
 use Rattle.std.specs.Prelude.{Option}
 
 module _ {B C R : Type 0} where
