@@ -4,6 +4,7 @@ use Rattle.std.specs.Prelude.{All, option_map, slice_index_or}
 use Rattle.std.specs.List.{enumerate_from}
 use Rattle.std.proofs.lemmas.Bool.{cases_eq, cases_lt, eq-eqb, eqb-true, eqb-false, true≢false, false≢true}
 use Rattle.batch_snapshot.specs.Batch.{Batch}
+use Rattle.batch_solver.specs.Outcome.{IsGoodOutcome}
 use Rattle.request_book.specs.Book.{BookView, IsBook, batch_unless}
 use Rattle.request_book.specs.Closing.{closed_state}
 use Rattle.request_book.specs.Refusals.{first_of, unknown_node, unknown_rider, is_aboard, has_ended, unknown_vehicle, time_back, not_promised, vehicle_full, not_aboard, not_this_batch}
@@ -15,58 +16,68 @@ use Rattle.request_book.specs.declared.command.Command.{Command}
 use Rattle.request_book.specs.declared.command.Command.TheVariants.{Submit, Cancel, Report, Pickup, Dropoff, Seal, Close}
 use Rattle.request_book.specs.declared.journal.Entry.{Entry}
 use Rattle.request_book.specs.declared.outcome.Answer.{Answer}
-use Rattle.request_book.specs.declared.outcome.Outcome.{Outcome}
 use Rattle.request_book.specs.declared.reply.BookRefusal.{BookRefusal}
 use Rattle.request_book.specs.declared.reply.Reply.{Reply}
 use Rattle.request_book.specs.declared.reply.Reply.TheVariants.{Accepted, Cancelled, Placed, Picked, Dropped, Sealed, Closed, Refused}
 use Rattle.request_book.specs.declared.rider.BookRider.{BookRider}
 use Rattle.request_book.specs.declared.rider.Status.TheVariants.{Waiting, Cancelled as GivenUp}
 use Rattle.request_book.specs.declared.state.State.{State}
+use Rattle.rider_limits.specs.declared.settings.Settings.{Settings}
+use Rattle.road_network.specs.Roads.{Roads}
 use Rattle.seat_lock.specs.Values.{calls_of}
 use Rattle.seat_lock.specs.declared.logged.Entry.{Entry as Logged}
 use Rattle.shared_book.specs.declared.locked.LockedReply.{LockedReply}
-use Rattle.shared_book.specs.Locked.{calls_from, call_of, entry_of, snapshot_after}
+use Rattle.shared_book.specs.Locked.{calls_from, call_of, entry_of, sealed_by, snapshot_after}
 use Rattle.shared_book.specs.Shared.{BookPass, IsFinished}
-use Rattle.shared_book.specs.Lanes.{of_lane, calls_of_lane, calls_of_pass, IsPlain, ArePlain, sealed_by, IsCloseOf, IsLaneRunFrom, IsLaneRun, last_sealed, IsGoodFor, LaneClosesAreGood, IsGoodClose, ClosesAreGood, HaveRun, IsJointRun}
-use Rattle.shared_book.proofs.FinishLemmas.{calls-entries}
+use Rattle.dispatch_engine.specs.Lane.{of_lane, IsCloseOf, IsLaneRunFrom, IsLaneRun, last_sealed, IsGoodFor, LaneClosesAreGood, IsGoodClose, ClosesAreGood}
+use Rattle.dispatch_engine.specs.Run.{IsReady}
+use Rattle.dispatch_engine.specs.work.Lanes.{calls_of_lane, calls_of_pass, IsPlain, ArePlain, HaveRun, IsJointRun}
 
--- what a plain command changes
+-- what a plain command leaves as it was
 pub record IsQuiet (s : State) (after : State × Reply) : Type 0 where
   pub sealed : after.0.sealed ≡ s.sealed
+  pub last : after.0.last_seal ≡ s.last_seal
+  pub batches : after.0.batches ≡ s.batches
   pub shown : snapshot_after after.1 after.0 ≡ None
   pub told : sealed_by after.1 ≡ None
 
-answer-quiet : (s next : State) (o : Option BookRefusal) (reply : Reply) → next.sealed ≡ s.sealed → ((t : State) → snapshot_after reply t ≡ None) → sealed_by reply ≡ None → IsQuiet s (answer s o reply next)
-answer-quiet s next None reply same shown told = record { sealed = same; shown = shown next; told = told }
-answer-quiet s next (Some refusal) reply same shown told = record { sealed = refl; shown = refl; told = refl }
+-- only riders and vehicles differ
+record IsOfSameSeals (s next : State) : Type 0 where
+  sealed : next.sealed ≡ s.sealed
+  last : next.last_seal ≡ s.last_seal
+  batches : next.batches ≡ s.batches
 
-picked-sealed : (s : State) (r : Option BookRider) (vehicle time : ℕ) → (picked_up s r vehicle time).sealed ≡ s.sealed
-picked-sealed s None vehicle time = refl
-picked-sealed s (Some r) vehicle time = refl
+answer-quiet : (s next : State) (o : Option BookRefusal) (reply : Reply) → IsOfSameSeals s next → ((t : State) → snapshot_after reply t ≡ None) → sealed_by reply ≡ None → IsQuiet s (answer s o reply next)
+answer-quiet s next None reply same shown told = record { sealed = same.sealed; last = same.last; batches = same.batches; shown = shown next; told = told }
+answer-quiet s next (Some refusal) reply same shown told = record { sealed = refl; last = refl; batches = refl; shown = refl; told = refl }
 
-dropped-sealed : (s : State) (r : Option BookRider) (vehicle time : ℕ) → (dropped_off s r vehicle time).sealed ≡ s.sealed
-dropped-sealed s None vehicle time = refl
-dropped-sealed s (Some r) vehicle time = refl
+picked-seals : (s : State) (r : Option BookRider) (vehicle time : ℕ) → IsOfSameSeals s (picked_up s r vehicle time)
+picked-seals s None vehicle time = record { sealed = refl; last = refl; batches = refl }
+picked-seals s (Some r) vehicle time = record { sealed = refl; last = refl; batches = refl }
+
+dropped-seals : (s : State) (r : Option BookRider) (vehicle time : ℕ) → IsOfSameSeals s (dropped_off s r vehicle time)
+dropped-seals s None vehicle time = record { sealed = refl; last = refl; batches = refl }
+dropped-seals s (Some r) vehicle time = record { sealed = refl; last = refl; batches = refl }
 
 pub plain-quiet : (nodes : List ℕ) (wait : ℕ) (s : State) (command : Command) → IsPlain command → IsQuiet s (step nodes wait s command)
 unfolding step submit_step cancel_step report_step pickup_step dropoff_step
 plain-quiet nodes wait s (Submit rider origin destination time party) plain =
     let r : BookRider = record { id = rider; origin = origin; destination = destination; time = time; party = party; status = Waiting } in
-    answer-quiet s (record s { riders = s.riders ++ r ∷ [] }) (submit_refusal nodes s r) Accepted refl (λ t. refl) refl
+    answer-quiet s (record s { riders = s.riders ++ r ∷ [] }) (submit_refusal nodes s r) Accepted (record { sealed = refl; last = refl; batches = refl }) (λ t. refl) refl
 plain-quiet nodes wait s (Cancel rider) plain =
     let r = find_rider rider s.riders in
-    answer-quiet s (rider_becomes s rider GivenUp) (first_of (unknown_rider r ∷ is_aboard r ∷ has_ended r ∷ [])) Cancelled refl (λ t. refl) refl
+    answer-quiet s (rider_becomes s rider GivenUp) (first_of (unknown_rider r ∷ is_aboard r ∷ has_ended r ∷ [])) Cancelled (record { sealed = refl; last = refl; batches = refl }) (λ t. refl) refl
 plain-quiet nodes wait s (Report vehicle node time) plain =
     let v = find_vehicle vehicle s.vehicles in
-    answer-quiet s (vehicle_becomes s vehicle (stands_at node time)) (first_of (unknown_vehicle v ∷ unknown_node nodes node ∷ time_back v time ∷ [])) Placed refl (λ t. refl) refl
+    answer-quiet s (vehicle_becomes s vehicle (stands_at node time)) (first_of (unknown_vehicle v ∷ unknown_node nodes node ∷ time_back v time ∷ [])) Placed (record { sealed = refl; last = refl; batches = refl }) (λ t. refl) refl
 plain-quiet nodes wait s (Pickup vehicle rider time) plain =
     let v = find_vehicle vehicle s.vehicles in
     let r = find_rider rider s.riders in
-    answer-quiet s (picked_up s r vehicle time) (first_of (unknown_vehicle v ∷ unknown_rider r ∷ is_aboard r ∷ has_ended r ∷ not_promised r vehicle ∷ time_back v time ∷ vehicle_full v r ∷ [])) Picked (picked-sealed s r vehicle time) (λ t. refl) refl
+    answer-quiet s (picked_up s r vehicle time) (first_of (unknown_vehicle v ∷ unknown_rider r ∷ is_aboard r ∷ has_ended r ∷ not_promised r vehicle ∷ time_back v time ∷ vehicle_full v r ∷ [])) Picked (picked-seals s r vehicle time) (λ t. refl) refl
 plain-quiet nodes wait s (Dropoff vehicle rider time) plain =
     let v = find_vehicle vehicle s.vehicles in
     let r = find_rider rider s.riders in
-    answer-quiet s (dropped_off s r vehicle time) (first_of (unknown_vehicle v ∷ unknown_rider r ∷ not_aboard r vehicle ∷ time_back v time ∷ [])) Dropped (dropped-sealed s r vehicle time) (λ t. refl) refl
+    answer-quiet s (dropped_off s r vehicle time) (first_of (unknown_vehicle v ∷ unknown_rider r ∷ not_aboard r vehicle ∷ time_back v time ∷ [])) Dropped (dropped-seals s r vehicle time) (λ t. refl) refl
 plain-quiet nodes wait s (Seal now) plain = absurd plain
 plain-quiet nodes wait s (Close batch outcome) plain = absurd plain
 
@@ -78,7 +89,7 @@ quiet-last : (s : State) (after : State × Reply) (last : Option Batch) → IsQu
 quiet-last s after last quiet is b e = ap (last_sealed last) quiet.shown ∙ is b (sym quiet.sealed ∙ e)
 
 -- the states and batches after a close
-closed-none : (s : State) (outcome : Answer) → (closed_state s outcome).sealed ≡ None
+pub closed-none : (s : State) (outcome : Answer) → (closed_state s outcome).sealed ≡ None
 unfolding closed_state
 closed-none s outcome = by s.sealed refl
   where
@@ -135,8 +146,8 @@ answered : (s next : State) (o : Option BookRefusal) → Closed ≡ (answer s o 
 answered s next None e = refl
 answered s next (Some refusal) e = absurd cc
 
-module _ (nodes : List ℕ) (wait : ℕ) (Good : Batch → Outcome → Type 0) where
-  plain-close : (s : State) (command : Command) (reply : Reply) → IsPlain command → IsGoodClose Good s command reply
+module _ (settings : Settings) (roads : Roads) where
+  plain-close : (s : State) (command : Command) (reply : Reply) → IsPlain command → IsGoodClose settings roads s command reply
   plain-close s (Submit rider origin destination time party) reply plain = tt
   plain-close s (Cancel rider) reply plain = tt
   plain-close s (Report vehicle node time) reply plain = tt
@@ -146,7 +157,7 @@ module _ (nodes : List ℕ) (wait : ℕ) (Good : Batch → Outcome → Type 0) w
   plain-close s (Close batch outcome) reply plain = absurd plain
 
   -- a close of the lane that seals is good for the batch that stands sealed
-  good-close : (s : State) (command : Command) (reply : Reply) (last : Option Batch) → IsLast s last → IsGoodFor Good last command → reply ≡ (step nodes wait s command).1 → IsGoodClose Good s command reply
+  good-close : (s : State) (command : Command) (reply : Reply) (last : Option Batch) → IsLast s last → IsGoodFor settings roads last command → reply ≡ (step roads.nodes settings.wait s command).1 → IsGoodClose settings roads s command reply
   unfolding step close_step
   good-close s (Submit rider origin destination time party) reply last is good e = tt
   good-close s (Cancel rider) reply last is good e = tt
@@ -164,31 +175,31 @@ module _ (nodes : List ℕ) (wait : ℕ) (Good : Batch → Outcome → Type 0) w
   good-close s (Close batch outcome) Closed last is good e =
       let stands = close-refused s.sealed batch (answered s (closed_state s outcome.answer) _ e) in
       let same : good.0 ≡ stands.0 = (let both : Some good.0 ≡ Some stands.0 = sym good.1 ∙ is stands.0 stands.1 in cc) in
-      (stands.0, stands.1, subst (λ (b : Batch). Good b outcome) same good.2)
+      (stands.0, stands.1, subst (λ (b : Batch). IsGoodOutcome settings roads b outcome) same good.2)
 
   -- one entry more
   close-first : (s : State) (last : Option Batch) (e : Entry) (rest : List (Logged Command LockedReply)) (More : Type 0)
-      → IsLast s last → e.reply ≡ (step nodes wait s e.command).1 → IsInZero e
-      → ((l : Option Batch) → IsLast (step nodes wait s e.command).0 l → LaneClosesAreGood Good l rest → More)
+      → IsLast s last → e.reply ≡ (step roads.nodes settings.wait s e.command).1 → IsInZero e
+      → ((l : Option Batch) → IsLast (step roads.nodes settings.wait s e.command).0 l → LaneClosesAreGood settings roads l rest → More)
       → (here : Bool) → eqb e.lane 0 ≡ here
-      → LaneClosesAreGood Good last (cond here (call_of (step nodes wait s e.command).0 e ∷ rest) rest)
-      → IsGoodClose Good s e.command e.reply × More
+      → LaneClosesAreGood settings roads last (cond here (call_of (step roads.nodes settings.wait s e.command).0 e ∷ rest) rest)
+      → IsGoodClose settings roads s e.command e.reply × More
   close-first s last e rest More is reply zeroth more true h good =
-      let next = (step nodes wait s e.command).0 in (
+      let next = (step roads.nodes settings.wait s e.command).0 in (
         good-close s e.command e.reply last is good.0 reply,
-        more (last_sealed last (snapshot_after e.reply next)) (subst (λ (r : Reply). IsLast next (last_sealed last (snapshot_after r next))) (sym reply) (step-last nodes wait s e.command last is)) good.1,
+        more (last_sealed last (snapshot_after e.reply next)) (subst (λ (r : Reply). IsLast next (last_sealed last (snapshot_after r next))) (sym reply) (step-last roads.nodes settings.wait s e.command last is)) good.1,
       )
   close-first s last e rest More is reply zeroth more false h good =
       let plain = zeroth (eqb-false e.lane 0 h) in
-      let quiet = plain-quiet nodes wait s e.command plain in
+      let quiet = plain-quiet roads.nodes settings.wait s e.command plain in
       (plain-close s e.command e.reply plain, more last (λ b f. is b (sym quiet.sealed ∙ f)) good)
 
-  pub closes-join : (s : State) (last : Option Batch) (es : List Entry) → IsLast s last → RepliesAreSteps nodes wait s es → Each IsInZero es → LaneClosesAreGood Good last (calls_of_lane 0 (calls_from nodes wait s es)) → ClosesAreGood Good nodes wait s es
+  pub closes-join : (s : State) (last : Option Batch) (es : List Entry) → IsLast s last → RepliesAreSteps roads.nodes settings.wait s es → Each IsInZero es → LaneClosesAreGood settings roads last (calls_of_lane 0 (calls_from roads.nodes settings.wait s es)) → ClosesAreGood settings roads s es
   unfolding RepliesAreSteps calls_from ClosesAreGood
   closes-join s last [] is replies zeroth good = tt
   closes-join s last (e ∷ es) is replies zeroth good =
-      let next = (step nodes wait s e.command).0 in
-      close-first s last e (calls_of_lane 0 (calls_from nodes wait next es)) (ClosesAreGood Good nodes wait next es) is replies.0 zeroth.0
+      let next = (step roads.nodes settings.wait s e.command).0 in
+      close-first s last e (calls_of_lane 0 (calls_from roads.nodes settings.wait next es)) (ClosesAreGood settings roads next es) is replies.0 zeroth.0
       (λ l here rest. closes-join next l es here replies.1 zeroth.1 rest) (eqb e.lane 0) refl good
 
 -- the batch of this number, if any, stands sealed
@@ -340,16 +351,34 @@ entries-cut lane (c ∷ cs) = by (eqb c.lane lane) (entries-cut lane cs)
     by true e = ap (λ l. entry_of c ∷ l) e
     by false e = e
 
+-- the calls of entries give the entries back
+calls-entries : (nodes : List ℕ) (wait : ℕ) (s : State) (es : List Entry) → map entry_of (calls_from nodes wait s es) ≡ es
+unfolding calls_from
+calls-entries nodes wait s [] = refl
+calls-entries nodes wait s (e ∷ es) = ap (λ l. e ∷ l) (calls-entries nodes wait (step nodes wait s e.command).0 es)
+
 -- passes that ran their lanes' commands ran them in one history
-module _ (Good : Batch → Outcome → Type 0) (lanes : ℕ → List Command) (start book : BookView) (passes : List BookPass) (done : IsFinished start passes book) (run : HaveRun Good lanes passes) where
-  calls-of : (k : ℕ) (d : BookPass) → k < length passes → calls_of_pass (slice_index_or passes k d) ≡ calls_of_lane k (calls_from start.nodes start.wait start.state done.since)
-  calls-of k d lt = ap (map (λ p. p.1)) (done.cut k d lt) ∙ calls-cut k 0 (calls_from start.nodes start.wait start.state done.since)
+module _ (settings : Settings) (roads : Roads) (lanes : ℕ → List Command) (start book : BookView) (passes : List BookPass) (ready : IsReady settings roads start) (done : IsFinished start passes book) (run : HaveRun settings roads lanes passes) where
+  -- the book is over these roads, with this wait
+  over : (P : List ℕ → ℕ → Type 0) → P start.nodes start.wait → P roads.nodes settings.wait
+  over P p = subst (λ ns. P ns settings.wait) ready.nodes (subst (λ w. P start.nodes w) ready.wait p)
+
+  abbrev log : List (Logged Command LockedReply)
+  log = calls_from roads.nodes settings.wait start.state done.since
+
+  replies : RepliesAreSteps roads.nodes settings.wait start.state done.since
+  replies = over (λ ns w. RepliesAreSteps ns w start.state done.since) done.replies
+
+  calls-of : (k : ℕ) (d : BookPass) → k < length passes → calls_of_pass (slice_index_or passes k d) ≡ calls_of_lane k log
+  calls-of k d lt =
+      ap (map (λ p. p.1)) (over (λ ns w. (slice_index_or passes k d).calls ≡ calls_of k (calls_from ns w start.state done.since)) (done.cut k d lt))
+      ∙ calls-cut k 0 log
 
   entries-of : (k : ℕ) (d : BookPass) → k < length passes → map entry_of (calls_of_pass (slice_index_or passes k d)) ≡ of_lane k done.since
   entries-of k d lt =
       ap (map entry_of) (calls-of k d lt)
-      ∙ entries-cut k (calls_from start.nodes start.wait start.state done.since)
-      ∙ ap (of_lane k) (calls-entries start.nodes start.wait start.state done.since)
+      ∙ entries-cut k log
+      ∙ ap (of_lane k) (calls-entries roads.nodes settings.wait start.state done.since)
 
   ran : (d : BookPass) (k : ℕ) → IsLaneRun (lanes k) (of_lane k done.since)
   ran d k = elim (cases_lt k (length passes)) [
@@ -360,17 +389,17 @@ module _ (Good : Batch → Outcome → Type 0) (lanes : ℕ → List Command) (s
       beyond : (cs : List Command) (es : List Entry) → cs ≡ [] → es ≡ [] → IsLaneRun cs es
       beyond cs es a b = subst (λ (c : List Command). IsLaneRun c es) (sym a) (subst (IsLaneRun []) (sym b) tt)
 
-  pub joined : start.state.sealed ≡ None → IsJointRun Good start.nodes start.wait start.state lanes done.since
-  joined none =
-      let told = each-told start.nodes start.wait start.state done.since done.replies in
+  pub joined : IsJointRun settings roads start.state lanes done.since
+  joined =
+      let told = each-told roads.nodes settings.wait start.state done.since replies in
       let zeroth : Each IsInZero done.since = only-zero done.since (λ k ne. plain-run (lanes k) (of_lane k done.since) (run.plain k ne) (each-lane IsTold k done.since told) (ran pass k)) in
       record {
         lanes = ran pass;
-        closes = closes-join start.nodes start.wait Good start.state None done.since
-            (λ b e. (let no : None ≡ Some b = sym none ∙ e in absurd cc))
-            done.replies zeroth
-            (subst (LaneClosesAreGood Good None) (calls-of 0 pass run.some) (run.closes pass));
-        closed = ends-closed start.nodes start.wait start.state None (lanes 0) done.since (ap (option_map (λ b. b.number)) none) done.replies zeroth (ran pass 0);
+        closes = closes-join settings roads start.state None done.since
+            (λ b e. (let no : None ≡ Some b = sym ready.closed ∙ e in absurd cc))
+            replies zeroth
+            (subst (LaneClosesAreGood settings roads None) (calls-of 0 pass run.some) (run.closes pass));
+        closed = ends-closed roads.nodes settings.wait start.state None (lanes 0) done.since (ap (option_map (λ b. b.number)) ready.closed) replies zeroth (ran pass 0);
       }
     where
       first : (ps : List BookPass) → 0 < length ps → BookPass
