@@ -20,7 +20,7 @@ use pool_base::{RiderId, VehicleId};
 
 impl Register {
     /// Closes the sealed batch.
-    pub fn close(&mut self, batch: u64, answer: &Answer) -> Reply
+    pub(crate) fn close(&mut self, batch: u64, answer: &Answer) -> Reply
         requires { IsIndexed self.old }
         ensures stepped { (state_of self.new, result) ≡ close_step (state_of self.old) batch answer.now }
         ensures indexed { IsIndexed self.new }

@@ -1,7 +1,7 @@
 use Rattle.std.specs.Prelude.{◌≡◌, ℕ, ◌-◌, ◌<◌, List, slice_index, All, AllPairs, Contains}
 use Rattle.rebalancing.specs.declared.matching.Matching.{Matching}
 use Rattle.rebalancing.specs.Potentials.{pair_worth}
-use Rattle.rebalancing.specs.Prices.{weight_in}
+use Rattle.rebalancing.specs.work.Prices.{weight_in}
 
 -- the pairs are the matched pairs that have a way, of the vehicles below `count`, by rising vehicle
 pub record IsChosen (s : Matching) (count : ℕ) (pairs : List (ℕ × ℕ)) : Type 0 where

@@ -1,7 +1,7 @@
 use Rattle.std.specs.Prelude.{◌≡◌, ℕ, ◌+◌, ◌*◌, ◌<◌, ◌≤◌, List, length, slice_index}
 use Rattle.rebalancing.specs.declared.matching.Matching.{Matching}
 use Rattle.rebalancing.specs.Potentials.{pair_worth}
-use Rattle.rebalancing.specs.Weights.{weight_at}
+use Rattle.rebalancing.specs.work.Weights.{weight_at}
 
 -- Prices a of n vehicles and b of m riders cover every pair's weight and are together exactly the weight of a
 -- matched pair. Vehicle i is matched with rider `q i`, or `q i` is m; rider j with vehicle `p j`, or `p j` is n.

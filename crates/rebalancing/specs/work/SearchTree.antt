@@ -2,7 +2,7 @@ use Rattle.std.specs.Prelude.{◌≡◌, ◌≢◌, ℕ, ◌+◌, ◌<◌, ◌�
 use Rattle.rebalancing.specs.declared.matching.Matching.{Matching}
 use Rattle.rebalancing.specs.declared.tree.Tree.{Tree}
 use Rattle.rebalancing.specs.Potentials.{pair_worth}
-use Rattle.rebalancing.specs.Prices.{weight_in}
+use Rattle.rebalancing.specs.work.Prices.{weight_in}
 
 -- A tree of vehicles r from the root k: each other one stands with its rider c, and was reached from the vehicle at
 -- an earlier position, its parent, by a pair whose prices are tight. A rider's place in the tree is 0 where it is outside.
