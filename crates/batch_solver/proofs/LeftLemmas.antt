@@ -10,7 +10,7 @@ use Rattle.plan_rules.specs.Plan.{times_chosen}
 use Rattle.plan_rules.proofs.SumLemmas.{flag}
 use Rattle.plan_rules.proofs.GraphLemmas.{times_served_more, times_served_none}
 use Rattle.promise_check.proofs.Promises.{filter_range_takes, filter_range_skips}
-use Rattle.batch_solver.specs.Left.{MarksChosen}
+use Rattle.batch_solver.specs.work.Left.{MarksChosen}
 
 pub marks_none : (g : Graph) (chosen : List (Option ℕ)) → MarksChosen g chosen 0 (replicate g.riders false)
 marks_none g chosen = record {

@@ -40,16 +40,3 @@ pub record AreMoves (tau : ℕ → ℕ → ℕ) (settled : Settled) (idle left :
   pub best : IsBestMatching tau (starts_of settled idle) (origins_of settled left) pairs
   pub rising : AllPairs (λ (p q : ℕ × ℕ). p.0 < q.0) pairs
   pub told : moves ≡ map (move_line tau settled idle left) pairs
-
--- the move of a vehicle to a rider
-abbrev pub move_from_to : (ℕ → ℕ → ℕ) → Settled → ℕ → ℕ → MoveLine
-move_from_to tau settled v r = record {
-  vehicle = vehicle_id settled v;
-  rider = rider_id settled r;
-  seconds = tau (vehicle_at settled v).start (rider_at settled r).leg.origin;
-}
-
--- vehicles stand and riders wait at places of a table of so many
-pub record HasPlaces (points : ℕ) (settled : Settled) : Type 0 where
-  pub vehicles : (v : ℕ) → v < length settled.vehicles → (vehicle_at settled v).start < points
-  pub riders : (r : ℕ) → r < length settled.riders → (rider_at settled r).leg.origin < points

@@ -8,6 +8,9 @@
 
 mod crew;
 mod lane;
+mod laws;
 mod round;
 
+pub use lane::run_lane;
+pub use laws::commands_follow_from_the_input;
 pub use round::run_round;

@@ -8,9 +8,9 @@ use Rattle.pool_base.specs.TravelTime.{never}
 use Rattle.rebalancing.specs.declared.matching.Matching.{Matching}
 use Rattle.rebalancing.specs.Matching.{seconds_of, total_of, IsMatching}
 use Rattle.rebalancing.specs.Potentials.{pair_worth, potential, ArePotentials}
-use Rattle.rebalancing.specs.Weights.{weight_of}
-use Rattle.rebalancing.specs.Prices.{IsPricedMatching, weight_in}
-use Rattle.rebalancing.specs.Chosen.{IsChosen, seconds_in}
+use Rattle.rebalancing.specs.work.Weights.{weight_of}
+use Rattle.rebalancing.specs.work.Prices.{IsPricedMatching, weight_in}
+use Rattle.rebalancing.specs.work.Chosen.{IsChosen, seconds_in}
 use Rattle.rebalancing.proofs.PlaceSums.{sum_by_same}
 
 -- a vehicle without a pair that has a way is passed over

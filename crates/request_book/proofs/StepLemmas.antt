@@ -13,7 +13,7 @@ use Rattle.request_book.specs.declared.rider.BookRider.{BookRider}
 use Rattle.request_book.specs.declared.rider.Status.{Status}
 use Rattle.request_book.specs.declared.rider.Status.TheVariants.{Waiting, Promised, Aboard, Cancelled as GivenUp, Delivered, Expired}
 use Rattle.request_book.specs.declared.state.State.{State}
-use Rattle.request_book.specs.Register.{pool_id}
+use Rattle.request_book.specs.work.Register.{pool_id}
 use Rattle.request_book.specs.Rider.{is_active}
 use Rattle.request_book.specs.Refusals.{first_of, duplicate_rider, aboard_refusal, ended_refusal, promise_refusal, seat_refusal, time_back, vehicle_full, unknown_node, not_this_batch}
 use Rattle.request_book.specs.State.{find_rider, find_vehicle, pool_count}

@@ -40,8 +40,8 @@ pub struct Book {
 impl Model for Book {
     ghost use Rattle.std.specs.Prelude.{vec_len, vec_capacity};
     ghost use Rattle.request_book.specs.Book.{BookView};
-    ghost use Rattle.request_book.specs.Register.{state_of};
-    ghost use Rattle.request_book.specs.Stored.{IsStored};
+    ghost use Rattle.request_book.specs.work.Register.{state_of};
+    ghost use Rattle.request_book.specs.work.Stored.{IsStored};
 
     ghost Value = { BookView };
 

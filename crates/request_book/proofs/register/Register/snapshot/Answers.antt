@@ -3,7 +3,7 @@ use Rattle.batch_snapshot.specs.Batch.{Batch}
 use Rattle.batch_snapshot.specs.Kept.{IsKept}
 use Rattle.batch_snapshot.specs.declared.rider.Rider.{Rider}
 use Rattle.batch_snapshot.specs.declared.vehicle.Vehicle.{Vehicle}
-use Rattle.request_book.specs.Register.{state_of}
+use Rattle.request_book.specs.work.Register.{state_of}
 use Rattle.std.specs.List.{filter_map}
 use Rattle.request_book.specs.Keyed.{by_key}
 use Rattle.request_book.specs.Sealing.{one_more, batch_of, asking, after_seal}
