@@ -144,19 +144,35 @@ def named_in(text, names, module, definitions, passed_on):
     return found
 
 
-def clauses_of(text):
-    """Of a source text: (function's name, its clauses) for each public function, method and trait's function."""
-    found, depth_test = [], False
+def offered(crate):
+    """The names that a crate offers: those of the `pub use` lines of its root file, and its public modules."""
+    root = CRATES / crate / "src" / "lib.rt"
+    text = root.read_text() if root.exists() else ""
+    names = set(re.findall(r"^pub mod (\w+)", text, re.M))
+    for path, braces in re.findall(r"^pub use ([\w:]+?)(?:::\{([^}]*)\})?;", text, re.M):
+        names.update(n.strip().split(" as ")[0] for n in (braces or path.split("::")[-1]).split(",") if n.strip())
+    return names
+
+
+def clauses_of(text, is_offered):
+    """Of a source text: (function's name, its clauses) for each function, method and trait's function that is offered."""
+    found = []
     lines = text.splitlines()
-    in_trait = False
+    in_trait = in_hidden = in_impl = False
     i = 0
     while i < len(lines):
         line = lines[i]
-        if re.match(r"^pub trait ", line):
-            in_trait = True
+        trait = re.match(r"^pub trait (\w+)", line)
+        impl = re.match(r"^impl(?:<[^>]*>)? (?:.* for )?(\w+)", line)
+        if trait:
+            in_trait = is_offered(trait[1])
+        elif impl:
+            in_impl, in_hidden = True, not is_offered(impl[1])
         elif line.startswith("}"):
-            in_trait = False
+            in_trait = in_hidden = in_impl = False
         hit = re.match(r"^\s*(pub )?(?:unsafe )?fn (\w+)", line)
+        if hit and (in_hidden or not in_impl and not in_trait and not is_offered(hit[2])):
+            hit = None
         if in_trait and re.match(r"^\s*ghost \w+:", line):
             found.append(("trait", line))
         if hit and (hit[1] or in_trait):
@@ -189,7 +205,9 @@ def read_clauses(definitions, passed_on):
             continue
         crate, text = path.relative_to(CRATES).parts[0], path.read_text()
         names = Names(uses_of(text, ghost=True))
-        for function, clause in clauses_of(text):
+        names_offered = offered(crate)
+        module = path.relative_to(CRATES / crate / "src").parts[0].removesuffix(".rt")
+        for function, clause in clauses_of(text, lambda name: name in names_offered or module in names_offered):
             for d in named_in(clause, names, "", definitions, passed_on):
                 roots[(crate, function)].append(d)
     return roots
