@@ -236,7 +236,8 @@ def test_trips_that_are_refused(folder):
     trips, nodes = DATA / "trips.csv", EXPECTED / "small-nodes.csv"
     refuses("no column rides (persons=NAME", "from_trips", trips, nodes, folder, "persons=rides")
     refuses("no column tpep_pickup_datetime", "from_trips", nodes, nodes, folder)
-    refuses("vehicles=501 is not a whole number from 1 to 500", "from_trips", trips, nodes, folder, "vehicles=501")
+    refuses("vehicles=501 is not a whole number from 1 to 500",
+            "from_trips", trips, nodes, folder, "vehicles=501")
     refuses("seats=0 is not", "from_trips", trips, nodes, folder, "seats=0")
     refuses("from=soon is neither a date", "from_trips", trips, nodes, folder, "from=soon")
     refuses("from= is not before to=", "from_trips", trips, nodes, folder, "from=10", "to=10")
@@ -391,7 +392,8 @@ def test_pictures_of_a_made_day(folder):
     stops = [len(re.findall(f" {kind}:", block)) for kind in ("pick", "drop")]
     outs, moves = (len(re.findall(f"^{word} ", block, re.M)) for word in ("out", "move"))
     assert [svg.marks("pickups"), svg.marks("dropoffs")] == stops and svg.marks("left-out") == outs
-    assert svg.lines("moves") == moves > 0 and svg.lines("streets") == 2 * 20 * 19 and svg.marks("vehicles") == 10
+    assert svg.lines("moves") == moves > 0
+    assert svg.lines("streets") == 2 * 20 * 19 and svg.marks("vehicles") == 10
 
 
 def test_pictures_of_500_vehicles(folder):
@@ -426,7 +428,8 @@ def test_pictures_in_the_documents(folder):
     """The pictures in docs/pictures are of the town's day: as many marks as its report has stops."""
     report = (TOWN / "day.report").read_text()
     day, service, batch = (Svg(PICTURES / f"{name}.svg") for name in ("day", "service", "batch"))
-    assert day.marks("pickups") == report.count(" picked\n") == day.marks("dropoffs") == report.count(" dropped\n")
+    assert day.marks("pickups") == report.count(" picked\n") > 0
+    assert day.marks("dropoffs") == report.count(" dropped\n") > 0
     assert day.lines("seals") == service.marks("cost") == report.count(" sealed ") == 30
     block = report.split("\nbatch 3\n")[1].split("\nend\n")[0]
     assert batch.marks("pickups") == block.count(" pick:") and batch.marks("dropoffs") == block.count(" drop:")

@@ -81,45 +81,46 @@ class Day:
             self.stops[vehicle].append((kind, rider, node, second))
             here = node
 
-    def plan(self, number, now, riders):
-        """The block of a batch."""
+    def assign(self, riders, now):
+        """Gives four fifths of the riders to idle vehicles. Gives back those who are left out, by rising id."""
         idle = [vehicle for vehicle, stops in self.stops.items() if not stops]
         self.draw.shuffle(idle)
-        out = riders[len(riders) * 4 // 5:]
-        left = riders[:len(riders) * 4 // 5]
+        most = len(riders) * 4 // 5
+        left, out = riders[:most], riders[most:]
         while left and idle:
             count = self.draw.choice((1, 2, 2, 3))
             self.serve(idle.pop(), left[:count], now)
             left = left[count:]
-        out += left
-        text = ["trip {} {} {}", *(f"out {rider}" for rider, _, _ in sorted(out))]
-        cost = 0
+        return sorted(out + left)
+
+    def plan(self, number, now, riders):
+        """The block of a batch."""
+        out, rows, trips, cost = self.assign(riders, now), [], [], 0
         for vehicle, stops in self.stops.items():
             delay = 60 * sum(kind == "drop" for kind, *_ in stops)
+            shown = "".join(f" {kind}:{rider}@{node}:{second}" for kind, rider, node, second in stops)
+            rows.append(f"row {vehicle} {delay}")
+            trips.append(f"trip {vehicle} {delay}{shown}")
             cost += delay
-            words = [f"{kind}:{rider}@{node}:{second}" for kind, rider, node, second in stops]
-            self.lines.append(" ".join([f"row {vehicle} {delay}"]))
-            text.insert(-len(out) or len(text), " ".join([f"trip {vehicle} {delay}", *words]))
-        moves = zip(sorted(idle)[:len(out)], sorted(out))
-        text += [f"move {v} {r} {seconds_between(self.place[v], origin)}" for v, (r, origin, _) in moves]
+        idle = [vehicle for vehicle, stops in self.stops.items() if not stops]
+        moves = [f"move {vehicle} {rider} {seconds_between(self.place[vehicle], origin)}"
+                 for vehicle, (rider, origin, _) in zip(idle, out)]
         cost += 10000 * len(out)
-        self.lines += text[1:] + [f"cost {cost}", f"bound {cost * 97 // 100}", f"nodes {3 + number}", "end"]
+        self.lines += [f"batch {number}", *rows, *trips, *(f"out {rider}" for rider, _, _ in out), *moves,
+                       f"cost {cost}", f"bound {cost * 97 // 100}", f"nodes {3 + number}", "end"]
 
     def report(self):
         """The whole report."""
-        waiting = []
         for number in range(1, self.batches + 1):
             now = number * EVERY
             self.lines.append(f"round {2 * number}")
-            for _ in range(max(2, len(self.place) // 4)):
-                waiting.append(self.request(now - EVERY + int(self.draw.random() * EVERY)))
+            count = max(2, len(self.place) // 4)
+            riders = [self.request(now - EVERY + int(self.draw.random() * EVERY)) for _ in range(count)]
             self.lines.append(f"round {2 * number + 1}")
             self.due(now)
             self.enter(f"seal {now}", f"sealed {number}")
             self.enter(f"close {number}", "closed")
-            self.lines.append(f"batch {number}")
-            self.plan(number, now, waiting)
-            waiting = []
+            self.plan(number, now, riders)
         self.lines.append(f"round {2 * self.batches + 2}")
         self.due(float("inf"))
         return self.lines + [f"done {self.position}"]

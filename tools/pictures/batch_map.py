@@ -112,13 +112,14 @@ def draw_streets(canvas, ground):
     pairs = {(min(pair), max(pair)) for pair in zip(arcs.row, arcs.col)}
     lines = [[ground.places[names[start]], ground.places[names[end]]] for start, end in sorted(pairs)]
     width = 1.6 if len(lines) <= 2000 else 0.7
-    canvas.axes.add_collection(LineCollection(lines, colors=style.PALE, linewidths=width, zorder=0, gid="streets"))
+    canvas.axes.add_collection(
+        LineCollection(lines, colors=style.PALE, linewidths=width, zorder=0, gid="streets"))
     if len(names) > MOST_NODE_NAMES:
         return []
-    below = {node: (ground.places[node][0], ground.places[node][1] - 1.3 * MARK / canvas.scale) for node in names}
-    for node, place in below.items():
+    below = [(x, y - 1.3 * MARK / canvas.scale) for x, y in map(ground.places.get, names)]
+    for node, place in zip(names, below):
         canvas.axes.text(*place, str(node), color=style.GREY, fontsize=7, ha="center", va="center")
-    return list(below.values())
+    return below
 
 
 def draw_others(canvas, ways, ground):
@@ -167,7 +168,8 @@ def draw_lines(canvas, ways):
 
 def draw_stops(canvas, ways, ground, taken):
     """The stops of named trips with their numbers in the trip's order; marks at one node stand side by side."""
-    stops = [(rank, order, stop) for rank, way in enumerate(ways) for order, stop in enumerate(way.trip.stops, 1)]
+    stops = [(rank, order, stop) for rank, way in enumerate(ways)
+             for order, stop in enumerate(way.trip.stops, 1)]
     points = [ground.places[stop.node] for _, _, stop in stops]
     placed = spread(points, 1.25 * MARK / canvas.scale, taken)
     strings = [[place, point] for place, point in zip(placed, points) if place != point]
@@ -215,7 +217,8 @@ def key(canvas, named, others, batch, before):
     """What the colours and shapes mean, beside the map."""
     shown = []
     for rank, way in enumerate(named):
-        text = f"vehicle {way.trip.vehicle}: {style.counted(len(way.trip.stops), 'stop')}, delay {way.trip.delay:,} s"
+        trip = way.trip
+        text = f"vehicle {trip.vehicle}: {style.counted(len(trip.stops), 'stop')}, delay {trip.delay:,} s"
         shown.append((Line2D([], [], **strokes(rank)), text))
     if others:
         text = f"{style.counted(len(others), 'other trip')}: wider for more"

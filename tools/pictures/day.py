@@ -16,7 +16,7 @@ from words import Fault
 WIDTH, MOST_HEIGHT, ROW_HEIGHT, HEAD = 10.0, 16.0, 0.34, 1.6
 MOST_NAMED, LABEL_HEIGHT = 40, 0.17
 BUSIEST = 20
-BAR = 0.8
+BAR, ASIDE = 0.8, 0.2
 
 
 @dataclass(frozen=True)
@@ -158,16 +158,16 @@ def draw_bars(axes, runs, rows):
                 low, high = row - half, row + half
                 boxes.append([(bar.start, low), (bar.start, high), (bar.end, high), (bar.end, low)])
         looks = bar_looks(planned, len(rows) <= MOST_NAMED)
-        axes.add_collection(PolyCollection(boxes, linewidths=0, gid=name, zorder=2, **looks))
+        axes.add_collection(PolyCollection(boxes, linewidths=0, gid=name, zorder=2, snap=False, **looks))
     return most
 
 
 def draw_marks(axes, runs, rows, size):
-    """Pickups as triangles upward, drop-offs as triangles downward, planned ones hollow."""
-    for kind, shape, colour, name in (
-            ("pick", "^", style.BLUE, "pickups"), ("drop", "v", style.ORANGE, "dropoffs")):
+    """Pickups as triangles upward, above the middle; drop-offs downward, below; planned ones hollow."""
+    for kind, shape, colour, name, aside in (
+            ("pick", "^", style.BLUE, "pickups", -ASIDE), ("drop", "v", style.ORANGE, "dropoffs", ASIDE)):
         for planned in (False, True):
-            places = [(mark.second, rows[run.vehicle]) for run in runs for mark in run.marks
+            places = [(mark.second, rows[run.vehicle] + aside) for run in runs for mark in run.marks
                       if mark.kind == kind and mark.planned == planned]
             if places:
                 axes.scatter(

@@ -80,7 +80,8 @@ def draw_spread(axes, numbers, means, worsts, limit, name):
     """Mean and worst seconds, and the limit that the settings give."""
     axes.axhline(limit, color=style.GREY, linewidth=1, linestyle=":", label=f"limit {limit:,}")
     if any(not math.isnan(worst) for worst in worsts):
-        axes.plot(numbers, worsts, "^--", color=style.ORANGE, label="worst", gid=f"worst-{name}", **looks(numbers))
+        axes.plot(numbers, worsts, "^--", color=style.ORANGE, label="worst", gid=f"worst-{name}",
+                  **looks(numbers))
     axes.plot(numbers, means, "o-", color=style.BLUE, label="mean", gid=f"mean-{name}", **looks(numbers))
     axes.set_ylim(0, 1.05 * max([limit, 1] + [value for value in means + worsts if not math.isnan(value)]))
     axes.set_ylabel(f"{name},\nseconds")
@@ -149,7 +150,8 @@ def draw(report, streets):
     draw_spread(panels[2], numbers, [s.mean_delay for s in services], [s.worst_delay for s in services],
                 report.settings["delay"], "delay")
     if streets is None:
-        panels[2].set_title("the worst delay is not in a report: name network=network.csv", loc="left", fontsize=8)
+        missing = "the worst delay is not in a report: name network=network.csv"
+        panels[2].set_title(missing, loc="left", fontsize=8)
     draw_cost(panels[3], numbers, services)
     draw_gap(panels[4], numbers, services)
     draw_pairs(panels[5], numbers, services)
