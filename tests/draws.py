@@ -30,7 +30,7 @@ class Draw:
         "budget": 0.3,
         "pairs": 0.1,
         "workers": 0.2,
-        "dwell": 0.25,
+        "dwell": 0.35,
     }
 
     def __init__(self, seed):
