@@ -10,7 +10,7 @@ use Rattle.stop_orders.specs.declared.settled.Settled.{Settled}
 use Rattle.stop_orders.specs.Task.{IsServable}
 use Rattle.stop_orders.specs.Settled.{IsTrip, trip_task, vehicle_at}
 use Rattle.stop_orders.specs.Sound.{IsSound}
-use Rattle.stop_orders.proofs.TripLemmas.{sub_trip_servable, delay_small}
+use Rattle.stop_orders.specs.Laws.{SubTripsAreServable, DelaysAreSmall}
 use Rattle.plan_rules.specs.declared.row.TripRow.{TripRow}
 use Rattle.plan_rules.specs.declared.fault.GraphFault.{GraphFault}
 use Rattle.plan_rules.specs.declared.fault.GraphFault.TheVariants.{Range, Order, Held, OutOfMemory}
@@ -33,14 +33,14 @@ held_riders rows held w k riders true none e = absurd (none-some k (sym none ∙
 held_riders rows held w k riders false found e =
     subst (λ (j : ℕ). (get_or rows j no_row).riders.items ≡ riders) (same_Some found.0 k (sym found.1 ∙ e)) found.2.trip
 
-module _ (most points : ℕ) (tau : ℕ → ℕ → ℕ) (settled : Settled) (few : most ≤ 6) (travel : IsTravelTime points tau) (sound : IsSound most points tau settled) where
+module _ (most points : ℕ) (tau : ℕ → ℕ → ℕ) (settled : Settled) (subs : SubTripsAreServable) (delays : DelaysAreSmall) (few : most ≤ 6) (travel : IsTravelTime points tau) (sound : IsSound most points tau settled) where
   -- where a vehicle serves a trip, it serves its passengers alone
   alone_served : (v : ℕ) (trip : List ℕ) → v < length settled.vehicles → IsTrip (length settled.riders) trip → length trip ≤ 6
       → IsServable tau (trip_task settled v trip) → IsServable tau (trip_task settled v [])
   alone_served v [] less riders short served = served
   alone_served v (r ∷ rs) less riders short served =
       alone_served v rs less (record { rising = tail_rises r rs riders.rising; within = λ k d lt. riders.within (suc k) d (omega arith) }) (omega arith)
-      (sub_trip_servable most points tau settled travel sound v less (r ∷ rs) riders short 0 (omega arith) served)
+      (subs most points tau settled v (r ∷ rs) 0 travel sound less riders short (omega arith) served)
 
   module _ (g : Graph) (vehicles : g.vehicles ≡ length settled.vehicles) (riders : g.riders ≡ length settled.riders)
       (exact : AreRowsUpTo most tau settled (length settled.vehicles) g.rows) (hold : HoldRows settled (length settled.vehicles) g.rows g.held) where
@@ -48,7 +48,7 @@ module _ (most points : ℕ) (tau : ℕ → ℕ → ℕ) (settled : Settled) (fe
     good_rows k lt =
         let row = exact.right k lt in
         let size = row.served.size in
-        let small = delay_small most points tau settled (get_or g.rows k no_row).vehicle (get_or g.rows k no_row).riders.items row.least.stops sound row.served.vehicle row.served.riders (omega arith) row.least.serves in
+        let small = delays most points tau settled (get_or g.rows k no_row).vehicle (get_or g.rows k no_row).riders.items row.least.stops sound row.served.vehicle row.served.riders (omega arith) row.least.serves in
         let cost = row.least.has_delay in
         record {
           vehicle = (let b = row.served.vehicle in omega arith);
@@ -104,10 +104,10 @@ only_memory g (Held vehicle) rows order held (inr h) = absurd (h.differs held.si
 only_memory g OutOfMemory rows order held h = refl
 
 -- want of memory alone keeps such a graph from being made
-pub memory_only : (most points : ℕ) (tau : ℕ → ℕ → ℕ) (settled : Settled) → most ≤ 6 → IsTravelTime points tau → IsSound most points tau settled
+pub memory_only : (most points : ℕ) (tau : ℕ → ℕ → ℕ) (settled : Settled) → SubTripsAreServable → DelaysAreSmall → most ≤ 6 → IsTravelTime points tau → IsSound most points tau settled
     → (g : Graph) → g.vehicles ≡ length settled.vehicles → g.riders ≡ length settled.riders → AreRowsUpTo most tau settled (length settled.vehicles) g.rows
     → HoldRows settled (length settled.vehicles) g.rows g.held → AreInOrder g.rows → (fault : GraphFault) → IsFaultOf g fault → fault ≡ OutOfMemory
-memory_only most points tau settled few travel sound g vehicles riders exact hold order fault h =
-    only_memory g fault (good_rows most points tau settled few travel sound g vehicles riders exact hold)
-    (rows_in_order most points tau settled few travel sound g vehicles riders exact hold order)
-    (held_rows most points tau settled few travel sound g vehicles riders exact hold) h
+memory_only most points tau settled subs delays few travel sound g vehicles riders exact hold order fault h =
+    only_memory g fault (good_rows most points tau settled subs delays few travel sound g vehicles riders exact hold)
+    (rows_in_order most points tau settled subs delays few travel sound g vehicles riders exact hold order)
+    (held_rows most points tau settled subs delays few travel sound g vehicles riders exact hold) h

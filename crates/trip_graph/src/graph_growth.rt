@@ -14,7 +14,7 @@ use plan_rules::{GraphFault, TripGraph, TripRow};
 use pool_base::{OutOfMemory, Sequence, Times};
 use rider_limits::Settings;
 use std::alloc::Global;
-use stop_orders::Settled;
+use stop_orders::{Settled, laws};
 use trip_growth::VehicleTrips;
 
 /// The three graphs of a batch: which vehicle can serve which rider, which two riders could share an empty
@@ -61,6 +61,9 @@ fn graph_of(
     requires few { level_total levels.now ≤ settings.now.pairs }
     ensures { IfOk result (IsTripGraphOf settings.entry.now (travel_time times.entry.now) settled.entry.now) }
 {
+    // What the graph's own rules ask of costs and late vehicles.
+    laws::delays_are_small();
+    laws::sub_trips_are_servable();
     let vehicles = settled.vehicles.as_slice();
     let mut rows = Vec::new(alloc);
     let mut held = Vec::with_capacity(alloc, vehicles.len())?;

@@ -79,7 +79,7 @@ memory_of-requires c =
     let end = c.loop-vehicle.auto.vehicle-end in
     let stop = c.loop-vehicle-test.false in
     let e : c.loop-vehicle.vehicle ≡ length settled.vehicles = omega arith in
-    faults.memory_only most (point_count c.args.times.now) tau settled (let r = c.args.settings.now.in_range.trip_most in omega arith) c.args.times.now.table.times c.requires.sound
+    faults.memory_only most (point_count c.args.times.now) tau settled c.sub_trips_are_servable.ensures.servable c.delays_are_small.ensures (let r = c.args.settings.now.in_range.trip_most in omega arith) c.args.times.now.table.times c.requires.sound
     (record { vehicles = vehicles; riders = riders; penalty = c.args.settings.now.penalty; rows = rows; held = held }) count (ap length c.as_slice-riders.ensures)
     (subst (λ (n : ℕ). AreRowsUpTo most tau settled n rows) e inv.exact)
     (subst (λ (n : ℕ). HoldRows settled n rows held) e inv.hold)
