@@ -23,11 +23,7 @@ IsRun settings roads s position (r ∷ rs) (j ∷ js) =
     × IsRun settings roads (state_after roads.nodes settings.wait s j.entries) (next_position position j.entries) rs js
 IsRun settings roads s position _ _ = ⊥
 
--- the state after journals, and the position of the next entry
-abbrev pub state_after_run : List ℕ → ℕ → State → List Journal → State
-state_after_run nodes wait s [] = s
-state_after_run nodes wait s (j ∷ js) = state_after_run nodes wait (state_after nodes wait s j.entries) js
-
+-- the position of the next entry after journals
 abbrev pub position_after_run : ℕ → List Journal → ℕ
 position_after_run position [] = position
 position_after_run position (j ∷ js) = position_after_run (next_position position j.entries) js

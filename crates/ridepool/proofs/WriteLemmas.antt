@@ -6,7 +6,8 @@ use Rattle.std.proofs.KnownBytes.{Appends-nil, Appends-trans, Appends-kept}
 use Rattle.std.proofs.lemmas.List.{take-append-drop, length-drop}
 use Rattle.std.proofs.Math.Seq.{take-suc}
 use Rattle.pool_io.specs.Sink.{AppendsPart}
-use Rattle.dispatch_engine.specs.Run.{IsReady, IsRoundRun, IsRun, IsSameRun, state_after_run, position_after_run, journal_of}
+use Rattle.dispatch_engine.specs.Run.{IsReady, IsRoundRun, IsRun, IsSameRun, position_after_run, journal_of}
+use Rattle.dispatch_engine.specs.work.Run.{state_after_run}
 use Rattle.dispatch_report.specs.Head.{head_text}
 use Rattle.dispatch_report.specs.Round.{end_text}
 use Rattle.dispatch_report.specs.declared.fault.ReportFault.{ReportFault}

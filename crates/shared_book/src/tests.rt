@@ -396,21 +396,19 @@ fn seal_reply<R: Wait>(
     requires lane { 0 < vec_len passes.old }
     ensures { AreAllPasses book.now passes.new.items }
 {
-    match book.seal(rt, alloc, &mut passes[0], Second::default()) {
-        Ok(SealReceipt {
-            receipt,
-            snapshot: Some(shown),
-        }) => Some((
-            receipt.position,
-            receipt.reply,
-            [
-                shown.batch as usize,
-                shown.vehicles.len(),
-                shown.riders.len(),
-            ],
-        )),
-        _ => None,
-    }
+    let sealed = book.seal(rt, alloc, &mut passes[0], Second::default());
+    let Ok(SealReceipt { receipt, snapshot }) = sealed else {
+        return None;
+    };
+    let Some(shown) = snapshot else {
+        return None;
+    };
+    let counts = [
+        shown.batch as usize,
+        shown.vehicles.len(),
+        shown.riders.len(),
+    ];
+    Some((receipt.position, receipt.reply, counts))
 }
 
 #[test]
@@ -438,7 +436,9 @@ fn a_rider_who_gave_up_while_a_batch_was_solved(rt: HostRuntime) -> Result<(), F
     let Ok(book) = shared.finish(passes) else {
         panic!(rt; "no memory to finish")
     };
-    assert!(rt; book.entries().len() == 5 && book.status_of(rider_one()) == Some(Status::Cancelled));
+    assert!(rt;
+        book.entries().len() == 5 && book.status_of(rider_one()) == Some(Status::Cancelled)
+    );
     Ok(())
 }
 

@@ -41,12 +41,12 @@ returns c =
       bound = c.in_ok-found.ensures.bound;
       lapsed = c.of.ensures ∙ c.in_ok-lapsed_ids.ensures;
       late = subst (λ (late : List LateVehicle). AreLate points tau settled late) (sym c.of-2.ensures) c.in_ok-late_lines.ensures;
-      rv = record { edges = c.args.rv.now; exact = c.requires.rv; told = c.of-3.ensures ∙ c.in_ok-rv_lines.ensures };
-      rr = record {
-        pairs = c.args.rr.now;
-        exact = c.requires.rr;
-        told = c.of-4.ensures ∙ c.in_ok-rr_lines.ensures ∙ ap (λ (pairs : List (ℕ × ℕ)). map (rr_line settled) pairs) c.all.ensures;
-      };
+      edges = c.args.rv.now;
+      edges_exact = c.requires.rv;
+      rv = c.of-3.ensures ∙ c.in_ok-rv_lines.ensures;
+      pairs = c.args.rr.now;
+      pairs_exact = c.requires.rr;
+      rr = c.of-4.ensures ∙ c.in_ok-rr_lines.ensures ∙ ap (λ (pairs : List (ℕ × ℕ)). map (rr_line settled) pairs) c.all.ensures;
       rows = c.of-5.ensures ∙ c.in_ok-row_lines.ensures ∙ ap (λ (rows : List TripRow). map (row_line settled) rows) c.rows.ensures.value;
       trips = subst (λ (trips : List ChosenTrip). AreTrips points tau settled graph found.plan trips) (sym c.of-6.ensures)
           (subst (λ (chosen : List (Option ℕ)). AreTrips points tau settled graph chosen c.in_ok-chosen_trips.field-0.items) plan c.in_ok-chosen_trips.ensures);
