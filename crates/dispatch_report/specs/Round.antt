@@ -3,7 +3,7 @@ use Rattle.std.specs.Prelude.{ℕ, Bool, List, [], ◌∷◌, ◌++◌, codes}
 use Rattle.dispatch_report.specs.Block.{block_lines}
 use Rattle.dispatch_report.specs.Entry.{entry_line}
 use Rattle.dispatch_report.specs.Lines.{lines_text}
-use Rattle.dispatch_report.specs.Words.{spaced}
+use Rattle.dispatch_report.specs.Words.{numbered}
 use Rattle.request_book.specs.Sealing.{one_more}
 use Rattle.request_book.specs.declared.command.Command.{Command}
 use Rattle.request_book.specs.declared.command.Command.TheVariants.{Close}
@@ -33,9 +33,9 @@ entries_lines proof position [] = []
 entries_lines proof position (e ∷ es) = entry_lines proof position e ++ entries_lines proof (one_more position) es
 
 -- the text of a round
-abbrev pub round_text : ℕ → Bool → Journal → List ℕ
-round_text number proof journal = lines_text (((codes "round" ++ spaced number) ∷ []) ++ entries_lines proof journal.first journal.entries)
+unfoldable pub round_text : ℕ → Bool → Journal → List ℕ
+round_text number proof journal = lines_text (((numbered (codes "round ") number) ∷ []) ++ entries_lines proof journal.first journal.entries)
 
 -- the last line of a report: how many entries there were
-abbrev pub end_text : ℕ → List ℕ
-end_text entries = lines_text ((codes "done" ++ spaced entries) ∷ [])
+unfoldable pub end_text : ℕ → List ℕ
+end_text entries = lines_text ((numbered (codes "done ") entries) ∷ [])

@@ -2,14 +2,14 @@ ghost use Rattle.std.specs.Prelude.{◌≡◌, ◌≤◌, ◌++◌, ◌∷◌, [
 ghost use Rattle.std.specs.Result.{IsErrOf};
 ghost use Rattle.dispatch_report.specs.Block.{stop_text, stops_text, expired_line, lapsed_line, late_order, late_line, rv_line, rr_line, row_line, trip_line, out_line, move_line, vehicle_of_row, node_line, graph_lines, plan_lines, bound_lines, tree_lines, answer_lines, block_lines};
 ghost use Rattle.dispatch_report.specs.Lines.{TakesLines};
-ghost use Rattle.dispatch_report.specs.Words.{spaced, spaced_signed};
+ghost use Rattle.dispatch_report.specs.Words.{numbered, signed};
 ghost use Rattle.pool_io.specs.Faults.{Rose};
 
 use crate::fault::ReportFault;
 use crate::lines::{Line, write_line, write_lines, write_list};
-use crate::words::{put_multipliers, put_riders, put_spaced, put_spaced_signed};
+use crate::words::{put_multipliers, put_numbered, put_riders, put_signed, put_spaced, put_words};
 use plan_rules::{Node, Tree};
-use pool_base::{OutOfMemory, RiderId, VehicleId, put_number};
+use pool_base::{OutOfMemory, RiderId, VehicleId};
 use pool_io::Sink;
 use request_book::{
     Answer, ChosenTrip, LateVehicle, MoveLine, Outcome, Planned, PlannedStop, RowLine,
@@ -29,7 +29,7 @@ pub(crate) fn write_block<K: Sink>(
     ensures fault { IsErrOf result ReportFault.WriteFault → Rose (K.faults sink.old) (K.faults sink.new) }
     ensures never_falls { K.faults sink.old ≤ K.faults sink.new }
 {
-    write_number(sink, line, b"batch", batch)?;
+    write_number(sink, line, b"batch ", batch)?;
     write_list(sink, line, &Expired, &outcome.expired)?;
     write_answer(sink, line, &outcome.answer, proof)?;
     write_words(sink, line, b"end")?;
@@ -99,20 +99,20 @@ fn write_bound<K: Sink>(sink: &mut K, line: &mut Vec<u8>, plan: &Planned) -> Res
     ensures fault { IsErrOf result ReportFault.WriteFault → Rose (K.faults sink.old) (K.faults sink.new) }
     ensures never_falls { K.faults sink.old ≤ K.faults sink.new }
 {
-    write_number(sink, line, b"cost", plan.cost)?;
-    write_signed(sink, line, b"bound", &plan.bound)?;
+    write_number(sink, line, b"cost ", plan.cost)?;
+    write_signed(sink, line, b"bound ", &plan.bound)?;
     write_nodes(sink, line, &plan.tree)?;
     Ok(())
 }
 
 fn write_nodes<K: Sink>(sink: &mut K, line: &mut Vec<u8>, tree: &Tree) -> Result<(), ReportFault>
     requires { line.old.items ≡ [] }
-    ensures lines { TakesLines (K.written sink.old) (K.written sink.new) ((codes "nodes" ++ spaced (length tree.now)) ∷ []) result }
+    ensures lines { TakesLines (K.written sink.old) (K.written sink.new) (numbered (codes "nodes ") (length tree.now) ∷ []) result }
     ensures empty { OnOk result (line.new.items ≡ []) }
     ensures fault { IsErrOf result ReportFault.WriteFault → Rose (K.faults sink.old) (K.faults sink.new) }
     ensures never_falls { K.faults sink.old ≤ K.faults sink.new }
 {
-    write_number(sink, line, b"nodes", tree.nodes().len() as u64)
+    write_number(sink, line, b"nodes ", tree.nodes().len() as u64)
 }
 
 fn write_tree<K: Sink>(
@@ -161,66 +161,39 @@ pub(crate) fn write_words<K: Sink>(
 pub(crate) fn write_number<K: Sink>(
     sink: &mut K,
     line: &mut Vec<u8>,
-    word: &[u8],
+    words: &[u8],
     number: u64,
 ) -> Result<(), ReportFault>
     requires { line.old.items ≡ [] }
-    ensures lines { TakesLines (K.written sink.old) (K.written sink.new) ((word.now ++ spaced number) ∷ []) result }
+    ensures lines { TakesLines (K.written sink.old) (K.written sink.new) (numbered words.now number ∷ []) result }
     ensures empty { OnOk result (line.new.items ≡ []) }
     ensures fault { IsErrOf result ReportFault.WriteFault → Rose (K.faults sink.old) (K.faults sink.new) }
     ensures never_falls { K.faults sink.old ≤ K.faults sink.new }
 {
-    put_number_line(line, word, number)?;
+    put_numbered(line, words, number)?;
     write_line(sink, line)
 }
 
 fn write_signed<K: Sink>(
     sink: &mut K,
     line: &mut Vec<u8>,
-    word: &[u8],
+    words: &[u8],
     number: &i128,
 ) -> Result<(), ReportFault>
     requires { line.old.items ≡ [] }
-    ensures lines { TakesLines (K.written sink.old) (K.written sink.new) ((word.now ++ spaced_signed number.now) ∷ []) result }
+    ensures lines { TakesLines (K.written sink.old) (K.written sink.new) (signed words.now number.now ∷ []) result }
     ensures empty { OnOk result (line.new.items ≡ []) }
     ensures fault { IsErrOf result ReportFault.WriteFault → Rose (K.faults sink.old) (K.faults sink.new) }
     ensures never_falls { K.faults sink.old ≤ K.faults sink.new }
 {
-    put_signed_line(line, word, number)?;
+    put_signed(line, words, number)?;
     write_line(sink, line)
 }
 
-fn put_number_line(line: &mut Vec<u8>, word: &[u8], number: u64) -> Result<(), OutOfMemory>
-    ensures { OnOk result (line.new.items ≡ line.old.items ++ (word.now ++ spaced number)) }
+fn put_rider(line: &mut Vec<u8>, words: &[u8], rider: RiderId) -> Result<(), OutOfMemory>
+    ensures { OnOk result (line.new.items ≡ line.old.items ++ numbered words.now rider) }
 {
-    line.extend_from_slice(word)?;
-    put_spaced(line, number)
-}
-
-/// Appends a word and a signed number.
-pub(crate) fn put_signed_line(
-    line: &mut Vec<u8>,
-    word: &[u8],
-    number: &i128,
-) -> Result<(), OutOfMemory>
-    ensures { OnOk result (line.new.items ≡ line.old.items ++ (word.now ++ spaced_signed number.now)) }
-{
-    line.extend_from_slice(word)?;
-    put_spaced_signed(line, *number)
-}
-
-/// Appends these words.
-pub(crate) fn put_words(line: &mut Vec<u8>, words: &[u8]) -> Result<(), OutOfMemory>
-    ensures { OnOk result (line.new.items ≡ line.old.items ++ words.now) }
-{
-    line.extend_from_slice(words)?;
-    Ok(())
-}
-
-fn put_rider(line: &mut Vec<u8>, word: &[u8], rider: RiderId) -> Result<(), OutOfMemory>
-    ensures { OnOk result (line.new.items ≡ line.old.items ++ (word.now ++ spaced rider)) }
-{
-    put_number_line(line, word, u64::from(rider.get()))
+    put_numbered(line, words, u64::from(rider.get()))
 }
 
 #[derive(Drop)]
@@ -232,7 +205,7 @@ impl Line for Expired {
     ghost text = { λ _ rider. expired_line rider };
 
     fn put(&self, line: &mut Vec<u8>, rider: &RiderId) -> Result<(), OutOfMemory> {
-        put_rider(line, b"expired", *rider)
+        put_rider(line, b"expired ", *rider)
     }
 }
 
@@ -245,7 +218,7 @@ impl Line for Lapsed {
     ghost text = { λ _ rider. lapsed_line rider };
 
     fn put(&self, line: &mut Vec<u8>, rider: &RiderId) -> Result<(), OutOfMemory> {
-        put_rider(line, b"lapsed", *rider)
+        put_rider(line, b"lapsed ", *rider)
     }
 }
 
@@ -258,7 +231,7 @@ impl Line for Out {
     ghost text = { λ _ rider. out_line rider };
 
     fn put(&self, line: &mut Vec<u8>, rider: &RiderId) -> Result<(), OutOfMemory> {
-        put_rider(line, b"out", *rider)
+        put_rider(line, b"out ", *rider)
     }
 }
 
@@ -271,8 +244,7 @@ impl Line for Late {
     ghost text = { λ _ late. late_line late };
 
     fn put(&self, line: &mut Vec<u8>, late: &LateVehicle) -> Result<(), OutOfMemory> {
-        line.extend_from_slice(b"late")?;
-        put_spaced(line, u64::from(late.vehicle.get()))?;
+        put_numbered(line, b"late ", u64::from(late.vehicle.get()))?;
         put_late_order(line, late)
     }
 }
@@ -298,7 +270,7 @@ impl Line for Rv {
     ghost text = { λ _ edge. rv_line edge };
 
     fn put(&self, line: &mut Vec<u8>, edge: &(VehicleId, RiderId)) -> Result<(), OutOfMemory> {
-        put_number_line(line, b"rv", u64::from(edge.0.get()))?;
+        put_numbered(line, b"rv ", u64::from(edge.0.get()))?;
         put_spaced(line, u64::from(edge.1.get()))
     }
 }
@@ -312,7 +284,7 @@ impl Line for Rr {
     ghost text = { λ _ edge. rr_line edge };
 
     fn put(&self, line: &mut Vec<u8>, edge: &(RiderId, RiderId)) -> Result<(), OutOfMemory> {
-        put_number_line(line, b"rr", u64::from(edge.0.get()))?;
+        put_numbered(line, b"rr ", u64::from(edge.0.get()))?;
         put_spaced(line, u64::from(edge.1.get()))
     }
 }
@@ -326,7 +298,7 @@ impl Line for Row {
     ghost text = { λ _ row. row_line row };
 
     fn put(&self, line: &mut Vec<u8>, row: &RowLine) -> Result<(), OutOfMemory> {
-        put_number_line(line, b"row", u64::from(row.vehicle.get()))?;
+        put_numbered(line, b"row ", u64::from(row.vehicle.get()))?;
         put_spaced(line, row.cost)?;
         put_riders(line, row.riders.as_slice())
     }
@@ -341,7 +313,7 @@ impl Line for Trip {
     ghost text = { λ _ trip. trip_line trip };
 
     fn put(&self, line: &mut Vec<u8>, trip: &ChosenTrip) -> Result<(), OutOfMemory> {
-        put_number_line(line, b"trip", u64::from(trip.vehicle.get()))?;
+        put_numbered(line, b"trip ", u64::from(trip.vehicle.get()))?;
         put_spaced(line, trip.cost)?;
         put_stops(line, trip.stops.as_slice())
     }
@@ -356,7 +328,7 @@ impl Line for Move {
     ghost text = { λ _ m. move_line m };
 
     fn put(&self, line: &mut Vec<u8>, item: &MoveLine) -> Result<(), OutOfMemory> {
-        put_number_line(line, b"move", u64::from(item.vehicle.get()))?;
+        put_numbered(line, b"move ", u64::from(item.vehicle.get()))?;
         put_spaced(line, u64::from(item.rider.get()))?;
         put_spaced(line, u64::from(item.seconds))
     }
@@ -376,11 +348,11 @@ impl<'a> Line for TreeNode<'a> {
     fn put(&self, line: &mut Vec<u8>, node: &Node) -> Result<(), OutOfMemory> {
         match node {
             Node::Branch { row, .. } => {
-                put_number_line(line, b"branch", row_vehicle(self.rows, *row))?;
+                put_numbered(line, b"branch ", row_vehicle(self.rows, *row))?;
                 put_spaced(line, u64::from(*row))
             }
             Node::Leaf { multipliers } => {
-                line.extend_from_slice(b"leaf")?;
+                put_words(line, b"leaf")?;
                 put_multipliers(line, multipliers.as_slice())
             }
             Node::Dead => put_words(line, b"dead"),
@@ -409,10 +381,8 @@ fn put_stops(line: &mut Vec<u8>, stops: &[PlannedStop]) -> Result<(), OutOfMemor
 fn put_stop(line: &mut Vec<u8>, stop: &PlannedStop) -> Result<(), OutOfMemory>
     ensures { OnOk result (line.new.items ≡ line.old.items ++ stop_text stop.now) }
 {
-    put_words(line, if stop.pick { b" pick:" } else { b" drop:" })?;
-    put_number(line, u64::from(stop.rider.get()))?;
-    line.extend_from_slice(b"@")?;
-    put_number(line, u64::from(stop.node.get()))?;
-    line.extend_from_slice(b":")?;
-    put_number(line, stop.second)
+    let words: &[u8] = if stop.pick { b" pick:" } else { b" drop:" };
+    put_numbered(line, words, u64::from(stop.rider.get()))?;
+    put_numbered(line, b"@", u64::from(stop.node.get()))?;
+    put_numbered(line, b":", stop.second)
 }

@@ -1,7 +1,7 @@
 ghost use Rattle.std.specs.Prelude.{◌≡◌, ◌≤◌, ◌++◌, ◌∷◌, [], OnOk, OnErr, codes, length};
 ghost use Rattle.std.specs.Io.KnownBytes.{Appends};
 ghost use Rattle.std.specs.Result.{IsErrOf};
-ghost use Rattle.dispatch_report.specs.Head.{named, limits_text, search_text, dwell_text, proof_text, settings_line, network_line, fleet_line, head_text};
+ghost use Rattle.dispatch_report.specs.Head.{limits_text, search_text, dwell_text, proof_text, settings_line, network_line, fleet_line, head_text};
 ghost use Rattle.dispatch_report.specs.Lines.{TakesLines};
 ghost use Rattle.pool_io.specs.Faults.{Rose};
 ghost use Rattle.pool_io.specs.Sink.{AppendsPart};
@@ -9,8 +9,9 @@ ghost use Rattle.pool_io.specs.Sink.{AppendsPart};
 use crate::block::write_words;
 use crate::fault::ReportFault;
 use crate::lines::write_line;
+use crate::words::put_numbered;
 use batch_snapshot::Fleet;
-use pool_base::{OutOfMemory, put_number};
+use pool_base::OutOfMemory;
 use pool_io::Sink;
 use rider_limits::Settings;
 use road_network::Network;
@@ -19,6 +20,7 @@ use std::alloc::Global;
 /// Writes the first lines of a report: its name, the settings, and the sizes of network and fleet.
 ///
 /// After either fault a part of the text was written, from its front and not the whole.
+#[tactic(auto, unfolding(crate::specs::Head::head_text))]
 pub fn write_head<K: Sink>(
     alloc: Global,
     sink: &mut K,
@@ -80,15 +82,6 @@ fn write_fleet<K: Sink>(sink: &mut K, line: &mut Vec<u8>, fleet: &Fleet) -> Resu
     write_line(sink, line)
 }
 
-/// Appends a name and a number.
-#[tactic(auto, unfolding(crate::specs::Head::named))]
-pub(crate) fn put_named(line: &mut Vec<u8>, name: &[u8], number: u64) -> Result<(), OutOfMemory>
-    ensures { OnOk result (line.new.items ≡ line.old.items ++ named name.now number) }
-{
-    line.extend_from_slice(name)?;
-    put_number(line, number)
-}
-
 fn put_settings(line: &mut Vec<u8>, settings: &Settings) -> Result<(), OutOfMemory>
     ensures { OnOk result (line.new.items ≡ line.old.items ++ settings_line settings.now) }
 {
@@ -102,18 +95,18 @@ fn put_settings(line: &mut Vec<u8>, settings: &Settings) -> Result<(), OutOfMemo
 fn put_limits(line: &mut Vec<u8>, settings: &Settings) -> Result<(), OutOfMemory>
     ensures { OnOk result (line.new.items ≡ line.old.items ++ limits_text settings.now) }
 {
-    put_named(line, b"settings wait=", u64::from(settings.wait))?;
-    put_named(line, b" delay=", u64::from(settings.delay))?;
-    put_named(line, b" trip=", u64::from(settings.trip))
+    put_numbered(line, b"settings wait=", u64::from(settings.wait))?;
+    put_numbered(line, b" delay=", u64::from(settings.delay))?;
+    put_numbered(line, b" trip=", u64::from(settings.trip))
 }
 
 #[tactic(auto, unfolding(crate::specs::Head::search_text))]
 fn put_search(line: &mut Vec<u8>, settings: &Settings) -> Result<(), OutOfMemory>
     ensures { OnOk result (line.new.items ≡ line.old.items ++ search_text settings.now) }
 {
-    put_named(line, b" penalty=", u64::from(settings.penalty))?;
-    put_named(line, b" budget=", u64::from(settings.budget))?;
-    put_named(line, b" pairs=", u64::from(settings.pairs))
+    put_numbered(line, b" penalty=", u64::from(settings.penalty))?;
+    put_numbered(line, b" budget=", u64::from(settings.budget))?;
+    put_numbered(line, b" pairs=", u64::from(settings.pairs))
 }
 
 #[tactic(auto, unfolding(crate::specs::Head::proof_text))]
@@ -135,14 +128,14 @@ fn put_dwell(line: &mut Vec<u8>, dwell: u16) -> Result<(), OutOfMemory>
     if dwell == 0 {
         return Ok(());
     }
-    put_named(line, b" dwell=", u64::from(dwell))
+    put_numbered(line, b" dwell=", u64::from(dwell))
 }
 
 fn put_network(line: &mut Vec<u8>, network: &Network) -> Result<(), OutOfMemory>
     ensures { OnOk result (line.new.items ≡ line.old.items ++ network_line network.now) }
 {
-    put_named(line, b"network nodes=", node_count(network))?;
-    put_named(line, b" arcs=", arc_count(network))
+    put_numbered(line, b"network nodes=", node_count(network))?;
+    put_numbered(line, b" arcs=", arc_count(network))
 }
 
 fn node_count(network: &Network) -> u64
@@ -160,7 +153,7 @@ fn arc_count(network: &Network) -> u64
 fn put_fleet(line: &mut Vec<u8>, fleet: &Fleet) -> Result<(), OutOfMemory>
     ensures { OnOk result (line.new.items ≡ line.old.items ++ fleet_line fleet.now) }
 {
-    put_named(line, b"fleet vehicles=", vehicle_count(fleet))
+    put_numbered(line, b"fleet vehicles=", vehicle_count(fleet))
 }
 
 fn vehicle_count(fleet: &Fleet) -> u64

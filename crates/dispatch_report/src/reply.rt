@@ -1,8 +1,9 @@
 ghost use Rattle.std.specs.Prelude.{◌≡◌, ◌++◌, ℕ, Option, OnOk};
 ghost use Rattle.dispatch_report.specs.Entry.{status_text, spaced_or_none, refusal_text, reply_text};
+ghost use Rattle.dispatch_report.specs.Words.{numbered};
 
-use crate::words::put_spaced;
-use pool_base::{OutOfMemory, VehicleId};
+use crate::words::{put_numbered, put_spaced, put_words};
+use pool_base::{OutOfMemory, Second, VehicleId};
 use request_book::{BookRefusal, Reply, Status};
 
 /// Appends the words of a reply.
@@ -15,23 +16,13 @@ pub(crate) fn put_reply(line: &mut Vec<u8>, reply: Reply) -> Result<(), OutOfMem
         Reply::Placed => put_words(line, b"placed"),
         Reply::Picked => put_words(line, b"picked"),
         Reply::Dropped => put_words(line, b"dropped"),
-        Reply::Sealed { batch } => {
-            put_words(line, b"sealed")?;
-            put_spaced(line, batch)
-        }
+        Reply::Sealed { batch } => put_numbered(line, b"sealed ", batch),
         Reply::Closed => put_words(line, b"closed"),
         Reply::Refused(refusal) => {
             put_words(line, b"refused ")?;
             put_refusal(line, refusal)
         }
     }
-}
-
-fn put_words(line: &mut Vec<u8>, words: &[u8]) -> Result<(), OutOfMemory>
-    ensures { OnOk result (line.new.items ≡ line.old.items ++ words.now) }
-{
-    line.extend_from_slice(words)?;
-    Ok(())
 }
 
 fn put_refusal(line: &mut Vec<u8>, refusal: BookRefusal) -> Result<(), OutOfMemory>
@@ -44,38 +35,38 @@ fn put_refusal(line: &mut Vec<u8>, refusal: BookRefusal) -> Result<(), OutOfMemo
         BookRefusal::PoolFull => put_words(line, b"pool-full"),
         BookRefusal::BookFull => put_words(line, b"book-full"),
         BookRefusal::UnknownRider => put_words(line, b"unknown-rider"),
-        BookRefusal::IsAboard { vehicle } => {
-            put_words(line, b"is-aboard")?;
-            put_spaced(line, u64::from(vehicle.get()))
-        }
+        BookRefusal::IsAboard { vehicle } => put_vehicle(line, b"is-aboard ", vehicle),
         BookRefusal::Ended { status } => {
             put_words(line, b"ended ")?;
             put_words(line, status_word(status))
         }
         BookRefusal::UnknownVehicle => put_words(line, b"unknown-vehicle"),
-        BookRefusal::TimeBack { last } => {
-            put_words(line, b"time-back")?;
-            put_spaced(line, u64::from(last.get()))
-        }
+        BookRefusal::TimeBack { last } => put_second(line, b"time-back ", last),
         BookRefusal::NotPromised { holder } => {
             put_words(line, b"not-promised")?;
             put_holder(line, holder)
         }
         BookRefusal::VehicleFull => put_words(line, b"vehicle-full"),
         BookRefusal::NotAboard => put_words(line, b"not-aboard"),
-        BookRefusal::BatchOpen { batch } => {
-            put_words(line, b"batch-open")?;
-            put_spaced(line, batch)
-        }
-        BookRefusal::ClockBack { last } => {
-            put_words(line, b"clock-back")?;
-            put_spaced(line, u64::from(last.get()))
-        }
+        BookRefusal::BatchOpen { batch } => put_numbered(line, b"batch-open ", batch),
+        BookRefusal::ClockBack { last } => put_second(line, b"clock-back ", last),
         BookRefusal::NotThisBatch { current } => {
             put_words(line, b"not-this-batch")?;
             put_spaced_or_none(line, current)
         }
     }
+}
+
+fn put_vehicle(line: &mut Vec<u8>, words: &[u8], vehicle: VehicleId) -> Result<(), OutOfMemory>
+    ensures { OnOk result (line.new.items ≡ line.old.items ++ numbered words.now vehicle) }
+{
+    put_numbered(line, words, u64::from(vehicle.get()))
+}
+
+fn put_second(line: &mut Vec<u8>, words: &[u8], second: Second) -> Result<(), OutOfMemory>
+    ensures { OnOk result (line.new.items ≡ line.old.items ++ numbered words.now second) }
+{
+    put_numbered(line, words, u64::from(second.get()))
 }
 
 fn put_holder(line: &mut Vec<u8>, holder: Option<VehicleId>) -> Result<(), OutOfMemory>

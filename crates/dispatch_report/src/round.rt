@@ -4,7 +4,7 @@ ghost use Rattle.std.specs.Result.{IsErrOf};
 ghost use Rattle.dispatch_report.specs.Entry.{entry_line};
 ghost use Rattle.dispatch_report.specs.Lines.{TakesLines};
 ghost use Rattle.dispatch_report.specs.Round.{closed_block, entry_block, entry_lines, entries_lines, round_text, end_text};
-ghost use Rattle.dispatch_report.specs.Words.{spaced};
+ghost use Rattle.dispatch_report.specs.Words.{numbered};
 ghost use Rattle.pool_io.specs.Faults.{Rose};
 ghost use Rattle.pool_io.specs.Sink.{AppendsPart};
 
@@ -20,6 +20,7 @@ use std::alloc::Global;
 /// search tree where `proof` is set.
 ///
 /// After either fault a part of the text was written, from its front and not the whole.
+#[tactic(auto, unfolding(crate::specs::Round::round_text))]
 pub fn write_round<K: Sink>(
     alloc: Global,
     sink: &mut K,
@@ -41,6 +42,7 @@ pub fn write_round<K: Sink>(
 /// Writes the last line of a report.
 ///
 /// After either fault a part of the text was written, from its front and not the whole.
+#[tactic(auto, unfolding(crate::specs::Round::end_text))]
 pub fn write_end<K: Sink>(alloc: Global, sink: &mut K, entries: u64) -> Result<(), ReportFault>
     ensures whole { OnOk result (Appends (K.written sink.old) (K.written sink.new) (end_text entries)) }
     ensures part { OnErr result (AppendsPart (K.written sink.old) (K.written sink.new) (end_text entries)) }
@@ -48,7 +50,7 @@ pub fn write_end<K: Sink>(alloc: Global, sink: &mut K, entries: u64) -> Result<(
     ensures never_falls { K.faults sink.old ≤ K.faults sink.new }
 {
     let mut line = Vec::new(alloc);
-    write_number(sink, &mut line, b"done", entries)
+    write_number(sink, &mut line, b"done ", entries)
 }
 
 fn write_round_line<K: Sink>(
@@ -57,12 +59,12 @@ fn write_round_line<K: Sink>(
     number: u32,
 ) -> Result<(), ReportFault>
     requires { line.old.items ≡ [] }
-    ensures lines { TakesLines (K.written sink.old) (K.written sink.new) ((codes "round" ++ spaced number) ∷ []) result }
+    ensures lines { TakesLines (K.written sink.old) (K.written sink.new) (numbered (codes "round ") number ∷ []) result }
     ensures empty { OnOk result (line.new.items ≡ []) }
     ensures fault { IsErrOf result ReportFault.WriteFault → Rose (K.faults sink.old) (K.faults sink.new) }
     ensures never_falls { K.faults sink.old ≤ K.faults sink.new }
 {
-    write_number(sink, line, b"round", u64::from(number))
+    write_number(sink, line, b"round ", u64::from(number))
 }
 
 fn write_journal<K: Sink>(

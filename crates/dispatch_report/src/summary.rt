@@ -3,14 +3,12 @@ ghost use Rattle.std.specs.Io.KnownBytes.{Appends};
 ghost use Rattle.std.specs.Result.{IsErrOf};
 ghost use Rattle.dispatch_report.specs.Lines.{TakesLines};
 ghost use Rattle.dispatch_report.specs.Summary.{square_text, sizes_text, load_line, pickups, served, has_pickup, with_riders, riders_text, trips_text, cost_text, answer_text, batch_line, closed_line, entry_summary, summary_lines, load_text, summary_text};
-ghost use Rattle.dispatch_report.specs.Words.{spaced_signed};
 ghost use Rattle.pool_io.specs.Faults.{Rose};
 ghost use Rattle.pool_io.specs.Sink.{AppendsPart};
 
-use crate::block::{put_signed_line, put_words};
 use crate::fault::ReportFault;
-use crate::head::put_named;
 use crate::lines::write_line;
+use crate::words::{put_numbered, put_signed, put_words};
 use pool_base::{OutOfMemory, RiderId, Sequence};
 use pool_io::Sink;
 use request_book::{Answer, ChosenTrip, Command, Entry, Journal, Outcome, Planned, Reply, RowLine};
@@ -20,6 +18,7 @@ use std::alloc::Global;
 /// Writes the first line of a made workload's text: its shape.
 ///
 /// After either fault a part of the text was written, from its front and not the whole.
+#[tactic(auto, unfolding(crate::specs::Summary::load_text))]
 pub fn write_load<K: Sink>(
     alloc: Global,
     sink: &mut K,
@@ -39,6 +38,7 @@ pub fn write_load<K: Sink>(
 /// are made, the plan's cost and the bound; or that there were too many rows.
 ///
 /// After either fault a part of the text was written, from its front and not the whole.
+#[tactic(auto, unfolding(crate::specs::Summary::summary_text))]
 pub fn write_summary<K: Sink>(
     alloc: Global,
     sink: &mut K,
@@ -150,23 +150,23 @@ fn put_shape(line: &mut Vec<u8>, shape: &LoadShape) -> Result<(), OutOfMemory>
 fn put_square(line: &mut Vec<u8>, shape: &LoadShape) -> Result<(), OutOfMemory>
     ensures { OnOk result (line.new.items ≡ line.old.items ++ square_text shape.now) }
 {
-    put_named(line, b"load seed=", shape.seed)?;
-    put_named(line, b" side=", u64::from(shape.side))
+    put_numbered(line, b"load seed=", shape.seed)?;
+    put_numbered(line, b" side=", u64::from(shape.side))
 }
 
 #[tactic(auto, unfolding(crate::specs::Summary::sizes_text))]
 fn put_sizes(line: &mut Vec<u8>, shape: &LoadShape) -> Result<(), OutOfMemory>
     ensures { OnOk result (line.new.items ≡ line.old.items ++ sizes_text shape.now) }
 {
-    put_named(line, b" vehicles=", u64::from(shape.vehicles))?;
-    put_named(line, b" riders=", u64::from(shape.riders))?;
-    put_named(line, b" rounds=", u64::from(shape.rounds))
+    put_numbered(line, b" vehicles=", u64::from(shape.vehicles))?;
+    put_numbered(line, b" riders=", u64::from(shape.riders))?;
+    put_numbered(line, b" rounds=", u64::from(shape.rounds))
 }
 
 fn put_batch(line: &mut Vec<u8>, batch: u64, outcome: &Outcome) -> Result<(), OutOfMemory>
     ensures { OnOk result (line.new.items ≡ line.old.items ++ batch_line batch outcome.now) }
 {
-    put_named(line, b"batch ", batch)?;
+    put_numbered(line, b"batch ", batch)?;
     put_answer(line, &outcome.answer)
 }
 
@@ -191,24 +191,24 @@ fn put_plan(line: &mut Vec<u8>, plan: &Planned) -> Result<(), OutOfMemory>
 fn put_served(line: &mut Vec<u8>, plan: &Planned) -> Result<(), OutOfMemory>
     ensures { OnOk result (line.new.items ≡ line.old.items ++ riders_text plan.now) }
 {
-    put_named(line, b" served ", served(&plan.chosen))?;
-    put_named(line, b" out ", left_count(&plan.left))
+    put_numbered(line, b" served ", served(&plan.chosen))?;
+    put_numbered(line, b" out ", left_count(&plan.left))
 }
 
 #[tactic(auto, unfolding(crate::specs::Summary::trips_text))]
 fn put_trips(line: &mut Vec<u8>, plan: &Planned) -> Result<(), OutOfMemory>
     ensures { OnOk result (line.new.items ≡ line.old.items ++ trips_text plan.now) }
 {
-    put_named(line, b" rows ", row_count(&plan.rows))?;
-    put_named(line, b" trips ", trips_with_riders(&plan.chosen))
+    put_numbered(line, b" rows ", row_count(&plan.rows))?;
+    put_numbered(line, b" trips ", trips_with_riders(&plan.chosen))
 }
 
 #[tactic(auto, unfolding(crate::specs::Summary::cost_text))]
 fn put_cost(line: &mut Vec<u8>, plan: &Planned) -> Result<(), OutOfMemory>
     ensures { OnOk result (line.new.items ≡ line.old.items ++ cost_text plan.now) }
 {
-    put_named(line, b" cost ", plan.cost)?;
-    put_signed_line(line, b" bound", &plan.bound)
+    put_numbered(line, b" cost ", plan.cost)?;
+    put_signed(line, b" bound ", &plan.bound)
 }
 
 fn left_count(riders: &Sequence<RiderId>) -> u64

@@ -1,10 +1,10 @@
 use Rattle.std.proofs.Common.{◌++◌}
-use Rattle.dispatch_report.specs.Words.{spaced}
+use Rattle.dispatch_report.specs.Words.{numbered}
 use Rattle.std.proofs.lemmas.Result.{err_from_is_err_and}
 use Rattle.dispatch_report.proofs.LineLemmas.{nothing_yet}
 use Rattle.dispatch_report.proofs.block.write_number.Goals as goal
 
-pub returns-in_err-put_number_line-clause-lines : goal.returns-in_err-put_number_line-clause-lines
-returns-in_err-put_number_line-clause-lines g c =
+pub returns-in_err-put_numbered-clause-lines : goal.returns-in_err-put_numbered-clause-lines
+returns-in_err-put_numbered-clause-lines g c =
     let p = err_from_is_err_and c.from_residual.result c.from_residual.ensures.1 in
-    rw p.1 (nothing_yet (g.K.Sink.written c.args.sink.now) (c.args.word.now ++ spaced c.args.number))
+    rw p.1 (nothing_yet (g.K.Sink.written c.args.sink.now) (numbered c.args.words.now c.args.number))
