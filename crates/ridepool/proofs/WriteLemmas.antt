@@ -23,8 +23,9 @@ use Rattle.rider_limits.specs.declared.settings.Mode.TheVariants.{Run}
 use Rattle.rider_limits.specs.declared.settings.Settings.{Settings}
 use Rattle.road_network.specs.Roads.{Roads}
 use Rattle.script_rows.specs.Round.{NumberedLanes}
-use Rattle.ridepool.specs.Report.{Inputs, RunsRounds, first_text, added_text, rounds_text, begun_text, report_text, Begins, IsPart}
-use Rattle.ridepool.specs.Writing.{NextJournal, WritesRound, WritesPart, WritesRounds, WritesFirst, LacksEnd, IsRoundFault, IsRoundsFault, IsWritingFault, status_of}
+use Rattle.ridepool.specs.Inputs.{Inputs}
+use Rattle.ridepool.specs.Report.{RunsRounds, first_text, added_text, rounds_text, begun_text, report_text, Begins, IsPart}
+use Rattle.ridepool.specs.work.Writing.{NextJournal, WritesRound, WritesPart, WritesRounds, WritesFirst, LacksEnd, IsRoundFault, IsRoundsFault, IsWritingFault, status_of}
 use Rattle.ridepool.specs.declared.status.RunStatus.{RunStatus}
 use Rattle.ridepool.specs.declared.status.RunStatus.TheVariants.{Done, Words, Network, Fleet, Script, TooLong, ReadFault, WriteFault, OutOfMemory}
 

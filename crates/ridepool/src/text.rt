@@ -1,5 +1,6 @@
 ghost use Rattle.std.specs.Prelude.{◌≡◌, ◌++◌, IfOk, OnOk};
-ghost use Rattle.ridepool.specs.Text.{at_number, at_place, word_text, row_text, network_text, fleet_text, script_text, input_text, status_text};
+ghost use Rattle.dispatch_report.specs.Words.{numbered};
+ghost use Rattle.ridepool.specs.Text.{at_place, word_text, row_text, network_text, fleet_text, script_text, input_text, status_text};
 
 use crate::status::RunStatus;
 use fleet_state::FleetFault;
@@ -61,12 +62,11 @@ fn put(text: &mut Vec<u8>, words: &[u8]) -> Result<(), OutOfMemory>
     Ok(())
 }
 
-#[tactic(auto, unfolding(crate::specs::Text::at_number))]
+#[tactic(auto, unfolding(dispatch_report::specs::Words::numbered))]
 fn put_at(text: &mut Vec<u8>, words: &[u8], number: u64) -> Result<(), OutOfMemory>
-    ensures { OnOk result (text.new.items ≡ text.old.items ++ at_number words.now number) }
+    ensures { OnOk result (text.new.items ≡ text.old.items ++ numbered words.now number) }
 {
-    text.extend_from_slice(words)?;
-    text.push(b' ')?;
+    put(text, words)?;
     put_number(text, number)
 }
 
@@ -74,8 +74,8 @@ fn put_at(text: &mut Vec<u8>, words: &[u8], number: u64) -> Result<(), OutOfMemo
 fn put_place(text: &mut Vec<u8>, row: u64, column: u64) -> Result<(), OutOfMemory>
     ensures { OnOk result (text.new.items ≡ text.old.items ++ at_place row column) }
 {
-    put_at(text, b"bad number at row", row)?;
-    put_at(text, b" column", column)
+    put_at(text, b"bad number at row ", row)?;
+    put_at(text, b" column ", column)
 }
 
 fn put_word_fault(text: &mut Vec<u8>, fault: WordFault) -> Result<(), OutOfMemory>
@@ -83,9 +83,9 @@ fn put_word_fault(text: &mut Vec<u8>, fault: WordFault) -> Result<(), OutOfMemor
 {
     match fault {
         WordFault::NoCommand => put(text, b"no command"),
-        WordFault::UnknownKey { word } => put_at(text, b"unknown key at word", word),
-        WordFault::Repeated { word } => put_at(text, b"repeated key at word", word),
-        WordFault::BadValue { word } => put_at(text, b"bad value at word", word),
+        WordFault::UnknownKey { word } => put_at(text, b"unknown key at word ", word),
+        WordFault::Repeated { word } => put_at(text, b"repeated key at word ", word),
+        WordFault::BadValue { word } => put_at(text, b"bad value at word ", word),
         WordFault::MissingFile { which } => {
             put(text, b"missing ")?;
             put(text, which.name().as_bytes())
@@ -98,11 +98,11 @@ fn put_row_fault(text: &mut Vec<u8>, fault: RowFault) -> Result<(), OutOfMemory>
 {
     match fault {
         RowFault::Header { fields } => {
-            put_at(text, b"wrong header of", fields)?;
+            put_at(text, b"wrong header of ", fields)?;
             put(text, b" fields")
         }
         RowFault::UnequalLength { row } => {
-            put_at(text, b"row", row)?;
+            put_at(text, b"row ", row)?;
             put(text, b" has another length")
         }
         RowFault::OutOfMemory => put(text, b"out of memory"),
@@ -142,8 +142,8 @@ fn put_network_fault(text: &mut Vec<u8>, fault: NetworkFault) -> Result<(), OutO
     match fault {
         NetworkFault::TooManyArcs => put(text, b"more than 400000 arcs"),
         NetworkFault::Number { row, column } => put_place(text, row, column),
-        NetworkFault::ArcTooLong { row } => put_at(text, b"arc too long at row", row),
-        NetworkFault::TooManyNodes { row } => put_at(text, b"more than 100000 nodes at row", row),
+        NetworkFault::ArcTooLong { row } => put_at(text, b"arc too long at row ", row),
+        NetworkFault::TooManyNodes { row } => put_at(text, b"more than 100000 nodes at row ", row),
         NetworkFault::OutOfMemory => put(text, b"out of memory"),
     }
 }
@@ -154,9 +154,9 @@ fn put_fleet_fault(text: &mut Vec<u8>, fault: FleetFault) -> Result<(), OutOfMem
     match fault {
         FleetFault::TooManyVehicles => put(text, b"more than 500 vehicles"),
         FleetFault::Number { row, column } => put_place(text, row, column),
-        FleetFault::Seats { row } => put_at(text, b"bad seats at row", row),
-        FleetFault::UnknownNode { row } => put_at(text, b"unknown node at row", row),
-        FleetFault::Duplicate { row } => put_at(text, b"repeated vehicle at row", row),
+        FleetFault::Seats { row } => put_at(text, b"bad seats at row ", row),
+        FleetFault::UnknownNode { row } => put_at(text, b"unknown node at row ", row),
+        FleetFault::Duplicate { row } => put_at(text, b"repeated vehicle at row ", row),
         FleetFault::OutOfMemory => put(text, b"out of memory"),
     }
 }
@@ -167,12 +167,12 @@ fn put_script_fault(text: &mut Vec<u8>, fault: ScriptFault) -> Result<(), OutOfM
     match fault {
         ScriptFault::TooManyRows => put(text, b"more than 200000 rows"),
         ScriptFault::Number { row, column } => put_place(text, row, column),
-        ScriptFault::LaneRange { row } => put_at(text, b"lane above 15 at row", row),
-        ScriptFault::RoundBack { row } => put_at(text, b"round goes back at row", row),
-        ScriptFault::UnknownCommand { row } => put_at(text, b"unknown command at row", row),
-        ScriptFault::ExtraField { row } => put_at(text, b"field not empty at row", row),
-        ScriptFault::SealLane { row } => put_at(text, b"seal outside lane 0 at row", row),
-        ScriptFault::Party { row } => put_at(text, b"bad party at row", row),
+        ScriptFault::LaneRange { row } => put_at(text, b"lane above 15 at row ", row),
+        ScriptFault::RoundBack { row } => put_at(text, b"round goes back at row ", row),
+        ScriptFault::UnknownCommand { row } => put_at(text, b"unknown command at row ", row),
+        ScriptFault::ExtraField { row } => put_at(text, b"field not empty at row ", row),
+        ScriptFault::SealLane { row } => put_at(text, b"seal outside lane 0 at row ", row),
+        ScriptFault::Party { row } => put_at(text, b"bad party at row ", row),
         ScriptFault::OutOfMemory => put(text, b"out of memory"),
     }
 }
