@@ -11,14 +11,10 @@ use Rattle.request_book.specs.declared.reply.Reply.TheVariants.{Accepted, Cancel
 use Rattle.request_book.specs.declared.rider.Status.{Status}
 use Rattle.request_book.specs.declared.rider.Status.TheVariants.{Waiting, Promised, Aboard, Cancelled as GivenUp, Delivered, Expired}
 
--- the party where it isn't one person
-abbrev pub party_text : ℕ → List ℕ
-party_text persons = if persons == 1 then [] else spaced persons
-
--- a command with its fields
+-- a command with its fields; a party where it isn't one person
 abbrev pub command_text : Command → List ℕ
 command_text (Submit rider origin destination time party) =
-    numbered (codes "submit ") rider ++ spaced origin ++ spaced destination ++ spaced time ++ party_text party
+    numbered (codes "submit ") rider ++ spaced origin ++ spaced destination ++ spaced time ++ (if party == 1 then [] else spaced party)
 command_text (Cancel rider) = numbered (codes "cancel ") rider
 command_text (Report vehicle node time) = numbered (codes "report ") vehicle ++ spaced node ++ spaced time
 command_text (Pickup vehicle rider time) = numbered (codes "pickup ") vehicle ++ spaced rider ++ spaced time

@@ -1,9 +1,10 @@
-ghost use Rattle.std.specs.Prelude.{◌≡◌, ◌≤◌, ◌++◌, ◌∷◌, [], List, ℕ, OnOk, map, codes, length, Bool};
-ghost use Rattle.std.specs.Result.{IsErrOf};
-ghost use Rattle.dispatch_report.specs.Block.{stop_text, stops_text, expired_line, lapsed_line, late_order, late_line, rv_line, rr_line, row_line, trip_line, out_line, move_line, vehicle_of_row, node_line, graph_lines, plan_lines, bound_lines, tree_lines, answer_lines, block_lines};
-ghost use Rattle.dispatch_report.specs.Lines.{TakesLines};
+ghost use Rattle.std.specs.Prelude.{◌≡◌, ◌++◌, ◌∷◌, [], List, ℕ, OnOk, map, codes, length, Bool, slice_get, unwrap_or, option_map};
+ghost use Rattle.std.specs.List.{flat_map};
+ghost use Rattle.dispatch_report.specs.Block.{stop_text, late_line, pair_line, row_line, trip_line, move_line, node_line, answer_lines, block_lines};
 ghost use Rattle.dispatch_report.specs.Words.{numbered, signed};
-ghost use Rattle.pool_io.specs.Faults.{Rose};
+ghost use Rattle.dispatch_report.specs.Written.{sink_seen};
+ghost use Rattle.dispatch_report.specs.work.Block.{late_order, graph_lines, plan_lines, bound_lines, tree_lines};
+ghost use Rattle.dispatch_report.specs.work.Lines.{WritesLines};
 
 use crate::fault::ReportFault;
 use crate::lines::{Line, write_line, write_lines, write_list};
@@ -23,14 +24,10 @@ pub(crate) fn write_block<K: Sink>(
     outcome: &Outcome,
     proof: bool,
 ) -> Result<(), ReportFault>
-    requires { line.old.items ≡ [] }
-    ensures lines { TakesLines (K.written sink.old) (K.written sink.new) (block_lines proof batch outcome.now) result }
-    ensures empty { OnOk result (line.new.items ≡ []) }
-    ensures fault { IsErrOf result ReportFault.WriteFault → Rose (K.faults sink.old) (K.faults sink.new) }
-    ensures never_falls { K.faults sink.old ≤ K.faults sink.new }
+    ensures { WritesLines (sink_seen K.written K.faults sink.old sink.new) (block_lines proof batch outcome.now) result }
 {
     write_number(sink, line, b"batch ", batch)?;
-    write_list(sink, line, &Expired, &outcome.expired)?;
+    write_list(sink, line, &Riders { words: b"expired " }, &outcome.expired)?;
     write_answer(sink, line, &outcome.answer, proof)?;
     write_words(sink, line, b"end")?;
     Ok(())
@@ -42,11 +39,7 @@ fn write_answer<K: Sink>(
     answer: &Answer,
     proof: bool,
 ) -> Result<(), ReportFault>
-    requires { line.old.items ≡ [] }
-    ensures lines { TakesLines (K.written sink.old) (K.written sink.new) (answer_lines proof answer.now) result }
-    ensures empty { OnOk result (line.new.items ≡ []) }
-    ensures fault { IsErrOf result ReportFault.WriteFault → Rose (K.faults sink.old) (K.faults sink.new) }
-    ensures never_falls { K.faults sink.old ≤ K.faults sink.new }
+    ensures { WritesLines (sink_seen K.written K.faults sink.old sink.new) (answer_lines proof answer.now) result }
 {
     match answer {
         Answer::Overflow => write_words(sink, line, b"overflow"),
@@ -65,13 +58,9 @@ fn write_graphs<K: Sink>(
     line: &mut Vec<u8>,
     plan: &Planned,
 ) -> Result<(), ReportFault>
-    requires { line.old.items ≡ [] }
-    ensures lines { TakesLines (K.written sink.old) (K.written sink.new) (graph_lines plan.now) result }
-    ensures empty { OnOk result (line.new.items ≡ []) }
-    ensures fault { IsErrOf result ReportFault.WriteFault → Rose (K.faults sink.old) (K.faults sink.new) }
-    ensures never_falls { K.faults sink.old ≤ K.faults sink.new }
+    ensures { WritesLines (sink_seen K.written K.faults sink.old sink.new) (graph_lines plan.now) result }
 {
-    write_list(sink, line, &Lapsed, &plan.lapsed)?;
+    write_list(sink, line, &Riders { words: b"lapsed " }, &plan.lapsed)?;
     write_list(sink, line, &Late, &plan.late)?;
     write_list(sink, line, &Rv, &plan.rv)?;
     write_list(sink, line, &Rr, &plan.rr)?;
@@ -80,24 +69,16 @@ fn write_graphs<K: Sink>(
 }
 
 fn write_plan<K: Sink>(sink: &mut K, line: &mut Vec<u8>, plan: &Planned) -> Result<(), ReportFault>
-    requires { line.old.items ≡ [] }
-    ensures lines { TakesLines (K.written sink.old) (K.written sink.new) (plan_lines plan.now) result }
-    ensures empty { OnOk result (line.new.items ≡ []) }
-    ensures fault { IsErrOf result ReportFault.WriteFault → Rose (K.faults sink.old) (K.faults sink.new) }
-    ensures never_falls { K.faults sink.old ≤ K.faults sink.new }
+    ensures { WritesLines (sink_seen K.written K.faults sink.old sink.new) (plan_lines plan.now) result }
 {
     write_list(sink, line, &Trip, &plan.chosen)?;
-    write_list(sink, line, &Out, &plan.left)?;
+    write_list(sink, line, &Riders { words: b"out " }, &plan.left)?;
     write_list(sink, line, &Move, &plan.moves)?;
     Ok(())
 }
 
 fn write_bound<K: Sink>(sink: &mut K, line: &mut Vec<u8>, plan: &Planned) -> Result<(), ReportFault>
-    requires { line.old.items ≡ [] }
-    ensures lines { TakesLines (K.written sink.old) (K.written sink.new) (bound_lines plan.now) result }
-    ensures empty { OnOk result (line.new.items ≡ []) }
-    ensures fault { IsErrOf result ReportFault.WriteFault → Rose (K.faults sink.old) (K.faults sink.new) }
-    ensures never_falls { K.faults sink.old ≤ K.faults sink.new }
+    ensures { WritesLines (sink_seen K.written K.faults sink.old sink.new) (bound_lines plan.now) result }
 {
     write_number(sink, line, b"cost ", plan.cost)?;
     write_signed(sink, line, b"bound ", &plan.bound)?;
@@ -106,11 +87,7 @@ fn write_bound<K: Sink>(sink: &mut K, line: &mut Vec<u8>, plan: &Planned) -> Res
 }
 
 fn write_nodes<K: Sink>(sink: &mut K, line: &mut Vec<u8>, tree: &Tree) -> Result<(), ReportFault>
-    requires { line.old.items ≡ [] }
-    ensures lines { TakesLines (K.written sink.old) (K.written sink.new) (numbered (codes "nodes ") (length tree.now) ∷ []) result }
-    ensures empty { OnOk result (line.new.items ≡ []) }
-    ensures fault { IsErrOf result ReportFault.WriteFault → Rose (K.faults sink.old) (K.faults sink.new) }
-    ensures never_falls { K.faults sink.old ≤ K.faults sink.new }
+    ensures { WritesLines (sink_seen K.written K.faults sink.old sink.new) (numbered (codes "nodes ") (length tree.now) ∷ []) result }
 {
     write_number(sink, line, b"nodes ", tree.nodes().len() as u64)
 }
@@ -121,11 +98,7 @@ fn write_tree<K: Sink>(
     plan: &Planned,
     proof: bool,
 ) -> Result<(), ReportFault>
-    requires { line.old.items ≡ [] }
-    ensures lines { TakesLines (K.written sink.old) (K.written sink.new) (tree_lines proof plan.now) result }
-    ensures empty { OnOk result (line.new.items ≡ []) }
-    ensures fault { IsErrOf result ReportFault.WriteFault → Rose (K.faults sink.old) (K.faults sink.new) }
-    ensures never_falls { K.faults sink.old ≤ K.faults sink.new }
+    ensures { WritesLines (sink_seen K.written K.faults sink.old sink.new) (tree_lines proof plan.now) result }
 {
     if proof {
         write_lines(
@@ -147,12 +120,9 @@ pub(crate) fn write_words<K: Sink>(
     line: &mut Vec<u8>,
     words: &[u8],
 ) -> Result<(), ReportFault>
-    requires { line.old.items ≡ [] }
-    ensures lines { TakesLines (K.written sink.old) (K.written sink.new) (words.now ∷ []) result }
-    ensures empty { OnOk result (line.new.items ≡ []) }
-    ensures fault { IsErrOf result ReportFault.WriteFault → Rose (K.faults sink.old) (K.faults sink.new) }
-    ensures never_falls { K.faults sink.old ≤ K.faults sink.new }
+    ensures { WritesLines (sink_seen K.written K.faults sink.old sink.new) (words.now ∷ []) result }
 {
+    line.clear();
     put_words(line, words)?;
     write_line(sink, line)
 }
@@ -164,12 +134,9 @@ pub(crate) fn write_number<K: Sink>(
     words: &[u8],
     number: u64,
 ) -> Result<(), ReportFault>
-    requires { line.old.items ≡ [] }
-    ensures lines { TakesLines (K.written sink.old) (K.written sink.new) (numbered words.now number ∷ []) result }
-    ensures empty { OnOk result (line.new.items ≡ []) }
-    ensures fault { IsErrOf result ReportFault.WriteFault → Rose (K.faults sink.old) (K.faults sink.new) }
-    ensures never_falls { K.faults sink.old ≤ K.faults sink.new }
+    ensures { WritesLines (sink_seen K.written K.faults sink.old sink.new) (numbered words.now number ∷ []) result }
 {
+    line.clear();
     put_numbered(line, words, number)?;
     write_line(sink, line)
 }
@@ -180,58 +147,26 @@ fn write_signed<K: Sink>(
     words: &[u8],
     number: &i128,
 ) -> Result<(), ReportFault>
-    requires { line.old.items ≡ [] }
-    ensures lines { TakesLines (K.written sink.old) (K.written sink.new) (signed words.now number.now ∷ []) result }
-    ensures empty { OnOk result (line.new.items ≡ []) }
-    ensures fault { IsErrOf result ReportFault.WriteFault → Rose (K.faults sink.old) (K.faults sink.new) }
-    ensures never_falls { K.faults sink.old ≤ K.faults sink.new }
+    ensures { WritesLines (sink_seen K.written K.faults sink.old sink.new) (signed words.now number.now ∷ []) result }
 {
+    line.clear();
     put_signed(line, words, number)?;
     write_line(sink, line)
 }
 
-fn put_rider(line: &mut Vec<u8>, words: &[u8], rider: RiderId) -> Result<(), OutOfMemory>
-    ensures { OnOk result (line.new.items ≡ line.old.items ++ numbered words.now rider) }
-{
-    put_numbered(line, words, u64::from(rider.get()))
+/// Riders, each behind the same words.
+#[derive(Drop)]
+struct Riders<'a> {
+    words: &'a [u8],
 }
 
-#[derive(Drop)]
-struct Expired;
-
-impl Line for Expired {
+impl<'a> Line for Riders<'a> {
     type Item = RiderId;
 
-    ghost text = { λ _ rider. expired_line rider };
+    ghost text = { λ kind rider. numbered kind.words.now rider };
 
     fn put(&self, line: &mut Vec<u8>, rider: &RiderId) -> Result<(), OutOfMemory> {
-        put_rider(line, b"expired ", *rider)
-    }
-}
-
-#[derive(Drop)]
-struct Lapsed;
-
-impl Line for Lapsed {
-    type Item = RiderId;
-
-    ghost text = { λ _ rider. lapsed_line rider };
-
-    fn put(&self, line: &mut Vec<u8>, rider: &RiderId) -> Result<(), OutOfMemory> {
-        put_rider(line, b"lapsed ", *rider)
-    }
-}
-
-#[derive(Drop)]
-struct Out;
-
-impl Line for Out {
-    type Item = RiderId;
-
-    ghost text = { λ _ rider. out_line rider };
-
-    fn put(&self, line: &mut Vec<u8>, rider: &RiderId) -> Result<(), OutOfMemory> {
-        put_rider(line, b"out ", *rider)
+        put_numbered(line, self.words, u64::from(rider.get()))
     }
 }
 
@@ -267,7 +202,7 @@ struct Rv;
 impl Line for Rv {
     type Item = (VehicleId, RiderId);
 
-    ghost text = { λ _ edge. rv_line edge };
+    ghost text = { λ _ edge. pair_line (codes "rv ") edge };
 
     fn put(&self, line: &mut Vec<u8>, edge: &(VehicleId, RiderId)) -> Result<(), OutOfMemory> {
         put_numbered(line, b"rv ", u64::from(edge.0.get()))?;
@@ -281,7 +216,7 @@ struct Rr;
 impl Line for Rr {
     type Item = (RiderId, RiderId);
 
-    ghost text = { λ _ edge. rr_line edge };
+    ghost text = { λ _ edge. pair_line (codes "rr ") edge };
 
     fn put(&self, line: &mut Vec<u8>, edge: &(RiderId, RiderId)) -> Result<(), OutOfMemory> {
         put_numbered(line, b"rr ", u64::from(edge.0.get()))?;
@@ -361,7 +296,7 @@ impl<'a> Line for TreeNode<'a> {
 }
 
 fn row_vehicle(rows: &[RowLine], row: u32) -> u64
-    ensures { result ≡ vehicle_of_row rows.now row }
+    ensures { result ≡ unwrap_or (option_map (λ r. r.vehicle) (slice_get rows.now row)) 0 }
 {
     match rows.get(row as usize) {
         Some(line) => u64::from(line.vehicle.get()),
@@ -370,7 +305,7 @@ fn row_vehicle(rows: &[RowLine], row: u32) -> u64
 }
 
 fn put_stops(line: &mut Vec<u8>, stops: &[PlannedStop]) -> Result<(), OutOfMemory>
-    ensures { OnOk result (line.new.items ≡ line.old.items ++ stops_text stops.now) }
+    ensures { OnOk result (line.new.items ≡ line.old.items ++ flat_map stop_text stops.now) }
 {
     for stop in stops {
         put_stop(line, stop)?;

@@ -1,5 +1,5 @@
-ghost use Rattle.std.specs.Prelude.{◌≡◌, ◌++◌, OnOk, codes};
-ghost use Rattle.dispatch_report.specs.Entry.{party_text, command_text, entry_line};
+ghost use Rattle.std.specs.Prelude.{◌≡◌, ◌==◌, ◌++◌, [], OnOk, codes, if◌then◌else◌};
+ghost use Rattle.dispatch_report.specs.Entry.{command_text, entry_line};
 ghost use Rattle.dispatch_report.specs.Words.{numbered, spaced};
 
 use crate::reply::put_reply;
@@ -59,7 +59,7 @@ fn put_submit(
     time: Second,
     party: Party,
 ) -> Result<(), OutOfMemory>
-    ensures { OnOk result (line.new.items ≡ line.old.items ++ (numbered (codes "submit ") rider ++ spaced origin ++ spaced destination ++ spaced time ++ party_text party)) }
+    ensures { OnOk result (line.new.items ≡ line.old.items ++ (numbered (codes "submit ") rider ++ spaced origin ++ spaced destination ++ spaced time ++ (if party == 1 then [] else spaced party))) }
 {
     put_numbered(line, b"submit ", u64::from(rider.get()))?;
     put_spaced(line, u64::from(origin.get()))?;
@@ -96,7 +96,7 @@ fn put_visit(
 }
 
 fn put_party(line: &mut Vec<u8>, party: Party) -> Result<(), OutOfMemory>
-    ensures { OnOk result (line.new.items ≡ line.old.items ++ party_text party) }
+    ensures { OnOk result (line.new.items ≡ line.old.items ++ (if party == 1 then [] else spaced party)) }
 {
     if party.get() == 1 {
         return Ok(());

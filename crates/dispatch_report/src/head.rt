@@ -1,10 +1,8 @@
-ghost use Rattle.std.specs.Prelude.{◌≡◌, ◌≤◌, ◌++◌, ◌∷◌, [], OnOk, OnErr, codes, length};
-ghost use Rattle.std.specs.Io.KnownBytes.{Appends};
-ghost use Rattle.std.specs.Result.{IsErrOf};
-ghost use Rattle.dispatch_report.specs.Head.{limits_text, search_text, dwell_text, proof_text, settings_line, network_line, fleet_line, head_text};
-ghost use Rattle.dispatch_report.specs.Lines.{TakesLines};
-ghost use Rattle.pool_io.specs.Faults.{Rose};
-ghost use Rattle.pool_io.specs.Sink.{AppendsPart};
+ghost use Rattle.std.specs.Prelude.{◌≡◌, ◌==◌, ◌++◌, ◌∷◌, [], OnOk, codes, length, if◌then◌else◌};
+ghost use Rattle.dispatch_report.specs.Head.{settings_line, head_text};
+ghost use Rattle.dispatch_report.specs.Words.{numbered};
+ghost use Rattle.dispatch_report.specs.Written.{sink_seen, WritesText};
+ghost use Rattle.dispatch_report.specs.work.Lines.{WritesLines};
 
 use crate::block::write_words;
 use crate::fault::ReportFault;
@@ -28,10 +26,7 @@ pub fn write_head<K: Sink>(
     network: &Network,
     fleet: &Fleet,
 ) -> Result<(), ReportFault>
-    ensures whole { OnOk result (Appends (K.written sink.old) (K.written sink.new) (head_text settings.now network.now fleet.now)) }
-    ensures part { OnErr result (AppendsPart (K.written sink.old) (K.written sink.new) (head_text settings.now network.now fleet.now)) }
-    ensures fault { IsErrOf result ReportFault.WriteFault → Rose (K.faults sink.old) (K.faults sink.new) }
-    ensures never_falls { K.faults sink.old ≤ K.faults sink.new }
+    ensures { WritesText (sink_seen K.written K.faults sink.old sink.new) (head_text settings.now network.now fleet.now) result }
 {
     let mut line = Vec::new(alloc);
     write_words(sink, &mut line, b"ridepool report 1")?;
@@ -46,12 +41,9 @@ fn write_settings<K: Sink>(
     line: &mut Vec<u8>,
     settings: &Settings,
 ) -> Result<(), ReportFault>
-    requires { line.old.items ≡ [] }
-    ensures lines { TakesLines (K.written sink.old) (K.written sink.new) (settings_line settings.now ∷ []) result }
-    ensures empty { OnOk result (line.new.items ≡ []) }
-    ensures fault { IsErrOf result ReportFault.WriteFault → Rose (K.faults sink.old) (K.faults sink.new) }
-    ensures never_falls { K.faults sink.old ≤ K.faults sink.new }
+    ensures { WritesLines (sink_seen K.written K.faults sink.old sink.new) (settings_line settings.now ∷ []) result }
 {
+    line.clear();
     put_settings(line, settings)?;
     write_line(sink, line)
 }
@@ -61,23 +53,17 @@ fn write_network<K: Sink>(
     line: &mut Vec<u8>,
     network: &Network,
 ) -> Result<(), ReportFault>
-    requires { line.old.items ≡ [] }
-    ensures lines { TakesLines (K.written sink.old) (K.written sink.new) (network_line network.now ∷ []) result }
-    ensures empty { OnOk result (line.new.items ≡ []) }
-    ensures fault { IsErrOf result ReportFault.WriteFault → Rose (K.faults sink.old) (K.faults sink.new) }
-    ensures never_falls { K.faults sink.old ≤ K.faults sink.new }
+    ensures { WritesLines (sink_seen K.written K.faults sink.old sink.new) ((numbered (codes "network nodes=") (length network.now.nodes) ++ numbered (codes " arcs=") (length network.now.arcs)) ∷ []) result }
 {
+    line.clear();
     put_network(line, network)?;
     write_line(sink, line)
 }
 
 fn write_fleet<K: Sink>(sink: &mut K, line: &mut Vec<u8>, fleet: &Fleet) -> Result<(), ReportFault>
-    requires { line.old.items ≡ [] }
-    ensures lines { TakesLines (K.written sink.old) (K.written sink.new) (fleet_line fleet.now ∷ []) result }
-    ensures empty { OnOk result (line.new.items ≡ []) }
-    ensures fault { IsErrOf result ReportFault.WriteFault → Rose (K.faults sink.old) (K.faults sink.new) }
-    ensures never_falls { K.faults sink.old ≤ K.faults sink.new }
+    ensures { WritesLines (sink_seen K.written K.faults sink.old sink.new) (numbered (codes "fleet vehicles=") (length fleet.now) ∷ []) result }
 {
+    line.clear();
     put_fleet(line, fleet)?;
     write_line(sink, line)
 }
@@ -91,27 +77,24 @@ fn put_settings(line: &mut Vec<u8>, settings: &Settings) -> Result<(), OutOfMemo
     put_dwell(line, settings.dwell)
 }
 
-#[tactic(auto, unfolding(crate::specs::Head::limits_text))]
 fn put_limits(line: &mut Vec<u8>, settings: &Settings) -> Result<(), OutOfMemory>
-    ensures { OnOk result (line.new.items ≡ line.old.items ++ limits_text settings.now) }
+    ensures { OnOk result (line.new.items ≡ line.old.items ++ (numbered (codes "settings wait=") settings.now.wait ++ numbered (codes " delay=") settings.now.delay ++ numbered (codes " trip=") settings.now.trip)) }
 {
     put_numbered(line, b"settings wait=", u64::from(settings.wait))?;
     put_numbered(line, b" delay=", u64::from(settings.delay))?;
     put_numbered(line, b" trip=", u64::from(settings.trip))
 }
 
-#[tactic(auto, unfolding(crate::specs::Head::search_text))]
 fn put_search(line: &mut Vec<u8>, settings: &Settings) -> Result<(), OutOfMemory>
-    ensures { OnOk result (line.new.items ≡ line.old.items ++ search_text settings.now) }
+    ensures { OnOk result (line.new.items ≡ line.old.items ++ (numbered (codes " penalty=") settings.now.penalty ++ numbered (codes " budget=") settings.now.budget ++ numbered (codes " pairs=") settings.now.pairs)) }
 {
     put_numbered(line, b" penalty=", u64::from(settings.penalty))?;
     put_numbered(line, b" budget=", u64::from(settings.budget))?;
     put_numbered(line, b" pairs=", u64::from(settings.pairs))
 }
 
-#[tactic(auto, unfolding(crate::specs::Head::proof_text))]
 fn put_proof(line: &mut Vec<u8>, proof: bool) -> Result<(), OutOfMemory>
-    ensures { OnOk result (line.new.items ≡ line.old.items ++ proof_text proof) }
+    ensures { OnOk result (line.new.items ≡ line.old.items ++ (if proof then codes " proof=1" else codes " proof=0")) }
 {
     if proof {
         line.extend_from_slice(b" proof=1")?;
@@ -121,9 +104,8 @@ fn put_proof(line: &mut Vec<u8>, proof: bool) -> Result<(), OutOfMemory>
     Ok(())
 }
 
-#[tactic(auto, unfolding(crate::specs::Head::dwell_text))]
 fn put_dwell(line: &mut Vec<u8>, dwell: u16) -> Result<(), OutOfMemory>
-    ensures { OnOk result (line.new.items ≡ line.old.items ++ dwell_text dwell) }
+    ensures { OnOk result (line.new.items ≡ line.old.items ++ (if dwell == 0 then [] else numbered (codes " dwell=") dwell)) }
 {
     if dwell == 0 {
         return Ok(());
@@ -132,7 +114,7 @@ fn put_dwell(line: &mut Vec<u8>, dwell: u16) -> Result<(), OutOfMemory>
 }
 
 fn put_network(line: &mut Vec<u8>, network: &Network) -> Result<(), OutOfMemory>
-    ensures { OnOk result (line.new.items ≡ line.old.items ++ network_line network.now) }
+    ensures { OnOk result (line.new.items ≡ line.old.items ++ (numbered (codes "network nodes=") (length network.now.nodes) ++ numbered (codes " arcs=") (length network.now.arcs))) }
 {
     put_numbered(line, b"network nodes=", node_count(network))?;
     put_numbered(line, b" arcs=", arc_count(network))
@@ -151,7 +133,7 @@ fn arc_count(network: &Network) -> u64
 }
 
 fn put_fleet(line: &mut Vec<u8>, fleet: &Fleet) -> Result<(), OutOfMemory>
-    ensures { OnOk result (line.new.items ≡ line.old.items ++ fleet_line fleet.now) }
+    ensures { OnOk result (line.new.items ≡ line.old.items ++ numbered (codes "fleet vehicles=") (length fleet.now)) }
 {
     put_numbered(line, b"fleet vehicles=", vehicle_count(fleet))
 }

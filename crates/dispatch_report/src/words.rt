@@ -1,5 +1,6 @@
-ghost use Rattle.std.specs.Prelude.{◌≡◌, ◌++◌, map, OnOk, codes};
-ghost use Rattle.dispatch_report.specs.Words.{numbered, signed, spaced, all_spaced, all_signed};
+ghost use Rattle.std.specs.Prelude.{◌≡◌, ◌++◌, OnOk, codes};
+ghost use Rattle.std.specs.List.{flat_map};
+ghost use Rattle.dispatch_report.specs.Words.{numbered, signed, spaced};
 
 use pool_base::{OutOfMemory, RiderId, put_number, put_signed as put_signed_number};
 
@@ -38,7 +39,7 @@ pub(crate) fn put_spaced(line: &mut Vec<u8>, n: u64) -> Result<(), OutOfMemory>
 
 /// Appends each rider's id after a space.
 pub(crate) fn put_riders(line: &mut Vec<u8>, riders: &[RiderId]) -> Result<(), OutOfMemory>
-    ensures { OnOk result (line.new.items ≡ line.old.items ++ all_spaced riders.now) }
+    ensures { OnOk result (line.new.items ≡ line.old.items ++ flat_map spaced riders.now) }
 {
     for rider in riders {
         put_spaced(line, u64::from(rider.get()))?;
@@ -48,7 +49,7 @@ pub(crate) fn put_riders(line: &mut Vec<u8>, riders: &[RiderId]) -> Result<(), O
 
 /// Appends each multiplier after a space.
 pub(crate) fn put_multipliers(line: &mut Vec<u8>, multipliers: &[i64]) -> Result<(), OutOfMemory>
-    ensures { OnOk result (line.new.items ≡ line.old.items ++ all_signed multipliers.now) }
+    ensures { OnOk result (line.new.items ≡ line.old.items ++ flat_map (signed (codes " ")) multipliers.now) }
 {
     for multiplier in multipliers {
         put_multiplier(line, *multiplier)?;

@@ -10,7 +10,8 @@ use Rattle.road_network.specs.Roads.{Roads}
 use Rattle.ridepool.specs.Explained.{AreForRun, AreForLoad, StopsRun, Tells, IsFaultlessRun, IsFaultless, Explains}
 use Rattle.ridepool.specs.Inputs.{Reads, IsTooLong, IsStop}
 use Rattle.ridepool.specs.Reading.{network_in, fleet_in, script_in}
-use Rattle.ridepool.specs.Seen.{Change, SourceView, Seen, source_at}
+use Rattle.dispatch_report.specs.Written.{Change}
+use Rattle.ridepool.specs.Seen.{SourceView, Seen, source_at}
 use Rattle.ridepool.specs.declared.status.RunStatus.{RunStatus}
 use Rattle.ridepool.specs.declared.status.RunStatus.TheVariants.{Done, Words, Network, Fleet, Script, TooLong, ReadFault, WriteFault, OutOfMemory}
 

@@ -13,7 +13,8 @@ use Rattle.rider_limits.specs.declared.word_fault.WordFault.{WordFault}
 use Rattle.ridepool.specs.Explained.{AreGood, AreForRun, AreForLoad, AreAccepted, Explains, IsLimited, HidesNoMemory, Answers}
 use Rattle.ridepool.specs.Inputs.{Inputs, IsWithin, AreUntouched, AreInputs, CameTo, IsStop}
 use Rattle.ridepool.specs.Report.{RunsRounds, report_text}
-use Rattle.ridepool.specs.Seen.{Change, IsUntouched, SourceView, Sources, Seen, source_at}
+use Rattle.dispatch_report.specs.Written.{Change}
+use Rattle.ridepool.specs.Seen.{IsUntouched, SourceView, Sources, Seen, source_at}
 use Rattle.ridepool.specs.declared.inputs.ReadInputs.{ReadInputs}
 use Rattle.ridepool.specs.declared.status.RunStatus.{RunStatus}
 use Rattle.ridepool.specs.declared.status.RunStatus.TheVariants.{Done, Words, Network, Fleet, Script, TooLong, ReadFault, WriteFault, OutOfMemory}

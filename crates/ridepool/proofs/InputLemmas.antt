@@ -20,7 +20,8 @@ use Rattle.script_rows.specs.declared.version.ScriptVersion.TheVariants.{One}
 use Rattle.ridepool.specs.Explained.{HidesNoMemory}
 use Rattle.ridepool.specs.Inputs.{Inputs, IsWithin, IsTooLong, Reads, AreRead, AreTexts, AreUntouched, AreInputs, CameTo, IsStop}
 use Rattle.ridepool.specs.Reading.{own_fault, in_rows, first_version, network_in, fleet_in, script_in}
-use Rattle.ridepool.specs.Seen.{Change, SourceView, Sources, source_at}
+use Rattle.dispatch_report.specs.Written.{Change}
+use Rattle.ridepool.specs.Seen.{SourceView, Sources, source_at}
 use Rattle.ridepool.specs.declared.inputs.ReadInputs.{ReadInputs}
 use Rattle.ridepool.specs.declared.status.RunStatus.{RunStatus}
 use Rattle.ridepool.specs.declared.status.RunStatus.TheVariants.{Done, Words, Network, Fleet, Script, TooLong, ReadFault, WriteFault, OutOfMemory}

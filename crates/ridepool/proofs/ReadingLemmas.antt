@@ -14,7 +14,8 @@ use Rattle.script_rows.specs.Round.{NumberedLanes}
 use Rattle.ridepool.specs.Explained.{HidesNoMemory}
 use Rattle.ridepool.specs.Inputs.{IsWithin, Reads}
 use Rattle.ridepool.specs.Reading.{network_in, fleet_in, script_in}
-use Rattle.ridepool.specs.Seen.{Change, SourceView}
+use Rattle.dispatch_report.specs.Written.{Change}
+use Rattle.ridepool.specs.Seen.{SourceView}
 use Rattle.ridepool.specs.declared.status.RunStatus.{RunStatus}
 use Rattle.ridepool.specs.declared.status.RunStatus.TheVariants.{Done, Words, Network, Fleet, Script, TooLong, ReadFault, WriteFault, OutOfMemory}
 use Rattle.ridepool.specs.work.Reading.{IsUnread, StopsAt, RefusesNetwork, RefusesFleet, RefusesRounds}

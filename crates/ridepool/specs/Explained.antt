@@ -16,7 +16,8 @@ use Rattle.road_network.specs.declared.fault.NetworkFault.TheVariants as network
 use Rattle.script_rows.specs.declared.fault.ScriptFault.TheVariants as script
 use Rattle.ridepool.specs.Inputs.{Inputs, AreInputs, AreTexts, AreUntouched, IsStop, IsWithin}
 use Rattle.ridepool.specs.Report.{RunsRounds, report_text, IsPart}
-use Rattle.ridepool.specs.Seen.{Seen, Sources, SourceView, Change, IsUntouched, source_at}
+use Rattle.dispatch_report.specs.Written.{Change}
+use Rattle.ridepool.specs.Seen.{Seen, Sources, SourceView, IsUntouched, source_at}
 use Rattle.ridepool.specs.declared.status.RunStatus.{RunStatus}
 use Rattle.ridepool.specs.declared.status.RunStatus.TheVariants.{Done, Words, Network, Fleet, Script, TooLong, WriteFault, OutOfMemory}
 

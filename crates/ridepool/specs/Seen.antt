@@ -1,42 +1,25 @@
 -- What is seen of a call: its words, its sources and its sink, at entry and at exit.
 use Rattle.std.specs.Prelude.{◌≡◌, ℕ, List, Option}
+use Rattle.dispatch_report.specs.Written.{Change, SinkView}
 use Rattle.pool_base.specs.declared.which.Which.{Which}
 use Rattle.pool_base.specs.declared.which.Which.TheVariants.{Network, Fleet, Script}
 
--- a source: the bytes still to come, where it tells them; how many came so far; how many reads failed
+-- what a source tells: the bytes still to come, if it tells any; how many came so far; how many reads failed
 pub record SourceView : Type 0 where
   pub left : Option (List ℕ)
   pub taken : ℕ
   pub faults : ℕ
 
--- a sink: the bytes written so far, where it tells them; how many writes failed
-pub record SinkView : Type 0 where
-  pub written : Option (List ℕ)
-  pub faults : ℕ
-
--- one thing, at entry and at exit
-pub record Change (A : Type 0) : Type 0 where
-  pub before : A
-  pub after : A
-
--- it is as it was
+-- a thing is as it was
 abbrev pub IsUntouched : {A : Type 0} → Change A → Type 0
 IsUntouched c = c.after ≡ c.before
 
--- a source, by what its type tells of it
+-- a source in a call, by what its type tells of it
 abbrev pub source_seen : {S : Type 0} → (S → Option (List ℕ)) → (S → ℕ) → (S → ℕ) → S → S → Change SourceView
 source_seen left taken faults old new =
     record {
       before = record { left = left old; taken = taken old; faults = faults old };
       after = record { left = left new; taken = taken new; faults = faults new };
-    }
-
--- a sink, by what its type tells of it
-abbrev pub sink_seen : {K : Type 0} → (K → Option (List ℕ)) → (K → ℕ) → K → K → Change SinkView
-sink_seen written faults old new =
-    record {
-      before = record { written = written old; faults = faults old };
-      after = record { written = written new; faults = faults new };
     }
 
 -- the three sources

@@ -1,7 +1,8 @@
 ghost use Rattle.std.specs.Prelude.{map};
 ghost use Rattle.std.specs.String.{string_bytes};
 ghost use Rattle.ridepool.specs.Explained.{Answers};
-ghost use Rattle.ridepool.specs.Seen.{source_seen, sink_seen};
+ghost use Rattle.dispatch_report.specs.Written.{sink_seen};
+ghost use Rattle.ridepool.specs.Seen.{source_seen};
 
 use crate::inputs::inputs_from;
 use crate::status::RunStatus;

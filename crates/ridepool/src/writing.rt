@@ -1,12 +1,10 @@
-ghost use Rattle.std.specs.Prelude.{◌≡◌, ◌≤◌, [], List, OnOk, OnErr, MatchResult};
+ghost use Rattle.std.specs.Prelude.{◌≡◌, ◌≤◌, [], List, MatchResult};
 ghost use Rattle.std.specs.Io.KnownBytes.{Appends};
 ghost use Rattle.std.specs.List.{All};
-ghost use Rattle.std.specs.Result.{IsErrOf};
 ghost use Rattle.dispatch_engine.specs.Run.{IsReady};
 ghost use Rattle.request_book.specs.Consistent.{IsNode};
 ghost use Rattle.request_book.specs.declared.journal.Journal.{Journal};
-ghost use Rattle.pool_io.specs.Faults.{Rose};
-ghost use Rattle.pool_io.specs.Sink.{AppendsPart};
+ghost use Rattle.dispatch_report.specs.Written.{sink_seen, WritesText};
 ghost use Rattle.ridepool.specs.Inputs.{Inputs};
 ghost use Rattle.ridepool.specs.Report.{RunsRounds, first_text, added_text, report_text};
 ghost use Rattle.ridepool.specs.work.Writing.{IsWritingFault, IsRoundsFault, IsRoundFault, WritesRound, WritesRounds, status_of};
@@ -117,10 +115,7 @@ fn write_first<K: Sink>(
     network: &Network,
     fleet: &Fleet,
 ) -> Result<(), ReportFault>
-    ensures whole { OnOk result (Appends (K.written out.old) (K.written out.new) (first_text settings.now.mode settings.now network.now fleet.now)) }
-    ensures part { OnErr result (AppendsPart (K.written out.old) (K.written out.new) (first_text settings.now.mode settings.now network.now fleet.now)) }
-    ensures fault { IsErrOf result ReportFault.WriteFault → Rose (K.faults out.old) (K.faults out.new) }
-    ensures never_falls { K.faults out.old ≤ K.faults out.new }
+    ensures { WritesText (sink_seen K.written K.faults out.old out.new) (first_text settings.now.mode settings.now network.now fleet.now) result }
 {
     match &settings.mode {
         Mode::Run => write_head(alloc, out, settings, network, fleet),
@@ -136,10 +131,7 @@ fn write_added<K: Sink>(
     number: u32,
     journal: &Journal,
 ) -> Result<(), ReportFault>
-    ensures whole { OnOk result (Appends (K.written out.old) (K.written out.new) (added_text settings.now.mode settings.now.proof number journal.now)) }
-    ensures part { OnErr result (AppendsPart (K.written out.old) (K.written out.new) (added_text settings.now.mode settings.now.proof number journal.now)) }
-    ensures fault { IsErrOf result ReportFault.WriteFault → Rose (K.faults out.old) (K.faults out.new) }
-    ensures never_falls { K.faults out.old ≤ K.faults out.new }
+    ensures { WritesText (sink_seen K.written K.faults out.old out.new) (added_text settings.now.mode settings.now.proof number journal.now) result }
 {
     match &settings.mode {
         Mode::Run => write_round(alloc, out, number, journal, settings.proof),

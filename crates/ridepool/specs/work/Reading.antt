@@ -11,7 +11,8 @@ use Rattle.script_rows.specs.declared.fault.ScriptFault.{ScriptFault}
 use Rattle.ridepool.specs.Explained.{HidesNoMemory}
 use Rattle.ridepool.specs.Inputs.{IsWithin, IsTooLong, Reads, AreInputs, AreUntouched, IsStop}
 use Rattle.ridepool.specs.Reading.{network_in, fleet_in}
-use Rattle.ridepool.specs.Seen.{Change, SourceView, Sources}
+use Rattle.dispatch_report.specs.Written.{Change}
+use Rattle.ridepool.specs.Seen.{SourceView, Sources}
 use Rattle.ridepool.specs.declared.inputs.ReadInputs.{ReadInputs}
 use Rattle.ridepool.specs.declared.status.RunStatus.{RunStatus}
 use Rattle.ridepool.specs.declared.status.RunStatus.TheVariants.{Network, Fleet, Script, TooLong, ReadFault, OutOfMemory}

@@ -1,11 +1,9 @@
 use Rattle.std.proofs.Common.{◌≡◌, ◌++◌, List, ℕ, ap, ◌∙◌, append_assoc, codes}
 use Rattle.std.proofs.lemmas.Result.{IfOk-equal}
 use Rattle.dispatch_report.specs.Words.{numbered}
-use Rattle.dispatch_report.specs.Head.{limits_text}
 use Rattle.dispatch_report.proofs.head.put_limits.Goals as goal
 
 pub returns : goal.returns
-unfolding limits_text
 returns c =
     let old = c.args.line.now.items in
     let s = c.args.settings.now in
