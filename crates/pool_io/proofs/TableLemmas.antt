@@ -1,8 +1,7 @@
-use Rattle.std.proofs.Common.{◌≡◌, ℕ, ◌+◌, Bool, true, false, not, eqb, cond, List, [], ◌∷◌, Option, Some, None, Result, Ok, Err, length, refl, sym, ap, ◌∙◌, inl, inr}
+use Rattle.std.proofs.Common.{◌≡◌, ℕ, not, eqb, cond, List, [], ◌∷◌, Option, Some, None, Ok, Err, length, sym, ap, ◌∙◌, inl, inr}
 use Rattle.std.specs.List.{position_from}
 use Rattle.std.specs.Option.{option_map_or}
 use Rattle.std.proofs.lemmas.Bool.{cases_Bool}
-use Rattle.pool_io.specs.declared.records.RowFault.{RowFault}
 use Rattle.pool_io.specs.declared.records.RowFault.TheVariants.{Header, UnequalLength}
 use Rattle.pool_io.specs.Table.{Table, header_fields, is_record, even_rows, rows_under, table_of, records_of}
 

@@ -1,4 +1,4 @@
-use Rattle.std.proofs.Common.{◌≡◌, ◌↔◌, ◌+◌, ◌<◌, ◌≤◌, [], ◌∷◌, ◌++◌, Contains, true, length, Ok, sym, ap, subst, ◌∙◌, arith}
+use Rattle.std.proofs.Common.{◌≡◌, ◌↔◌, ◌+◌, ◌<◌, ◌≤◌, [], ◌∷◌, ◌++◌, Contains, true, length, sym, ap, subst, ◌∙◌, arith}
 use Rattle.std.specs.List.{insert}
 use Rattle.std.proofs.lemmas.List.Edits.{length-insert}
 use Rattle.std.proofs.lemmas.List.Elements.{All-same}
@@ -6,13 +6,12 @@ use Rattle.std.proofs.lemmas.Result.{err_from_is_err_and}
 use Rattle.pool_io.specs.Table.{record_at}
 use Rattle.pool_base.proofs.InOrderLemmas.{all_or_first-ok}
 use Rattle.batch_snapshot.specs.Kept.{IsFleet}
-use Rattle.batch_snapshot.specs.declared.vehicle.Vehicle.{Vehicle}
 use Rattle.road_network.specs.Roads.{has_node}
 use Rattle.fleet_state.specs.Fleet.{IsFleetOf, vehicle_of_row}
 use Rattle.fleet_state.specs.work.Place.{has_vehicle, IsPlaceOf}
 use Rattle.fleet_state.proofs.PlaceLemmas.{All-insert, IsFleet-insert}
 use Rattle.fleet_state.proofs.RowLemmas.{IsNewVehicle-vehicle_in}
-use Rattle.fleet_state.proofs.FleetLemmas.{is_known, known_more, same_members-insert, vehicle_of_row-new, vehicle_of_row-duplicate, vehicle_of_row-fault, vehicles_of-refused, vehicles_of-all}
+use Rattle.fleet_state.proofs.FleetLemmas.{known_more, same_members-insert, vehicle_of_row-new, vehicle_of_row-duplicate, vehicle_of_row-fault, vehicles_of-refused, vehicles_of-all}
 use Rattle.fleet_state.proofs.reading.read_fleet.Goals as goal
 
 pub returns-in_err-vehicle-clause-refused : goal.returns-in_err-vehicle-clause-refused

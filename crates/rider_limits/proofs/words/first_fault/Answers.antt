@@ -1,4 +1,4 @@
-use Rattle.std.proofs.Common.{◌≡◌, ◌+◌, map, take, List, ℕ, Option, arith, sym, ap, ◌∙◌}
+use Rattle.std.proofs.Common.{◌≡◌, ◌+◌, map, take, arith, sym, ap, ◌∙◌}
 use Rattle.std.specs.String.{string_bytes}
 use Rattle.rider_limits.specs.Words.{option_of, option_fault}
 use Rattle.rider_limits.proofs.WordsLemmas.{words_fault-here, words_fault-step}
