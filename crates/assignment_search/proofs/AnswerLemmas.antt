@@ -12,10 +12,10 @@ use Rattle.plan_rules.specs.Tree.{every_row, only_row, without_row, CanBranch, M
 use Rattle.plan_rules.specs.Reading.{Reads, IsWholeTree, places_read, value_read}
 use Rattle.plan_rules.specs.declared.node.Node.{Node}
 use Rattle.plan_rules.specs.declared.node.Node.TheVariants.{Branch, Leaf, Dead}
-use Rattle.plan_rules.proofs.PlanLemmas.{held_is_lawful}
-use Rattle.plan_rules.proofs.TreeLemmas.{within_every_row, dead_end_holds_none, tree_value_bounds}
-use Rattle.plan_rules.proofs.SearchTreeLemmas.{tree_of_reads, places_are, value_is_read}
-use Rattle.plan_rules.proofs.UsableLemmas.{Agree, agree_back, leaf_value_agrees, first_fit_agrees, first_fit_value_agrees, dead_end_agrees, may_use_agrees, can_branch_agrees}
+use Rattle.plan_rules.proofs.lemmas.PlanLemmas.{held_is_lawful}
+use Rattle.plan_rules.proofs.lemmas.TreeLemmas.{within_every_row, dead_end_holds_none, tree_value_bounds}
+use Rattle.plan_rules.proofs.lemmas.SearchTreeLemmas.{tree_of_reads, places_are, value_is_read}
+use Rattle.plan_rules.proofs.lemmas.UsableLemmas.{Agree, agree_back, leaf_value_agrees, first_fit_agrees, first_fit_value_agrees, dead_end_agrees, may_use_agrees, can_branch_agrees}
 use Rattle.std.proofs.lemmas.Bool.{both_ways}
 use Rattle.plan_rules.specs.Size.{IsSmallSum}
 use Rattle.assignment_search.specs.Growth.{IsWorthBranching, IsGoodLeaf, IsGoodNode, IsGrown, HasUsable, IsFixed, IsSolePlan, IsLowest, HasLeaf, IsNewLeaf, IsNewEnd, choice_count}

@@ -9,7 +9,7 @@ use Rattle.plan_rules.specs.Tree.{every_row, only_row, without_row, MayUse, CanB
 use Rattle.plan_rules.specs.Reading.{coming_after, Reads, IsWholeTree}
 use Rattle.plan_rules.specs.declared.node.Node.{Node}
 use Rattle.plan_rules.specs.declared.node.Node.TheVariants.{Branch, Leaf, Dead}
-use Rattle.plan_rules.proofs.SumLemmas.{flag, sum_below_same, sum_below_plus, count_below_same, count_below_some}
+use Rattle.plan_rules.proofs.lemmas.SumLemmas.{flag, sum_below_same, sum_below_plus, count_below_same, count_below_some}
 use Rattle.assignment_search.specs.Growth.{product_below, choice_count, IsGrown, IsGoodNode, IsGoodLeaf}
 use Rattle.assignment_search.proofs.GrowthLemmas.{IsSplit, grown_split, grown_reads}
 

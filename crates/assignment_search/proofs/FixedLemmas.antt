@@ -10,11 +10,11 @@ use Rattle.plan_rules.specs.Graph.{Graph, IsRowOf, HasNoRow, row_at, riders_at, 
 use Rattle.plan_rules.specs.Plan.{IsPlan, IsLawful, times_chosen, choice_cost, left_out, cost_of}
 use Rattle.plan_rules.specs.Multipliers.{Usable, multiplier_at, multiplier_sum, is_usable_by, reduced_cost, vehicle_term, rider_term, leaf_value, room_at, first_fit_of, first_fit_below, first_fit, first_fit_value}
 use Rattle.plan_rules.specs.Tree.{MayUse, IsSoleRow, IsDeadEnd, rounded_up}
-use Rattle.plan_rules.proofs.SumLemmas.{flag, flag-true, flag-false, part, sum_below_scale, int_sum_same, int_sum_le, int_sum_plus, int_sum_minus, int_sum_pos, int_sum_zero, int_sum_swap, int_sum_once, least_below_some, least_below_none, least_below_found, lesser-le_right, count_below_found}
-use Rattle.plan_rules.proofs.GraphLemmas.{times_served_as_count, times_served_some, in_choice}
-use Rattle.plan_rules.proofs.PlanLemmas.{has_choice}
-use Rattle.plan_rules.proofs.DualityLemmas.{multiplier_sum_is}
-use Rattle.dual_bound.proofs.FirstFitLemmas.{length-first_fit}
+use Rattle.plan_rules.proofs.lemmas.SumLemmas.{flag, flag-true, flag-false, part, sum_below_scale, int_sum_same, int_sum_le, int_sum_plus, int_sum_minus, int_sum_pos, int_sum_zero, int_sum_swap, int_sum_once, least_below_some, least_below_none, least_below_found, lesser-le_right, count_below_found}
+use Rattle.plan_rules.proofs.lemmas.GraphLemmas.{times_served_as_count, times_served_some, in_choice}
+use Rattle.plan_rules.proofs.lemmas.PlanLemmas.{has_choice}
+use Rattle.plan_rules.proofs.lemmas.DualityLemmas.{multiplier_sum_is}
+use Rattle.dual_bound.proofs.lemmas.FirstFitLemmas.{length-first_fit}
 use Rattle.assignment_search.specs.Growth.{HasUsable, IsFixed, IsSolePlan}
 
 same_some : (j k : ℕ) → Some j ≡ Some k → j ≡ k

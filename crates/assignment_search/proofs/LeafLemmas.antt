@@ -7,9 +7,9 @@ use Rattle.plan_rules.specs.Tree.{every_row, only_row, without_row, Place, belon
 use Rattle.plan_rules.specs.Reading.{coming_after, IsWholeTree, places_from, places_read}
 use Rattle.plan_rules.specs.declared.node.Node.{Node}
 use Rattle.plan_rules.specs.declared.node.Node.TheVariants.{Branch, Leaf, Dead}
-use Rattle.plan_rules.proofs.SumLemmas.{flag}
-use Rattle.plan_rules.proofs.PlanLemmas.{held_is_lawful}
-use Rattle.plan_rules.proofs.TreeLemmas.{each_plan_at_one_end, no_plan_at_dead_ends}
+use Rattle.plan_rules.proofs.lemmas.SumLemmas.{flag}
+use Rattle.plan_rules.proofs.lemmas.PlanLemmas.{held_is_lawful}
+use Rattle.plan_rules.proofs.lemmas.TreeLemmas.{each_plan_at_one_end, no_plan_at_dead_ends}
 use Rattle.assignment_search.specs.Growth.{HasLeaf}
 
 count-cons : {X : Type 0} (p : X → Bool) (x : X) (xs : List X) → count_by p (x ∷ xs) ≡ flag (p x) + count_by p xs

@@ -7,7 +7,7 @@ use Rattle.plan_rules.specs.Sums.{int_sum_below, least_below}
 use Rattle.plan_rules.specs.Graph.{Graph, IsRowOf, vehicle_at}
 use Rattle.plan_rules.specs.Multipliers.{Usable, is_usable_by, reduced_cost, vehicle_term, rider_term, leaf_value}
 use Rattle.plan_rules.specs.Tree.{MayUse, only_row, without_row}
-use Rattle.plan_rules.proofs.SumLemmas.{int_sum_le, least_below_some, least_below_none, least_below_found}
+use Rattle.plan_rules.proofs.lemmas.SumLemmas.{int_sum_le, least_below_some, least_below_none, least_below_found}
 use Rattle.assignment_search.specs.Growth.{HasUsable}
 
 not_some : (z : ℤ) → ◌≡◌ {A = Option ℤ} None (Some z) → ⊥

@@ -10,7 +10,7 @@ use Rattle.plan_rules.specs.Path.{Standing, standing_of, root, decided, IsPathOf
 use Rattle.plan_rules.specs.declared.node.Node.{Node}
 use Rattle.plan_rules.specs.declared.node.Node.TheVariants.{Branch, Leaf, Dead}
 use Rattle.plan_rules.specs.declared.path.Decision.{Decision}
-use Rattle.plan_rules.proofs.PathLemmas.{standing_start, standing_push}
+use Rattle.plan_rules.proofs.lemmas.PathLemmas.{standing_start, standing_push}
 
 -- what is to come at the first subtree of a branch
 pub coming_entered : (g : Graph) (old new : List Decision) (v k : ℕ) → new ≡ old ++ record { vehicle = v; row = k; alone = true } ∷ [] → (standing_of g new).usable ∷ (standing_of g new).coming ≡ coming_after g (standing_of g old).usable (Branch v k) (standing_of g old).coming

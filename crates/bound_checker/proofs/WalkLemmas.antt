@@ -11,8 +11,8 @@ use Rattle.plan_rules.specs.Path.{Standing, standing_of, root, decided, IsPathOf
 use Rattle.plan_rules.specs.declared.node.Node.{Node}
 use Rattle.plan_rules.specs.declared.node.Node.TheVariants.{Branch, Leaf, Dead}
 use Rattle.plan_rules.specs.declared.path.Decision.{Decision}
-use Rattle.plan_rules.proofs.PathLemmas.{standing_start, standing_push}
-use Rattle.plan_rules.proofs.ReadLemmas.{reads_push, places_push, least_leaf_push}
+use Rattle.plan_rules.proofs.lemmas.PathLemmas.{standing_start, standing_push}
+use Rattle.plan_rules.proofs.lemmas.ReadLemmas.{reads_push, places_push, least_leaf_push}
 use Rattle.bound_checker.specs.declared.fault.CheckFault.{CheckFault}
 use Rattle.bound_checker.specs.declared.fault.CheckFault.TheVariants.{BadBranch, BadLeaf, BadDead, Unfinished, Extra, OutOfMemory}
 use Rattle.bound_checker.specs.Fault.{IsFaultOf, IsReached}

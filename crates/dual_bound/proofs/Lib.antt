@@ -1,2 +1,2 @@
-pub mod FirstFitLemmas
+pub mod lemmas
 pub mod ClimbLemmas

@@ -7,7 +7,7 @@ use Rattle.std.proofs.lemmas.List.Elements.{Contains-append_left, Contains-appen
 use Rattle.std.proofs.lemmas.List.Folds.{list_any-append}
 use Rattle.pool_base.specs.InOrder.{◌>>=◌, refused_where, all_or_first}
 use Rattle.pool_base.specs.Numeral.{number_at}
-use Rattle.pool_base.proofs.InOrderLemmas.{all_or_first-err}
+use Rattle.pool_base.proofs.lemmas.InOrderLemmas.{all_or_first-err}
 use Rattle.batch_snapshot.specs.declared.vehicle.Vehicle.{Vehicle}
 use Rattle.fleet_state.specs.declared.fault.FleetFault.{FleetFault}
 use Rattle.fleet_state.specs.declared.fault.FleetFault.TheVariants.{TooManyVehicles, Duplicate}

@@ -8,8 +8,8 @@ use Rattle.batch_snapshot.specs.Vehicle.{HasSeats}
 use Rattle.fleet_state.specs.declared.fault.FleetFault.TheVariants.{Number, Seats, UnknownNode}
 use Rattle.pool_base.specs.InOrder.{refused_where}
 use Rattle.pool_base.specs.Numeral.{number_in, number_at}
-use Rattle.pool_base.proofs.InOrderLemmas.{then_ok, refused_where-passed}
-use Rattle.pool_base.proofs.NumeralLemmas.{number_in-at}
+use Rattle.pool_base.proofs.lemmas.InOrderLemmas.{then_ok, refused_where-passed}
+use Rattle.pool_base.proofs.lemmas.NumeralLemmas.{number_in-at}
 use Rattle.fleet_state.specs.Vehicle.{empty_vehicle, vehicle_in}
 use Rattle.road_network.specs.Roads.{has_node}
 

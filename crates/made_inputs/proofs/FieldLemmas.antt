@@ -11,7 +11,7 @@ use Rattle.csv.specs.declared.parser.State.TheVariants as st
 use Rattle.csv.proofs.RoundTrip.{read-write-many}
 use Rattle.pool_base.specs.Number.{IsDigit, AllDigits, value_after, IsNumeralOf}
 use Rattle.pool_base.specs.Numeral.{number_up_to}
-use Rattle.pool_base.proofs.NumeralLemmas.{is_numeral-digits, number_up_to-given}
+use Rattle.pool_base.proofs.lemmas.NumeralLemmas.{is_numeral-digits, number_up_to-given}
 use Rattle.load_maker.specs.declared.row.Field.{Field}
 use Rattle.load_maker.specs.declared.row.Field.TheVariants.{Number, Report, Submit, Seal, Empty}
 use Rattle.load_maker.specs.Row.{field_text, csv_line}

@@ -7,8 +7,8 @@ use Rattle.std.proofs.lemmas.Nat.{mod_below}
 use Rattle.std.proofs.Math.Nat.{mul-le-mul, suc-mul}
 use Rattle.rand_core.specs.Stream.{Stream, next_u64}
 use Rattle.pool_base.specs.Numeral.{number_up_to}
-use Rattle.pool_base.proofs.DistinctLemmas.{length-distinct}
-use Rattle.pool_base.proofs.InOrderLemmas.{first_fault-all}
+use Rattle.pool_base.proofs.lemmas.DistinctLemmas.{length-distinct}
+use Rattle.pool_base.proofs.lemmas.InOrderLemmas.{first_fault-all}
 use Rattle.road_network.specs.Roads.{most_nodes, most_arcs, longest_arc, greatest_name}
 use Rattle.road_network.specs.Reading.{names_in, nodes_of, roads_of, field_refusal, refusal_at, first_refusal, unless_refused, network_of}
 use Rattle.road_network.specs.declared.fault.NetworkFault.TheVariants.{TooManyArcs, TooManyNodes}

@@ -9,7 +9,7 @@ use Rattle.rand_core.specs.Stream.{Stream}
 use Rattle.pool_base.specs.Numeral.{number_up_to, number_at}
 use Rattle.road_network.specs.Roads.{greatest_name, has_node}
 use Rattle.road_network.specs.Reading.{names_in, nodes_of}
-use Rattle.pool_base.proofs.DistinctLemmas.{any-distinct}
+use Rattle.pool_base.proofs.lemmas.DistinctLemmas.{any-distinct}
 use Rattle.rider_limits.specs.declared.load_shape.LoadShape.{LoadShape}
 use Rattle.load_maker.specs.declared.row.Field.{Field}
 use Rattle.load_maker.specs.declared.row.Field.TheVariants as field

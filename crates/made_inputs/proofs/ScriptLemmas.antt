@@ -6,7 +6,7 @@ use Rattle.std.proofs.Math.Nat.{mul-le-mul, suc-mul}
 use Rattle.rand_core.specs.Stream.{Stream, next_u64}
 use Rattle.pool_base.specs.InOrder.{◌>>=◌}
 use Rattle.pool_base.specs.Numeral.{number_up_to, number_at}
-use Rattle.pool_base.proofs.InOrderLemmas.{all_or_first-all}
+use Rattle.pool_base.proofs.lemmas.InOrderLemmas.{all_or_first-all}
 use Rattle.request_book.specs.declared.command.Command.{Command}
 use Rattle.request_book.specs.declared.command.Command.TheVariants as command
 use Rattle.script_rows.specs.declared.fault.ScriptFault.TheVariants.{TooManyRows}

@@ -6,9 +6,9 @@ use Rattle.std.proofs.lemmas.List.{get_or_past}
 use Rattle.plan_rules.specs.Graph.{Graph, row_at, riders_at, vehicle_at, has_rider, choice_at, must_be_served, times_served, IsRow, IsRowOf, IsGoodGraph}
 use Rattle.plan_rules.specs.Multipliers.{Usable}
 use Rattle.plan_rules.specs.Tree.{MayUse, IsSoleRow, IsClash, IsStranded, IsDeadEnd}
-use Rattle.plan_rules.proofs.GraphLemmas.{has, rider_below, in_choice, times_served_found}
-use Rattle.plan_rules.proofs.PlanLemmas.{own_row, held_own}
-use Rattle.plan_rules.proofs.MarkLemmas.{any_marked, marked_one}
+use Rattle.plan_rules.proofs.lemmas.GraphLemmas.{has, rider_below, in_choice, times_served_found}
+use Rattle.plan_rules.proofs.lemmas.PlanLemmas.{own_row, held_own}
+use Rattle.plan_rules.proofs.lemmas.MarkLemmas.{any_marked, marked_one}
 use Rattle.std.proofs.lemmas.Bool.{ltb-true}
 use Rattle.plan_rules.specs.work.DeadEnd.{MarksUsable, MarksSole}
 

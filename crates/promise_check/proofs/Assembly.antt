@@ -27,7 +27,7 @@ use Rattle.promise_check.specs.Promised.{is_promised_to, promised_to, kept_leg, 
 use Rattle.promise_check.specs.work.Promised.{kept_rider, IsHeld, AreKept}
 use Rattle.promise_check.specs.Settling.{HoldsPromised, IsLiveRider, IsRiderOf, HasRightLimit, IsSettled}
 use Rattle.promise_check.specs.work.Settling.{IsSettledVehicle, AreSettledVehicles}
-use Rattle.promise_check.proofs.Promises.{filter_range_has, promised_trip}
+use Rattle.promise_check.proofs.lemmas.Promises.{filter_range_has, promised_trip}
 use Rattle.promise_check.proofs.Seats.{kept_leg_valid, legs_valid, task_with_legs, plain_can_be_kept}
 
 some_at : {X : Type 0} (xs : List X) (k : ℕ) → k < length xs → (x : X) × (slice_get xs k ≡ Some x)

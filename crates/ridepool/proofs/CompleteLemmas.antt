@@ -3,7 +3,7 @@ use Rattle.std.proofs.Common.{◌≡◌, ℕ, ◌<◌, ◌≤◌, List, Option, 
 use Rattle.std.specs.Prelude.{◌⊎◌, IfSome}
 use Rattle.pool_base.specs.declared.which.Which.{Which}
 use Rattle.pool_base.specs.declared.which.Which.TheVariants as file
-use Rattle.rider_limits.proofs.ModeLemmas.{both_run}
+use Rattle.rider_limits.proofs.lemmas.ModeLemmas.{both_run}
 use Rattle.rider_limits.specs.Words.{fault_of}
 use Rattle.rider_limits.specs.declared.word_fault.WordFault.{WordFault}
 use Rattle.road_network.specs.Roads.{Roads}

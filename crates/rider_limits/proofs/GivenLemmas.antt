@@ -6,8 +6,8 @@ use Rattle.std.proofs.lemmas.Bool.{and_parts, cases_Bool, lt-ltb, leb-true}
 use Rattle.pool_base.specs.declared.which.Which.TheVariants.{Network, Fleet, Script}
 use Rattle.pool_base.specs.Number.{value_of}
 use Rattle.pool_base.specs.Numeral.{is_numeral, number_up_to}
-use Rattle.pool_base.proofs.InOrderLemmas.{first_fault-each}
-use Rattle.pool_base.proofs.NumeralLemmas.{number_up_to-some}
+use Rattle.pool_base.proofs.lemmas.InOrderLemmas.{first_fault-each}
+use Rattle.pool_base.proofs.lemmas.NumeralLemmas.{number_up_to-some}
 use Rattle.rider_limits.specs.declared.command.Command.{Command}
 use Rattle.rider_limits.specs.declared.command.Command.TheVariants.{Run, Load}
 use Rattle.rider_limits.specs.declared.key.Key.{Key}

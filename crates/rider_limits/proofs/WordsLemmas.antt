@@ -8,7 +8,7 @@ use Rattle.std.proofs.lemmas.Option.{MatchOption-at_some, MatchOption-at_none}
 use Rattle.std.proofs.lemmas.Bool.Decides.{Decides-eqb}
 use Rattle.std.proofs.lemmas.Slice.Eq.{starts_is}
 use Rattle.pool_base.specs.InOrder.{first_fault}
-use Rattle.pool_base.proofs.InOrderLemmas.{first_fault-none, first_fault-some}
+use Rattle.pool_base.proofs.lemmas.InOrderLemmas.{first_fault-none, first_fault-some}
 use Rattle.rider_limits.specs.declared.command.Command.{Command}
 use Rattle.rider_limits.specs.declared.word_fault.WordFault.{WordFault}
 use Rattle.rider_limits.specs.Key.{key_of}

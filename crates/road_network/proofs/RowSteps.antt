@@ -5,7 +5,7 @@ use Rattle.std.specs.List.{list_any, flat_map}
 use Rattle.std.proofs.lemmas.Bool.Decides.{nat_tests}
 use Rattle.std.proofs.lemmas.List.{append_assoc, flat_map_more, map_more, take_more}
 use Rattle.pool_base.specs.Distinct.{distinct}
-use Rattle.pool_base.proofs.DistinctLemmas.{any-distinct, distinct-push}
+use Rattle.pool_base.proofs.lemmas.DistinctLemmas.{any-distinct, distinct-push}
 use Rattle.std.proofs.lemmas.List.Elements.{All-map, All-more}
 use Rattle.road_network.specs.Walk.{Arc}
 use Rattle.road_network.specs.Roads.{IsArcAmong, index_in, longest_arc}

@@ -4,8 +4,8 @@ use Rattle.std.proofs.lemmas.Bool.{ltb-false, eqb-true, not-false}
 use Rattle.pool_io.specs.Table.{field_at}
 use Rattle.pool_base.specs.InOrder.{refused_where}
 use Rattle.pool_base.specs.Numeral.{number_in, number_at}
-use Rattle.pool_base.proofs.InOrderLemmas.{then_ok, refused_where-passed}
-use Rattle.pool_base.proofs.NumeralLemmas.{number_in-at, number_in-within}
+use Rattle.pool_base.proofs.lemmas.InOrderLemmas.{then_ok, refused_where-passed}
+use Rattle.pool_base.proofs.lemmas.NumeralLemmas.{number_in-at, number_in-within}
 use Rattle.request_book.specs.declared.command.Command.{Command}
 use Rattle.request_book.specs.declared.command.Command.TheVariants.{Submit as submit, Cancel as cancel, Report as report, Pickup as pickup, Dropoff as dropoff, Seal as seal}
 use Rattle.script_rows.specs.declared.fault.ScriptFault.{ScriptFault}

@@ -5,8 +5,8 @@ use Rattle.std.proofs.lemmas.List.{map-append, length_push, set_at, get_or_at, g
 use Rattle.std.proofs.lemmas.List.Elements.{All-nil, All-push, All-weaker, All-same}
 use Rattle.pool_base.specs.Distinct.{distinct}
 use Rattle.pool_base.specs.InOrder.{◌>>=◌, all_or_first}
-use Rattle.pool_base.proofs.DistinctLemmas.{any-more, distinct-push_new, distinct-push_old}
-use Rattle.pool_base.proofs.InOrderLemmas.{all_or_first-err}
+use Rattle.pool_base.proofs.lemmas.DistinctLemmas.{any-more, distinct-push_new, distinct-push_old}
+use Rattle.pool_base.proofs.lemmas.InOrderLemmas.{all_or_first-err}
 use Rattle.script_rows.specs.declared.fault.ScriptFault.{ScriptFault}
 use Rattle.script_rows.specs.declared.fault.ScriptFault.TheVariants.{TooManyRows}
 use Rattle.script_rows.specs.declared.line.Line.{Line}

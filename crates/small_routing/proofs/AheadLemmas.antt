@@ -9,8 +9,8 @@ use Rattle.stop_orders.specs.Visit.{place_of, lateness}
 use Rattle.stop_orders.specs.Task.{leg_at, visit_at}
 use Rattle.stop_orders.specs.Done.{has, IsNextStop}
 use Rattle.stop_orders.specs.work.Rest.{sum_below}
-use Rattle.stop_orders.proofs.DoneLemmas.{has-with_same, has-with_other, Completes-front, IsAllDone-from_nil, sum_below-le}
-use Rattle.stop_orders.proofs.ClockLemmas.{AtLeastAsSoon, two_hops}
+use Rattle.stop_orders.proofs.lemmas.DoneLemmas.{has-with_same, has-with_other, Completes-front, IsAllDone-from_nil, sum_below-le}
+use Rattle.stop_orders.proofs.lemmas.ClockLemmas.{AtLeastAsSoon, two_hops}
 use Rattle.small_routing.specs.declared.label.Label.{Label}
 use Rattle.small_routing.specs.work.Label.{task_riders, task_passengers, CanVisit, next_label, second_at, GoesOn, rest_delay}
 use Rattle.small_routing.specs.work.Ahead.{CanStill, late_at_once, RiderCan, rider_late, PassengerCan, passenger_late, least_ahead}

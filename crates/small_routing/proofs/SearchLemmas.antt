@@ -12,9 +12,9 @@ use Rattle.stop_orders.specs.Task.{visits_of, free_seats, order_delay, Serves}
 use Rattle.stop_orders.specs.Done.{IsAllDone}
 use Rattle.stop_orders.specs.work.Rest.{Completes}
 use Rattle.stop_orders.specs.work.Plain.{IsFound, NoneBetter, StaysGood}
-use Rattle.stop_orders.proofs.ClockLemmas.{soon_over, ServesFrom-soon}
-use Rattle.stop_orders.proofs.DoneLemmas.{IsAllDone-from_nil, Completes-none}
-use Rattle.stop_orders.proofs.PlainLemmas.{MakesOrders-all, rest_of_all}
+use Rattle.stop_orders.proofs.lemmas.ClockLemmas.{soon_over, ServesFrom-soon}
+use Rattle.stop_orders.proofs.lemmas.DoneLemmas.{IsAllDone-from_nil, Completes-none}
+use Rattle.stop_orders.proofs.lemmas.PlainLemmas.{MakesOrders-all, rest_of_all}
 use Rattle.small_routing.specs.declared.label.Label.{Label}
 use Rattle.small_routing.specs.declared.candidate.Candidate.{Candidate}
 use Rattle.small_routing.specs.work.Label.{IsRoutable, task_riders, task_passengers, next_label, GoesOn, rest_delay}

@@ -19,9 +19,9 @@ use Rattle.stop_orders.specs.Done.{IsNextStop}
 use Rattle.stop_orders.specs.Settled.{no_vehicle, no_rider, vehicle_at, rider_at, trip_task, pair_task, greatest, IsTrip, IsRrEdge}
 use Rattle.stop_orders.specs.Sound.{IsShort, IsSound}
 use Rattle.stop_orders.specs.Laws.{without_rider, without_passenger, stops_without_rider, stops_without_passenger, StillServes}
-use Rattle.stop_orders.proofs.ClockLemmas.{soon_there, ServesFrom-soon}
-use Rattle.stop_orders.proofs.DoneLemmas.{has-none, Completes-none, Completes-front}
-use Rattle.stop_orders.proofs.ScanLemmas.{order_short}
+use Rattle.stop_orders.proofs.lemmas.ClockLemmas.{soon_there, ServesFrom-soon}
+use Rattle.stop_orders.proofs.lemmas.DoneLemmas.{has-none, Completes-none, Completes-front}
+use Rattle.stop_orders.proofs.lemmas.ScanLemmas.{order_short}
 use Rattle.stop_orders.proofs.DeletionLemmas.{rider_left_out, passenger_left_out}
 
 map-remove : {X Y : Type 0} (f : X → Y) (xs : List X) (i : ℕ) → map f (remove xs i) ≡ remove (map f xs) i

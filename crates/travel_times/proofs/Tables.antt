@@ -6,7 +6,7 @@ use Rattle.std.proofs.lemmas.Nat.{mul-add-lt}
 use Rattle.std.proofs.lemmas.List.{length-append, get_or_append_left, get_or-append_right, get_or-map, length-map, get_or-set_other, length-set, get_or_default}
 use Rattle.pool_base.specs.declared.memory.OutOfMemory.{OutOfMemory}
 use Rattle.pool_base.specs.TravelTime.{never, longest, cell_of, IsTable}
-use Rattle.pool_base.proofs.TravelTimeLemmas.{cell_of-within, cell_of-from_outside, cell_of-to_outside}
+use Rattle.pool_base.proofs.lemmas.TravelTimeLemmas.{cell_of-within, cell_of-from_outside, cell_of-to_outside}
 use Rattle.road_network.specs.declared.arc.Arc.{Arc}
 use Rattle.road_network.specs.Walk.{walk_seconds, IsTimeBetween}
 use Rattle.road_network.specs.Roads.{IsArcAmong}

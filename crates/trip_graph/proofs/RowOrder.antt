@@ -15,8 +15,8 @@ use Rattle.plan_rules.specs.Graph.{no_row, row_cmp}
 use Rattle.trip_growth.specs.declared.trip_of.TripOf.{TripOf}
 use Rattle.trip_growth.specs.Trip.{IsLower, ComesBefore}
 use Rattle.trip_growth.specs.Rows.{AreSomeRows}
-use Rattle.trip_growth.proofs.TripOrder.{lower_irrefl, lower_asym}
-use Rattle.trip_growth.proofs.TripSearch.{compared}
+use Rattle.trip_growth.proofs.lemmas.TripOrder.{lower_irrefl, lower_asym}
+use Rattle.trip_growth.proofs.lemmas.TripSearch.{compared}
 use Rattle.trip_graph.specs.work.Rows.{trip_row, vehicle_rows}
 
 -- each row stands before all later ones

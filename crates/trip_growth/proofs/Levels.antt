@@ -6,7 +6,7 @@ use Rattle.std.proofs.lemmas.List.Elements.{All-push, All-nil, Contains-append_l
 use Rattle.trip_growth.specs.Trip.{IsLower, ComesBefore, IsRising, trips_of}
 use Rattle.trip_growth.specs.work.Level.{IsLevelRow, IsLevel, IsLevelUpTo, IsTripRule}
 use Rattle.trip_growth.specs.declared.trip_of.TripOf.{TripOf}
-use Rattle.trip_growth.proofs.TripOrder.{lower_irrefl, lower_trans, lower_asym, lower_append, lower_front, lower_back, lower_last, lower_longer, lower_raise, squeeze, front_and_last}
+use Rattle.trip_growth.proofs.lemmas.TripOrder.{lower_irrefl, lower_trans, lower_asym, lower_append, lower_front, lower_back, lower_last, lower_longer, lower_raise, squeeze, front_and_last}
 
 -- the trips of the size below, in order, with each that can be served
 pub record AreBelow (Serves : List ℕ → Type 0) (size : ℕ) (ts : List (List ℕ)) : Type 0 where

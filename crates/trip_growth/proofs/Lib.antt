@@ -1,6 +1,5 @@
-pub mod TripOrder
+pub mod lemmas
 pub mod Levels
-pub mod TripSearch
 pub mod RowGrowth
 pub mod Rule
 pub mod Joined

@@ -12,8 +12,8 @@ use Rattle.trip_growth.specs.work.Growth.{task_with}
 use Rattle.trip_growth.specs.Trip.{IsLower, trips_of}
 use Rattle.trip_growth.specs.work.Level.{IsLevelRow, IsLevel, IsLevelUpTo, IsTripRule, IsBelow, HasMoreOfLevel}
 use Rattle.trip_growth.specs.declared.trip_of.TripOf.{TripOf}
-use Rattle.trip_growth.proofs.TripOrder.{front_and_last}
-use Rattle.trip_growth.proofs.TripSearch.{size_of}
+use Rattle.trip_growth.proofs.lemmas.TripOrder.{front_and_last}
+use Rattle.trip_growth.proofs.lemmas.TripSearch.{size_of}
 use Rattle.trip_growth.proofs.Levels.{AreBelow, trip_at, lower_last_back, opened, advanced, closed, begun, ended, lower_from_order}
 
 -- the rows below, as a list of trips

@@ -10,9 +10,9 @@ use Rattle.plan_rules.specs.Plan.{IsBound}
 use Rattle.plan_rules.specs.Tree.{every_row, least_leaf, IsTreeOfValue}
 use Rattle.plan_rules.specs.Reading.{Reads, places_read, value_read, IsWholeTree, coming_after}
 use Rattle.plan_rules.specs.declared.node.Node.{Node}
-use Rattle.plan_rules.proofs.ReadLemmas.{reads_push}
-use Rattle.plan_rules.proofs.TreeLemmas.{tree_value_bounds}
-use Rattle.plan_rules.proofs.SearchTreeLemmas.{tree_of_value}
+use Rattle.plan_rules.proofs.lemmas.ReadLemmas.{reads_push}
+use Rattle.plan_rules.proofs.lemmas.TreeLemmas.{tree_value_bounds}
+use Rattle.plan_rules.proofs.lemmas.SearchTreeLemmas.{tree_of_value}
 use Rattle.bound_checker.specs.Visit.{coming_of}
 use Rattle.bound_checker.proofs.WalkLemmas.{coming_start, path_none, fault_here, least_more}
 use Rattle.bound_checker.proofs.checker.check.Goals as goal

@@ -4,7 +4,7 @@ use Rattle.std.proofs.lemmas.List.Edits.{length-insert}
 use Rattle.std.proofs.lemmas.List.Elements.{All-same}
 use Rattle.std.proofs.lemmas.Result.{err_from_is_err_and}
 use Rattle.pool_io.specs.Table.{record_at}
-use Rattle.pool_base.proofs.InOrderLemmas.{all_or_first-ok}
+use Rattle.pool_base.proofs.lemmas.InOrderLemmas.{all_or_first-ok}
 use Rattle.batch_snapshot.specs.Kept.{IsFleet}
 use Rattle.road_network.specs.Roads.{has_node}
 use Rattle.fleet_state.specs.Fleet.{IsFleetOf, vehicle_of_row}

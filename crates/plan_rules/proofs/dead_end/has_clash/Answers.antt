@@ -4,7 +4,7 @@ use Rattle.std.proofs.lemmas.Bool.{false≢true}
 use Rattle.plan_rules.specs.Graph.{row_at, riders_at}
 use Rattle.plan_rules.specs.Multipliers.{usable_of}
 use Rattle.plan_rules.specs.declared.row.TripRow.{TripRow}
-use Rattle.plan_rules.proofs.GraphLemmas.{row_read}
+use Rattle.plan_rules.proofs.lemmas.GraphLemmas.{row_read}
 use Rattle.plan_rules.specs.work.DeadEnd.{MarksSole}
 use Rattle.plan_rules.proofs.DeadEndLemmas.{AddsRow, sole_more, sole_kept, clash_from, no_clash}
 use Rattle.plan_rules.proofs.dead_end.has_clash.Goals as goal

@@ -3,7 +3,7 @@ use Rattle.std.specs.List.{list_any}
 use Rattle.plan_rules.specs.Graph.{row_at}
 use Rattle.plan_rules.specs.Multipliers.{usable_of}
 use Rattle.plan_rules.specs.declared.row.TripRow.{TripRow}
-use Rattle.plan_rules.proofs.GraphLemmas.{row_read}
+use Rattle.plan_rules.proofs.lemmas.GraphLemmas.{row_read}
 use Rattle.plan_rules.specs.work.DeadEnd.{MarksUsable}
 use Rattle.plan_rules.proofs.DeadEndLemmas.{AddsRow, usable_more, usable_kept}
 use Rattle.plan_rules.proofs.dead_end.mark_usable.Goals as goal

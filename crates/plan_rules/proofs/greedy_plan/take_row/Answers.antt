@@ -4,8 +4,8 @@ use Rattle.std.proofs.lemmas.Bool.{both_ways}
 use Rattle.plan_rules.specs.Graph.{row_at, riders_at, vehicle_at, choice_at}
 use Rattle.plan_rules.specs.Rank.{IsSelection}
 use Rattle.plan_rules.specs.declared.row.TripRow.{TripRow}
-use Rattle.plan_rules.proofs.GraphLemmas.{row_read, some_choice}
-use Rattle.plan_rules.proofs.GreedyLemmas.{selection_more, way_by_vehicle, way_by_rider}
+use Rattle.plan_rules.proofs.lemmas.GraphLemmas.{row_read, some_choice}
+use Rattle.plan_rules.proofs.lemmas.GreedyLemmas.{selection_more, way_by_vehicle, way_by_rider}
 use Rattle.plan_rules.proofs.greedy_plan.take_row.Goals as goal
 use Rattle.plan_rules.proofs.greedy_plan.take_row.Goals.{else-is_free-via-then-is_free+else-not-is_any_marked, else-is_free-via-else-is_free}
 

@@ -5,8 +5,8 @@ use Rattle.std.proofs.lemmas.List.{get_or_read}
 use Rattle.plan_rules.specs.Graph.{row_at, riders_at, choice_at, vehicle_at, is_in}
 use Rattle.plan_rules.specs.Parts.{graph_of}
 use Rattle.plan_rules.specs.declared.row.TripRow.{TripRow}
-use Rattle.plan_rules.proofs.GraphLemmas.{row_read}
-use Rattle.plan_rules.proofs.HeldLemmas.{marks_more, marks_kept, unmarked_apart, marked_held, holds_at, held_at}
+use Rattle.plan_rules.proofs.lemmas.GraphLemmas.{row_read}
+use Rattle.plan_rules.proofs.lemmas.HeldLemmas.{marks_more, marks_kept, unmarked_apart, marked_held, holds_at, held_at}
 use Rattle.plan_rules.proofs.held.mark_held_by.Goals as goal
 
 pub returns-then-is_any_marked-clause-variant : goal.returns-then-is_any_marked-clause-variant

@@ -1,7 +1,7 @@
 use Rattle.std.proofs.Common.{arith}
 use Rattle.std.proofs.lemmas.Int.{ints}
 use Rattle.plan_rules.specs.Multipliers.{rider_term}
-use Rattle.plan_rules.proofs.SumLemmas.{int_sum_more}
+use Rattle.plan_rules.proofs.lemmas.SumLemmas.{int_sum_more}
 use Rattle.plan_rules.proofs.value.rider_terms.Goals as goal
 
 pub loop-rider-preserved : goal.loop-rider-preserved

@@ -2,7 +2,7 @@ use Rattle.std.proofs.Common.{ℕ, ◌<◌, length, get_or, pos, arith, rules, S
 use mir.Syntax.{w128}
 use Rattle.std.proofs.lemmas.Int.{ints}
 use Rattle.plan_rules.specs.Multipliers.{multiplier_sum}
-use Rattle.plan_rules.proofs.ValueLemmas.{sum_more}
+use Rattle.plan_rules.proofs.lemmas.ValueLemmas.{sum_more}
 use Rattle.plan_rules.proofs.value.sum_of_multipliers.Goals as goal
 
 pub loop-rider-preserved : goal.loop-rider-preserved

@@ -3,7 +3,7 @@ use Rattle.std.specs.String.{string_bytes}
 use Rattle.std.specs.Option.{option_map_or}
 use Rattle.pool_base.specs.Number.{value_of}
 use Rattle.pool_base.specs.Numeral.{number_up_to}
-use Rattle.pool_base.proofs.NumeralLemmas.{number_up_to-given}
+use Rattle.pool_base.proofs.lemmas.NumeralLemmas.{number_up_to-given}
 use Rattle.rider_limits.specs.Key.{key_name, default_of}
 use Rattle.rider_limits.specs.Words.{text_given}
 use Rattle.rider_limits.proofs.GivenLemmas.{IsTakenText, given_is_taken}

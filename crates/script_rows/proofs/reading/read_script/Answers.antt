@@ -1,7 +1,7 @@
 use Rattle.std.proofs.Common.{◌≡◌, suc, ◌+◌, ◌<◌, ◌≤◌, [], ◌∷◌, ◌++◌, length, refl, Ok, Err, sym, ap, subst, ◌∙◌, arith}
 use Rattle.std.proofs.lemmas.Result.{err_from_is_err_and}
 use Rattle.pool_io.specs.Table.{record_at}
-use Rattle.pool_base.proofs.InOrderLemmas.{all_or_first-ok}
+use Rattle.pool_base.proofs.lemmas.InOrderLemmas.{all_or_first-ok}
 use Rattle.script_rows.specs.Script.{round_before, line_at}
 use Rattle.script_rows.proofs.LineLemmas.{IsRead-line_in}
 use Rattle.script_rows.proofs.ScriptLemmas.{Built, Built-none, Built-more, line_at-read, script_of-refused, script_of-all}

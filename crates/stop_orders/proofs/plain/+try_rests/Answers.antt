@@ -8,8 +8,8 @@ use Rattle.stop_orders.specs.Task.{IsOrderOf, Serves, order_delay}
 use Rattle.stop_orders.specs.Done.{bit_of, IsNextStop, with_stop}
 use Rattle.stop_orders.specs.work.Rest.{stop_with, left_count}
 use Rattle.stop_orders.specs.work.Plain.{NoneBetter, MakesOrders, AllTried, StaysGood, IsFound}
-use Rattle.stop_orders.proofs.DoneLemmas.{left_count-falls}
-use Rattle.stop_orders.proofs.PlainLemmas.{MakesOrders-all, MakesOrders-next, AllTried-all, AllTried-next, AllTried-kept, IsNextStop-at, IsNextStop-not_at, IsAllDone-at, IsAllDone-not_at, stop_with-bit_of, path_back}
+use Rattle.stop_orders.proofs.lemmas.DoneLemmas.{left_count-falls}
+use Rattle.stop_orders.proofs.lemmas.PlainLemmas.{MakesOrders-all, MakesOrders-next, AllTried-all, AllTried-next, AllTried-kept, IsNextStop-at, IsNextStop-not_at, IsAllDone-at, IsAllDone-not_at, stop_with-bit_of, path_back}
 use Rattle.stop_orders.proofs.plain.+try_rests.Invariants.{NextTried}
 use Rattle.stop_orders.proofs.plain.+try_rests.Goals as goal
 use Rattle.stop_orders.proofs.plain.+try_rests.Goals.{then-is_next, else-is_next}

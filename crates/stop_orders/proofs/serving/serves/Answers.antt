@@ -3,7 +3,7 @@ use Rattle.std.proofs.lemmas.List.{drop_more}
 use Rattle.pool_base.specs.Times.{point_count, travel_time}
 use Rattle.stop_orders.specs.declared.stop.Stop.TheVariants.{Pick}
 use Rattle.stop_orders.specs.work.Position.{CanVisitFrom, position_after}
-use Rattle.stop_orders.proofs.ScanLemmas.{ServingScan, serving_first, serving_next}
+use Rattle.stop_orders.proofs.lemmas.ScanLemmas.{ServingScan, serving_first, serving_next}
 use Rattle.stop_orders.proofs.serving.serves.Goals as goal
 
 pub loop-stop-init : goal.loop-stop-init

@@ -10,9 +10,9 @@ use Rattle.plan_rules.specs.Graph.{Graph, row_at, riders_at, vehicle_at, cost_at
 use Rattle.plan_rules.specs.Plan.{IsPlan, IsLawful, times_chosen, choice_cost, left_out, cost_of}
 use Rattle.plan_rules.specs.Multipliers.{Usable, multiplier_at, multiplier_sum, reduced_cost, is_usable_by, vehicle_term, rider_term, leaf_value}
 use Rattle.plan_rules.specs.Tree.{is_choice_usable, is_within}
-use Rattle.plan_rules.proofs.SumLemmas.{flag, flag-true, flag-false, sum_below_same, sum_below_plus, sum_below_scale, int_sum_same, int_sum_le, int_sum_plus, int_sum_minus, int_sum_pos, int_sum_zero, int_sum_swap, part, part-or, int_sum_single, int_sum_once, least_below_some, least_below_none, all_below_at}
-use Rattle.plan_rules.proofs.GraphLemmas.{has, tail_rises, head_apart, times_served_as_count}
-use Rattle.plan_rules.proofs.PlanLemmas.{plan_choice}
+use Rattle.plan_rules.proofs.lemmas.SumLemmas.{flag, flag-true, flag-false, sum_below_same, sum_below_plus, sum_below_scale, int_sum_same, int_sum_le, int_sum_plus, int_sum_minus, int_sum_pos, int_sum_zero, int_sum_swap, part, part-or, int_sum_single, int_sum_once, least_below_some, least_below_none, all_below_at}
+use Rattle.plan_rules.proofs.lemmas.GraphLemmas.{has, tail_rises, head_apart, times_served_as_count}
+use Rattle.plan_rules.proofs.lemmas.PlanLemmas.{plan_choice}
 
 -- the multipliers of rising riders, summed over all riders
 pub multiplier_sum_is : (ms : List ℤ) (n : ℕ) (xs : List ℕ) → IsStrictlyIncreasing xs → ((i : ℕ) → i < length xs → get_or xs i 0 < n) → multiplier_sum ms xs ≡ int_sum_below n (λ r. part (has xs r) (multiplier_at ms r))

@@ -5,7 +5,7 @@ use Rattle.plan_rules.specs.Sums.{least_below, lesser, int_sum_below}
 use Rattle.plan_rules.specs.Graph.{Graph, vehicle_at, cost_at, riders_at, has_rider, IsRowOf}
 use Rattle.plan_rules.specs.Multipliers.{Usable, is_usable_by, reduced_cost, vehicle_term, rider_term, leaf_value, least_cost, room_at, first_fit_of, first_fit_below, first_fit, first_fit_value, multiplier_sum}
 use Rattle.plan_rules.specs.Tree.{MayUse, CanBranch, IsSoleRow, IsClash, IsStranded, IsDeadEnd}
-use Rattle.plan_rules.proofs.SumLemmas.{int_sum_same}
+use Rattle.plan_rules.proofs.lemmas.SumLemmas.{int_sum_same}
 
 -- the two agree on the graph's rows
 abbrev pub Agree : Graph → Usable → Usable → Type 0

@@ -6,7 +6,7 @@ use Rattle.std.proofs.lemmas.List.{at_drop_more, at_drop_all}
 use Rattle.plan_rules.specs.Sums.{least_below, lesser, int_sum_below}
 use Rattle.plan_rules.specs.Graph.{Graph, row_at, vehicle_at, IsStartOf}
 use Rattle.plan_rules.specs.Multipliers.{Usable, multiplier_at, multiplier_sum, reduced_cost, is_usable_by}
-use Rattle.plan_rules.proofs.SumLemmas.{least_below_none, least_below_more}
+use Rattle.plan_rules.proofs.lemmas.SumLemmas.{least_below_none, least_below_more}
 use Rattle.plan_rules.specs.Size.{IsSmallSum}
 
 -- the sum so far and that of the riders to come is that of all

@@ -11,7 +11,7 @@ use Rattle.stop_orders.specs.Task.{IsOrderOf, Serves, ReachesAll, order_delay, f
 use Rattle.stop_orders.specs.Done.{bit_of, with_stop, IsNextStop, IsAllDone}
 use Rattle.stop_orders.specs.work.Rest.{stop_with, Completes}
 use Rattle.stop_orders.specs.work.Plain.{NoneBetter, StaysGood, MakesOrders, AllTried}
-use Rattle.stop_orders.proofs.DoneLemmas.{Completes-front, Completes-back, Completes-nil, IsAllDone-from_nil, IsOrder-from_none}
+use Rattle.stop_orders.proofs.lemmas.DoneLemmas.{Completes-front, Completes-back, Completes-nil, IsAllDone-from_nil, IsOrder-from_none}
 
 -- what serves reaches all its places
 pub Reaches-from_serves : (tau : ℕ → ℕ → ℕ) (dwell place free room : ℕ) (vs : List Visit) → ServesFrom tau dwell place free room vs → Reaches tau place vs

@@ -12,10 +12,10 @@ use Rattle.plan_rules.specs.Tree.{every_row, only_row, without_row, MayUse, CanB
 use Rattle.plan_rules.specs.Reading.{IsSoundNode, coming_after, Reads, IsWholeTree, places_from, places_read, value_read}
 use Rattle.plan_rules.specs.declared.node.Node.{Node}
 use Rattle.plan_rules.specs.declared.node.Node.TheVariants.{Branch, Leaf, Dead}
-use Rattle.plan_rules.proofs.SumLemmas.{flag, flag-true, flag-false, all_below_at, all_below_from, all_below_fails, all_below_same, count_below_two, lesser-le_left, lesser-le_right}
-use Rattle.plan_rules.proofs.GraphLemmas.{times_served_as_count, times_served_found, in_choice}
-use Rattle.plan_rules.proofs.PlanLemmas.{own_row, has_choice, plan_choice}
-use Rattle.plan_rules.proofs.DualityLemmas.{leaf_value_le}
+use Rattle.plan_rules.proofs.lemmas.SumLemmas.{flag, flag-true, flag-false, all_below_at, all_below_from, all_below_fails, all_below_same, count_below_two, lesser-le_left, lesser-le_right}
+use Rattle.plan_rules.proofs.lemmas.GraphLemmas.{times_served_as_count, times_served_found, in_choice}
+use Rattle.plan_rules.proofs.lemmas.PlanLemmas.{own_row, has_choice, plan_choice}
+use Rattle.plan_rules.proofs.lemmas.DualityLemmas.{leaf_value_le}
 
 same_some : (j k : ℕ) → Some j ≡ Some k → j ≡ k
 same_some j k e = cc

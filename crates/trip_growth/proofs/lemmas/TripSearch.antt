@@ -8,7 +8,7 @@ use Rattle.std.proofs.lemmas.Bool.{cases_lt}
 use Rattle.std.proofs.lemmas.List.{length-map, get_or_default}
 use Rattle.trip_growth.specs.Trip.{IsLower, IsRising, trips_of}
 use Rattle.trip_growth.specs.declared.trip_of.TripOf.{TripOf}
-use Rattle.trip_growth.proofs.TripOrder.{lower_irrefl, lower_trans}
+use Rattle.trip_growth.proofs.lemmas.TripOrder.{lower_irrefl, lower_trans}
 use Rattle.trip_growth.proofs.Levels.{trip_at, same_size}
 
 one_more : (x y : ℕ) (xs ys : List ℕ) (o p : Ordering) → MatchOrdering o (x < y) (x ≡ y) (y < x) → MatchOrdering p (IsLower xs ys) (xs ≡ ys) (IsLower ys xs)

@@ -7,7 +7,7 @@ use Rattle.plan_rules.specs.Sums.{least_below, lesser}
 use Rattle.plan_rules.specs.Graph.{Graph, row_at, has_rider}
 use Rattle.plan_rules.specs.Multipliers.{Usable, multiplier_at, multiplier_sum, least_cost, room_at, first_fit_of, first_fit_below}
 use Rattle.plan_rules.specs.declared.row.TripRow.{TripRow}
-use Rattle.plan_rules.proofs.SumLemmas.{least_below_more}
+use Rattle.plan_rules.proofs.lemmas.SumLemmas.{least_below_more}
 use Rattle.dual_bound.specs.Size.{IsModest}
 
 -- one more number

@@ -8,7 +8,7 @@ use Rattle.std.proofs.lemmas.List.{get_or-set_same, get_or-set_other, get_or_pas
 use Rattle.plan_rules.specs.Sums.{count_below}
 use Rattle.plan_rules.specs.declared.row.TripRow.{TripRow}
 use Rattle.plan_rules.specs.Graph.{Graph, no_row, row_at, riders_at, vehicle_at, has_rider, IsRowOf, HasNoRow, choice_at, is_in, times_served, must_be_served, IsRow, AreRisingBelow, IsGoodGraph, HoldsRightly, IsStartOf, ChoosesRows, MarksHeld}
-use Rattle.plan_rules.proofs.SumLemmas.{flag, flag-le, flag-true, flag-false, count_below_more, count_below_yes, count_below_no, count_below-le, count_below_none, count_below_some, count_below_found}
+use Rattle.plan_rules.proofs.lemmas.SumLemmas.{flag, flag-le, flag-true, flag-false, count_below_more, count_below_yes, count_below_no, count_below-le, count_below_none, count_below_some, count_below_found}
 
 -- ---- lists of riders
 

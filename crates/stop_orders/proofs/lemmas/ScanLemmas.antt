@@ -8,8 +8,8 @@ use Rattle.stop_orders.specs.Order.{IsKnown}
 use Rattle.stop_orders.specs.Visit.{place_of, lateness, Reaches, delay_from, seconds_from}
 use Rattle.stop_orders.specs.Task.{IsTask, IsOrderOf, Serves, visit_at, visits_of, ReachesAll, order_delay, seconds_of}
 use Rattle.stop_orders.specs.work.Position.{first_position, position_after, CanVisitFrom, ServesAt}
-use Rattle.stop_orders.proofs.DoneLemmas.{length-IsOrder}
-use Rattle.stop_orders.proofs.VisitLemmas.{visit_place, visit_latest, visit_party}
+use Rattle.stop_orders.proofs.lemmas.DoneLemmas.{length-IsOrder}
+use Rattle.stop_orders.proofs.lemmas.VisitLemmas.{visit_place, visit_latest, visit_party}
 
 -- an order of a valid task has at most 22 stops
 pub order_short : (points : ℕ) (task : Task) (stops : List Stop) → IsTask points task → IsOrderOf task stops → length stops ≤ 22

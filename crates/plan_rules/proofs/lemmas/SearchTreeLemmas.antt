@@ -7,7 +7,7 @@ use Rattle.plan_rules.specs.Multipliers.{Usable}
 use Rattle.plan_rules.specs.Tree.{every_row, only_row, without_row, SearchTree, Parted, Bounded, Closed, preorder, IsSoundTree, IsTreeOf, IsTreeOfValue, Place, places_within, places, least_leaf, tree_value, belongs_to_end, belongs_to_dead_end}
 use Rattle.plan_rules.specs.Reading.{coming_after, Reads, IsWholeTree, places_from, places_read, value_read}
 use Rattle.plan_rules.specs.Plan.{IsPlan, IsLawful, IsBound}
-use Rattle.plan_rules.proofs.TreeLemmas.{each_plan_at_one_end, no_plan_at_dead_ends, tree_value_bounds}
+use Rattle.plan_rules.proofs.lemmas.TreeLemmas.{each_plan_at_one_end, no_plan_at_dead_ends, tree_value_bounds}
 use Rattle.plan_rules.specs.declared.node.Node.{Node}
 use Rattle.plan_rules.specs.declared.node.Node.TheVariants.{Branch, Leaf, Dead}
 

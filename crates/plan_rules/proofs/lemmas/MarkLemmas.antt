@@ -4,7 +4,7 @@ use Rattle.std.specs.List.{list_any}
 use Rattle.std.proofs.lemmas.Bool.{cases_eq, or_cases, or_left, or_right, both_ways}
 use Rattle.std.proofs.lemmas.List.{get_or-set_same, get_or-set_other, length-set}
 use Rattle.std.proofs.lemmas.List.Folds.{list_any_more}
-use Rattle.plan_rules.proofs.GraphLemmas.{has}
+use Rattle.plan_rules.proofs.lemmas.GraphLemmas.{has}
 
 -- beside those that were marked, these are
 pub record IsMarking (old new : List Bool) (xs : List ℕ) : Type 0 where

@@ -4,9 +4,9 @@ use Rattle.std.specs.List.{list_any}
 use Rattle.std.proofs.lemmas.Bool.{cases_eq, cases_lt, cases_Bool, both_ways}
 use Rattle.std.proofs.lemmas.List.{get_or-replicate, length-replicate}
 use Rattle.plan_rules.specs.Graph.{Graph, row_at, riders_at, has_rider, IsRowOf, HasNoRow, choice_at, is_in, times_served, IsRow, HoldsRightly, MarksHeld}
-use Rattle.plan_rules.proofs.SumLemmas.{flag, flag-true, flag-false}
-use Rattle.plan_rules.proofs.GraphLemmas.{has, rider_below, times_served_more, times_served_none}
-use Rattle.plan_rules.proofs.MarkLemmas.{any_marked, marked_one}
+use Rattle.plan_rules.proofs.lemmas.SumLemmas.{flag, flag-true, flag-false}
+use Rattle.plan_rules.proofs.lemmas.GraphLemmas.{has, rider_below, times_served_more, times_served_none}
+use Rattle.plan_rules.proofs.lemmas.MarkLemmas.{any_marked, marked_one}
 
 pub marks_none : (g : Graph) → MarksHeld g 0 (replicate g.riders false)
 marks_none g = record {

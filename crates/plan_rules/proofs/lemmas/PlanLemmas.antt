@@ -4,7 +4,7 @@ use Rattle.std.proofs.lemmas.Bool.{cases_lt, both_ways}
 use Rattle.std.proofs.lemmas.List.{get_or_past}
 use Rattle.plan_rules.specs.Graph.{Graph, row_at, has_rider, IsRowOf, HasNoRow, choice_at, is_in, times_served, must_be_served, IsRow, IsGoodGraph, HoldsRightly, ChoosesRows}
 use Rattle.plan_rules.specs.Plan.{IsPlan, IsLawful, times_chosen}
-use Rattle.plan_rules.proofs.GraphLemmas.{held_once, times_served_outside}
+use Rattle.plan_rules.proofs.lemmas.GraphLemmas.{held_once, times_served_outside}
 
 -- a choice of a plan is a row of its vehicle
 pub own_row : (g : Graph) (v k : ℕ) (c : Option ℕ) → MatchOption c (HasNoRow g v) (IsRowOf g v) → c ≡ Some k → IsRowOf g v k

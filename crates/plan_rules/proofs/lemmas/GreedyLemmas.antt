@@ -7,8 +7,8 @@ use Rattle.std.proofs.lemmas.List.Folds.{list_any_at}
 use Rattle.plan_rules.specs.Graph.{Graph, row_at, riders_at, cost_at, vehicle_at, has_rider, choice_at, IsRowOf, IsRow, IsGoodGraph}
 use Rattle.plan_rules.specs.Greedy.{IsTaken, IsApart, IsTriedBefore, IsGreedy}
 use Rattle.plan_rules.specs.Rank.{rank_value, rank_of, IsRankOfRow, IsSelection, IsInTheWay}
-use Rattle.plan_rules.proofs.GraphLemmas.{has, rider_below}
-use Rattle.plan_rules.proofs.MarkLemmas.{any_marked, marked_one}
+use Rattle.plan_rules.proofs.lemmas.GraphLemmas.{has, rider_below}
+use Rattle.plan_rules.proofs.lemmas.MarkLemmas.{any_marked, marked_one}
 
 pub rank_value-mod : (size cost k : ℕ) → k < 2000000 → rank_value size cost k % 2000000 ≡ k
 unfolding rank_value
