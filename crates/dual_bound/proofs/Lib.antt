@@ -1,3 +1,4 @@
 pub mod ValueLemmas
 pub mod FirstFitLemmas
 pub mod ClimbLemmas
+pub mod ListedLemmas
