@@ -3,6 +3,7 @@ pub mod RiseLemmas
 pub mod CountLemmas
 pub mod FixedLemmas
 pub mod ExchangeLemmas
+pub mod ChangeLemmas
 pub mod UniqueLemmas
 pub mod LeafLemmas
 pub mod StandingLemmas

@@ -12,10 +12,11 @@ use crate::exchange::exchange;
 use crate::first_plan::first_plan;
 use crate::found::Found;
 use crate::growth::grow;
+use crate::guide::Guide;
 use crate::lowest_leaf::{bound_at, lowest};
 use crate::root::root_leaf;
 use crate::step::{Outcome, next};
-use dual_bound::Relaxation;
+use dual_bound::RiderIndex;
 use plan_rules::{Node, Plan, Tree, TripGraph, cost_of};
 use pool_base::OutOfMemory;
 use std::alloc::Global;
@@ -45,8 +46,9 @@ fn run(alloc: Global, graph: &TripGraph, budget: u32) -> Result<Found, OutOfMemo
 {
     let mut plan = first_plan(alloc, graph)?;
     let mut limit = cost_of(graph, &plan);
-    let mut relaxation = Relaxation::new(alloc, graph)?;
-    let root = root_leaf(alloc, graph, &mut relaxation)?;
+    let mut guide = Guide::new(alloc, graph, budget as usize)?;
+    let index = RiderIndex::new(alloc, graph, guide.table())?;
+    let root = root_leaf(alloc, graph, &index, &guide)?;
     let mut nodes = Vec::new(alloc);
     nodes.push(Node::Leaf {
         multipliers: root.multipliers,
@@ -59,12 +61,13 @@ fn run(alloc: Global, graph: &TripGraph, budget: u32) -> Result<Found, OutOfMemo
         match next(
             alloc,
             graph,
+            &index,
             &nodes,
             &values,
             place,
             limit,
             budget as usize,
-            &mut relaxation,
+            &mut guide,
         )? {
             Outcome::Parted(ends) => grow(&mut nodes, &mut values, place, ends)?,
             Outcome::Better(better) => {

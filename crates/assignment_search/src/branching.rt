@@ -4,54 +4,25 @@ ghost use Rattle.plan_rules.specs.Multipliers.{usable_of};
 ghost use Rattle.plan_rules.specs.Tree.{CanBranch, MayUse};
 ghost use Rattle.assignment_search.specs.Growth.{IsFixed};
 
-use dual_bound::Relaxation;
 use plan_rules::TripGraph;
 
-/// A vehicle that may use two rows, and one of them: the row that the relaxation chooses most nearly by
-/// half, the larger trip first, or the first row that there is.
+/// A vehicle that may use two rows, and one of them: the row that is suggested, if it may, or the first that
+/// there is.
 pub fn branch_row(
     graph: &TripGraph,
     allowed: &[bool],
-    relaxation: &Relaxation,
+    suggested: Option<usize>,
 ) -> Option<(usize, usize)>
     requires { length allowed.now ≡ length graph.now.rows }
     ensures found { IfSome result (λ at. CanBranch graph.now (usable_of allowed.now) at.0 at.1 × (at.0 < graph.now.vehicles)) }
     ensures none { IfNone result (IsFixed graph.now (usable_of allowed.now)) }
 {
-    if let Some(row) = split_row(graph, allowed, relaxation) {
+    if let Some(row) = suggested {
         if let Some(at) = branch_at(graph, allowed, row) {
             return Some(at);
         }
     }
     first_branch(graph, allowed)
-}
-
-/// The allowed row that the relaxation chooses most nearly by half, if it chooses one in part.
-fn split_row(graph: &TripGraph, allowed: &[bool], relaxation: &Relaxation) -> Option<usize> {
-    let mut least = None;
-    let mut nearest = None;
-    for place in 0..relaxation.places() {
-        if let Some((row, share)) = relaxation.share(place) {
-            let rank = rank_of(graph, allowed, row, share);
-            if rank.is_some() && (least.is_none() || rank < least) {
-                least = rank;
-                nearest = Some(row);
-            }
-        }
-    }
-    nearest
-}
-
-/// A number that rises with the distance of the share from one half, then as the trip is smaller, then
-/// with the row's number; none for a row that isn't allowed or isn't chosen in part.
-fn rank_of(graph: &TripGraph, allowed: &[bool], row: usize, share: i64) -> Option<u64> {
-    let rows = graph.rows();
-    if row >= rows.len() || row >= allowed.len() || !allowed[row] || share <= 0 || share >= 1024 {
-        return None;
-    }
-    let distance = (2 * share - 1024).unsigned_abs() / 64;
-    let smaller = 6_u64.saturating_sub(rows[row].riders.len() as u64);
-    Some((distance * 7 + smaller) * 2_000_000 + row as u64)
 }
 
 /// The row with its vehicle, where the row is allowed and another one of the vehicle is too.

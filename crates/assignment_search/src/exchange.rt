@@ -1,11 +1,11 @@
 //! Betters a plan by the row of one vehicle at a time.
-ghost use Rattle.std.specs.Prelude.{◌≡◌, ◌==◌, ◌<◌, ◌≤◌, ◌^◌, ℕ, IsTrue, IfOk, MatchOption, Option, Some, length, slice_set, slice_index_or};
+ghost use Rattle.std.specs.Prelude.{◌≡◌, ◌==◌, ◌+◌, ◌*◌, ◌<◌, ◌≤◌, ◌^◌, ℕ, false, IsTrue, IfOk, MatchOption, Option, Some, length, slice_set, slice_index_or};
 ghost use Rattle.std.specs.List.{list_any};
-ghost use Rattle.plan_rules.specs.Graph.{IsRowOf, choice_at, ChoosesRows, has_rider};
+ghost use Rattle.plan_rules.specs.Graph.{IsRowOf, choice_at, ChoosesRows, cost_at, riders_at, has_rider, must_be_served};
 ghost use Rattle.plan_rules.specs.Plan.{IsLawful, cost_of};
 ghost use Rattle.assignment_search.specs.Change.{HasNoBetterChange, BettersNothing, IsShared};
 
-use plan_rules::{Plan, TripGraph, cost_of, is_lawful};
+use plan_rules::{Plan, TripGraph, TripRow, cost_of, is_lawful};
 use pool_base::OutOfMemory;
 use std::alloc::Global;
 
@@ -32,12 +32,39 @@ fn better_change(alloc: Global, graph: &TripGraph, plan: &Plan) -> Result<Option
         (λ better. IsLawful graph.now better × (cost_of graph.now better < cost_of graph.now plan.now))) }
 {
     let cost = cost_of(graph, plan);
+    let servers = servers_of(alloc, graph, plan.chosen())?;
     for vehicle in 0..graph.vehicle_count() {
-        if let Some(better) = change_of(alloc, graph, plan.chosen(), cost, vehicle)? {
+        if let Some(better) = change_of(alloc, graph, plan.chosen(), &servers, cost, vehicle)? {
             return Ok(Some(better));
         }
     }
     Ok(None)
+}
+
+/// For each rider the vehicle that serves her, or one that doesn't exist.
+fn servers_of(
+    alloc: Global,
+    graph: &TripGraph,
+    chosen: &[Option<u32>],
+) -> Result<Vec<usize>, OutOfMemory>
+    requires { ChoosesRows graph.now chosen.now }
+{
+    let mut servers = vec![in alloc; usize::MAX; graph.rider_count()]?;
+    for vehicle in 0..chosen.len() {
+        if let Some(row) = chosen[vehicle] {
+            write_server(&graph.rows()[row as usize], vehicle, &mut servers);
+        }
+    }
+    Ok(servers)
+}
+
+/// Writes the vehicle as the one that serves the riders of this trip.
+fn write_server(trip: &TripRow, vehicle: usize, servers: &mut [usize]) {
+    for rider in trip.riders.as_slice() {
+        if *rider < servers.len() {
+            servers[*rider] = vehicle;
+        }
+    }
 }
 
 /// A lawful plan that gives this vehicle another row and costs less than this.
@@ -45,6 +72,7 @@ fn change_of(
     alloc: Global,
     graph: &TripGraph,
     chosen: &[Option<u32>],
+    servers: &[usize],
     cost: u64,
     vehicle: usize,
 ) -> Result<Option<Plan>, OutOfMemory>
@@ -57,7 +85,7 @@ fn change_of(
     let count = graph.vehicle_count();
     prove!(vehicle < count);
     for row in graph.first_row(vehicle)..graph.first_row(vehicle + 1) {
-        if let Some(better) = change_to(alloc, graph, chosen, cost, vehicle, row)? {
+        if let Some(better) = change_to(alloc, graph, chosen, servers, cost, vehicle, row)? {
             return Ok(Some(better));
         }
     }
@@ -69,6 +97,7 @@ fn change_to(
     alloc: Global,
     graph: &TripGraph,
     chosen: &[Option<u32>],
+    servers: &[usize],
     cost: u64,
     vehicle: usize,
     row: usize,
@@ -82,7 +111,7 @@ fn change_to(
 {
     let size = graph.rows().len();
     prove!(row < size);
-    if is_shared(graph, chosen, vehicle, row) {
+    if betters_nothing(graph, chosen, servers, vehicle, row) {
         return Ok(None);
     }
     let other = with_row(alloc, chosen, vehicle, row)?;
@@ -111,17 +140,82 @@ fn with_row(
     Ok(Plan::of(other))
 }
 
+/// Whether it is seen at once that this row betters nothing: it costs no less than the present one, or a
+/// rider of it is served by another vehicle, or one who must be served loses her place.
+fn betters_nothing(
+    graph: &TripGraph,
+    chosen: &[Option<u32>],
+    servers: &[usize],
+    vehicle: usize,
+    row: usize,
+) -> bool
+    requires lawful { IsLawful graph.now chosen.now }
+    requires vehicle { vehicle < graph.now.vehicles }
+    requires row { row < length graph.now.rows }
+    ensures { IsTrue result → BettersNothing graph.now chosen.now vehicle row }
+{
+    let count = graph.vehicle_count();
+    prove!(vehicle < count);
+    if let Some(old) = chosen[vehicle] {
+        let old = old as usize;
+        if is_dear(graph, old, row) {
+            return true;
+        }
+        if loses_promised(graph, old, row) {
+            return true;
+        }
+    }
+    is_shared(graph, chosen, servers, vehicle, row)
+}
+
+/// Whether the row costs no less than the old one, where each rider is worth the penalty.
+fn is_dear(graph: &TripGraph, old: usize, row: usize) -> bool
+    requires old { old < length graph.now.rows }
+    requires row { row < length graph.now.rows }
+    ensures { IsTrue result → cost_at graph.now old + graph.now.penalty * length (riders_at graph.now row) ≤ cost_at graph.now row + graph.now.penalty * length (riders_at graph.now old) }
+{
+    let rows = graph.rows();
+    let penalty = graph.penalty() as u64;
+    let served = penalty * rows[old].riders.len() as u64;
+    let serves = penalty * rows[row].riders.len() as u64;
+    rows[old].cost + serves <= rows[row].cost + served
+}
+
+/// Whether a rider of the old row who must be served isn't in this row.
+fn loses_promised(graph: &TripGraph, old: usize, row: usize) -> bool
+    requires old { old < length graph.now.rows }
+    requires row { row < length graph.now.rows }
+    ensures { IsTrue result → (r : ℕ) × IsTrue (must_be_served graph.now r) × IsTrue (has_rider graph.now old r) × (has_rider graph.now row r ≡ false) }
+{
+    let rows = graph.rows();
+    for rider in rows[old].riders.as_slice() {
+        if graph.must(*rider) && !rows[row].riders.as_slice().contains(rider) {
+            return true;
+        }
+    }
+    false
+}
+
 /// Whether another vehicle's chosen row has a rider of this row.
-fn is_shared(graph: &TripGraph, chosen: &[Option<u32>], vehicle: usize, row: usize) -> bool
+fn is_shared(
+    graph: &TripGraph,
+    chosen: &[Option<u32>],
+    servers: &[usize],
+    vehicle: usize,
+    row: usize,
+) -> bool
     requires rows { ChoosesRows graph.now chosen.now }
     requires row { row < length graph.now.rows }
     ensures { IsTrue result → IsShared graph.now chosen.now vehicle row }
 {
-    for other in 0..chosen.len() {
-        if other != vehicle {
-            if let Some(taken) = chosen[other] {
-                if have_rider_in_common(graph, taken as usize, row) {
-                    return true;
+    for rider in graph.rows()[row].riders.as_slice() {
+        if *rider < servers.len() {
+            let server = servers[*rider];
+            if server != vehicle && server < chosen.len() {
+                if let Some(taken) = chosen[server] {
+                    if have_rider_in_common(graph, taken as usize, row) {
+                        return true;
+                    }
                 }
             }
         }

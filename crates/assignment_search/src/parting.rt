@@ -4,11 +4,13 @@ ghost use Rattle.plan_rules.specs.Multipliers.{usable_of};
 ghost use Rattle.plan_rules.specs.Graph.{IsGoodGraph};
 ghost use Rattle.plan_rules.specs.Tree.{CanBranch};
 ghost use Rattle.plan_rules.specs.Path.{standing_of, IsPathOf};
+ghost use Rattle.dual_bound.specs.Index.{IsIndexOf};
 ghost use Rattle.assignment_search.specs.Growth.{IsNewEnd};
 ghost use Rattle.assignment_search.specs.Next.{IsParting};
 
 use crate::child::{End, new_end};
-use dual_bound::Relaxation;
+use crate::guide::Suggested;
+use dual_bound::RiderIndex;
 use plan_rules::{Path, TripGraph};
 use pool_base::OutOfMemory;
 use std::alloc::Global;
@@ -22,16 +24,18 @@ pub struct Ends {
     pub second: End,
 }
 
-/// Parts the rows at the end of this path.
+/// Parts the rows at the end of this path. Multipliers may be suggested for the two ends.
 pub fn part(
     alloc: Global,
     graph: &TripGraph,
+    index: &RiderIndex,
     path: Path,
     parent: &[i64],
     vehicle: usize,
     row: usize,
-    relaxation: &mut Relaxation,
+    suggested: Suggested,
 ) -> Result<Ends, OutOfMemory>
+    requires index { IsIndexOf graph.now index.now }
     requires path { IsPathOf graph.now path }
     requires can { CanBranch graph.now (standing_of graph.now path).usable vehicle row }
     requires vehicle { vehicle < graph.now.vehicles }
@@ -42,11 +46,12 @@ pub fn part(
     prove!(count <= 500);
     let size = graph.rows().len();
     prove!(row < size);
+    let Suggested { taken, left } = suggested;
     let mut path = path;
     path.enter(vehicle as u32, row as u32)?;
-    let first = end_of(alloc, graph, &path, parent, relaxation)?;
+    let first = end_of(alloc, graph, index, &path, parent, taken)?;
     path.leave();
-    let second = end_of(alloc, graph, &path, parent, relaxation)?;
+    let second = end_of(alloc, graph, index, &path, parent, left)?;
     Ok(Ends {
         vehicle: vehicle as u32,
         row: row as u32,
@@ -59,16 +64,18 @@ pub fn part(
 fn end_of(
     alloc: Global,
     graph: &TripGraph,
+    index: &RiderIndex,
     path: &Path,
     parent: &[i64],
-    relaxation: &mut Relaxation,
+    suggested: Vec<i64>,
 ) -> Result<End, OutOfMemory>
+    requires index { IsIndexOf graph.now index.now }
     requires path { IsPathOf graph.now path.now }
     requires parent { length parent.now ≡ graph.now.riders }
     ensures { IfOk result (λ end. IsNewEnd graph.now (standing_of graph.now path.now).usable parent.now end.node end.value) }
 {
     let allowed = allowed_at(alloc, graph, path)?;
-    new_end(alloc, graph, &allowed, parent, relaxation)
+    new_end(alloc, graph, index, &allowed, parent, suggested)
 }
 
 /// The rows that may be chosen where this path leads.

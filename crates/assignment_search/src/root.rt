@@ -2,28 +2,30 @@
 ghost use Rattle.std.specs.Prelude.{IfOk};
 ghost use Rattle.plan_rules.specs.Graph.{IsGoodGraph};
 ghost use Rattle.plan_rules.specs.Tree.{every_row, rounded_up};
+ghost use Rattle.dual_bound.specs.Index.{IsIndexOf};
 ghost use Rattle.assignment_search.specs.Growth.{IsGoodLeaf};
 
 use crate::child::{Judged, best_of};
-use dual_bound::{Relaxation, ascend};
+use crate::guide::Guide;
+use dual_bound::RiderIndex;
 use plan_rules::TripGraph;
 use pool_base::OutOfMemory;
 use std::alloc::Global;
 
-/// How many turns the first multipliers climb at most.
-const TURNS: u32 = 500;
-
-/// A leaf at the root.
+/// A leaf at the root: the better of the first-fit multipliers and those that are suggested.
 pub fn root_leaf(
     alloc: Global,
     graph: &TripGraph,
-    relaxation: &mut Relaxation,
+    index: &RiderIndex,
+    guide: &Guide,
 ) -> Result<Judged, OutOfMemory>
+    requires { IsIndexOf graph.now index.now }
     ensures good { IsGoodGraph graph.now }
     ensures leaf { IfOk result (λ leaf. IsGoodLeaf graph.now (rounded_up leaf.value) every_row leaf.multipliers leaf.value) }
 {
     let allowed = vec![in alloc; true; graph.rows().len()]?;
-    let start = ascend(alloc, graph, &allowed, TURNS)?;
-    let best = best_of(alloc, graph, &allowed, start.as_slice(), relaxation)?;
+    let zeros = vec![in alloc; 0; graph.rider_count()]?;
+    let suggested = guide.root_multipliers(alloc)?;
+    let best = best_of(alloc, graph, index, &allowed, &zeros, suggested)?;
     Ok(best)
 }

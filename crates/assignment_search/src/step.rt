@@ -2,17 +2,17 @@
 ghost use Rattle.std.specs.Prelude.{◌≡◌, ◌+◌, ◌<◌, ◌≤◌, ℕ, pos, MatchBool, IfOk, List, ℤ, length, slice_index_or, [], ◌∷◌};
 ghost use Rattle.plan_rules.specs.Tree.{every_row, rounded_up};
 ghost use Rattle.plan_rules.specs.declared.node.Node.TheVariants.{Leaf};
+ghost use Rattle.dual_bound.specs.Index.{IsIndexOf};
 ghost use Rattle.assignment_search.specs.Growth.{IsGrown, IsLowest};
 ghost use Rattle.assignment_search.specs.Next.{IsNext};
 
 use crate::branching::branch_row;
+use crate::guide::Guide;
 use crate::lowest_leaf::is_met;
-use crate::near::relax;
 use crate::parting::{Ends, allowed_at, part};
-use crate::rounding::cheaper_plan;
 use crate::sole_plan::sole_rows;
 use crate::standing::path_to;
-use dual_bound::Relaxation;
+use dual_bound::RiderIndex;
 use plan_rules::{Node, Plan, TripGraph};
 use pool_base::OutOfMemory;
 use std::alloc::Global;
@@ -32,17 +32,19 @@ pub enum Outcome {
     Parted(Ends),
 }
 
-/// What comes next at the leaf of least value.
+/// What comes next at the leaf of least value. The guide suggests plans, rows and multipliers.
 pub fn next(
     alloc: Global,
     graph: &TripGraph,
+    index: &RiderIndex,
     nodes: &[Node],
     values: &[i128],
     place: usize,
     limit: u64,
     budget: usize,
-    relaxation: &mut Relaxation,
+    guide: &mut Guide,
 ) -> Result<Outcome, OutOfMemory>
+    requires index { IsIndexOf graph.now index.now }
     requires lowest { IsLowest nodes.now values.now place }
     requires grown { (first : ℕ) × IsGrown graph.now (rounded_up (slice_index_or values.now place (pos 0))) first (every_row ∷ []) nodes.now values.now [] }
     ensures { IfOk result (IsNext graph.now nodes.now values.now place limit budget) }
@@ -53,11 +55,10 @@ pub fn next(
     let path = path_to(alloc, graph, nodes, place)?;
     let allowed = allowed_at(alloc, graph, &path)?;
     let parent = multipliers_of(&nodes[place]);
-    relax(alloc, graph, &allowed, parent, relaxation)?;
-    if let Some(better) = cheaper_plan(alloc, graph, relaxation, limit)? {
+    if let Some(better) = guide.cheaper_plan(alloc, graph, limit)? {
         return Ok(Outcome::Better(better));
     }
-    match branch_row(graph, &allowed, relaxation) {
+    match branch_row(graph, &allowed, guide.row_at(place)) {
         None => {
             let chosen = sole_rows(alloc, graph, &allowed)?;
             Ok(Outcome::Fixed(Plan::of(chosen)))
@@ -66,7 +67,8 @@ pub fn next(
             if is_full(nodes, budget) {
                 return Ok(Outcome::Full);
             }
-            let ends = part(alloc, graph, path, parent, vehicle, row, relaxation)?;
+            let suggested = guide.grow(alloc, place, row)?;
+            let ends = part(alloc, graph, index, path, parent, vehicle, row, suggested)?;
             Ok(Outcome::Parted(ends))
         }
     }

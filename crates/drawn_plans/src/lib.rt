@@ -21,6 +21,10 @@ mod plain_rules;
 #[cfg(test)]
 mod plain_tree;
 #[cfg(test)]
+mod searching;
+#[cfg(test)]
 mod tests;
+#[cfg(test)]
+mod wide;
 #[cfg(test)]
 mod worked;

@@ -14,7 +14,7 @@ fn row(vehicle: usize, riders: &[usize], cost: u64) -> TripRow {
 }
 
 /// Three vehicles, each with an empty row and a pair; each two pairs share a rider.
-fn three_pairs(alloc: Global) -> Result<TripGraph, Fail> {
+pub fn three_pairs(alloc: Global) -> Result<TripGraph, Fail> {
     let rows = vec![in alloc;
         row(0, &[], 0),
         row(0, &[0, 1], 10),
@@ -28,7 +28,7 @@ fn three_pairs(alloc: Global) -> Result<TripGraph, Fail> {
 }
 
 /// A vehicle that holds rider 0, and one that could fetch rider 2.
-fn one_held(alloc: Global) -> Result<TripGraph, Fail> {
+pub fn one_held(alloc: Global) -> Result<TripGraph, Fail> {
     let rows = vec![in alloc;
         row(0, &[], 0),
         row(0, &[0], 60),

@@ -1,10 +1,14 @@
 //! The first-fit multipliers: one pass over the riders.
-ghost use Rattle.std.specs.Prelude.{◌≡◌, ◌*◌, ◌<◌, ◌≤◌, ℕ, All, IfOk, IfSome, length, slice_index_or, ℤ, pos, neg_ℤ, ◌≤ℤ◌, ◌-ℤ◌, ◌*ℤ◌};
-ghost use Rattle.plan_rules.specs.Sums.{lesser};
+ghost use Rattle.std.specs.Prelude.{◌≡◌, ◌*◌, ◌<◌, ◌≤◌, ◌&&◌, ℕ, suc, false, All, IfOk, IfSome, IfNone, length, slice_index_or, ℤ, pos, neg_ℤ, ◌≤ℤ◌, ◌-ℤ◌, ◌*ℤ◌};
+ghost use Rattle.plan_rules.specs.Sums.{lesser, least_below};
 ghost use Rattle.plan_rules.specs.Multipliers.{usable_of, first_fit, first_fit_of, room_at, multiplier_at, multiplier_sum};
+ghost use Rattle.plan_rules.specs.Graph.{has_rider};
 ghost use Rattle.dual_bound.specs.Size.{IsCost, IsModest, HasLeastCosts};
+ghost use Rattle.dual_bound.specs.Index.{IsIndexOf, ListsAll, IsRowListed};
 
 use crate::cheapest::least_costs;
+use crate::relaxation::RowTable;
+use crate::rider_index::RiderIndex;
 use plan_rules::{Multipliers, TripGraph, TripRow};
 use pool_base::OutOfMemory;
 use std::alloc::Global;
@@ -21,14 +25,38 @@ pub fn first_fit(
     ensures value { IfOk result (λ ms. ms ≡ first_fit graph.now (usable_of allowed.now)) }
     ensures len { IfOk result (λ ms. length ms ≡ graph.now.riders) }
 {
+    let table = RowTable::of_graph(alloc, graph)?;
+    let index = RiderIndex::new(alloc, graph, &table)?;
+    first_fit_by(alloc, graph, &index, allowed)
+}
+
+/// The same, where an index of the graph is at hand.
+pub fn first_fit_by(
+    alloc: Global,
+    graph: &TripGraph,
+    index: &RiderIndex,
+    allowed: &[bool],
+) -> Result<Multipliers, OutOfMemory>
+    requires index { IsIndexOf graph.now index.now }
+    requires allowed { length allowed.now ≡ length graph.now.rows }
+    ensures value { IfOk result (λ ms. ms ≡ first_fit graph.now (usable_of allowed.now)) }
+    ensures len { IfOk result (λ ms. length ms ≡ graph.now.riders) }
+{
     let costs = least_costs(alloc, graph, allowed)?;
     let mut multipliers: Vec<i64> = vec![in alloc; 0; graph.rider_count()]?;
-    fit(graph, allowed, &costs, &mut multipliers);
+    fit(graph, index, allowed, &costs, &mut multipliers);
     Ok(Multipliers::of(multipliers))
 }
 
 /// Writes each rider's multiplier in place of a 0.
-fn fit(graph: &TripGraph, allowed: &[bool], costs: &[i64], multipliers: &mut [i64])
+fn fit(
+    graph: &TripGraph,
+    index: &RiderIndex,
+    allowed: &[bool],
+    costs: &[i64],
+    multipliers: &mut [i64],
+)
+    requires index { IsIndexOf graph.now index.now }
     requires allowed { length allowed.now ≡ length graph.now.rows }
     requires costs { HasLeastCosts graph.now (usable_of allowed.now) costs.now }
     requires multipliers { length multipliers.old ≡ graph.now.riders }
@@ -37,12 +65,147 @@ fn fit(graph: &TripGraph, allowed: &[bool], costs: &[i64], multipliers: &mut [i6
     ensures len { length multipliers.new ≡ length multipliers.old }
 {
     for rider in 0..multipliers.len() {
-        let next = first_fit_at(graph, allowed, costs, multipliers, rider);
+        let next = next_multiplier(graph, index, allowed, costs, multipliers, rider);
         multipliers[rider] = next;
     }
 }
 
 /// The next rider's multiplier, where those of later riders are still 0.
+fn next_multiplier(
+    graph: &TripGraph,
+    index: &RiderIndex,
+    allowed: &[bool],
+    costs: &[i64],
+    multipliers: &[i64],
+    rider: usize,
+) -> i64
+    requires index { IsIndexOf graph.now index.now }
+    requires allowed { length allowed.now ≡ length graph.now.rows }
+    requires costs { HasLeastCosts graph.now (usable_of allowed.now) costs.now }
+    requires multipliers { length multipliers.now ≡ graph.now.riders }
+    requires modest { (r : ℕ) → IsModest (multiplier_at multipliers.now r) }
+    ensures value { result ≡ first_fit_of graph.now (usable_of allowed.now) multipliers.now rider }
+    ensures modest { IsModest result }
+{
+    if index.is_whole {
+        first_fit_listed(
+            graph,
+            index.starts.as_slice(),
+            index.rows.as_slice(),
+            allowed,
+            costs,
+            multipliers,
+            rider,
+        )
+    } else {
+        first_fit_at(graph, allowed, costs, multipliers, rider)
+    }
+}
+
+/// The next rider's multiplier, by the list of her rows.
+fn first_fit_listed(
+    graph: &TripGraph,
+    starts: &[u32],
+    listed: &[u32],
+    allowed: &[bool],
+    costs: &[i64],
+    multipliers: &[i64],
+    rider: usize,
+) -> i64
+    requires listed { ListsAll graph.now starts.now listed.now }
+    requires allowed { length allowed.now ≡ length graph.now.rows }
+    requires costs { HasLeastCosts graph.now (usable_of allowed.now) costs.now }
+    requires multipliers { length multipliers.now ≡ graph.now.riders }
+    requires modest { (r : ℕ) → IsModest (multiplier_at multipliers.now r) }
+    ensures value { result ≡ first_fit_of graph.now (usable_of allowed.now) multipliers.now rider }
+    ensures modest { IsModest result }
+{
+    let least = least_listed(graph, starts, listed, allowed, costs, multipliers, rider);
+    let penalty = 1024 * graph.penalty() as i64;
+    lesser_room(least, penalty)
+}
+
+/// The least room of the rider's allowed rows, by the list of her rows.
+fn least_listed(
+    graph: &TripGraph,
+    starts: &[u32],
+    listed: &[u32],
+    allowed: &[bool],
+    costs: &[i64],
+    multipliers: &[i64],
+    rider: usize,
+) -> Option<i64>
+    requires listed { ListsAll graph.now starts.now listed.now }
+    requires allowed { length allowed.now ≡ length graph.now.rows }
+    requires costs { HasLeastCosts graph.now (usable_of allowed.now) costs.now }
+    requires multipliers { length multipliers.now ≡ graph.now.riders }
+    requires modest { (r : ℕ) → IsModest (multiplier_at multipliers.now r) }
+    ensures value { result ≡ least_below (length graph.now.rows) (λ k. usable_of allowed.now k && has_rider graph.now k rider) (room_at graph.now (usable_of allowed.now) multipliers.now) }
+    ensures small { IfSome result (λ z. neg_ℤ (pos 8000000000000) ≤ℤ z) }
+{
+    let mut least: Option<i64> = None;
+    for place in start_of(starts, rider)..end_of(starts, rider) {
+        if let Some(row) = row_listed(graph, listed, allowed, rider, place) {
+            let room = room_of(graph, allowed, costs, multipliers, row);
+            least = Some(lesser_room(least, room));
+        }
+    }
+    least
+}
+
+fn start_of(starts: &[u32], rider: usize) -> usize
+    ensures { result ≡ slice_index_or starts.now rider 0 }
+{
+    if rider < starts.len() {
+        starts[rider] as usize
+    } else {
+        0
+    }
+}
+
+fn end_of(starts: &[u32], rider: usize) -> usize
+    ensures { result ≡ slice_index_or starts.now (suc rider) 0 }
+{
+    if rider < starts.len() && rider + 1 < starts.len() {
+        starts[rider + 1] as usize
+    } else {
+        0
+    }
+}
+
+/// The row that is listed at this place, where it is allowed and has the rider.
+fn row_listed(
+    graph: &TripGraph,
+    listed: &[u32],
+    allowed: &[bool],
+    rider: usize,
+    place: usize,
+) -> Option<usize>
+    requires { length allowed.now ≡ length graph.now.rows }
+    ensures some { IfSome result (IsRowListed graph.now (usable_of allowed.now) listed.now rider place) }
+    ensures none { IfNone result (place < length listed.now → slice_index_or listed.now place 0 < length graph.now.rows → (usable_of allowed.now (slice_index_or listed.now place 0) && has_rider graph.now (slice_index_or listed.now place 0) rider) ≡ false) }
+{
+    if place >= listed.len() {
+        return None;
+    }
+    let row = listed[place] as usize;
+    if row >= graph.rows().len() || !is_allowed_with(graph, allowed, row, rider) {
+        return None;
+    }
+    Some(row)
+}
+
+/// Whether the row is allowed and has the rider.
+fn is_allowed_with(graph: &TripGraph, allowed: &[bool], row: usize, rider: usize) -> bool
+    requires allowed { length allowed.now ≡ length graph.now.rows }
+    requires row { row < length graph.now.rows }
+    ensures { result ≡ (usable_of allowed.now row && has_rider graph.now row rider) }
+{
+    let rows = graph.rows();
+    allowed[row] && rows[row].riders.as_slice().contains(&rider)
+}
+
+/// The next rider's multiplier, by all rows.
 fn first_fit_at(
     graph: &TripGraph,
     allowed: &[bool],

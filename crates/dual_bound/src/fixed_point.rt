@@ -1,18 +1,32 @@
-//! Numbers in units of 2^-48, and columns of them.
+//! Numbers in units of 2^-32, and columns of them.
 //!
 //! Sums wrap and products are cut off at the ends of their type: what is made of these numbers is only
 //! tried, and judged in whole numbers afterwards.
 
 /// One.
-pub const ONE: i64 = 1 << 48;
+pub const ONE: i64 = 1 << 32;
+
+/// The item at this place, and this one where there is none.
+pub fn item<T: Copy>(items: &[T], place: usize, other: T) -> T {
+    if place < items.len() {
+        items[place]
+    } else {
+        other
+    }
+}
+
+/// The items from one place to another, and none where these aren't places.
+pub fn part<T>(items: &[T], from: usize, to: usize) -> &[T] {
+    if from <= to && to <= items.len() {
+        &items[from..to]
+    } else {
+        &[]
+    }
+}
 
 /// The number at this place, 0 where there is none.
 pub fn at(numbers: &[i64], place: usize) -> i64 {
-    if place < numbers.len() {
-        numbers[place]
-    } else {
-        0
-    }
+    item(numbers, place, 0)
 }
 
 /// Adds to the number at this place, if there is one.
@@ -22,31 +36,38 @@ pub fn add_at(numbers: &mut [i64], place: usize, more: i64) {
     }
 }
 
-/// Whether a number is no more than what rounding leaves of 0.
-pub fn is_noise(number: i64) -> bool {
-    -64 <= number && number <= 64
-}
-
-/// Writes the number at this place, if there is one.
-pub fn set_at(numbers: &mut [i64], place: usize, number: i64) {
-    if place < numbers.len() {
-        numbers[place] = number;
+/// Writes the item at this place, if there is one.
+pub fn set_at<T: Copy>(items: &mut [T], place: usize, item: T) {
+    if place < items.len() {
+        items[place] = item;
     }
 }
 
-/// The product of a number and one in units of 2^-48.
-pub fn times(number: i64, factor: i64) -> i64 {
-    narrowed(i128::from(number).wrapping_mul(i128::from(factor)) >> 48)
+/// Whether a number is no more than what rounding leaves of 0.
+pub fn is_noise(number: i64) -> bool {
+    -64 < number && number < 64
 }
 
-/// The quotient of two numbers in units of 2^-48, 0 where the divisor is.
+/// The product of a number and one in units of 2^-32.
+pub fn times(number: i64, factor: i64) -> i64 {
+    if factor == ONE {
+        return number;
+    }
+    let product = i128::from(number).wrapping_mul(i128::from(factor));
+    narrowed(product.wrapping_add(1 << 31) >> 32)
+}
+
+/// The quotient of two numbers in units of 2^-32, 0 where the divisor is.
 pub fn quotient(number: i64, divisor: i64) -> i64 {
+    if divisor == ONE {
+        return number;
+    }
     let wide = i128::from(number).wrapping_mul(i128::from(ONE));
     narrowed(wide.checked_div(i128::from(divisor)).unwrap_or(0))
 }
 
 /// The nearest number of 64 bits.
-pub fn narrowed(value: i128) -> i64 {
+fn narrowed(value: i128) -> i64 {
     if value > i128::from(i64::MAX) {
         i64::MAX
     } else if value < i128::from(i64::MIN) {
@@ -56,20 +77,31 @@ pub fn narrowed(value: i128) -> i64 {
     }
 }
 
-/// Adds the numbers of one list to those of another.
-pub fn add_all(sum: &mut [i64], more: &[i64]) {
-    for (number, added) in sum.iter_mut().zip(more) {
-        *number = number.wrapping_add(*added);
+/// Takes from the numbers at these places the products of a factor with these values.
+pub fn take_products(numbers: &mut [i64], places: &[u32], values: &[i64], factor: i64) {
+    for (place, value) in places.iter().zip(values) {
+        let place = *place as usize;
+        if place < numbers.len() {
+            numbers[place] = numbers[place].wrapping_sub(times(factor, *value));
+        }
     }
 }
 
-/// Takes from the numbers at these places the products of others and a factor.
-pub fn take_multiple(numbers: &mut [i64], others: &[i64], places: &[usize], factor: i64) {
-    for place in places {
-        add_at(
-            numbers,
-            *place,
-            times(at(others, *place), factor).wrapping_neg(),
-        );
+/// The number, less the products of these values with the numbers at these places.
+pub fn less_products(number: i64, numbers: &[i64], places: &[u32], values: &[i64]) -> i64 {
+    let mut rest = number;
+    for (place, value) in places.iter().zip(values) {
+        let other = at(numbers, *place as usize);
+        if other != 0 {
+            rest = rest.wrapping_sub(times(other, *value));
+        }
+    }
+    rest
+}
+
+/// Writes numbers over others, as far as both lists go.
+pub fn copy(from: &[i64], to: &mut [i64]) {
+    for (number, other) in to.iter_mut().zip(from) {
+        *number = *other;
     }
 }

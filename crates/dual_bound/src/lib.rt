@@ -11,8 +11,10 @@ mod climbing;
 mod first_fit_pass;
 mod fixed_point;
 mod relaxation;
+mod rider_index;
 
 pub use climbing::{ascend, climb};
-pub use first_fit_pass::first_fit;
-pub use relaxation::Relaxation;
+pub use first_fit_pass::{first_fit, first_fit_by};
 pub use plan_rules::leaf_value;
+pub use relaxation::{Relaxation, RowTable, Saved, Share, first_multipliers};
+pub use rider_index::RiderIndex;

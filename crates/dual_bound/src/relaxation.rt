@@ -1,526 +1,364 @@
 //! The linear relaxation of an assignment: rows may be chosen in part.
 //!
-//! The revised simplex method (Dantzig and Orchard-Hays, 1954) in fixed point, so that each machine does
-//! the same. There is a condition for each vehicle, then one for each rider; a solution starts from the
-//! held rows, and each call goes on from where the one before it ended. Nothing is proved of how good a
+//! The revised simplex method in fixed point, so that each machine does the same, over a pool of rows to
+//! which a pass over all rows adds those that better the solution (column generation; Gilmore and Gomory,
+//! 1961). There is a condition for each vehicle, then one for each rider. Nothing is proved of how good a
 //! solution is: a leaf value judges any multipliers.
-ghost use Rattle.std.specs.Prelude.{◌≡◌, ◌≤ℤ◌, pos, IfOk, length};
+mod basis;
+mod climb;
+mod elimination;
+mod factors;
+mod lists;
+mod pivots;
+mod pool;
+mod pricing;
+mod row_table;
 
-use crate::fixed_point::{
-    ONE, add_all, add_at, at, is_noise, quotient, set_at, take_multiple, times,
-};
-use plan_rules::{Multipliers, TripGraph};
+use crate::fixed_point::{ONE, at, copy, item, set_at, times};
+use crate::relaxation::basis::Basis;
+use crate::relaxation::elimination::reset;
+use crate::relaxation::lists::short;
+use crate::relaxation::pool::{Candidate, Pool};
+pub use climb::first_multipliers;
 use pool_base::OutOfMemory;
+pub use row_table::RowTable;
 use std::alloc::Global;
 
-/// How many rounds over all rows a solution has at most.
-const MOST_ROUNDS: usize = 1000;
+/// Within so much of what it may be at most a solution counts as the best, in 1/1024 second.
+const NEAR: i64 = 200;
 
-/// A reduced cost counts from here on, in units of 2^-20 seconds.
-const LEAST_GAIN: i64 = 1 << 9;
+/// No column costs more, in units of 2^scale seconds.
+const MOST_COST: i64 = 10_000_000;
 
-/// How many products a single solution takes at most, and all together.
-const MOST_STEPS: u64 = 20_000_000;
+/// How many passes over all rows a solution takes at most.
+const MOST_PASSES: u32 = 1000;
 
-const MOST_STEPS_IN_ALL: u64 = 2_000_000_000;
-
-/// A number of the entering column may be divided by from here on.
-const LEAST_PIVOT: i64 = 1 << 28;
-
-/// What stands at a place of the basis.
+/// A part of a row that a solution chooses.
 #[derive(Clone, Copy, Debug)]
-enum Basic {
-    /// A vehicle without rows.
-    Nothing,
-    /// A row of the graph.
-    Row(usize),
-    /// A rider who is left out.
-    Out(usize),
+pub struct Share {
+    pub row: u32,
+    /// How much of it, in units of 2^-32.
+    pub part: i64,
 }
 
-/// A solution of the relaxation of a graph, and the work space for the next one.
+/// A basis and its factors, to come back to.
+#[derive(Debug, Drop)]
+pub struct Saved {
+    basis: Basis,
+}
+
+/// A solution of the relaxation of some rows, and the work space for the next one.
+///
+/// A number of a column is that of a row, or a rider's behind the rows, who is left out, or behind those a
+/// vehicle's without rows.
 #[derive(Debug, Drop)]
 pub struct Relaxation {
-    /// For each condition its column of the inverse of the basis.
-    inverse: Vec<Vec<i64>>,
-    /// What a condition's row or rider costs there, in 2^-20 seconds.
+    basis: Basis,
+    pool: Pool,
+    is_forbidden: Vec<bool>,
+    /// What each row costs, in the units of prices.
+    row_costs: Vec<i64>,
+    /// What it costs to leave out each rider, in the units of prices.
+    left_costs: Vec<i64>,
+    /// The prices of the conditions, in units of 2^-32 of 2^scale seconds.
     prices: Vec<i64>,
-    basis: Vec<Basic>,
-    /// How much of each is taken.
-    levels: Vec<i64>,
+    scale: u32,
+    /// The column that comes in, over the places.
     entering: Vec<i64>,
-    /// The places where the entering column isn't 0.
-    touched: Vec<usize>,
-    /// What may enter in this round.
-    candidates: Vec<Basic>,
-    /// How many products were taken so far, and how many may be before the solution is broken off.
-    steps: u64,
-    most_steps: u64,
+    /// What each place costs, and how much of it is chosen.
+    costs: Vec<i64>,
+    parts: Vec<i64>,
+    candidates: Vec<Candidate>,
+    /// In how many turns the candidates are still good.
+    turns: u32,
+    pivots: u64,
+    most_pivots: u64,
+    /// The best multipliers of the last solution and their value, in 1/1024 second.
+    multipliers: Vec<i64>,
+    value: i64,
+    /// The multipliers at hand, and for each vehicle the least reduced cost of its rows under them.
+    tried: Vec<i64>,
+    least: Vec<i64>,
+    offers: Vec<(i64, u32)>,
 }
 
 impl Relaxation {
-    /// The solution where each vehicle has the row that it holds.
-    pub fn new(alloc: Global, graph: &TripGraph) -> Result<Self, OutOfMemory> {
-        let count = conditions(graph);
+    /// The solution where each vehicle has this row: each vehicle with rows has one, and no two of them have
+    /// a rider in common.
+    pub fn new(
+        alloc: Global,
+        table: &RowTable,
+        start: &[Option<u32>],
+    ) -> Result<Self, OutOfMemory> {
         let mut relaxation = Relaxation {
-            inverse: unit_columns(alloc, count)?,
-            prices: vec![in alloc; 0; count]?,
-            basis: first_basis(alloc, graph)?,
-            levels: first_levels(alloc, count)?,
-            entering: vec![in alloc; 0; count]?,
-            touched: Vec::new(alloc),
+            basis: Basis::new(alloc, table, start)?,
+            pool: Pool::new(alloc, table)?,
+            is_forbidden: Vec::new(alloc),
+            row_costs: Vec::new(alloc),
+            left_costs: Vec::new(alloc),
+            prices: Vec::new(alloc),
+            scale: scale_of(table),
+            entering: Vec::new(alloc),
+            costs: Vec::new(alloc),
+            parts: Vec::new(alloc),
             candidates: Vec::new(alloc),
-            steps: 0,
-            most_steps: 0,
+            turns: 0,
+            pivots: 0,
+            most_pivots: u64::MAX,
+            multipliers: Vec::new(alloc),
+            value: i64::MIN,
+            tried: Vec::new(alloc),
+            least: Vec::new(alloc),
+            offers: Vec::new(alloc),
         };
-        for vehicle in 0..graph.vehicle_count() {
-            relaxation.hold(graph, vehicle);
-        }
+        relaxation.make_space(table)?;
+        relaxation.set_true_costs(table);
         Ok(relaxation)
     }
 
-    /// Goes on to a solution over the allowed rows.
-    ///
-    /// A round looks at all rows once. What would better the solution most enters first, and as long as it
-    /// betters it a quarter as much as the first of the round did. A solution that takes too many steps is
-    /// broken off: then it is one all the same, but not the best.
-    pub fn solve(&mut self, graph: &TripGraph, allowed: &[bool]) -> Result<(), OutOfMemory> {
-        self.most_steps = self.steps.saturating_add(MOST_STEPS).min(MOST_STEPS_IN_ALL);
-        for _ in 0..MOST_ROUNDS {
-            if self.is_spent() {
+    fn make_space(&mut self, table: &RowTable) -> Result<(), OutOfMemory> {
+        let count = table.vehicle_count().saturating_add(table.rider_count());
+        reset(&mut self.is_forbidden, table.row_count(), false)?;
+        for row in 0..table.row_count() {
+            self.row_costs.push(in_prices(table.cost(row), self.scale))?;
+        }
+        reset(&mut self.left_costs, table.rider_count(), 0)?;
+        reset(&mut self.prices, count, 0)?;
+        reset(&mut self.entering, count, 0)?;
+        reset(&mut self.costs, count, 0)?;
+        reset(&mut self.parts, count, 0)?;
+        reset(&mut self.multipliers, table.rider_count(), 0)?;
+        reset(&mut self.tried, table.rider_count(), 0)?;
+        reset(&mut self.least, table.vehicle_count(), 0)
+    }
+
+    /// Has it cost as much to leave out a rider as the table says.
+    pub fn set_true_costs(&mut self, table: &RowTable) {
+        for rider in 0..self.left_costs.len() {
+            let cost = in_prices(table.cost_left(rider), self.scale);
+            set_at(&mut self.left_costs, rider, cost);
+        }
+    }
+
+    /// Has it cost no more to leave out a rider than her multiplier, in 1/1024 second, and these seconds.
+    pub fn set_boxed_costs(&mut self, table: &RowTable, multipliers: &[i64], seconds: i64) {
+        for rider in 0..self.left_costs.len() {
+            let boxed = (at(multipliers, rider) / 1024).saturating_add(seconds);
+            let cost = in_prices(boxed.min(table.cost_left(rider)), self.scale);
+            set_at(&mut self.left_costs, rider, cost);
+        }
+    }
+
+    /// Goes on to a solution over the rows that aren't forbidden, by passes over all of them that put up to
+    /// so many of each vehicle into the pool. It ends early once its value reaches this one, in 1/1024
+    /// second.
+    pub fn solve(
+        &mut self,
+        table: &RowTable,
+        most_value: i64,
+        most_rows: usize,
+        most_passes: u32,
+    ) -> Result<(), OutOfMemory> {
+        self.value = i64::MIN;
+        for pass in 0..most_passes.min(MOST_PASSES) {
+            self.pivot_on(table, u64::MAX)?;
+            self.reprice(table);
+            self.find_multipliers(table);
+            let added = self.pass(table, most_rows)?;
+            if self.value >= most_value || added == 0 || self.is_spent() {
                 return Ok(());
             }
-            self.reprice(graph, allowed);
-            self.candidates.clear();
-            let rows = self.find_rows(graph, allowed)?;
-            let riders = self.find_riders(graph, allowed)?;
-            if !self.enter_candidates(graph, allowed, rows.min(riders) / 4)? {
+            if (pass % 2 == 1 || added < 20) && self.is_near(table) {
                 return Ok(());
             }
         }
         Ok(())
     }
 
-    /// The prices of the riders' conditions, in 1/1024 second.
-    pub fn multipliers(&self, alloc: Global, graph: &TripGraph) -> Result<Multipliers, OutOfMemory>
-        ensures { IfOk result (λ ms. length ms ≡ graph.now.riders) }
-    {
-        let mut multipliers = Vec::new(alloc);
-        for rider in 0..graph.rider_count() {
-            let price = at(&self.prices, rider_condition(graph, rider));
-            multipliers.push(price.wrapping_add(512) >> 10)?;
+    /// Puts the rows of least reduced cost of each vehicle under these multipliers into the pool.
+    pub fn fill_pool(
+        &mut self,
+        table: &RowTable,
+        multipliers: &[i64],
+        most_rows: usize,
+    ) -> Result<(), OutOfMemory> {
+        for vehicle in 0..table.vehicle_count() {
+            self.offer_rows(table, multipliers, vehicle, i64::MAX, most_rows)?;
         }
-        Ok(Multipliers::of(multipliers))
+        Ok(())
     }
 
-    /// Whether the last solution was broken off.
+    /// Puts all rows into the pool.
+    pub fn fill_pool_whole(&mut self, table: &RowTable) -> Result<(), OutOfMemory> {
+        for row in 0..table.row_count() {
+            self.pool.add(row)?;
+        }
+        Ok(())
+    }
+
+    /// Takes the rows out of the pool whose reduced cost lies so much above their vehicle's least one, in
+    /// 1/1024 second.
+    pub fn shrink_pool(&mut self, table: &RowTable, multipliers: &[i64], most: i64) {
+        for vehicle in 0..table.vehicle_count() {
+            let least = self.least_reduced_cost(table, multipliers, vehicle);
+            if vehicle < self.least.len() {
+                self.least[vehicle] = least;
+            }
+        }
+        self.pool
+            .keep(table, multipliers, &self.least, most, &self.basis);
+    }
+
+    /// Has these count as the best multipliers, with this value.
+    pub fn set_best(&mut self, multipliers: &[i64], value: i64) {
+        copy(multipliers, &mut self.multipliers);
+        self.value = value;
+    }
+
+    /// The best multipliers of the last solution, in 1/1024 second.
+    pub fn multipliers(&self) -> &[i64] {
+        &self.multipliers
+    }
+
+    /// Their value over the rows that aren't forbidden, in 1/1024 second.
+    pub fn value(&self) -> i64 {
+        self.value
+    }
+
+    /// How many columns came in so far.
+    pub fn pivots(&self) -> u64 {
+        self.pivots
+    }
+
+    /// Breaks solutions off once so many columns came in.
+    pub fn set_most_pivots(&mut self, most: u64) {
+        self.most_pivots = most;
+    }
+
+    /// Whether as many columns came in as may.
     pub fn is_spent(&self) -> bool {
-        self.steps >= self.most_steps
+        self.pivots >= self.most_pivots
     }
 
-    /// Whether all steps are taken, so that the solution stays as it is.
-    pub fn has_ended(&self) -> bool {
-        self.steps >= MOST_STEPS_IN_ALL
+    pub fn is_forbidden(&self, row: usize) -> bool {
+        item(&self.is_forbidden, row, false)
     }
 
-    /// What the solution costs, in seconds.
-    pub fn cost(&self, graph: &TripGraph, allowed: &[bool]) -> i64 {
+    /// Forbids a row: it stays in the basis, at a cost at which it leaves. Whether it wasn't forbidden.
+    pub fn forbid(&mut self, row: usize) -> bool {
+        let is_new = !item(&self.is_forbidden, row, true);
+        set_at(&mut self.is_forbidden, row, true);
+        is_new
+    }
+
+    pub fn allow(&mut self, row: usize) {
+        set_at(&mut self.is_forbidden, row, false);
+    }
+
+    /// The columns of the basis.
+    pub fn columns(&self) -> &[u32] {
+        self.basis.columns()
+    }
+
+    /// Goes to a basis that was one before.
+    pub fn go_to(&mut self, table: &RowTable, columns: &[u32]) -> Result<(), OutOfMemory> {
+        self.basis.go_to(columns)?;
+        for column in columns {
+            if (*column as usize) < table.row_count() {
+                self.pool.add(*column as usize)?;
+            }
+        }
+        Ok(())
+    }
+
+    /// Room for a basis.
+    pub fn saved(&self, alloc: Global, table: &RowTable) -> Result<Saved, OutOfMemory> {
+        Ok(Saved {
+            basis: Basis::new(alloc, table, &[])?,
+        })
+    }
+
+    /// Writes the basis there.
+    pub fn save(&self, saved: &mut Saved) -> Result<(), OutOfMemory> {
+        saved.basis.copy_from(&self.basis)
+    }
+
+    /// Goes back to the basis that was written there.
+    pub fn go_back(&mut self, saved: &Saved) -> Result<(), OutOfMemory> {
+        self.basis.copy_from(&saved.basis)
+    }
+
+    /// What the solution costs, in units of 2^-32 of 2^scale seconds.
+    pub fn cost(&self, table: &RowTable) -> i64 {
         let mut cost: i64 = 0;
         for place in 0..self.basis.len() {
-            let whole = cost_of(graph, allowed, self.basis[place]).wrapping_mul(1 << 20);
-            cost = cost.wrapping_add(times(whole, at(&self.levels, place)));
+            let whole = self.cost_of(table, self.basis.column(place));
+            cost = cost.wrapping_add(times(whole, self.basis.level(place)));
         }
-        cost >> 20
+        cost
     }
 
-    /// How many places the basis has.
-    pub fn places(&self) -> usize {
-        self.basis.len()
+    /// A number of seconds in the units of costs.
+    pub fn in_prices(&self, seconds: i64) -> i64 {
+        in_prices(seconds, self.scale)
     }
 
-    /// The row at this place of the basis, and how much of it is chosen, in 1/1024.
-    pub fn share(&self, place: usize) -> Option<(usize, i64)> {
-        if place >= self.basis.len() {
-            return None;
-        }
-        match self.basis[place] {
-            Basic::Row(row) => Some((row, at(&self.levels, place).wrapping_add(ONE >> 11) >> 38)),
-            _ => None,
-        }
-    }
-
-    /// Takes a vehicle's held row into the first solution.
-    fn hold(&mut self, graph: &TripGraph, vehicle: usize) {
-        if vehicle >= self.basis.len() || vehicle >= self.inverse.len() {
-            return;
-        }
-        if let Basic::Row(row) = self.basis[vehicle] {
-            let rows = graph.rows();
-            if row < rows.len() {
-                let vehicles = graph.vehicle_count();
-                let riders = rows[row].riders.as_slice();
-                take_riders(self.inverse[vehicle].as_mut_slice(), vehicles, riders);
-                take_riders(&mut self.levels, vehicles, riders);
-            }
-        }
-    }
-
-    /// Computes all prices from the basis.
-    fn reprice(&mut self, graph: &TripGraph, allowed: &[bool]) {
-        for condition in 0..self.inverse.len() {
-            let price = price_of(graph, allowed, &self.basis, &self.inverse[condition]);
-            if condition < self.prices.len() {
-                self.prices[condition] = price;
-            }
-        }
-    }
-
-    /// Makes each vehicle's cheapest row a candidate, where it betters the solution. The least reduced cost.
-    fn find_rows(&mut self, graph: &TripGraph, allowed: &[bool]) -> Result<i64, OutOfMemory> {
-        let mut least = 0;
-        for vehicle in 0..graph.vehicle_count() {
-            if let Some((row, cost)) = self.cheapest_row(graph, allowed, vehicle) {
-                self.candidates.push(Basic::Row(row))?;
-                least = cost.min(least);
-            }
-        }
-        Ok(least)
-    }
-
-    /// Makes it a candidate to leave out a rider, where that betters the solution. The least reduced cost.
-    fn find_riders(&mut self, graph: &TripGraph, allowed: &[bool]) -> Result<i64, OutOfMemory> {
-        let mut least = 0;
-        for rider in 0..graph.rider_count() {
-            let cost = self.reduced_cost(graph, allowed, Basic::Out(rider));
-            if cost < -LEAST_GAIN {
-                self.candidates.push(Basic::Out(rider))?;
-                least = cost.min(least);
-            }
-        }
-        Ok(least)
-    }
-
-    /// Takes in the candidates of least reduced cost, as long as that is at most this. Whether any came in.
-    fn enter_candidates(
+    /// Lists the rows of which the solution chooses more than a hundredth.
+    pub fn find_shares(
         &mut self,
-        graph: &TripGraph,
-        allowed: &[bool],
-        most: i64,
-    ) -> Result<bool, OutOfMemory> {
-        for count in 0..self.basis.len() {
-            match self.best_candidate(graph, allowed, most.min(-LEAST_GAIN)) {
-                None => return Ok(count > 0),
-                Some(basic) => {
-                    if self.is_spent() || !self.enter(graph, allowed, basic)? {
-                        return Ok(false);
-                    }
-                }
+        table: &RowTable,
+        shares: &mut Vec<Share>,
+    ) -> Result<(), OutOfMemory> {
+        self.basis.find_parts(&mut self.parts);
+        shares.clear();
+        for place in 0..self.basis.len() {
+            let row = self.basis.column(place);
+            let part = at(&self.parts, place);
+            if row < table.row_count() && part > ONE / 100 {
+                shares.push(Share {
+                    row: short(row),
+                    part,
+                })?;
             }
         }
-        Ok(true)
+        Ok(())
     }
 
-    /// The candidate of least reduced cost, where that is at most this.
-    fn best_candidate(&self, graph: &TripGraph, allowed: &[bool], most: i64) -> Option<Basic> {
-        let mut least = most;
-        let mut best = None;
-        for candidate in &self.candidates {
-            let cost = self.reduced_cost(graph, allowed, *candidate);
-            if cost <= least {
-                least = cost;
-                best = Some(*candidate);
-            }
+    /// Whether the value is so near to what the solution costs that it is the best.
+    fn is_near(&mut self, table: &RowTable) -> bool {
+        self.basis.find_parts(&mut self.parts);
+        let mut cost: i64 = 0;
+        for place in 0..self.basis.len() {
+            let whole = self.cost_of(table, self.basis.column(place));
+            cost = cost.wrapping_add(times(whole, at(&self.parts, place)));
         }
-        best
+        let bound = self.in_multipliers(cost);
+        bound.saturating_sub(self.value) < NEAR
     }
 
-    /// The vehicle's allowed row of least reduced cost and that cost, where it betters the solution.
-    fn cheapest_row(
-        &self,
-        graph: &TripGraph,
-        allowed: &[bool],
-        vehicle: usize,
-    ) -> Option<(usize, i64)> {
-        if vehicle >= graph.vehicle_count() {
-            return None;
-        }
-        let mut least = -LEAST_GAIN;
-        let mut cheapest = None;
-        for row in graph.first_row(vehicle)..graph.first_row(vehicle + 1) {
-            if is_allowed(allowed, row) {
-                let cost = self.reduced_cost(graph, allowed, Basic::Row(row));
-                if cost < least {
-                    least = cost;
-                    cheapest = Some((row, cost));
-                }
-            }
-        }
-        cheapest
+    /// A price in 1/1024 second.
+    fn in_multipliers(&self, price: i64) -> i64 {
+        let shift = 22 - self.scale.min(21);
+        price.wrapping_add(1 << (shift - 1)) >> shift
     }
+}
 
-    /// What it costs, less the prices of its conditions, in 2^-20 seconds.
-    fn reduced_cost(&self, graph: &TripGraph, allowed: &[bool], basic: Basic) -> i64 {
-        let cost = cost_of(graph, allowed, basic).wrapping_mul(1 << 20);
-        cost.wrapping_sub(price_of_conditions(graph, &self.prices, basic))
+/// How many bits of costs are given up so that they, and what is forbidden, have room before the point.
+fn scale_of(table: &RowTable) -> u32 {
+    let mut greatest = table.penalty();
+    for row in 0..table.row_count() {
+        greatest = greatest.max(table.cost(row));
     }
-
-    /// Takes it into the basis in the place of what is the first to be used up, if anything is.
-    fn enter(
-        &mut self,
-        graph: &TripGraph,
-        allowed: &[bool],
-        basic: Basic,
-    ) -> Result<bool, OutOfMemory> {
-        let reduced = self.reduced_cost(graph, allowed, basic);
-        self.load(graph, basic)?;
-        match leaving_place(&self.levels, &self.entering, &self.touched) {
-            None => Ok(false),
-            Some(place) => {
-                self.pivot(place, reduced);
-                if place < self.basis.len() {
-                    self.basis[place] = basic;
-                }
-                Ok(true)
-            }
+    for scale in 0..14 {
+        if greatest >> scale <= 65536 {
+            return scale;
         }
     }
-
-    /// Makes the entering column: the sum of the columns of its conditions.
-    fn load(&mut self, graph: &TripGraph, basic: Basic) -> Result<(), OutOfMemory> {
-        self.entering.as_mut_slice().fill(0);
-        match basic {
-            Basic::Nothing => {}
-            Basic::Out(rider) => self.add_column(rider_condition(graph, rider)),
-            Basic::Row(row) => self.add_row(graph, row),
-        }
-        find_touched(&self.entering, &mut self.touched)
-    }
-
-    fn add_row(&mut self, graph: &TripGraph, row: usize) {
-        let rows = graph.rows();
-        if row < rows.len() {
-            self.add_column(rows[row].vehicle);
-            for rider in rows[row].riders.as_slice() {
-                self.add_column(rider_condition(graph, *rider));
-            }
-        }
-    }
-
-    fn add_column(&mut self, condition: usize) {
-        if condition < self.inverse.len() {
-            add_all(&mut self.entering, &self.inverse[condition]);
-        }
-    }
-
-    /// Divides by the entering column's number at this place.
-    fn pivot(&mut self, place: usize, reduced: i64) {
-        let divisor = at(&self.entering, place);
-        for condition in 0..self.inverse.len() {
-            self.pivot_column(condition, place, divisor, reduced);
-        }
-        divide(
-            &mut self.levels,
-            &self.entering,
-            &self.touched,
-            place,
-            divisor,
-        );
-    }
-
-    fn pivot_column(&mut self, condition: usize, place: usize, divisor: i64, reduced: i64) {
-        if condition < self.inverse.len() {
-            let column = self.inverse[condition].as_mut_slice();
-            let factor = divide(column, &self.entering, &self.touched, place, divisor);
-            add_at(&mut self.prices, condition, times(reduced, factor));
-            let steps = if factor == 0 {
-                1
-            } else {
-                self.touched.len() as u64
-            };
-            self.steps = self.steps.saturating_add(steps);
-        }
-    }
+    14
 }
 
-/// Divides the number at this place, and takes from the others so much that the entering column becomes a
-/// unit column. The quotient.
-fn divide(
-    numbers: &mut [i64],
-    entering: &[i64],
-    touched: &[usize],
-    place: usize,
-    divisor: i64,
-) -> i64 {
-    let number = at(numbers, place);
-    if is_noise(number) {
-        set_at(numbers, place, 0);
-        return 0;
-    }
-    let factor = quotient(number, divisor);
-    take_multiple(numbers, entering, touched, factor);
-    set_at(numbers, place, factor);
-    factor
-}
-
-/// How many conditions there are: one for each vehicle and one for each rider.
-fn conditions(graph: &TripGraph) -> usize {
-    graph.vehicle_count() + graph.rider_count()
-}
-
-fn rider_condition(graph: &TripGraph, rider: usize) -> usize {
-    graph.vehicle_count().saturating_add(rider)
-}
-
-/// The unit matrix.
-fn unit_columns(alloc: Global, count: usize) -> Result<Vec<Vec<i64>>, OutOfMemory> {
-    let mut columns = Vec::new(alloc);
-    for condition in 0..count {
-        let mut column: Vec<i64> = vec![in alloc; 0; count]?;
-        add_at(&mut column, condition, ONE);
-        columns.push(column)?;
-    }
-    Ok(columns)
-}
-
-/// The held rows, and all riders as left out.
-fn first_basis(alloc: Global, graph: &TripGraph) -> Result<Vec<Basic>, OutOfMemory> {
-    let mut basis = Vec::new(alloc);
-    for held in graph.held() {
-        basis.push(match *held {
-            None => Basic::Nothing,
-            Some(row) => Basic::Row(row as usize),
-        })?;
-    }
-    for rider in 0..graph.rider_count() {
-        basis.push(Basic::Out(rider))?;
-    }
-    Ok(basis)
-}
-
-/// One of each, and a little more, another little for each, so that no two are used up at once.
-fn first_levels(alloc: Global, count: usize) -> Result<Vec<i64>, OutOfMemory> {
-    let mut levels = Vec::new(alloc);
-    let mut state: u64 = 1;
-    for _ in 0..count {
-        // Knuth's linear congruential generator (The Art of Computer Programming, volume 2).
-        state = state
-            .wrapping_mul(6364136223846793005)
-            .wrapping_add(1442695040888963407);
-        levels.push(ONE + (1 << 24) + (state >> 40) as i64)?;
-    }
-    Ok(levels)
-}
-
-/// Takes one from the number of each of these riders' conditions.
-fn take_riders(numbers: &mut [i64], vehicles: usize, riders: &[usize]) {
-    for rider in riders {
-        add_at(numbers, vehicles.saturating_add(*rider), -ONE);
-    }
-}
-
-fn is_allowed(allowed: &[bool], row: usize) -> bool {
-    row < allowed.len() && allowed[row]
-}
-
-/// What it costs in seconds. What isn't allowed costs more than any gain.
-fn cost_of(graph: &TripGraph, allowed: &[bool], basic: Basic) -> i64 {
-    let penalty = i64::from(graph.penalty());
-    let forbidden = 100 * penalty + 1_000_000;
-    match basic {
-        Basic::Nothing => 0,
-        Basic::Out(rider) => {
-            if rider < graph.rider_count() && graph.must(rider) {
-                forbidden
-            } else {
-                penalty
-            }
-        }
-        Basic::Row(row) => {
-            let cost = cost_of_row(graph, row);
-            if is_allowed(allowed, row) {
-                cost
-            } else {
-                cost + forbidden
-            }
-        }
-    }
-}
-
-fn cost_of_row(graph: &TripGraph, row: usize) -> i64
-    ensures low { pos 0 ≤ℤ result }
-    ensures high { result ≤ℤ pos 1000000000 }
-{
-    let rows = graph.rows();
-    if row < rows.len() {
-        rows[row].cost.min(1_000_000_000) as i64
-    } else {
-        0
-    }
-}
-
-/// The price of a condition: what the basis costs along its column.
-fn price_of(graph: &TripGraph, allowed: &[bool], basis: &[Basic], column: &[i64]) -> i64 {
-    let mut price: i64 = 0;
-    for place in 0..basis.len() {
-        let level = at(column, place);
-        if level != 0 {
-            let cost = cost_of(graph, allowed, basis[place]).wrapping_mul(1 << 20);
-            price = price.wrapping_add(times(cost, level));
-        }
-    }
-    price
-}
-
-fn price_of_conditions(graph: &TripGraph, prices: &[i64], basic: Basic) -> i64 {
-    match basic {
-        Basic::Nothing => 0,
-        Basic::Out(rider) => at(prices, rider_condition(graph, rider)),
-        Basic::Row(row) => price_of_row(graph, prices, row),
-    }
-}
-
-fn price_of_row(graph: &TripGraph, prices: &[i64], row: usize) -> i64 {
-    let rows = graph.rows();
-    if row >= rows.len() {
-        return 0;
-    }
-    let mut price = at(prices, rows[row].vehicle);
-    for rider in rows[row].riders.as_slice() {
-        price = price.wrapping_add(at(prices, rider_condition(graph, *rider)));
-    }
-    price
-}
-
-/// The places where these numbers aren't 0.
-fn find_touched(numbers: &[i64], touched: &mut Vec<usize>) -> Result<(), OutOfMemory> {
-    touched.clear();
-    for place in 0..numbers.len() {
-        if !is_noise(numbers[place]) {
-            touched.push(place)?;
-        }
-    }
-    Ok(())
-}
-
-/// The place whose level is the first to be used up as the entering column comes in.
-fn leaving_place(levels: &[i64], entering: &[i64], places: &[usize]) -> Option<usize> {
-    let mut first = None;
-    for place in places {
-        if at(entering, *place) > LEAST_PIVOT && is_sooner(levels, entering, first, *place) {
-            first = Some(*place);
-        }
-    }
-    first
-}
-
-fn is_sooner(levels: &[i64], entering: &[i64], first: Option<usize>, place: usize) -> bool {
-    match first {
-        None => true,
-        Some(other) => {
-            let here = i128::from(at(levels, place).max(0));
-            let there = i128::from(at(levels, other).max(0));
-            here.wrapping_mul(i128::from(at(entering, other)))
-                < there.wrapping_mul(i128::from(at(entering, place)))
-        }
-    }
+/// Seconds in units of 2^-32 of 2^scale seconds. What costs very much costs the most.
+fn in_prices(seconds: i64, scale: u32) -> i64 {
+    let units = seconds.clamp(-(1 << 40), 1 << 40) * 256 >> scale.min(20);
+    units.clamp(-MOST_COST * 256, MOST_COST * 256) * (1 << 24)
 }

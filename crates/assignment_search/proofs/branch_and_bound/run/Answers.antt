@@ -93,8 +93,8 @@ grow-requires-clause-second c =
     let said = subst (λ (o : Outcome). IsNext g c.deref-in-loop-values-3.result.now c.deref-in-loop-values-4.result.now c.lowest-place.result c.loop-values.limit c.args.budget o) c.in-Parted.is c.in_ok-ends.ensures in
     new_end_small g _ (said.0).parent ends.second.node ends.second.value (said.0).parting.second
 
-pub loop-values-smaller-in-Continue-branch-8 : goal.loop-values-smaller-in-Continue-branch-8
-loop-values-smaller-in-Continue-branch-8 c =
+pub loop-values-smaller-in-Continue-branch-9 : goal.loop-values-smaller-in-Continue-branch-9
+loop-values-smaller-in-Continue-branch-9 c =
     let g = c.args.graph.now in
     let nodes : List Node = c.loop-values.nodes.items in
     let new : List Node = c.grow.new.nodes.items in
@@ -110,8 +110,8 @@ loop-values-smaller-in-Continue-branch-8 c =
     let less : c.loop-values.limit + (c.args.budget - length new) < c.loop-values.limit + (c.args.budget - length nodes) = omega (arith, size, room, b) in
     less
 
-pub loop-values-preserved-in-Continue-branch-8 : goal.loop-values-preserved-in-Continue-branch-8
-loop-values-preserved-in-Continue-branch-8 c =
+pub loop-values-preserved-in-Continue-branch-9 : goal.loop-values-preserved-in-Continue-branch-9
+loop-values-preserved-in-Continue-branch-9 c =
     let g = c.args.graph.now in
     let limit = c.cost_of-limit.result in
     let now = c.loop-values.limit in

@@ -35,7 +35,7 @@ returns-then-is_full c =
     let v = c.in-Some-branch_row.vehicle in
     let k = c.in-Some-branch_row.row in
     let full : c.args.budget < length c.args.nodes.now + 2 = c.if-is_full.ensures in
-    let can : CanBranch g (usable_of allowed) v k = subst (λ (xs : List Bool). CanBranch g (usable_of xs) v k) c.deref-2.ensures.value (c.in-Some-branch_row.ensures.found.0) in
+    let can : CanBranch g (usable_of allowed) v k = subst (λ (xs : List Bool). CanBranch g (usable_of xs) v k) c.deref.ensures.value (c.in-Some-branch_row.ensures.found.0) in
     let short = full_answer g c.requires.grown.0 c.args.place c.args.nodes.now c.args.values.now (standing_of g path).usable (standing_of g path).coming allowed c.allowed_at.ensures.good
     c.requires.lowest c.requires.grown.1 c.in_ok-path.ensures.reads c.in_ok-allowed.ensures.allowed v k (c.in-Some-branch_row.ensures.found.1) can in
     (full, omega (arith, full, short))
@@ -56,7 +56,7 @@ returns-in_ok-chosen-in-None c =
     let values : List ℤ = c.args.values.now in
     let allowed : List Bool = c.in_ok-allowed.allowed.items in
     let chosen : List (Option ℕ) = c.in_ok-chosen-in-None.chosen.items in
-    let fixed : IsFixed g (usable_of allowed) = subst (λ (xs : List Bool). IsFixed g (usable_of xs)) c.deref-2.ensures.value c.in-None.ensures.none in
+    let fixed : IsFixed g (usable_of allowed) = subst (λ (xs : List Bool). IsFixed g (usable_of xs)) c.deref.ensures.value c.in-None.ensures.none in
     let sole : IsSolePlan g (usable_of allowed) chosen = subst (λ (xs : List Bool). IsSolePlan g (usable_of xs) chosen) c.deref-in-None.ensures.value c.in_ok-chosen-in-None.ensures.rows in
     subst (λ (p : List (Option ℕ)). IsLawful g p × (pos (cost_of g p) ≤ℤ rounded_up (get_or values c.args.place (pos 0)))) (sym c.of.ensures)
     (fixed_answer g c.requires.grown.0 c.args.place c.args.nodes.now values (standing_of g path).usable (standing_of g path).coming allowed c.allowed_at.ensures.good

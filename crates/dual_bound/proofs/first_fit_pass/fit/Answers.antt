@@ -17,12 +17,12 @@ loop-rider-preserved c =
     let u = usable_of c.args.allowed.now in
     let n = c.loop-rider.rider in
     let ms = c.loop-rider.multipliers in
-    let m = c.first_fit_at-next.result in
-    let back : to_z w64 (of_z w64 m) ≡ m = to_z-of_z w64 m (record { sfits = c.first_fit_at-next.type_inv }) in
+    let m = c.next_multiplier-next.result in
+    let back : to_z w64 (of_z w64 m) ≡ m = to_z-of_z w64 m (record { sfits = c.next_multiplier-next.type_inv }) in
     let low : n < length ms = omega arith in
     record {
-      value = λ r. ap (λ (z : ℤ). multiplier_at (set ms n z) r) back ∙ first_fit_more g u n ms m low c.loop-rider.invariant.value c.first_fit_at-next.ensures.value r;
-      modest = λ r. subst (λ (z : ℤ). IsModest (multiplier_at (set ms n z) r)) (sym back) (modest_set ms n m c.first_fit_at-next.ensures.modest c.loop-rider.invariant.modest low r);
+      value = λ r. ap (λ (z : ℤ). multiplier_at (set ms n z) r) back ∙ first_fit_more g u n ms m low c.loop-rider.invariant.value c.next_multiplier-next.ensures.value r;
+      modest = λ r. subst (λ (z : ℤ). IsModest (multiplier_at (set ms n z) r)) (sym back) (modest_set ms n m c.next_multiplier-next.ensures.modest c.loop-rider.invariant.modest low r);
     }
 
 pub returns-clause-value : goal.returns-clause-value

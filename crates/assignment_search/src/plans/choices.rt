@@ -1,0 +1,346 @@
+//! The best rows for a few vehicles, by a search depth first (Little and others, 1963).
+//!
+//! The vehicle with the fewest rows that fit is first, and each tries its rows by rising regret, as long as
+//! the regrets so far and the least of the vehicles to come stay below the best choice's. What it costs to
+//! leave a rider out counts as soon as the last vehicle that could serve her has its row.
+
+use crate::plans::flat::{Groups, NONE, at, narrow, put};
+use crate::plans::present::Present;
+use crate::plans::regrets::Regrets;
+use pool_base::OutOfMemory;
+use std::alloc::Global;
+
+/// How many vehicles choose at most.
+pub const MOST_VEHICLES: usize = 16;
+
+/// How many rows are looked at for a choice at most, on the average.
+const MOST_TRIES: u64 = 200;
+
+/// Where a search stands: the least regret so far, and how many vehicles have their row.
+#[derive(Clone, Copy)]
+struct State {
+    limit: i64,
+    depth: usize,
+}
+
+/// A search, and the work space for the next one.
+#[derive(Drop)]
+pub struct Choices {
+    /// For each vehicle at hand the places that fit, by rising regret.
+    fits: Groups,
+    /// Which of those lists each depth takes, the shortest first.
+    turns: [usize; MOST_VEHICLES],
+    /// For each depth, the last first, the riders whom no later vehicle could serve.
+    closing: Groups,
+    /// For each rider whether she is in such a list, and whether a choice serves her.
+    is_listed: Vec<bool>,
+    is_served: Vec<bool>,
+    /// For each depth the least regret from there on.
+    least: [i64; MOST_VEHICLES + 1],
+    /// For each depth the regret of the choices before it, and which row of its list comes next.
+    sums: [i64; MOST_VEHICLES + 1],
+    nexts: [usize; MOST_VEHICLES],
+    picks: [usize; MOST_VEHICLES],
+    best: [usize; MOST_VEHICLES],
+}
+
+impl Choices {
+    pub fn new(alloc: Global, riders: usize) -> Result<Self, OutOfMemory> {
+        Ok(Choices {
+            fits: Groups::new(alloc),
+            turns: [0; MOST_VEHICLES],
+            closing: Groups::new(alloc),
+            is_listed: vec![in alloc; false; riders]?,
+            is_served: vec![in alloc; false; riders]?,
+            least: [0; MOST_VEHICLES + 1],
+            sums: [0; MOST_VEHICLES + 1],
+            nexts: [0; MOST_VEHICLES],
+            picks: [0; MOST_VEHICLES],
+            best: [0; MOST_VEHICLES],
+        })
+    }
+
+    /// Gives these vehicles the best rows that it finds, with none better than the present ones. What that
+    /// saves, in 1/1024 second.
+    pub fn choose(
+        &mut self,
+        regrets: &Regrets,
+        present: &mut Present,
+        vehicles: &[u32],
+        most_steps: u32,
+    ) -> Result<i64, OutOfMemory> {
+        for vehicle in vehicles {
+            present.release(regrets, *vehicle as usize);
+        }
+        self.find_fits(regrets, present, vehicles)?;
+        self.order_turns();
+        self.find_closing(regrets)?;
+        self.find_least(regrets);
+        let before = self.regret_of(regrets, present, vehicles);
+        let after = self.search(regrets, before.saturating_add(1), most_steps);
+        if after > before {
+            for vehicle in vehicles {
+                if let Some(place) = present.place(*vehicle as usize) {
+                    present.give(regrets, place);
+                }
+            }
+            return Ok(0);
+        }
+        for depth in 0..self.depths() {
+            present.give(regrets, at(&self.best, depth, 0));
+        }
+        Ok(before.saturating_sub(after))
+    }
+
+    fn depths(&self) -> usize {
+        self.fits.count().min(MOST_VEHICLES)
+    }
+
+    /// Lists the places of each vehicle whose riders nobody serves.
+    fn find_fits(
+        &mut self,
+        regrets: &Regrets,
+        present: &Present,
+        vehicles: &[u32],
+    ) -> Result<(), OutOfMemory> {
+        self.fits.clear();
+        for vehicle in vehicles {
+            let (start, end) = regrets.places_of(*vehicle as usize);
+            for place in start..end {
+                if present.are_free(regrets.riders(place)) {
+                    self.fits.push(narrow(place))?;
+                }
+            }
+            self.fits.close()?;
+        }
+        Ok(())
+    }
+
+    /// Puts the shorter lists first.
+    fn order_turns(&mut self) {
+        for list in 0..self.depths() {
+            put(&mut self.turns, list, list);
+            for later in 0..list {
+                let depth = list - later;
+                let here = at(&self.turns, depth, 0);
+                let before = at(&self.turns, depth - 1, 0);
+                if self.fits.of(before).len() <= self.fits.of(here).len() {
+                    break;
+                }
+                put(&mut self.turns, depth, before);
+                put(&mut self.turns, depth - 1, here);
+            }
+        }
+    }
+
+    /// The places that this depth may take.
+    #[inline]
+    fn fits_at(&self, depth: usize) -> &[u32] {
+        self.fits.of(at(&self.turns, depth, 0))
+    }
+
+    fn find_closing(&mut self, regrets: &Regrets) -> Result<(), OutOfMemory> {
+        self.closing.clear();
+        let depths = self.depths();
+        for later in 0..depths {
+            let list = at(&self.turns, depths - 1 - later, 0);
+            list_riders(
+                regrets,
+                &self.fits,
+                list,
+                &mut self.is_listed,
+                &mut self.closing,
+            )?;
+        }
+        self.is_listed.as_mut_slice().fill(false);
+        Ok(())
+    }
+
+    fn find_least(&mut self, regrets: &Regrets) {
+        let depths = self.depths();
+        put(&mut self.least, depths, 0);
+        for later in 0..depths {
+            let depth = depths - 1 - later;
+            let first = at(self.fits_at(depth), 0, NONE);
+            let sum = at(&self.least, depth.saturating_add(1), 0);
+            put(
+                &mut self.least,
+                depth,
+                sum.saturating_add(regrets.above(first as usize)),
+            );
+        }
+    }
+
+    /// The regret of the present rows of these vehicles, and of the riders whom they could serve and don't.
+    fn regret_of(&mut self, regrets: &Regrets, present: &Present, vehicles: &[u32]) -> i64 {
+        let mut regret: i64 = 0;
+        for vehicle in vehicles {
+            if let Some(place) = present.place(*vehicle as usize) {
+                regret = regret.saturating_add(regrets.above(place));
+                mark(&mut self.is_served, regrets.riders(place), true);
+            }
+        }
+        for later in 0..self.closing.count() {
+            regret = regret.saturating_add(self.regret_of_left(regrets, later));
+        }
+        for vehicle in vehicles {
+            if let Some(place) = present.place(*vehicle as usize) {
+                mark(&mut self.is_served, regrets.riders(place), false);
+            }
+        }
+        regret
+    }
+
+    /// The regret of the riders of this closing list whom no choice serves.
+    fn regret_of_left(&self, regrets: &Regrets, later: usize) -> i64 {
+        let mut regret: i64 = 0;
+        for rider in self.closing.of(later) {
+            if !at(&self.is_served, *rider as usize, true) {
+                regret = regret.saturating_add(regrets.left(*rider as usize));
+            }
+        }
+        regret
+    }
+
+    /// Searches for choices of a lesser regret than this; the least one found, or this. It is broken off
+    /// after so many choices.
+    fn search(&mut self, regrets: &Regrets, limit: i64, most_steps: u32) -> i64 {
+        let mut state = State { limit, depth: 0 };
+        let mut steps: u32 = 0;
+        self.enter(0, 0);
+        for _ in 0..u64::from(most_steps).saturating_mul(MOST_TRIES) {
+            match self.next_place(regrets, state) {
+                None => {
+                    if state.depth == 0 {
+                        return state.limit;
+                    }
+                    state.depth -= 1;
+                    self.leave(regrets, state.depth);
+                }
+                Some(place) => {
+                    if self.descend(regrets, place, &mut state) {
+                        steps = steps.saturating_add(1);
+                        if steps > most_steps {
+                            break;
+                        }
+                    }
+                }
+            }
+        }
+        for depth in 0..state.depth {
+            self.leave(regrets, depth);
+        }
+        state.limit
+    }
+
+    /// Chooses the row and goes on below it, if a better choice may be there. Whether it may.
+    fn descend(&mut self, regrets: &Regrets, place: usize, state: &mut State) -> bool {
+        let depth = state.depth;
+        let below = depth.saturating_add(1);
+        let sum = self.take(regrets, depth, place);
+        if sum.saturating_add(at(&self.least, below, 0)) >= state.limit {
+            self.leave(regrets, depth);
+            return false;
+        }
+        if below >= self.depths() {
+            state.limit = sum;
+            self.best = self.picks;
+            self.leave(regrets, depth);
+        } else {
+            state.depth = below;
+            self.enter(below, sum);
+        }
+        true
+    }
+
+    fn enter(&mut self, depth: usize, sum: i64) {
+        put(&mut self.sums, depth, sum);
+        put(&mut self.nexts, depth, 0);
+    }
+
+    /// The next row at this depth that fits, if its regret leaves a choice below the limit.
+    fn next_place(&mut self, regrets: &Regrets, state: State) -> Option<usize> {
+        let depth = state.depth;
+        let rest = at(&self.least, depth.saturating_add(1), 0);
+        let room = state
+            .limit
+            .saturating_sub(at(&self.sums, depth, 0))
+            .saturating_sub(rest);
+        let next = at(&self.nexts, depth, 0);
+        let (next, place) = self.first_fit(regrets, depth, next, room)?;
+        put(&mut self.nexts, depth, next.saturating_add(1));
+        Some(place)
+    }
+
+    /// The first row of this depth's list from here on that fits and has less regret than this.
+    fn first_fit(
+        &self,
+        regrets: &Regrets,
+        depth: usize,
+        from: usize,
+        room: i64,
+    ) -> Option<(usize, usize)> {
+        let list = self.fits_at(depth);
+        for next in from..list.len() {
+            let place = list[next] as usize;
+            if regrets.above(place) >= room {
+                return None;
+            }
+            if !is_any_marked(&self.is_served, regrets.riders(place)) {
+                return Some((next, place));
+            }
+        }
+        None
+    }
+
+    /// Chooses the row; the regret so far, with the riders who can't be served any more.
+    fn take(&mut self, regrets: &Regrets, depth: usize, place: usize) -> i64 {
+        put(&mut self.picks, depth, place);
+        mark(&mut self.is_served, regrets.riders(place), true);
+        let later = self.depths().saturating_sub(depth).saturating_sub(1);
+        at(&self.sums, depth, 0)
+            .saturating_add(regrets.above(place))
+            .saturating_add(self.regret_of_left(regrets, later))
+    }
+
+    fn leave(&mut self, regrets: &Regrets, depth: usize) {
+        let place = at(&self.picks, depth, 0);
+        mark(&mut self.is_served, regrets.riders(place), false);
+    }
+}
+
+/// Lists and marks the riders of this list's places who aren't marked yet.
+fn list_riders(
+    regrets: &Regrets,
+    fits: &Groups,
+    list: usize,
+    marks: &mut [bool],
+    listed: &mut Groups,
+) -> Result<(), OutOfMemory> {
+    for place in fits.of(list) {
+        for rider in regrets.riders(*place as usize) {
+            if !at(marks, *rider as usize, true) {
+                put(marks, *rider as usize, true);
+                listed.push(*rider)?;
+            }
+        }
+    }
+    listed.close()
+}
+
+#[inline]
+fn mark(marks: &mut [bool], riders: &[u32], value: bool) {
+    for rider in riders {
+        put(marks, *rider as usize, value);
+    }
+}
+
+#[inline]
+fn is_any_marked(marks: &[bool], riders: &[u32]) -> bool {
+    for rider in riders {
+        if at(marks, *rider as usize, true) {
+            return true;
+        }
+    }
+    false
+}

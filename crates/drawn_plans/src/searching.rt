@@ -1,0 +1,91 @@
+//! What a search shows of worked rows and of a wide graph, and a relaxation that is broken off.
+use crate::wide::wide_graph;
+use crate::worked::{one_held, three_pairs};
+use assignment_search::search;
+use bound_checker::check;
+use dual_bound::{Relaxation, RowTable, leaf_value};
+use plan_rules::TripGraph;
+use pool_base::OutOfMemory;
+use rand_xoshiro::Xoshiro256PlusPlus;
+use rand_xoshiro::rand_core::SeedableRng;
+use std::alloc::Global;
+use std::test::Fail;
+
+/// What a search with this budget says: its bound, its cost, how many nodes it has, and what the checker
+/// says of its tree.
+fn told(alloc: Global, graph: &TripGraph, budget: u32) -> Option<(i128, u64, usize, i128)> {
+    let found = search(alloc, graph, budget.max(1)).ok()?;
+    let checked = check(alloc, graph, &found.tree).ok()?;
+    Some((found.bound, found.cost, found.tree.nodes().len(), checked))
+}
+
+/// Whether the checker says what the search does, with each of some budgets.
+fn agrees(alloc: Global, graph: &TripGraph) -> bool {
+    for budget in [1, 2, 3, 4, 5, 9, 20] {
+        match told(alloc, graph, budget) {
+            None => return false,
+            Some((bound, cost, nodes, checked)) => {
+                if bound != checked || bound > i128::from(cost) || nodes > budget as usize {
+                    return false;
+                }
+            }
+        }
+    }
+    true
+}
+
+#[test]
+fn trees_of_worked_rows_are_checked(rt: HostRuntime) -> Result<(), Fail> {
+    let alloc = rt.alloc();
+    assert!(rt; agrees(alloc, &three_pairs(alloc)?));
+    assert!(rt; agrees(alloc, &one_held(alloc)?));
+    Ok(())
+}
+
+/// Whether the search of a drawn wide graph closes within 200 nodes.
+fn closes(alloc: Global, seed: u64) -> bool {
+    let mut draws = Xoshiro256PlusPlus::seed_from_u64(seed);
+    match wide_graph(alloc, &mut draws) {
+        Err(_) => false,
+        Ok(graph) => match told(alloc, &graph, 200) {
+            None => false,
+            Some((bound, cost, _, checked)) => bound == i128::from(cost) && bound == checked,
+        },
+    }
+}
+
+#[test]
+fn a_wide_graph_closes(rt: HostRuntime) {
+    for seed in 0..3_u64 {
+        assert!(rt; closes(rt.alloc(), seed), "seed {seed}");
+    }
+}
+
+/// The value of the multipliers where the relaxation is broken off after so many columns, in 1/1024 second.
+fn value_after(alloc: Global, graph: &TripGraph, most: u64) -> Result<i128, OutOfMemory> {
+    let table = RowTable::of_graph(alloc, graph)?;
+    let mut relaxation = Relaxation::new(alloc, &table, graph.held())?;
+    relaxation.set_most_pivots(most);
+    relaxation.solve(&table, i64::MAX, 20, u32::MAX)?;
+    let allowed = vec![in alloc; true; graph.rows().len()]?;
+    if relaxation.multipliers().len() == graph.rider_count() {
+        Ok(leaf_value(graph, &allowed, relaxation.multipliers()))
+    } else {
+        Err(OutOfMemory)
+    }
+}
+
+/// Whether values that were broken off are no more than the whole one, which is above this.
+fn rises(alloc: Global, seed: u64) -> Option<bool> {
+    let mut draws = Xoshiro256PlusPlus::seed_from_u64(seed);
+    let graph = wide_graph(alloc, &mut draws).ok()?;
+    let none = value_after(alloc, &graph, 0).ok()?;
+    let some = value_after(alloc, &graph, 20).ok()?;
+    let whole = value_after(alloc, &graph, u64::MAX).ok()?;
+    Some(none <= whole && some <= whole && whole > 0)
+}
+
+#[test]
+fn a_relaxation_that_is_broken_off(rt: HostRuntime) {
+    assert_eq!(rt; rises(rt.alloc(), 1), Some(true));
+}

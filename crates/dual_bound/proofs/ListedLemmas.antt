@@ -1,0 +1,121 @@
+-- The first-fit pass over a list of the rider's rows.
+use Rattle.std.proofs.Common.{◌≡◌, ◌==◌, ◌⊎◌, ◌&&◌, ◌||◌, ℕ, zero, suc, ◌+◌, ◌<◌, ◌≤◌, Bool, true, false, List, [], ◌∷◌, length, get_or, Option, Some, None, ℤ, pos, ◌≤ℤ◌, refl, sym, ap, ◌∙◌, subst, ⊎_elim, inl, inr, arith, eqb-true, eq-eqb}
+use Rattle.std.specs.List.{list_any}
+use Rattle.std.specs.Int.{int_min}
+use Rattle.std.specs.Prelude.{int_lt}
+use Rattle.std.proofs.lemmas.Int.{ints}
+use Rattle.std.proofs.lemmas.Bool.{cases_eq, cases_Bool, cond_both, both_ways, and_parts}
+use Rattle.plan_rules.specs.Sums.{least_below, lesser}
+use Rattle.plan_rules.specs.Graph.{Graph, riders_at, has_rider}
+use Rattle.plan_rules.specs.Multipliers.{Usable, room_at}
+use Rattle.plan_rules.proofs.SumLemmas.{least_below_some, least_below_found, lesser-le_right, lesser-le_left}
+use Rattle.dual_bound.specs.Index.{IsListed, ListsAll}
+
+-- the least of f at the numbers below n that pass and stand at these places of a list, where there is one
+pub record IsLeastListed (n : ℕ) (p : ℕ → Bool) (f : ℕ → ℤ) (listed : List ℕ) (from to : ℕ) (least : Option ℤ) : Type 0 where
+  pub covers : (q : ℕ) → from ≤ q → q < to → q < length listed → get_or listed q 0 < n → p (get_or listed q 0) ≡ true → (z : ℤ) × (least ≡ Some z) × (z ≤ℤ f (get_or listed q 0))
+  pub reached : (z : ℤ) → least ≡ Some z → (k : ℕ) × (k < n) × (p k ≡ true) × (z ≡ f k)
+
+not_some : (z : ℤ) → ◌≡◌ {A = Option ℤ} None (Some z) → ⊥
+not_some z e = cc
+
+inner : (x y : ℤ) → Some x ≡ Some y → x ≡ y
+inner x y e = cc
+
+int_min_cases : (x y : ℤ) → (int_min x y ≡ x) ⊎ (int_min x y ≡ y)
+int_min_cases x y = cond_both (int_lt y x) y x (λ (m : ℤ). (m ≡ x) ⊎ (m ≡ y)) (λ e. inr refl) (λ e. inl refl)
+
+lesser_cases : (o : Option ℤ) (x : ℤ) → (o ≡ Some (lesser o x)) ⊎ (lesser o x ≡ x)
+lesser_cases None x = inr refl
+lesser_cases (Some y) x = ⊎_elim (λ (left : int_min y x ≡ y). inl (ap Some (sym left))) (λ (right : int_min y x ≡ x). inr right) (int_min_cases y x)
+
+-- what is least over all that pass is the least
+pub least_is : (n : ℕ) (p : ℕ → Bool) (f : ℕ → ℤ) (o : Option ℤ) → ((k : ℕ) → k < n → p k ≡ true → (z : ℤ) × (o ≡ Some z) × (z ≤ℤ f k)) → ((z : ℤ) → o ≡ Some z → (k : ℕ) × (k < n) × (p k ≡ true) × (z ≡ f k)) → (m : Option ℤ) → least_below n p f ≡ m → o ≡ m
+least_is n p f None covers reached None e = refl
+least_is n p f (Some y) covers reached None e =
+    let w = reached y refl in
+    let v = least_below_some n p f (w.0) (w.1) (w.2) in
+    absurd (not_some (v.0) (sym e ∙ v.1))
+least_is n p f o covers reached (Some z) e =
+    let w = least_below_found n p f z e in
+    let c = covers (w.0) (w.1) (w.2) in
+    let v = reached (c.0) (c.1) in
+    let x = least_below_some n p f (v.0) (v.1) (v.2) in
+    let same : x.0 ≡ z = inner (x.0) z (sym (x.1) ∙ e) in
+    let low : c.0 ≤ℤ f (w.0) = c.2 in
+    let is : z ≡ f (w.0) = w.3 in
+    let high : x.0 ≤ℤ f (v.0) = x.2 in
+    let here : c.0 ≡ f (v.0) = v.3 in
+    let equal : c.0 ≡ z = omega (arith, ints, same, low, is, high, here) in
+    c.1 ∙ ap Some equal
+
+pub listed_none : (n : ℕ) (p : ℕ → Bool) (f : ℕ → ℤ) (listed : List ℕ) (from : ℕ) (o : Option ℤ) → o ≡ None → IsLeastListed n p f listed from from o
+listed_none n p f listed from o e = record {
+  covers = λ q l h. absurd (omega (arith, l, h));
+  reached = λ z is. absurd (not_some z (sym e ∙ is));
+}
+
+pub listed_take : (n : ℕ) (p : ℕ → Bool) (f : ℕ → ℤ) (listed : List ℕ) (from to k : ℕ) (o new : Option ℤ) (x : ℤ) → IsLeastListed n p f listed from to o → get_or listed to 0 ≡ k → k < n → p k ≡ true → x ≡ f k → new ≡ Some (lesser o x)
+    → IsLeastListed n p f listed from (to + 1) new
+listed_take n p f listed from to k o new x before here low passes value is = record {
+  covers = λ q l h within below yes.
+      ⊎_elim
+      (λ (same : q ≡ to).
+      (lesser o x, is, subst (λ (j : ℕ). lesser o x ≤ℤ f (get_or listed j 0)) (sym same) (subst (λ (z : ℤ). lesser o x ≤ℤ z) (value ∙ sym (ap f here)) (lesser-le_right o x))))
+      (λ (other : q ≡ to → ⊥).
+      let w = before.covers q l (omega (arith, h, other)) within below yes in
+      let now : lesser o x ≡ lesser (Some (w.0)) x = ap (λ (u : Option ℤ). lesser u x) (w.1) in
+      let less : lesser (Some (w.0)) x ≤ℤ w.0 = lesser-le_left (w.0) x in
+      let far : w.0 ≤ℤ f (get_or listed q 0) = w.2 in
+      let all : lesser o x ≤ℤ f (get_or listed q 0) = omega (arith, ints, now, less, far) in
+      (lesser o x, is, all))
+      (cases_eq q to);
+  reached = λ z e.
+      let found : lesser o x ≡ z = inner (lesser o x) z (sym is ∙ e) in
+      ⊎_elim
+      (λ (old : o ≡ Some (lesser o x)). before.reached z (old ∙ ap Some found))
+      (λ (mine : lesser o x ≡ x). (k, low, passes, sym found ∙ mine ∙ value))
+      (lesser_cases o x);
+}
+
+pub listed_pass : (n : ℕ) (p : ℕ → Bool) (f : ℕ → ℤ) (listed : List ℕ) (from to : ℕ) (o : Option ℤ) → IsLeastListed n p f listed from to o → (to < length listed → get_or listed to 0 < n → p (get_or listed to 0) ≡ false)
+    → IsLeastListed n p f listed from (to + 1) o
+listed_pass n p f listed from to o before fails = record {
+  covers = λ q l h within below yes.
+      ⊎_elim
+      (λ (same : q ≡ to).
+      absurd (both_ways (p (get_or listed to 0)) (fails (subst (λ (j : ℕ). j < length listed) same within) (subst (λ (j : ℕ). get_or listed j 0 < n) same below)) (subst (λ (j : ℕ). p (get_or listed j 0) ≡ true) same yes)))
+      (λ (other : q ≡ to → ⊥). before.covers q l (omega (arith, h, other)) within below yes)
+      (cases_eq q to);
+  reached = before.reached;
+}
+
+-- what holds at each place of a list holds of a number that it has
+pub at_of : (P : ℕ → Type 0) (xs : List ℕ) (r : ℕ) → ((i : ℕ) → i < length xs → P (get_or xs i 0)) → list_any (λ x. x == r) xs ≡ true → P r
+at_of P [] r all e = absurd (both_ways false refl e)
+at_of P (x ∷ xs) r all e =
+    ⊎_elim
+    (λ (same : x ≡ r). subst P same (all 0 (omega arith)))
+    (λ (other : x ≡ r → ⊥).
+    at_of P xs r (λ i l. all (suc i) (omega (arith, l)))
+    (⊎_elim
+    (λ (yes : (x == r) ≡ true). absurd (other (eqb-true x r yes)))
+    (λ (no : (x == r) ≡ false). sym (ap (λ (b : Bool). b || list_any (λ y. y == r) xs) no) ∙ e)
+    (cases_Bool (x == r))))
+    (cases_eq x r)
+
+-- the least over a rider's list is the least over all rows
+pub listed_done : (g : Graph) (usable : Usable) (ms : List ℤ) (starts listed : List ℕ) (r to : ℕ) (o : Option ℤ) → ListsAll g starts listed → get_or starts (suc r) 0 ≤ to
+    → IsLeastListed (length g.rows) (λ k. usable k && has_rider g k r) (room_at g usable ms) listed (get_or starts r 0) to o
+    → o ≡ least_below (length g.rows) (λ k. usable k && has_rider g k r) (room_at g usable ms)
+listed_done g usable ms starts listed r to o all ended least =
+    let n = length g.rows in
+    let p : ℕ → Bool = λ k. usable k && has_rider g k r in
+    let f : ℕ → ℤ = room_at g usable ms in
+    least_is n p f o
+    (λ k l yes.
+    let has : has_rider g k r ≡ true = (and_parts (usable k) (has_rider g k r) yes).1 in
+    let here : IsListed starts listed r k = at_of (λ (q : ℕ). IsListed starts listed q k) (riders_at g k) r (λ i low. all k i l low) has in
+    let w = least.covers here.place here.from (omega (arith, here.before, ended)) here.within (subst (λ (j : ℕ). j < n) (sym here.row) l) (subst (λ (j : ℕ). p j ≡ true) (sym here.row) yes) in
+    (w.0, w.1, subst (λ (j : ℕ). w.0 ≤ℤ f j) here.row (w.2)))
+    least.reached (least_below n p f) refl

@@ -1,0 +1,310 @@
+//! A basis of the relaxation, with how much of each column it takes.
+use crate::fixed_point::{ONE, at, copy, item, quotient, set_at, times};
+use crate::relaxation::elimination::{Elimination, reset};
+use crate::relaxation::factors::Factors;
+use crate::relaxation::lists::{Lists, short};
+use crate::relaxation::row_table::RowTable;
+use pool_base::OutOfMemory;
+use rand_xoshiro::SplitMix64;
+use rand_xoshiro::rand_core::{Rng, SeedableRng};
+use std::alloc::Global;
+
+/// After so many exchanges the factors are made anew.
+const MOST_EXCHANGES: usize = 64;
+
+/// A number of the entering column may be divided by from here on.
+const LEAST_PIVOT: i64 = ONE / 1000;
+
+/// What the riders' capacities are drawn from.
+const SEED: u64 = 77;
+
+/// Which column stands at each place, and the factors of those columns.
+#[derive(Debug, Drop)]
+pub struct Basis {
+    columns: Vec<u32>,
+    /// For each column one more than its place, 0 where it isn't in the basis.
+    places: Vec<u32>,
+    levels: Vec<i64>,
+    /// How much each condition has: a little more than one where a rider may be left out, so that no two
+    /// levels are used up at once.
+    capacities: Vec<i64>,
+    factors: Factors,
+    is_factored: bool,
+    /// The last columns that had factors.
+    good: Vec<u32>,
+    elimination: Elimination,
+    matrix: Lists,
+    numbers: Vec<i64>,
+}
+
+impl Basis {
+    /// These rows, of which no two have a rider in common, one for each vehicle that has any, and all other
+    /// riders as left out.
+    pub fn new(
+        alloc: Global,
+        table: &RowTable,
+        start: &[Option<u32>],
+    ) -> Result<Self, OutOfMemory> {
+        let mut basis = Basis {
+            columns: Vec::new(alloc),
+            places: Vec::new(alloc),
+            levels: Vec::new(alloc),
+            capacities: Vec::new(alloc),
+            factors: Factors::new(alloc),
+            is_factored: false,
+            good: Vec::new(alloc),
+            elimination: Elimination::new(alloc)?,
+            matrix: Lists::new(alloc)?,
+            numbers: Vec::new(alloc),
+        };
+        let count = table.vehicle_count().saturating_add(table.rider_count());
+        let columns = table.row_count().saturating_add(count);
+        reset(&mut basis.places, columns, 0)?;
+        reset(&mut basis.levels, count, 0)?;
+        reset(&mut basis.numbers, count, 0)?;
+        basis.draw_capacities(table)?;
+        basis.begin(table, start)?;
+        Ok(basis)
+    }
+
+    fn draw_capacities(&mut self, table: &RowTable) -> Result<(), OutOfMemory> {
+        let mut draws = SplitMix64::seed_from_u64(SEED);
+        reset(&mut self.capacities, table.vehicle_count(), ONE)?;
+        for rider in 0..table.rider_count() {
+            let more = ONE / (4096 * 2048) * (1 + (draws.next_u64() % 4096) as i64);
+            let more = if table.must(rider) { 0 } else { more };
+            self.capacities.push(ONE.wrapping_add(more))?;
+        }
+        Ok(())
+    }
+
+    fn begin(&mut self, table: &RowTable, start: &[Option<u32>]) -> Result<(), OutOfMemory> {
+        self.columns.clear();
+        let riders_end = table.row_count().saturating_add(table.rider_count());
+        for vehicle in 0..table.vehicle_count() {
+            let idle = short(riders_end.saturating_add(vehicle));
+            let column = item(start, vehicle, None).unwrap_or(idle);
+            self.columns.push(column)?;
+        }
+        for rider in 0..table.rider_count() {
+            self.columns
+                .push(short(table.row_count().saturating_add(rider)))?;
+        }
+        self.note_places();
+        self.good.clear();
+        self.good.extend_from_slice(&self.columns)?;
+        Ok(())
+    }
+
+    fn note_places(&mut self) {
+        for place in 0..self.columns.len() {
+            set_at(
+                &mut self.places,
+                item(&self.columns, place, u32::MAX) as usize,
+                short(place.saturating_add(1)),
+            );
+        }
+    }
+
+    fn forget_places(&mut self) {
+        for column in &self.columns {
+            set_at(&mut self.places, *column as usize, 0);
+        }
+    }
+
+    pub fn len(&self) -> usize {
+        self.columns.len()
+    }
+
+    pub fn columns(&self) -> &[u32] {
+        &self.columns
+    }
+
+    pub fn column(&self, place: usize) -> usize {
+        item(&self.columns, place, u32::MAX) as usize
+    }
+
+    pub fn has(&self, column: usize) -> bool {
+        item(&self.places, column, 0) != 0
+    }
+
+    pub fn level(&self, place: usize) -> i64 {
+        at(&self.levels, place)
+    }
+
+    pub fn is_factored(&self) -> bool {
+        self.is_factored
+    }
+
+    /// Goes to other columns, which were a basis before.
+    pub fn go_to(&mut self, columns: &[u32]) -> Result<(), OutOfMemory> {
+        if columns.len() == self.columns.len() {
+            self.put_columns(columns)?;
+            self.is_factored = false;
+        }
+        Ok(())
+    }
+
+    fn put_columns(&mut self, columns: &[u32]) -> Result<(), OutOfMemory> {
+        self.forget_places();
+        self.columns.clear();
+        self.columns.extend_from_slice(columns)?;
+        self.note_places();
+        Ok(())
+    }
+
+    /// Becomes the same as another basis over the same rows.
+    pub fn copy_from(&mut self, other: &Basis) -> Result<(), OutOfMemory> {
+        self.put_columns(&other.columns)?;
+        self.levels.clear();
+        self.levels.extend_from_slice(&other.levels)?;
+        self.factors.copy_from(&other.factors)?;
+        self.is_factored = other.is_factored;
+        Ok(())
+    }
+
+    /// Makes the factors of the columns, or where there are none goes back to the last columns that had
+    /// some. False where it went back.
+    pub fn factor(&mut self, table: &RowTable) -> Result<bool, OutOfMemory> {
+        let is_good = self.try_factor(table)?;
+        if is_good {
+            self.good.clear();
+            self.good.extend_from_slice(&self.columns)?;
+        } else {
+            self.go_back()?;
+            self.try_factor(table)?;
+        }
+        self.find_levels();
+        Ok(is_good)
+    }
+
+    fn go_back(&mut self) -> Result<(), OutOfMemory> {
+        self.forget_places();
+        self.columns.clear();
+        self.columns.extend_from_slice(&self.good)?;
+        self.note_places();
+        Ok(())
+    }
+
+    fn try_factor(&mut self, table: &RowTable) -> Result<bool, OutOfMemory> {
+        self.matrix.clear();
+        for place in 0..self.columns.len() {
+            let column = self.column(place);
+            self.push_column(table, column)?;
+        }
+        self.is_factored = true;
+        self.elimination.factor(&mut self.matrix, &mut self.factors)
+    }
+
+    fn push_column(&mut self, table: &RowTable, column: usize) -> Result<(), OutOfMemory> {
+        if column < table.row_count() {
+            self.matrix.push(table.vehicle(column))?;
+            for rider in table.riders_of(column) {
+                self.matrix
+                    .push(table.vehicle_count().saturating_add(*rider as usize))?;
+            }
+        } else {
+            self.matrix.push(unit_condition(table, column))?;
+        }
+        self.matrix.end()
+    }
+
+    /// Computes the levels from the capacities.
+    fn find_levels(&mut self) {
+        copy(&self.capacities, &mut self.numbers);
+        self.factors.solve(&mut self.numbers, &mut self.levels);
+        for level in self.levels.iter_mut() {
+            *level = (*level).max(0);
+        }
+    }
+
+    /// Computes how much of each column is taken where each condition has one.
+    pub fn find_parts(&mut self, parts: &mut [i64]) {
+        self.numbers.as_mut_slice().fill(ONE);
+        self.factors.solve(&mut self.numbers, parts);
+    }
+
+    /// Computes the prices at which each place costs this. The costs are used up.
+    pub fn find_prices(&self, costs: &mut [i64], prices: &mut [i64]) {
+        self.factors.price(costs, prices);
+    }
+
+    /// Computes a column over the places.
+    pub fn find_column(&mut self, table: &RowTable, column: usize, entering: &mut [i64]) {
+        self.numbers.as_mut_slice().fill(0);
+        if column < table.row_count() {
+            set_at(&mut self.numbers, table.vehicle(column), ONE);
+            for rider in table.riders_of(column) {
+                let condition = table.vehicle_count().saturating_add(*rider as usize);
+                set_at(&mut self.numbers, condition, ONE);
+            }
+        } else {
+            set_at(&mut self.numbers, unit_condition(table, column), ONE);
+        }
+        self.factors.solve(&mut self.numbers, entering);
+    }
+
+    /// The place whose level is the first to be used up as this column comes in, and how much of it does.
+    pub fn leaving_place(&self, entering: &[i64]) -> Option<(usize, i64)> {
+        let mut best = None;
+        let mut least = i64::MAX;
+        let mut divisor = 0;
+        for place in 0..entering.len() {
+            let value = entering[place];
+            if value > LEAST_PIVOT {
+                let ratio = quotient(at(&self.levels, place), value);
+                if best.is_none() || ratio < least || (ratio == least && value > divisor) {
+                    best = Some((place, ratio));
+                    least = ratio;
+                    divisor = value;
+                }
+            }
+        }
+        best
+    }
+
+    /// Puts a column into this place. False where the factors should be made anew.
+    pub fn exchange(
+        &mut self,
+        place: usize,
+        column: usize,
+        level: i64,
+        entering: &[i64],
+    ) -> Result<bool, OutOfMemory> {
+        self.take_levels(level, entering);
+        set_at(&mut self.levels, place, level);
+        let leaving = self.column(place);
+        set_at(&mut self.places, leaving, 0);
+        set_at(&mut self.columns, place, short(column));
+        set_at(&mut self.places, column, short(place.saturating_add(1)));
+        self.factors.exchange(place, entering)?;
+        let most = self.columns.len().saturating_mul(8).saturating_add(2000);
+        Ok(self.factors.exchange_count() < MOST_EXCHANGES && self.factors.exchange_size() <= most)
+    }
+
+    fn take_levels(&mut self, level: i64, entering: &[i64]) {
+        if level == 0 {
+            return;
+        }
+        for (number, value) in self.levels.iter_mut().zip(entering) {
+            if *value != 0 {
+                *number = (*number).wrapping_sub(times(*value, level)).max(0);
+            }
+        }
+    }
+
+    /// Whether columns were exchanged since the factors were made.
+    pub fn is_exchanged(&self) -> bool {
+        self.factors.exchange_count() > 0
+    }
+}
+
+/// The condition of a column with a single one.
+fn unit_condition(table: &RowTable, column: usize) -> usize {
+    let number = column.saturating_sub(table.row_count());
+    if number < table.rider_count() {
+        table.vehicle_count().saturating_add(number)
+    } else {
+        number.saturating_sub(table.rider_count())
+    }
+}

@@ -1,0 +1,201 @@
+//! The primal simplex over the pool.
+use crate::fixed_point::{at, item, set_at};
+use crate::relaxation::lists::short;
+use crate::relaxation::pool::{Candidate, offer};
+use crate::relaxation::row_table::RowTable;
+use crate::relaxation::{MOST_COST, Relaxation};
+use pool_base::OutOfMemory;
+
+/// How many candidates a look at the columns keeps, and for how many turns they are used.
+const MOST_CANDIDATES: usize = 8;
+
+/// With so many candidates a look at a part of the pool is enough.
+const ENOUGH_CANDIDATES: usize = 4;
+
+/// How many rows a look takes at least.
+const LEAST_LOOK: usize = 1000;
+
+/// A reduced cost counts from here on, in units of 2^-32.
+const LEAST_GAIN: i64 = 1 << 24;
+
+/// How often a basis without factors is left for the last good one before a solution is broken off.
+const MOST_FAILURES: u32 = 3;
+
+/// What a forbidden row costs, in the units of prices: more than any other column.
+const FORBIDDEN: i64 = MOST_COST << 32;
+
+impl Relaxation {
+    /// Takes columns in until the solution over the pool is the best, or so many came in.
+    pub fn pivot_on(&mut self, table: &RowTable, most: u64) -> Result<(), OutOfMemory> {
+        if !self.basis.is_factored() {
+            self.basis.factor(table)?;
+        }
+        self.candidates.clear();
+        self.turns = 0;
+        let mut failures: u32 = 0;
+        for _ in 0..most.min(self.most_pivots.saturating_sub(self.pivots)) {
+            self.reprice(table);
+            match self.next_column(table)? {
+                None => return Ok(()),
+                Some(column) => {
+                    if !self.enter(table, column)? {
+                        failures = failures.saturating_add(1);
+                        if failures >= MOST_FAILURES {
+                            return Ok(());
+                        }
+                    }
+                }
+            }
+        }
+        Ok(())
+    }
+
+    /// Computes the prices from the basis.
+    pub fn reprice(&mut self, table: &RowTable) {
+        for place in 0..self.costs.len() {
+            let cost = self.cost_of(table, self.basis.column(place));
+            set_at(&mut self.costs, place, cost);
+        }
+        self.basis.find_prices(&mut self.costs, &mut self.prices);
+    }
+
+    /// What a column costs.
+    pub fn cost_of(&self, table: &RowTable, column: usize) -> i64 {
+        let rows = table.row_count();
+        if column >= rows {
+            at(&self.left_costs, column - rows)
+        } else if item(&self.is_forbidden, column, false) {
+            FORBIDDEN
+        } else {
+            at(&self.row_costs, column)
+        }
+    }
+
+    /// What a column costs, less the prices of its conditions.
+    fn reduced_cost(&self, table: &RowTable, column: usize) -> i64 {
+        let rows = table.row_count();
+        let vehicles = table.vehicle_count();
+        if column >= rows {
+            let rider = column - rows;
+            let price = at(&self.prices, vehicles.saturating_add(rider));
+            return at(&self.left_costs, rider).wrapping_sub(price);
+        }
+        let price = at(&self.prices, table.vehicle(column));
+        let mut rest = at(&self.row_costs, column).wrapping_sub(price);
+        for rider in table.riders_of(column) {
+            let condition = vehicles.saturating_add(*rider as usize);
+            rest = rest.wrapping_sub(at(&self.prices, condition));
+        }
+        rest
+    }
+
+    /// The column to come in next.
+    fn next_column(&mut self, table: &RowTable) -> Result<Option<usize>, OutOfMemory> {
+        self.reprice_candidates(table);
+        if self.turns == 0 || self.candidates.is_empty() {
+            self.turns = MOST_CANDIDATES as u32;
+            self.find_candidates(table)?;
+        } else {
+            self.turns = self.turns.saturating_sub(1);
+        }
+        Ok(self.best_candidate())
+    }
+
+    /// Takes out the candidates that better nothing any more.
+    fn reprice_candidates(&mut self, table: &RowTable) {
+        let mut count = 0;
+        for place in 0..self.candidates.len() {
+            let Some(candidate) = self.candidates.get(place).copied() else {
+                return;
+            };
+            let column = candidate.column as usize;
+            let cost = self.reduced_cost(table, column);
+            if cost < -LEAST_GAIN && !self.basis.has(column) {
+                let candidate = Candidate {
+                    cost,
+                    column: short(column),
+                };
+                set_at(&mut self.candidates, count, candidate);
+                count = count.wrapping_add(1);
+            }
+        }
+        self.candidates.truncate(count);
+    }
+
+    fn best_candidate(&self) -> Option<usize> {
+        let mut least = 0;
+        let mut best = None;
+        for candidate in &self.candidates {
+            if candidate.cost < least {
+                least = candidate.cost;
+                best = Some(candidate.column as usize);
+            }
+        }
+        best
+    }
+
+    fn find_candidates(&mut self, table: &RowTable) -> Result<(), OutOfMemory> {
+        self.candidates.clear();
+        let rows = table.row_count();
+        for rider in 0..table.rider_count() {
+            self.look_at(table, rows.saturating_add(rider))?;
+        }
+        let count = self.pool.len();
+        let look = (count / 4).max(LEAST_LOOK).min(count);
+        for part in 0..5_usize {
+            let seen = part.wrapping_mul(look);
+            if seen >= count {
+                return Ok(());
+            }
+            self.look_at_rows(table, look.min(count - seen))?;
+            if self.candidates.len() >= ENOUGH_CANDIDATES {
+                return Ok(());
+            }
+        }
+        Ok(())
+    }
+
+    fn look_at_rows(&mut self, table: &RowTable, count: usize) -> Result<(), OutOfMemory> {
+        for _ in 0..count {
+            let row = self.pool.next();
+            if !item(&self.is_forbidden, row, true) {
+                self.look_at(table, row)?;
+            }
+        }
+        Ok(())
+    }
+
+    fn look_at(&mut self, table: &RowTable, column: usize) -> Result<(), OutOfMemory> {
+        if self.basis.has(column) {
+            return Ok(());
+        }
+        let cost = self.reduced_cost(table, column);
+        if cost < -LEAST_GAIN {
+            let candidate = Candidate {
+                cost,
+                column: short(column),
+            };
+            offer(&mut self.candidates, MOST_CANDIDATES, candidate)?;
+        }
+        Ok(())
+    }
+
+    /// Takes a column in. False where the basis isn't one and another was gone back to.
+    fn enter(&mut self, table: &RowTable, column: usize) -> Result<bool, OutOfMemory> {
+        self.basis.find_column(table, column, &mut self.entering);
+        self.pivots = self.pivots.saturating_add(1);
+        match self.basis.leaving_place(&self.entering) {
+            None => {
+                self.candidates.clear();
+                self.basis.factor(table)?;
+                Ok(false)
+            }
+            Some((place, level)) => {
+                if self.basis.exchange(place, column, level, &self.entering)? {
+                    return Ok(true);
+                }
+                self.basis.factor(table)
+            }
+        }
+    }
+}

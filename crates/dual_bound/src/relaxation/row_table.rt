@@ -1,0 +1,152 @@
+//! The rows of a trip graph, or of a part of one, in flat tables.
+use crate::fixed_point::item;
+use crate::relaxation::lists::{Lists, short};
+use plan_rules::TripGraph;
+use pool_base::OutOfMemory;
+use std::alloc::Global;
+use std::ops::Range;
+
+/// What it costs at least to leave out a rider who must be served, in seconds.
+const MUST_COST: i64 = 10_000_000;
+
+/// Rows by vehicle, with their riders, and for each rider the rows that have her.
+///
+/// Vehicles, riders and rows are numbers from 0; costs are in seconds. What is asked of a number past the
+/// last one is nothing, or nobody, at no cost.
+#[derive(Debug, Drop)]
+pub struct RowTable {
+    penalty: i64,
+    must: Vec<bool>,
+    /// Each vehicle's first row, and the number of rows.
+    starts: Vec<u32>,
+    vehicles: Vec<u32>,
+    costs: Vec<i64>,
+    riders: Lists,
+    rows: Lists,
+}
+
+impl RowTable {
+    /// A table without vehicles. The marks say which riders must be served.
+    pub fn new(alloc: Global, penalty: i64, must: Vec<bool>) -> Result<Self, OutOfMemory> {
+        let mut table = RowTable {
+            penalty,
+            must,
+            starts: Vec::new(alloc),
+            vehicles: Vec::new(alloc),
+            costs: Vec::new(alloc),
+            riders: Lists::new(alloc)?,
+            rows: Lists::new(alloc)?,
+        };
+        table.starts.push(0)?;
+        Ok(table)
+    }
+
+    /// All rows of a graph.
+    pub fn of_graph(alloc: Global, graph: &TripGraph) -> Result<Self, OutOfMemory> {
+        let mut must = Vec::new(alloc);
+        for rider in 0..graph.rider_count() {
+            must.push(graph.must(rider))?;
+        }
+        let mut table = RowTable::new(alloc, i64::from(graph.penalty()), must)?;
+        for vehicle in 0..graph.vehicle_count() {
+            table.push_vehicle(graph, vehicle)?;
+        }
+        table.index()?;
+        Ok(table)
+    }
+
+    fn push_vehicle(&mut self, graph: &TripGraph, vehicle: usize) -> Result<(), OutOfMemory> {
+        if vehicle < graph.vehicle_count() {
+            let rows = graph.rows();
+            for row in graph.first_row(vehicle)..graph.first_row(vehicle + 1) {
+                for rider in rows[row].riders.as_slice() {
+                    self.riders.push(*rider)?;
+                }
+                self.end_row(rows[row].cost.min(1_000_000_000) as i64)?;
+            }
+        }
+        self.end_vehicle()
+    }
+
+    /// Puts in a row of the vehicle at hand.
+    pub fn push_row(&mut self, cost: i64, riders: &[u32]) -> Result<(), OutOfMemory> {
+        for rider in riders {
+            self.riders.push(*rider as usize)?;
+        }
+        self.end_row(cost)
+    }
+
+    fn end_row(&mut self, cost: i64) -> Result<(), OutOfMemory> {
+        let vehicle = short(self.vehicle_count());
+        self.vehicles.push(vehicle)?;
+        self.costs.push(cost)?;
+        self.riders.end()
+    }
+
+    /// Ends the rows of the vehicle at hand: later ones are those of the next.
+    pub fn end_vehicle(&mut self) -> Result<(), OutOfMemory> {
+        self.starts.push(short(self.costs.len()))?;
+        Ok(())
+    }
+
+    /// Lists the rows of each rider. To be called after the last row.
+    pub fn index(&mut self) -> Result<(), OutOfMemory> {
+        self.rows.transpose(&self.riders, self.must.len())
+    }
+
+    pub fn vehicle_count(&self) -> usize {
+        self.starts.len().saturating_sub(1)
+    }
+
+    pub fn rider_count(&self) -> usize {
+        self.must.len()
+    }
+
+    pub fn row_count(&self) -> usize {
+        self.costs.len()
+    }
+
+    /// The vehicle's rows.
+    pub fn rows_of(&self, vehicle: usize) -> Range<usize> {
+        let from = item(&self.starts, vehicle, 0) as usize;
+        let to = item(&self.starts, vehicle.saturating_add(1), 0) as usize;
+        from..to
+    }
+
+    /// The row's riders.
+    pub fn riders_of(&self, row: usize) -> &[u32] {
+        self.riders.list(row)
+    }
+
+    /// The rows that have this rider, rising.
+    pub fn rows_with(&self, rider: usize) -> &[u32] {
+        self.rows.list(rider)
+    }
+
+    pub fn cost(&self, row: usize) -> i64 {
+        item(&self.costs, row, 0)
+    }
+
+    pub fn vehicle(&self, row: usize) -> usize {
+        item(&self.vehicles, row, 0) as usize
+    }
+
+    /// Whether the rider must be served.
+    pub fn must(&self, rider: usize) -> bool {
+        item(&self.must, rider, false)
+    }
+
+    /// What it costs to leave out a rider who may be.
+    pub fn penalty(&self) -> i64 {
+        self.penalty
+    }
+
+    /// What it costs to leave out this rider: the penalty, or a very large cost where she must be served.
+    pub fn cost_left(&self, rider: usize) -> i64 {
+        if self.must(rider) {
+            self.penalty.saturating_mul(100).max(MUST_COST)
+        } else {
+            self.penalty
+        }
+    }
+}
