@@ -4,12 +4,12 @@ use mir.Syntax.{w128}
 use Rattle.std.specs.Result.{IfOk}
 use Rattle.std.proofs.lemmas.Int.{ints, to_z-of_z}
 use Rattle.std.proofs.lemmas.List.Elements.{All-from_recursion}
-use Rattle.plan_rules.specs.Graph.{Graph, IsRowOf, vehicle_at, IsGoodGraph}
+use Rattle.plan_rules.specs.Graph.{Graph, IsRowOf, row_vehicle, IsGoodGraph}
 use Rattle.plan_rules.specs.Plan.{IsLawful, cost_of}
 use Rattle.plan_rules.specs.Greedy.{IsGreedy}
 use Rattle.plan_rules.specs.Multipliers.{Usable, usable_of, leaf_value, first_fit, first_fit_value}
 use Rattle.plan_rules.specs.Tree.{every_row, only_row, without_row, CanBranch, MayUse, IsDeadEnd, Place, rounded_up, places}
-use Rattle.plan_rules.specs.Reading.{Reads, IsWholeTree, places_read, value_read}
+use Rattle.plan_rules.specs.Reading.{ReadsTo, IsWholeTree, places_read, value_read}
 use Rattle.plan_rules.specs.declared.node.Node.{Node}
 use Rattle.plan_rules.specs.declared.node.Node.TheVariants.{Branch, Leaf, Dead}
 use Rattle.plan_rules.proofs.lemmas.PlanLemmas.{held_is_lawful}
@@ -19,7 +19,7 @@ use Rattle.plan_rules.proofs.lemmas.UsableLemmas.{Agree, agree_back, leaf_value_
 use Rattle.std.proofs.lemmas.Bool.{both_ways}
 use Rattle.plan_rules.specs.Size.{IsSmallSum}
 use Rattle.assignment_search.specs.Growth.{IsWorthBranching, IsGoodLeaf, IsGoodNode, IsGrown, HasUsable, IsFixed, IsSolePlan, IsLowest, HasLeaf, IsNewLeaf, IsNewEnd, choice_count}
-use Rattle.assignment_search.specs.Found.{IsAtLeastFirstFit, IsBranchJustified, IsRightPlan, IsAnswer, IsTreeSoFar, Shows}
+use Rattle.assignment_search.specs.Found.{IsAtLeastFirstFit, IsBranchJustified, IsRightPlan, IsSearchAnswer, IsTreeSoFar, Shows}
 use Rattle.assignment_search.specs.Next.{IsParting, IsPartedAt, IsNext}
 use Rattle.assignment_search.specs.declared.parting.Ends.{Ends}
 use Rattle.assignment_search.specs.declared.step.Outcome.{Outcome}
@@ -123,7 +123,7 @@ parent_sized g low limit nodes values place ms grown lowest is =
     ap (λ (xs : List ℤ). length xs) same ∙ (leaf_here g low limit nodes values place s lowest).sized
 
 -- where a walk came to the leaf, these are the rows that may be chosen
-stands_at : (g : Graph) (low : ℤ) (limit : ℕ) (nodes : List Node) (values : List ℤ) (place : ℕ) (u : Usable) (later : List Usable) (s : IsSplit g low limit (every_row ∷ []) nodes values [] place) → Reads g (every_row ∷ []) (take place nodes) (u ∷ later) → u ≡ s.usable
+stands_at : (g : Graph) (low : ℤ) (limit : ℕ) (nodes : List Node) (values : List ℤ) (place : ℕ) (u : Usable) (later : List Usable) (s : IsSplit g low limit (every_row ∷ []) nodes values [] place) → ReadsTo g (every_row ∷ []) (take place nodes) (u ∷ later) → u ≡ s.usable
 stands_at g low limit nodes values place u later s reads =
     head_is u s.usable later s.later
     (reads_unique g (take place nodes) (every_row ∷ []) (u ∷ later) (s.usable ∷ s.later) reads
@@ -167,7 +167,7 @@ so_far_grow g budget limit nodes values place ends new news t lowest parted room
 -- ---- a leaf where no vehicle has a choice, and one where the budget is spent
 
 module _ (g : Graph) (limit place : ℕ) (nodes : List Node) (values : List ℤ) (u : Usable) (later : List Usable) (allowed : List Bool) (good : IsGoodGraph g) (lowest : IsLowest nodes values place)
-    (grown : IsGrown g (rounded_up (get_or values place (pos 0))) limit (every_row ∷ []) nodes values []) (reads : Reads g (every_row ∷ []) (take place nodes) (u ∷ later)) (agree : Agree g (usable_of allowed) u) where
+    (grown : IsGrown g (rounded_up (get_or values place (pos 0))) limit (every_row ∷ []) nodes values []) (reads : ReadsTo g (every_row ∷ []) (take place nodes) (u ∷ later)) (agree : Agree g (usable_of allowed) u) where
   pub fixed_answer : (chosen : List (Option ℕ)) → IsFixed g (usable_of allowed) → length chosen ≡ g.vehicles → IsSolePlan g (usable_of allowed) chosen → IsLawful g chosen × (pos (cost_of g chosen) ≤ℤ rounded_up (get_or values place (pos 0)))
   fixed_answer chosen fixed sized sole =
       let low = rounded_up (get_or values place (pos 0)) in
@@ -230,13 +230,13 @@ shown_of g low limit nodes values held greedy is grown =
       leaves = subst (λ (ps : List Place). All (λ p. IsAtLeastFirstFit g p.usable p.node) ps) same
           (All-from_recursion (λ (p : Place). IsAtLeastFirstFit g p.usable p.node) (places_read g nodes) (leaves_fit g low limit nodes values (every_row ∷ []) [] grown));
       branches = subst (λ (ps : List Place). All (λ p. IsBranchJustified g low p.usable p.node) ps) same
-          (All-from_recursion (λ (p : Place). IsBranchJustified g low p.usable p.node) (places_read g nodes) (branches_justified g low limit held greedy nodes values (every_row ∷ []) [] grown))
+          (All-from_recursion (λ (p : Place). IsBranchJustified g low p.usable p.node) (places_read g nodes) (branches_justified g low limit held greedy nodes values (every_row ∷ []) [] grown));
     }
 
 answer_of : (g : Graph) (budget limit place : ℕ) (plan : List (Option ℕ)) (cost : ℕ) (nodes : List Node) (values : List ℤ) → IsGoodGraph g → IsTreeSoFar g budget limit nodes values → IsLowest nodes values place
     → limit ≤ cost_of g g.held → ((chosen : List (Option ℕ)) → IsGreedy g chosen → IsLawful g chosen → limit ≤ cost_of g chosen) → IsRightPlan g plan cost
     → (pos cost ≤ℤ rounded_up (get_or values place (pos 0))) ⊎ ((budget < length nodes + 2) × (budget < 2 * choice_count g every_row))
-    → IsAnswer g budget (record { plan = plan; cost = cost; bound = rounded_up (get_or values place (pos 0)); tree = nodes })
+    → IsSearchAnswer g budget (record { plan = plan; cost = cost; bound = rounded_up (get_or values place (pos 0)); tree = nodes })
 answer_of g budget limit place plan cost nodes values good t lowest held greedy right done =
     let low = rounded_up (get_or values place (pos 0)) in
     let grown : IsGrown g low limit (every_row ∷ []) nodes values [] = so_far_raised g budget limit nodes values place t lowest in
@@ -266,8 +266,8 @@ answer_of g budget limit place plan cost nodes values good t lowest held greedy 
 pub answer : (g : Graph) (budget limit place : ℕ) (plan : List (Option ℕ)) (cost : ℕ) (nodes : List Node) (values : List ℤ) (bound : ℤ) (tree : List Node) → IsGoodGraph g → IsTreeSoFar g budget limit nodes values → IsLowest nodes values place
     → limit ≤ cost_of g g.held → ((chosen : List (Option ℕ)) → IsGreedy g chosen → IsLawful g chosen → limit ≤ cost_of g chosen) → IsRightPlan g plan cost
     → (pos cost ≤ℤ rounded_up (get_or values place (pos 0))) ⊎ ((budget < length nodes + 2) × (budget < 2 * choice_count g every_row))
-    → bound ≡ rounded_up (get_or values place (pos 0)) → tree ≡ nodes → IsAnswer g budget (record { plan = plan; cost = cost; bound = bound; tree = tree })
+    → bound ≡ rounded_up (get_or values place (pos 0)) → tree ≡ nodes → IsSearchAnswer g budget (record { plan = plan; cost = cost; bound = bound; tree = tree })
 answer g budget limit place plan cost nodes values bound tree good t lowest held greedy right done is same =
-    subst (λ (z : ℤ). IsAnswer g budget (record { plan = plan; cost = cost; bound = z; tree = tree })) (sym is)
-    (subst (λ (ns : List Node). IsAnswer g budget (record { plan = plan; cost = cost; bound = rounded_up (get_or values place (pos 0)); tree = ns })) (sym same)
+    subst (λ (z : ℤ). IsSearchAnswer g budget (record { plan = plan; cost = cost; bound = z; tree = tree })) (sym is)
+    (subst (λ (ns : List Node). IsSearchAnswer g budget (record { plan = plan; cost = cost; bound = rounded_up (get_or values place (pos 0)); tree = ns })) (sym same)
     (answer_of g budget limit place plan cost nodes values good t lowest held greedy right done))

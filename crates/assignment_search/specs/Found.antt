@@ -46,7 +46,7 @@ pub record Shows (g : Graph) (bound : ℤ) (nodes : List Node) : Type 0 where
   pub branches : All (λ p. IsBranchJustified g bound p.usable p.node) (places g tree)
 
 -- what a search finds with this budget
-pub record IsAnswer (g : Graph) (budget : ℕ) (found : Found) : Type 0 where
+pub record IsSearchAnswer (g : Graph) (budget : ℕ) (found : Found) : Type 0 where
   pub plan : IsRightPlan g found.plan found.cost
   pub nodes : length found.tree ≤ budget
   pub shown : Shows g found.bound found.tree

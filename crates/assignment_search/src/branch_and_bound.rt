@@ -5,7 +5,7 @@ ghost use Rattle.plan_rules.specs.Greedy.{IsGreedy};
 ghost use Rattle.plan_rules.specs.Multipliers.{first_fit_value};
 ghost use Rattle.plan_rules.specs.Tree.{every_row, rounded_up};
 ghost use Rattle.assignment_search.specs.Change.{HasNoBetterChange};
-ghost use Rattle.assignment_search.specs.Found.{Shows, IsAnswer};
+ghost use Rattle.assignment_search.specs.Found.{Shows, IsSearchAnswer};
 ghost use Rattle.assignment_search.specs.Growth.{choice_count};
 
 use crate::exchange::exchange;
@@ -42,7 +42,7 @@ pub fn search(alloc: Global, graph: &TripGraph, budget: u32) -> Result<Found, Ou
 
 fn run(alloc: Global, graph: &TripGraph, budget: u32) -> Result<Found, OutOfMemory>
     requires { 1 ≤ budget }
-    ensures { IfOk result (IsAnswer graph.now budget) }
+    ensures { IfOk result (IsSearchAnswer graph.now budget) }
 {
     let mut plan = first_plan(alloc, graph)?;
     let mut limit = cost_of(graph, &plan);

@@ -3,7 +3,7 @@ use Rattle.std.specs.Prelude.{◌≡◌, ◌==◌, ℕ, ◌<◌, Bool, false, �
 use Rattle.std.specs.Option.{option_map_or}
 use Rattle.std.specs.List.{range_with_len}
 use Rattle.plan_rules.specs.Graph.{Graph, choice_at, riders_at}
-use Rattle.rebalancing.specs.Matching.{IsBestMatching, seconds_of}
+use Rattle.rebalancing.specs.Matching.{IsBestMatching, pair_seconds}
 use Rattle.request_book.specs.declared.outcome.MoveLine.{MoveLine}
 use Rattle.stop_orders.specs.Settled.{vehicle_at, rider_at}
 use Rattle.stop_orders.specs.declared.settled.Settled.{Settled}
@@ -24,7 +24,7 @@ abbrev pub move_line : (ℕ → ℕ → ℕ) → Settled → List ℕ → List �
 move_line tau settled idle left pair = record {
   vehicle = vehicle_id settled (slice_index idle pair.0);
   rider = rider_id settled (slice_index left pair.1);
-  seconds = seconds_of tau (map (λ v. (vehicle_at settled v).start) idle) (map (λ r. (rider_at settled r).leg.origin) left) pair;
+  seconds = pair_seconds tau (map (λ v. (vehicle_at settled v).start) idle) (map (λ r. (rider_at settled r).leg.origin) left) pair;
 }
 
 -- a best matching of idle vehicles to riders who were left out, by vehicle

@@ -1,6 +1,6 @@
 -- When the outcome of a batch is good.
 use Rattle.std.specs.Prelude.{◌≡◌, ℕ, List, Option, map, filter}
-use Rattle.assignment_search.specs.Found.{IsAnswer}
+use Rattle.assignment_search.specs.Found.{IsSearchAnswer}
 use Rattle.batch_snapshot.specs.Batch.{Batch}
 use Rattle.batch_snapshot.specs.Points.{ArePoints}
 use Rattle.pair_graph.specs.RrGraph.{IsRrGraph}
@@ -30,7 +30,7 @@ pub record IsGoodPlan (settings : Settings) (points : List ℕ) (tau : ℕ → �
   pub graph : Graph
   pub chosen : List (Option ℕ)
   pub exact : IsTripGraphOf settings tau settled graph
-  pub found : IsAnswer graph settings.budget (record { plan = chosen; cost = planned.cost; bound = planned.bound; tree = planned.tree })
+  pub found : IsSearchAnswer graph settings.budget (record { plan = chosen; cost = planned.cost; bound = planned.bound; tree = planned.tree })
   pub bound : IsBound graph planned.bound
   pub lapsed : planned.lapsed ≡ map (λ r. r.id) (filter (λ r. r.lapsed) settled.riders)
   pub late : AreLate points tau settled planned.late

@@ -3,7 +3,7 @@ use Rattle.std.proofs.Common.{◌≡◌, ◌≢◌, ◌==◌, ◌⊎◌, ◌||�
 use Rattle.std.specs.List.{list_any}
 use Rattle.std.proofs.lemmas.Bool.{cases_eq, cases_lt, or_cases, or_left, or_right, both_ways}
 use Rattle.std.proofs.lemmas.List.{get_or_past}
-use Rattle.plan_rules.specs.Graph.{Graph, row_at, riders_at, vehicle_at, has_rider, choice_at, must_be_served, times_served, IsRow, IsRowOf, IsGoodGraph}
+use Rattle.plan_rules.specs.Graph.{Graph, row_at, riders_at, row_vehicle, has_rider, choice_at, must_be_served, times_served, IsGraphRow, IsRowOf, IsGoodGraph}
 use Rattle.plan_rules.specs.Multipliers.{Usable}
 use Rattle.plan_rules.specs.Tree.{MayUse, IsSoleRow, IsClash, IsStranded, IsDeadEnd}
 use Rattle.plan_rules.proofs.lemmas.GraphLemmas.{has, rider_below, in_choice, times_served_found}
@@ -31,7 +31,7 @@ marks_old g k old new r adds e =
     (λ (high : length old ≤ r). absurd (both_ways false refl (sym (get_or_past old r false high) ∙ e)))
     (cases_lt r (length old))
 
-pub marks_new : (g : Graph) (k : ℕ) (old new : List Bool) (r : ℕ) → AddsRow g k old new → length old ≡ g.riders → IsRow g.vehicles g.riders (row_at g k) → has_rider g k r ≡ true → get_or new r false ≡ true
+pub marks_new : (g : Graph) (k : ℕ) (old new : List Bool) (r : ℕ) → AddsRow g k old new → length old ≡ g.riders → IsGraphRow g.vehicles g.riders (row_at g k) → has_rider g k r ≡ true → get_or new r false ≡ true
 marks_new g k old new r adds sized row e =
     let low : r < g.riders = rider_below g k r row e in
     adds.marked r (omega (arith, low, sized)) ∙ or_right (get_or old r false) (has_rider g k r) e
@@ -44,7 +44,7 @@ usable_none g usable marks clear = record {
   of_row = λ k r l may e. absurd (omega (arith, l));
 }
 
-pub usable_more : (g : Graph) (usable : Usable) (n : ℕ) (old new : List Bool) → AddsRow g n old new → length old ≡ g.riders → IsRow g.vehicles g.riders (row_at g n) → usable n ≡ true → MarksUsable g usable n old → MarksUsable g usable (n + 1) new
+pub usable_more : (g : Graph) (usable : Usable) (n : ℕ) (old new : List Bool) → AddsRow g n old new → length old ≡ g.riders → IsGraphRow g.vehicles g.riders (row_at g n) → usable n ≡ true → MarksUsable g usable n old → MarksUsable g usable (n + 1) new
 usable_more g usable n old new adds sized row may before = record {
   from_row = λ r e.
       ⊎_elim
@@ -110,7 +110,7 @@ sole_kept g usable n marks none before = record {
       (cases_eq v n);
 }
 
-pub sole_more : (g : Graph) (usable : Usable) (n k : ℕ) (old new : List Bool) → AddsRow g k old new → length old ≡ g.riders → IsRow g.vehicles g.riders (row_at g k) → IsSoleRow g usable n k → (list_any (λ q. get_or old q false) (riders_at g k) ≡ false) → MarksSole g usable n old → MarksSole g usable (n + 1) new
+pub sole_more : (g : Graph) (usable : Usable) (n k : ℕ) (old new : List Bool) → AddsRow g k old new → length old ≡ g.riders → IsGraphRow g.vehicles g.riders (row_at g k) → IsSoleRow g usable n k → (list_any (λ q. get_or old q false) (riders_at g k) ≡ false) → MarksSole g usable n old → MarksSole g usable (n + 1) new
 sole_more g usable n k old new adds sized row here unmarked before = record {
   from_sole = λ r e.
       ⊎_elim
@@ -167,6 +167,6 @@ no_clash g usable marks good marked c =
   where
     low : (v k : ℕ) → IsRowOf g v k → v < g.vehicles
     low v k row =
-        let below : vehicle_at g k < g.vehicles = (good.rows k row.within).vehicle in
-        let own : vehicle_at g k ≡ v = row.own in
+        let below : row_vehicle g k < g.vehicles = (good.rows k row.within).vehicle in
+        let own : row_vehicle g k ≡ v = row.own in
         omega arith

@@ -19,14 +19,14 @@ coming_after g usable (Leaf ms) coming = coming
 coming_after g usable Dead coming = coming
 
 -- the nodes are sound, one after another, from where these subtrees are to come to where those are
-abbrev pub Reads : Graph → List Usable → List Node → List Usable → Type 0
-Reads g coming [] rest = coming ≡ rest
-Reads g [] (n ∷ nodes) rest = ⊥
-Reads g (usable ∷ coming) (n ∷ nodes) rest = IsSoundNode g usable n × Reads g (coming_after g usable n coming) nodes rest
+abbrev pub ReadsTo : Graph → List Usable → List Node → List Usable → Type 0
+ReadsTo g coming [] rest = coming ≡ rest
+ReadsTo g [] (n ∷ nodes) rest = ⊥
+ReadsTo g (usable ∷ coming) (n ∷ nodes) rest = IsSoundNode g usable n × ReadsTo g (coming_after g usable n coming) nodes rest
 
 -- the nodes are a sound tree in preorder, which ends with the list
 abbrev pub IsWholeTree : Graph → List Node → Type 0
-IsWholeTree g nodes = Reads g (every_row ∷ []) nodes []
+IsWholeTree g nodes = ReadsTo g (every_row ∷ []) nodes []
 
 -- each node with the rows that may be chosen there
 abbrev pub places_from : Graph → List Usable → List Node → List Place

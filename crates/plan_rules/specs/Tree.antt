@@ -1,6 +1,6 @@
 use Rattle.std.specs.Prelude.{◌≡◌, ◌≢◌, ◌==◌, ◌&&◌, ◌||◌, not, ◌⊎◌, ℕ, suc, ◌+◌, ◌/◌, ◌<◌, Bool, true, false, IsTrue, List, [], ◌∷◌, ◌++◌, length, Option, Some, None, unwrap_or, ℤ, pos, negsuc, neg_ℤ, All}
 use Rattle.plan_rules.specs.Sums.{all_below, lesser}
-use Rattle.plan_rules.specs.Graph.{Graph, IsRowOf, vehicle_at, has_rider, must_be_served, choice_at}
+use Rattle.plan_rules.specs.Graph.{Graph, IsRowOf, row_vehicle, has_rider, must_be_served, choice_at}
 use Rattle.plan_rules.specs.Multipliers.{Usable, leaf_value}
 use Rattle.plan_rules.specs.declared.node.Node.{Node}
 use Rattle.plan_rules.specs.declared.node.Node.TheVariants.{Branch, Leaf, Dead}
@@ -11,7 +11,7 @@ every_row = λ _. true
 
 -- of the vehicle's rows only this one may be chosen
 abbrev pub only_row : Graph → Usable → ℕ → ℕ → Usable
-only_row g usable v k = λ j. usable j && (not (vehicle_at g j == v) || j == k)
+only_row g usable v k = λ j. usable j && (not (row_vehicle g j == v) || j == k)
 
 -- this row may not be chosen
 abbrev pub without_row : Usable → ℕ → Usable

@@ -1,7 +1,7 @@
 //! Leaf values, in 1/1024 second.
 ghost use Rattle.std.specs.Prelude.{◌≡◌, ◌+◌, ◌*◌, ◌<◌, ◌≤◌, ℕ, All, IfSome, length, ℤ, pos, neg_ℤ, ◌≤ℤ◌, Option};
 ghost use Rattle.plan_rules.specs.Sums.{int_sum_below, lesser};
-ghost use Rattle.plan_rules.specs.Graph.{IsRow};
+ghost use Rattle.plan_rules.specs.Graph.{IsGraphRow};
 ghost use Rattle.plan_rules.specs.Multipliers.{usable_of, leaf_value, vehicle_term, rider_term, multiplier_sum};
 ghost use Rattle.plan_rules.specs.Tree.{rounded_up};
 ghost use Rattle.plan_rules.specs.Size.{IsSmall, IsSmallSum, reduced_cost_of};

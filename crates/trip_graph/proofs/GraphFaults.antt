@@ -15,7 +15,7 @@ use Rattle.plan_rules.specs.declared.row.TripRow.{TripRow}
 use Rattle.plan_rules.specs.declared.fault.GraphFault.{GraphFault}
 use Rattle.plan_rules.specs.declared.fault.GraphFault.TheVariants.{Range, Order, Held, OutOfMemory}
 use Rattle.plan_rules.specs.Graph.{Graph, no_row, choice_at, riders_at, has_rider, times_served, HoldsRightly}
-use Rattle.plan_rules.specs.GraphFault.{HasGoodRows, HasRowsInOrder, HasHeldRows, IsFaultOf}
+use Rattle.plan_rules.specs.GraphFault.{HasGoodRows, HasRowsInOrder, HasHeldRows, IsGraphFault}
 use Rattle.plan_rules.proofs.lemmas.GraphLemmas.{tail_rises, times_served_found, in_choice}
 use Rattle.plan_rules.proofs.lemmas.HeldLemmas.{holds_at}
 use Rattle.trip_graph.specs.Answer.{IsRowWith, HoldRows}
@@ -96,7 +96,7 @@ module _ (most points : ℕ) (tau : ℕ → ℕ → ℕ) (settled : Settled) (su
     }
 
 -- what may be wrong where rows are good, in order, and held rightly
-only_memory : (g : Graph) (fault : GraphFault) → HasGoodRows g → HasRowsInOrder g → HasHeldRows g → IsFaultOf g fault → fault ≡ OutOfMemory
+only_memory : (g : Graph) (fault : GraphFault) → HasGoodRows g → HasRowsInOrder g → HasHeldRows g → IsGraphFault g fault → fault ≡ OutOfMemory
 only_memory g (Range row) rows order held h = absurd (h.wrong (rows row h.within))
 only_memory g (Order row) rows order held h = absurd (h.first.wrong (order h.first.previous (let n = h.first.next in let w = h.first.within in omega arith)))
 only_memory g (Held vehicle) rows order held (inl h) = absurd (h.wrong (held.holds vehicle (let w = h.within in omega arith)))
@@ -106,7 +106,7 @@ only_memory g OutOfMemory rows order held h = refl
 -- want of memory alone keeps such a graph from being made
 pub memory_only : (most points : ℕ) (tau : ℕ → ℕ → ℕ) (settled : Settled) → SubTripsAreServable → DelaysAreSmall → most ≤ 6 → IsTravelTime points tau → IsSound most points tau settled
     → (g : Graph) → g.vehicles ≡ length settled.vehicles → g.riders ≡ length settled.riders → AreRowsUpTo most tau settled (length settled.vehicles) g.rows
-    → HoldRows settled (length settled.vehicles) g.rows g.held → AreInOrder g.rows → (fault : GraphFault) → IsFaultOf g fault → fault ≡ OutOfMemory
+    → HoldRows settled (length settled.vehicles) g.rows g.held → AreInOrder g.rows → (fault : GraphFault) → IsGraphFault g fault → fault ≡ OutOfMemory
 memory_only most points tau settled subs delays few travel sound g vehicles riders exact hold order fault h =
     only_memory g fault (good_rows most points tau settled subs delays few travel sound g vehicles riders exact hold)
     (rows_in_order most points tau settled subs delays few travel sound g vehicles riders exact hold order)

@@ -6,7 +6,7 @@ use Rattle.std.specs.List.Sorted.{IsStrictlyIncreasing}
 use Rattle.std.proofs.lemmas.Int.{ints, int_min_is}
 use Rattle.std.proofs.lemmas.Bool.{cases_eq, cases_Bool, and_from, and_parts, both_ways, cond-true, cond-false}
 use Rattle.plan_rules.specs.Sums.{sum_below, count_below, all_below, int_sum_below, least_below}
-use Rattle.plan_rules.specs.Graph.{Graph, row_at, riders_at, vehicle_at, cost_at, has_rider, IsRowOf, HasNoRow, choice_at, is_in, times_served, must_be_served, IsRow, IsGoodGraph}
+use Rattle.plan_rules.specs.Graph.{Graph, row_at, riders_at, row_vehicle, cost_at, has_rider, IsRowOf, HasNoRow, choice_at, is_in, times_served, must_be_served, IsGraphRow, IsGoodGraph}
 use Rattle.plan_rules.specs.Plan.{IsPlan, IsLawful, times_chosen, choice_cost, left_out, cost_of}
 use Rattle.plan_rules.specs.Multipliers.{Usable, multiplier_at, multiplier_sum, reduced_cost, is_usable_by, vehicle_term, rider_term, leaf_value}
 use Rattle.plan_rules.specs.Tree.{is_choice_usable, is_within}
@@ -37,20 +37,20 @@ at_some : (o : Option ℤ) (z d : ℤ) → o ≡ Some z → unwrap_or o d ≡ z
 at_some o z d e = ap (λ (p : Option ℤ). unwrap_or p d) e
 
 -- a vehicle's term is at most what its usable choice costs, less its riders' multipliers
-vehicle_term_le : (g : Graph) (usable : Usable) (ms : List ℤ) (v : ℕ) (c : Option ℕ) → ((k : ℕ) → k < length g.rows → IsRow g.vehicles g.riders (row_at g k)) → MatchOption c (HasNoRow g v) (IsRowOf g v) → is_choice_usable usable c ≡ true → vehicle_term g usable ms v ≤ℤ (pos (1024 * choice_cost g c) -ℤ riders_give g ms c)
+vehicle_term_le : (g : Graph) (usable : Usable) (ms : List ℤ) (v : ℕ) (c : Option ℕ) → ((k : ℕ) → k < length g.rows → IsGraphRow g.vehicles g.riders (row_at g k)) → MatchOption c (HasNoRow g v) (IsRowOf g v) → is_choice_usable usable c ≡ true → vehicle_term g usable ms v ≤ℤ (pos (1024 * choice_cost g c) -ℤ riders_give g ms c)
 vehicle_term_le g usable ms v None rows own may =
     let none : least_below (length g.rows) (is_usable_by g usable v) (reduced_cost g ms) ≡ None =
     least_below_none (length g.rows) (is_usable_by g usable v) (reduced_cost g ms)
-    (λ k l. foreign k l (vehicle_at g k == v) refl) in
+    (λ k l. foreign k l (row_vehicle g k == v) refl) in
     let term : vehicle_term g usable ms v ≡ pos 0 = ap (λ (p : Option ℤ). unwrap_or p (pos 0)) none in
     let nobody : int_sum_below g.riders (λ r. pos 0) ≡ pos 0 = int_sum_zero g.riders in
     omega (arith, ints)
   where
-    foreign : (k : ℕ) → k < length g.rows → (b : Bool) → (vehicle_at g k == v) ≡ b → is_usable_by g usable v k ≡ false
-    foreign k l true e = absurd (own k (record { within = l; own = eqb-true (vehicle_at g k) v e }))
+    foreign : (k : ℕ) → k < length g.rows → (b : Bool) → (row_vehicle g k == v) ≡ b → is_usable_by g usable v k ≡ false
+    foreign k l true e = absurd (own k (record { within = l; own = eqb-true (row_vehicle g k) v e }))
     foreign k l false e = ap (λ (b : Bool). b && usable k) e
 vehicle_term_le g usable ms v (Some k) rows own may =
-    let passes : is_usable_by g usable v k ≡ true = and_from (vehicle_at g k == v) (usable k) (eq-eqb (vehicle_at g k) v own.own) may in
+    let passes : is_usable_by g usable v k ≡ true = and_from (row_vehicle g k == v) (usable k) (eq-eqb (row_vehicle g k) v own.own) may in
     let w = least_below_some (length g.rows) (is_usable_by g usable v) (reduced_cost g ms) k own.within passes in
     let term : vehicle_term g usable ms v ≡ w.0 = at_some _ (w.0) (pos 0) (w.1) in
     let least : w.0 ≤ℤ reduced_cost g ms k = w.2 in

@@ -7,7 +7,7 @@ use Rattle.std.proofs.lemmas.List.Folds.{list_any_more, list_any_at}
 use Rattle.std.proofs.lemmas.List.{get_or-set_same, get_or-set_other, get_or_past, get_or_default, get_or_read}
 use Rattle.plan_rules.specs.Sums.{count_below}
 use Rattle.plan_rules.specs.declared.row.TripRow.{TripRow}
-use Rattle.plan_rules.specs.Graph.{Graph, no_row, row_at, riders_at, vehicle_at, has_rider, IsRowOf, HasNoRow, choice_at, is_in, times_served, must_be_served, IsRow, AreRisingBelow, IsGoodGraph, HoldsRightly, IsStartOf, ChoosesRows, MarksHeld}
+use Rattle.plan_rules.specs.Graph.{Graph, no_row, row_at, riders_at, row_vehicle, has_rider, IsRowOf, HasNoRow, choice_at, is_in, times_served, must_be_served, IsGraphRow, AreRisingBelow, IsGoodGraph, HoldsRightly, IsStartOf, ChoosesRows, MarksHeld}
 use Rattle.plan_rules.proofs.lemmas.SumLemmas.{flag, flag-le, flag-true, flag-false, count_below_more, count_below_yes, count_below_no, count_below-le, count_below_none, count_below_some, count_below_found}
 
 -- ---- lists of riders
@@ -54,7 +54,7 @@ pub has_at : (xs : List ℕ) (i : ℕ) → i < length xs → has xs (get_or xs i
 has_at xs i l = list_any_at (λ x. x == get_or xs i 0) xs i 0 l (eq-eqb (get_or xs i 0) (get_or xs i 0) refl)
 
 -- a rider of a row is one of the graph's
-pub rider_below : (g : Graph) (k r : ℕ) → IsRow g.vehicles g.riders (row_at g k) → has_rider g k r ≡ true → r < g.riders
+pub rider_below : (g : Graph) (k r : ℕ) → IsGraphRow g.vehicles g.riders (row_at g k) → has_rider g k r ≡ true → r < g.riders
 rider_below g k r row e = has_below g.riders (riders_at g k) r row.members.below e
 
 -- ---- how often a rider is served
@@ -89,7 +89,7 @@ in_choice g None r e = absurd (both_ways false refl e)
 in_choice g (Some k) r e = (k, refl, e)
 
 -- no trip has a rider whom the graph hasn't
-pub times_served_outside : (g : Graph) (chosen : List (Option ℕ)) (n r : ℕ) → ((k : ℕ) → k < length g.rows → IsRow g.vehicles g.riders (row_at g k)) → ((v k : ℕ) → v < n → choice_at chosen v ≡ Some k → k < length g.rows) → g.riders ≤ r → times_served g chosen n r ≡ 0
+pub times_served_outside : (g : Graph) (chosen : List (Option ℕ)) (n r : ℕ) → ((k : ℕ) → k < length g.rows → IsGraphRow g.vehicles g.riders (row_at g k)) → ((v k : ℕ) → v < n → choice_at chosen v ≡ Some k → k < length g.rows) → g.riders ≤ r → times_served g chosen n r ≡ 0
 unfolding times_served
 times_served_outside g chosen n r rows fits out =
     count_below_none n (λ v. is_in g (choice_at chosen v) r)
@@ -107,16 +107,16 @@ times_served_outside g chosen n r rows fits out =
 -- between two starts stand the rows of one vehicle
 pub row_between : (g : Graph) (v k start next : ℕ) → IsStartOf g v start → IsStartOf g (v + 1) next → start ≤ k → k < next → IsRowOf g v k
 row_between g v k start next first second low high =
-    let above : v ≤ vehicle_at g k = first.above k low (omega (arith, second.within)) in
-    let below : vehicle_at g k < v + 1 = second.below k high in
+    let above : v ≤ row_vehicle g k = first.above k low (omega (arith, second.within)) in
+    let below : row_vehicle g k < v + 1 = second.below k high in
     record { within = omega (arith, second.within); own = omega arith }
 
 pub between_row : (g : Graph) (v k start next : ℕ) → IsStartOf g v start → IsStartOf g (v + 1) next → IsRowOf g v k → (start ≤ k) × (k < next)
 between_row g v k start next first second row =
     let within : k < length g.rows = row.within in
-    let own : vehicle_at g k ≡ v = row.own in (
-      ⊎_elim (λ (low : k < start). let wrong : vehicle_at g k < v = first.below k low in absurd (omega arith)) (λ (yes : start ≤ k). yes) (cases_lt k start),
-      ⊎_elim (λ (yes : k < next). yes) (λ (high : next ≤ k). let wrong : v + 1 ≤ vehicle_at g k = second.above k high within in absurd (omega arith)) (cases_lt k next),
+    let own : row_vehicle g k ≡ v = row.own in (
+      ⊎_elim (λ (low : k < start). let wrong : row_vehicle g k < v = first.below k low in absurd (omega arith)) (λ (yes : start ≤ k). yes) (cases_lt k start),
+      ⊎_elim (λ (yes : k < next). yes) (λ (high : next ≤ k). let wrong : v + 1 ≤ row_vehicle g k = second.above k high within in absurd (omega arith)) (cases_lt k next),
     )
 
 pub no_row_between : (g : Graph) (v start : ℕ) → IsStartOf g v start → IsStartOf g (v + 1) start → HasNoRow g v
@@ -132,8 +132,8 @@ starts_meet g v start next first second none =
     (λ (high : next ≤ start).
     ⊎_elim
     (λ (cross : next < start).
-    let below : vehicle_at g next < v = first.below next cross in
-    let above : v + 1 ≤ vehicle_at g next = second.above next (omega arith) (omega (arith, first.within)) in
+    let below : row_vehicle g next < v = first.below next cross in
+    let above : v + 1 ≤ row_vehicle g next = second.above next (omega arith) (omega (arith, first.within)) in
     absurd (omega arith))
     (λ (low : start ≤ next). omega arith)
     (cases_lt next start))

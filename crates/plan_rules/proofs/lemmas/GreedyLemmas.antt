@@ -4,7 +4,7 @@ use Rattle.std.specs.List.{list_any}
 use Rattle.std.proofs.lemmas.Bool.{cases_eq, cases_lt, cases_Bool, or_cases, or_left, or_right, both_ways}
 use Rattle.std.proofs.lemmas.List.{get_or-replicate, length-replicate, get_or-set_same, get_or-set_other, get_or_past, get_or_default, length-set}
 use Rattle.std.proofs.lemmas.List.Folds.{list_any_at}
-use Rattle.plan_rules.specs.Graph.{Graph, row_at, riders_at, cost_at, vehicle_at, has_rider, choice_at, IsRowOf, IsRow, IsGoodGraph}
+use Rattle.plan_rules.specs.Graph.{Graph, row_at, riders_at, cost_at, row_vehicle, has_rider, choice_at, IsRowOf, IsGraphRow, IsGoodGraph}
 use Rattle.plan_rules.specs.Greedy.{IsTaken, IsApart, IsTriedBefore, IsGreedy}
 use Rattle.plan_rules.specs.Rank.{rank_value, rank_of, IsRankOfRow, IsSelection, IsInTheWay}
 use Rattle.plan_rules.proofs.lemmas.GraphLemmas.{has, rider_below}
@@ -60,31 +60,31 @@ none_some k e = cc
 
 -- ---- taking a row
 
-module _ (g : Graph) (chosen : List (Option ℕ)) (served : List Bool) (row : ℕ) (good : IsGoodGraph g) (within : row < length g.rows) (selection : IsSelection g chosen served) (free : choice_at chosen (vehicle_at g row) ≡ None) where
-  inside : vehicle_at g row < length chosen
+module _ (g : Graph) (chosen : List (Option ℕ)) (served : List Bool) (row : ℕ) (good : IsGoodGraph g) (within : row < length g.rows) (selection : IsSelection g chosen served) (free : choice_at chosen (row_vehicle g row) ≡ None) where
+  inside : row_vehicle g row < length chosen
   inside =
-      let low : vehicle_at g row < g.vehicles = (good.rows row within).vehicle in
+      let low : row_vehicle g row < g.vehicles = (good.rows row within).vehicle in
       let sized : length chosen ≡ g.vehicles = selection.sized in
       omega arith
 
   -- who is taken has another vehicle
-  other_vehicle : (j : ℕ) → IsTaken g chosen j → vehicle_at g j ≡ vehicle_at g row → ⊥
+  other_vehicle : (j : ℕ) → IsTaken g chosen j → row_vehicle g j ≡ row_vehicle g row → ⊥
   other_vehicle j taken e = none_some j (sym free ∙ ap (choice_at chosen) (sym e) ∙ taken)
 
-  pub taken_stays : (j : ℕ) → IsTaken g chosen j → IsTaken g (set chosen (vehicle_at g row) (Some row)) j
-  taken_stays j taken = get_or-set_other chosen (vehicle_at g row) (vehicle_at g j) (Some row) None (other_vehicle j taken) ∙ taken
+  pub taken_stays : (j : ℕ) → IsTaken g chosen j → IsTaken g (set chosen (row_vehicle g row) (Some row)) j
+  taken_stays j taken = get_or-set_other chosen (row_vehicle g row) (row_vehicle g j) (Some row) None (other_vehicle j taken) ∙ taken
 
-  pub row_taken : IsTaken g (set chosen (vehicle_at g row) (Some row)) row
-  row_taken = get_or-set_same chosen (vehicle_at g row) (Some row) None inside
+  pub row_taken : IsTaken g (set chosen (row_vehicle g row) (Some row)) row
+  row_taken = get_or-set_same chosen (row_vehicle g row) (Some row) None inside
 
-  pub taken_before : (j : ℕ) → IsTaken g (set chosen (vehicle_at g row) (Some row)) j → IsTaken g chosen j ⊎ (j ≡ row)
+  pub taken_before : (j : ℕ) → IsTaken g (set chosen (row_vehicle g row) (Some row)) j → IsTaken g chosen j ⊎ (j ≡ row)
   taken_before j taken =
       ⊎_elim
-      (λ (here : vehicle_at g j ≡ vehicle_at g row).
-      inr (same_some j row (sym taken ∙ ap (choice_at (set chosen (vehicle_at g row) (Some row))) here ∙ row_taken)))
-      (λ (other : vehicle_at g j ≡ vehicle_at g row → ⊥).
-      inl (sym (get_or-set_other chosen (vehicle_at g row) (vehicle_at g j) (Some row) None other) ∙ taken))
-      (cases_eq (vehicle_at g j) (vehicle_at g row))
+      (λ (here : row_vehicle g j ≡ row_vehicle g row).
+      inr (same_some j row (sym taken ∙ ap (choice_at (set chosen (row_vehicle g row) (Some row))) here ∙ row_taken)))
+      (λ (other : row_vehicle g j ≡ row_vehicle g row → ⊥).
+      inl (sym (get_or-set_other chosen (row_vehicle g row) (row_vehicle g j) (Some row) None other) ∙ taken))
+      (cases_eq (row_vehicle g j) (row_vehicle g row))
 
   -- a row that is taken is apart from one with no marked rider
   pub new_apart : (list_any (λ r. get_or served r false) (riders_at g row) ≡ false) → (j : ℕ) → j < length g.rows → IsTaken g chosen j → IsApart g j row
@@ -100,18 +100,18 @@ module _ (g : Graph) (chosen : List (Option ℕ)) (served : List Bool) (row : �
 
   pub selection_more : (list_any (λ r. get_or served r false) (riders_at g row) ≡ false) → (marks : List Bool) → length marks ≡ length served
       → ((r : ℕ) → r < length served → get_or marks r false ≡ (get_or served r false || has_rider g row r))
-      → IsSelection g (set chosen (vehicle_at g row) (Some row)) marks
+      → IsSelection g (set chosen (row_vehicle g row) (Some row)) marks
   selection_more unmarked marks len marked = record {
-    sized = length-set chosen (vehicle_at g row) (Some row) ∙ selection.sized;
+    sized = length-set chosen (row_vehicle g row) (Some row) ∙ selection.sized;
     marked = len ∙ selection.marked;
     own = λ v k low e.
         ⊎_elim
-        (λ (here : v ≡ vehicle_at g row).
-        let same : k ≡ row = same_some k row (sym e ∙ ap (choice_at (set chosen (vehicle_at g row) (Some row))) here ∙ row_taken) in
-        record { within = subst (λ (q : ℕ). q < length g.rows) (sym same) within; own = ap (vehicle_at g) same ∙ sym here })
-        (λ (other : v ≡ vehicle_at g row → ⊥).
-        selection.own v k low (sym (get_or-set_other chosen (vehicle_at g row) v (Some row) None other) ∙ e))
-        (cases_eq v (vehicle_at g row));
+        (λ (here : v ≡ row_vehicle g row).
+        let same : k ≡ row = same_some k row (sym e ∙ ap (choice_at (set chosen (row_vehicle g row) (Some row))) here ∙ row_taken) in
+        record { within = subst (λ (q : ℕ). q < length g.rows) (sym same) within; own = ap (row_vehicle g) same ∙ sym here })
+        (λ (other : v ≡ row_vehicle g row → ⊥).
+        selection.own v k low (sym (get_or-set_other chosen (row_vehicle g row) v (Some row) None other) ∙ e))
+        (cases_eq v (row_vehicle g row));
     apart = λ j k lj lk ne a b.
         ⊎_elim
         (λ (old_j : IsTaken g chosen j).
@@ -148,10 +148,10 @@ module _ (g : Graph) (chosen : List (Option ℕ)) (served : List Bool) (row : �
   }
 
 -- a vehicle that has a row already, or a rider of the row who is served already, is in the way
-pub way_by_vehicle : (g : Graph) (chosen : List (Option ℕ)) (served : List Bool) (row k : ℕ) → IsGoodGraph g → row < length g.rows → IsSelection g chosen served → choice_at chosen (vehicle_at g row) ≡ Some k → IsInTheWay g chosen row
+pub way_by_vehicle : (g : Graph) (chosen : List (Option ℕ)) (served : List Bool) (row k : ℕ) → IsGoodGraph g → row < length g.rows → IsSelection g chosen served → choice_at chosen (row_vehicle g row) ≡ Some k → IsInTheWay g chosen row
 way_by_vehicle g chosen served row k good within selection e =
-    let low : vehicle_at g row < g.vehicles = (good.rows row within).vehicle in
-    let own = selection.own (vehicle_at g row) k low e in
+    let low : row_vehicle g row < g.vehicles = (good.rows row within).vehicle in
+    let own = selection.own (row_vehicle g row) k low e in
     record {
       other = k;
       within = own.within;
@@ -215,7 +215,7 @@ unmarked n r =
     (cases_lt r n)
 
 pub none_taken : (g : Graph) (n k : ℕ) → IsTaken g (replicate n None) k → ⊥
-none_taken g n k taken = none_some k (sym (nothing n (vehicle_at g k)) ∙ taken)
+none_taken g n k taken = none_some k (sym (nothing n (row_vehicle g k)) ∙ taken)
 
 pub selection_none : (g : Graph) → IsSelection g (replicate g.vehicles None) (replicate g.riders false)
 selection_none g = record {

@@ -3,7 +3,7 @@ use Rattle.std.proofs.Common.{◌≡◌, ◌≢◌, ◌==◌, ◌⊎◌, ◌||�
 use Rattle.std.specs.List.{list_any}
 use Rattle.std.proofs.lemmas.Bool.{cases_eq, cases_lt, cases_Bool, both_ways}
 use Rattle.std.proofs.lemmas.List.{get_or-replicate, length-replicate}
-use Rattle.plan_rules.specs.Graph.{Graph, row_at, riders_at, has_rider, IsRowOf, HasNoRow, choice_at, is_in, times_served, IsRow, HoldsRightly, MarksHeld}
+use Rattle.plan_rules.specs.Graph.{Graph, row_at, riders_at, has_rider, IsRowOf, HasNoRow, choice_at, is_in, times_served, IsGraphRow, HoldsRightly, MarksHeld}
 use Rattle.plan_rules.proofs.lemmas.SumLemmas.{flag, flag-true, flag-false}
 use Rattle.plan_rules.proofs.lemmas.GraphLemmas.{has, rider_below, times_served_more, times_served_none}
 use Rattle.plan_rules.proofs.lemmas.MarkLemmas.{any_marked, marked_one}
@@ -63,7 +63,7 @@ marks_kept g n marks before none =
     same false = refl
 
 -- no rider of the row is held by an earlier vehicle, where none is marked
-pub unmarked_apart : (g : Graph) (n k : ℕ) (marks : List Bool) → MarksHeld g n marks → IsRow g.vehicles g.riders (row_at g k) → list_any (λ q. get_or marks q false) (riders_at g k) ≡ false → (r : ℕ) → has_rider g k r ≡ true → times_served g g.held n r ≡ 0
+pub unmarked_apart : (g : Graph) (n k : ℕ) (marks : List Bool) → MarksHeld g n marks → IsGraphRow g.vehicles g.riders (row_at g k) → list_any (λ q. get_or marks q false) (riders_at g k) ≡ false → (r : ℕ) → has_rider g k r ≡ true → times_served g g.held n r ≡ 0
 unmarked_apart g n k marks before row none r e =
     ⊎_elim
     (λ (yes : get_or marks r false ≡ true). absurd (both_ways _ none (any_marked marks (riders_at g k) r e yes)))
@@ -74,7 +74,7 @@ unmarked_apart g n k marks before row none r e =
     (cases_Bool (get_or marks r false))
 
 -- where one is marked, an earlier vehicle holds a rider of the row
-pub marked_held : (g : Graph) (n k : ℕ) (marks : List Bool) → MarksHeld g n marks → IsRow g.vehicles g.riders (row_at g k) → list_any (λ q. get_or marks q false) (riders_at g k) ≡ true → ((r : ℕ) → has_rider g k r ≡ true → times_served g g.held n r ≡ 0) → ⊥
+pub marked_held : (g : Graph) (n k : ℕ) (marks : List Bool) → MarksHeld g n marks → IsGraphRow g.vehicles g.riders (row_at g k) → list_any (λ q. get_or marks q false) (riders_at g k) ≡ true → ((r : ℕ) → has_rider g k r ≡ true → times_served g g.held n r ≡ 0) → ⊥
 marked_held g n k marks before row some apart =
     let w = marked_one marks (riders_at g k) some in
     let low : w.0 < g.riders = rider_below g k (w.0) row (w.1) in

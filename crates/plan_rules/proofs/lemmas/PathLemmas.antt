@@ -3,7 +3,7 @@ use Rattle.std.proofs.Common.{◌≡◌, ◌≢◌, ◌==◌, ◌⊎◌, ◌&&�
 use Rattle.std.proofs.lemmas.Bool.{cases_eq, and_right, cond-true, cond-false}
 use Rattle.std.proofs.lemmas.List.{take_more, take_all, set_at, length-take-le, get_or-take, get_or_default, get_or-set_same, get_or-set_other}
 use Rattle.std.proofs.lemmas.List.Sums.{fold_more, fold_push}
-use Rattle.plan_rules.specs.Graph.{Graph, vehicle_at}
+use Rattle.plan_rules.specs.Graph.{Graph, row_vehicle}
 use Rattle.plan_rules.specs.Multipliers.{Usable}
 use Rattle.plan_rules.specs.Tree.{every_row, only_row, without_row}
 use Rattle.plan_rules.specs.Path.{Standing, root, decided, standing_of}
@@ -42,7 +42,7 @@ coming_kept g path low (suc n) l h =
     ap (λ (m : ℕ). (standing_of g (take m path)).coming) e ∙ ap (λ (s : Standing). s.coming) more ∙ kept ∙ before
 
 -- what a decision leaves usable
-pub usable_alone : (g : Graph) (s : Standing) (d : Decision) (k : ℕ) → d.alone ≡ true → (decided g s d).usable k ≡ (s.usable k && (not (vehicle_at g k == d.vehicle) || k == d.row))
+pub usable_alone : (g : Graph) (s : Standing) (d : Decision) (k : ℕ) → d.alone ≡ true → (decided g s d).usable k ≡ (s.usable k && (not (row_vehicle g k == d.vehicle) || k == d.row))
 usable_alone g s d k e =
     let first : Standing = record { usable = only_row g s.usable d.vehicle d.row; coming = without_row s.usable d.row ∷ s.coming } in
     let second : Standing = record { usable = without_row s.usable d.row; coming = s.coming } in
@@ -74,11 +74,11 @@ coming_next g path d e =
 -- what the marks say one decision on
 pub along_alone : (g : Graph) (path : List Decision) (i n : ℕ) (d : Decision) (old new : List Bool) → i < length path → (get_or path i d).alone ≡ true
     → ((k : ℕ) → k < n → get_or old k false ≡ (standing_of g (take i path)).usable k)
-    → ((k : ℕ) → k < n → get_or new k false ≡ (get_or old k false && (not (vehicle_at g k == (get_or path i d).vehicle) || k == (get_or path i d).row)))
+    → ((k : ℕ) → k < n → get_or new k false ≡ (get_or old k false && (not (row_vehicle g k == (get_or path i d).vehicle) || k == (get_or path i d).row)))
     → (k : ℕ) → k < n → get_or new k false ≡ (standing_of g (take (i + 1) path)).usable k
 along_alone g path i n d old new l e before now k low =
     now k low
-    ∙ ap (λ (b : Bool). b && (not (vehicle_at g k == (get_or path i d).vehicle) || k == (get_or path i d).row)) (before k low)
+    ∙ ap (λ (b : Bool). b && (not (row_vehicle g k == (get_or path i d).vehicle) || k == (get_or path i d).row)) (before k low)
     ∙ sym (usable_alone g (standing_of g (take i path)) (get_or path i d) k e)
     ∙ sym (ap (λ (s : Standing). s.usable k) (standing_more g path i d l))
 

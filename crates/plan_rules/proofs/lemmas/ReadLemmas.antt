@@ -6,27 +6,27 @@ use Rattle.plan_rules.specs.Sums.{lesser}
 use Rattle.plan_rules.specs.Graph.{Graph}
 use Rattle.plan_rules.specs.Multipliers.{Usable, leaf_value}
 use Rattle.plan_rules.specs.Tree.{Place, rounded_up, with_leaf, least_leaf}
-use Rattle.plan_rules.specs.Reading.{IsSoundNode, coming_after, Reads, places_from}
+use Rattle.plan_rules.specs.Reading.{IsSoundNode, coming_after, ReadsTo, places_from}
 use Rattle.plan_rules.specs.declared.node.Node.{Node}
 use Rattle.plan_rules.specs.declared.node.Node.TheVariants.{Branch, Leaf, Dead}
 
 -- two parts, one after the other
-pub reads_append : (g : Graph) (xs ys : List Node) (a b d : List Usable) → Reads g a xs b → Reads g b ys d → Reads g a (xs ++ ys) d
-reads_append g [] ys a b d first second = subst (λ (c : List Usable). Reads g c ys d) (sym first) second
+pub reads_append : (g : Graph) (xs ys : List Node) (a b d : List Usable) → ReadsTo g a xs b → ReadsTo g b ys d → ReadsTo g a (xs ++ ys) d
+reads_append g [] ys a b d first second = subst (λ (c : List Usable). ReadsTo g c ys d) (sym first) second
 reads_append g (n ∷ xs) ys [] b d first second = absurd first
 reads_append g (n ∷ xs) ys (u ∷ us) b d first second = (first.0, reads_append g xs ys (coming_after g u n us) b d (first.1) second)
 
 -- one more node
-pub reads_push : (g : Graph) (xs : List Node) (n : Node) (a : List Usable) (u : Usable) (us : List Usable) → Reads g a xs (u ∷ us) → IsSoundNode g u n → Reads g a (xs ++ n ∷ []) (coming_after g u n us)
+pub reads_push : (g : Graph) (xs : List Node) (n : Node) (a : List Usable) (u : Usable) (us : List Usable) → ReadsTo g a xs (u ∷ us) → IsSoundNode g u n → ReadsTo g a (xs ++ n ∷ []) (coming_after g u n us)
 reads_push g xs n a u us first sound = reads_append g xs (n ∷ []) a (u ∷ us) (coming_after g u n us) first (sound, refl)
 
-pub places_append : (g : Graph) (xs ys : List Node) (a b : List Usable) → Reads g a xs b → places_from g a (xs ++ ys) ≡ places_from g a xs ++ places_from g b ys
+pub places_append : (g : Graph) (xs ys : List Node) (a b : List Usable) → ReadsTo g a xs b → places_from g a (xs ++ ys) ≡ places_from g a xs ++ places_from g b ys
 places_append g [] ys a b first = ap (λ (c : List Usable). places_from g c ys) first
 places_append g (n ∷ xs) ys [] b first = absurd first
 places_append g (n ∷ xs) ys (u ∷ us) b first =
     ap (λ (ps : List Place). record { node = n; usable = u } ∷ ps) (places_append g xs ys (coming_after g u n us) b (first.1))
 
-pub places_push : (g : Graph) (xs : List Node) (n : Node) (a : List Usable) (u : Usable) (us : List Usable) → Reads g a xs (u ∷ us) → places_from g a (xs ++ n ∷ []) ≡ places_from g a xs ++ record { node = n; usable = u } ∷ []
+pub places_push : (g : Graph) (xs : List Node) (n : Node) (a : List Usable) (u : Usable) (us : List Usable) → ReadsTo g a xs (u ∷ us) → places_from g a (xs ++ n ∷ []) ≡ places_from g a xs ++ record { node = n; usable = u } ∷ []
 places_push g xs n a u us first = places_append g xs (n ∷ []) a (u ∷ us) first
 
 -- ---- the least leaf, in any order

@@ -5,7 +5,7 @@ use Rattle.std.proofs.lemmas.List.{length-append, append_assoc, append-nil}
 use Rattle.plan_rules.specs.Graph.{Graph, IsGoodGraph}
 use Rattle.plan_rules.specs.Multipliers.{Usable}
 use Rattle.plan_rules.specs.Tree.{every_row, only_row, without_row, SearchTree, Parted, Bounded, Closed, preorder, IsSoundTree, IsTreeOf, IsTreeOfValue, Place, places_within, places, least_leaf, tree_value, belongs_to_end, belongs_to_dead_end}
-use Rattle.plan_rules.specs.Reading.{coming_after, Reads, IsWholeTree, places_from, places_read, value_read}
+use Rattle.plan_rules.specs.Reading.{coming_after, ReadsTo, IsWholeTree, places_from, places_read, value_read}
 use Rattle.plan_rules.specs.Plan.{IsPlan, IsLawful, IsBound}
 use Rattle.plan_rules.proofs.lemmas.TreeLemmas.{each_plan_at_one_end, no_plan_at_dead_ends, tree_value_bounds}
 use Rattle.plan_rules.specs.declared.node.Node.{Node}
@@ -17,10 +17,10 @@ record IsFirst (g : Graph) (usable : Usable) (coming rest : List Usable) (nodes 
   behind : List Node
   listed : nodes ≡ preorder tree ++ behind
   sound : IsSoundTree g usable tree
-  reads : Reads g coming behind rest
+  reads : ReadsTo g coming behind rest
 
 first_subtree : (g : Graph) (size : ℕ) (usable : Usable) (coming rest : List Usable) (nodes : List Node) → length nodes ≤ size → length rest ≤ length coming
-    → Reads g (usable ∷ coming) nodes rest → IsFirst g usable coming rest nodes
+    → ReadsTo g (usable ∷ coming) nodes rest → IsFirst g usable coming rest nodes
 first_subtree g size usable coming rest [] small few reads =
     let same : suc (length coming) ≡ length rest = ap length reads in
     absurd (omega (arith, same))
@@ -43,7 +43,7 @@ first_subtree g (suc size) usable coming rest (Branch v k ∷ nodes) small few r
       reads = two.reads;
     }
 
-nothing_behind : (g : Graph) (nodes : List Node) → Reads g [] nodes [] → nodes ≡ []
+nothing_behind : (g : Graph) (nodes : List Node) → ReadsTo g [] nodes [] → nodes ≡ []
 nothing_behind g [] reads = refl
 nothing_behind g (n ∷ nodes) reads = absurd reads
 
@@ -78,20 +78,20 @@ places_are g nodes t tree =
     ∙ append-nil (places g t)
 
 -- and back: a sound tree's nodes are read
-reads_of_sound : (g : Graph) (t : SearchTree) (usable : Usable) (coming rest : List Usable) (behind : List Node) → IsSoundTree g usable t → Reads g coming behind rest
-    → Reads g (usable ∷ coming) (preorder t ++ behind) rest
+reads_of_sound : (g : Graph) (t : SearchTree) (usable : Usable) (coming rest : List Usable) (behind : List Node) → IsSoundTree g usable t → ReadsTo g coming behind rest
+    → ReadsTo g (usable ∷ coming) (preorder t ++ behind) rest
 reads_of_sound g (Bounded ms) usable coming rest behind sound reads = (sound, reads)
 reads_of_sound g Closed usable coming rest behind sound reads = (sound, reads)
 reads_of_sound g (Parted v k first second) usable coming rest behind sound reads = (
   sound.0,
-  subst (λ (xs : List Node). Reads g (only_row g usable v k ∷ without_row usable k ∷ coming) xs rest) (sym (append_assoc (preorder first) (preorder second) behind))
+  subst (λ (xs : List Node). ReadsTo g (only_row g usable v k ∷ without_row usable k ∷ coming) xs rest) (sym (append_assoc (preorder first) (preorder second) behind))
       (reads_of_sound g first (only_row g usable v k) (without_row usable k ∷ coming) rest (preorder second ++ behind) (sound.1)
       (reads_of_sound g second (without_row usable k) coming rest behind (sound.2) reads)),
 )
 
 pub reads_of_tree : (g : Graph) (nodes : List Node) (t : SearchTree) → IsTreeOf g nodes t → IsWholeTree g nodes
 reads_of_tree g nodes t tree =
-    subst (λ (xs : List Node). Reads g (every_row ∷ []) xs []) (sym (tree.listed ∙ sym (append-nil (preorder t))))
+    subst (λ (xs : List Node). ReadsTo g (every_row ∷ []) xs []) (sym (tree.listed ∙ sym (append-nil (preorder t))))
     (reads_of_sound g t every_row [] [] [] tree.sound refl)
 
 pub value_is_read : (g : Graph) (nodes : List Node) (t : SearchTree) → IsTreeOf g nodes t → value_read g nodes ≡ tree_value g t

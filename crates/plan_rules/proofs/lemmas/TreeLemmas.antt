@@ -5,11 +5,11 @@ use Rattle.std.proofs.lemmas.Int.{ints}
 use Rattle.std.proofs.lemmas.List.Sums.{sum_by-cons}
 use Rattle.std.proofs.lemmas.Bool.{cases_eq, cases_Bool, and_from, and_parts, and_left, and_right, or_right, or_left, both_ways, cond-true, cond-false, false_from_ne_true}
 use Rattle.plan_rules.specs.Sums.{all_below, lesser, count_below}
-use Rattle.plan_rules.specs.Graph.{Graph, row_at, vehicle_at, has_rider, IsRowOf, HasNoRow, choice_at, is_in, times_served, must_be_served, IsRow, IsGoodGraph}
+use Rattle.plan_rules.specs.Graph.{Graph, row_at, row_vehicle, has_rider, IsRowOf, HasNoRow, choice_at, is_in, times_served, must_be_served, IsGraphRow, IsGoodGraph}
 use Rattle.plan_rules.specs.Plan.{IsPlan, IsLawful, times_chosen, cost_of, IsBound}
 use Rattle.plan_rules.specs.Multipliers.{Usable, leaf_value}
 use Rattle.plan_rules.specs.Tree.{every_row, only_row, without_row, MayUse, CanBranch, IsSoleRow, IsClash, IsStranded, IsDeadEnd, Place, rounded_up, least_leaf, is_choice_usable, is_within, is_leaf, is_dead, belongs_to_end, belongs_to_dead_end}
-use Rattle.plan_rules.specs.Reading.{IsSoundNode, coming_after, Reads, IsWholeTree, places_from, places_read, value_read}
+use Rattle.plan_rules.specs.Reading.{IsSoundNode, coming_after, ReadsTo, IsWholeTree, places_from, places_read, value_read}
 use Rattle.plan_rules.specs.declared.node.Node.{Node}
 use Rattle.plan_rules.specs.declared.node.Node.TheVariants.{Branch, Leaf, Dead}
 use Rattle.plan_rules.proofs.lemmas.SumLemmas.{flag, flag-true, flag-false, all_below_at, all_below_from, all_below_fails, all_below_same, count_below_two, lesser-le_left, lesser-le_right}
@@ -48,10 +48,10 @@ module _ (g : Graph) (usable : Usable) (chosen : List (Option ℕ)) (plan : IsPl
       ⊎_elim
       (λ (here : w ≡ v).
       let same : j ≡ k = same_some j k (sym is ∙ ap (choice_at chosen) here ∙ e) in
-      whole (usable j) (not (vehicle_at g j == v)) (j == k) (or_right (not (vehicle_at g j == v)) (j == k) (eq-eqb j k same)))
+      whole (usable j) (not (row_vehicle g j == v)) (j == k) (or_right (not (row_vehicle g j == v)) (j == k) (eq-eqb j k same)))
       (λ (other : w ≡ v → ⊥).
-      let apart : (vehicle_at g j == v) ≡ false = ne_eqb (vehicle_at g j) v (λ (q : vehicle_at g j ≡ v). other (sym own.own ∙ q)) in
-      whole (usable j) (not (vehicle_at g j == v)) (j == k) (or_left (not (vehicle_at g j == v)) (j == k) (ap not apart)))
+      let apart : (row_vehicle g j == v) ≡ false = ne_eqb (row_vehicle g j) v (λ (q : row_vehicle g j ≡ v). other (sym own.own ∙ q)) in
+      whole (usable j) (not (row_vehicle g j == v)) (j == k) (or_left (not (row_vehicle g j == v)) (j == k) (ap not apart)))
       (cases_eq w v)
     where
       whole : (a b d : Bool) → (b || d) ≡ true → (a && (b || d)) ≡ a
@@ -65,7 +65,7 @@ module _ (g : Graph) (usable : Usable) (chosen : List (Option ℕ)) (plan : IsPl
       let own : IsRowOf g w i = plan_choice g chosen w i plan l is in
       let apart : (i == k) ≡ false =
       ne_eqb i k (λ (q : i ≡ k).
-      let here : w ≡ v = sym own.own ∙ ap (vehicle_at g) q ∙ row.own in
+      let here : w ≡ v = sym own.own ∙ ap (row_vehicle g) q ∙ row.own in
       differs (sym (same_some i j (sym is ∙ ap (choice_at chosen) here ∙ e)) ∙ q)) in
       whole (usable i) (i == k) apart
     where
@@ -75,9 +75,9 @@ module _ (g : Graph) (usable : Usable) (chosen : List (Option ℕ)) (plan : IsPl
 
   only_fails : (j : ℕ) → IsRowOf g v j → (j ≡ k → ⊥) → only_row g usable v k j ≡ false
   only_fails j own differs =
-      let here : (vehicle_at g j == v) ≡ true = eq-eqb (vehicle_at g j) v own.own in
+      let here : (row_vehicle g j == v) ≡ true = eq-eqb (row_vehicle g j) v own.own in
       let apart : (j == k) ≡ false = ne_eqb j k differs in
-      none (usable j) (vehicle_at g j == v) (j == k) here apart
+      none (usable j) (row_vehicle g j == v) (j == k) here apart
     where
       none : (a b d : Bool) → b ≡ true → d ≡ false → (a && (not b || d)) ≡ false
       none true true false p q = refl
@@ -127,11 +127,11 @@ parts g usable v k chosen plan low can =
     (cases_eq (w.0) k)
 
 -- the vehicle of a branch is one of the graph's
-branch_vehicle : (g : Graph) (usable : Usable) (v k : ℕ) → ((k : ℕ) → k < length g.rows → IsRow g.vehicles g.riders (row_at g k)) → CanBranch g usable v k → v < g.vehicles
+branch_vehicle : (g : Graph) (usable : Usable) (v k : ℕ) → ((k : ℕ) → k < length g.rows → IsGraphRow g.vehicles g.riders (row_at g k)) → CanBranch g usable v k → v < g.vehicles
 branch_vehicle g usable v k rows can =
     let row = can.row.row in
-    let low : vehicle_at g k < g.vehicles = (rows k row.within).vehicle in
-    let own : vehicle_at g k ≡ v = row.own in
+    let low : row_vehicle g k < g.vehicles = (rows k row.within).vehicle in
+    let own : row_vehicle g k ≡ v = row.own in
     omega arith
 
 -- where a vehicle isn't the graph's, no plan says anything of its rows
@@ -141,7 +141,7 @@ count-cons : {X : Type 0} (p : X → Bool) (x : X) (xs : List X) → count_by p 
 count-cons p x xs = sum_by-cons (λ y. cond (p y) 1 0) x xs
 
 -- the ends that a plan belongs to, and the subtrees still to come that it belongs to, are as many as those at first
-ends_count : (g : Graph) (chosen : List (Option ℕ)) → ((k : ℕ) → k < length g.rows → IsRow g.vehicles g.riders (row_at g k)) → IsPlan g chosen → (nodes : List Node) (coming rest : List Usable) → Reads g coming nodes rest
+ends_count : (g : Graph) (chosen : List (Option ℕ)) → ((k : ℕ) → k < length g.rows → IsGraphRow g.vehicles g.riders (row_at g k)) → IsPlan g chosen → (nodes : List Node) (coming rest : List Usable) → ReadsTo g coming nodes rest
     → count_by (belongs_to_end g chosen) (places_from g coming nodes) + count_by (λ u. is_within g u chosen) rest ≡ count_by (λ u. is_within g u chosen) coming
 ends_count g chosen rows plan [] coming rest e =
     let same = ap (count_by (λ u. is_within g u chosen)) (sym e) in
@@ -192,8 +192,8 @@ clash_holds_none g usable chosen good lawful c within =
   where
     row_low : (v k : ℕ) → IsRowOf g v k → v < g.vehicles
     row_low v k row =
-        let low : vehicle_at g k < g.vehicles = (good.rows k row.within).vehicle in
-        let own : vehicle_at g k ≡ v = row.own in
+        let low : row_vehicle g k < g.vehicles = (good.rows k row.within).vehicle in
+        let own : row_vehicle g k ≡ v = row.own in
         omega arith
 
     first_low : c.first < g.vehicles
@@ -215,7 +215,7 @@ pub dead_end_holds_none : (g : Graph) (usable : Usable) (chosen : List (Option �
 dead_end_holds_none g usable chosen good lawful (inl c) = false_from_ne_true (is_within g usable chosen) (clash_holds_none g usable chosen good lawful c)
 dead_end_holds_none g usable chosen good lawful (inr s) = false_from_ne_true (is_within g usable chosen) (stranded_holds_none g usable chosen lawful s)
 
-dead_count : (g : Graph) (chosen : List (Option ℕ)) → IsGoodGraph g → IsLawful g chosen → (nodes : List Node) (coming rest : List Usable) → Reads g coming nodes rest → count_by (belongs_to_dead_end g chosen) (places_from g coming nodes) ≡ 0
+dead_count : (g : Graph) (chosen : List (Option ℕ)) → IsGoodGraph g → IsLawful g chosen → (nodes : List Node) (coming rest : List Usable) → ReadsTo g coming nodes rest → count_by (belongs_to_dead_end g chosen) (places_from g coming nodes) ≡ 0
 dead_count g chosen good lawful [] coming rest e = refl
 dead_count g chosen good lawful (n ∷ nodes) [] rest e = absurd e
 dead_count g chosen good lawful (Leaf ms ∷ nodes) (u ∷ us) rest e =

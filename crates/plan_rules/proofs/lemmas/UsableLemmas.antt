@@ -2,7 +2,7 @@
 use Rattle.std.proofs.Common.{◌≡◌, ◌≢◌, ◌==◌, ◌⊎◌, ◌&&◌, ◌||◌, not, ℕ, zero, suc, ◌+◌, ◌<◌, ◌≤◌, Bool, true, false, cond, IsTrue, List, length, Option, Some, None, ℤ, pos, ◌+ℤ◌, ◌-ℤ◌, ◌*ℤ◌, ◌*◌, [], ◌∷◌, ◌++◌, refl, sym, ap, ◌∙◌, subst, inl, inr, arith}
 use Rattle.std.specs.Prelude.{unwrap_or}
 use Rattle.plan_rules.specs.Sums.{least_below, lesser, int_sum_below}
-use Rattle.plan_rules.specs.Graph.{Graph, vehicle_at, cost_at, riders_at, has_rider, IsRowOf}
+use Rattle.plan_rules.specs.Graph.{Graph, row_vehicle, cost_at, riders_at, has_rider, IsRowOf}
 use Rattle.plan_rules.specs.Multipliers.{Usable, is_usable_by, reduced_cost, vehicle_term, rider_term, leaf_value, least_cost, room_at, first_fit_of, first_fit_below, first_fit, first_fit_value, multiplier_sum}
 use Rattle.plan_rules.specs.Tree.{MayUse, CanBranch, IsSoleRow, IsClash, IsStranded, IsDeadEnd}
 use Rattle.plan_rules.proofs.lemmas.SumLemmas.{int_sum_same}
@@ -21,7 +21,7 @@ least_below_agrees (suc n) p q f e =
 pub vehicle_term_agrees : (g : Graph) (u w : Usable) (ms : List ℤ) (v : ℕ) → Agree g u w → vehicle_term g u ms v ≡ vehicle_term g w ms v
 vehicle_term_agrees g u w ms v e =
     ap (λ (o : Option ℤ). unwrap_or o (pos 0))
-    (least_below_agrees (length g.rows) (is_usable_by g u v) (is_usable_by g w v) (reduced_cost g ms) (λ k l. ap (λ (b : Bool). (vehicle_at g k == v) && b) (e k l)))
+    (least_below_agrees (length g.rows) (is_usable_by g u v) (is_usable_by g w v) (reduced_cost g ms) (λ k l. ap (λ (b : Bool). (row_vehicle g k == v) && b) (e k l)))
 
 pub leaf_value_agrees : (g : Graph) (u w : Usable) (ms : List ℤ) → Agree g u w → leaf_value g u ms ≡ leaf_value g w ms
 unfolding leaf_value
@@ -69,11 +69,11 @@ dead_end_agrees g u w e (inr s) = inr (record { rider = s.rider; must = s.must; 
 pub least_cost_agrees : (g : Graph) (u w : Usable) (v : ℕ) → Agree g u w → least_cost g u v ≡ least_cost g w v
 least_cost_agrees g u w v e =
     ap (λ (o : Option ℤ). unwrap_or o (pos 0))
-    (least_below_agrees (length g.rows) (is_usable_by g u v) (is_usable_by g w v) _ (λ k l. ap (λ (b : Bool). (vehicle_at g k == v) && b) (e k l)))
+    (least_below_agrees (length g.rows) (is_usable_by g u v) (is_usable_by g w v) _ (λ k l. ap (λ (b : Bool). (row_vehicle g k == v) && b) (e k l)))
 
 first_fit_of_agrees : (g : Graph) (u w : Usable) (ms : List ℤ) (r : ℕ) → Agree g u w → first_fit_of g u ms r ≡ first_fit_of g w ms r
 first_fit_of_agrees g u w ms r e =
-    let room : (k : ℕ) → room_at g u ms k ≡ room_at g w ms k = λ k. ap (λ (l : ℤ). pos 1024 *ℤ (pos (cost_at g k) -ℤ l) -ℤ multiplier_sum ms (riders_at g k)) (least_cost_agrees g u w (vehicle_at g k) e) in
+    let room : (k : ℕ) → room_at g u ms k ≡ room_at g w ms k = λ k. ap (λ (l : ℤ). pos 1024 *ℤ (pos (cost_at g k) -ℤ l) -ℤ multiplier_sum ms (riders_at g k)) (least_cost_agrees g u w (row_vehicle g k) e) in
     ap (λ (o : Option ℤ). lesser o (pos (1024 * g.penalty)))
     (least_below_agrees (length g.rows) (λ k. u k && has_rider g k r) (λ k. w k && has_rider g k r) (room_at g u ms) (λ k l. ap (λ (b : Bool). b && has_rider g k r) (e k l))
     ∙ (λ i. least_below (length g.rows) (λ k. w k && has_rider g k r) (λ k. room k i)))

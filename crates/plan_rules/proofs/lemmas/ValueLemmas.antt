@@ -4,7 +4,7 @@ use Rattle.std.proofs.lemmas.Int.{ints}
 use Rattle.std.proofs.lemmas.Bool.{cases_lt, and_left, and_right, and_from, cond-true, cond-false}
 use Rattle.std.proofs.lemmas.List.{at_drop_more, at_drop_all}
 use Rattle.plan_rules.specs.Sums.{least_below, lesser, int_sum_below}
-use Rattle.plan_rules.specs.Graph.{Graph, row_at, vehicle_at, IsStartOf}
+use Rattle.plan_rules.specs.Graph.{Graph, row_at, row_vehicle, IsStartOf}
 use Rattle.plan_rules.specs.Multipliers.{Usable, multiplier_at, multiplier_sum, reduced_cost, is_usable_by}
 use Rattle.plan_rules.proofs.lemmas.SumLemmas.{least_below_none, least_below_more}
 use Rattle.plan_rules.specs.Size.{IsSmallSum}
@@ -24,7 +24,7 @@ sum_all ms xs i sum whole l e =
 pub none_before : (g : Graph) (usable : Usable) (f : ℕ → ℤ) (v start : ℕ) → IsStartOf g v start → least_below start (is_usable_by g usable v) f ≡ None
 none_before g usable f v start first =
     least_below_none start (is_usable_by g usable v) f
-    (λ k l. and_left (vehicle_at g k == v) (usable k) (ne_eqb (vehicle_at g k) v (λ (e : vehicle_at g k ≡ v). let low : vehicle_at g k < v = first.below k l in omega arith)))
+    (λ k l. and_left (row_vehicle g k == v) (usable k) (ne_eqb (row_vehicle g k) v (λ (e : row_vehicle g k ≡ v). let low : row_vehicle g k < v = first.below k l in omega arith)))
 
 least_below_plus : (n m : ℕ) (p : ℕ → Bool) (f : ℕ → ℤ) → ((k : ℕ) → n ≤ k → k < n + m → p k ≡ false) → least_below (n + m) p f ≡ least_below n p f
 least_below_plus n zero p f h = ap (λ (j : ℕ). least_below j p f) (plus n)
@@ -43,28 +43,28 @@ none_after g usable f v end next =
     let whole : end + (length g.rows - end) ≡ length g.rows = omega (arith, next.within) in
     ap (λ (j : ℕ). least_below j (is_usable_by g usable v) f) (sym whole)
     ∙ least_below_plus end (length g.rows - end) (is_usable_by g usable v) f
-    (λ k a b. and_left (vehicle_at g k == v) (usable k) (ne_eqb (vehicle_at g k) v (λ (e : vehicle_at g k ≡ v). let high : v + 1 ≤ vehicle_at g k = next.above k a (omega (arith, b)) in omega arith)))
+    (λ k a b. and_left (row_vehicle g k == v) (usable k) (ne_eqb (row_vehicle g k) v (λ (e : row_vehicle g k ≡ v). let high : v + 1 ≤ row_vehicle g k = next.above k a (omega (arith, b)) in omega arith)))
 
 -- one more row of the vehicle
-pub least_taken : (g : Graph) (usable : Usable) (f : ℕ → ℤ) (v k : ℕ) (o : Option ℤ) (z : ℤ) → vehicle_at g k ≡ v → usable k ≡ true → o ≡ least_below k (is_usable_by g usable v) f → z ≡ f k → Some (lesser o z) ≡ least_below (k + 1) (is_usable_by g usable v) f
+pub least_taken : (g : Graph) (usable : Usable) (f : ℕ → ℤ) (v k : ℕ) (o : Option ℤ) (z : ℤ) → row_vehicle g k ≡ v → usable k ≡ true → o ≡ least_below k (is_usable_by g usable v) f → z ≡ f k → Some (lesser o z) ≡ least_below (k + 1) (is_usable_by g usable v) f
 least_taken g usable f v k o z own may e value =
     ap (λ (p : Option ℤ). Some (lesser p z)) e ∙ ap (λ (w : ℤ). Some (lesser (least_below k (is_usable_by g usable v) f) w)) value
     ∙ sym (least_below_more k (is_usable_by g usable v) f
     ∙ cond-true (is_usable_by g usable v k) (Some (lesser (least_below k (is_usable_by g usable v) f) (f k))) (least_below k (is_usable_by g usable v) f)
-    (and_from (vehicle_at g k == v) (usable k) (eq-eqb (vehicle_at g k) v own) may))
+    (and_from (row_vehicle g k == v) (usable k) (eq-eqb (row_vehicle g k) v own) may))
 
 pub least_passed : (g : Graph) (usable : Usable) (f : ℕ → ℤ) (v k : ℕ) (o : Option ℤ) → usable k ≡ false → o ≡ least_below k (is_usable_by g usable v) f → o ≡ least_below (k + 1) (is_usable_by g usable v) f
 least_passed g usable f v k o out e =
     e ∙ sym (least_below_more k (is_usable_by g usable v) f
-    ∙ cond-false (is_usable_by g usable v k) (Some (lesser (least_below k (is_usable_by g usable v) f) (f k))) (least_below k (is_usable_by g usable v) f) (and_right (vehicle_at g k == v) (usable k) out))
+    ∙ cond-false (is_usable_by g usable v k) (Some (lesser (least_below k (is_usable_by g usable v) f) (f k))) (least_below k (is_usable_by g usable v) f) (and_right (row_vehicle g k == v) (usable k) out))
 
 -- a vehicle's rows don't end before they start
 pub starts_rise : (g : Graph) (v start end : ℕ) → IsStartOf g v start → IsStartOf g (v + 1) end → start ≤ end
 starts_rise g v start end first second =
     ⊎_elim
     (λ (cross : end < start).
-    let below : vehicle_at g end < v = first.below end cross in
-    let above : v + 1 ≤ vehicle_at g end = second.above end (omega arith) (omega (arith, first.within)) in
+    let below : row_vehicle g end < v = first.below end cross in
+    let above : v + 1 ≤ row_vehicle g end = second.above end (omega arith) (omega (arith, first.within)) in
     absurd (omega arith))
     (λ (low : start ≤ end). low)
     (cases_lt end start)

@@ -4,7 +4,7 @@ use Rattle.std.proofs.lemmas.Int.{to_z-of_z}
 use Rattle.std.proofs.lemmas.Bool.{both_ways}
 use Rattle.std.proofs.lemmas.List.{with_items_is}
 use Rattle.plan_rules.specs.Sums.{lesser}
-use Rattle.plan_rules.specs.Graph.{vehicle_at}
+use Rattle.plan_rules.specs.Graph.{row_vehicle}
 use Rattle.plan_rules.specs.Multipliers.{Usable, usable_of, leaf_value}
 use Rattle.plan_rules.specs.Tree.{rounded_up}
 use Rattle.plan_rules.specs.Path.{standing_of, IsPathOf}
