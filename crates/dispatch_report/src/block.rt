@@ -8,9 +8,9 @@ ghost use Rattle.dispatch_report.specs.work.Lines.{WritesLines};
 
 use crate::fault::ReportFault;
 use crate::lines::{Line, write_line, write_lines, write_list};
-use crate::words::{put_multipliers, put_numbered, put_riders, put_signed, put_spaced, put_words};
+use crate::words::{put_multipliers, put_numbered, put_riders, put_signed, put_spaced};
 use plan_rules::{Node, Tree};
-use pool_base::{OutOfMemory, RiderId, VehicleId};
+use pool_base::{OutOfMemory, RiderId, VehicleId, put_bytes};
 use pool_io::Sink;
 use request_book::{
     Answer, ChosenTrip, LateVehicle, MoveLine, Outcome, Planned, PlannedStop, RowLine,
@@ -123,7 +123,7 @@ pub(crate) fn write_words<K: Sink>(
     ensures { WritesLines (sink_seen K.written K.faults sink.old sink.new) (words.now ∷ []) result }
 {
     line.clear();
-    put_words(line, words)?;
+    put_bytes(line, words)?;
     write_line(sink, line)
 }
 
@@ -188,7 +188,7 @@ fn put_late_order(line: &mut Vec<u8>, late: &LateVehicle) -> Result<(), OutOfMem
     ensures { OnOk result (line.new.items ≡ line.old.items ++ late_order late.now) }
 {
     match &late.stops {
-        None => put_words(line, b" none"),
+        None => put_bytes(line, b" none"),
         Some(stops) => {
             put_spaced(line, late.delay)?;
             put_stops(line, stops.as_slice())
@@ -287,10 +287,10 @@ impl<'a> Line for TreeNode<'a> {
                 put_spaced(line, u64::from(*row))
             }
             Node::Leaf { multipliers } => {
-                put_words(line, b"leaf")?;
+                put_bytes(line, b"leaf")?;
                 put_multipliers(line, multipliers.as_slice())
             }
-            Node::Dead => put_words(line, b"dead"),
+            Node::Dead => put_bytes(line, b"dead"),
         }
     }
 }

@@ -4,7 +4,7 @@ ghost use Rattle.dispatch_report.specs.Words.{numbered, spaced};
 
 use crate::reply::put_reply;
 use crate::words::{put_numbered, put_spaced};
-use pool_base::{NodeId, OutOfMemory, Party, RiderId, Second, VehicleId, put_number};
+use pool_base::{NodeId, OutOfMemory, Party, RiderId, Second, VehicleId, put_bytes, put_number};
 use request_book::{Command, Entry};
 
 /// Appends the line of an entry, without its end.
@@ -13,9 +13,9 @@ pub(crate) fn put_entry(line: &mut Vec<u8>, position: u64, entry: &Entry) -> Res
 {
     put_number(line, position)?;
     put_spaced(line, u64::from(entry.lane))?;
-    line.extend_from_slice(b" ")?;
+    put_bytes(line, b" ")?;
     put_command(line, &entry.command)?;
-    line.extend_from_slice(b" ")?;
+    put_bytes(line, b" ")?;
     put_reply(line, entry.reply)
 }
 

@@ -9,7 +9,7 @@ use crate::fault::ReportFault;
 use crate::lines::write_line;
 use crate::words::put_numbered;
 use batch_snapshot::Fleet;
-use pool_base::OutOfMemory;
+use pool_base::{OutOfMemory, put_bytes};
 use pool_io::Sink;
 use rider_limits::Settings;
 use road_network::Network;
@@ -97,9 +97,9 @@ fn put_proof(line: &mut Vec<u8>, proof: bool) -> Result<(), OutOfMemory>
     ensures { OnOk result (line.new.items ≡ line.old.items ++ (if proof then codes " proof=1" else codes " proof=0")) }
 {
     if proof {
-        line.extend_from_slice(b" proof=1")?;
+        put_bytes(line, b" proof=1")?;
     } else {
-        line.extend_from_slice(b" proof=0")?;
+        put_bytes(line, b" proof=0")?;
     }
     Ok(())
 }

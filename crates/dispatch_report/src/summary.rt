@@ -7,8 +7,8 @@ ghost use Rattle.dispatch_report.specs.work.Lines.{WritesLines};
 
 use crate::fault::ReportFault;
 use crate::lines::write_line;
-use crate::words::{put_numbered, put_signed, put_words};
-use pool_base::{OutOfMemory, RiderId, Sequence};
+use crate::words::{put_numbered, put_signed};
+use pool_base::{OutOfMemory, RiderId, Sequence, put_bytes};
 use pool_io::Sink;
 use request_book::{Answer, ChosenTrip, Command, Entry, Journal, Outcome, Planned, Reply, RowLine};
 use rider_limits::LoadShape;
@@ -147,7 +147,7 @@ fn put_answer(line: &mut Vec<u8>, answer: &Answer) -> Result<(), OutOfMemory>
     ensures { OnOk result (line.new.items ≡ line.old.items ++ answer_text answer.now) }
 {
     match answer {
-        Answer::Overflow => put_words(line, b" overflow"),
+        Answer::Overflow => put_bytes(line, b" overflow"),
         Answer::Planned(plan) => put_plan(line, plan),
     }
 }

@@ -2,22 +2,14 @@ ghost use Rattle.std.specs.Prelude.{◌≡◌, ◌++◌, OnOk, codes};
 ghost use Rattle.std.specs.List.{flat_map};
 ghost use Rattle.dispatch_report.specs.Words.{numbered, signed, spaced};
 
-use pool_base::{OutOfMemory, RiderId, put_number, put_signed as put_signed_number};
-
-/// Appends these words.
-pub(crate) fn put_words(line: &mut Vec<u8>, words: &[u8]) -> Result<(), OutOfMemory>
-    ensures { OnOk result (line.new.items ≡ line.old.items ++ words.now) }
-{
-    line.extend_from_slice(words)?;
-    Ok(())
-}
+use pool_base::{OutOfMemory, RiderId, put_bytes, put_number, put_signed as put_signed_number};
 
 /// Appends words and a number.
 #[tactic(auto, unfolding(crate::specs::Words::numbered))]
 pub(crate) fn put_numbered(line: &mut Vec<u8>, words: &[u8], n: u64) -> Result<(), OutOfMemory>
     ensures { OnOk result (line.new.items ≡ line.old.items ++ numbered words.now n) }
 {
-    line.extend_from_slice(words)?;
+    put_bytes(line, words)?;
     put_number(line, n)
 }
 
@@ -26,7 +18,7 @@ pub(crate) fn put_numbered(line: &mut Vec<u8>, words: &[u8], n: u64) -> Result<(
 pub(crate) fn put_signed(line: &mut Vec<u8>, words: &[u8], n: &i128) -> Result<(), OutOfMemory>
     ensures { OnOk result (line.new.items ≡ line.old.items ++ signed words.now n.now) }
 {
-    line.extend_from_slice(words)?;
+    put_bytes(line, words)?;
     put_signed_number(line, *n)
 }
 

@@ -9,7 +9,7 @@ use Rattle.rider_limits.specs.declared.word_fault.WordFault.{WordFault}
 use Rattle.road_network.specs.Roads.{Roads}
 use Rattle.ridepool.specs.Explained.{AreForRun, AreForLoad, StopsRun, Tells, IsFaultlessRun, IsFaultless, Explains}
 use Rattle.ridepool.specs.Inputs.{Reads, IsTooLong, IsStop}
-use Rattle.ridepool.specs.Reading.{network_in, fleet_in, script_in}
+use Rattle.ridepool.specs.Reading.{network_in, vehicles_in, script_in}
 use Rattle.dispatch_report.specs.Written.{Change}
 use Rattle.ridepool.specs.Seen.{SourceView, Seen, source_at}
 use Rattle.ridepool.specs.declared.status.RunStatus.{RunStatus}
@@ -51,9 +51,9 @@ stops seen (Network fault) f why =
 stops seen (Fleet fault) f why =
     let roads = why.0.0 in
     let same : roads ≡ f.inputs.roads = same_value (network_in f.texts.network) roads f.inputs.roads (read_of seen.sources.network f.texts.network (λ b. network_in b ≡ Ok roads) f.network why.0.1) f.give.network in
-    let refused = read_of seen.sources.fleet f.texts.fleet (λ b. fleet_in roads.nodes b ≡ Err fault) f.fleet why.1 in
-    let P : Roads → Type 0 = λ r. fleet_in r.nodes f.texts.fleet ≡ Err fault in
-    absurd (ok_is_no_err (fleet_in f.inputs.roads.nodes f.texts.fleet) f.inputs.vehicles fault f.give.fleet (subst P same refused))
+    let refused = read_of seen.sources.fleet f.texts.fleet (λ b. vehicles_in roads.nodes b ≡ Err fault) f.fleet why.1 in
+    let P : Roads → Type 0 = λ r. vehicles_in r.nodes f.texts.fleet ≡ Err fault in
+    absurd (ok_is_no_err (vehicles_in f.inputs.roads.nodes f.texts.fleet) f.give.fleet.vehicles fault f.give.fleet.read (subst P same refused))
 stops seen (Script fault) f why =
     absurd (ok_is_no_err (script_in f.texts.script) f.inputs.rounds fault f.give.script (read_of seen.sources.script f.texts.script (λ b. script_in b ≡ Err fault) f.script why.1))
 stops seen (TooLong w) f why = let t = tells_at seen f w in absurd (not_long (source_at seen.sources w) t.0 t.1 why.1)

@@ -2,7 +2,7 @@
 use Rattle.std.proofs.Common.{◌≡◌, ℕ, List, Result, Ok, Err, MatchResult, refl, sym, ap, subst, ◌∙◌, arith}
 use Rattle.std.specs.Prelude.{IfOk, IfErr}
 use Rattle.batch_snapshot.specs.declared.vehicle.Vehicle.{Vehicle}
-use Rattle.fleet_state.specs.Fleet.{fleet_of}
+use Rattle.fleet_state.specs.Fleet.{vehicles_of}
 use Rattle.load_maker.specs.Texts.{texts_of}
 use Rattle.made_inputs.specs.Accepted.{IsNetworkText, IsFleetText, IsScriptText, AreRead as TextsAreRead}
 use Rattle.pool_base.specs.declared.which.Which.{Which}
@@ -19,7 +19,7 @@ use Rattle.script_rows.specs.Script.{script_of}
 use Rattle.script_rows.specs.declared.version.ScriptVersion.TheVariants.{One}
 use Rattle.ridepool.specs.Explained.{HidesNoMemory}
 use Rattle.ridepool.specs.Inputs.{Inputs, IsWithin, IsTooLong, Reads, AreRead, AreTexts, AreUntouched, AreInputs, CameTo, IsStop}
-use Rattle.ridepool.specs.Reading.{own_fault, in_rows, first_version, network_in, fleet_in, script_in}
+use Rattle.ridepool.specs.Reading.{own_fault, in_rows, first_version, network_in, vehicles_in, IsFleetIn, script_in}
 use Rattle.dispatch_report.specs.Written.{Change}
 use Rattle.ridepool.specs.Seen.{SourceView, Sources, source_at}
 use Rattle.ridepool.specs.declared.inputs.ReadInputs.{ReadInputs}
@@ -33,9 +33,12 @@ network_made : (text : List ℕ) (roads : Roads) → IsNetworkText text roads �
 unfolding network_in
 network_made text roads is = ap (λ r. in_rows r (λ t. network_of t.records)) is.rows ∙ ap (λ r. own_fault r) is.is
 
-fleet_made : (nodes text : List ℕ) (vehicles : List Vehicle) → IsFleetText nodes text vehicles → fleet_in nodes text ≡ Ok vehicles
-unfolding fleet_in
-fleet_made nodes text vehicles is = ap (λ r. in_rows r (λ t. fleet_of nodes t.records)) is.rows ∙ ap (λ r. own_fault r) is.is
+vehicles_made : (nodes text : List ℕ) (fleet : List Vehicle) → (is : IsFleetText nodes text fleet) → vehicles_in nodes text ≡ Ok is.is.vehicles
+unfolding vehicles_in
+vehicles_made nodes text fleet is = ap (λ r. in_rows r (λ t. vehicles_of nodes t.records)) is.rows ∙ ap (λ r. own_fault r) is.is.read
+
+fleet_made : (nodes text : List ℕ) (fleet : List Vehicle) → IsFleetText nodes text fleet → IsFleetIn nodes text fleet
+fleet_made nodes text fleet is = record { vehicles = is.is.vehicles; read = vehicles_made nodes text fleet is; sorted = is.is.sorted }
 
 script_made : (text : List ℕ) (rounds : List NumberedLanes) → IsScriptText text rounds → script_in text ≡ Ok rounds
 unfolding script_in
@@ -51,7 +54,7 @@ pub network_stop : (s : Sources) (e : RunStatus) → CameTo s file.Network → S
 network_stop s _ came (StopsAt.unread e why) = unread_stops s file.Network e came why
 network_stop s _ came (StopsAt.refused fault reads hides) = (came, reads)
 
-pub fleet_stop : (s : Sources) (e : RunStatus) → (came : CameTo s file.Fleet) → StopsAt s.fleet file.Fleet Fleet (fleet_in came.0.nodes) e → IsStop s e
+pub fleet_stop : (s : Sources) (e : RunStatus) → (came : CameTo s file.Fleet) → StopsAt s.fleet file.Fleet Fleet (vehicles_in came.0.nodes) e → IsStop s e
 fleet_stop s _ came (StopsAt.unread e why) = unread_stops s file.Fleet e came why
 fleet_stop s _ came (StopsAt.refused fault reads hides) = (came, reads)
 

@@ -13,7 +13,7 @@ use Rattle.road_network.specs.Roads.{Roads}
 use Rattle.script_rows.specs.Round.{NumberedLanes}
 use Rattle.ridepool.specs.Explained.{HidesNoMemory}
 use Rattle.ridepool.specs.Inputs.{IsWithin, Reads}
-use Rattle.ridepool.specs.Reading.{network_in, fleet_in, script_in}
+use Rattle.ridepool.specs.Reading.{network_in, vehicles_in, IsFleetIn, script_in}
 use Rattle.dispatch_report.specs.Written.{Change}
 use Rattle.ridepool.specs.Seen.{SourceView}
 use Rattle.ridepool.specs.declared.status.RunStatus.{RunStatus}
@@ -75,9 +75,9 @@ module _ (s : Change SourceView) where
   network_stops bytes WriteFault whole why hides = absurd why
 
   pub fleet_stops : (nodes bytes : List ℕ) (status : RunStatus) → Reads s (λ came. came ≡ bytes) → RefusesFleet nodes bytes status → HidesNoMemory status
-      → StopsAt s file.Fleet Fleet (fleet_in nodes) status
-  fleet_stops nodes bytes (Fleet fault) whole why hides = StopsAt.refused fault (reads_as s bytes (λ b. fleet_in nodes b ≡ Err fault) whole why) hides
-  fleet_stops nodes bytes OutOfMemory whole why hides = stops_for_memory file.Fleet Fleet (fleet_in nodes) bytes whole
+      → StopsAt s file.Fleet Fleet (vehicles_in nodes) status
+  fleet_stops nodes bytes (Fleet fault) whole why hides = StopsAt.refused fault (reads_as s bytes (λ b. vehicles_in nodes b ≡ Err fault) whole why) hides
+  fleet_stops nodes bytes OutOfMemory whole why hides = stops_for_memory file.Fleet Fleet (vehicles_in nodes) bytes whole
   fleet_stops nodes bytes Done whole why hides = absurd why
   fleet_stops nodes bytes (Words fault) whole why hides = absurd why
   fleet_stops nodes bytes (Network fault) whole why hides = absurd why
@@ -106,9 +106,9 @@ network_read s items bytes (Ok roads) whole is ok why hides = reads_as s items (
 network_read s items bytes (Err e) whole is ok why hides = network_stops s items e whole (subst (λ b. RefusesNetwork b e) is why) hides
 
 pub fleet_read : (s : Change SourceView) (nodes items bytes : List ℕ) (r : Result (List Vehicle) RunStatus) → Reads s (λ came. came ≡ items) → bytes ≡ items
-    → IfOk r (λ fleet. fleet_in nodes bytes ≡ Ok fleet) → IfErr r (RefusesFleet nodes bytes) → IfErr r HidesNoMemory
-    → MatchResult r (λ fleet. Reads s (λ b. fleet_in nodes b ≡ Ok fleet)) (StopsAt s file.Fleet Fleet (fleet_in nodes))
-fleet_read s nodes items bytes (Ok fleet) whole is ok why hides = reads_as s items (λ b. fleet_in nodes b ≡ Ok fleet) whole (subst (λ b. fleet_in nodes b ≡ Ok fleet) is ok)
+    → IfOk r (λ fleet. IsFleetIn nodes bytes fleet) → IfErr r (RefusesFleet nodes bytes) → IfErr r HidesNoMemory
+    → MatchResult r (λ fleet. Reads s (λ b. IsFleetIn nodes b fleet)) (StopsAt s file.Fleet Fleet (vehicles_in nodes))
+fleet_read s nodes items bytes (Ok fleet) whole is ok why hides = reads_as s items (λ b. IsFleetIn nodes b fleet) whole (subst (λ b. IsFleetIn nodes b fleet) is ok)
 fleet_read s nodes items bytes (Err e) whole is ok why hides = fleet_stops s nodes items e whole (subst (λ b. RefusesFleet nodes b e) is why) hides
 
 pub script_read : (s : Change SourceView) (items bytes : List ℕ) (r : Result (List NumberedLanes) RunStatus) → Reads s (λ came. came ≡ items) → bytes ≡ items

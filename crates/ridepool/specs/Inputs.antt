@@ -11,7 +11,7 @@ use Rattle.rider_limits.specs.declared.settings.Mode.TheVariants.{Run, Load}
 use Rattle.rider_limits.specs.declared.settings.Settings.{Settings}
 use Rattle.road_network.specs.Roads.{Roads}
 use Rattle.script_rows.specs.Round.{NumberedLanes}
-use Rattle.ridepool.specs.Reading.{network_in, fleet_in, script_in}
+use Rattle.ridepool.specs.Reading.{network_in, vehicles_in, IsFleetIn, script_in}
 use Rattle.dispatch_report.specs.Written.{Change}
 use Rattle.ridepool.specs.Seen.{IsUntouched, SourceView, Sources, source_at}
 use Rattle.ridepool.specs.declared.status.RunStatus.{RunStatus}
@@ -45,13 +45,13 @@ pub record Reads (s : Change SourceView) (Holds : List ℕ → Type 0) : Type 0 
 -- the three sources were read as these inputs
 pub record AreRead (s : Sources) (i : Inputs) : Type 0 where
   pub network : Reads s.network (λ bytes. network_in bytes ≡ Ok i.roads)
-  pub fleet : Reads s.fleet (λ bytes. fleet_in i.roads.nodes bytes ≡ Ok i.vehicles)
+  pub fleet : Reads s.fleet (λ bytes. IsFleetIn i.roads.nodes bytes i.vehicles)
   pub script : Reads s.script (λ bytes. script_in bytes ≡ Ok i.rounds)
 
 -- three texts give these inputs
 pub record AreTexts (t : Texts) (i : Inputs) : Type 0 where
   pub network : network_in t.network ≡ Ok i.roads
-  pub fleet : fleet_in i.roads.nodes t.fleet ≡ Ok i.vehicles
+  pub fleet : IsFleetIn i.roads.nodes t.fleet i.vehicles
   pub script : script_in t.script ≡ Ok i.rounds
 
 -- no source is touched
@@ -71,12 +71,12 @@ CameTo s file.Network = IsUntouched s.fleet × IsUntouched s.script
 CameTo s file.Fleet = (roads : Roads) × Reads s.network (λ bytes. network_in bytes ≡ Ok roads) × IsUntouched s.script
 CameTo s file.Script =
     (roads : Roads) × (vehicles : List Vehicle) × Reads s.network (λ bytes. network_in bytes ≡ Ok roads)
-    × Reads s.fleet (λ bytes. fleet_in roads.nodes bytes ≡ Ok vehicles)
+    × Reads s.fleet (λ bytes. IsFleetIn roads.nodes bytes vehicles)
 
 -- why a run stopped at a source: what was read is refused, or there was more than may be, or a read failed, or there was no memory
 abbrev pub IsStop : Sources → RunStatus → Type 0
 IsStop s (Network fault) = CameTo s file.Network × Reads s.network (λ bytes. network_in bytes ≡ Err fault)
-IsStop s (Fleet fault) = (came : CameTo s file.Fleet) × Reads s.fleet (λ bytes. fleet_in came.0.nodes bytes ≡ Err fault)
+IsStop s (Fleet fault) = (came : CameTo s file.Fleet) × Reads s.fleet (λ bytes. vehicles_in came.0.nodes bytes ≡ Err fault)
 IsStop s (Script fault) = CameTo s file.Script × Reads s.script (λ bytes. script_in bytes ≡ Err fault)
 IsStop s (TooLong w) = CameTo s w × IsTooLong (source_at s w)
 IsStop s (ReadFault w) = CameTo s w × IsWithin (source_at s w) × Rose (source_at s w).before.faults (source_at s w).after.faults

@@ -1,8 +1,9 @@
 -- What the bytes of the inputs give: a value, or the first refusal.
-use Rattle.std.specs.Prelude.{ℕ, List, Result, Ok, Err, codes}
+use Rattle.std.specs.Prelude.{◌≡◌, ℕ, List, Result, Ok, Err}
 use Rattle.batch_snapshot.specs.declared.vehicle.Vehicle.{Vehicle}
-use Rattle.fleet_state.specs.Fleet.{fleet_of}
+use Rattle.fleet_state.specs.Fleet.{vehicles_of, IsByRisingId}
 use Rattle.fleet_state.specs.declared.fault.FleetFault.{FleetFault}
+use Rattle.pool_base.specs.Header.{network_header, fleet_header, script_header, party_header}
 use Rattle.pool_io.specs.Table.{Table, table_of}
 use Rattle.pool_io.specs.declared.input.Input.{Input}
 use Rattle.pool_io.specs.declared.input.Input.TheVariants.{Rows, Own}
@@ -28,19 +29,25 @@ in_rows (Ok table) read = own_fault (read table)
 
 -- the network that bytes give
 unfoldable pub network_in : List ℕ → Result Roads (Input NetworkFault)
-network_in bytes = in_rows (table_of (codes "from,to,seconds") bytes) (λ t. network_of t.records)
+network_in bytes = in_rows (table_of network_header bytes) (λ t. network_of t.records)
 
--- the fleet that bytes give, on a network of these nodes
-unfoldable pub fleet_in : List ℕ → List ℕ → Result (List Vehicle) (Input FleetFault)
-fleet_in nodes bytes = in_rows (table_of (codes "vehicle,seats,node,second") bytes) (λ t. fleet_of nodes t.records)
+-- the vehicles that bytes give in their order, on a network of these nodes
+unfoldable pub vehicles_in : List ℕ → List ℕ → Result (List Vehicle) (Input FleetFault)
+vehicles_in nodes bytes = in_rows (table_of fleet_header bytes) (λ t. vehicles_of nodes t.records)
+
+-- bytes give this fleet: their vehicles, by rising id
+pub record IsFleetIn (nodes bytes : List ℕ) (fleet : List Vehicle) : Type 0 where
+  pub vehicles : List Vehicle
+  pub read : vehicles_in nodes bytes ≡ Ok vehicles
+  pub sorted : IsByRisingId vehicles fleet
 
 -- the rounds, by what the first header gave
 abbrev pub first_version : List ℕ → Result Table RowFault → Result (List NumberedLanes) (Input ScriptFault)
 first_version bytes (Ok t) = own_fault (script_of One t.records)
-first_version bytes (Err (Header fields)) = in_rows (table_of (codes "round,lane,command,a,b,c,d,e") bytes) (λ t. script_of Two t.records)
+first_version bytes (Err (Header fields)) = in_rows (table_of party_header bytes) (λ t. script_of Two t.records)
 first_version bytes (Err (UnequalLength row)) = Err (Rows (UnequalLength row))
 first_version bytes (Err NoMemoryForRows) = Err (Rows NoMemoryForRows)
 
 -- the rounds that bytes give: by the first header, and where that isn't theirs, by the second
 unfoldable pub script_in : List ℕ → Result (List NumberedLanes) (Input ScriptFault)
-script_in bytes = first_version bytes (table_of (codes "round,lane,command,a,b,c,d") bytes)
+script_in bytes = first_version bytes (table_of script_header bytes)

@@ -1,10 +1,11 @@
-ghost use Rattle.std.specs.Prelude.{◌≡◌, All, Ok, IfOk, IfErr, MatchResult, codes};
+ghost use Rattle.std.specs.Prelude.{◌≡◌, All, Ok, IfOk, IfErr, MatchResult};
 ghost use Rattle.pool_base.specs.declared.which.Which.TheVariants as file;
+ghost use Rattle.pool_base.specs.Header.{party_header};
 ghost use Rattle.pool_io.specs.Table.{table_of};
 ghost use Rattle.request_book.specs.Consistent.{IsNode};
 ghost use Rattle.ridepool.specs.Explained.{HidesNoMemory};
 ghost use Rattle.ridepool.specs.Inputs.{Reads};
-ghost use Rattle.ridepool.specs.Reading.{network_in, fleet_in, script_in, in_rows, own_fault};
+ghost use Rattle.ridepool.specs.Reading.{network_in, vehicles_in, IsFleetIn, script_in, in_rows, own_fault};
 ghost use Rattle.ridepool.specs.Seen.{source_seen};
 ghost use Rattle.ridepool.specs.declared.status.RunStatus.TheVariants as status;
 ghost use Rattle.ridepool.specs.work.Reading.{IsUnread, StopsAt, RefusesNetwork, RefusesFleet, RefusesRounds};
@@ -52,8 +53,8 @@ pub(crate) fn fleet_from<S: Source>(
     network: &Network,
 ) -> Result<Fleet, RunStatus>
     ensures read { let seen = source_seen S.left S.taken S.faults source.old source.new in
-        let read = fleet_in network.now.nodes in
-        MatchResult result (λ fleet. Reads seen (λ bytes. read bytes ≡ Ok fleet)) (StopsAt seen file.Fleet status.Fleet read) }
+        MatchResult result (λ fleet. Reads seen (λ bytes. IsFleetIn network.now.nodes bytes fleet))
+        (StopsAt seen file.Fleet status.Fleet (vehicles_in network.now.nodes)) }
     ensures named { IfOk result (All (λ vehicle. IsNode network.now.nodes vehicle.node)) }
 {
     let bytes = read_input(alloc, source, Which::Fleet)?;
@@ -86,9 +87,9 @@ fn accept_network(alloc: Global, bytes: &[u8]) -> Result<Network, RunStatus>
     }
 }
 
-#[tactic(auto, unfolding(crate::specs::Reading::fleet_in))]
+#[tactic(auto, unfolding(crate::specs::Reading::vehicles_in))]
 fn accept_fleet(alloc: Global, bytes: &[u8], network: &Network) -> Result<Fleet, RunStatus>
-    ensures fleet { IfOk result (λ fleet. fleet_in network.now.nodes bytes.now ≡ Ok fleet) }
+    ensures fleet { IfOk result (λ fleet. IsFleetIn network.now.nodes bytes.now fleet) }
     ensures named { IfOk result (All (λ vehicle. IsNode network.now.nodes vehicle.node)) }
     ensures refused { IfErr result (RefusesFleet network.now.nodes bytes.now) }
     ensures no_memory { IfErr result HidesNoMemory }
@@ -119,8 +120,8 @@ fn accept_script(alloc: Global, bytes: &[u8]) -> Result<Script, RunStatus>
 }
 
 fn accept_second_version(alloc: Global, bytes: &[u8]) -> Result<Script, RunStatus>
-    ensures script { IfOk result (λ script. in_rows (table_of (codes "round,lane,command,a,b,c,d,e") bytes.now) (λ t. script_of ScriptVersion.Two t.records) ≡ Ok script) }
-    ensures refused { IfErr result (RefusesRounds (in_rows (table_of (codes "round,lane,command,a,b,c,d,e") bytes.now) (λ t. script_of ScriptVersion.Two t.records))) }
+    ensures script { IfOk result (λ script. in_rows (table_of party_header bytes.now) (λ t. script_of ScriptVersion.Two t.records) ≡ Ok script) }
+    ensures refused { IfErr result (RefusesRounds (in_rows (table_of party_header bytes.now) (λ t. script_of ScriptVersion.Two t.records))) }
     ensures no_memory { IfErr result HidesNoMemory }
 {
     match rows(alloc, bytes, b"round,lane,command,a,b,c,d,e") {

@@ -10,7 +10,7 @@ use Rattle.script_rows.specs.Round.{NumberedLanes}
 use Rattle.script_rows.specs.declared.fault.ScriptFault.{ScriptFault}
 use Rattle.ridepool.specs.Explained.{HidesNoMemory}
 use Rattle.ridepool.specs.Inputs.{IsWithin, IsTooLong, Reads, AreInputs, AreUntouched, IsStop}
-use Rattle.ridepool.specs.Reading.{network_in, fleet_in}
+use Rattle.ridepool.specs.Reading.{network_in, vehicles_in}
 use Rattle.dispatch_report.specs.Written.{Change}
 use Rattle.ridepool.specs.Seen.{SourceView, Sources}
 use Rattle.ridepool.specs.declared.inputs.ReadInputs.{ReadInputs}
@@ -35,7 +35,7 @@ RefusesNetwork bytes OutOfMemory = Unit {0}
 RefusesNetwork bytes _ = ⊥
 
 abbrev pub RefusesFleet : List ℕ → List ℕ → RunStatus → Type 0
-RefusesFleet nodes bytes (Fleet fault) = fleet_in nodes bytes ≡ Err fault
+RefusesFleet nodes bytes (Fleet fault) = vehicles_in nodes bytes ≡ Err fault
 RefusesFleet nodes bytes OutOfMemory = Unit {0}
 RefusesFleet nodes bytes _ = ⊥
 
