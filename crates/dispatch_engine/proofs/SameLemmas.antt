@@ -8,7 +8,8 @@ use Rattle.request_book.specs.Book.{next_position}
 use Rattle.request_book.specs.Closing.{closed_state}
 use Rattle.request_book.specs.Refusals.{first_of, batch_open, clock_back, not_this_batch}
 use Rattle.request_book.specs.Replay.{state_after, RepliesAreSteps}
-use Rattle.request_book.specs.Sealing.{batch_of, one_more, sealed_state}
+use Rattle.request_book.specs.Sealing.{batch_of, sealed_state}
+use Rattle.pool_io.specs.Faults.{one_more}
 use Rattle.request_book.specs.Step.{answer, seal_refusal, seal_step, close_step, step}
 use Rattle.request_book.specs.declared.command.Command.{Command}
 use Rattle.request_book.specs.declared.command.Command.TheVariants.{Submit, Cancel, Report, Pickup, Dropoff, Seal, Close}

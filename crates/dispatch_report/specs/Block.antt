@@ -28,16 +28,16 @@ abbrev pub pair_line : List ℕ → ℕ × ℕ → List ℕ
 pair_line words pair = numbered words pair.0 ++ spaced pair.1
 
 -- a vehicle-trip pair: the vehicle, its least delay, and the riders
-abbrev pub row_line : RowLine → List ℕ
-row_line row = numbered (codes "row ") row.vehicle ++ spaced row.cost ++ flat_map spaced row.riders.items
+abbrev pub pair_text : RowLine → List ℕ
+pair_text row = numbered (codes "row ") row.vehicle ++ spaced row.cost ++ flat_map spaced row.riders.items
 
 -- a chosen trip: the vehicle, its delay, and its stops
 abbrev pub trip_line : ChosenTrip → List ℕ
 trip_line trip = numbered (codes "trip ") trip.vehicle ++ spaced trip.cost ++ flat_map stop_text trip.stops.items
 
 -- an idle vehicle that is sent to a rider, and the seconds of its way
-abbrev pub move_line : MoveLine → List ℕ
-move_line m = numbered (codes "move ") m.vehicle ++ spaced m.rider ++ spaced m.seconds
+abbrev pub move_text : MoveLine → List ℕ
+move_text m = numbered (codes "move ") m.vehicle ++ spaced m.rider ++ spaced m.seconds
 
 -- a node of the tree that shows the bound: a row of this block by its vehicle and its number, or multipliers
 abbrev pub node_line : List RowLine → Node → List ℕ
@@ -50,8 +50,8 @@ node_line rows Dead = codes "dead"
 abbrev pub answer_lines : Bool → Answer → List (List ℕ)
 answer_lines proof Overflow = codes "overflow" ∷ []
 answer_lines proof (Plan plan) =
-    (map (numbered (codes "lapsed ")) plan.lapsed ++ map late_line plan.late ++ map (pair_line (codes "rv ")) plan.rv ++ map (pair_line (codes "rr ")) plan.rr ++ map row_line plan.rows)
-    ++ (map trip_line plan.chosen ++ map (numbered (codes "out ")) plan.left ++ map move_line plan.moves)
+    (map (numbered (codes "lapsed ")) plan.lapsed ++ map late_line plan.late ++ map (pair_line (codes "rv ")) plan.rv ++ map (pair_line (codes "rr ")) plan.rr ++ map pair_text plan.rows)
+    ++ (map trip_line plan.chosen ++ map (numbered (codes "out ")) plan.left ++ map move_text plan.moves)
     ++ ((numbered (codes "cost ") plan.cost ∷ []) ++ (signed (codes "bound ") plan.bound ∷ []) ++ (numbered (codes "nodes ") (length plan.tree) ∷ []))
     ++ (if proof then map (node_line plan.rows) plan.tree else [])
 

@@ -23,13 +23,13 @@ command_text (Seal now) = numbered (codes "seal ") now
 command_text (Close batch outcome) = numbered (codes "close ") batch
 
 -- the word of a status
-abbrev pub status_text : Status → List ℕ
-status_text Waiting = codes "waiting"
-status_text (Promised p) = codes "promised"
-status_text (Aboard v) = codes "aboard"
-status_text GivenUp = codes "cancelled"
-status_text Delivered = codes "delivered"
-status_text Expired = codes "expired"
+abbrev pub rider_status_text : Status → List ℕ
+rider_status_text Waiting = codes "waiting"
+rider_status_text (Promised p) = codes "promised"
+rider_status_text (Aboard v) = codes "aboard"
+rider_status_text GivenUp = codes "cancelled"
+rider_status_text Delivered = codes "delivered"
+rider_status_text Expired = codes "expired"
 
 -- a space and a number, or `none`
 abbrev pub spaced_or_none : Option ℕ → List ℕ
@@ -45,7 +45,7 @@ refusal_text PoolFull = codes "pool-full"
 refusal_text BookFull = codes "book-full"
 refusal_text UnknownRider = codes "unknown-rider"
 refusal_text (IsAboard vehicle) = numbered (codes "is-aboard ") vehicle
-refusal_text (Ended status) = codes "ended " ++ status_text status
+refusal_text (Ended status) = codes "ended " ++ rider_status_text status
 refusal_text UnknownVehicle = codes "unknown-vehicle"
 refusal_text (TimeBack last) = numbered (codes "time-back ") last
 refusal_text (NotPromised holder) = codes "not-promised" ++ spaced_or_none holder

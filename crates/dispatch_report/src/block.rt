@@ -1,6 +1,6 @@
 ghost use Rattle.std.specs.Prelude.{◌≡◌, ◌++◌, ◌∷◌, [], List, ℕ, OnOk, map, codes, length, Bool, slice_get, unwrap_or, option_map};
 ghost use Rattle.std.specs.List.{flat_map};
-ghost use Rattle.dispatch_report.specs.Block.{stop_text, late_line, pair_line, row_line, trip_line, move_line, node_line, answer_lines, block_lines};
+ghost use Rattle.dispatch_report.specs.Block.{stop_text, late_line, pair_line, pair_text, trip_line, move_text, node_line, answer_lines, block_lines};
 ghost use Rattle.dispatch_report.specs.Words.{numbered, signed};
 ghost use Rattle.dispatch_report.specs.Written.{sink_seen};
 ghost use Rattle.dispatch_report.specs.work.Block.{late_order, graph_lines, plan_lines, bound_lines, tree_lines};
@@ -230,7 +230,7 @@ struct Row;
 impl Line for Row {
     type Item = RowLine;
 
-    ghost text = { λ _ row. row_line row };
+    ghost text = { λ _ row. pair_text row };
 
     fn put(&self, line: &mut Vec<u8>, row: &RowLine) -> Result<(), OutOfMemory> {
         put_numbered(line, b"row ", u64::from(row.vehicle.get()))?;
@@ -260,7 +260,7 @@ struct Move;
 impl Line for Move {
     type Item = MoveLine;
 
-    ghost text = { λ _ m. move_line m };
+    ghost text = { λ _ m. move_text m };
 
     fn put(&self, line: &mut Vec<u8>, item: &MoveLine) -> Result<(), OutOfMemory> {
         put_numbered(line, b"move ", u64::from(item.vehicle.get()))?;

@@ -1,5 +1,5 @@
 ghost use Rattle.std.specs.Prelude.{◌≡◌, ◌++◌, ℕ, Option, OnOk};
-ghost use Rattle.dispatch_report.specs.Entry.{status_text, spaced_or_none, refusal_text, reply_text};
+ghost use Rattle.dispatch_report.specs.Entry.{rider_status_text, spaced_or_none, refusal_text, reply_text};
 ghost use Rattle.dispatch_report.specs.Words.{numbered};
 
 use crate::words::{put_numbered, put_spaced};
@@ -88,7 +88,7 @@ fn put_spaced_or_none(line: &mut Vec<u8>, number: Option<u64>) -> Result<(), Out
 }
 
 fn status_word(status: Status) -> &'static [u8]
-    ensures { result.now ≡ status_text status }
+    ensures { result.now ≡ rider_status_text status }
 {
     match status {
         Status::Waiting => b"waiting",

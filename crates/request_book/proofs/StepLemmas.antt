@@ -5,7 +5,8 @@ use Rattle.batch_snapshot.specs.declared.vehicle.Vehicle.{Vehicle}
 use Rattle.batch_snapshot.specs.Batch.{Batch}
 use Rattle.request_book.specs.declared.outcome.Answer.{Answer}
 use Rattle.request_book.specs.Closing.{after_answer, closed_state}
-use Rattle.request_book.specs.Sealing.{one_more, sealed_state}
+use Rattle.request_book.specs.Sealing.{sealed_state}
+use Rattle.pool_io.specs.Faults.{one_more}
 use Rattle.request_book.specs.declared.reply.BookRefusal.{BookRefusal}
 use Rattle.request_book.specs.declared.reply.Reply.TheVariants.{Refused, Accepted, Cancelled, Placed, Picked, Dropped, Sealed, Closed}
 use Rattle.request_book.specs.declared.reply.BookRefusal.TheVariants.{UnknownRider, UnknownVehicle, PoolFull}

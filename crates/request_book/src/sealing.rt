@@ -9,7 +9,8 @@ ghost use Rattle.request_book.specs.work.Register.{state_of, pool_id, IsIndexed,
 ghost use Rattle.request_book.specs.Rider.{with_status, pool_promise};
 ghost use Rattle.request_book.specs.State.{find_rider};
 ghost use Rattle.request_book.specs.Consistent.{IsConsistent};
-ghost use Rattle.request_book.specs.Sealing.{is_over, over_id, asking, after_seal, one_more, batch_of};
+ghost use Rattle.request_book.specs.Sealing.{is_over, over_id, asking, after_seal, batch_of};
+ghost use Rattle.pool_io.specs.Faults.{one_more};
 ghost use Rattle.request_book.specs.Step.{seal_refusal, seal_step};
 
 use crate::refusals::{POOL, batch_open, clock_back, first_of};
@@ -91,7 +92,12 @@ impl Register {
     }
 
     /// Seals a batch. After an error nothing has changed.
-    pub(crate) fn seal(&mut self, alloc: Global, wait: u32, second: Second) -> Result<Reply, OutOfMemory>
+    pub(crate) fn seal(
+        &mut self,
+        alloc: Global,
+        wait: u32,
+        second: Second,
+    ) -> Result<Reply, OutOfMemory>
         requires indexed { IsIndexed self.old }
         requires consistent { IsConsistent (state_of self.old) }
         ensures ok { IfOk result (λ reply. (state_of self.new, reply) ≡ seal_step wait (state_of self.old) second) }
@@ -221,7 +227,10 @@ fn pool_promise(status: &Status) -> Option<Option<Promise>>
 }
 
 /// Equal vehicles.
-pub(crate) fn copied_vehicles(alloc: Global, vehicles: &[Vehicle]) -> Result<Vec<Vehicle>, OutOfMemory>
+pub(crate) fn copied_vehicles(
+    alloc: Global,
+    vehicles: &[Vehicle],
+) -> Result<Vec<Vehicle>, OutOfMemory>
     ensures { IfOk result (λ copy. copy.items ≡ vehicles.now) }
 {
     let mut copy = Vec::with_capacity(alloc, vehicles.len())?;

@@ -8,7 +8,7 @@ use Rattle.rider_limits.specs.Words.{fault_of}
 use Rattle.rider_limits.specs.declared.word_fault.WordFault.{WordFault}
 use Rattle.road_network.specs.Roads.{Roads}
 use Rattle.ridepool.specs.Explained.{AreForRun, AreForLoad, StopsRun, Tells, IsFaultlessRun, IsFaultless, Explains}
-use Rattle.ridepool.specs.Inputs.{Reads, IsTooLong, IsStop}
+use Rattle.ridepool.specs.Inputs.{Reads, IsSourceTooLong, IsStop}
 use Rattle.ridepool.specs.Reading.{network_in, vehicles_in, script_in}
 use Rattle.dispatch_report.specs.Written.{Change}
 use Rattle.ridepool.specs.Seen.{SourceView, Seen, source_at}
@@ -28,7 +28,7 @@ read_of : (s : Change SourceView) (text : List ℕ) (P : List ℕ → Type 0) �
 read_of s text P tells r = subst P (of_told s.before.left text (λ left. r.bytes ≡ left) tells.told r.told) r.holds
 
 -- no source that tells few bytes is too long
-not_long : (s : Change SourceView) (text : List ℕ) → Tells s text → IsTooLong s → ⊥
+not_long : (s : Change SourceView) (text : List ℕ) → Tells s text → IsSourceTooLong s → ⊥
 not_long s text tells why = omega (arith, tells.short, of_told s.before.left text (λ left. 67108864 < length left) tells.told why.told)
 
 ok_is_no_err : {A E : Type 0} (r : Result A E) (x : A) (e : E) → r ≡ Ok x → r ≡ Err e → ⊥

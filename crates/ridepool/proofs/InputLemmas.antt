@@ -4,7 +4,7 @@ use Rattle.std.specs.Prelude.{IfOk, IfErr}
 use Rattle.batch_snapshot.specs.declared.vehicle.Vehicle.{Vehicle}
 use Rattle.fleet_state.specs.Fleet.{vehicles_of}
 use Rattle.load_maker.specs.Texts.{texts_of}
-use Rattle.made_inputs.specs.Accepted.{IsNetworkText, IsFleetText, IsScriptText, AreRead as TextsAreRead}
+use Rattle.made_inputs.specs.Accepted.{IsNetworkText, IsFleetText, IsScriptText, AreReadFrom as TextsAreRead}
 use Rattle.pool_base.specs.declared.which.Which.{Which}
 use Rattle.pool_io.specs.declared.input.Input.{Input}
 use Rattle.pool_base.specs.declared.which.Which.TheVariants as file
@@ -18,7 +18,7 @@ use Rattle.script_rows.specs.Round.{NumberedLanes}
 use Rattle.script_rows.specs.Script.{script_of}
 use Rattle.script_rows.specs.declared.version.ScriptVersion.TheVariants.{One}
 use Rattle.ridepool.specs.Explained.{HidesNoMemory}
-use Rattle.ridepool.specs.Inputs.{Inputs, IsWithin, IsTooLong, Reads, AreRead, AreTexts, AreUntouched, AreInputs, CameTo, IsStop}
+use Rattle.ridepool.specs.Inputs.{Inputs, IsWithin, IsSourceTooLong, Reads, AreReadFrom, AreTexts, AreUntouched, AreInputs, CameTo, IsStop}
 use Rattle.ridepool.specs.Reading.{own_fault, in_rows, first_version, network_in, vehicles_in, IsFleetIn, script_in}
 use Rattle.dispatch_report.specs.Written.{Change}
 use Rattle.ridepool.specs.Seen.{SourceView, Sources, source_at}
@@ -78,7 +78,7 @@ pub got_stop : (settings : Settings) (s : Sources) (e : RunStatus) → settings.
 got_stop settings s e is stop hides = record { inputs = subst (λ m. IsNoInput m s e) (sym is) stop; refused = hides }
 
 pub got_read : (settings : Settings) (s : Sources) (got : ReadInputs) → settings.mode ≡ Run
-    → AreRead s (record { settings = settings; roads = got.network; vehicles = got.fleet; rounds = got.script }) → GotInputs settings s (Ok got)
+    → AreReadFrom s (record { settings = settings; roads = got.network; vehicles = got.fleet; rounds = got.script }) → GotInputs settings s (Ok got)
 got_read settings s got is read =
     let i : Inputs = record { settings = settings; roads = got.network; vehicles = got.fleet; rounds = got.script } in
     record { inputs = subst (λ m. AreInputs m s i) (sym is) read; refused = tt }

@@ -29,7 +29,7 @@ abbrev pub IsWithin : Change SourceView → Type 0
 IsWithin s = s.after.taken ≤ s.before.taken + 67108864
 
 -- one byte more was taken, and where the source tells its bytes, there are so many
-pub record IsTooLong (s : Change SourceView) : Type 0 where
+pub record IsSourceTooLong (s : Change SourceView) : Type 0 where
   pub taken : s.after.taken ≡ s.before.taken + 67108865
   pub told : IfSome s.before.left (λ left. 67108864 < length left)
 
@@ -43,7 +43,7 @@ pub record Reads (s : Change SourceView) (Holds : List ℕ → Type 0) : Type 0 
   pub holds : Holds bytes
 
 -- the three sources were read as these inputs
-pub record AreRead (s : Sources) (i : Inputs) : Type 0 where
+pub record AreReadFrom (s : Sources) (i : Inputs) : Type 0 where
   pub network : Reads s.network (λ bytes. network_in bytes ≡ Ok i.roads)
   pub fleet : Reads s.fleet (λ bytes. IsFleetIn i.roads.nodes bytes i.vehicles)
   pub script : Reads s.script (λ bytes. script_in bytes ≡ Ok i.rounds)
@@ -62,7 +62,7 @@ pub record AreUntouched (s : Sources) : Type 0 where
 
 -- the inputs by the command: of a run what its sources were read as; of a made workload what its texts give
 abbrev pub AreInputs : Mode → Sources → Inputs → Type 0
-AreInputs Run s i = AreRead s i
+AreInputs Run s i = AreReadFrom s i
 AreInputs (Load shape) s i = AreTexts (texts_of shape) i × AreUntouched s
 
 -- a run came to a source: those before it were read and pass, those behind it are untouched
@@ -78,7 +78,7 @@ abbrev pub IsStop : Sources → RunStatus → Type 0
 IsStop s (Network fault) = CameTo s file.Network × Reads s.network (λ bytes. network_in bytes ≡ Err fault)
 IsStop s (Fleet fault) = (came : CameTo s file.Fleet) × Reads s.fleet (λ bytes. vehicles_in came.0.nodes bytes ≡ Err fault)
 IsStop s (Script fault) = CameTo s file.Script × Reads s.script (λ bytes. script_in bytes ≡ Err fault)
-IsStop s (TooLong w) = CameTo s w × IsTooLong (source_at s w)
+IsStop s (TooLong w) = CameTo s w × IsSourceTooLong (source_at s w)
 IsStop s (ReadFault w) = CameTo s w × IsWithin (source_at s w) × Rose (source_at s w).before.faults (source_at s w).after.faults
 IsStop s OutOfMemory = (w : Which) × CameTo s w × IsWithin (source_at s w)
 IsStop s _ = ⊥

@@ -6,7 +6,8 @@ use Rattle.batch_snapshot.specs.Points.{named_nodes}
 use Rattle.request_book.specs.Book.{BookView, IsApplied, IsBook, batch_unless}
 use Rattle.request_book.specs.Consistent.{IsNode}
 use Rattle.request_book.specs.Replay.{state_after}
-use Rattle.request_book.specs.Sealing.{batch_of, one_more, sealed_state}
+use Rattle.request_book.specs.Sealing.{batch_of, sealed_state}
+use Rattle.pool_io.specs.Faults.{one_more}
 use Rattle.request_book.specs.Step.{answer, seal_refusal, submit_step, cancel_step, report_step, pickup_step, dropoff_step, seal_step, close_step, step}
 use Rattle.request_book.specs.declared.command.Command.{Command}
 use Rattle.request_book.specs.declared.command.Command.TheVariants.{Submit, Cancel, Report, Pickup, Dropoff, Seal, Close}

@@ -9,7 +9,7 @@ use Rattle.rider_limits.specs.declared.settings.Settings.{Settings}
 use Rattle.script_rows.specs.Round.{NumberedLanes}
 use Rattle.script_rows.specs.declared.fault.ScriptFault.{ScriptFault}
 use Rattle.ridepool.specs.Explained.{HidesNoMemory}
-use Rattle.ridepool.specs.Inputs.{IsWithin, IsTooLong, Reads, AreInputs, AreUntouched, IsStop}
+use Rattle.ridepool.specs.Inputs.{IsWithin, IsSourceTooLong, Reads, AreInputs, AreUntouched, IsStop}
 use Rattle.ridepool.specs.Reading.{network_in, vehicles_in}
 use Rattle.dispatch_report.specs.Written.{Change}
 use Rattle.ridepool.specs.Seen.{SourceView, Sources}
@@ -19,7 +19,7 @@ use Rattle.ridepool.specs.declared.status.RunStatus.TheVariants.{Network, Fleet,
 
 -- why a source wasn't read to its end
 pub data IsUnread (s : Change SourceView) (which : Which) : RunStatus → Type 0 where
-  long : IsTooLong s → IsUnread s which (TooLong which)
+  long : IsSourceTooLong s → IsUnread s which (TooLong which)
   failed : IsWithin s → Rose s.before.faults s.after.faults → IsUnread s which (ReadFault which)
   memory : IsWithin s → IsUnread s which OutOfMemory
 
