@@ -17,7 +17,7 @@ use crate::refusals::{POOL, batch_open, clock_back, first_of};
 use crate::register::{Register, change_status};
 use crate::reply::{BookRefusal, Reply};
 use crate::rider::{BookRider, Status};
-use batch_snapshot::{Promise, Rider, Snapshot, Vehicle};
+use batch_snapshot::{Promise, Rider, Snapshot, copied_vehicles};
 use indexmap::IndexSet;
 use pool_base::{OutOfMemory, RiderId, Second, Sequence};
 use std::alloc::Global;
@@ -224,20 +224,6 @@ fn pool_promise(status: &Status) -> Option<Option<Promise>>
         Status::Promised(promise) => Some(Some(*promise)),
         _ => None,
     }
-}
-
-/// Equal vehicles.
-pub(crate) fn copied_vehicles(
-    alloc: Global,
-    vehicles: &[Vehicle],
-) -> Result<Vec<Vehicle>, OutOfMemory>
-    ensures { IfOk result (λ copy. copy.items ≡ vehicles.now) }
-{
-    let mut copy = Vec::with_capacity(alloc, vehicles.len())?;
-    for vehicle in vehicles {
-        copy.push(vehicle.copied())?;
-    }
-    Ok(copy)
 }
 
 /// Lets riders expire.
