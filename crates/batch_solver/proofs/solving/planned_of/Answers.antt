@@ -1,4 +1,4 @@
-use Rattle.std.proofs.Common.{◌≡◌, ◌<◌, ◌≤◌, ℕ, List, Option, length, map, All, sym, ap, ◌∙◌, subst, to_z, of_z}
+use Rattle.std.proofs.Common.{◌≡◌, ◌<◌, ◌≤◌, ℕ, List, Option, length, map, All, sym, ap, ◌∙◌, subst, arith, to_z, of_z}
 use mir.Syntax.{w128}
 use Rattle.std.proofs.lemmas.Int.{to_z-of_z}
 use Rattle.plan_rules.specs.declared.row.TripRow.{TripRow}
@@ -11,6 +11,9 @@ use Rattle.batch_solver.specs.Trips.{AreTrips, AreLate}
 use Rattle.batch_solver.specs.Moves.{AreMoves, idle_vehicles}
 use Rattle.batch_solver.proofs.GraphLemmas.{rows_of_riders, rows_are_few}
 use Rattle.batch_solver.proofs.solving.planned_of.Goals as goal
+
+pub rv_lines-requires-clause-riders : goal.rv_lines-requires-clause-riders
+rv_lines-requires-clause-riders c = λ k d l. (c.requires.rv.right k d l).riders.within 0 0 (omega arith)
 
 pub row_lines-requires-clause-riders : goal.row_lines-requires-clause-riders
 row_lines-requires-clause-riders c =
