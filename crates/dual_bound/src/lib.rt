@@ -12,6 +12,8 @@ mod first_fit_pass;
 mod fixed_point;
 mod relaxation;
 mod rider_index;
+#[cfg(test)]
+mod tests;
 
 pub use climbing::{ascend, climb};
 pub use first_fit_pass::{first_fit, first_fit_by};

@@ -16,6 +16,9 @@ use std::alloc::Global;
 /// How many moves have the same temperature.
 const MOVES_EACH: u64 = 1024;
 
+/// How many moves there are at most for each row of the table.
+const MOVES_A_ROW: u64 = 600;
+
 /// How many riders a row has at most.
 const MOST_RIDERS: usize = 6;
 
@@ -69,7 +72,7 @@ impl Annealing {
         })
     }
 
-    /// Makes so many moves from this plan. Whether it found a better one.
+    /// Makes so many moves from this plan, fewer where there are few rows. Whether it found a better one.
     pub fn run(
         &mut self,
         table: &RowTable,
@@ -81,7 +84,8 @@ impl Annealing {
         self.propose(regrets, round)?;
         self.start(table, chosen);
         let cooling = Cooling::of_round(round);
-        let stages = moves / MOVES_EACH;
+        let most = (table.row_count() as u64).saturating_mul(MOVES_A_ROW);
+        let stages = moves.min(most) / MOVES_EACH;
         for stage in 0..stages {
             let temperature = cooling.temperature(stage, stages);
             for _ in 0..MOVES_EACH {
