@@ -1,4 +1,4 @@
-//! Worked scripts of two passes, call by call.
+//! A worked script of two passes, call by call.
 ghost use Rattle.std.specs.Prelude.{◌≡◌, ◌<◌, vec_len};
 ghost use Rattle.seat_lock.specs.Values.{IsPassOf, AreAllPasses};
 
@@ -20,10 +20,8 @@ use std::test::Fail;
 const LINE: &[u8] =
     b"from,to,seconds\n1,2,60\n2,1,60\n2,3,60\n3,2,60\n3,4,60\n4,3,60\n4,5,60\n5,4,60\n";
 
-// Vehicles with four seats at node 1, from second 0 on.
+// A vehicle with four seats at node 1, from second 0 on.
 const ONE: &[u8] = b"vehicle,seats,node,second\n1,4,1,0\n";
-
-const TWO: &[u8] = b"vehicle,seats,node,second\n1,4,1,0\n2,4,1,0\n";
 
 fn node(name: u64) -> NodeId {
     NodeId::new(name).unwrap_or(NodeId::default())
@@ -35,10 +33,6 @@ fn vehicle(name: u64) -> VehicleId {
 
 fn rider_one() -> RiderId {
     RiderId::new(1).unwrap_or(RiderId::default())
-}
-
-fn minute() -> Second {
-    Second::new(60).unwrap_or(Second::default())
 }
 
 // The book of a fleet on the line.
@@ -75,14 +69,6 @@ fn asks() -> Command {
 
 fn gives_up() -> Command {
     Command::Cancel { rider: rider_one() }
-}
-
-fn picks_up(name: u64) -> Command {
-    Command::Pickup {
-        vehicle: vehicle(name),
-        rider: rider_one(),
-        time: minute(),
-    }
 }
 
 // The trip of a vehicle that fetches rider 1 at second 60.
@@ -193,8 +179,9 @@ fn seal_reply<R: Wait>(
     Some((receipt.position, receipt.reply, counts))
 }
 
+// A rider gives up while a batch is solved: each call that takes memory answers, and its reply is the step table's.
 #[test]
-fn a_rider_who_gave_up_while_a_batch_was_solved(rt: HostRuntime) -> Result<(), Fail> {
+fn answers_with_memory(rt: HostRuntime) -> Result<(), Fail> {
     let alloc = rt.alloc();
     let Some(book) = book_of(alloc, ONE) else {
         panic!(rt; "no memory for a book")
@@ -221,38 +208,5 @@ fn a_rider_who_gave_up_while_a_batch_was_solved(rt: HostRuntime) -> Result<(), F
     assert!(rt;
         book.entries().len() == 5 && book.status_of(rider_one()) == Some(Status::Cancelled)
     );
-    Ok(())
-}
-
-#[test]
-fn answers_with_memory(rt: HostRuntime) -> Result<(), Fail> {
-    let alloc = rt.alloc();
-    let Some(book) = book_of(alloc, TWO) else {
-        panic!(rt; "no memory for a book")
-    };
-    let Ok((shared, mut passes)) = SharedBook::start(alloc, book, 2) else {
-        panic!(rt; "no memory to start")
-    };
-    let asked = reply_of(&rt, alloc, &shared, &mut passes, 1, asks());
-    assert!(rt; asked == Some((0, Reply::Accepted)));
-    assert!(rt; seal_reply(&rt, alloc, &shared, &mut passes).is_some());
-    let promised = close_reply(&rt, alloc, &shared, &mut passes, 1, 1);
-    assert!(rt; promised == Some((2, Reply::Closed)));
-    let sealed = seal_reply(&rt, alloc, &shared, &mut passes);
-    assert!(rt; sealed == Some((3, Reply::Sealed { batch: 2 }, [2, 2, 1])));
-    let picked = reply_of(&rt, alloc, &shared, &mut passes, 1, picks_up(1));
-    assert!(rt; picked == Some((4, Reply::Picked)));
-    let closed = close_reply(&rt, alloc, &shared, &mut passes, 2, 2);
-    assert!(rt; closed == Some((5, Reply::Closed)));
-    let late = reply_of(&rt, alloc, &shared, &mut passes, 1, picks_up(2));
-    let aboard = Reply::Refused(BookRefusal::IsAboard {
-        vehicle: vehicle(1),
-    });
-    assert!(rt; late == Some((6, aboard)));
-    let Ok(book) = shared.finish(passes) else {
-        panic!(rt; "no memory to finish")
-    };
-    let stays = Some(Status::Aboard(vehicle(1)));
-    assert!(rt; book.entries().len() == 7 && book.status_of(rider_one()) == stays);
     Ok(())
 }
