@@ -4,7 +4,7 @@ use Rattle.std.specs.Prelude.{IfOk, IfErr}
 use Rattle.batch_snapshot.specs.declared.vehicle.Vehicle.{Vehicle}
 use Rattle.fleet_state.specs.Fleet.{vehicles_of}
 use Rattle.load_maker.specs.Texts.{texts_of}
-use Rattle.made_inputs.specs.Accepted.{IsNetworkText, IsFleetText, IsScriptText, AreReadFrom as TextsAreRead}
+use Rattle.made_inputs.specs.Accepted.{IsNetworkText, IsFleetText, IsScriptText, AreRead as TextsAreRead}
 use Rattle.pool_base.specs.declared.which.Which.{Which}
 use Rattle.pool_io.specs.declared.input.Input.{Input}
 use Rattle.pool_base.specs.declared.which.Which.TheVariants as file
