@@ -4,20 +4,22 @@ use mir.Syntax.{w128}
 use Rattle.std.specs.Result.{IfOk}
 use Rattle.std.proofs.lemmas.Int.{ints, to_z-of_z}
 use Rattle.std.proofs.lemmas.List.Elements.{All-from_recursion}
-use Rattle.plan_rules.specs.Graph.{Graph, IsRowOf, vehicle_at, IsGoodGraph}
+use Rattle.plan_rules.specs.Graph.{Graph, IsRowOf, row_vehicle, IsGoodGraph}
 use Rattle.plan_rules.specs.Plan.{IsLawful, cost_of}
 use Rattle.plan_rules.specs.Greedy.{IsGreedy}
 use Rattle.plan_rules.specs.Multipliers.{Usable, usable_of, leaf_value, first_fit, first_fit_value}
-use Rattle.plan_rules.specs.Tree.{every_row, only_row, without_row, CanBranch, MayUse, IsDeadEnd, Reads, IsSoundTree, Place, places, rounded_up, tree_value}
+use Rattle.plan_rules.specs.Tree.{every_row, only_row, without_row, CanBranch, MayUse, IsDeadEnd, Place, rounded_up, places}
+use Rattle.plan_rules.specs.Reading.{ReadsTo, IsWholeTree, places_read, value_read}
 use Rattle.plan_rules.specs.declared.node.Node.{Node}
 use Rattle.plan_rules.specs.declared.node.Node.TheVariants.{Branch, Leaf, Dead}
-use Rattle.plan_rules.proofs.PlanLemmas.{held_is_lawful}
-use Rattle.plan_rules.proofs.TreeLemmas.{within_every_row, dead_end_holds_none, tree_value_bounds}
-use Rattle.plan_rules.proofs.UsableLemmas.{Agree, agree_back, leaf_value_agrees, first_fit_agrees, first_fit_value_agrees, dead_end_agrees, may_use_agrees, can_branch_agrees}
+use Rattle.plan_rules.proofs.lemmas.PlanLemmas.{held_is_lawful}
+use Rattle.plan_rules.proofs.lemmas.TreeLemmas.{within_every_row, dead_end_holds_none, tree_value_bounds}
+use Rattle.plan_rules.proofs.lemmas.SearchTreeLemmas.{tree_of_reads, places_are, value_is_read}
+use Rattle.plan_rules.proofs.lemmas.UsableLemmas.{Agree, agree_back, leaf_value_agrees, first_fit_agrees, first_fit_value_agrees, dead_end_agrees, may_use_agrees, can_branch_agrees}
 use Rattle.std.proofs.lemmas.Bool.{both_ways}
-use Rattle.dual_bound.specs.Size.{IsSmallSum}
+use Rattle.plan_rules.specs.Size.{IsSmallSum}
 use Rattle.assignment_search.specs.Growth.{IsWorthBranching, IsGoodLeaf, IsGoodNode, IsGrown, HasUsable, IsFixed, IsSolePlan, IsLowest, HasLeaf, IsNewLeaf, IsNewEnd, choice_count}
-use Rattle.assignment_search.specs.Found.{IsAtLeastFirstFit, IsBranchJustified, IsRightPlan, IsAnswer, IsTreeSoFar}
+use Rattle.assignment_search.specs.Found.{IsAtLeastFirstFit, IsBranchJustified, IsRightPlan, IsSearchAnswer, IsTreeSoFar, Shows}
 use Rattle.assignment_search.specs.Next.{IsParting, IsPartedAt, IsNext}
 use Rattle.assignment_search.specs.declared.parting.Ends.{Ends}
 use Rattle.assignment_search.specs.declared.step.Outcome.{Outcome}
@@ -121,7 +123,7 @@ parent_sized g low limit nodes values place ms grown lowest is =
     ap (λ (xs : List ℤ). length xs) same ∙ (leaf_here g low limit nodes values place s lowest).sized
 
 -- where a walk came to the leaf, these are the rows that may be chosen
-stands_at : (g : Graph) (low : ℤ) (limit : ℕ) (nodes : List Node) (values : List ℤ) (place : ℕ) (u : Usable) (later : List Usable) (s : IsSplit g low limit (every_row ∷ []) nodes values [] place) → Reads g (every_row ∷ []) (take place nodes) (u ∷ later) → u ≡ s.usable
+stands_at : (g : Graph) (low : ℤ) (limit : ℕ) (nodes : List Node) (values : List ℤ) (place : ℕ) (u : Usable) (later : List Usable) (s : IsSplit g low limit (every_row ∷ []) nodes values [] place) → ReadsTo g (every_row ∷ []) (take place nodes) (u ∷ later) → u ≡ s.usable
 stands_at g low limit nodes values place u later s reads =
     head_is u s.usable later s.later
     (reads_unique g (take place nodes) (every_row ∷ []) (u ∷ later) (s.usable ∷ s.later) reads
@@ -165,7 +167,7 @@ so_far_grow g budget limit nodes values place ends new news t lowest parted room
 -- ---- a leaf where no vehicle has a choice, and one where the budget is spent
 
 module _ (g : Graph) (limit place : ℕ) (nodes : List Node) (values : List ℤ) (u : Usable) (later : List Usable) (allowed : List Bool) (good : IsGoodGraph g) (lowest : IsLowest nodes values place)
-    (grown : IsGrown g (rounded_up (get_or values place (pos 0))) limit (every_row ∷ []) nodes values []) (reads : Reads g (every_row ∷ []) (take place nodes) (u ∷ later)) (agree : Agree g (usable_of allowed) u) where
+    (grown : IsGrown g (rounded_up (get_or values place (pos 0))) limit (every_row ∷ []) nodes values []) (reads : ReadsTo g (every_row ∷ []) (take place nodes) (u ∷ later)) (agree : Agree g (usable_of allowed) u) where
   pub fixed_answer : (chosen : List (Option ℕ)) → IsFixed g (usable_of allowed) → length chosen ≡ g.vehicles → IsSolePlan g (usable_of allowed) chosen → IsLawful g chosen × (pos (cost_of g chosen) ≤ℤ rounded_up (get_or values place (pos 0)))
   fixed_answer chosen fixed sized sole =
       let low = rounded_up (get_or values place (pos 0)) in
@@ -214,10 +216,27 @@ low_is_bound g limit place nodes values good grown lowest chosen fair =
     subst (λ (z : ℤ). z ≤ℤ pos (cost_of g chosen)) (value_is g limit nodes values place grown lowest)
     (tree_value_bounds g nodes good (grown_reads g (rounded_up (get_or values place (pos 0))) limit nodes values (every_row ∷ []) [] grown) chosen fair)
 
+-- a grown tree shows its value
+shown_of : (g : Graph) (low : ℤ) (limit : ℕ) (nodes : List Node) (values : List ℤ) → limit ≤ cost_of g g.held
+    → ((chosen : List (Option ℕ)) → IsGreedy g chosen → IsLawful g chosen → limit ≤ cost_of g chosen) → low ≡ value_read g nodes
+    → IsGrown g low limit (every_row ∷ []) nodes values [] → Shows g low nodes
+shown_of g low limit nodes values held greedy is grown =
+    let t = tree_of_reads g nodes (grown_reads g low limit nodes values (every_row ∷ []) [] grown) in
+    let same : places_read g nodes ≡ places g (t.0) = places_are g nodes (t.0) (t.1) in
+    record {
+      tree = t.0;
+      shape = t.1;
+      value = is ∙ value_is_read g nodes (t.0) (t.1);
+      leaves = subst (λ (ps : List Place). All (λ p. IsAtLeastFirstFit g p.usable p.node) ps) same
+          (All-from_recursion (λ (p : Place). IsAtLeastFirstFit g p.usable p.node) (places_read g nodes) (leaves_fit g low limit nodes values (every_row ∷ []) [] grown));
+      branches = subst (λ (ps : List Place). All (λ p. IsBranchJustified g low p.usable p.node) ps) same
+          (All-from_recursion (λ (p : Place). IsBranchJustified g low p.usable p.node) (places_read g nodes) (branches_justified g low limit held greedy nodes values (every_row ∷ []) [] grown));
+    }
+
 answer_of : (g : Graph) (budget limit place : ℕ) (plan : List (Option ℕ)) (cost : ℕ) (nodes : List Node) (values : List ℤ) → IsGoodGraph g → IsTreeSoFar g budget limit nodes values → IsLowest nodes values place
     → limit ≤ cost_of g g.held → ((chosen : List (Option ℕ)) → IsGreedy g chosen → IsLawful g chosen → limit ≤ cost_of g chosen) → IsRightPlan g plan cost
     → (pos cost ≤ℤ rounded_up (get_or values place (pos 0))) ⊎ ((budget < length nodes + 2) × (budget < 2 * choice_count g every_row))
-    → IsAnswer g budget (record { plan = plan; cost = cost; bound = rounded_up (get_or values place (pos 0)); tree = nodes })
+    → IsSearchAnswer g budget (record { plan = plan; cost = cost; bound = rounded_up (get_or values place (pos 0)); tree = nodes })
 answer_of g budget limit place plan cost nodes values good t lowest held greedy right done =
     let low = rounded_up (get_or values place (pos 0)) in
     let grown : IsGrown g low limit (every_row ∷ []) nodes values [] = so_far_raised g budget limit nodes values place t lowest in
@@ -226,11 +245,8 @@ answer_of g budget limit place plan cost nodes values good t lowest held greedy 
     record {
       plan = right;
       nodes = t.short;
-      sound = grown_reads g low limit nodes values (every_row ∷ []) [] grown;
-      bound = sym (value_is g limit nodes values place grown lowest);
+      shown = shown_of g low limit nodes values held greedy (sym (value_is g limit nodes values place grown lowest)) grown;
       root = omega (arith, ints);
-      leaves = All-from_recursion (λ (p : Place). IsAtLeastFirstFit g p.usable p.node) (places g nodes) (leaves_fit g low limit nodes values (every_row ∷ []) [] grown);
-      branches = All-from_recursion (λ (p : Place). IsBranchJustified g low p.usable p.node) (places g nodes) (branches_justified g low limit held greedy nodes values (every_row ∷ []) [] grown);
       limited = λ below. limited_from done below;
       closed = λ enough. closed_from done enough;
     }
@@ -250,8 +266,8 @@ answer_of g budget limit place plan cost nodes values good t lowest held greedy 
 pub answer : (g : Graph) (budget limit place : ℕ) (plan : List (Option ℕ)) (cost : ℕ) (nodes : List Node) (values : List ℤ) (bound : ℤ) (tree : List Node) → IsGoodGraph g → IsTreeSoFar g budget limit nodes values → IsLowest nodes values place
     → limit ≤ cost_of g g.held → ((chosen : List (Option ℕ)) → IsGreedy g chosen → IsLawful g chosen → limit ≤ cost_of g chosen) → IsRightPlan g plan cost
     → (pos cost ≤ℤ rounded_up (get_or values place (pos 0))) ⊎ ((budget < length nodes + 2) × (budget < 2 * choice_count g every_row))
-    → bound ≡ rounded_up (get_or values place (pos 0)) → tree ≡ nodes → IsAnswer g budget (record { plan = plan; cost = cost; bound = bound; tree = tree })
+    → bound ≡ rounded_up (get_or values place (pos 0)) → tree ≡ nodes → IsSearchAnswer g budget (record { plan = plan; cost = cost; bound = bound; tree = tree })
 answer g budget limit place plan cost nodes values bound tree good t lowest held greedy right done is same =
-    subst (λ (z : ℤ). IsAnswer g budget (record { plan = plan; cost = cost; bound = z; tree = tree })) (sym is)
-    (subst (λ (ns : List Node). IsAnswer g budget (record { plan = plan; cost = cost; bound = rounded_up (get_or values place (pos 0)); tree = ns })) (sym same)
+    subst (λ (z : ℤ). IsSearchAnswer g budget (record { plan = plan; cost = cost; bound = z; tree = tree })) (sym is)
+    (subst (λ (ns : List Node). IsSearchAnswer g budget (record { plan = plan; cost = cost; bound = rounded_up (get_or values place (pos 0)); tree = ns })) (sym same)
     (answer_of g budget limit place plan cost nodes values good t lowest held greedy right done))

@@ -3,12 +3,13 @@ use Rattle.std.proofs.Common.{◌≡◌, ◌==◌, ◌⊎◌, ◌&&◌, ◌||◌
 use Rattle.std.proofs.Math.Nat.{add-mul, mul-add, le-max_left, le-max_right, max-le}
 use Rattle.std.proofs.lemmas.Bool.{cases_eq, cases_Bool, and_from, or_right, both_ways}
 use Rattle.plan_rules.specs.Sums.{sum_below, count_below}
-use Rattle.plan_rules.specs.Graph.{Graph, IsRowOf, vehicle_at}
+use Rattle.plan_rules.specs.Graph.{Graph, IsRowOf, row_vehicle}
 use Rattle.plan_rules.specs.Multipliers.{Usable, is_usable_by}
-use Rattle.plan_rules.specs.Tree.{every_row, only_row, without_row, MayUse, CanBranch, coming_after, Reads, IsSoundTree}
+use Rattle.plan_rules.specs.Tree.{every_row, only_row, without_row, MayUse, CanBranch}
+use Rattle.plan_rules.specs.Reading.{coming_after, ReadsTo, IsWholeTree}
 use Rattle.plan_rules.specs.declared.node.Node.{Node}
 use Rattle.plan_rules.specs.declared.node.Node.TheVariants.{Branch, Leaf, Dead}
-use Rattle.plan_rules.proofs.SumLemmas.{flag, sum_below_same, sum_below_plus, count_below_same, count_below_some}
+use Rattle.plan_rules.proofs.lemmas.SumLemmas.{flag, sum_below_same, sum_below_plus, count_below_same, count_below_some}
 use Rattle.assignment_search.specs.Growth.{product_below, choice_count, IsGrown, IsGoodNode, IsGoodLeaf}
 use Rattle.assignment_search.proofs.GrowthLemmas.{IsSplit, grown_split, grown_reads}
 
@@ -84,31 +85,31 @@ usable_count g u v = count_below (length g.rows) (is_usable_by g u v)
 count_split : (g : Graph) (u : Usable) (v k : ℕ) → usable_count g u v ≡ usable_count g (only_row g u v k) v + usable_count g (without_row u k) v
 count_split g u v k =
     sum_below_same (length g.rows) (λ j. flag (is_usable_by g u v j)) (λ j. flag (is_usable_by g (only_row g u v k) v j) + flag (is_usable_by g (without_row u k) v j))
-    (λ j l. flag_parts (vehicle_at g j == v) (u j) (j == k))
+    (λ j l. flag_parts (row_vehicle g j == v) (u j) (j == k))
     ∙ sum_below_plus (length g.rows) (λ j. flag (is_usable_by g (only_row g u v k) v j)) (λ j. flag (is_usable_by g (without_row u k) v j))
 
 count_only_other : (g : Graph) (u : Usable) (v k w : ℕ) → (w ≡ v → ⊥) → usable_count g u w ≡ usable_count g (only_row g u v k) w
 count_only_other g u v k w other =
     count_below_same (length g.rows) (is_usable_by g u w) (is_usable_by g (only_row g u v k) w)
-    (λ j l. other_only (vehicle_at g j == w) (u j) (vehicle_at g j == v) (j == k) (λ a b. other (sym (eqb-true (vehicle_at g j) w a) ∙ eqb-true (vehicle_at g j) v b)))
+    (λ j l. other_only (row_vehicle g j == w) (u j) (row_vehicle g j == v) (j == k) (λ a b. other (sym (eqb-true (row_vehicle g j) w a) ∙ eqb-true (row_vehicle g j) v b)))
 
 count_without_other : (g : Graph) (u : Usable) (v k w : ℕ) → IsRowOf g v k → (w ≡ v → ⊥) → usable_count g u w ≡ usable_count g (without_row u k) w
 count_without_other g u v k w row other =
     count_below_same (length g.rows) (is_usable_by g u w) (is_usable_by g (without_row u k) w)
-    (λ j l. other_without (vehicle_at g j == w) (u j) (j == k) (λ a b. other (sym (eqb-true (vehicle_at g j) w a) ∙ ap (vehicle_at g) (eqb-true j k b) ∙ row.own)))
+    (λ j l. other_without (row_vehicle g j == w) (u j) (j == k) (λ a b. other (sym (eqb-true (row_vehicle g j) w a) ∙ ap (row_vehicle g) (eqb-true j k b) ∙ row.own)))
 
 count_only_some : (g : Graph) (u : Usable) (v k : ℕ) → CanBranch g u v k → 1 ≤ usable_count g (only_row g u v k) v
 count_only_some g u v k can =
     let may = can.row in
     count_below_some (length g.rows) (is_usable_by g (only_row g u v k) v) k may.row.within
-    (and_from (vehicle_at g k == v) (only_row g u v k k) (eq-eqb (vehicle_at g k) v may.row.own)
-    (and_from (u k) (not (vehicle_at g k == v) || k == k) may.usable_row (or_right (not (vehicle_at g k == v)) (k == k) (eq-eqb k k refl))))
+    (and_from (row_vehicle g k == v) (only_row g u v k k) (eq-eqb (row_vehicle g k) v may.row.own)
+    (and_from (u k) (not (row_vehicle g k == v) || k == k) may.usable_row (or_right (not (row_vehicle g k == v)) (k == k) (eq-eqb k k refl))))
 
 count_without_some : (g : Graph) (u : Usable) (v k : ℕ) → CanBranch g u v k → 1 ≤ usable_count g (without_row u k) v
 count_without_some g u v k can =
     let may = can.other_row in
     count_below_some (length g.rows) (is_usable_by g (without_row u k) v) can.other may.row.within
-    (and_from (vehicle_at g can.other == v) (without_row u k can.other) (eq-eqb (vehicle_at g can.other) v may.row.own)
+    (and_from (row_vehicle g can.other == v) (without_row u k can.other) (eq-eqb (row_vehicle g can.other) v may.row.own)
     (and_from (u can.other) (not (can.other == k)) may.usable_row (ap not (ne_eqb can.other k can.differs))))
 
 pub choices_some : (g : Graph) (u : Usable) → 1 ≤ choice_count g u
@@ -140,7 +141,7 @@ all_choices g [] = 0
 all_choices g (u ∷ us) = choice_count g u + all_choices g us
 
 -- nodes that lead from these subtrees to those are not many
-reads_short : (g : Graph) → ((k : ℕ) → k < length g.rows → vehicle_at g k < g.vehicles) → (nodes : List Node) (coming rest : List Usable) → Reads g coming nodes rest → length nodes + 2 * all_choices g rest + length coming ≤ 2 * all_choices g coming + length rest
+reads_short : (g : Graph) → ((k : ℕ) → k < length g.rows → row_vehicle g k < g.vehicles) → (nodes : List Node) (coming rest : List Usable) → ReadsTo g coming nodes rest → length nodes + 2 * all_choices g rest + length coming ≤ 2 * all_choices g coming + length rest
 reads_short g exist [] coming rest h =
     let sums : all_choices g coming ≡ all_choices g rest = ap (all_choices g) h in
     let sizes : length coming ≡ length rest = ap (λ (c : List Usable). length c) h in
@@ -161,7 +162,7 @@ drop_length (x ∷ xs) zero l = omega arith
 drop_length (x ∷ xs) (suc i) l = omega (arith, drop_length xs i (omega (arith, l)))
 
 -- while a leaf of a sound tree has a vehicle with two rows, the tree is short
-pub tree_short : (g : Graph) (low : ℤ) (limit : ℕ) (nodes : List Node) (values : List ℤ) (i v k : ℕ) (ms : List ℤ) → ((k : ℕ) → k < length g.rows → vehicle_at g k < g.vehicles)
+pub tree_short : (g : Graph) (low : ℤ) (limit : ℕ) (nodes : List Node) (values : List ℤ) (i v k : ℕ) (ms : List ℤ) → ((k : ℕ) → k < length g.rows → row_vehicle g k < g.vehicles)
     → i < length nodes → get_or nodes i Dead ≡ Leaf ms → (s : IsSplit g low limit (every_row ∷ []) nodes values [] i) → v < g.vehicles → CanBranch g s.usable v k → length nodes + 3 ≤ 2 * choice_count g every_row
 tree_short g low limit nodes values i v k ms exist l leaf s below can =
     let after : IsGrown g low limit s.later (drop (suc i) nodes) (drop (suc i) values) [] =

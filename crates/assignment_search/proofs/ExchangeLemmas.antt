@@ -5,8 +5,8 @@ use Rattle.std.proofs.lemmas.List.{set-get_or, set_past, get_or-set_same, get_or
 use Rattle.plan_rules.specs.Sums.{count_below}
 use Rattle.plan_rules.specs.Graph.{Graph, IsRowOf, HasNoRow, has_rider, choice_at, is_in}
 use Rattle.plan_rules.specs.Plan.{IsPlan, IsLawful, cost_of}
-use Rattle.plan_rules.proofs.SumLemmas.{count_below_two}
-use Rattle.plan_rules.proofs.GraphLemmas.{times_served_as_count}
+use Rattle.plan_rules.proofs.lemmas.SumLemmas.{count_below_two}
+use Rattle.plan_rules.proofs.lemmas.GraphLemmas.{times_served_as_count}
 use Rattle.assignment_search.specs.Change.{HasNoBetterChange, BettersNothing, IsShared}
 
 none_some : (k : ℕ) → ◌≡◌ {A = Option ℕ} None (Some k) → ⊥

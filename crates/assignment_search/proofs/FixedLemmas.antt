@@ -6,15 +6,15 @@ use Rattle.std.proofs.lemmas.Int.{ints, int_min_is}
 use Rattle.std.proofs.lemmas.Bool.{cases_eq, cases_lt, cases_Bool, and_from, and_parts, both_ways, cond-true, cond-false}
 use Rattle.std.proofs.lemmas.List.{get_or_push, get_or_append_left}
 use Rattle.plan_rules.specs.Sums.{sum_below, count_below, int_sum_below, least_below, lesser}
-use Rattle.plan_rules.specs.Graph.{Graph, IsRowOf, HasNoRow, row_at, riders_at, vehicle_at, cost_at, has_rider, choice_at, is_in, times_served, must_be_served, IsGoodGraph}
+use Rattle.plan_rules.specs.Graph.{Graph, IsRowOf, HasNoRow, row_at, riders_at, row_vehicle, cost_at, has_rider, choice_at, is_in, times_served, must_be_served, IsGoodGraph}
 use Rattle.plan_rules.specs.Plan.{IsPlan, IsLawful, times_chosen, choice_cost, left_out, cost_of}
 use Rattle.plan_rules.specs.Multipliers.{Usable, multiplier_at, multiplier_sum, is_usable_by, reduced_cost, vehicle_term, rider_term, leaf_value, room_at, first_fit_of, first_fit_below, first_fit, first_fit_value}
 use Rattle.plan_rules.specs.Tree.{MayUse, IsSoleRow, IsDeadEnd, rounded_up}
-use Rattle.plan_rules.proofs.SumLemmas.{flag, flag-true, flag-false, part, sum_below_scale, int_sum_same, int_sum_le, int_sum_plus, int_sum_minus, int_sum_pos, int_sum_zero, int_sum_swap, int_sum_once, least_below_some, least_below_none, least_below_found, lesser-le_right, count_below_found}
-use Rattle.plan_rules.proofs.GraphLemmas.{times_served_as_count, times_served_some, in_choice}
-use Rattle.plan_rules.proofs.PlanLemmas.{has_choice}
-use Rattle.plan_rules.proofs.DualityLemmas.{multiplier_sum_is}
-use Rattle.dual_bound.proofs.FirstFitLemmas.{length-first_fit}
+use Rattle.plan_rules.proofs.lemmas.SumLemmas.{flag, flag-true, flag-false, part, sum_below_scale, int_sum_same, int_sum_le, int_sum_plus, int_sum_minus, int_sum_pos, int_sum_zero, int_sum_swap, int_sum_once, least_below_some, least_below_none, least_below_found, lesser-le_right, count_below_found}
+use Rattle.plan_rules.proofs.lemmas.GraphLemmas.{times_served_as_count, times_served_some, in_choice}
+use Rattle.plan_rules.proofs.lemmas.PlanLemmas.{has_choice}
+use Rattle.plan_rules.proofs.lemmas.DualityLemmas.{multiplier_sum_is}
+use Rattle.dual_bound.proofs.lemmas.FirstFitLemmas.{length-first_fit}
 use Rattle.assignment_search.specs.Growth.{HasUsable, IsFixed, IsSolePlan}
 
 same_some : (j k : ℕ) → Some j ≡ Some k → j ≡ k
@@ -88,12 +88,12 @@ module _ (g : Graph) (u : Usable) (chosen : List (Option ℕ)) (good : IsGoodGra
   -- who stands in a usable row is served
   sole_serves : (r k : ℕ) → k < length g.rows → u k ≡ true → has_rider g k r ≡ true → 1 ≤ times_chosen g chosen r
   sole_serves r k l may in_row =
-      let low : vehicle_at g k < g.vehicles = (good.rows k l).vehicle in
-      let row : IsRowOf g (vehicle_at g k) k = record { within = l; own = refl } in
-      let here : MayUse g u (vehicle_at g k) k = record { row = row; usable_row = may } in
-      let j = has_choice g (vehicle_at g k) k (choice_at chosen (vehicle_at g k)) (own (vehicle_at g k) (choice_at chosen (vehicle_at g k)) (sole (vehicle_at g k) low)) row in
-      let same : j.0 ≡ k = fixed (vehicle_at g k) (j.0) k (may_choice (vehicle_at g k) (j.0) low (j.1)) here in
-      times_served_some g chosen g.vehicles r (vehicle_at g k) low (ap (λ (c : Option ℕ). is_in g c r) (j.1 ∙ ap Some same) ∙ in_row)
+      let low : row_vehicle g k < g.vehicles = (good.rows k l).vehicle in
+      let row : IsRowOf g (row_vehicle g k) k = record { within = l; own = refl } in
+      let here : MayUse g u (row_vehicle g k) k = record { row = row; usable_row = may } in
+      let j = has_choice g (row_vehicle g k) k (choice_at chosen (row_vehicle g k)) (own (row_vehicle g k) (choice_at chosen (row_vehicle g k)) (sole (row_vehicle g k) low)) row in
+      let same : j.0 ≡ k = fixed (row_vehicle g k) (j.0) k (may_choice (row_vehicle g k) (j.0) low (j.1)) here in
+      times_served_some g chosen g.vehicles r (row_vehicle g k) low (ap (λ (c : Option ℕ). is_in g c r) (j.1 ∙ ap Some same) ∙ in_row)
 
   sole_keeps : (r : ℕ) → must_be_served g r ≡ true → times_chosen g chosen r ≡ 1
   sole_keeps r must =
@@ -127,15 +127,15 @@ module _ (g : Graph) (u : Usable) (chosen : List (Option ℕ)) (good : IsGoodGra
       foreign : (k : ℕ) → k < length g.rows → (b : Bool) → is_usable_by g u v k ≡ b → is_usable_by g u v k ≡ false
       foreign k low false is = is
       foreign k low true is =
-          let parts = and_parts (vehicle_at g k == v) (u k) is in
-          absurd (unfit (choice_at chosen v) (sole v l) e k (record { row = record { within = low; own = eqb-true (vehicle_at g k) v (parts.0) }; usable_row = parts.1 }))
+          let parts = and_parts (row_vehicle g k == v) (u k) is in
+          absurd (unfit (choice_at chosen v) (sole v l) e k (record { row = record { within = low; own = eqb-true (row_vehicle g k) v (parts.0) }; usable_row = parts.1 }))
   term_is ms v l (Some k) e =
       let may : MayUse g u v k = may_choice v k l e in
-      let passes : is_usable_by g u v k ≡ true = and_from (vehicle_at g k == v) (u k) (eq-eqb (vehicle_at g k) v may.row.own) may.usable_row in
+      let passes : is_usable_by g u v k ≡ true = and_from (row_vehicle g k == v) (u k) (eq-eqb (row_vehicle g k) v may.row.own) may.usable_row in
       let w = least_below_some (length g.rows) (is_usable_by g u v) (reduced_cost g ms) k may.row.within passes in
       let found = least_below_found (length g.rows) (is_usable_by g u v) (reduced_cost g ms) (w.0) (w.1) in
-      let parts = and_parts (vehicle_at g (found.0) == v) (u (found.0)) (found.2) in
-      let same : found.0 ≡ k = fixed v (found.0) k (record { row = record { within = found.1; own = eqb-true (vehicle_at g (found.0)) v (parts.0) }; usable_row = parts.1 }) may in
+      let parts = and_parts (row_vehicle g (found.0) == v) (u (found.0)) (found.2) in
+      let same : found.0 ≡ k = fixed v (found.0) k (record { row = record { within = found.1; own = eqb-true (row_vehicle g (found.0)) v (parts.0) }; usable_row = parts.1 }) may in
       let reached : w.0 ≡ reduced_cost g ms k = found.3 ∙ ap (reduced_cost g ms) same in
       let term : vehicle_term g u ms v ≡ w.0 = ap (λ (p : Option ℤ). unwrap_or p (pos 0)) (w.1) in
       let row = good.rows k may.row.within in

@@ -5,9 +5,10 @@ use Rattle.std.specs.List.{AllByRecursion as ByRecursion}
 use Rattle.std.proofs.lemmas.Int.{ints, int_min_is}
 use Rattle.std.proofs.lemmas.Bool.{cases_eq, cases_lt, and_from, or_left, or_right}
 use Rattle.plan_rules.specs.Sums.{lesser}
-use Rattle.plan_rules.specs.Graph.{Graph, IsRowOf, vehicle_at, IsGoodGraph}
+use Rattle.plan_rules.specs.Graph.{Graph, IsRowOf, row_vehicle, IsGoodGraph}
 use Rattle.plan_rules.specs.Multipliers.{Usable, leaf_value, first_fit_value}
-use Rattle.plan_rules.specs.Tree.{every_row, only_row, without_row, MayUse, CanBranch, IsDeadEnd, IsSoundNode, coming_after, Reads, IsSoundTree, Place, places_from, places, rounded_up, with_leaf, least_leaf, tree_value}
+use Rattle.plan_rules.specs.Tree.{every_row, only_row, without_row, MayUse, CanBranch, IsDeadEnd, Place, rounded_up, with_leaf, least_leaf}
+use Rattle.plan_rules.specs.Reading.{IsSoundNode, coming_after, ReadsTo, IsWholeTree, places_from, places_read, value_read}
 use Rattle.plan_rules.specs.Plan.{IsLawful, cost_of}
 use Rattle.plan_rules.specs.Greedy.{IsGreedy}
 use Rattle.plan_rules.specs.declared.node.Node.{Node}
@@ -22,7 +23,7 @@ good_sound g low limit u (Leaf ms) z h = h.sized
 good_sound g low limit u Dead z h = h
 good_sound g low limit u (Branch v k) z h = h.0
 
-pub grown_reads : (g : Graph) (low : ℤ) (limit : ℕ) (nodes : List Node) (values : List ℤ) (coming rest : List Usable) → IsGrown g low limit coming nodes values rest → Reads g coming nodes rest
+pub grown_reads : (g : Graph) (low : ℤ) (limit : ℕ) (nodes : List Node) (values : List ℤ) (coming rest : List Usable) → IsGrown g low limit coming nodes values rest → ReadsTo g coming nodes rest
 grown_reads g low limit [] [] coming rest h = h
 grown_reads g low limit [] (z ∷ values) coming rest h = absurd h
 grown_reads g low limit (n ∷ nodes) [] coming rest h = absurd h
@@ -199,7 +200,7 @@ least_high g low limit (Branch v k ∷ nodes) (w ∷ values) (u ∷ us) rest zer
 least_high g low limit (Branch v k ∷ nodes) (w ∷ values) (u ∷ us) rest (suc i) ms h l e = least_high g low limit nodes values (only_row g u v k ∷ without_row u k ∷ us) rest i ms (h.1) (omega (arith, l)) e
 
 -- the tree's value is that of its lowest leaf
-pub value_is : (g : Graph) (limit : ℕ) (nodes : List Node) (values : List ℤ) (i : ℕ) → IsGrown g (rounded_up (get_or values i (pos 0))) limit (every_row ∷ []) nodes values [] → IsLowest nodes values i → tree_value g nodes ≡ rounded_up (get_or values i (pos 0))
+pub value_is : (g : Graph) (limit : ℕ) (nodes : List Node) (values : List ℤ) (i : ℕ) → IsGrown g (rounded_up (get_or values i (pos 0))) limit (every_row ∷ []) nodes values [] → IsLowest nodes values i → value_read g nodes ≡ rounded_up (get_or values i (pos 0))
 value_is g limit nodes values i grown lowest =
     let low = rounded_up (get_or values i (pos 0)) in
     let w = least_high g low limit nodes values (every_row ∷ []) [] i lowest.multipliers grown lowest.within lowest.leaf in
@@ -251,15 +252,15 @@ only_usable g u v k can has w i row =
       k,
       record {
         row = subst (λ (q : ℕ). IsRowOf g q k) (sym here) can.row.row;
-        usable_row = and_from (u k) (not (vehicle_at g k == v) || k == k) can.row.usable_row (or_right (not (vehicle_at g k == v)) (k == k) (eq-eqb k k refl));
+        usable_row = and_from (u k) (not (row_vehicle g k == v) || k == k) can.row.usable_row (or_right (not (row_vehicle g k == v)) (k == k) (eq-eqb k k refl));
       },
     ))
     (λ (other : w ≡ v → ⊥).
     let j = has w i row in
     let own = (j.1).row in
-    let apart : not (vehicle_at g (j.0) == v) ≡ true = ap not (ne_eqb (vehicle_at g (j.0)) v (λ (e : vehicle_at g (j.0) ≡ v). other (sym own.own ∙ e))) in (
+    let apart : not (row_vehicle g (j.0) == v) ≡ true = ap not (ne_eqb (row_vehicle g (j.0)) v (λ (e : row_vehicle g (j.0) ≡ v). other (sym own.own ∙ e))) in (
       j.0,
-      record { row = own; usable_row = and_from (u (j.0)) (not (vehicle_at g (j.0) == v) || (j.0) == k) (j.1).usable_row (or_left (not (vehicle_at g (j.0) == v)) ((j.0) == k) apart) },
+      record { row = own; usable_row = and_from (u (j.0)) (not (row_vehicle g (j.0) == v) || (j.0) == k) (j.1).usable_row (or_left (not (row_vehicle g (j.0) == v)) ((j.0) == k) apart) },
     ))
     (cases_eq w v)
 
@@ -276,7 +277,7 @@ without_usable g u v k can has w i row =
     (λ (other : w ≡ v → ⊥).
     let j = has w i row in
     let own = (j.1).row in
-    let apart : not ((j.0) == k) ≡ true = ap not (ne_eqb (j.0) k (λ (e : j.0 ≡ k). other (sym own.own ∙ ap (vehicle_at g) e ∙ can.row.row.own))) in
+    let apart : not ((j.0) == k) ≡ true = ap not (ne_eqb (j.0) k (λ (e : j.0 ≡ k). other (sym own.own ∙ ap (row_vehicle g) e ∙ can.row.row.own))) in
     (j.0, record { row = own; usable_row = and_from (u (j.0)) (not ((j.0) == k)) (j.1).usable_row apart }))
     (cases_eq w v)
 
@@ -285,7 +286,7 @@ abbrev AllUsable : Graph → List Usable → Type 0
 AllUsable g [] = Unit {0}
 AllUsable g (u ∷ us) = HasUsable g u × AllUsable g us
 
-usable_along : (g : Graph) (nodes : List Node) (coming rest : List Usable) → Reads g coming nodes rest → AllUsable g coming → AllUsable g rest
+usable_along : (g : Graph) (nodes : List Node) (coming rest : List Usable) → ReadsTo g coming nodes rest → AllUsable g coming → AllUsable g rest
 usable_along g [] coming rest h all = subst (AllUsable g) h all
 usable_along g (n ∷ nodes) [] rest h all = absurd h
 usable_along g (Leaf ms ∷ nodes) (u ∷ us) rest h all = usable_along g nodes us rest (h.1) (all.1)
@@ -297,7 +298,7 @@ every_usable : (g : Graph) → HasUsable g every_row
 every_usable g v k row = (k, record { row = row; usable_row = refl })
 
 -- where a walk from the root stands, each vehicle may use a row
-pub usable_here : (g : Graph) (nodes : List Node) (u : Usable) (later : List Usable) → Reads g (every_row ∷ []) nodes (u ∷ later) → HasUsable g u
+pub usable_here : (g : Graph) (nodes : List Node) (u : Usable) (later : List Usable) → ReadsTo g (every_row ∷ []) nodes (u ∷ later) → HasUsable g u
 usable_here g nodes u later h = (usable_along g nodes (every_row ∷ []) (u ∷ later) h (every_usable g, tt)).0
 
 pub usable_only : (g : Graph) (u : Usable) (v k : ℕ) → CanBranch g u v k → HasUsable g u → HasUsable g (only_row g u v k)
@@ -307,7 +308,7 @@ pub usable_without : (g : Graph) (u : Usable) (v k : ℕ) → CanBranch g u v k 
 usable_without = without_usable
 
 -- reading is a function
-pub reads_unique : (g : Graph) (nodes : List Node) (a b d : List Usable) → Reads g a nodes b → Reads g a nodes d → b ≡ d
+pub reads_unique : (g : Graph) (nodes : List Node) (a b d : List Usable) → ReadsTo g a nodes b → ReadsTo g a nodes d → b ≡ d
 reads_unique g [] a b d first second = sym first ∙ second
 reads_unique g (n ∷ nodes) [] b d first second = absurd first
 reads_unique g (n ∷ nodes) (u ∷ us) b d first second = reads_unique g nodes (coming_after g u n us) b d (first.1) (second.1)

@@ -3,12 +3,13 @@ use Rattle.std.proofs.Common.{◌≡◌, ℕ, zero, suc, ◌+◌, ◌<◌, ◌�
 use Rattle.std.proofs.lemmas.List.Sums.{sum_by-cons}
 use Rattle.plan_rules.specs.Graph.{Graph, IsGoodGraph}
 use Rattle.plan_rules.specs.Multipliers.{Usable}
-use Rattle.plan_rules.specs.Tree.{every_row, only_row, without_row, coming_after, IsSoundTree, Place, places_from, places, belongs_to_end, belongs_to_dead_end, is_within}
+use Rattle.plan_rules.specs.Tree.{every_row, only_row, without_row, Place, belongs_to_end, belongs_to_dead_end, is_within}
+use Rattle.plan_rules.specs.Reading.{coming_after, IsWholeTree, places_from, places_read}
 use Rattle.plan_rules.specs.declared.node.Node.{Node}
 use Rattle.plan_rules.specs.declared.node.Node.TheVariants.{Branch, Leaf, Dead}
-use Rattle.plan_rules.proofs.SumLemmas.{flag}
-use Rattle.plan_rules.proofs.PlanLemmas.{held_is_lawful}
-use Rattle.plan_rules.proofs.TreeLemmas.{each_plan_at_one_end, no_plan_at_dead_ends}
+use Rattle.plan_rules.proofs.lemmas.SumLemmas.{flag}
+use Rattle.plan_rules.proofs.lemmas.PlanLemmas.{held_is_lawful}
+use Rattle.plan_rules.proofs.lemmas.TreeLemmas.{each_plan_at_one_end, no_plan_at_dead_ends}
 use Rattle.assignment_search.specs.Growth.{HasLeaf}
 
 count-cons : {X : Type 0} (p : X → Bool) (x : X) (xs : List X) → count_by p (x ∷ xs) ≡ flag (p x) + count_by p xs
@@ -33,7 +34,7 @@ leaf_among g chosen (Branch v k ∷ nodes) (u ∷ us) dead some =
     let second : count_by (belongs_to_end g chosen) (places_from g (u ∷ us) (Branch v k ∷ nodes)) ≡ 0 + count_by (belongs_to_end g chosen) (places_from g after nodes) = count-cons (belongs_to_end g chosen) p (places_from g after nodes) in
     later (Branch v k) nodes (leaf_among g chosen nodes after (omega (arith, first, dead)) (omega (arith, second, some)))
 
-pub sound_has_leaf : (g : Graph) (nodes : List Node) → IsGoodGraph g → IsSoundTree g nodes → HasLeaf nodes
+pub sound_has_leaf : (g : Graph) (nodes : List Node) → IsGoodGraph g → IsWholeTree g nodes → HasLeaf nodes
 sound_has_leaf g nodes good sound =
     let held = held_is_lawful g good in
     let one = each_plan_at_one_end g nodes g.held good sound held.plan in

@@ -1,4 +1,3 @@
-pub mod MarkLemmas
 pub mod GrowthLemmas
 pub mod RiseLemmas
 pub mod CountLemmas

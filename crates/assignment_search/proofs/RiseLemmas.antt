@@ -4,10 +4,10 @@ use Rattle.std.specs.Prelude.{unwrap_or}
 use Rattle.std.proofs.lemmas.Int.{ints}
 use Rattle.std.proofs.lemmas.Bool.{cases_Bool, and_from, and_parts}
 use Rattle.plan_rules.specs.Sums.{int_sum_below, least_below}
-use Rattle.plan_rules.specs.Graph.{Graph, IsRowOf, vehicle_at}
+use Rattle.plan_rules.specs.Graph.{Graph, IsRowOf, row_vehicle}
 use Rattle.plan_rules.specs.Multipliers.{Usable, is_usable_by, reduced_cost, vehicle_term, rider_term, leaf_value}
 use Rattle.plan_rules.specs.Tree.{MayUse, only_row, without_row}
-use Rattle.plan_rules.proofs.SumLemmas.{int_sum_le, least_below_some, least_below_none, least_below_found}
+use Rattle.plan_rules.proofs.lemmas.SumLemmas.{int_sum_le, least_below_some, least_below_none, least_below_found}
 use Rattle.assignment_search.specs.Growth.{HasUsable}
 
 not_some : (z : ℤ) → ◌≡◌ {A = Option ℤ} None (Some z) → ⊥
@@ -20,10 +20,10 @@ term_rises g u w ms v fewer has = by_least (least_below (length g.rows) (is_usab
     none_at : least_below (length g.rows) (is_usable_by g w v) (reduced_cost g ms) ≡ None → (k : ℕ) → k < length g.rows → (b : Bool) → is_usable_by g u v k ≡ b → is_usable_by g u v k ≡ false
     none_at e k l false is = is
     none_at e k l true is =
-        let own : (vehicle_at g k == v) ≡ true = (and_parts (vehicle_at g k == v) (u k) is).0 in
-        let j = has k (record { within = l; own = eqb-true (vehicle_at g k) v own }) in
+        let own : (row_vehicle g k == v) ≡ true = (and_parts (row_vehicle g k == v) (u k) is).0 in
+        let j = has k (record { within = l; own = eqb-true (row_vehicle g k) v own }) in
         let may = j.1 in
-        let passes : is_usable_by g w v (j.0) ≡ true = and_from (vehicle_at g (j.0) == v) (w (j.0)) (eq-eqb (vehicle_at g (j.0)) v may.row.own) may.usable_row in
+        let passes : is_usable_by g w v (j.0) ≡ true = and_from (row_vehicle g (j.0) == v) (w (j.0)) (eq-eqb (row_vehicle g (j.0)) v may.row.own) may.usable_row in
         let some = least_below_some (length g.rows) (is_usable_by g w v) (reduced_cost g ms) (j.0) may.row.within passes in
         absurd (not_some (some.0) (sym e ∙ some.1))
 
@@ -35,8 +35,8 @@ term_rises g u w ms v fewer has = by_least (least_below (length g.rows) (is_usab
         omega (arith, ints)
     by_least (Some z) e =
         let r = least_below_found (length g.rows) (is_usable_by g w v) (reduced_cost g ms) z e in
-        let parts = and_parts (vehicle_at g (r.0) == v) (w (r.0)) (r.2) in
-        let passes : is_usable_by g u v (r.0) ≡ true = and_from (vehicle_at g (r.0) == v) (u (r.0)) (parts.0) (fewer (r.0) (parts.1)) in
+        let parts = and_parts (row_vehicle g (r.0) == v) (w (r.0)) (r.2) in
+        let passes : is_usable_by g u v (r.0) ≡ true = and_from (row_vehicle g (r.0) == v) (u (r.0)) (parts.0) (fewer (r.0) (parts.1)) in
         let s = least_below_some (length g.rows) (is_usable_by g u v) (reduced_cost g ms) (r.0) (r.1) passes in
         let term : vehicle_term g u ms v ≡ s.0 = ap (λ (o : Option ℤ). unwrap_or o (pos 0)) (s.1) in
         let least : s.0 ≤ℤ reduced_cost g ms (r.0) = s.2 in
@@ -51,7 +51,7 @@ value_rises g u w ms fewer has =
     omega (arith, ints)
 
 pub only_fewer : (g : Graph) (u : Usable) (v k j : ℕ) → only_row g u v k j ≡ true → u j ≡ true
-only_fewer g u v k j e = (and_parts (u j) (not (vehicle_at g j == v) || j == k) e).0
+only_fewer g u v k j e = (and_parts (u j) (not (row_vehicle g j == v) || j == k) e).0
 
 pub without_fewer : (u : Usable) (k j : ℕ) → without_row u k j ≡ true → u j ≡ true
 without_fewer u k j e = (and_parts (u j) (not (j == k)) e).0

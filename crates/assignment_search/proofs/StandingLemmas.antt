@@ -4,12 +4,13 @@ use Rattle.std.proofs.lemmas.Bool.{cases_eq}
 use Rattle.std.proofs.lemmas.List.{get_or_push, get_or_append_left, length_push}
 use Rattle.plan_rules.specs.Graph.{Graph, IsRowOf}
 use Rattle.plan_rules.specs.Multipliers.{Usable}
-use Rattle.plan_rules.specs.Tree.{every_row, Reads, IsSoundNode, coming_after}
+use Rattle.plan_rules.specs.Tree.{every_row}
+use Rattle.plan_rules.specs.Reading.{ReadsTo, IsSoundNode, coming_after}
 use Rattle.plan_rules.specs.Path.{Standing, standing_of, root, decided, IsPathOf}
 use Rattle.plan_rules.specs.declared.node.Node.{Node}
 use Rattle.plan_rules.specs.declared.node.Node.TheVariants.{Branch, Leaf, Dead}
 use Rattle.plan_rules.specs.declared.path.Decision.{Decision}
-use Rattle.plan_rules.proofs.PathLemmas.{standing_start, standing_push}
+use Rattle.plan_rules.proofs.lemmas.PathLemmas.{standing_start, standing_push}
 
 -- what is to come at the first subtree of a branch
 pub coming_entered : (g : Graph) (old new : List Decision) (v k : ℕ) → new ≡ old ++ record { vehicle = v; row = k; alone = true } ∷ [] → (standing_of g new).usable ∷ (standing_of g new).coming ≡ coming_after g (standing_of g old).usable (Branch v k) (standing_of g old).coming
@@ -39,9 +40,9 @@ pub record IsNextOf (g : Graph) (first : List Usable) (nodes : List Node) (k : �
   pub later : List Usable
   pub here : coming ≡ usable ∷ later
   pub sound : IsSoundNode g usable (get_or nodes k Dead)
-  pub after : Reads g first (take (suc k) nodes) (coming_after g usable (get_or nodes k Dead) later)
+  pub after : ReadsTo g first (take (suc k) nodes) (coming_after g usable (get_or nodes k Dead) later)
 
-pub next_of : (g : Graph) (nodes : List Node) (first rest coming : List Usable) (k : ℕ) → Reads g first nodes rest → k < length nodes → Reads g first (take k nodes) coming → IsNextOf g first nodes k coming
+pub next_of : (g : Graph) (nodes : List Node) (first rest coming : List Usable) (k : ℕ) → ReadsTo g first nodes rest → k < length nodes → ReadsTo g first (take k nodes) coming → IsNextOf g first nodes k coming
 next_of g [] first rest coming k h l before = absurd (omega (arith, l))
 next_of g (n ∷ nodes) [] rest coming k h l before = absurd h
 next_of g (n ∷ nodes) (u ∷ us) rest coming zero h l before = record { usable = u; later = us; here = sym before; sound = h.0; after = (h.0, refl) }

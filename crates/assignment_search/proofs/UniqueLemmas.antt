@@ -2,10 +2,10 @@
 use Rattle.std.proofs.Common.{◌≡◌, ◌≢◌, ◌⊎◌, ℕ, zero, suc, ◌+◌, ◌<◌, ◌≤◌, List, length, get_or, Option, Some, None, refl, sym, ap, ◌∙◌, subst, inl, inr, ⊎_elim, arith}
 use Rattle.std.proofs.lemmas.Bool.{cases_eq, cases_lt}
 use Rattle.std.proofs.lemmas.List.{ext_get_or}
-use Rattle.plan_rules.specs.Graph.{Graph, riders_at, cost_at, vehicle_at, choice_at, IsRowOf, IsGoodGraph}
+use Rattle.plan_rules.specs.Graph.{Graph, riders_at, cost_at, row_vehicle, choice_at, IsRowOf, IsGoodGraph}
 use Rattle.plan_rules.specs.Greedy.{IsTriedBefore, IsApart, IsTaken, IsGreedy}
 use Rattle.plan_rules.specs.Rank.{rank_of}
-use Rattle.plan_rules.proofs.GreedyLemmas.{rank_before}
+use Rattle.plan_rules.proofs.lemmas.GreedyLemmas.{rank_before}
 
 one_way : (a b x y j k : ℕ) → ((b < a) ⊎ ((a ≡ b) × ((x < y) ⊎ ((x ≡ y) × (j < k))))) → ((a < b) ⊎ ((b ≡ a) × ((y < x) ⊎ ((y ≡ x) × (k < j))))) → ⊥
 one_way a b x y j k (inl p) (inl q) = omega (arith, p, q)

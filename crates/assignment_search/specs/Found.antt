@@ -3,7 +3,7 @@ use Rattle.plan_rules.specs.Graph.{Graph}
 use Rattle.plan_rules.specs.Plan.{IsLawful, cost_of}
 use Rattle.plan_rules.specs.Greedy.{IsGreedy}
 use Rattle.plan_rules.specs.Multipliers.{Usable, leaf_value, first_fit_value}
-use Rattle.plan_rules.specs.Tree.{every_row, IsSoundTree, places, tree_value, rounded_up}
+use Rattle.plan_rules.specs.Tree.{every_row, SearchTree, IsTreeOf, places, tree_value, rounded_up}
 use Rattle.assignment_search.specs.Change.{HasNoBetterChange}
 use Rattle.assignment_search.specs.Growth.{choice_count, IsGrown}
 use Rattle.assignment_search.specs.declared.found.Found.{Found}
@@ -37,15 +37,20 @@ pub record IsRightPlan (g : Graph) (plan : List (Option ℕ)) (cost : ℕ) : Typ
   pub greedy : (chosen : List (Option ℕ)) → IsGreedy g chosen → IsLawful g chosen → cost ≤ cost_of g chosen
   pub change : HasNoBetterChange g plan
 
+-- a sound tree whose value is the bound: each leaf is at least as good as the first-fit multipliers, and each branch was worth making
+pub record Shows (g : Graph) (bound : ℤ) (nodes : List Node) : Type 0 where
+  pub tree : SearchTree
+  pub shape : IsTreeOf g nodes tree
+  pub value : bound ≡ tree_value g tree
+  pub leaves : All (λ p. IsAtLeastFirstFit g p.usable p.node) (places g tree)
+  pub branches : All (λ p. IsBranchJustified g bound p.usable p.node) (places g tree)
+
 -- what a search finds with this budget
-pub record IsAnswer (g : Graph) (budget : ℕ) (found : Found) : Type 0 where
+pub record IsSearchAnswer (g : Graph) (budget : ℕ) (found : Found) : Type 0 where
   pub plan : IsRightPlan g found.plan found.cost
   pub nodes : length found.tree ≤ budget
-  pub sound : IsSoundTree g found.tree
-  pub bound : found.bound ≡ tree_value g found.tree
+  pub shown : Shows g found.bound found.tree
   pub root : rounded_up (first_fit_value g every_row) ≤ℤ found.bound
-  pub leaves : All (λ p. IsAtLeastFirstFit g p.usable p.node) (places g found.tree)
-  pub branches : All (λ p. IsBranchJustified g found.bound p.usable p.node) (places g found.tree)
   pub limited : found.bound <ℤ pos found.cost → budget < length found.tree + 2
   pub closed : 2 * choice_count g every_row ≤ budget → found.bound ≡ pos found.cost
 

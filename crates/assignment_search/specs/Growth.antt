@@ -2,8 +2,9 @@ use Rattle.std.specs.Prelude.{◌≡◌, ℕ, zero, suc, ◌*◌, ◌<◌, Bool,
 use Rattle.plan_rules.specs.Sums.{count_below}
 use Rattle.plan_rules.specs.Graph.{Graph, IsRowOf}
 use Rattle.plan_rules.specs.Multipliers.{Usable, is_usable_by, leaf_value, first_fit_value}
-use Rattle.plan_rules.specs.Tree.{MayUse, CanBranch, IsDeadEnd, coming_after, rounded_up}
-use Rattle.dual_bound.specs.Size.{IsSmallSum}
+use Rattle.plan_rules.specs.Tree.{MayUse, CanBranch, IsDeadEnd, rounded_up}
+use Rattle.plan_rules.specs.Reading.{coming_after}
+use Rattle.plan_rules.specs.Size.{IsSmallSum}
 use Rattle.plan_rules.specs.declared.node.Node.{Node}
 use Rattle.plan_rules.specs.declared.node.Node.TheVariants.{Branch, Leaf, Dead}
 

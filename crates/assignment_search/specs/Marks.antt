@@ -1,18 +1,7 @@
-use Rattle.std.specs.Prelude.{◌≡◌, ◌≢◌, ℕ, ℤ, ◌<◌, Bool, true, false, IsTrue, List, [], ◌∷◌, length, slice_index_or, Option, MatchOption}
-use Rattle.plan_rules.specs.Graph.{Graph, has_rider}
+use Rattle.std.specs.Prelude.{◌≡◌, ℕ, ◌<◌, Option, MatchOption}
+use Rattle.plan_rules.specs.Graph.{Graph}
 use Rattle.plan_rules.specs.Multipliers.{Usable}
-use Rattle.plan_rules.specs.Tree.{MayUse, IsSoleRow}
-
--- the marked riders are those of the usable ones among the first n rows
-pub record MarksUsable (g : Graph) (usable : Usable) (n : ℕ) (marks : List Bool) : Type 0 where
-  pub from_row : (r : ℕ) → slice_index_or marks r false ≡ true → (k : ℕ) × (k < n) × IsTrue (usable k) × IsTrue (has_rider g k r)
-  pub of_row : (k r : ℕ) → k < n → IsTrue (usable k) → IsTrue (has_rider g k r) → slice_index_or marks r false ≡ true
-
--- the marked riders are those of the sole rows of the first n vehicles, and no two of these rows share one
-pub record MarksSole (g : Graph) (usable : Usable) (n : ℕ) (marks : List Bool) : Type 0 where
-  pub from_sole : (r : ℕ) → slice_index_or marks r false ≡ true → (v : ℕ) × (k : ℕ) × (v < n) × IsSoleRow g usable v k × IsTrue (has_rider g k r)
-  pub of_sole : (v k r : ℕ) → v < n → IsSoleRow g usable v k → IsTrue (has_rider g k r) → slice_index_or marks r false ≡ true
-  pub apart : (v w j k r : ℕ) → v < n → w < n → v ≢ w → IsSoleRow g usable v j → IsSoleRow g usable w k → IsTrue (has_rider g j r) → IsTrue (has_rider g k r) → ⊥
+use Rattle.plan_rules.specs.Tree.{MayUse}
 
 -- of the rows below n this is the only one that the vehicle may use, or there is none
 abbrev pub IsOnlyOf : Graph → Usable → ℕ → ℕ → Option ℕ → Type 0

@@ -2,7 +2,8 @@ use Rattle.std.specs.Prelude.{◌≡◌, ℕ, ◌+◌, ◌*◌, ◌<◌, ◌≤�
 use Rattle.plan_rules.specs.Graph.{Graph}
 use Rattle.plan_rules.specs.Plan.{IsLawful, cost_of}
 use Rattle.plan_rules.specs.Multipliers.{Usable}
-use Rattle.plan_rules.specs.Tree.{every_row, only_row, without_row, CanBranch, Reads, rounded_up}
+use Rattle.plan_rules.specs.Tree.{every_row, only_row, without_row, CanBranch, rounded_up}
+use Rattle.plan_rules.specs.Reading.{ReadsTo}
 use Rattle.plan_rules.specs.declared.node.Node.{Node}
 use Rattle.plan_rules.specs.declared.node.Node.TheVariants.{Leaf, Dead}
 use Rattle.assignment_search.specs.declared.parting.Ends.{Ends}
@@ -20,7 +21,7 @@ pub record IsParting (g : Graph) (usable : Usable) (parent : List ℤ) (ends : E
 pub record IsPartedAt (g : Graph) (nodes : List Node) (place : ℕ) (ends : Ends) : Type 0 where
   pub usable : Usable
   pub later : List Usable
-  pub reads : Reads g (every_row ∷ []) (take place nodes) (usable ∷ later)
+  pub reads : ReadsTo g (every_row ∷ []) (take place nodes) (usable ∷ later)
   pub parent : List ℤ
   pub leaf : slice_index_or nodes place Dead ≡ Leaf parent
   pub parting : IsParting g usable parent ends

@@ -3,9 +3,9 @@ ghost use Rattle.std.specs.Prelude.{◌≡◌, ◌≤◌, ◌<◌, ◌+◌, ◌*
 ghost use Rattle.plan_rules.specs.Plan.{IsLawful, cost_of};
 ghost use Rattle.plan_rules.specs.Greedy.{IsGreedy};
 ghost use Rattle.plan_rules.specs.Multipliers.{first_fit_value};
-ghost use Rattle.plan_rules.specs.Tree.{every_row, IsSoundTree, places, rounded_up, tree_value};
+ghost use Rattle.plan_rules.specs.Tree.{every_row, rounded_up};
 ghost use Rattle.assignment_search.specs.Change.{HasNoBetterChange};
-ghost use Rattle.assignment_search.specs.Found.{IsAtLeastFirstFit, IsBranchJustified, IsAnswer};
+ghost use Rattle.assignment_search.specs.Found.{Shows, IsSearchAnswer};
 ghost use Rattle.assignment_search.specs.Growth.{choice_count};
 
 use crate::exchange::exchange;
@@ -32,11 +32,8 @@ pub fn search(alloc: Global, graph: &TripGraph, budget: u32) -> Result<Found, Ou
     ensures greedy { IfOk result (λ found. (chosen : List (Option ℕ)) → IsGreedy graph.now chosen → IsLawful graph.now chosen → found.cost ≤ cost_of graph.now chosen) }
     ensures change { IfOk result (λ found. HasNoBetterChange graph.now found.plan) }
     ensures nodes { IfOk result (λ found. length found.tree ≤ budget) }
-    ensures sound { IfOk result (λ found. IsSoundTree graph.now found.tree) }
-    ensures bound { IfOk result (λ found. found.bound ≡ tree_value graph.now found.tree) }
+    ensures shown { IfOk result (λ found. Shows graph.now found.bound found.tree) }
     ensures root { IfOk result (λ found. rounded_up (first_fit_value graph.now every_row) ≤ℤ found.bound) }
-    ensures leaves { IfOk result (λ found. All (λ p. IsAtLeastFirstFit graph.now p.usable p.node) (places graph.now found.tree)) }
-    ensures branches { IfOk result (λ found. All (λ p. IsBranchJustified graph.now found.bound p.usable p.node) (places graph.now found.tree)) }
     ensures limited { IfOk result (λ found. found.bound <ℤ pos found.cost → budget < length found.tree + 2) }
     ensures closed { IfOk result (λ found. 2 * choice_count graph.now every_row ≤ budget → found.bound ≡ pos found.cost) }
 {
@@ -45,7 +42,7 @@ pub fn search(alloc: Global, graph: &TripGraph, budget: u32) -> Result<Found, Ou
 
 fn run(alloc: Global, graph: &TripGraph, budget: u32) -> Result<Found, OutOfMemory>
     requires { 1 ≤ budget }
-    ensures { IfOk result (IsAnswer graph.now budget) }
+    ensures { IfOk result (IsSearchAnswer graph.now budget) }
 {
     let mut plan = first_plan(alloc, graph)?;
     let mut limit = cost_of(graph, &plan);

@@ -5,9 +5,8 @@ ghost use Rattle.plan_rules.specs.Tree.{IsDeadEnd};
 ghost use Rattle.dual_bound.specs.Index.{IsIndexOf};
 ghost use Rattle.assignment_search.specs.Growth.{IsJudged, IsNewEnd, IsNewLeaf};
 
-use crate::dead_end::is_dead_end;
 use dual_bound::{RiderIndex, first_fit_by, leaf_value};
-use plan_rules::{Multipliers, Node, TripGraph};
+use plan_rules::{Multipliers, Node, TripGraph, is_dead_end};
 use pool_base::OutOfMemory;
 use std::alloc::Global;
 

@@ -1,6 +1,6 @@
 //! A tree with one leaf made a branch.
 ghost use Rattle.std.specs.Prelude.{◌≡◌, ◌<◌, OnOk, suc, pos, ◌++◌, ◌∷◌, length, take, drop, slice_index_or};
-ghost use Rattle.dual_bound.specs.Size.{IsSmallSum};
+ghost use Rattle.plan_rules.specs.Size.{IsSmallSum};
 ghost use Rattle.plan_rules.specs.declared.node.Node.TheVariants.{Branch};
 
 use crate::child::End;

@@ -7,7 +7,6 @@
 mod branch_and_bound;
 mod branching;
 mod child;
-mod dead_end;
 mod draft;
 mod exchange;
 mod first_plan;

@@ -1,22 +1,10 @@
 //! The leaf of least value.
 ghost use Rattle.std.specs.Prelude.{◌≡◌, ◌<◌, ◌≤ℤ◌, ◌<ℤ◌, pos, length, slice_index_or, IfSome, MatchBool};
 ghost use Rattle.plan_rules.specs.Tree.{rounded_up};
-ghost use Rattle.dual_bound.specs.Size.{IsSmallSum};
+ghost use Rattle.plan_rules.specs.Size.{IsSmallSum};
 ghost use Rattle.assignment_search.specs.Growth.{IsLowest, HasLeaf, IsLowerOf};
 
-use plan_rules::Node;
-
-/// 1/1024 seconds as whole seconds, rounded up.
-fn rounded_up(value: i128) -> i128
-    requires { IsSmallSum 1500 value }
-    ensures { result ≡ rounded_up value }
-{
-    if value > 0 {
-        (value + 1023) / 1024
-    } else {
-        value / 1024
-    }
-}
+use plan_rules::{Node, rounded_up};
 
 /// The value at this place, in seconds.
 pub fn bound_at(values: &[i128], place: usize) -> i128

@@ -1,7 +1,8 @@
 //! Where a node of a tree stands.
 ghost use Rattle.std.specs.Prelude.{◌≡◌, ◌<◌, List, IfOk, OnOk, length, take, [], ◌∷◌};
 ghost use Rattle.plan_rules.specs.Graph.{Graph, IsGoodGraph};
-ghost use Rattle.plan_rules.specs.Tree.{every_row, Reads, IsSoundTree, IsSoundNode, coming_after};
+ghost use Rattle.plan_rules.specs.Tree.{every_row};
+ghost use Rattle.plan_rules.specs.Reading.{ReadsTo, IsWholeTree, IsSoundNode, coming_after};
 ghost use Rattle.plan_rules.specs.Path.{standing_of, IsPathOf};
 ghost use Rattle.plan_rules.specs.Multipliers.{Usable};
 
@@ -16,10 +17,10 @@ pub fn path_to(
     nodes: &[Node],
     place: usize,
 ) -> Result<Path, OutOfMemory>
-    requires sound { IsSoundTree graph.now nodes.now }
+    requires sound { IsWholeTree graph.now nodes.now }
     requires place { place < length nodes.now }
     ensures path { IfOk result (IsPathOf graph.now) }
-    ensures reads { IfOk result (λ path. Reads graph.now (every_row ∷ []) (take place nodes.now) ((standing_of graph.now path).usable ∷ (standing_of graph.now path).coming)) }
+    ensures reads { IfOk result (λ path. ReadsTo graph.now (every_row ∷ []) (take place nodes.now) ((standing_of graph.now path).usable ∷ (standing_of graph.now path).coming)) }
 {
     let count = graph.vehicle_count();
     prove!(count <= 500);

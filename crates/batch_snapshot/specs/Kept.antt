@@ -1,5 +1,5 @@
 use Rattle.std.specs.Prelude.{◌≡◌, ◌≢◌, ℕ, ◌<◌, ◌≤◌, List, ◌++◌, map, length, slice_index}
-use Rattle.std.specs.List.{All, flat_map}
+use Rattle.std.specs.List.{All, Contains, flat_map}
 use Rattle.std.specs.List.Sorted.{IsStrictlyIncreasing}
 use Rattle.batch_snapshot.specs.declared.vehicle.Vehicle.{Vehicle}
 use Rattle.batch_snapshot.specs.Batch.{Batch}
@@ -26,6 +26,8 @@ pub record IsKept (b : Batch) : Type 0 where
   pub asked : All (λ r. r.time ≤ b.sealed_at) b.riders
   -- nobody is in two places
   pub once : IsOnce (map (λ r. r.id) b.riders ++ riders_aboard b.vehicles)
+  -- no rider of the batch is among those whose wait ended
+  pub apart : All (λ r. ¬ (Contains b.expired r.id)) b.riders
 
 -- what every fleet keeps
 pub record IsFleet (vehicles : List Vehicle) : Type 0 where

@@ -20,5 +20,5 @@ pub use passenger::Passenger;
 pub use points::Points;
 pub use promise::Promise;
 pub use rider::Rider;
-pub use snapshot::Snapshot;
+pub use snapshot::{Snapshot, copied_vehicles};
 pub use vehicle::Vehicle;

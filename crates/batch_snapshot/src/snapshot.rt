@@ -66,7 +66,8 @@ impl Snapshot {
     }
 }
 
-fn copied_vehicles(alloc: Global, vehicles: &[Vehicle]) -> Result<Vec<Vehicle>, OutOfMemory>
+/// Equal vehicles.
+pub fn copied_vehicles(alloc: Global, vehicles: &[Vehicle]) -> Result<Vec<Vehicle>, OutOfMemory>
     ensures { IfOk result (λ copy. copy.items ≡ vehicles.now) }
 {
     let mut copy = Vec::with_capacity(alloc, vehicles.len())?;

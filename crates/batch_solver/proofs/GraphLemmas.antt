@@ -2,11 +2,11 @@
 use Rattle.std.proofs.Common.{◌≡◌, ℕ, ◌<◌, ◌≤◌, length, get_or, All, subst}
 use Rattle.std.proofs.lemmas.List.{get_or_default}
 use Rattle.plan_rules.specs.declared.row.TripRow.{TripRow}
-use Rattle.plan_rules.specs.Graph.{Graph, IsGoodGraph, IsRow, no_row}
+use Rattle.plan_rules.specs.Graph.{Graph, IsGoodGraph, IsGraphRow, no_row}
 
 -- the row read with whatever stands where there is none
-row_is : (g : Graph) → IsGoodGraph g → (k : ℕ) (d : TripRow) → k < length g.rows → IsRow g.vehicles g.riders (get_or g.rows k d)
-row_is g good k d below = subst (λ (row : TripRow). IsRow g.vehicles g.riders row) (get_or_default g.rows k no_row d below) (good.rows k below)
+row_is : (g : Graph) → IsGoodGraph g → (k : ℕ) (d : TripRow) → k < length g.rows → IsGraphRow g.vehicles g.riders (get_or g.rows k d)
+row_is g good k d below = subst (λ (row : TripRow). IsGraphRow g.vehicles g.riders row) (get_or_default g.rows k no_row d below) (good.rows k below)
 
 pub rows_of_riders : (g : Graph) (riders : ℕ) → IsGoodGraph g → g.riders ≡ riders → All (λ row. All (λ r. r < riders) row.riders.items) g.rows
 rows_of_riders g riders good total k d below j e within =

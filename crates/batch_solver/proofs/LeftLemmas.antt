@@ -7,10 +7,10 @@ use Rattle.std.proofs.lemmas.List.Sums.{length-filter, count_by-le-length}
 use Rattle.std.proofs.lemmas.List.FromFn.{length-range_with_len, get_or-range_with_len}
 use Rattle.plan_rules.specs.Graph.{Graph, choice_at, is_in, times_served}
 use Rattle.plan_rules.specs.Plan.{times_chosen}
-use Rattle.plan_rules.proofs.SumLemmas.{flag}
-use Rattle.plan_rules.proofs.GraphLemmas.{times_served_more, times_served_none}
-use Rattle.promise_check.proofs.Promises.{filter_range_takes, filter_range_skips}
-use Rattle.batch_solver.specs.Left.{MarksChosen}
+use Rattle.plan_rules.proofs.lemmas.SumLemmas.{flag}
+use Rattle.plan_rules.proofs.lemmas.GraphLemmas.{times_served_more, times_served_none}
+use Rattle.promise_check.proofs.lemmas.Promises.{filter_range_takes, filter_range_skips}
+use Rattle.batch_solver.specs.work.Left.{MarksChosen}
 
 pub marks_none : (g : Graph) (chosen : List (Option ℕ)) → MarksChosen g chosen 0 (replicate g.riders false)
 marks_none g chosen = record {

@@ -46,12 +46,12 @@ module _ (settings : Settings) (tau : ℕ → ℕ → ℕ) (settled : Settled) (
   pub served_row : (v row : ℕ) → v < length settled.vehicles → choice_at chosen v ≡ Some row → IsServedRow tau settled graph v row
   served_row v row h choice =
       let own : IsRowOf graph v row = rw choice at (own_choice v h) in
-      let right = exact.exact.right row own.within in
+      let right = exact.exact.right row no_row own.within in
       record {
         within = own.within;
-        trip = right.riders;
+        trip = right.served.riders;
         size = (exact.good.rows row own.within).few;
-        costs = subst (λ n. IsLeastDelay tau (trip_task settled n (riders_at graph row)) (cost_at graph row)) own.own right.costs;
+        costs = subst (λ n. IsLeastDelay tau (trip_task settled n (riders_at graph row)) (cost_at graph row)) own.own right.least;
       }
 
 -- a serving order of least delay has the delay of any other such order

@@ -10,8 +10,8 @@ use Rattle.stop_orders.specs.Order.{IsKnown}
 use Rattle.stop_orders.specs.Settled.{trip_task}
 use Rattle.stop_orders.specs.Task.{IsTask, IsOrderOf, visit_at, visits_of, seconds_of}
 use Rattle.stop_orders.specs.Visit.{place_of, seconds_from}
-use Rattle.stop_orders.proofs.ScanLemmas.{order_short}
-use Rattle.stop_orders.proofs.VisitLemmas.{visit_place}
+use Rattle.stop_orders.proofs.lemmas.ScanLemmas.{order_short}
+use Rattle.stop_orders.proofs.lemmas.VisitLemmas.{visit_place}
 use Rattle.batch_solver.specs.Told.{told_stop, told_stops}
 
 -- what was told of an order and what is still to tell are all of it

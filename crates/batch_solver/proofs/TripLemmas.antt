@@ -8,7 +8,7 @@ use Rattle.stop_orders.specs.declared.task.Task.{Task}
 use Rattle.stop_orders.specs.declared.settled_vehicle.SettledVehicle.{SettledVehicle}
 use Rattle.stop_orders.specs.Settled.{IsTrip, no_vehicle, trip_task, vehicle_at}
 use Rattle.stop_orders.specs.Task.{IsTask, IsOrderOf, ReachesAll, order_delay}
-use Rattle.stop_orders.proofs.DoneLemmas.{length-IsOrder}
+use Rattle.stop_orders.proofs.lemmas.DoneLemmas.{length-IsOrder}
 use Rattle.batch_solver.specs.Told.{told_stops}
 use Rattle.batch_solver.specs.Trips.{IsLateOrder}
 

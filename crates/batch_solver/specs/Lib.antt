@@ -1,5 +1,5 @@
 pub mod Told
 pub mod Trips
-pub mod Left
 pub mod Moves
 pub mod Outcome
+pub mod work

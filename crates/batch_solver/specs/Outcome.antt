@@ -1,6 +1,6 @@
 -- When the outcome of a batch is good.
-use Rattle.std.specs.Prelude.{◌≡◌, ℕ, List, Option, map}
-use Rattle.assignment_search.specs.Found.{IsAnswer}
+use Rattle.std.specs.Prelude.{◌≡◌, ℕ, List, Option, map, filter}
+use Rattle.assignment_search.specs.Found.{IsSearchAnswer}
 use Rattle.batch_snapshot.specs.Batch.{Batch}
 use Rattle.batch_snapshot.specs.Points.{ArePoints}
 use Rattle.pair_graph.specs.RrGraph.{IsRrGraph}
@@ -19,22 +19,10 @@ use Rattle.rider_limits.specs.declared.settings.Settings.{Settings}
 use Rattle.road_network.specs.Roads.{Roads, index_in}
 use Rattle.stop_orders.specs.declared.settled.Settled.{Settled}
 use Rattle.travel_times.specs.Table.{AreTravelTimes}
-use Rattle.trip_graph.specs.Answer.{IsTripGraphOf}
-use Rattle.trip_graph.specs.Levels.{HasMoreRows}
-use Rattle.batch_solver.specs.Told.{rv_line, rr_line, row_line, lapsed_ids, left_riders, left_ids}
+use Rattle.trip_graph.specs.Answer.{IsTripGraphOf, HasMoreRows}
+use Rattle.batch_solver.specs.Told.{rider_id, rv_line, rr_line, row_line, left_riders}
 use Rattle.batch_solver.specs.Trips.{AreTrips, AreLate}
 use Rattle.batch_solver.specs.Moves.{AreMoves, idle_vehicles}
-
--- the edges between vehicles and riders are told, and those between riders
-pub record AreRvLines (tau : ℕ → ℕ → ℕ) (settled : Settled) (lines : List (ℕ × ℕ)) : Type 0 where
-  pub edges : List RvEdge
-  pub exact : IsRvGraph tau settled edges
-  pub told : lines ≡ map (rv_line settled) edges
-
-pub record AreRrLines (tau : ℕ → ℕ → ℕ) (settled : Settled) (lines : List (ℕ × ℕ)) : Type 0 where
-  pub pairs : List (ℕ × ℕ)
-  pub exact : IsRrGraph tau settled pairs
-  pub told : lines ≡ map (rr_line settled) pairs
 
 -- a plan of the batch's trip graph with all that it rests on: the three graphs exact, the plan lawful, an order of
 -- stops for each of its trips, a bound on every lawful plan, shown by a tree, and best moves of idle vehicles
@@ -42,15 +30,19 @@ pub record IsGoodPlan (settings : Settings) (points : List ℕ) (tau : ℕ → �
   pub graph : Graph
   pub chosen : List (Option ℕ)
   pub exact : IsTripGraphOf settings tau settled graph
-  pub found : IsAnswer graph settings.budget (record { plan = chosen; cost = planned.cost; bound = planned.bound; tree = planned.tree })
+  pub found : IsSearchAnswer graph settings.budget (record { plan = chosen; cost = planned.cost; bound = planned.bound; tree = planned.tree })
   pub bound : IsBound graph planned.bound
-  pub lapsed : planned.lapsed ≡ lapsed_ids settled
+  pub lapsed : planned.lapsed ≡ map (λ r. r.id) (filter (λ r. r.lapsed) settled.riders)
   pub late : AreLate points tau settled planned.late
-  pub rv : AreRvLines tau settled planned.rv
-  pub rr : AreRrLines tau settled planned.rr
+  pub edges : List RvEdge
+  pub edges_exact : IsRvGraph tau settled edges
+  pub rv : planned.rv ≡ map (rv_line settled) edges
+  pub pairs : List (ℕ × ℕ)
+  pub pairs_exact : IsRrGraph tau settled pairs
+  pub rr : planned.rr ≡ map (rr_line settled) pairs
   pub rows : planned.rows ≡ map (row_line settled) graph.rows
   pub trips : AreTrips points tau settled graph chosen planned.chosen
-  pub left : planned.left ≡ left_ids settled graph chosen
+  pub left : planned.left ≡ map (rider_id settled) (left_riders graph chosen)
   pub moves : AreMoves tau settled (idle_vehicles settled graph chosen) (left_riders graph chosen) planned.moves
 
 -- a good plan; or an overflow where the batch has more rows than the settings allow

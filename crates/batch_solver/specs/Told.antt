@@ -13,17 +13,19 @@ use Rattle.stop_orders.specs.declared.settled.Settled.{Settled}
 use Rattle.stop_orders.specs.declared.stop.Stop.{Stop}
 use Rattle.stop_orders.specs.declared.stop.Stop.TheVariants.{Pick, Drop, Alight}
 
--- the ids of a vehicle and of a rider
+-- the id of a vehicle
 abbrev pub vehicle_id : Settled → ℕ → ℕ
 vehicle_id settled v = (vehicle_at settled v).id
 
+-- the id of a rider
 abbrev pub rider_id : Settled → ℕ → ℕ
 rider_id settled r = (rider_at settled r).id
 
--- an edge between a vehicle and a rider, and one between two riders
+-- an edge between a vehicle and a rider
 abbrev pub rv_line : Settled → RvEdge → ℕ × ℕ
 rv_line settled edge = (vehicle_id settled edge.vehicle, rider_id settled edge.rider)
 
+-- an edge between two riders
 abbrev pub rr_line : Settled → ℕ × ℕ → ℕ × ℕ
 rr_line settled pair = (rider_id settled pair.0, rider_id settled pair.1)
 
@@ -35,16 +37,9 @@ row_line settled row = record {
   cost = row.cost;
 }
 
--- the riders whose promise has lapsed
-abbrev pub lapsed_ids : Settled → List ℕ
-lapsed_ids settled = map (λ r. r.id) (filter (λ r. r.lapsed) settled.riders)
-
 -- the riders in no chosen row, rising
 abbrev pub left_riders : Graph → List (Option ℕ) → List ℕ
 left_riders graph chosen = filter (λ r. times_chosen graph chosen r == 0) (range_with_len 0 graph.riders)
-
-abbrev pub left_ids : Settled → Graph → List (Option ℕ) → List ℕ
-left_ids settled graph chosen = map (rider_id settled) (left_riders graph chosen)
 
 -- a stop of a vehicle's order for a trip: whom it picks up or drops, at which node, at which second
 abbrev pub told_stop : List ℕ → Settled → ℕ → List ℕ → Stop × ℕ → PlannedStop

@@ -11,13 +11,6 @@ use Rattle.stop_orders.specs.declared.settled.Settled.{Settled}
 use Rattle.stop_orders.specs.declared.stop.Stop.{Stop}
 use Rattle.batch_solver.specs.Told.{vehicle_id, told_stops}
 
--- the vehicles that aren't late, and those that are, rising
-abbrev pub vehicles_in_time : Settled → List ℕ
-vehicles_in_time settled = filter (λ v. not (vehicle_at settled v).late) (range_with_len 0 (length settled.vehicles))
-
-abbrev pub late_vehicles : Settled → List ℕ
-late_vehicles settled = filter (λ v. (vehicle_at settled v).late) (range_with_len 0 (length settled.vehicles))
-
 -- the vehicle's trip is that of its chosen row, with an order of stops that serves it and whose delay is the row's cost
 pub record IsTripOf (points : List ℕ) (tau : ℕ → ℕ → ℕ) (settled : Settled) (graph : Graph) (chosen : List (Option ℕ)) (v : ℕ) (trip : ChosenTrip) : Type 0 where
   pub row : ℕ
@@ -29,10 +22,10 @@ pub record IsTripOf (points : List ℕ) (tau : ℕ → ℕ → ℕ) (settled : S
   pub delay : order_delay tau (trip_task settled v (riders_at graph row)) stops ≡ trip.cost
   pub told : trip.stops.items ≡ told_stops points tau settled v (riders_at graph row) stops
 
--- one trip for each vehicle that isn't late
+-- one trip for each vehicle that isn't late, by rising id
 abbrev pub AreTrips : List ℕ → (ℕ → ℕ → ℕ) → Settled → Graph → List (Option ℕ) → List ChosenTrip → Type 0
 AreTrips points tau settled graph chosen trips =
-    AllZip (IsTripOf points tau settled graph chosen) (vehicles_in_time settled) trips
+    AllZip (IsTripOf points tau settled graph chosen) (filter (λ v. not (vehicle_at settled v).late) (range_with_len 0 (length settled.vehicles))) trips
 
 -- no order of the vehicle's passengers reaches all their places
 abbrev pub HasNoOrder : (ℕ → ℕ → ℕ) → Settled → ℕ → Type 0
@@ -57,4 +50,4 @@ pub record IsLate (points : List ℕ) (tau : ℕ → ℕ → ℕ) (settled : Set
 
 -- one for each late vehicle
 abbrev pub AreLate : List ℕ → (ℕ → ℕ → ℕ) → Settled → List LateVehicle → Type 0
-AreLate points tau settled late = AllZip (IsLate points tau settled) (late_vehicles settled) late
+AreLate points tau settled late = AllZip (IsLate points tau settled) (filter (λ v. (vehicle_at settled v).late) (range_with_len 0 (length settled.vehicles))) late

@@ -1,6 +1,6 @@
 ghost use Rattle.std.specs.Prelude.{◌≡◌, ◌<◌, ℕ, IfOk, length};
 ghost use Rattle.pool_base.specs.Times.{point_count, travel_time};
-ghost use Rattle.stop_orders.specs.Settled.{IsSound};
+ghost use Rattle.stop_orders.specs.Sound.{IsSound};
 ghost use Rattle.batch_solver.specs.Trips.{IsLate, AreLate};
 
 use crate::told::tell_stops;

@@ -1,7 +1,7 @@
 ghost use Rattle.std.specs.Prelude.{◌≡◌, ◌<◌, ◌≤◌, ◌+◌, ◌||◌, ◌==◌, ℕ, false, All, IfOk, length, slice_index_or};
 ghost use Rattle.std.specs.List.{list_any};
 ghost use Rattle.plan_rules.specs.Plan.{IsPlan};
-ghost use Rattle.batch_solver.specs.Left.{MarksChosen};
+ghost use Rattle.batch_solver.specs.work.Left.{MarksChosen};
 ghost use Rattle.batch_solver.specs.Told.{left_riders};
 
 use plan_rules::TripGraph;

@@ -3,8 +3,9 @@ ghost use Rattle.std.specs.Option.{option_map_or};
 ghost use Rattle.plan_rules.specs.Graph.{riders_at};
 ghost use Rattle.plan_rules.specs.Plan.{IsPlan};
 ghost use Rattle.pool_base.specs.Times.{point_count, travel_time};
-ghost use Rattle.stop_orders.specs.Settled.{IsSound};
-ghost use Rattle.batch_solver.specs.Moves.{AreMoves, HasPlaces, idle_vehicles, is_idle, move_from_to, move_line, origins_of, starts_of};
+ghost use Rattle.stop_orders.specs.Sound.{IsSound};
+ghost use Rattle.batch_solver.specs.Moves.{AreMoves, idle_vehicles, is_idle, move_line};
+ghost use Rattle.batch_solver.specs.work.Moves.{HasPlaces, move_from_to, origins_of, starts_of};
 ghost use Rattle.batch_solver.specs.Told.{left_riders};
 
 use plan_rules::TripGraph;

@@ -1,12 +1,12 @@
 ghost use Rattle.std.specs.Prelude.{◌≡◌, ◌≤◌, All, Contains, IfOk, length};
-ghost use Rattle.assignment_search.specs.Found.{IsAnswer};
+ghost use Rattle.assignment_search.specs.Found.{IsSearchAnswer};
 ghost use Rattle.batch_snapshot.specs.Points.{named_nodes};
 ghost use Rattle.pair_graph.specs.RrGraph.{IsRrGraph};
 ghost use Rattle.pair_graph.specs.RvGraph.{IsRvGraph};
 ghost use Rattle.plan_rules.specs.Graph.{IsGoodGraph};
 ghost use Rattle.plan_rules.specs.Plan.{IsBound};
 ghost use Rattle.pool_base.specs.Times.{point_count, travel_time};
-ghost use Rattle.stop_orders.specs.Settled.{IsSound};
+ghost use Rattle.stop_orders.specs.Sound.{IsSound};
 ghost use Rattle.trip_graph.specs.Answer.{IsTripGraphOf};
 ghost use Rattle.batch_solver.specs.Outcome.{IsGoodAnswer, IsGoodOutcome, IsGoodPlan};
 
@@ -126,7 +126,7 @@ fn planned_of(
 fn bounded_plan(alloc: Global, graph: &TripGraph, budget: u32) -> Result<Found, OutOfMemory>
     requires budget { 1 ≤ budget }
     requires good { IsGoodGraph graph.now }
-    ensures plan { IfOk result (IsAnswer graph.now budget) }
+    ensures plan { IfOk result (IsSearchAnswer graph.now budget) }
     ensures bound { IfOk result (λ found. IsBound graph.now found.bound) }
 {
     tree_value_is_a_bound();

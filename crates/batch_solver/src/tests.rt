@@ -432,3 +432,13 @@ fn a_late_passenger_is_dropped(rt: HostRuntime) -> Result<(), Fail> {
     assert!(rt; late);
     Ok(())
 }
+
+#[test]
+fn answers_with_memory(rt: HostRuntime) -> Result<(), Fail> {
+    let alloc = rt.alloc();
+    let shared = answer_of(&rt, alloc, TWO_SEATS, BOTH, &settings(120, 4)).is_some();
+    let left = answer_of(&rt, alloc, FOUR_SEATS, ONE, &settings(59, 200_000)).is_some();
+    let late = late_answer(&rt, alloc).is_some();
+    assert!(rt; shared && left && late);
+    Ok(())
+}

@@ -2,7 +2,8 @@ ghost use Rattle.std.specs.Prelude.{◌≡◌, ◌+◌, ◌<◌, ℕ, false, IfO
 ghost use Rattle.plan_rules.specs.Plan.{IsLawful};
 ghost use Rattle.pool_base.specs.Times.{point_count, travel_time};
 ghost use Rattle.rider_limits.specs.declared.settings.Settings.{Settings};
-ghost use Rattle.stop_orders.specs.Settled.{IsSound, vehicle_at};
+ghost use Rattle.stop_orders.specs.Settled.{vehicle_at};
+ghost use Rattle.stop_orders.specs.Sound.{IsSound};
 ghost use Rattle.trip_graph.specs.Answer.{IsTripGraphOf};
 ghost use Rattle.batch_solver.specs.Trips.{IsTripOf, AreTrips};
 

@@ -5,16 +5,17 @@ use Rattle.std.proofs.lemmas.Bool.{cases_eq}
 use Rattle.std.proofs.lemmas.List.{with_items_is, take_more, get_or_push, get_or_append_left, length_push}
 use Rattle.plan_rules.specs.Graph.{Graph, IsRowOf}
 use Rattle.plan_rules.specs.Multipliers.{Usable}
-use Rattle.plan_rules.specs.Tree.{every_row, Reads, Place, places, places_from, least_leaf, with_leaf}
+use Rattle.plan_rules.specs.Tree.{every_row, Place, least_leaf, with_leaf}
+use Rattle.plan_rules.specs.Reading.{ReadsTo, places_read, places_from}
 use Rattle.plan_rules.specs.Path.{Standing, standing_of, root, decided, IsPathOf}
 use Rattle.plan_rules.specs.declared.node.Node.{Node}
 use Rattle.plan_rules.specs.declared.node.Node.TheVariants.{Branch, Leaf, Dead}
 use Rattle.plan_rules.specs.declared.path.Decision.{Decision}
-use Rattle.plan_rules.proofs.PathLemmas.{standing_start, standing_push}
-use Rattle.plan_rules.proofs.ReadLemmas.{reads_push, places_push, least_leaf_push}
+use Rattle.plan_rules.proofs.lemmas.PathLemmas.{standing_start, standing_push}
+use Rattle.plan_rules.proofs.lemmas.ReadLemmas.{reads_push, places_push, least_leaf_push}
 use Rattle.bound_checker.specs.declared.fault.CheckFault.{CheckFault}
 use Rattle.bound_checker.specs.declared.fault.CheckFault.TheVariants.{BadBranch, BadLeaf, BadDead, Unfinished, Extra, OutOfMemory}
-use Rattle.bound_checker.specs.Fault.{IsFaultOf, IsReached}
+use Rattle.bound_checker.specs.Fault.{IsTreeFault, IsReached}
 use Rattle.bound_checker.specs.Visit.{coming_of, IsNodeFault}
 
 -- what is to come after an end
@@ -44,7 +45,7 @@ pub coming_start : (g : Graph) (path : List Decision) → path ≡ [] → (every
 coming_start g path e = sym (ap (λ (p : List Decision). (standing_of g p).usable ∷ (standing_of g p).coming) e ∙ ap (λ (s : Standing). s.usable ∷ s.coming) (standing_start g))
 
 -- a fault of the node where the walk stands is one of the tree
-pub fault_here : (g : Graph) (nodes : List Node) (i : ℕ) (usable : Usable) (later : List Usable) (node : Node) (f : CheckFault) → Reads g (every_row ∷ []) (take i nodes) (usable ∷ later) → i < length nodes → slice_get nodes i ≡ Some node → IsNodeFault usable g node i f → IsFaultOf g nodes f
+pub fault_here : (g : Graph) (nodes : List Node) (i : ℕ) (usable : Usable) (later : List Usable) (node : Node) (f : CheckFault) → ReadsTo g (every_row ∷ []) (take i nodes) (usable ∷ later) → i < length nodes → slice_get nodes i ≡ Some node → IsNodeFault usable g node i f → IsTreeFault g nodes f
 fault_here g nodes i usable later node (BadBranch j) reads within here h =
     let k = h.1 in
     record {
@@ -75,9 +76,9 @@ fault_here g nodes i usable later node (Extra j) reads within here h = absurd h
 fault_here g nodes i usable later node OutOfMemory reads within here h = tt
 
 -- one more node, and what its leaf shows
-pub least_more : (g : Graph) (nodes : List Node) (i : ℕ) (node : Node) (usable : Usable) (later : List Usable) (old new : Option ℤ) → take (i + 1) nodes ≡ take i nodes ++ node ∷ [] → Reads g (every_row ∷ []) (take i nodes) (usable ∷ later) → old ≡ least_leaf g (places g (take i nodes)) → new ≡ with_leaf g usable node old → new ≡ least_leaf g (places g (take (i + 1) nodes))
+pub least_more : (g : Graph) (nodes : List Node) (i : ℕ) (node : Node) (usable : Usable) (later : List Usable) (old new : Option ℤ) → take (i + 1) nodes ≡ take i nodes ++ node ∷ [] → ReadsTo g (every_row ∷ []) (take i nodes) (usable ∷ later) → old ≡ least_leaf g (places_read g (take i nodes)) → new ≡ with_leaf g usable node old → new ≡ least_leaf g (places_read g (take (i + 1) nodes))
 least_more g nodes i node usable later old new more reads before here =
     here ∙ ap (with_leaf g usable node) before
-    ∙ sym (ap (λ (xs : List Node). least_leaf g (places g xs)) more
+    ∙ sym (ap (λ (xs : List Node). least_leaf g (places_read g xs)) more
     ∙ ap (least_leaf g) (places_push g (take i nodes) node (every_row ∷ []) usable later reads)
-    ∙ least_leaf_push g (places g (take i nodes)) (record { node = node; usable = usable }))
+    ∙ least_leaf_push g (places_read g (take i nodes)) (record { node = node; usable = usable }))

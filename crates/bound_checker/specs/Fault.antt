@@ -1,7 +1,8 @@
 use Rattle.std.specs.Prelude.{◌≡◌, ℕ, ◌<◌, List, [], ◌∷◌, length, take, slice_get, Some, ℤ, ◌⊎◌}
 use Rattle.plan_rules.specs.Graph.{Graph}
 use Rattle.plan_rules.specs.Multipliers.{Usable}
-use Rattle.plan_rules.specs.Tree.{every_row, CanBranch, IsDeadEnd, Reads}
+use Rattle.plan_rules.specs.Tree.{every_row, CanBranch, IsDeadEnd}
+use Rattle.plan_rules.specs.Reading.{ReadsTo}
 use Rattle.plan_rules.specs.declared.node.Node.{Node}
 use Rattle.plan_rules.specs.declared.node.Node.TheVariants.{Branch, Leaf, Dead}
 use Rattle.bound_checker.specs.declared.fault.CheckFault.{CheckFault}
@@ -9,7 +10,7 @@ use Rattle.bound_checker.specs.declared.fault.CheckFault.TheVariants.{BadBranch,
 
 -- the nodes before this one are sound and leave these subtrees to come, and this is the node here
 pub record IsReached (g : Graph) (nodes : List Node) (i : ℕ) (coming : List Usable) (node : Node) : Type 0 where
-  pub before : Reads g (every_row ∷ []) (take i nodes) coming
+  pub before : ReadsTo g (every_row ∷ []) (take i nodes) coming
   pub within : i < length nodes
   pub here : slice_get nodes i ≡ Some node
 
@@ -41,18 +42,18 @@ pub record IsBadDead (g : Graph) (nodes : List Node) (i : ℕ) : Type 0 where
 pub record IsUnfinished (g : Graph) (nodes : List Node) : Type 0 where
   pub usable : Usable
   pub later : List Usable
-  pub before : Reads g (every_row ∷ []) nodes (usable ∷ later)
+  pub before : ReadsTo g (every_row ∷ []) nodes (usable ∷ later)
 
 -- the tree has ended before this node
 pub record IsExtra (g : Graph) (nodes : List Node) (i : ℕ) : Type 0 where
-  pub before : Reads g (every_row ∷ []) (take i nodes) []
+  pub before : ReadsTo g (every_row ∷ []) (take i nodes) []
   pub within : i < length nodes
 
 -- why a tree is refused; want of memory has no cause in it
-abbrev pub IsFaultOf : Graph → List Node → CheckFault → Type 0
-IsFaultOf g nodes (BadBranch i) = IsBadBranch g nodes i
-IsFaultOf g nodes (BadLeaf i) = IsBadLeaf g nodes i
-IsFaultOf g nodes (BadDead i) = IsBadDead g nodes i
-IsFaultOf g nodes Unfinished = IsUnfinished g nodes
-IsFaultOf g nodes (Extra i) = IsExtra g nodes i
-IsFaultOf g nodes OutOfMemory = Unit {0}
+abbrev pub IsTreeFault : Graph → List Node → CheckFault → Type 0
+IsTreeFault g nodes (BadBranch i) = IsBadBranch g nodes i
+IsTreeFault g nodes (BadLeaf i) = IsBadLeaf g nodes i
+IsTreeFault g nodes (BadDead i) = IsBadDead g nodes i
+IsTreeFault g nodes Unfinished = IsUnfinished g nodes
+IsTreeFault g nodes (Extra i) = IsExtra g nodes i
+IsTreeFault g nodes OutOfMemory = Unit {0}

@@ -1,7 +1,7 @@
 ghost use Rattle.std.specs.Prelude.{◌≡◌, ℕ, OnOk, IfOk, IfErr};
 ghost use Rattle.plan_rules.specs.Plan.{IsBound};
-ghost use Rattle.plan_rules.specs.Tree.{IsSoundTree, tree_value};
-ghost use Rattle.bound_checker.specs.Fault.{IsFaultOf};
+ghost use Rattle.plan_rules.specs.Tree.{IsTreeOfValue};
+ghost use Rattle.bound_checker.specs.Fault.{IsTreeFault};
 
 use crate::fault::CheckFault;
 use crate::walk::Walk;
@@ -11,10 +11,9 @@ use std::alloc::Global;
 /// The value of a sound tree, in seconds: no lawful plan costs less. `CheckFault` names the first node
 /// that is wrong.
 pub fn check(alloc: Global, graph: &TripGraph, tree: &Tree) -> Result<i128, CheckFault>
-    ensures sound { OnOk result (IsSoundTree graph.now tree.now) }
-    ensures value { IfOk result (λ bound. bound ≡ tree_value graph.now tree.now) }
+    ensures tree { IfOk result (IsTreeOfValue graph.now tree.now) }
     ensures bound { IfOk result (IsBound graph.now) }
-    ensures fault { IfErr result (IsFaultOf graph.now tree.now) }
+    ensures fault { IfErr result (IsTreeFault graph.now tree.now) }
 {
     let usable = vec![in alloc; true; graph.rows().len()]?;
     let marks = vec![in alloc; false; graph.rider_count()]?;

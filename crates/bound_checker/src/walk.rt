@@ -3,16 +3,13 @@ ghost use Rattle.std.specs.Prelude.{◌≡◌, ◌≢◌, ◌<◌, ◌≤◌, �
 ghost use Rattle.plan_rules.specs.Sums.{lesser};
 ghost use Rattle.plan_rules.specs.Graph.{Graph};
 ghost use Rattle.plan_rules.specs.Multipliers.{usable_of};
-ghost use Rattle.plan_rules.specs.Tree.{CanBranch, rounded_up};
+ghost use Rattle.plan_rules.specs.Tree.{CanBranch};
 ghost use Rattle.plan_rules.specs.Path.{standing_of, IsPathOf};
 ghost use Rattle.plan_rules.specs.declared.node.Node.TheVariants.{Branch, Leaf, Dead};
 ghost use Rattle.bound_checker.specs.Visit.{coming_of, IsVisit, IsNodeFault, IsReady};
-ghost use Rattle.bound_checker.specs.Size.{IsSmallSum};
 
-use crate::dead_end::is_dead_end;
 use crate::fault::CheckFault;
-use crate::leaf::value_at_leaf;
-use plan_rules::{Node, Path, TripGraph};
+use plan_rules::{Node, Path, TripGraph, is_dead_end, leaf_value, rounded_up};
 
 /// Where a walk stands, what it has seen, and its work space.
 #[derive(Drop)]
@@ -74,7 +71,7 @@ impl Walk {
             return Err(CheckFault::BadLeaf { node: place as u64 });
         }
         self.path.mark_usable(graph, &mut self.usable);
-        let value = rounded_up(value_at_leaf(graph, &self.usable, multipliers));
+        let value = rounded_up(leaf_value(graph, &self.usable, multipliers));
         self.least = Some(lesser(self.least, value));
         self.ended = !self.path.leave();
         Ok(())
@@ -123,17 +120,5 @@ fn lesser(least: Option<i128>, value: i128) -> i128
     match least {
         None => value,
         Some(other) => other.min(value),
-    }
-}
-
-/// 1/1024 seconds as whole seconds, rounded up.
-fn rounded_up(value: i128) -> i128
-    requires { IsSmallSum 1500 value }
-    ensures { result ≡ rounded_up value }
-{
-    if value > 0 {
-        (value + 1023) / 1024
-    } else {
-        value / 1024
     }
 }

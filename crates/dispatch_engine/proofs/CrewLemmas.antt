@@ -3,7 +3,6 @@ use Rattle.std.proofs.Common.{◌≡◌, ℕ, ◌<◌, ◌≤◌, true, List, []
 use Rattle.std.specs.Result.{is_ok, OnOk}
 use Rattle.std.proofs.lemmas.List.{get_or-map, length-map}
 use Rattle.batch_snapshot.specs.Batch.{Batch}
-use Rattle.batch_solver.specs.Outcome.{IsGoodOutcome}
 use Rattle.request_book.specs.Book.{BookView}
 use Rattle.request_book.specs.declared.command.Command.{Command}
 use Rattle.rider_limits.specs.declared.settings.Settings.{Settings}
@@ -11,9 +10,9 @@ use Rattle.road_network.specs.Roads.{Roads}
 use Rattle.script_rows.specs.Round.{NumberedLanes, lane_at}
 use Rattle.seat_lock.specs.Values.{AreAllPasses, IsNew, IsPassOf, LockValue}
 use Rattle.shared_book.specs.Shared.{BookPass}
-use Rattle.shared_book.specs.Lanes.{HasRun}
-use Rattle.shared_book.proofs.PassLemmas.{ran-fresh}
-use Rattle.dispatch_engine.specs.Crew.{at_rest, AreInOrder, HasRunLane, HasWorked, HaveRunLanes, IsToWork}
+use Rattle.dispatch_engine.specs.Lane.{HasRun}
+use Rattle.dispatch_engine.proofs.PassLemmas.{ran-fresh}
+use Rattle.dispatch_engine.specs.work.Crew.{at_rest, AreInOrder, HasRunLane, HasWorked, HaveRunLanes, IsToWork}
 use Rattle.dispatch_engine.specs.declared.crew.LaneWork.{LaneWork}
 
 pub when-ok : {T E : Type 0} (r : Result T E) (P : Type 0) → is_ok r ≡ true → OnOk r P → P
@@ -21,9 +20,9 @@ when-ok (Ok x) P is p = p
 when-ok (Err e) P is p = absurd cc
 
 -- a pass that had made no call has run these commands
-pub lane-run : (settings : Settings) (roads : Roads) (commands : List Command) (old new : BookPass) → old.calls ≡ [] → HasRun (IsGoodOutcome settings roads) commands old new → HasRunLane settings roads commands new
+pub lane-run : (settings : Settings) (roads : Roads) (commands : List Command) (old new : BookPass) → old.calls ≡ [] → HasRun settings roads commands old new → HasRunLane settings roads commands new
 lane-run settings roads commands old new fresh ran =
-    let both = ran-fresh (IsGoodOutcome settings roads) old new commands ran fresh in
+    let both = ran-fresh settings roads old new commands ran fresh in
     record { run = both.0; closes = both.1 }
 
 module _ (book : LockValue BookView) (passes : List BookPass) (all : AreAllPasses book passes) where

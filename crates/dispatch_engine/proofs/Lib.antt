@@ -1,2 +1,5 @@
+pub mod LaneLemmas
+pub mod PassLemmas
 pub mod CrewLemmas
 pub mod RoundLemmas
+pub mod SameLemmas

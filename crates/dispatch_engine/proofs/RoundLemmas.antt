@@ -1,13 +1,12 @@
 -- From the lanes of a round to its journal.
 use Rattle.std.proofs.Common.{◌≡◌, ◌≢◌, ℕ, zero, suc, ◌+◌, ◌<◌, ◌≤◌, eqb, List, [], ◌∷◌, ◌++◌, length, get_or, Some, None, refl, sym, ap, subst, ◌∙◌, take, add-one, inl, inr, arith}
-use Rattle.std.specs.Prelude.{◌⊎◌, Contains}
+use Rattle.std.specs.Prelude.{◌⊎◌, Contains, Result, Ok, Err, OnErr}
 use Rattle.std.specs.List.{All}
 use Rattle.std.proofs.Math.Seq.{take-suc}
 use Rattle.std.proofs.lemmas.Bool.{cases_eq, eqb-true}
 use Rattle.std.proofs.lemmas.Map.Views.{Contains-from_any}
 use Rattle.batch_snapshot.specs.Batch.{Batch}
 use Rattle.batch_snapshot.specs.Points.{named_nodes}
-use Rattle.batch_solver.specs.Outcome.{IsGoodOutcome}
 use Rattle.request_book.specs.Book.{BookView, IsBook, IsSameBook}
 use Rattle.request_book.specs.Consistent.{IsNode}
 use Rattle.request_book.specs.Replay.{state_after, RepliesAreSteps}
@@ -21,10 +20,16 @@ use Rattle.road_network.specs.Roads.{Roads}
 use Rattle.script_rows.specs.Round.{IsRound, MayStand, NumberedLanes, lane_at}
 use Rattle.shared_book.specs.Locked.{Fits}
 use Rattle.shared_book.specs.Shared.{BookPass, with_snapshot, IsFinished}
-use Rattle.shared_book.specs.Lanes.{of_lane, ArePlain, ClosesAreGood, HaveRun, IsJointRun, IsLaneRun, IsPlain}
-use Rattle.shared_book.proofs.LaneLemmas.{joined}
-use Rattle.dispatch_engine.specs.Crew.{HaveRunLanes}
+use Rattle.dispatch_engine.specs.Lane.{of_lane, ClosesAreGood, IsLaneRun}
 use Rattle.dispatch_engine.specs.Run.{IsReady, IsRoundRun, IsSameRun, journal_of}
+use Rattle.dispatch_engine.specs.work.Crew.{HaveRunLanes}
+use Rattle.dispatch_engine.specs.work.Lanes.{ArePlain, HaveRun, IsJointRun, IsPlain}
+use Rattle.dispatch_engine.proofs.LaneLemmas.{joined}
+
+-- what holds at all holds on an error
+pub on-err : {T E : Type 0} (r : Result T E) (P : Type 0) → P → OnErr r P
+on-err (Ok x) P p = tt
+on-err (Err e) P p = p
 
 -- items up to the next one
 pub take_next : {X : Type 0} (xs : List X) (i : ℕ) (x : X) → i < length xs → x ≡ get_or xs i x → take i xs ++ x ∷ [] ≡ take (i + 1) xs
@@ -36,27 +41,6 @@ snapshot-known nodes roads command reply b is fits = λ k d within. contained (g
   where
     contained : (node : ℕ) → IsNode roads node → Contains roads node
     contained node found = Contains-from_any {eq = λ q n. eqb n q} (λ x y same. sym (eqb-true y x same)) node roads found
-
--- past the end there is the default
-get_or-past : {X : Type 0} (xs : List X) (i : ℕ) (d : X) → length xs ≤ i → get_or xs i d ≡ d
-get_or-past [] i d past = refl
-get_or-past (x ∷ xs) zero d past = absurd (omega (arith, past))
-get_or-past (x ∷ xs) (suc i) d past = get_or-past xs i d (omega (arith, past))
-
--- no lane from this one on has a command
-pub past-sixteen : (round : NumberedLanes) → IsRound round → (lane : ℕ) → 16 ≤ lane → lane_at round lane ≡ []
-past-sixteen round kept lane past = let len = kept.sixteen in get_or-past round.lanes lane [] (omega (arith, past, len))
-
-pub one-less : (round : NumberedLanes) (n : ℕ) → ((lane : ℕ) → n + 1 ≤ lane → lane_at round lane ≡ []) → length (lane_at round n) ≡ 0 → (lane : ℕ) → n ≤ lane → lane_at round lane ≡ []
-one-less round n rest none lane from = by (cases_eq lane n)
-  where
-    empty : (cs : List Command) → length cs ≡ 0 → cs ≡ []
-    empty [] e = refl
-    empty (c ∷ cs) e = absurd (omega (arith, e))
-
-    by : (lane ≡ n) ⊎ (lane ≢ n) → lane_at round lane ≡ []
-    by (inl same) = ap (lane_at round) same ∙ empty (lane_at round n) none
-    by (inr differs) = rest lane (omega (arith, from, differs))
 
 -- a lane other than the first has plain commands alone
 stands-plain : (lane : ℕ) (command : Command) → lane ≢ 0 → MayStand lane command → IsPlain command
@@ -76,7 +60,7 @@ all-plain lane (c ∷ cs) other stand = (
 )
 
 module _ (settings : Settings) (roads : Roads) (round : NumberedLanes) where
-  have-run : (passes : List BookPass) → IsRound round → 0 < length passes → ((lane : ℕ) → length passes ≤ lane → lane_at round lane ≡ []) → HaveRunLanes settings roads round passes → HaveRun (IsGoodOutcome settings roads) (lane_at round) passes
+  have-run : (passes : List BookPass) → IsRound round → 0 < length passes → ((lane : ℕ) → length passes ≤ lane → lane_at round lane ≡ []) → HaveRunLanes settings roads round passes → HaveRun settings roads (lane_at round) passes
   have-run passes kept some rest ran = record {
     some = some;
     runs = λ k d lt. (ran k d lt).run;
@@ -87,9 +71,9 @@ module _ (settings : Settings) (roads : Roads) (round : NumberedLanes) where
 
   joint : (start book : BookView) (passes : List BookPass) (done : IsFinished start passes book) → IsReady settings roads start → IsRound round → 0 < length passes
       → ((lane : ℕ) → length passes ≤ lane → lane_at round lane ≡ []) → HaveRunLanes settings roads round passes
-      → IsJointRun (IsGoodOutcome settings roads) start.nodes start.wait start.state (lane_at round) done.since
+      → IsJointRun settings roads start.state (lane_at round) done.since
   joint start book passes done ready kept some rest ran =
-      joined (IsGoodOutcome settings roads) (lane_at round) start book passes done (have-run passes kept some rest ran) ready.closed
+      joined settings roads (lane_at round) start book passes ready done (have-run passes kept some rest ran)
 
   pub round-run : (start book : BookView) (passes : List BookPass) → IsFinished start passes book → start.entries ≡ [] → IsBook start → IsBook book → IsReady settings roads start → IsRound round → 0 < length passes
       → ((lane : ℕ) → length passes ≤ lane → lane_at round lane ≡ []) → HaveRunLanes settings roads round passes
@@ -100,14 +84,9 @@ module _ (settings : Settings) (roads : Roads) (round : NumberedLanes) where
       let since : book.entries ≡ done.since = done.entries ∙ ap (λ (es : List Entry). es ++ done.since) empty in
       let base : start.state ≡ book.base = opened.state ∙ ap (λ (es : List Entry). state_after start.nodes start.wait start.base es) empty ∙ sym done.base in
       let P : List ℕ → ℕ → Type 0 = λ ns w. RepliesAreSteps ns w book.base book.entries in
-      let Q : List ℕ → ℕ → Type 0 = λ ns w. ClosesAreGood (IsGoodOutcome settings roads) ns w book.base book.entries in
-      let here : ClosesAreGood (IsGoodOutcome settings roads) start.nodes start.wait book.base book.entries =
-      subst (λ (s : State). ClosesAreGood (IsGoodOutcome settings roads) start.nodes start.wait s book.entries) base
-      (subst (λ (es : List Entry). ClosesAreGood (IsGoodOutcome settings roads) start.nodes start.wait start.state es) (sym since) run.closes)
-      in
       record {
         replies = subst (λ ns. P ns settings.wait) (done.nodes ∙ ready.nodes) (subst (λ w. P book.nodes w) (done.wait ∙ ready.wait) after.replies);
-        closes = subst (λ ns. Q ns settings.wait) ready.nodes (subst (λ w. Q start.nodes w) ready.wait here);
+        closes = subst (λ (s : State). ClosesAreGood settings roads s book.entries) base (subst (λ (es : List Entry). ClosesAreGood settings roads start.state es) (sym since) run.closes);
         lanes = λ lane. subst (λ (es : List Entry). IsLaneRunOf lane es) (sym since) (run.lanes lane);
       }
     where
@@ -121,7 +100,11 @@ module _ (settings : Settings) (roads : Roads) (round : NumberedLanes) where
       let run = joint start book passes done ready kept some rest ran in record {
         nodes = done.nodes ∙ ready.nodes;
         wait = done.wait ∙ ready.wait;
-        closed = ap (λ (s : State). s.sealed) done.state ∙ run.closed;
+        closed =
+            ap (λ (s : State). s.sealed) done.state
+            ∙ ap (λ ns. (state_after ns start.wait start.state done.since).sealed) ready.nodes
+            ∙ ap (λ w. (state_after roads.nodes w start.state done.since).sealed) ready.wait
+            ∙ run.closed;
       }
 
 pub same-ready : (settings : Settings) (roads : Roads) (old new : BookView) → IsSameBook old new → IsReady settings roads old → IsReady settings roads new
@@ -131,10 +114,13 @@ same-ready settings roads old new same ready = record {
   closed = ap (λ (s : State). s.sealed) same.state ∙ ready.closed;
 }
 
-pub same-run : (old start book : BookView) (passes : List BookPass) → IsSameBook old start → IsFinished start passes book → IsSameRun old book
-same-run old start book passes same done = record {
-  nodes = done.nodes ∙ same.nodes;
-  wait = done.wait ∙ same.wait;
-  first = done.first ∙ same.first;
-  base = done.base ∙ same.base;
+pub finished-same : (start book : BookView) (passes : List BookPass) → IsFinished start passes book → IsSameRun start book
+finished-same start book passes done = record { nodes = done.nodes; wait = done.wait; first = done.first; base = done.base }
+
+pub same-run : (old start book : BookView) → IsSameBook old start → IsSameRun start book → IsSameRun old book
+same-run old start book same run = record {
+  nodes = run.nodes ∙ same.nodes;
+  wait = run.wait ∙ same.wait;
+  first = run.first ∙ same.first;
+  base = run.base ∙ same.base;
 }

@@ -1,2 +1,4 @@
+pub mod Lane
 pub mod Run
-pub mod Crew
+pub mod Same
+pub mod work

@@ -1,5 +1,4 @@
 use Rattle.std.specs.Prelude.{◌≡◌, ℕ, List, [], ◌∷◌, None}
-use Rattle.batch_solver.specs.Outcome.{IsGoodOutcome}
 use Rattle.request_book.specs.Book.{BookView, next_position}
 use Rattle.request_book.specs.Replay.{state_after, RepliesAreSteps}
 use Rattle.request_book.specs.declared.journal.Journal.{Journal}
@@ -7,29 +6,24 @@ use Rattle.request_book.specs.declared.state.State.{State}
 use Rattle.rider_limits.specs.declared.settings.Settings.{Settings}
 use Rattle.road_network.specs.Roads.{Roads}
 use Rattle.script_rows.specs.Round.{NumberedLanes, lane_at}
-use Rattle.shared_book.specs.Lanes.{of_lane, IsLaneRun, ClosesAreGood}
+use Rattle.dispatch_engine.specs.Lane.{of_lane, IsLaneRun, ClosesAreGood}
 
 -- a journal is a run of a round: each reply is the step's, each close has a good outcome for the batch that stands
 -- sealed before it, and each lane's entries are a run of its commands
 pub record IsRoundRun (settings : Settings) (roads : Roads) (round : NumberedLanes) (journal : Journal) : Type 0 where
   pub replies : RepliesAreSteps roads.nodes settings.wait journal.base journal.entries
-  pub closes : ClosesAreGood (IsGoodOutcome settings roads) roads.nodes settings.wait journal.base journal.entries
+  pub closes : ClosesAreGood settings roads journal.base journal.entries
   pub lanes : (lane : ℕ) → IsLaneRun (lane_at round lane) (of_lane lane journal.entries)
 
 -- journals are a run of rounds, one after the other, from a state and a position
 abbrev pub IsRun : Settings → Roads → State → ℕ → List NumberedLanes → List Journal → Type 0
 IsRun settings roads s position [] [] = Unit {0}
-IsRun settings roads s position [] (j ∷ js) = ⊥
-IsRun settings roads s position (r ∷ rs) [] = ⊥
 IsRun settings roads s position (r ∷ rs) (j ∷ js) =
     (j.base ≡ s) × (j.first ≡ position) × IsRoundRun settings roads r j
     × IsRun settings roads (state_after roads.nodes settings.wait s j.entries) (next_position position j.entries) rs js
+IsRun settings roads s position _ _ = ⊥
 
--- the state after journals, and the position of the next entry
-abbrev pub state_after_run : List ℕ → ℕ → State → List Journal → State
-state_after_run nodes wait s [] = s
-state_after_run nodes wait s (j ∷ js) = state_after_run nodes wait (state_after nodes wait s j.entries) js
-
+-- the position of the next entry after journals
 abbrev pub position_after_run : ℕ → List Journal → ℕ
 position_after_run position [] = position
 position_after_run position (j ∷ js) = position_after_run (next_position position j.entries) js

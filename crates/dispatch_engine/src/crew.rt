@@ -1,6 +1,6 @@
 //! The lanes of a round at work, each on a thread of its own.
 ghost use Rattle.std.specs.Prelude.{◌≡◌, ◌<◌, true, All, IfOk, IsTrue, map, vec_len};
-ghost use Rattle.dispatch_engine.specs.Crew.{AreInOrder, HasWorked, IsToWork, at_rest};
+ghost use Rattle.dispatch_engine.specs.work.Crew.{AreInOrder, HasWorked, IsToWork, at_rest};
 
 use crate::lane::run_lane;
 use pool_base::OutOfMemory;

@@ -1,9 +1,10 @@
-ghost use Rattle.std.specs.Prelude.{◌≡◌, ◌∷◌, [], All, OnOk};
-ghost use Rattle.batch_solver.specs.Outcome.{IsGoodOutcome};
+//! A lane's commands, called by its pass, with the batches that it seals.
+ghost use Rattle.std.specs.Prelude.{◌≡◌, ◌∷◌, [], All, OnErr, OnOk};
 ghost use Rattle.script_rows.specs.Round.{MayStand};
 ghost use Rattle.seat_lock.specs.Values.{IsPassOf};
-ghost use Rattle.shared_book.specs.Lanes.{HasRun, IsPlain};
-ghost use Rattle.dispatch_engine.specs.Crew.{HasTaken};
+ghost use Rattle.dispatch_engine.specs.Lane.{HasBegun, HasRun};
+ghost use Rattle.dispatch_engine.specs.work.Crew.{HasTaken};
+ghost use Rattle.dispatch_engine.specs.work.Lanes.{IsOfVehicle, IsPlain};
 
 use batch_solver::solve_batch;
 use pool_base::{OutOfMemory, Second};
@@ -16,8 +17,11 @@ use std::sync::Wait;
 use std::thread::Threads;
 
 /// Calls the book with a lane's commands, in their order, and closes each batch that a seal put up before
-/// the next command. The batch is solved while other lanes go on.
-pub(crate) fn run_lane(
+/// the next command, with an outcome that is good for it. The batch is solved while other lanes go on.
+///
+/// A seal stands in lane 0 alone, and no command is a close. After `OutOfMemory` the commands were taken
+/// up to some place: the pass's new calls are a beginning of such a run.
+pub fn run_lane(
     rt: &(impl Threads + Wait + Sync),
     alloc: Global,
     book: &SharedBook,
@@ -30,7 +34,8 @@ pub(crate) fn run_lane(
     requires stand { All (MayStand pass.old.lane) commands.now }
     requires nodes { book.now.start.nodes ≡ network.now.nodes }
     ensures pass { IsPassOf book.now pass.new × (pass.new.lane ≡ pass.old.lane) }
-    ensures run { OnOk result (HasRun (IsGoodOutcome settings.now network.now) commands.now pass.old pass.new) }
+    ensures run { OnOk result (HasRun settings.now network.now commands.now pass.old pass.new) }
+    ensures begun { OnErr result (HasBegun settings.now network.now commands.now pass.old pass.new) }
 {
     for command in commands {
         run_command(rt, alloc, book, pass, command, network, settings)?;
@@ -51,7 +56,8 @@ fn run_command(
     requires stands { MayStand pass.old.lane command.now }
     requires nodes { book.now.start.nodes ≡ network.now.nodes }
     ensures pass { IsPassOf book.now pass.new × (pass.new.lane ≡ pass.old.lane) }
-    ensures run { OnOk result (HasRun (IsGoodOutcome settings.now network.now) (command.now ∷ []) pass.old pass.new) }
+    ensures run { OnOk result (HasRun settings.now network.now (command.now ∷ []) pass.old pass.new) }
+    ensures begun { OnErr result (HasBegun settings.now network.now (command.now ∷ []) pass.old pass.new) }
 {
     match command {
         Command::Seal { now } => run_seal(rt, alloc, book, pass, *now, network, settings),
@@ -72,7 +78,8 @@ fn run_seal(
     requires own { IsPassOf book.now pass.old }
     requires nodes { book.now.start.nodes ≡ network.now.nodes }
     ensures pass { IsPassOf book.now pass.new × (pass.new.lane ≡ pass.old.lane) }
-    ensures run { OnOk result (HasRun (IsGoodOutcome settings.now network.now) (Command.Seal now ∷ []) pass.old pass.new) }
+    ensures run { OnOk result (HasRun settings.now network.now (Command.Seal now ∷ []) pass.old pass.new) }
+    ensures begun { OnErr result (HasBegun settings.now network.now (Command.Seal now ∷ []) pass.old pass.new) }
 {
     let SealReceipt {
         receipt: _,
@@ -89,6 +96,7 @@ fn run_seal(
     take(rt, alloc, book, pass, close)
 }
 
+/// Calls the book with a command; what it replies stands in the pass.
 fn take(
     rt: &impl Wait,
     alloc: Global,
@@ -99,6 +107,7 @@ fn take(
     requires { IsPassOf book.now pass.old }
     ensures pass { IsPassOf book.now pass.new × (pass.new.lane ≡ pass.old.lane) }
     ensures taken { OnOk result (HasTaken book.now.start.nodes pass.old command pass.new) }
+    ensures refused { OnErr result (pass.new.calls ≡ pass.old.calls) }
 {
     match book.call(rt, alloc, pass, command) {
         Ok(_receipt) => Ok(()),
@@ -126,6 +135,16 @@ fn copied(command: &Command) -> Command
             party: *party,
         },
         Command::Cancel { rider } => Command::Cancel { rider: *rider },
+        _ => copied_of_vehicle(command),
+    }
+}
+
+/// The same command of a vehicle again.
+fn copied_of_vehicle(command: &Command) -> Command
+    requires { IsOfVehicle command.now }
+    ensures { result ≡ command.now }
+{
+    match command {
         Command::Report {
             vehicle,
             node,
@@ -153,6 +172,6 @@ fn copied(command: &Command) -> Command
             rider: *rider,
             time: *time,
         },
-        Command::Seal { .. } | Command::Close { .. } => unreachable!(),
+        _ => unreachable!(),
     }
 }

@@ -8,6 +8,11 @@
 
 mod crew;
 mod lane;
+mod laws;
 mod round;
+#[cfg(test)]
+mod tests;
 
+pub use lane::run_lane;
+pub use laws::commands_follow_from_the_input;
 pub use round::run_round;

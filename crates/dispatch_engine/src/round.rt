@@ -2,7 +2,7 @@ ghost use Rattle.std.specs.Prelude.{◌≡◌, ℕ, ◌<◌, ◌≤◌, [], All,
 ghost use Rattle.request_book.specs.Book.{IsBook};
 ghost use Rattle.script_rows.specs.Round.{IsRound, lane_at};
 ghost use Rattle.seat_lock.specs.Values.{AreAllPasses, IsNew};
-ghost use Rattle.dispatch_engine.specs.Crew.{HaveRunLanes};
+ghost use Rattle.dispatch_engine.specs.work.Crew.{HaveRunLanes, IsSharedBy};
 ghost use Rattle.dispatch_engine.specs.Run.{IsReady, IsRoundRun, IsSameRun, journal_of};
 
 use crate::crew::{are_done, crew_of, passes_of, work_all};
@@ -40,14 +40,37 @@ pub fn run_round(
     let mut book = book;
     book.reserve(most_entries(round))?;
     let _entries = book.entries();
-    let lanes = lanes_in_use(round);
-    let Ok((shared, passes)) = SharedBook::start(alloc, book, lanes) else {
-        return Err(OutOfMemory);
-    };
+    match SharedBook::start(alloc, book, lanes_in_use(round)) {
+        Ok((shared, passes)) => run_shared(rt, alloc, shared, passes, round, network, settings),
+        Err(_refused) => Err(OutOfMemory),
+    }
+}
+
+/// Lets the passes of a shared book run the lanes, and takes the book back.
+fn run_shared(
+    rt: &(impl Threads + Wait + Sync),
+    alloc: Global,
+    shared: SharedBook,
+    passes: Vec<Pass>,
+    round: &Round,
+    network: &Network,
+    settings: &Settings,
+) -> Result<Book, OutOfMemory>
+    requires empty { shared.start.entries ≡ [] }
+    requires kept { IsBook shared.start }
+    requires ready { IsReady settings.now network.now shared.start }
+    requires lanes { IsSharedBy round.now shared.lanes }
+    requires passes { AreAllPasses shared passes.items }
+    requires fresh { All IsNew passes.items }
+    ensures run { IfOk result (λ after. IsRoundRun settings.now network.now round.now (journal_of after)) }
+    ensures same { IfOk result (λ after. IsSameRun shared.start after) }
+    ensures kept { IfOk result IsBook }
+    ensures ready { IfOk result (IsReady settings.now network.now) }
+{
     let passes = run_passes(rt, alloc, &shared, passes, round, network, settings)?;
     match shared.finish(passes) {
         Ok(book) => Ok(book),
-        Err(_) => Err(OutOfMemory),
+        Err(_unfinished) => Err(OutOfMemory),
     }
 }
 

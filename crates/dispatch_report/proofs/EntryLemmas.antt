@@ -1,14 +1,20 @@
+-- The lines of entries, one after the other.
 use Rattle.std.proofs.Common.{◌≡◌, ℕ, suc, ◌<◌, ◌≤◌, Bool, List, [], ◌∷◌, ◌++◌, length, get_or, drop, refl, sym, ◌∙◌, ap}
 use Rattle.std.proofs.Math.Seq.{drop-cons}
 use Rattle.std.proofs.lemmas.List.{drop_all}
-use Rattle.dispatch_report.specs.Round.{closed_block, entry_block, entry_lines, entries_lines}
-use Rattle.request_book.specs.Sealing.{one_more}
+use Rattle.dispatch_report.specs.Entry.{entry_line}
+use Rattle.dispatch_report.specs.Round.{entry_block, entries_lines}
+use Rattle.pool_io.specs.Faults.{one_more}
 use Rattle.request_book.specs.declared.command.Command.{Command}
 use Rattle.request_book.specs.declared.command.Command.TheVariants.{Submit, Cancel, Report, Pickup, Dropoff, Seal, Close}
 use Rattle.request_book.specs.declared.journal.Entry.{Entry}
 use Rattle.request_book.specs.declared.outcome.Outcome.{Outcome}
 use Rattle.request_book.specs.declared.reply.Reply.{Reply}
 use Rattle.request_book.specs.declared.reply.Reply.TheVariants.{Accepted, Cancelled, Placed, Picked, Dropped, Sealed, Closed, Refused}
+
+-- the lines of one entry
+abbrev pub entry_lines : Bool → ℕ → Entry → List (List ℕ)
+entry_lines proof position e = (entry_line position e ∷ []) ++ entry_block proof e.command e.reply
 
 -- the lines of the entries from one on begin with the lines of that one
 pub entries_lines-at : (proof : Bool) (position : ℕ) (es : List Entry) (i : ℕ) (e : Entry) → i < length es → e ≡ get_or es i e
@@ -17,6 +23,11 @@ unfolding entries_lines
 entries_lines-at proof position es i e within is =
     ap (λ x. entries_lines proof position (x ∷ drop (suc i) es)) is
     ∙ ap (λ xs. entries_lines proof position xs) (sym (drop-cons es i e within))
+
+-- past the last entry there is no line
+pub entries_lines-end : (proof : Bool) (position : ℕ) (es : List Entry) (i : ℕ) → length es ≤ i → entries_lines proof position (drop i es) ≡ []
+unfolding entries_lines
+entries_lines-end proof position es i past = ap (λ xs. entries_lines proof position xs) (drop_all i es past)
 
 -- only a close has a block
 pub entry_block-other : (proof : Bool) (command : Command) (reply : Reply) → ((batch : ℕ) (outcome : Outcome) → command ≡ Close batch outcome → ⊥) → entry_block proof command reply ≡ []
@@ -29,7 +40,7 @@ entry_block-other proof (Seal now) reply other = refl
 entry_block-other proof (Close batch outcome) reply other = absurd (other batch outcome refl)
 
 -- only where it was answered `closed`
-pub closed_block-other : (proof : Bool) (batch : ℕ) (outcome : Outcome) (reply : Reply) → (reply ≡ Closed → ⊥) → closed_block proof batch outcome reply ≡ []
+pub closed_block-other : (proof : Bool) (batch : ℕ) (outcome : Outcome) (reply : Reply) → (reply ≡ Closed → ⊥) → entry_block proof (Close batch outcome) reply ≡ []
 closed_block-other proof batch outcome Closed other = absurd (other refl)
 closed_block-other proof batch outcome Accepted other = refl
 closed_block-other proof batch outcome Cancelled other = refl
@@ -38,8 +49,3 @@ closed_block-other proof batch outcome Picked other = refl
 closed_block-other proof batch outcome Dropped other = refl
 closed_block-other proof batch outcome (Sealed b) other = refl
 closed_block-other proof batch outcome (Refused refusal) other = refl
-
--- past the last entry there is no line
-pub entries_lines-end : (proof : Bool) (position : ℕ) (es : List Entry) (i : ℕ) → length es ≤ i → entries_lines proof position (drop i es) ≡ []
-unfolding entries_lines
-entries_lines-end proof position es i past = ap (λ xs. entries_lines proof position xs) (drop_all i es past)

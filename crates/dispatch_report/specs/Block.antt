@@ -1,7 +1,7 @@
 -- The lines of a closed batch.
-use Rattle.std.specs.Prelude.{ℕ, List, [], ◌∷◌, ◌++◌, None, Some, codes, decimal, map, length, slice_get, unwrap_or, option_map, if◌then◌else◌, Bool}
+use Rattle.std.specs.Prelude.{ℕ, List, [], ◌∷◌, ◌++◌, None, Some, codes, map, length, slice_get, unwrap_or, option_map, if◌then◌else◌, Bool}
 use Rattle.std.specs.List.{flat_map}
-use Rattle.dispatch_report.specs.Words.{spaced, spaced_signed, all_spaced, all_spaced_signed}
+use Rattle.dispatch_report.specs.Words.{numbered, signed, spaced}
 use Rattle.plan_rules.specs.declared.node.Node.{Node}
 use Rattle.plan_rules.specs.declared.node.Node.TheVariants.{Branch, Leaf, Dead}
 use Rattle.request_book.specs.declared.outcome.Answer.{Answer}
@@ -10,80 +10,52 @@ use Rattle.request_book.specs.declared.outcome.ChosenTrip.{ChosenTrip}
 use Rattle.request_book.specs.declared.outcome.LateVehicle.{LateVehicle}
 use Rattle.request_book.specs.declared.outcome.MoveLine.{MoveLine}
 use Rattle.request_book.specs.declared.outcome.Outcome.{Outcome}
-use Rattle.request_book.specs.declared.outcome.Planned.{Planned}
 use Rattle.request_book.specs.declared.outcome.PlannedStop.{PlannedStop}
 use Rattle.request_book.specs.declared.outcome.RowLine.{RowLine}
 
 -- one stop: what happens, to whom, where and when
 abbrev pub stop_text : PlannedStop → List ℕ
-stop_text stop = (if stop.pick then codes " pick:" else codes " drop:") ++ decimal stop.rider ++ codes "@" ++ decimal stop.node ++ codes ":" ++ decimal stop.second
+stop_text stop = numbered (if stop.pick then codes " pick:" else codes " drop:") stop.rider ++ numbered (codes "@") stop.node ++ numbered (codes ":") stop.second
 
--- stops in their order
-abbrev pub stops_text : List PlannedStop → List ℕ
-stops_text stops = flat_map stop_text stops
-
-abbrev pub expired_line : ℕ → List ℕ
-expired_line rider = codes "expired" ++ spaced rider
-
-abbrev pub lapsed_line : ℕ → List ℕ
-lapsed_line rider = codes "lapsed" ++ spaced rider
-
--- a late vehicle's order with its delay, or `none`
-abbrev pub late_order : LateVehicle → List ℕ
-late_order late = elim late.stops [ None ↦ codes " none" | Some stops ↦ spaced late.delay ++ stops_text stops.items ]
-
+-- a late vehicle: its passengers' least delay and the order of its stops, or `none`
 abbrev pub late_line : LateVehicle → List ℕ
-late_line late = codes "late" ++ spaced late.vehicle ++ late_order late
+late_line late =
+    numbered (codes "late ") late.vehicle
+    ++ elim late.stops [ None ↦ codes " none" | Some stops ↦ spaced late.delay ++ flat_map stop_text stops.items ]
 
-abbrev pub rv_line : ℕ × ℕ → List ℕ
-rv_line edge = codes "rv" ++ spaced edge.0 ++ spaced edge.1
+-- a word and the ids of two
+abbrev pub pair_line : List ℕ → ℕ × ℕ → List ℕ
+pair_line words pair = numbered words pair.0 ++ spaced pair.1
 
-abbrev pub rr_line : ℕ × ℕ → List ℕ
-rr_line edge = codes "rr" ++ spaced edge.0 ++ spaced edge.1
+-- a vehicle-trip pair: the vehicle, its least delay, and the riders
+abbrev pub pair_text : RowLine → List ℕ
+pair_text row = numbered (codes "row ") row.vehicle ++ spaced row.cost ++ flat_map spaced row.riders.items
 
-abbrev pub row_line : RowLine → List ℕ
-row_line row = codes "row" ++ spaced row.vehicle ++ spaced row.cost ++ all_spaced row.riders.items
-
+-- a chosen trip: the vehicle, its delay, and its stops
 abbrev pub trip_line : ChosenTrip → List ℕ
-trip_line trip = codes "trip" ++ spaced trip.vehicle ++ spaced trip.cost ++ stops_text trip.stops.items
+trip_line trip = numbered (codes "trip ") trip.vehicle ++ spaced trip.cost ++ flat_map stop_text trip.stops.items
 
-abbrev pub out_line : ℕ → List ℕ
-out_line rider = codes "out" ++ spaced rider
+-- an idle vehicle that is sent to a rider, and the seconds of its way
+abbrev pub move_text : MoveLine → List ℕ
+move_text m = numbered (codes "move ") m.vehicle ++ spaced m.rider ++ spaced m.seconds
 
-abbrev pub move_line : MoveLine → List ℕ
-move_line m = codes "move" ++ spaced m.vehicle ++ spaced m.rider ++ spaced m.seconds
-
--- the vehicle of a row of this block, by its number
-abbrev pub vehicle_of_row : List RowLine → ℕ → ℕ
-vehicle_of_row rows row = unwrap_or (option_map (λ r. r.vehicle) (slice_get rows row)) 0
-
--- a node of the tree that shows the bound
+-- a node of the tree that shows the bound: a row of this block by its vehicle and its number, or multipliers
 abbrev pub node_line : List RowLine → Node → List ℕ
-node_line rows (Branch vehicle row) = codes "branch" ++ spaced (vehicle_of_row rows row) ++ spaced row
-node_line rows (Leaf multipliers) = codes "leaf" ++ all_spaced_signed multipliers
+node_line rows (Branch vehicle row) = numbered (codes "branch ") (unwrap_or (option_map (λ r. r.vehicle) (slice_get rows row)) 0) ++ spaced row
+node_line rows (Leaf multipliers) = codes "leaf" ++ flat_map (signed (codes " ")) multipliers
 node_line rows Dead = codes "dead"
 
--- the graphs: who can be served, with whom, and every trip
-abbrev pub graph_lines : Planned → List (List ℕ)
-graph_lines plan = map lapsed_line plan.lapsed ++ map late_line plan.late ++ map rv_line plan.rv ++ map rr_line plan.rr ++ map row_line plan.rows
-
--- the plan: chosen trips, who is left out, and where idle vehicles go
-abbrev pub plan_lines : Planned → List (List ℕ)
-plan_lines plan = map trip_line plan.chosen ++ map out_line plan.left ++ map move_line plan.moves
-
--- what the plan costs, what no lawful plan costs less than, and the size of the tree that shows it
-abbrev pub bound_lines : Planned → List (List ℕ)
-bound_lines plan = (codes "cost" ++ spaced plan.cost) ∷ (codes "bound" ++ spaced_signed plan.bound) ∷ (codes "nodes" ++ spaced (length plan.tree)) ∷ []
-
--- the tree itself, where it is asked for
-abbrev pub tree_lines : Bool → Planned → List (List ℕ)
-tree_lines proof plan = if proof then map (node_line plan.rows) plan.tree else []
-
--- what came of a batch
+-- what came of a batch: the graphs, the plan, its cost and bound and the size of the tree, and where it is asked for
+-- the tree; or that there were too many rows
 abbrev pub answer_lines : Bool → Answer → List (List ℕ)
 answer_lines proof Overflow = codes "overflow" ∷ []
-answer_lines proof (Plan plan) = graph_lines plan ++ plan_lines plan ++ bound_lines plan ++ tree_lines proof plan
+answer_lines proof (Plan plan) =
+    (map (numbered (codes "lapsed ")) plan.lapsed ++ map late_line plan.late ++ map (pair_line (codes "rv ")) plan.rv ++ map (pair_line (codes "rr ")) plan.rr ++ map pair_text plan.rows)
+    ++ (map trip_line plan.chosen ++ map (numbered (codes "out ")) plan.left ++ map move_text plan.moves)
+    ++ ((numbered (codes "cost ") plan.cost ∷ []) ++ (signed (codes "bound ") plan.bound ∷ []) ++ (numbered (codes "nodes ") (length plan.tree) ∷ []))
+    ++ (if proof then map (node_line plan.rows) plan.tree else [])
 
--- the block of a batch
+-- the block of a batch: its number, whose wait ran out, and what came of it
 abbrev pub block_lines : Bool → ℕ → Outcome → List (List ℕ)
-block_lines proof batch outcome = ((codes "batch" ++ spaced batch) ∷ []) ++ map expired_line outcome.expired ++ answer_lines proof outcome.answer ++ (codes "end" ∷ [])
+block_lines proof batch outcome =
+    (numbered (codes "batch ") batch ∷ []) ++ map (numbered (codes "expired ")) outcome.expired ++ answer_lines proof outcome.answer ++ (codes "end" ∷ [])

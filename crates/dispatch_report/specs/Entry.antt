@@ -1,6 +1,6 @@
 -- The line of a journal's entry: its position, its lane, the command with its fields, and the reply.
 use Rattle.std.specs.Prelude.{ℕ, ◌==◌, List, [], ◌++◌, Option, None, Some, codes, decimal, if◌then◌else◌}
-use Rattle.dispatch_report.specs.Words.{spaced}
+use Rattle.dispatch_report.specs.Words.{numbered, spaced}
 use Rattle.request_book.specs.declared.command.Command.{Command}
 use Rattle.request_book.specs.declared.command.Command.TheVariants.{Submit, Cancel, Report, Pickup, Dropoff, Seal, Close}
 use Rattle.request_book.specs.declared.journal.Entry.{Entry}
@@ -11,29 +11,25 @@ use Rattle.request_book.specs.declared.reply.Reply.TheVariants.{Accepted, Cancel
 use Rattle.request_book.specs.declared.rider.Status.{Status}
 use Rattle.request_book.specs.declared.rider.Status.TheVariants.{Waiting, Promised, Aboard, Cancelled as GivenUp, Delivered, Expired}
 
--- the party where it isn't one person
-abbrev pub party_text : ℕ → List ℕ
-party_text persons = if persons == 1 then [] else spaced persons
-
--- a command with its fields
+-- a command with its fields; a party where it isn't one person
 abbrev pub command_text : Command → List ℕ
 command_text (Submit rider origin destination time party) =
-    codes "submit" ++ spaced rider ++ spaced origin ++ spaced destination ++ spaced time ++ party_text party
-command_text (Cancel rider) = codes "cancel" ++ spaced rider
-command_text (Report vehicle node time) = codes "report" ++ spaced vehicle ++ spaced node ++ spaced time
-command_text (Pickup vehicle rider time) = codes "pickup" ++ spaced vehicle ++ spaced rider ++ spaced time
-command_text (Dropoff vehicle rider time) = codes "dropoff" ++ spaced vehicle ++ spaced rider ++ spaced time
-command_text (Seal now) = codes "seal" ++ spaced now
-command_text (Close batch outcome) = codes "close" ++ spaced batch
+    numbered (codes "submit ") rider ++ spaced origin ++ spaced destination ++ spaced time ++ (if party == 1 then [] else spaced party)
+command_text (Cancel rider) = numbered (codes "cancel ") rider
+command_text (Report vehicle node time) = numbered (codes "report ") vehicle ++ spaced node ++ spaced time
+command_text (Pickup vehicle rider time) = numbered (codes "pickup ") vehicle ++ spaced rider ++ spaced time
+command_text (Dropoff vehicle rider time) = numbered (codes "dropoff ") vehicle ++ spaced rider ++ spaced time
+command_text (Seal now) = numbered (codes "seal ") now
+command_text (Close batch outcome) = numbered (codes "close ") batch
 
 -- the word of a status
-abbrev pub status_text : Status → List ℕ
-status_text Waiting = codes "waiting"
-status_text (Promised p) = codes "promised"
-status_text (Aboard v) = codes "aboard"
-status_text GivenUp = codes "cancelled"
-status_text Delivered = codes "delivered"
-status_text Expired = codes "expired"
+abbrev pub rider_status_text : Status → List ℕ
+rider_status_text Waiting = codes "waiting"
+rider_status_text (Promised p) = codes "promised"
+rider_status_text (Aboard v) = codes "aboard"
+rider_status_text GivenUp = codes "cancelled"
+rider_status_text Delivered = codes "delivered"
+rider_status_text Expired = codes "expired"
 
 -- a space and a number, or `none`
 abbrev pub spaced_or_none : Option ℕ → List ℕ
@@ -48,15 +44,15 @@ refusal_text SamePlace = codes "same-place"
 refusal_text PoolFull = codes "pool-full"
 refusal_text BookFull = codes "book-full"
 refusal_text UnknownRider = codes "unknown-rider"
-refusal_text (IsAboard vehicle) = codes "is-aboard" ++ spaced vehicle
-refusal_text (Ended status) = codes "ended " ++ status_text status
+refusal_text (IsAboard vehicle) = numbered (codes "is-aboard ") vehicle
+refusal_text (Ended status) = codes "ended " ++ rider_status_text status
 refusal_text UnknownVehicle = codes "unknown-vehicle"
-refusal_text (TimeBack last) = codes "time-back" ++ spaced last
+refusal_text (TimeBack last) = numbered (codes "time-back ") last
 refusal_text (NotPromised holder) = codes "not-promised" ++ spaced_or_none holder
 refusal_text VehicleFull = codes "vehicle-full"
 refusal_text NotAboard = codes "not-aboard"
-refusal_text (BatchOpen batch) = codes "batch-open" ++ spaced batch
-refusal_text (ClockBack last) = codes "clock-back" ++ spaced last
+refusal_text (BatchOpen batch) = numbered (codes "batch-open ") batch
+refusal_text (ClockBack last) = numbered (codes "clock-back ") last
 refusal_text (NotThisBatch current) = codes "not-this-batch" ++ spaced_or_none current
 
 -- the words of a reply
@@ -66,7 +62,7 @@ reply_text Cancelled = codes "cancelled"
 reply_text Placed = codes "placed"
 reply_text Picked = codes "picked"
 reply_text Dropped = codes "dropped"
-reply_text (Sealed batch) = codes "sealed" ++ spaced batch
+reply_text (Sealed batch) = numbered (codes "sealed ") batch
 reply_text Closed = codes "closed"
 reply_text (Refused refusal) = codes "refused " ++ refusal_text refusal
 

@@ -1,3 +1,4 @@
+pub mod Written
 pub mod Lines
 pub mod Words
 pub mod Entry
@@ -5,3 +6,4 @@ pub mod Block
 pub mod Round
 pub mod Head
 pub mod Summary
+pub mod work

@@ -3,39 +3,29 @@ use Rattle.std.specs.Prelude.{ℕ, Bool, List, [], ◌∷◌, ◌++◌, codes}
 use Rattle.dispatch_report.specs.Block.{block_lines}
 use Rattle.dispatch_report.specs.Entry.{entry_line}
 use Rattle.dispatch_report.specs.Lines.{lines_text}
-use Rattle.dispatch_report.specs.Words.{spaced}
-use Rattle.request_book.specs.Sealing.{one_more}
+use Rattle.dispatch_report.specs.Words.{numbered}
+use Rattle.pool_io.specs.Faults.{one_more}
 use Rattle.request_book.specs.declared.command.Command.{Command}
 use Rattle.request_book.specs.declared.command.Command.TheVariants.{Close}
 use Rattle.request_book.specs.declared.journal.Entry.{Entry}
 use Rattle.request_book.specs.declared.journal.Journal.{Journal}
-use Rattle.request_book.specs.declared.outcome.Outcome.{Outcome}
 use Rattle.request_book.specs.declared.reply.Reply.{Reply}
 use Rattle.request_book.specs.declared.reply.Reply.TheVariants.{Closed}
 
--- the block of a close, if it was answered `closed`
-abbrev pub closed_block : Bool → ℕ → Outcome → Reply → List (List ℕ)
-closed_block proof batch outcome Closed = block_lines proof batch outcome
-closed_block proof batch outcome _ = []
-
--- the block that follows an entry's line
+-- the block that follows the line of a close that was answered `closed`
 abbrev pub entry_block : Bool → Command → Reply → List (List ℕ)
-entry_block proof (Close batch outcome) reply = closed_block proof batch outcome reply
-entry_block proof _ reply = []
-
--- the lines of an entry
-abbrev pub entry_lines : Bool → ℕ → Entry → List (List ℕ)
-entry_lines proof position e = (entry_line position e ∷ []) ++ entry_block proof e.command e.reply
+entry_block proof (Close batch outcome) Closed = block_lines proof batch outcome
+entry_block proof _ _ = []
 
 -- the lines of entries from a position on
 unfoldable pub entries_lines : Bool → ℕ → List Entry → List (List ℕ)
 entries_lines proof position [] = []
-entries_lines proof position (e ∷ es) = entry_lines proof position e ++ entries_lines proof (one_more position) es
+entries_lines proof position (e ∷ es) = ((entry_line position e ∷ []) ++ entry_block proof e.command e.reply) ++ entries_lines proof (one_more position) es
 
 -- the text of a round
-abbrev pub round_text : ℕ → Bool → Journal → List ℕ
-round_text number proof journal = lines_text (((codes "round" ++ spaced number) ∷ []) ++ entries_lines proof journal.first journal.entries)
+unfoldable pub round_text : ℕ → Bool → Journal → List ℕ
+round_text number proof journal = lines_text ((numbered (codes "round ") number ∷ []) ++ entries_lines proof journal.first journal.entries)
 
 -- the last line of a report: how many entries there were
-abbrev pub end_text : ℕ → List ℕ
-end_text entries = lines_text ((codes "done" ++ spaced entries) ∷ [])
+unfoldable pub end_text : ℕ → List ℕ
+end_text entries = lines_text (numbered (codes "done ") entries ∷ [])

@@ -1,18 +1,15 @@
-use Rattle.std.specs.Prelude.{ℕ, ℤ, List, ◌∷◌, decimal}
+-- The words and numbers of which lines are made.
+use Rattle.std.specs.Prelude.{ℕ, ℤ, List, ◌++◌, codes, decimal}
 use Rattle.std.specs.Fmt.{signed_decimal}
-use Rattle.std.specs.List.{flat_map}
 
--- a space, and a number in decimal digits
+-- words, and a number in decimal digits
+unfoldable pub numbered : List ℕ → ℕ → List ℕ
+numbered words n = words ++ decimal n
+
+-- words, and a number in decimal digits, behind `-` where it is below 0
+unfoldable pub signed : List ℕ → ℤ → List ℕ
+signed words z = words ++ signed_decimal z
+
+-- a space and a number
 abbrev pub spaced : ℕ → List ℕ
-spaced n = 32 ∷ decimal n
-
--- the same with a sign
-abbrev pub spaced_signed : ℤ → List ℕ
-spaced_signed z = 32 ∷ signed_decimal z
-
--- each number after a space
-abbrev pub all_spaced : List ℕ → List ℕ
-all_spaced ns = flat_map spaced ns
-
-abbrev pub all_spaced_signed : List ℤ → List ℕ
-all_spaced_signed zs = flat_map spaced_signed zs
+spaced n = numbered (codes " ") n

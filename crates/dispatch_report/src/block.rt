@@ -1,15 +1,16 @@
-ghost use Rattle.std.specs.Prelude.{◌≡◌, ◌≤◌, ◌++◌, ◌∷◌, [], List, ℕ, OnOk, map, codes, length, Bool};
-ghost use Rattle.std.specs.Result.{IsErrOf};
-ghost use Rattle.dispatch_report.specs.Block.{stop_text, stops_text, expired_line, lapsed_line, late_order, late_line, rv_line, rr_line, row_line, trip_line, out_line, move_line, vehicle_of_row, node_line, graph_lines, plan_lines, bound_lines, tree_lines, answer_lines, block_lines};
-ghost use Rattle.dispatch_report.specs.Lines.{TakesLines};
-ghost use Rattle.dispatch_report.specs.Words.{spaced, spaced_signed};
-ghost use Rattle.pool_io.specs.Faults.{Rose};
+ghost use Rattle.std.specs.Prelude.{◌≡◌, ◌++◌, ◌∷◌, [], List, ℕ, OnOk, map, codes, length, Bool, slice_get, unwrap_or, option_map};
+ghost use Rattle.std.specs.List.{flat_map};
+ghost use Rattle.dispatch_report.specs.Block.{stop_text, late_line, pair_line, pair_text, trip_line, move_text, node_line, answer_lines, block_lines};
+ghost use Rattle.dispatch_report.specs.Words.{numbered, signed};
+ghost use Rattle.dispatch_report.specs.Written.{sink_seen};
+ghost use Rattle.dispatch_report.specs.work.Block.{late_order, graph_lines, plan_lines, bound_lines, tree_lines};
+ghost use Rattle.dispatch_report.specs.work.Lines.{WritesLines};
 
 use crate::fault::ReportFault;
 use crate::lines::{Line, write_line, write_lines, write_list};
-use crate::words::{put_multipliers, put_riders, put_spaced, put_spaced_signed};
+use crate::words::{put_multipliers, put_numbered, put_riders, put_signed, put_spaced};
 use plan_rules::{Node, Tree};
-use pool_base::{OutOfMemory, RiderId, VehicleId, put_number};
+use pool_base::{OutOfMemory, RiderId, VehicleId, put_bytes};
 use pool_io::Sink;
 use request_book::{
     Answer, ChosenTrip, LateVehicle, MoveLine, Outcome, Planned, PlannedStop, RowLine,
@@ -23,14 +24,10 @@ pub(crate) fn write_block<K: Sink>(
     outcome: &Outcome,
     proof: bool,
 ) -> Result<(), ReportFault>
-    requires { line.old.items ≡ [] }
-    ensures lines { TakesLines (K.written sink.old) (K.written sink.new) (block_lines proof batch outcome.now) result }
-    ensures empty { OnOk result (line.new.items ≡ []) }
-    ensures fault { IsErrOf result ReportFault.WriteFault → Rose (K.faults sink.old) (K.faults sink.new) }
-    ensures never_falls { K.faults sink.old ≤ K.faults sink.new }
+    ensures { WritesLines (sink_seen K.written K.faults sink.old sink.new) (block_lines proof batch outcome.now) result }
 {
-    write_number(sink, line, b"batch", batch)?;
-    write_list(sink, line, &Expired, &outcome.expired)?;
+    write_number(sink, line, b"batch ", batch)?;
+    write_list(sink, line, &Riders { words: b"expired " }, &outcome.expired)?;
     write_answer(sink, line, &outcome.answer, proof)?;
     write_words(sink, line, b"end")?;
     Ok(())
@@ -42,11 +39,7 @@ fn write_answer<K: Sink>(
     answer: &Answer,
     proof: bool,
 ) -> Result<(), ReportFault>
-    requires { line.old.items ≡ [] }
-    ensures lines { TakesLines (K.written sink.old) (K.written sink.new) (answer_lines proof answer.now) result }
-    ensures empty { OnOk result (line.new.items ≡ []) }
-    ensures fault { IsErrOf result ReportFault.WriteFault → Rose (K.faults sink.old) (K.faults sink.new) }
-    ensures never_falls { K.faults sink.old ≤ K.faults sink.new }
+    ensures { WritesLines (sink_seen K.written K.faults sink.old sink.new) (answer_lines proof answer.now) result }
 {
     match answer {
         Answer::Overflow => write_words(sink, line, b"overflow"),
@@ -65,13 +58,9 @@ fn write_graphs<K: Sink>(
     line: &mut Vec<u8>,
     plan: &Planned,
 ) -> Result<(), ReportFault>
-    requires { line.old.items ≡ [] }
-    ensures lines { TakesLines (K.written sink.old) (K.written sink.new) (graph_lines plan.now) result }
-    ensures empty { OnOk result (line.new.items ≡ []) }
-    ensures fault { IsErrOf result ReportFault.WriteFault → Rose (K.faults sink.old) (K.faults sink.new) }
-    ensures never_falls { K.faults sink.old ≤ K.faults sink.new }
+    ensures { WritesLines (sink_seen K.written K.faults sink.old sink.new) (graph_lines plan.now) result }
 {
-    write_list(sink, line, &Lapsed, &plan.lapsed)?;
+    write_list(sink, line, &Riders { words: b"lapsed " }, &plan.lapsed)?;
     write_list(sink, line, &Late, &plan.late)?;
     write_list(sink, line, &Rv, &plan.rv)?;
     write_list(sink, line, &Rr, &plan.rr)?;
@@ -80,39 +69,27 @@ fn write_graphs<K: Sink>(
 }
 
 fn write_plan<K: Sink>(sink: &mut K, line: &mut Vec<u8>, plan: &Planned) -> Result<(), ReportFault>
-    requires { line.old.items ≡ [] }
-    ensures lines { TakesLines (K.written sink.old) (K.written sink.new) (plan_lines plan.now) result }
-    ensures empty { OnOk result (line.new.items ≡ []) }
-    ensures fault { IsErrOf result ReportFault.WriteFault → Rose (K.faults sink.old) (K.faults sink.new) }
-    ensures never_falls { K.faults sink.old ≤ K.faults sink.new }
+    ensures { WritesLines (sink_seen K.written K.faults sink.old sink.new) (plan_lines plan.now) result }
 {
     write_list(sink, line, &Trip, &plan.chosen)?;
-    write_list(sink, line, &Out, &plan.left)?;
+    write_list(sink, line, &Riders { words: b"out " }, &plan.left)?;
     write_list(sink, line, &Move, &plan.moves)?;
     Ok(())
 }
 
 fn write_bound<K: Sink>(sink: &mut K, line: &mut Vec<u8>, plan: &Planned) -> Result<(), ReportFault>
-    requires { line.old.items ≡ [] }
-    ensures lines { TakesLines (K.written sink.old) (K.written sink.new) (bound_lines plan.now) result }
-    ensures empty { OnOk result (line.new.items ≡ []) }
-    ensures fault { IsErrOf result ReportFault.WriteFault → Rose (K.faults sink.old) (K.faults sink.new) }
-    ensures never_falls { K.faults sink.old ≤ K.faults sink.new }
+    ensures { WritesLines (sink_seen K.written K.faults sink.old sink.new) (bound_lines plan.now) result }
 {
-    write_number(sink, line, b"cost", plan.cost)?;
-    write_signed(sink, line, b"bound", &plan.bound)?;
+    write_number(sink, line, b"cost ", plan.cost)?;
+    write_signed(sink, line, b"bound ", &plan.bound)?;
     write_nodes(sink, line, &plan.tree)?;
     Ok(())
 }
 
 fn write_nodes<K: Sink>(sink: &mut K, line: &mut Vec<u8>, tree: &Tree) -> Result<(), ReportFault>
-    requires { line.old.items ≡ [] }
-    ensures lines { TakesLines (K.written sink.old) (K.written sink.new) ((codes "nodes" ++ spaced (length tree.now)) ∷ []) result }
-    ensures empty { OnOk result (line.new.items ≡ []) }
-    ensures fault { IsErrOf result ReportFault.WriteFault → Rose (K.faults sink.old) (K.faults sink.new) }
-    ensures never_falls { K.faults sink.old ≤ K.faults sink.new }
+    ensures { WritesLines (sink_seen K.written K.faults sink.old sink.new) (numbered (codes "nodes ") (length tree.now) ∷ []) result }
 {
-    write_number(sink, line, b"nodes", tree.nodes().len() as u64)
+    write_number(sink, line, b"nodes ", tree.nodes().len() as u64)
 }
 
 fn write_tree<K: Sink>(
@@ -121,11 +98,7 @@ fn write_tree<K: Sink>(
     plan: &Planned,
     proof: bool,
 ) -> Result<(), ReportFault>
-    requires { line.old.items ≡ [] }
-    ensures lines { TakesLines (K.written sink.old) (K.written sink.new) (tree_lines proof plan.now) result }
-    ensures empty { OnOk result (line.new.items ≡ []) }
-    ensures fault { IsErrOf result ReportFault.WriteFault → Rose (K.faults sink.old) (K.faults sink.new) }
-    ensures never_falls { K.faults sink.old ≤ K.faults sink.new }
+    ensures { WritesLines (sink_seen K.written K.faults sink.old sink.new) (tree_lines proof plan.now) result }
 {
     if proof {
         write_lines(
@@ -147,13 +120,10 @@ pub(crate) fn write_words<K: Sink>(
     line: &mut Vec<u8>,
     words: &[u8],
 ) -> Result<(), ReportFault>
-    requires { line.old.items ≡ [] }
-    ensures lines { TakesLines (K.written sink.old) (K.written sink.new) (words.now ∷ []) result }
-    ensures empty { OnOk result (line.new.items ≡ []) }
-    ensures fault { IsErrOf result ReportFault.WriteFault → Rose (K.faults sink.old) (K.faults sink.new) }
-    ensures never_falls { K.faults sink.old ≤ K.faults sink.new }
+    ensures { WritesLines (sink_seen K.written K.faults sink.old sink.new) (words.now ∷ []) result }
 {
-    put_words(line, words)?;
+    line.clear();
+    put_bytes(line, words)?;
     write_line(sink, line)
 }
 
@@ -161,104 +131,42 @@ pub(crate) fn write_words<K: Sink>(
 pub(crate) fn write_number<K: Sink>(
     sink: &mut K,
     line: &mut Vec<u8>,
-    word: &[u8],
+    words: &[u8],
     number: u64,
 ) -> Result<(), ReportFault>
-    requires { line.old.items ≡ [] }
-    ensures lines { TakesLines (K.written sink.old) (K.written sink.new) ((word.now ++ spaced number) ∷ []) result }
-    ensures empty { OnOk result (line.new.items ≡ []) }
-    ensures fault { IsErrOf result ReportFault.WriteFault → Rose (K.faults sink.old) (K.faults sink.new) }
-    ensures never_falls { K.faults sink.old ≤ K.faults sink.new }
+    ensures { WritesLines (sink_seen K.written K.faults sink.old sink.new) (numbered words.now number ∷ []) result }
 {
-    put_number_line(line, word, number)?;
+    line.clear();
+    put_numbered(line, words, number)?;
     write_line(sink, line)
 }
 
 fn write_signed<K: Sink>(
     sink: &mut K,
     line: &mut Vec<u8>,
-    word: &[u8],
+    words: &[u8],
     number: &i128,
 ) -> Result<(), ReportFault>
-    requires { line.old.items ≡ [] }
-    ensures lines { TakesLines (K.written sink.old) (K.written sink.new) ((word.now ++ spaced_signed number.now) ∷ []) result }
-    ensures empty { OnOk result (line.new.items ≡ []) }
-    ensures fault { IsErrOf result ReportFault.WriteFault → Rose (K.faults sink.old) (K.faults sink.new) }
-    ensures never_falls { K.faults sink.old ≤ K.faults sink.new }
+    ensures { WritesLines (sink_seen K.written K.faults sink.old sink.new) (signed words.now number.now ∷ []) result }
 {
-    put_signed_line(line, word, number)?;
+    line.clear();
+    put_signed(line, words, number)?;
     write_line(sink, line)
 }
 
-fn put_number_line(line: &mut Vec<u8>, word: &[u8], number: u64) -> Result<(), OutOfMemory>
-    ensures { OnOk result (line.new.items ≡ line.old.items ++ (word.now ++ spaced number)) }
-{
-    line.extend_from_slice(word)?;
-    put_spaced(line, number)
-}
-
-/// Appends a word and a signed number.
-pub(crate) fn put_signed_line(
-    line: &mut Vec<u8>,
-    word: &[u8],
-    number: &i128,
-) -> Result<(), OutOfMemory>
-    ensures { OnOk result (line.new.items ≡ line.old.items ++ (word.now ++ spaced_signed number.now)) }
-{
-    line.extend_from_slice(word)?;
-    put_spaced_signed(line, *number)
-}
-
-/// Appends these words.
-pub(crate) fn put_words(line: &mut Vec<u8>, words: &[u8]) -> Result<(), OutOfMemory>
-    ensures { OnOk result (line.new.items ≡ line.old.items ++ words.now) }
-{
-    line.extend_from_slice(words)?;
-    Ok(())
-}
-
-fn put_rider(line: &mut Vec<u8>, word: &[u8], rider: RiderId) -> Result<(), OutOfMemory>
-    ensures { OnOk result (line.new.items ≡ line.old.items ++ (word.now ++ spaced rider)) }
-{
-    put_number_line(line, word, u64::from(rider.get()))
-}
-
+/// Riders, each behind the same words.
 #[derive(Drop)]
-struct Expired;
+struct Riders<'a> {
+    words: &'a [u8],
+}
 
-impl Line for Expired {
+impl<'a> Line for Riders<'a> {
     type Item = RiderId;
 
-    ghost text = { λ _ rider. expired_line rider };
+    ghost text = { λ kind rider. numbered kind.words.now rider };
 
     fn put(&self, line: &mut Vec<u8>, rider: &RiderId) -> Result<(), OutOfMemory> {
-        put_rider(line, b"expired", *rider)
-    }
-}
-
-#[derive(Drop)]
-struct Lapsed;
-
-impl Line for Lapsed {
-    type Item = RiderId;
-
-    ghost text = { λ _ rider. lapsed_line rider };
-
-    fn put(&self, line: &mut Vec<u8>, rider: &RiderId) -> Result<(), OutOfMemory> {
-        put_rider(line, b"lapsed", *rider)
-    }
-}
-
-#[derive(Drop)]
-struct Out;
-
-impl Line for Out {
-    type Item = RiderId;
-
-    ghost text = { λ _ rider. out_line rider };
-
-    fn put(&self, line: &mut Vec<u8>, rider: &RiderId) -> Result<(), OutOfMemory> {
-        put_rider(line, b"out", *rider)
+        put_numbered(line, self.words, u64::from(rider.get()))
     }
 }
 
@@ -271,8 +179,7 @@ impl Line for Late {
     ghost text = { λ _ late. late_line late };
 
     fn put(&self, line: &mut Vec<u8>, late: &LateVehicle) -> Result<(), OutOfMemory> {
-        line.extend_from_slice(b"late")?;
-        put_spaced(line, u64::from(late.vehicle.get()))?;
+        put_numbered(line, b"late ", u64::from(late.vehicle.get()))?;
         put_late_order(line, late)
     }
 }
@@ -281,7 +188,7 @@ fn put_late_order(line: &mut Vec<u8>, late: &LateVehicle) -> Result<(), OutOfMem
     ensures { OnOk result (line.new.items ≡ line.old.items ++ late_order late.now) }
 {
     match &late.stops {
-        None => put_words(line, b" none"),
+        None => put_bytes(line, b" none"),
         Some(stops) => {
             put_spaced(line, late.delay)?;
             put_stops(line, stops.as_slice())
@@ -295,10 +202,10 @@ struct Rv;
 impl Line for Rv {
     type Item = (VehicleId, RiderId);
 
-    ghost text = { λ _ edge. rv_line edge };
+    ghost text = { λ _ edge. pair_line (codes "rv ") edge };
 
     fn put(&self, line: &mut Vec<u8>, edge: &(VehicleId, RiderId)) -> Result<(), OutOfMemory> {
-        put_number_line(line, b"rv", u64::from(edge.0.get()))?;
+        put_numbered(line, b"rv ", u64::from(edge.0.get()))?;
         put_spaced(line, u64::from(edge.1.get()))
     }
 }
@@ -309,10 +216,10 @@ struct Rr;
 impl Line for Rr {
     type Item = (RiderId, RiderId);
 
-    ghost text = { λ _ edge. rr_line edge };
+    ghost text = { λ _ edge. pair_line (codes "rr ") edge };
 
     fn put(&self, line: &mut Vec<u8>, edge: &(RiderId, RiderId)) -> Result<(), OutOfMemory> {
-        put_number_line(line, b"rr", u64::from(edge.0.get()))?;
+        put_numbered(line, b"rr ", u64::from(edge.0.get()))?;
         put_spaced(line, u64::from(edge.1.get()))
     }
 }
@@ -323,10 +230,10 @@ struct Row;
 impl Line for Row {
     type Item = RowLine;
 
-    ghost text = { λ _ row. row_line row };
+    ghost text = { λ _ row. pair_text row };
 
     fn put(&self, line: &mut Vec<u8>, row: &RowLine) -> Result<(), OutOfMemory> {
-        put_number_line(line, b"row", u64::from(row.vehicle.get()))?;
+        put_numbered(line, b"row ", u64::from(row.vehicle.get()))?;
         put_spaced(line, row.cost)?;
         put_riders(line, row.riders.as_slice())
     }
@@ -341,7 +248,7 @@ impl Line for Trip {
     ghost text = { λ _ trip. trip_line trip };
 
     fn put(&self, line: &mut Vec<u8>, trip: &ChosenTrip) -> Result<(), OutOfMemory> {
-        put_number_line(line, b"trip", u64::from(trip.vehicle.get()))?;
+        put_numbered(line, b"trip ", u64::from(trip.vehicle.get()))?;
         put_spaced(line, trip.cost)?;
         put_stops(line, trip.stops.as_slice())
     }
@@ -353,10 +260,10 @@ struct Move;
 impl Line for Move {
     type Item = MoveLine;
 
-    ghost text = { λ _ m. move_line m };
+    ghost text = { λ _ m. move_text m };
 
     fn put(&self, line: &mut Vec<u8>, item: &MoveLine) -> Result<(), OutOfMemory> {
-        put_number_line(line, b"move", u64::from(item.vehicle.get()))?;
+        put_numbered(line, b"move ", u64::from(item.vehicle.get()))?;
         put_spaced(line, u64::from(item.rider.get()))?;
         put_spaced(line, u64::from(item.seconds))
     }
@@ -376,20 +283,20 @@ impl<'a> Line for TreeNode<'a> {
     fn put(&self, line: &mut Vec<u8>, node: &Node) -> Result<(), OutOfMemory> {
         match node {
             Node::Branch { row, .. } => {
-                put_number_line(line, b"branch", row_vehicle(self.rows, *row))?;
+                put_numbered(line, b"branch ", row_vehicle(self.rows, *row))?;
                 put_spaced(line, u64::from(*row))
             }
             Node::Leaf { multipliers } => {
-                line.extend_from_slice(b"leaf")?;
+                put_bytes(line, b"leaf")?;
                 put_multipliers(line, multipliers.as_slice())
             }
-            Node::Dead => put_words(line, b"dead"),
+            Node::Dead => put_bytes(line, b"dead"),
         }
     }
 }
 
 fn row_vehicle(rows: &[RowLine], row: u32) -> u64
-    ensures { result ≡ vehicle_of_row rows.now row }
+    ensures { result ≡ unwrap_or (option_map (λ r. r.vehicle) (slice_get rows.now row)) 0 }
 {
     match rows.get(row as usize) {
         Some(line) => u64::from(line.vehicle.get()),
@@ -398,7 +305,7 @@ fn row_vehicle(rows: &[RowLine], row: u32) -> u64
 }
 
 fn put_stops(line: &mut Vec<u8>, stops: &[PlannedStop]) -> Result<(), OutOfMemory>
-    ensures { OnOk result (line.new.items ≡ line.old.items ++ stops_text stops.now) }
+    ensures { OnOk result (line.new.items ≡ line.old.items ++ flat_map stop_text stops.now) }
 {
     for stop in stops {
         put_stop(line, stop)?;
@@ -409,10 +316,8 @@ fn put_stops(line: &mut Vec<u8>, stops: &[PlannedStop]) -> Result<(), OutOfMemor
 fn put_stop(line: &mut Vec<u8>, stop: &PlannedStop) -> Result<(), OutOfMemory>
     ensures { OnOk result (line.new.items ≡ line.old.items ++ stop_text stop.now) }
 {
-    put_words(line, if stop.pick { b" pick:" } else { b" drop:" })?;
-    put_number(line, u64::from(stop.rider.get()))?;
-    line.extend_from_slice(b"@")?;
-    put_number(line, u64::from(stop.node.get()))?;
-    line.extend_from_slice(b":")?;
-    put_number(line, stop.second)
+    let words: &[u8] = if stop.pick { b" pick:" } else { b" drop:" };
+    put_numbered(line, words, u64::from(stop.rider.get()))?;
+    put_numbered(line, b"@", u64::from(stop.node.get()))?;
+    put_numbered(line, b":", stop.second)
 }

@@ -1,16 +1,15 @@
-ghost use Rattle.std.specs.Prelude.{◌≡◌, ◌≤◌, ◌++◌, ◌∷◌, [], OnOk, OnErr, codes, length};
-ghost use Rattle.std.specs.Io.KnownBytes.{Appends};
-ghost use Rattle.std.specs.Result.{IsErrOf};
-ghost use Rattle.dispatch_report.specs.Head.{named, limits_text, search_text, dwell_text, proof_text, settings_line, network_line, fleet_line, head_text};
-ghost use Rattle.dispatch_report.specs.Lines.{TakesLines};
-ghost use Rattle.pool_io.specs.Faults.{Rose};
-ghost use Rattle.pool_io.specs.Sink.{AppendsPart};
+ghost use Rattle.std.specs.Prelude.{◌≡◌, ◌==◌, ◌++◌, ◌∷◌, [], OnOk, codes, length, if◌then◌else◌};
+ghost use Rattle.dispatch_report.specs.Head.{settings_line, head_text};
+ghost use Rattle.dispatch_report.specs.Words.{numbered};
+ghost use Rattle.dispatch_report.specs.Written.{sink_seen, WritesText};
+ghost use Rattle.dispatch_report.specs.work.Lines.{WritesLines};
 
 use crate::block::write_words;
 use crate::fault::ReportFault;
 use crate::lines::write_line;
+use crate::words::put_numbered;
 use batch_snapshot::Fleet;
-use pool_base::{OutOfMemory, put_number};
+use pool_base::{OutOfMemory, put_bytes};
 use pool_io::Sink;
 use rider_limits::Settings;
 use road_network::Network;
@@ -19,6 +18,7 @@ use std::alloc::Global;
 /// Writes the first lines of a report: its name, the settings, and the sizes of network and fleet.
 ///
 /// After either fault a part of the text was written, from its front and not the whole.
+#[tactic(auto, unfolding(crate::specs::Head::head_text))]
 pub fn write_head<K: Sink>(
     alloc: Global,
     sink: &mut K,
@@ -26,10 +26,7 @@ pub fn write_head<K: Sink>(
     network: &Network,
     fleet: &Fleet,
 ) -> Result<(), ReportFault>
-    ensures whole { OnOk result (Appends (K.written sink.old) (K.written sink.new) (head_text settings.now network.now fleet.now)) }
-    ensures part { OnErr result (AppendsPart (K.written sink.old) (K.written sink.new) (head_text settings.now network.now fleet.now)) }
-    ensures fault { IsErrOf result ReportFault.WriteFault → Rose (K.faults sink.old) (K.faults sink.new) }
-    ensures never_falls { K.faults sink.old ≤ K.faults sink.new }
+    ensures { WritesText (sink_seen K.written K.faults sink.old sink.new) (head_text settings.now network.now fleet.now) result }
 {
     let mut line = Vec::new(alloc);
     write_words(sink, &mut line, b"ridepool report 1")?;
@@ -44,12 +41,9 @@ fn write_settings<K: Sink>(
     line: &mut Vec<u8>,
     settings: &Settings,
 ) -> Result<(), ReportFault>
-    requires { line.old.items ≡ [] }
-    ensures lines { TakesLines (K.written sink.old) (K.written sink.new) (settings_line settings.now ∷ []) result }
-    ensures empty { OnOk result (line.new.items ≡ []) }
-    ensures fault { IsErrOf result ReportFault.WriteFault → Rose (K.faults sink.old) (K.faults sink.new) }
-    ensures never_falls { K.faults sink.old ≤ K.faults sink.new }
+    ensures { WritesLines (sink_seen K.written K.faults sink.old sink.new) (settings_line settings.now ∷ []) result }
 {
+    line.clear();
     put_settings(line, settings)?;
     write_line(sink, line)
 }
@@ -59,34 +53,19 @@ fn write_network<K: Sink>(
     line: &mut Vec<u8>,
     network: &Network,
 ) -> Result<(), ReportFault>
-    requires { line.old.items ≡ [] }
-    ensures lines { TakesLines (K.written sink.old) (K.written sink.new) (network_line network.now ∷ []) result }
-    ensures empty { OnOk result (line.new.items ≡ []) }
-    ensures fault { IsErrOf result ReportFault.WriteFault → Rose (K.faults sink.old) (K.faults sink.new) }
-    ensures never_falls { K.faults sink.old ≤ K.faults sink.new }
+    ensures { WritesLines (sink_seen K.written K.faults sink.old sink.new) ((numbered (codes "network nodes=") (length network.now.nodes) ++ numbered (codes " arcs=") (length network.now.arcs)) ∷ []) result }
 {
+    line.clear();
     put_network(line, network)?;
     write_line(sink, line)
 }
 
 fn write_fleet<K: Sink>(sink: &mut K, line: &mut Vec<u8>, fleet: &Fleet) -> Result<(), ReportFault>
-    requires { line.old.items ≡ [] }
-    ensures lines { TakesLines (K.written sink.old) (K.written sink.new) (fleet_line fleet.now ∷ []) result }
-    ensures empty { OnOk result (line.new.items ≡ []) }
-    ensures fault { IsErrOf result ReportFault.WriteFault → Rose (K.faults sink.old) (K.faults sink.new) }
-    ensures never_falls { K.faults sink.old ≤ K.faults sink.new }
+    ensures { WritesLines (sink_seen K.written K.faults sink.old sink.new) (numbered (codes "fleet vehicles=") (length fleet.now) ∷ []) result }
 {
+    line.clear();
     put_fleet(line, fleet)?;
     write_line(sink, line)
-}
-
-/// Appends a name and a number.
-#[tactic(auto, unfolding(crate::specs::Head::named))]
-pub(crate) fn put_named(line: &mut Vec<u8>, name: &[u8], number: u64) -> Result<(), OutOfMemory>
-    ensures { OnOk result (line.new.items ≡ line.old.items ++ named name.now number) }
-{
-    line.extend_from_slice(name)?;
-    put_number(line, number)
 }
 
 fn put_settings(line: &mut Vec<u8>, settings: &Settings) -> Result<(), OutOfMemory>
@@ -98,51 +77,47 @@ fn put_settings(line: &mut Vec<u8>, settings: &Settings) -> Result<(), OutOfMemo
     put_dwell(line, settings.dwell)
 }
 
-#[tactic(auto, unfolding(crate::specs::Head::limits_text))]
 fn put_limits(line: &mut Vec<u8>, settings: &Settings) -> Result<(), OutOfMemory>
-    ensures { OnOk result (line.new.items ≡ line.old.items ++ limits_text settings.now) }
+    ensures { OnOk result (line.new.items ≡ line.old.items ++ (numbered (codes "settings wait=") settings.now.wait ++ numbered (codes " delay=") settings.now.delay ++ numbered (codes " trip=") settings.now.trip)) }
 {
-    put_named(line, b"settings wait=", u64::from(settings.wait))?;
-    put_named(line, b" delay=", u64::from(settings.delay))?;
-    put_named(line, b" trip=", u64::from(settings.trip))
+    put_numbered(line, b"settings wait=", u64::from(settings.wait))?;
+    put_numbered(line, b" delay=", u64::from(settings.delay))?;
+    put_numbered(line, b" trip=", u64::from(settings.trip))
 }
 
-#[tactic(auto, unfolding(crate::specs::Head::search_text))]
 fn put_search(line: &mut Vec<u8>, settings: &Settings) -> Result<(), OutOfMemory>
-    ensures { OnOk result (line.new.items ≡ line.old.items ++ search_text settings.now) }
+    ensures { OnOk result (line.new.items ≡ line.old.items ++ (numbered (codes " penalty=") settings.now.penalty ++ numbered (codes " budget=") settings.now.budget ++ numbered (codes " pairs=") settings.now.pairs)) }
 {
-    put_named(line, b" penalty=", u64::from(settings.penalty))?;
-    put_named(line, b" budget=", u64::from(settings.budget))?;
-    put_named(line, b" pairs=", u64::from(settings.pairs))
+    put_numbered(line, b" penalty=", u64::from(settings.penalty))?;
+    put_numbered(line, b" budget=", u64::from(settings.budget))?;
+    put_numbered(line, b" pairs=", u64::from(settings.pairs))
 }
 
-#[tactic(auto, unfolding(crate::specs::Head::proof_text))]
 fn put_proof(line: &mut Vec<u8>, proof: bool) -> Result<(), OutOfMemory>
-    ensures { OnOk result (line.new.items ≡ line.old.items ++ proof_text proof) }
+    ensures { OnOk result (line.new.items ≡ line.old.items ++ (if proof then codes " proof=1" else codes " proof=0")) }
 {
     if proof {
-        line.extend_from_slice(b" proof=1")?;
+        put_bytes(line, b" proof=1")?;
     } else {
-        line.extend_from_slice(b" proof=0")?;
+        put_bytes(line, b" proof=0")?;
     }
     Ok(())
 }
 
-#[tactic(auto, unfolding(crate::specs::Head::dwell_text))]
 fn put_dwell(line: &mut Vec<u8>, dwell: u16) -> Result<(), OutOfMemory>
-    ensures { OnOk result (line.new.items ≡ line.old.items ++ dwell_text dwell) }
+    ensures { OnOk result (line.new.items ≡ line.old.items ++ (if dwell == 0 then [] else numbered (codes " dwell=") dwell)) }
 {
     if dwell == 0 {
         return Ok(());
     }
-    put_named(line, b" dwell=", u64::from(dwell))
+    put_numbered(line, b" dwell=", u64::from(dwell))
 }
 
 fn put_network(line: &mut Vec<u8>, network: &Network) -> Result<(), OutOfMemory>
-    ensures { OnOk result (line.new.items ≡ line.old.items ++ network_line network.now) }
+    ensures { OnOk result (line.new.items ≡ line.old.items ++ (numbered (codes "network nodes=") (length network.now.nodes) ++ numbered (codes " arcs=") (length network.now.arcs))) }
 {
-    put_named(line, b"network nodes=", node_count(network))?;
-    put_named(line, b" arcs=", arc_count(network))
+    put_numbered(line, b"network nodes=", node_count(network))?;
+    put_numbered(line, b" arcs=", arc_count(network))
 }
 
 fn node_count(network: &Network) -> u64
@@ -158,9 +133,9 @@ fn arc_count(network: &Network) -> u64
 }
 
 fn put_fleet(line: &mut Vec<u8>, fleet: &Fleet) -> Result<(), OutOfMemory>
-    ensures { OnOk result (line.new.items ≡ line.old.items ++ fleet_line fleet.now) }
+    ensures { OnOk result (line.new.items ≡ line.old.items ++ numbered (codes "fleet vehicles=") (length fleet.now)) }
 {
-    put_named(line, b"fleet vehicles=", vehicle_count(fleet))
+    put_numbered(line, b"fleet vehicles=", vehicle_count(fleet))
 }
 
 fn vehicle_count(fleet: &Fleet) -> u64

@@ -1,7 +1,6 @@
-ghost use Rattle.std.specs.Prelude.{◌≡◌, ◌≤◌, ◌++◌, ◌∷◌, [], List, ℕ, OnOk, map};
-ghost use Rattle.std.specs.Result.{IsErrOf};
-ghost use Rattle.dispatch_report.specs.Lines.{TakesLines};
-ghost use Rattle.pool_io.specs.Faults.{Rose};
+ghost use Rattle.std.specs.Prelude.{◌≡◌, ◌++◌, ◌∷◌, [], List, ℕ, OnOk, map};
+ghost use Rattle.dispatch_report.specs.Written.{sink_seen};
+ghost use Rattle.dispatch_report.specs.work.Lines.{WritesLines};
 
 use crate::fault::ReportFault;
 use pool_base::{OutOfMemory, Sequence};
@@ -18,16 +17,12 @@ pub(crate) trait Line {
         ensures { OnOk result (line.new.items ≡ line.old.items ++ text self.now item.now) };
 }
 
-/// Ends the line, writes it, and begins an empty one.
+/// Ends the line and writes it.
 pub(crate) fn write_line<K: Sink>(sink: &mut K, line: &mut Vec<u8>) -> Result<(), ReportFault>
-    ensures line { TakesLines (K.written sink.old) (K.written sink.new) (line.old.items ∷ []) result }
-    ensures empty { OnOk result (line.new.items ≡ []) }
-    ensures fault { IsErrOf result ReportFault.WriteFault → Rose (K.faults sink.old) (K.faults sink.new) }
-    ensures never_falls { K.faults sink.old ≤ K.faults sink.new }
+    ensures { WritesLines (sink_seen K.written K.faults sink.old sink.new) (line.old.items ∷ []) result }
 {
     end_line(line)?;
     write_all(sink, line.as_slice())?;
-    line.clear();
     Ok(())
 }
 
@@ -45,11 +40,7 @@ pub(crate) fn write_lines<K: Sink, L: Line>(
     kind: &L,
     items: &[L::Item],
 ) -> Result<(), ReportFault>
-    requires { line.old.items ≡ [] }
-    ensures lines { TakesLines (K.written sink.old) (K.written sink.new) (map (L.text kind.now) items.now) result }
-    ensures empty { OnOk result (line.new.items ≡ []) }
-    ensures fault { IsErrOf result ReportFault.WriteFault → Rose (K.faults sink.old) (K.faults sink.new) }
-    ensures never_falls { K.faults sink.old ≤ K.faults sink.new }
+    ensures { WritesLines (sink_seen K.written K.faults sink.old sink.new) (map (L.text kind.now) items.now) result }
 {
     'items: for item in items {
         write_item(sink, line, kind, item)?;
@@ -64,11 +55,7 @@ pub(crate) fn write_list<K: Sink, L: Line>(
     kind: &L,
     items: &Sequence<L::Item>,
 ) -> Result<(), ReportFault>
-    requires { line.old.items ≡ [] }
-    ensures lines { TakesLines (K.written sink.old) (K.written sink.new) (map (L.text kind.now) items.now) result }
-    ensures empty { OnOk result (line.new.items ≡ []) }
-    ensures fault { IsErrOf result ReportFault.WriteFault → Rose (K.faults sink.old) (K.faults sink.new) }
-    ensures never_falls { K.faults sink.old ≤ K.faults sink.new }
+    ensures { WritesLines (sink_seen K.written K.faults sink.old sink.new) (map (L.text kind.now) items.now) result }
 {
     write_lines(sink, line, kind, items.as_slice())
 }
@@ -79,13 +66,9 @@ fn write_item<K: Sink, L: Line>(
     kind: &L,
     item: &L::Item,
 ) -> Result<(), ReportFault>
-    requires { line.old.items ≡ [] }
-    ensures line { TakesLines (K.written sink.old) (K.written sink.new) (L.text kind.now item.now ∷ []) result }
-    ensures empty { OnOk result (line.new.items ≡ []) }
-    ensures fault { IsErrOf result ReportFault.WriteFault → Rose (K.faults sink.old) (K.faults sink.new) }
-    ensures never_falls { K.faults sink.old ≤ K.faults sink.new }
+    ensures { WritesLines (sink_seen K.written K.faults sink.old sink.new) (L.text kind.now item.now ∷ []) result }
 {
+    line.clear();
     kind.put(line, item)?;
-    write_line(sink, line)?;
-    Ok(())
+    write_line(sink, line)
 }

@@ -1,8 +1,9 @@
 ghost use Rattle.std.specs.Prelude.{◌≡◌, ◌++◌, ℕ, Option, OnOk};
-ghost use Rattle.dispatch_report.specs.Entry.{status_text, spaced_or_none, refusal_text, reply_text};
+ghost use Rattle.dispatch_report.specs.Entry.{rider_status_text, spaced_or_none, refusal_text, reply_text};
+ghost use Rattle.dispatch_report.specs.Words.{numbered};
 
-use crate::words::put_spaced;
-use pool_base::{OutOfMemory, VehicleId};
+use crate::words::{put_numbered, put_spaced};
+use pool_base::{OutOfMemory, Second, VehicleId, put_bytes};
 use request_book::{BookRefusal, Reply, Status};
 
 /// Appends the words of a reply.
@@ -10,72 +11,62 @@ pub(crate) fn put_reply(line: &mut Vec<u8>, reply: Reply) -> Result<(), OutOfMem
     ensures { OnOk result (line.new.items ≡ line.old.items ++ reply_text reply) }
 {
     match reply {
-        Reply::Accepted => put_words(line, b"accepted"),
-        Reply::Cancelled => put_words(line, b"cancelled"),
-        Reply::Placed => put_words(line, b"placed"),
-        Reply::Picked => put_words(line, b"picked"),
-        Reply::Dropped => put_words(line, b"dropped"),
-        Reply::Sealed { batch } => {
-            put_words(line, b"sealed")?;
-            put_spaced(line, batch)
-        }
-        Reply::Closed => put_words(line, b"closed"),
+        Reply::Accepted => put_bytes(line, b"accepted"),
+        Reply::Cancelled => put_bytes(line, b"cancelled"),
+        Reply::Placed => put_bytes(line, b"placed"),
+        Reply::Picked => put_bytes(line, b"picked"),
+        Reply::Dropped => put_bytes(line, b"dropped"),
+        Reply::Sealed { batch } => put_numbered(line, b"sealed ", batch),
+        Reply::Closed => put_bytes(line, b"closed"),
         Reply::Refused(refusal) => {
-            put_words(line, b"refused ")?;
+            put_bytes(line, b"refused ")?;
             put_refusal(line, refusal)
         }
     }
-}
-
-fn put_words(line: &mut Vec<u8>, words: &[u8]) -> Result<(), OutOfMemory>
-    ensures { OnOk result (line.new.items ≡ line.old.items ++ words.now) }
-{
-    line.extend_from_slice(words)?;
-    Ok(())
 }
 
 fn put_refusal(line: &mut Vec<u8>, refusal: BookRefusal) -> Result<(), OutOfMemory>
     ensures { OnOk result (line.new.items ≡ line.old.items ++ refusal_text refusal) }
 {
     match refusal {
-        BookRefusal::DuplicateRider => put_words(line, b"duplicate-rider"),
-        BookRefusal::UnknownNode => put_words(line, b"unknown-node"),
-        BookRefusal::SamePlace => put_words(line, b"same-place"),
-        BookRefusal::PoolFull => put_words(line, b"pool-full"),
-        BookRefusal::BookFull => put_words(line, b"book-full"),
-        BookRefusal::UnknownRider => put_words(line, b"unknown-rider"),
-        BookRefusal::IsAboard { vehicle } => {
-            put_words(line, b"is-aboard")?;
-            put_spaced(line, u64::from(vehicle.get()))
-        }
+        BookRefusal::DuplicateRider => put_bytes(line, b"duplicate-rider"),
+        BookRefusal::UnknownNode => put_bytes(line, b"unknown-node"),
+        BookRefusal::SamePlace => put_bytes(line, b"same-place"),
+        BookRefusal::PoolFull => put_bytes(line, b"pool-full"),
+        BookRefusal::BookFull => put_bytes(line, b"book-full"),
+        BookRefusal::UnknownRider => put_bytes(line, b"unknown-rider"),
+        BookRefusal::IsAboard { vehicle } => put_vehicle(line, b"is-aboard ", vehicle),
         BookRefusal::Ended { status } => {
-            put_words(line, b"ended ")?;
-            put_words(line, status_word(status))
+            put_bytes(line, b"ended ")?;
+            put_bytes(line, status_word(status))
         }
-        BookRefusal::UnknownVehicle => put_words(line, b"unknown-vehicle"),
-        BookRefusal::TimeBack { last } => {
-            put_words(line, b"time-back")?;
-            put_spaced(line, u64::from(last.get()))
-        }
+        BookRefusal::UnknownVehicle => put_bytes(line, b"unknown-vehicle"),
+        BookRefusal::TimeBack { last } => put_second(line, b"time-back ", last),
         BookRefusal::NotPromised { holder } => {
-            put_words(line, b"not-promised")?;
+            put_bytes(line, b"not-promised")?;
             put_holder(line, holder)
         }
-        BookRefusal::VehicleFull => put_words(line, b"vehicle-full"),
-        BookRefusal::NotAboard => put_words(line, b"not-aboard"),
-        BookRefusal::BatchOpen { batch } => {
-            put_words(line, b"batch-open")?;
-            put_spaced(line, batch)
-        }
-        BookRefusal::ClockBack { last } => {
-            put_words(line, b"clock-back")?;
-            put_spaced(line, u64::from(last.get()))
-        }
+        BookRefusal::VehicleFull => put_bytes(line, b"vehicle-full"),
+        BookRefusal::NotAboard => put_bytes(line, b"not-aboard"),
+        BookRefusal::BatchOpen { batch } => put_numbered(line, b"batch-open ", batch),
+        BookRefusal::ClockBack { last } => put_second(line, b"clock-back ", last),
         BookRefusal::NotThisBatch { current } => {
-            put_words(line, b"not-this-batch")?;
+            put_bytes(line, b"not-this-batch")?;
             put_spaced_or_none(line, current)
         }
     }
+}
+
+fn put_vehicle(line: &mut Vec<u8>, words: &[u8], vehicle: VehicleId) -> Result<(), OutOfMemory>
+    ensures { OnOk result (line.new.items ≡ line.old.items ++ numbered words.now vehicle) }
+{
+    put_numbered(line, words, u64::from(vehicle.get()))
+}
+
+fn put_second(line: &mut Vec<u8>, words: &[u8], second: Second) -> Result<(), OutOfMemory>
+    ensures { OnOk result (line.new.items ≡ line.old.items ++ numbered words.now second) }
+{
+    put_numbered(line, words, u64::from(second.get()))
 }
 
 fn put_holder(line: &mut Vec<u8>, holder: Option<VehicleId>) -> Result<(), OutOfMemory>
@@ -83,7 +74,7 @@ fn put_holder(line: &mut Vec<u8>, holder: Option<VehicleId>) -> Result<(), OutOf
 {
     match holder {
         Some(vehicle) => put_spaced(line, u64::from(vehicle.get())),
-        None => put_words(line, b" none"),
+        None => put_bytes(line, b" none"),
     }
 }
 
@@ -92,12 +83,12 @@ fn put_spaced_or_none(line: &mut Vec<u8>, number: Option<u64>) -> Result<(), Out
 {
     match number {
         Some(n) => put_spaced(line, n),
-        None => put_words(line, b" none"),
+        None => put_bytes(line, b" none"),
     }
 }
 
 fn status_word(status: Status) -> &'static [u8]
-    ensures { result.now ≡ status_text status }
+    ensures { result.now ≡ rider_status_text status }
 {
     match status {
         Status::Waiting => b"waiting",

@@ -1,12 +1,9 @@
-ghost use Rattle.std.specs.Prelude.{◌≡◌, ◌≤◌, ◌++◌, ◌∷◌, [], OnOk, OnErr, codes};
-ghost use Rattle.std.specs.Io.KnownBytes.{Appends};
-ghost use Rattle.std.specs.Result.{IsErrOf};
+ghost use Rattle.std.specs.Prelude.{◌++◌, ◌∷◌, [], codes};
 ghost use Rattle.dispatch_report.specs.Entry.{entry_line};
-ghost use Rattle.dispatch_report.specs.Lines.{TakesLines};
-ghost use Rattle.dispatch_report.specs.Round.{closed_block, entry_block, entry_lines, entries_lines, round_text, end_text};
-ghost use Rattle.dispatch_report.specs.Words.{spaced};
-ghost use Rattle.pool_io.specs.Faults.{Rose};
-ghost use Rattle.pool_io.specs.Sink.{AppendsPart};
+ghost use Rattle.dispatch_report.specs.Round.{entry_block, entries_lines, round_text, end_text};
+ghost use Rattle.dispatch_report.specs.Words.{numbered};
+ghost use Rattle.dispatch_report.specs.Written.{sink_seen, WritesText};
+ghost use Rattle.dispatch_report.specs.work.Lines.{WritesLines};
 
 use crate::block::{write_block, write_number};
 use crate::entry::put_entry;
@@ -20,6 +17,7 @@ use std::alloc::Global;
 /// search tree where `proof` is set.
 ///
 /// After either fault a part of the text was written, from its front and not the whole.
+#[tactic(auto, unfolding(crate::specs::Round::round_text))]
 pub fn write_round<K: Sink>(
     alloc: Global,
     sink: &mut K,
@@ -27,10 +25,7 @@ pub fn write_round<K: Sink>(
     journal: &Journal,
     proof: bool,
 ) -> Result<(), ReportFault>
-    ensures whole { OnOk result (Appends (K.written sink.old) (K.written sink.new) (round_text number proof journal.now)) }
-    ensures part { OnErr result (AppendsPart (K.written sink.old) (K.written sink.new) (round_text number proof journal.now)) }
-    ensures fault { IsErrOf result ReportFault.WriteFault → Rose (K.faults sink.old) (K.faults sink.new) }
-    ensures never_falls { K.faults sink.old ≤ K.faults sink.new }
+    ensures { WritesText (sink_seen K.written K.faults sink.old sink.new) (round_text number proof journal.now) result }
 {
     let mut line = Vec::new(alloc);
     write_round_line(sink, &mut line, number)?;
@@ -41,14 +36,12 @@ pub fn write_round<K: Sink>(
 /// Writes the last line of a report.
 ///
 /// After either fault a part of the text was written, from its front and not the whole.
+#[tactic(auto, unfolding(crate::specs::Round::end_text))]
 pub fn write_end<K: Sink>(alloc: Global, sink: &mut K, entries: u64) -> Result<(), ReportFault>
-    ensures whole { OnOk result (Appends (K.written sink.old) (K.written sink.new) (end_text entries)) }
-    ensures part { OnErr result (AppendsPart (K.written sink.old) (K.written sink.new) (end_text entries)) }
-    ensures fault { IsErrOf result ReportFault.WriteFault → Rose (K.faults sink.old) (K.faults sink.new) }
-    ensures never_falls { K.faults sink.old ≤ K.faults sink.new }
+    ensures { WritesText (sink_seen K.written K.faults sink.old sink.new) (end_text entries) result }
 {
     let mut line = Vec::new(alloc);
-    write_number(sink, &mut line, b"done", entries)
+    write_number(sink, &mut line, b"done ", entries)
 }
 
 fn write_round_line<K: Sink>(
@@ -56,13 +49,9 @@ fn write_round_line<K: Sink>(
     line: &mut Vec<u8>,
     number: u32,
 ) -> Result<(), ReportFault>
-    requires { line.old.items ≡ [] }
-    ensures lines { TakesLines (K.written sink.old) (K.written sink.new) ((codes "round" ++ spaced number) ∷ []) result }
-    ensures empty { OnOk result (line.new.items ≡ []) }
-    ensures fault { IsErrOf result ReportFault.WriteFault → Rose (K.faults sink.old) (K.faults sink.new) }
-    ensures never_falls { K.faults sink.old ≤ K.faults sink.new }
+    ensures { WritesLines (sink_seen K.written K.faults sink.old sink.new) (numbered (codes "round ") number ∷ []) result }
 {
-    write_number(sink, line, b"round", u64::from(number))
+    write_number(sink, line, b"round ", u64::from(number))
 }
 
 fn write_journal<K: Sink>(
@@ -71,11 +60,7 @@ fn write_journal<K: Sink>(
     journal: &Journal,
     proof: bool,
 ) -> Result<(), ReportFault>
-    requires { line.old.items ≡ [] }
-    ensures lines { TakesLines (K.written sink.old) (K.written sink.new) (entries_lines proof journal.now.first journal.now.entries) result }
-    ensures empty { OnOk result (line.new.items ≡ []) }
-    ensures fault { IsErrOf result ReportFault.WriteFault → Rose (K.faults sink.old) (K.faults sink.new) }
-    ensures never_falls { K.faults sink.old ≤ K.faults sink.new }
+    ensures { WritesLines (sink_seen K.written K.faults sink.old sink.new) (entries_lines proof journal.now.first journal.now.entries) result }
 {
     write_entries(sink, line, journal.first, journal.entries.as_slice(), proof)
 }
@@ -87,11 +72,7 @@ fn write_entries<K: Sink>(
     entries: &[Entry],
     proof: bool,
 ) -> Result<(), ReportFault>
-    requires { line.old.items ≡ [] }
-    ensures lines { TakesLines (K.written sink.old) (K.written sink.new) (entries_lines proof first entries.now) result }
-    ensures empty { OnOk result (line.new.items ≡ []) }
-    ensures fault { IsErrOf result ReportFault.WriteFault → Rose (K.faults sink.old) (K.faults sink.new) }
-    ensures never_falls { K.faults sink.old ≤ K.faults sink.new }
+    ensures { WritesLines (sink_seen K.written K.faults sink.old sink.new) (entries_lines proof first entries.now) result }
 {
     let mut position = first;
     for entry in entries {
@@ -108,11 +89,7 @@ fn write_entry<K: Sink>(
     entry: &Entry,
     proof: bool,
 ) -> Result<(), ReportFault>
-    requires { line.old.items ≡ [] }
-    ensures lines { TakesLines (K.written sink.old) (K.written sink.new) (entry_lines proof position entry.now) result }
-    ensures empty { OnOk result (line.new.items ≡ []) }
-    ensures fault { IsErrOf result ReportFault.WriteFault → Rose (K.faults sink.old) (K.faults sink.new) }
-    ensures never_falls { K.faults sink.old ≤ K.faults sink.new }
+    ensures { WritesLines (sink_seen K.written K.faults sink.old sink.new) ((entry_line position entry.now ∷ []) ++ entry_block proof entry.now.command entry.now.reply) result }
 {
     write_entry_line(sink, line, position, entry)?;
     write_entry_block(sink, line, entry, proof)?;
@@ -125,12 +102,9 @@ fn write_entry_line<K: Sink>(
     position: u64,
     entry: &Entry,
 ) -> Result<(), ReportFault>
-    requires { line.old.items ≡ [] }
-    ensures lines { TakesLines (K.written sink.old) (K.written sink.new) (entry_line position entry.now ∷ []) result }
-    ensures empty { OnOk result (line.new.items ≡ []) }
-    ensures fault { IsErrOf result ReportFault.WriteFault → Rose (K.faults sink.old) (K.faults sink.new) }
-    ensures never_falls { K.faults sink.old ≤ K.faults sink.new }
+    ensures { WritesLines (sink_seen K.written K.faults sink.old sink.new) (entry_line position entry.now ∷ []) result }
 {
+    line.clear();
     put_entry(line, position, entry)?;
     write_line(sink, line)
 }
@@ -141,11 +115,7 @@ fn write_entry_block<K: Sink>(
     entry: &Entry,
     proof: bool,
 ) -> Result<(), ReportFault>
-    requires { line.old.items ≡ [] }
-    ensures lines { TakesLines (K.written sink.old) (K.written sink.new) (entry_block proof entry.now.command entry.now.reply) result }
-    ensures empty { OnOk result (line.new.items ≡ []) }
-    ensures fault { IsErrOf result ReportFault.WriteFault → Rose (K.faults sink.old) (K.faults sink.new) }
-    ensures never_falls { K.faults sink.old ≤ K.faults sink.new }
+    ensures { WritesLines (sink_seen K.written K.faults sink.old sink.new) (entry_block proof entry.now.command entry.now.reply) result }
 {
     match &entry.command {
         Command::Close { batch, outcome } => {
@@ -163,11 +133,7 @@ fn write_closed<K: Sink>(
     reply: Reply,
     proof: bool,
 ) -> Result<(), ReportFault>
-    requires { line.old.items ≡ [] }
-    ensures lines { TakesLines (K.written sink.old) (K.written sink.new) (closed_block proof batch outcome.now reply) result }
-    ensures empty { OnOk result (line.new.items ≡ []) }
-    ensures fault { IsErrOf result ReportFault.WriteFault → Rose (K.faults sink.old) (K.faults sink.new) }
-    ensures never_falls { K.faults sink.old ≤ K.faults sink.new }
+    ensures { WritesLines (sink_seen K.written K.faults sink.old sink.new) (entry_block proof (Command.Close batch outcome.now) reply) result }
 {
     match reply {
         Reply::Closed => write_block(sink, line, batch, outcome, proof),

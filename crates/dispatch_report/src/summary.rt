@@ -1,17 +1,14 @@
-ghost use Rattle.std.specs.Prelude.{◌≡◌, ◌≤◌, ◌++◌, ◌∷◌, [], OnOk, OnErr, codes, length};
-ghost use Rattle.std.specs.Io.KnownBytes.{Appends};
-ghost use Rattle.std.specs.Result.{IsErrOf};
-ghost use Rattle.dispatch_report.specs.Lines.{TakesLines};
-ghost use Rattle.dispatch_report.specs.Summary.{square_text, sizes_text, load_line, pickups, served, has_pickup, with_riders, riders_text, trips_text, cost_text, answer_text, batch_line, closed_line, entry_summary, summary_lines, load_text, summary_text};
-ghost use Rattle.dispatch_report.specs.Words.{spaced_signed};
-ghost use Rattle.pool_io.specs.Faults.{Rose};
-ghost use Rattle.pool_io.specs.Sink.{AppendsPart};
+ghost use Rattle.std.specs.Prelude.{◌≡◌, ◌≤◌, ◌++◌, ◌∷◌, [], OnOk, codes, length, count_by, sum_by};
+ghost use Rattle.std.specs.List.{flat_map, list_any};
+ghost use Rattle.dispatch_report.specs.Summary.{pickups, answer_text, batch_lines, load_text, summary_text};
+ghost use Rattle.dispatch_report.specs.Words.{numbered, signed};
+ghost use Rattle.dispatch_report.specs.Written.{sink_seen, WritesText};
+ghost use Rattle.dispatch_report.specs.work.Lines.{WritesLines};
 
-use crate::block::{put_signed_line, put_words};
 use crate::fault::ReportFault;
-use crate::head::put_named;
 use crate::lines::write_line;
-use pool_base::{OutOfMemory, RiderId, Sequence};
+use crate::words::{put_numbered, put_signed};
+use pool_base::{OutOfMemory, RiderId, Sequence, put_bytes};
 use pool_io::Sink;
 use request_book::{Answer, ChosenTrip, Command, Entry, Journal, Outcome, Planned, Reply, RowLine};
 use rider_limits::LoadShape;
@@ -20,15 +17,13 @@ use std::alloc::Global;
 /// Writes the first line of a made workload's text: its shape.
 ///
 /// After either fault a part of the text was written, from its front and not the whole.
+#[tactic(auto, unfolding(crate::specs::Summary::load_text))]
 pub fn write_load<K: Sink>(
     alloc: Global,
     sink: &mut K,
     shape: &LoadShape,
 ) -> Result<(), ReportFault>
-    ensures whole { OnOk result (Appends (K.written sink.old) (K.written sink.new) (load_text shape.now)) }
-    ensures part { OnErr result (AppendsPart (K.written sink.old) (K.written sink.new) (load_text shape.now)) }
-    ensures fault { IsErrOf result ReportFault.WriteFault → Rose (K.faults sink.old) (K.faults sink.new) }
-    ensures never_falls { K.faults sink.old ≤ K.faults sink.new }
+    ensures { WritesText (sink_seen K.written K.faults sink.old sink.new) (load_text shape.now) result }
 {
     let mut line = Vec::new(alloc);
     write_shape(sink, &mut line, shape)
@@ -39,15 +34,13 @@ pub fn write_load<K: Sink>(
 /// are made, the plan's cost and the bound; or that there were too many rows.
 ///
 /// After either fault a part of the text was written, from its front and not the whole.
+#[tactic(auto, unfolding(crate::specs::Summary::summary_text))]
 pub fn write_summary<K: Sink>(
     alloc: Global,
     sink: &mut K,
     journal: &Journal,
 ) -> Result<(), ReportFault>
-    ensures whole { OnOk result (Appends (K.written sink.old) (K.written sink.new) (summary_text journal.now)) }
-    ensures part { OnErr result (AppendsPart (K.written sink.old) (K.written sink.new) (summary_text journal.now)) }
-    ensures fault { IsErrOf result ReportFault.WriteFault → Rose (K.faults sink.old) (K.faults sink.new) }
-    ensures never_falls { K.faults sink.old ≤ K.faults sink.new }
+    ensures { WritesText (sink_seen K.written K.faults sink.old sink.new) (summary_text journal.now) result }
 {
     let mut line = Vec::new(alloc);
     write_batches(sink, &mut line, journal.entries.as_slice())
@@ -58,12 +51,9 @@ fn write_shape<K: Sink>(
     line: &mut Vec<u8>,
     shape: &LoadShape,
 ) -> Result<(), ReportFault>
-    requires { line.old.items ≡ [] }
-    ensures lines { TakesLines (K.written sink.old) (K.written sink.new) (load_line shape.now ∷ []) result }
-    ensures empty { OnOk result (line.new.items ≡ []) }
-    ensures fault { IsErrOf result ReportFault.WriteFault → Rose (K.faults sink.old) (K.faults sink.new) }
-    ensures never_falls { K.faults sink.old ≤ K.faults sink.new }
+    ensures { WritesLines (sink_seen K.written K.faults sink.old sink.new) (((numbered (codes "load seed=") shape.now.seed ++ numbered (codes " side=") shape.now.side) ++ (numbered (codes " vehicles=") shape.now.vehicles ++ numbered (codes " riders=") shape.now.riders ++ numbered (codes " rounds=") shape.now.rounds)) ∷ []) result }
 {
+    line.clear();
     put_shape(line, shape)?;
     write_line(sink, line)
 }
@@ -73,11 +63,7 @@ fn write_batches<K: Sink>(
     line: &mut Vec<u8>,
     entries: &[Entry],
 ) -> Result<(), ReportFault>
-    requires { line.old.items ≡ [] }
-    ensures lines { TakesLines (K.written sink.old) (K.written sink.new) (summary_lines entries.now) result }
-    ensures empty { OnOk result (line.new.items ≡ []) }
-    ensures fault { IsErrOf result ReportFault.WriteFault → Rose (K.faults sink.old) (K.faults sink.new) }
-    ensures never_falls { K.faults sink.old ≤ K.faults sink.new }
+    ensures { WritesLines (sink_seen K.written K.faults sink.old sink.new) (flat_map (λ e. batch_lines e.command e.reply) entries.now) result }
 {
     for entry in entries {
         write_entry_summary(sink, line, entry)?;
@@ -90,11 +76,7 @@ fn write_entry_summary<K: Sink>(
     line: &mut Vec<u8>,
     entry: &Entry,
 ) -> Result<(), ReportFault>
-    requires { line.old.items ≡ [] }
-    ensures lines { TakesLines (K.written sink.old) (K.written sink.new) (entry_summary entry.now) result }
-    ensures empty { OnOk result (line.new.items ≡ []) }
-    ensures fault { IsErrOf result ReportFault.WriteFault → Rose (K.faults sink.old) (K.faults sink.new) }
-    ensures never_falls { K.faults sink.old ≤ K.faults sink.new }
+    ensures { WritesLines (sink_seen K.written K.faults sink.old sink.new) (batch_lines entry.now.command entry.now.reply) result }
 {
     match &entry.command {
         Command::Close { batch, outcome } => {
@@ -111,11 +93,7 @@ fn write_closed<K: Sink>(
     outcome: &Outcome,
     reply: Reply,
 ) -> Result<(), ReportFault>
-    requires { line.old.items ≡ [] }
-    ensures lines { TakesLines (K.written sink.old) (K.written sink.new) (closed_line batch outcome.now reply) result }
-    ensures empty { OnOk result (line.new.items ≡ []) }
-    ensures fault { IsErrOf result ReportFault.WriteFault → Rose (K.faults sink.old) (K.faults sink.new) }
-    ensures never_falls { K.faults sink.old ≤ K.faults sink.new }
+    ensures { WritesLines (sink_seen K.written K.faults sink.old sink.new) (batch_lines (Command.Close batch outcome.now) reply) result }
 {
     match reply {
         Reply::Closed => write_batch(sink, line, batch, outcome),
@@ -129,44 +107,39 @@ fn write_batch<K: Sink>(
     batch: u64,
     outcome: &Outcome,
 ) -> Result<(), ReportFault>
-    requires { line.old.items ≡ [] }
-    ensures lines { TakesLines (K.written sink.old) (K.written sink.new) (batch_line batch outcome.now ∷ []) result }
-    ensures empty { OnOk result (line.new.items ≡ []) }
-    ensures fault { IsErrOf result ReportFault.WriteFault → Rose (K.faults sink.old) (K.faults sink.new) }
-    ensures never_falls { K.faults sink.old ≤ K.faults sink.new }
+    ensures { WritesLines (sink_seen K.written K.faults sink.old sink.new) ((numbered (codes "batch ") batch ++ answer_text outcome.now.answer) ∷ []) result }
 {
+    line.clear();
     put_batch(line, batch, outcome)?;
     write_line(sink, line)
 }
 
 fn put_shape(line: &mut Vec<u8>, shape: &LoadShape) -> Result<(), OutOfMemory>
-    ensures { OnOk result (line.new.items ≡ line.old.items ++ load_line shape.now) }
+    ensures { OnOk result (line.new.items ≡ line.old.items ++ ((numbered (codes "load seed=") shape.now.seed ++ numbered (codes " side=") shape.now.side) ++ (numbered (codes " vehicles=") shape.now.vehicles ++ numbered (codes " riders=") shape.now.riders ++ numbered (codes " rounds=") shape.now.rounds))) }
 {
     put_square(line, shape)?;
     put_sizes(line, shape)
 }
 
-#[tactic(auto, unfolding(crate::specs::Summary::square_text))]
 fn put_square(line: &mut Vec<u8>, shape: &LoadShape) -> Result<(), OutOfMemory>
-    ensures { OnOk result (line.new.items ≡ line.old.items ++ square_text shape.now) }
+    ensures { OnOk result (line.new.items ≡ line.old.items ++ (numbered (codes "load seed=") shape.now.seed ++ numbered (codes " side=") shape.now.side)) }
 {
-    put_named(line, b"load seed=", shape.seed)?;
-    put_named(line, b" side=", u64::from(shape.side))
+    put_numbered(line, b"load seed=", shape.seed)?;
+    put_numbered(line, b" side=", u64::from(shape.side))
 }
 
-#[tactic(auto, unfolding(crate::specs::Summary::sizes_text))]
 fn put_sizes(line: &mut Vec<u8>, shape: &LoadShape) -> Result<(), OutOfMemory>
-    ensures { OnOk result (line.new.items ≡ line.old.items ++ sizes_text shape.now) }
+    ensures { OnOk result (line.new.items ≡ line.old.items ++ (numbered (codes " vehicles=") shape.now.vehicles ++ numbered (codes " riders=") shape.now.riders ++ numbered (codes " rounds=") shape.now.rounds)) }
 {
-    put_named(line, b" vehicles=", u64::from(shape.vehicles))?;
-    put_named(line, b" riders=", u64::from(shape.riders))?;
-    put_named(line, b" rounds=", u64::from(shape.rounds))
+    put_numbered(line, b" vehicles=", u64::from(shape.vehicles))?;
+    put_numbered(line, b" riders=", u64::from(shape.riders))?;
+    put_numbered(line, b" rounds=", u64::from(shape.rounds))
 }
 
 fn put_batch(line: &mut Vec<u8>, batch: u64, outcome: &Outcome) -> Result<(), OutOfMemory>
-    ensures { OnOk result (line.new.items ≡ line.old.items ++ batch_line batch outcome.now) }
+    ensures { OnOk result (line.new.items ≡ line.old.items ++ (numbered (codes "batch ") batch ++ answer_text outcome.now.answer)) }
 {
-    put_named(line, b"batch ", batch)?;
+    put_numbered(line, b"batch ", batch)?;
     put_answer(line, &outcome.answer)
 }
 
@@ -174,41 +147,38 @@ fn put_answer(line: &mut Vec<u8>, answer: &Answer) -> Result<(), OutOfMemory>
     ensures { OnOk result (line.new.items ≡ line.old.items ++ answer_text answer.now) }
 {
     match answer {
-        Answer::Overflow => put_words(line, b" overflow"),
+        Answer::Overflow => put_bytes(line, b" overflow"),
         Answer::Planned(plan) => put_plan(line, plan),
     }
 }
 
 fn put_plan(line: &mut Vec<u8>, plan: &Planned) -> Result<(), OutOfMemory>
-    ensures { OnOk result (line.new.items ≡ line.old.items ++ (riders_text plan.now ++ trips_text plan.now ++ cost_text plan.now)) }
+    ensures { OnOk result (line.new.items ≡ line.old.items ++ ((numbered (codes " served ") (sum_by pickups plan.now.chosen) ++ numbered (codes " out ") (length plan.now.left)) ++ (numbered (codes " rows ") (length plan.now.rows) ++ numbered (codes " trips ") (count_by (λ trip. list_any (λ stop. stop.pick) trip.stops.items) plan.now.chosen)) ++ (numbered (codes " cost ") plan.now.cost ++ signed (codes " bound ") plan.now.bound))) }
 {
     put_served(line, plan)?;
     put_trips(line, plan)?;
     put_cost(line, plan)
 }
 
-#[tactic(auto, unfolding(crate::specs::Summary::riders_text))]
 fn put_served(line: &mut Vec<u8>, plan: &Planned) -> Result<(), OutOfMemory>
-    ensures { OnOk result (line.new.items ≡ line.old.items ++ riders_text plan.now) }
+    ensures { OnOk result (line.new.items ≡ line.old.items ++ (numbered (codes " served ") (sum_by pickups plan.now.chosen) ++ numbered (codes " out ") (length plan.now.left))) }
 {
-    put_named(line, b" served ", served(&plan.chosen))?;
-    put_named(line, b" out ", left_count(&plan.left))
+    put_numbered(line, b" served ", served(&plan.chosen))?;
+    put_numbered(line, b" out ", left_count(&plan.left))
 }
 
-#[tactic(auto, unfolding(crate::specs::Summary::trips_text))]
 fn put_trips(line: &mut Vec<u8>, plan: &Planned) -> Result<(), OutOfMemory>
-    ensures { OnOk result (line.new.items ≡ line.old.items ++ trips_text plan.now) }
+    ensures { OnOk result (line.new.items ≡ line.old.items ++ (numbered (codes " rows ") (length plan.now.rows) ++ numbered (codes " trips ") (count_by (λ trip. list_any (λ stop. stop.pick) trip.stops.items) plan.now.chosen))) }
 {
-    put_named(line, b" rows ", row_count(&plan.rows))?;
-    put_named(line, b" trips ", trips_with_riders(&plan.chosen))
+    put_numbered(line, b" rows ", row_count(&plan.rows))?;
+    put_numbered(line, b" trips ", trips_with_riders(&plan.chosen))
 }
 
-#[tactic(auto, unfolding(crate::specs::Summary::cost_text))]
 fn put_cost(line: &mut Vec<u8>, plan: &Planned) -> Result<(), OutOfMemory>
-    ensures { OnOk result (line.new.items ≡ line.old.items ++ cost_text plan.now) }
+    ensures { OnOk result (line.new.items ≡ line.old.items ++ (numbered (codes " cost ") plan.now.cost ++ signed (codes " bound ") plan.now.bound)) }
 {
-    put_named(line, b" cost ", plan.cost)?;
-    put_signed_line(line, b" bound", &plan.bound)
+    put_numbered(line, b" cost ", plan.cost)?;
+    put_signed(line, b" bound ", &plan.bound)
 }
 
 fn left_count(riders: &Sequence<RiderId>) -> u64
@@ -225,13 +195,13 @@ fn row_count(rows: &Sequence<RowLine>) -> u64
 
 /// How many riders the trips pick up.
 fn served(trips: &Sequence<ChosenTrip>) -> u64
-    ensures { result ≡ served trips.now }
+    ensures { result ≡ sum_by pickups trips.now }
 {
     pickups_of(trips.as_slice())
 }
 
 fn pickups_of(trips: &[ChosenTrip]) -> u64
-    ensures { result ≡ served trips.now }
+    ensures { result ≡ sum_by pickups trips.now }
 {
     let mut riders = 0;
     for trip in trips {
@@ -249,19 +219,19 @@ fn pickups(trip: &ChosenTrip) -> u64
 
 /// How many of the trips pick a rider up.
 fn trips_with_riders(trips: &Sequence<ChosenTrip>) -> u64
-    ensures { result ≡ with_riders trips.now }
+    ensures { result ≡ count_by (λ trip. list_any (λ stop. stop.pick) trip.stops.items) trips.now }
 {
     count_with_riders(trips.as_slice()) as u64
 }
 
 fn count_with_riders(trips: &[ChosenTrip]) -> usize
-    ensures { result ≡ with_riders trips.now }
+    ensures { result ≡ count_by (λ trip. list_any (λ stop. stop.pick) trip.stops.items) trips.now }
 {
     trips.iter().filter(|trip| has_pickup(trip)).count()
 }
 
 fn has_pickup(trip: &ChosenTrip) -> bool
-    ensures { result ≡ has_pickup trip.now }
+    ensures { result ≡ list_any (λ stop. stop.pick) trip.now.stops.items }
 {
     trip.stops.iter().any(|stop| stop.pick)
 }

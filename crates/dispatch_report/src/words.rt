@@ -1,27 +1,37 @@
-ghost use Rattle.std.specs.Prelude.{◌≡◌, ◌++◌, map, OnOk};
-ghost use Rattle.dispatch_report.specs.Words.{spaced, spaced_signed, all_spaced, all_spaced_signed};
+ghost use Rattle.std.specs.Prelude.{◌≡◌, ◌++◌, OnOk, codes};
+ghost use Rattle.std.specs.List.{flat_map};
+ghost use Rattle.dispatch_report.specs.Words.{numbered, signed, spaced};
 
-use pool_base::{OutOfMemory, RiderId, put_number, put_signed};
+use pool_base::{OutOfMemory, RiderId, put_bytes, put_number, put_signed as put_signed_number};
+
+/// Appends words and a number.
+#[tactic(auto, unfolding(crate::specs::Words::numbered))]
+pub(crate) fn put_numbered(line: &mut Vec<u8>, words: &[u8], n: u64) -> Result<(), OutOfMemory>
+    ensures { OnOk result (line.new.items ≡ line.old.items ++ numbered words.now n) }
+{
+    put_bytes(line, words)?;
+    put_number(line, n)
+}
+
+/// Appends words and a signed number.
+#[tactic(auto, unfolding(crate::specs::Words::signed))]
+pub(crate) fn put_signed(line: &mut Vec<u8>, words: &[u8], n: &i128) -> Result<(), OutOfMemory>
+    ensures { OnOk result (line.new.items ≡ line.old.items ++ signed words.now n.now) }
+{
+    put_bytes(line, words)?;
+    put_signed_number(line, *n)
+}
 
 /// Appends a space and a number.
 pub(crate) fn put_spaced(line: &mut Vec<u8>, n: u64) -> Result<(), OutOfMemory>
     ensures { OnOk result (line.new.items ≡ line.old.items ++ spaced n) }
 {
-    line.push(b' ')?;
-    put_number(line, n)
-}
-
-/// Appends a space and a signed number.
-pub(crate) fn put_spaced_signed(line: &mut Vec<u8>, n: i128) -> Result<(), OutOfMemory>
-    ensures { OnOk result (line.new.items ≡ line.old.items ++ spaced_signed n) }
-{
-    line.push(b' ')?;
-    put_signed(line, n)
+    put_numbered(line, b" ", n)
 }
 
 /// Appends each rider's id after a space.
 pub(crate) fn put_riders(line: &mut Vec<u8>, riders: &[RiderId]) -> Result<(), OutOfMemory>
-    ensures { OnOk result (line.new.items ≡ line.old.items ++ all_spaced riders.now) }
+    ensures { OnOk result (line.new.items ≡ line.old.items ++ flat_map spaced riders.now) }
 {
     for rider in riders {
         put_spaced(line, u64::from(rider.get()))?;
@@ -31,10 +41,16 @@ pub(crate) fn put_riders(line: &mut Vec<u8>, riders: &[RiderId]) -> Result<(), O
 
 /// Appends each multiplier after a space.
 pub(crate) fn put_multipliers(line: &mut Vec<u8>, multipliers: &[i64]) -> Result<(), OutOfMemory>
-    ensures { OnOk result (line.new.items ≡ line.old.items ++ all_spaced_signed multipliers.now) }
+    ensures { OnOk result (line.new.items ≡ line.old.items ++ flat_map (signed (codes " ")) multipliers.now) }
 {
     for multiplier in multipliers {
-        put_spaced_signed(line, i128::from(*multiplier))?;
+        put_multiplier(line, *multiplier)?;
     }
     Ok(())
+}
+
+fn put_multiplier(line: &mut Vec<u8>, multiplier: i64) -> Result<(), OutOfMemory>
+    ensures { OnOk result (line.new.items ≡ line.old.items ++ signed (codes " ") multiplier) }
+{
+    put_signed(line, b" ", &i128::from(multiplier))
 }

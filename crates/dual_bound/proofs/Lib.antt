@@ -1,4 +1,3 @@
-pub mod ValueLemmas
-pub mod FirstFitLemmas
+pub mod lemmas
 pub mod ClimbLemmas
 pub mod ListedLemmas

@@ -8,7 +8,7 @@ use Rattle.std.proofs.lemmas.Bool.{cases_eq, cases_Bool, cond_both, both_ways, a
 use Rattle.plan_rules.specs.Sums.{least_below, lesser}
 use Rattle.plan_rules.specs.Graph.{Graph, riders_at, has_rider}
 use Rattle.plan_rules.specs.Multipliers.{Usable, room_at}
-use Rattle.plan_rules.proofs.SumLemmas.{least_below_some, least_below_found, lesser-le_right, lesser-le_left}
+use Rattle.plan_rules.proofs.lemmas.SumLemmas.{least_below_some, least_below_found, lesser-le_right, lesser-le_left}
 use Rattle.dual_bound.specs.Index.{IsListed, ListsAll}
 
 -- the least of f at the numbers below n that pass and stand at these places of a list, where there is one

@@ -4,8 +4,7 @@ ghost use Rattle.plan_rules.specs.Multipliers.{usable_of, leaf_value, first_fit_
 
 use crate::ascent::Ascent;
 use crate::first_fit_pass::first_fit;
-use crate::value::leaf_value;
-use plan_rules::{Multipliers, TripGraph};
+use plan_rules::{Multipliers, TripGraph, leaf_value};
 use pool_base::OutOfMemory;
 use std::alloc::Global;
 

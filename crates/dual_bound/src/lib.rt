@@ -14,10 +14,9 @@ mod relaxation;
 mod rider_index;
 #[cfg(test)]
 mod tests;
-mod value;
 
 pub use climbing::{ascend, climb};
 pub use first_fit_pass::{first_fit, first_fit_by};
+pub use plan_rules::leaf_value;
 pub use relaxation::{Relaxation, RowTable, Saved, Share, first_multipliers};
 pub use rider_index::RiderIndex;
-pub use value::leaf_value;

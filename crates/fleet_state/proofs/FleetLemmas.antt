@@ -1,71 +1,110 @@
-use Rattle.std.proofs.Common.{◌≡◌, ℕ, ◌+◌, ◌<◌, ◌≤◌, Bool, true, false, ◌||◌, cond, eqb, List, [], ◌∷◌, length, get_or, drop, Result, Ok, Err, refl, sym, ap, ◌∙◌}
-use Rattle.std.specs.List.{fold}
+-- A fleet, row by row.
+use Rattle.std.proofs.Common.{◌≡◌, ◌↔◌, ℕ, ◌+◌, ◌<◌, ◌≤◌, Bool, true, false, ◌||◌, cond, eqb, List, [], ◌∷◌, ◌++◌, length, get_or, take, drop, Contains, Ok, Err, refl, sym, ap, subst, ◌∙◌, ◌⊎◌, inl, inr, arith}
+use Rattle.std.specs.List.{insert, list_any}
 use Rattle.std.proofs.lemmas.Bool.{le-ltb}
-use Rattle.std.proofs.lemmas.List.{drop_more, drop_all}
+use Rattle.std.proofs.lemmas.List.{take-append-drop, take_more}
+use Rattle.std.proofs.lemmas.List.Elements.{Contains-append_left, Contains-append_right, Contains-append_cases, Contains-push, Contains-push_cases}
+use Rattle.std.proofs.lemmas.List.Folds.{list_any-append}
+use Rattle.pool_base.specs.InOrder.{◌>>=◌, refused_where, all_or_first}
+use Rattle.pool_base.specs.Numeral.{number_at}
+use Rattle.pool_base.proofs.lemmas.InOrderLemmas.{all_or_first-err}
 use Rattle.batch_snapshot.specs.declared.vehicle.Vehicle.{Vehicle}
 use Rattle.fleet_state.specs.declared.fault.FleetFault.{FleetFault}
 use Rattle.fleet_state.specs.declared.fault.FleetFault.TheVariants.{TooManyVehicles, Duplicate}
-use Rattle.fleet_state.specs.Vehicle.{◌>>=◌, refused_where, vehicle_in}
-use Rattle.fleet_state.specs.Place.{has_vehicle, place_of, with_vehicle}
-use Rattle.fleet_state.specs.Fleet.{vehicles_in, by_id, fleet_of}
+use Rattle.fleet_state.specs.Vehicle.{vehicle_in}
+use Rattle.fleet_state.specs.Fleet.{is_repeated, vehicle_of_row, vehicles_of}
+use Rattle.fleet_state.specs.work.Place.{has_vehicle}
 use Rattle.fleet_state.proofs.PlaceLemmas.{list_any-insert}
 
--- the vehicles by rising id behind these, as rows come, or the first refusal
-abbrev pub fleet_from : List ℕ → ℕ → List Vehicle → List (List (List ℕ)) → Result (List Vehicle) FleetFault
-fleet_from nodes row sorted [] = Ok sorted
-fleet_from nodes row sorted (fields ∷ records) =
-    vehicle_in nodes row fields >>= λ vehicle.
-    refused_where (has_vehicle sorted vehicle.id) (Duplicate row) >>= λ _.
-    fleet_from nodes (row + 1) (with_vehicle sorted vehicle) records
+-- a list with one more element has that element and its own
+members-insert : {X : Type 0} (xs : List X) (i : ℕ) (x v : X) → Contains (insert xs i x) v → Contains xs v ⊎ (x ≡ v)
+members-insert xs i x v has =
+    let whole : take i xs ++ drop i xs ≡ xs = take-append-drop i xs in
+    elim (Contains-append_cases (take i xs) (x ∷ drop i xs) v has) [
+      | inl front ↦ inl (subst (λ ys. Contains ys v) whole (Contains-append_left (take i xs) (drop i xs) v front))
+      | inr rest ↦
+          elim (Contains-append_cases (x ∷ []) (drop i xs) v rest) [
+            | inl one ↦ elim (Contains-push_cases [] x v one) [ inl none ↦ absurd (omega (arith, none.1)) | inr same ↦ inr same ]
+            | inr back ↦ inl (subst (λ ys. Contains ys v) whole (Contains-append_right (take i xs) (drop i xs) v back))
+          ]
+    ]
 
--- rows behind vehicles that have the same ids give the same refusals, and their vehicles find their places
-fleet_from-vehicles : (nodes : List ℕ) (row : ℕ) (earlier sorted : List Vehicle) (records : List (List (List ℕ))) → ((id : ℕ) → has_vehicle earlier id ≡ has_vehicle sorted id) → fleet_from nodes row sorted records ≡ (vehicles_in nodes row earlier records >>= λ vehicles. Ok (fold with_vehicle sorted vehicles))
-fleet_from-vehicles nodes row earlier sorted [] same = refl
-fleet_from-vehicles nodes row earlier sorted (fields ∷ records) same =
-    by_vehicle (λ vehicle. fleet_from-vehicles nodes (row + 1) (vehicle ∷ earlier) (with_vehicle sorted vehicle) records
-    (λ id. ap (λ b. eqb vehicle.id id || b) (same id) ∙ sym (list_any-insert (λ v. eqb v.id id) sorted (place_of sorted vehicle.id) vehicle)))
-    (vehicle_in nodes row fields)
+insert-members : {X : Type 0} (xs : List X) (i : ℕ) (x v : X) → Contains xs v ⊎ (x ≡ v) → Contains (insert xs i x) v
+insert-members xs i x v (inl has) =
+    let whole : xs ≡ take i xs ++ drop i xs = sym (take-append-drop i xs) in
+    elim (Contains-append_cases (take i xs) (drop i xs) v (subst (λ ys. Contains ys v) whole has)) [
+      | inl front ↦ Contains-append_left (take i xs) (x ∷ drop i xs) v front
+      | inr back ↦ Contains-append_right (take i xs) (x ∷ drop i xs) v (Contains-append_right (x ∷ []) (drop i xs) v back)
+    ]
+insert-members xs i x v (inr same) =
+    subst (λ y. Contains (insert xs i x) y) same (Contains-append_right (take i xs) (x ∷ drop i xs) x (Contains-append_left (x ∷ []) (drop i xs) x (Contains-push [] x)))
+
+-- one more element, put in at any place of one list and at the end of another, has both lists the same elements still
+pub same_members-insert : {X : Type 0} (xs ys : List X) (i : ℕ) (x : X) → ((v : X) → Contains ys v ↔ Contains xs v) → (v : X) → Contains (insert ys i x) v ↔ Contains (xs ++ x ∷ []) v
+same_members-insert xs ys i x same v = (
+  (λ has. elim (members-insert ys i x v has) [
+    | inl there ↦ Contains-append_left xs (x ∷ []) v ((same v).0 there)
+    | inr new ↦ subst (λ y. Contains (xs ++ x ∷ []) y) new (Contains-push xs x)
+  ]),
+  (λ has. elim (Contains-push_cases xs x v has) [
+    | inl there ↦ insert-members ys i x v (inl ((same v).1 there))
+    | inr new ↦ insert-members ys i x v (inr new)
+  ]),
+)
+
+-- whether the first so many rows have a vehicle of an id
+abbrev pub is_known : List (List (List ℕ)) → ℕ → ℕ → Bool
+is_known records row id = list_any (λ fields. eqb (number_at fields 0) id) (take row records)
+
+-- the ids with one more row
+pub known_more : (records : List (List (List ℕ))) (row : ℕ) (sorted : List Vehicle) (place : ℕ) (vehicle : Vehicle) → row < length records → vehicle.id ≡ number_at (get_or records row []) 0 → ((id : ℕ) → has_vehicle sorted id ≡ is_known records row id) → (id : ℕ) → has_vehicle (insert sorted place vehicle) id ≡ is_known records (row + 1) id
+known_more records row sorted place vehicle within named known id =
+    let test : List (List ℕ) → Bool = λ fields. eqb (number_at fields 0) id in
+    let here : Bool = eqb (number_at (get_or records row []) 0) id in
+    list_any-insert (λ (v : Vehicle). eqb v.id id) sorted place vehicle
+    ∙ ap (λ n. eqb n id || has_vehicle sorted id) named
+    ∙ ap (λ b. here || b) (known id)
+    ∙ turned here (is_known records row id)
+    ∙ sym (ap (list_any test) (take_more records row [] within) ∙ list_any-append test (take row records) (get_or records row [] ∷ []))
   where
-    joined : (vehicle : Vehicle) (r : Result (List Vehicle) FleetFault) → (r >>= λ vehicles. Ok (fold with_vehicle (with_vehicle sorted vehicle) vehicles)) ≡ ((r >>= λ vehicles. Ok (vehicle ∷ vehicles)) >>= λ vehicles. Ok (fold with_vehicle sorted vehicles))
-    joined vehicle (Err fault) = refl
-    joined vehicle (Ok vehicles) = refl
+    turned : (a b : Bool) → (a || b) ≡ (b || (a || false))
+    turned true true = refl
+    turned true false = refl
+    turned false true = refl
+    turned false false = refl
 
-    by_test : (vehicle : Vehicle) → fleet_from nodes (row + 1) (with_vehicle sorted vehicle) records ≡ (vehicles_in nodes (row + 1) (vehicle ∷ earlier) records >>= λ vehicles. Ok (fold with_vehicle (with_vehicle sorted vehicle) vehicles)) → (t : Bool) → (refused_where t (Duplicate row) >>= λ _. fleet_from nodes (row + 1) (with_vehicle sorted vehicle) records) ≡ ((refused_where t (Duplicate row) >>= λ _. (vehicles_in nodes (row + 1) (vehicle ∷ earlier) records >>= λ vehicles. Ok (vehicle ∷ vehicles))) >>= λ vehicles. Ok (fold with_vehicle sorted vehicles))
-    by_test vehicle later true = refl
-    by_test vehicle later false = later ∙ joined vehicle (vehicles_in nodes (row + 1) (vehicle ∷ earlier) records)
-
-    by_vehicle : ((vehicle : Vehicle) → fleet_from nodes (row + 1) (with_vehicle sorted vehicle) records ≡ (vehicles_in nodes (row + 1) (vehicle ∷ earlier) records >>= λ vehicles. Ok (fold with_vehicle (with_vehicle sorted vehicle) vehicles))) → (r : Result Vehicle FleetFault) → (r >>= λ vehicle. refused_where (has_vehicle sorted vehicle.id) (Duplicate row) >>= λ _. fleet_from nodes (row + 1) (with_vehicle sorted vehicle) records) ≡ ((r >>= λ vehicle. refused_where (has_vehicle earlier vehicle.id) (Duplicate row) >>= λ _. (vehicles_in nodes (row + 1) (vehicle ∷ earlier) records >>= λ vehicles. Ok (vehicle ∷ vehicles))) >>= λ vehicles. Ok (fold with_vehicle sorted vehicles))
-    by_vehicle later (Err fault) = refl
-    by_vehicle later (Ok vehicle) =
-        by_test vehicle (later vehicle) (has_vehicle sorted vehicle.id)
-        ∙ ap (λ t. (refused_where t (Duplicate row) >>= λ _. (vehicles_in nodes (row + 1) (vehicle ∷ earlier) records >>= λ vehicles. Ok (vehicle ∷ vehicles))) >>= λ vehicles. Ok (fold with_vehicle sorted vehicles)) (sym (same vehicle.id))
-
--- a fleet of few rows
-pub fleet_of-few : (nodes : List ℕ) (records : List (List (List ℕ))) → length records ≤ 500 → fleet_of nodes records ≡ fleet_from nodes 1 [] records
-fleet_of-few nodes records few =
-    ap (λ b. cond b (Err TooManyVehicles) (vehicles_in nodes 1 [] records >>= λ vehicles. Ok (by_id vehicles))) (le-ltb 500 (length records) few)
-    ∙ sym (fleet_from-vehicles nodes 1 [] [] records (λ id. refl))
+-- a row that has an earlier row's vehicle, and one that hasn't
+repeated : (records : List (List (List ℕ))) (row : ℕ) (sorted : List Vehicle) (vehicle : Vehicle) → vehicle.id ≡ number_at (get_or records row []) 0 → ((id : ℕ) → has_vehicle sorted id ≡ is_known records row id) → is_repeated records row ≡ has_vehicle sorted vehicle.id
+repeated records row sorted vehicle named known = sym (ap (has_vehicle sorted) named ∙ known (number_at (get_or records row []) 0))
 
 -- a row of a new vehicle
-pub fleet_from-step : (nodes : List ℕ) (row : ℕ) (sorted : List Vehicle) (records : List (List (List ℕ))) (vehicle : Vehicle) → row < length records → vehicle_in nodes (row + 1) (get_or records row []) ≡ Ok vehicle → has_vehicle sorted vehicle.id ≡ false → fleet_from nodes (row + 1) sorted (drop row records) ≡ fleet_from nodes (row + 1 + 1) (with_vehicle sorted vehicle) (drop (row + 1) records)
-fleet_from-step nodes row sorted records vehicle within is new =
-    ap (fleet_from nodes (row + 1) sorted) (drop_more records row [] within)
-    ∙ ap (λ r. r >>= λ v. refused_where (has_vehicle sorted v.id) (Duplicate (row + 1)) >>= λ _. fleet_from nodes (row + 1 + 1) (with_vehicle sorted v) (drop (row + 1) records)) is
-    ∙ ap (λ t. refused_where t (Duplicate (row + 1)) >>= λ _. fleet_from nodes (row + 1 + 1) (with_vehicle sorted vehicle) (drop (row + 1) records)) new
+pub vehicle_of_row-new : (nodes : List ℕ) (records : List (List (List ℕ))) (row : ℕ) (sorted : List Vehicle) (vehicle : Vehicle) → vehicle_in nodes (row + 1) (get_or records row []) ≡ Ok vehicle → vehicle.id ≡ number_at (get_or records row []) 0 → ((id : ℕ) → has_vehicle sorted id ≡ is_known records row id) → has_vehicle sorted vehicle.id ≡ false → vehicle_of_row nodes records row ≡ Ok vehicle
+vehicle_of_row-new nodes records row sorted vehicle is named known new =
+    ap (λ r. r >>= λ v. refused_where (is_repeated records row) (Duplicate (row + 1)) >>= λ _. Ok v) is
+    ∙ ap (λ t. refused_where t (Duplicate (row + 1)) >>= λ _. Ok vehicle) (repeated records row sorted vehicle named known ∙ new)
 
 -- a row of a vehicle that is there
-pub fleet_from-duplicate : (nodes : List ℕ) (row : ℕ) (sorted : List Vehicle) (records : List (List (List ℕ))) (vehicle : Vehicle) → row < length records → vehicle_in nodes (row + 1) (get_or records row []) ≡ Ok vehicle → has_vehicle sorted vehicle.id ≡ true → fleet_from nodes (row + 1) sorted (drop row records) ≡ Err (Duplicate (row + 1))
-fleet_from-duplicate nodes row sorted records vehicle within is there =
-    ap (fleet_from nodes (row + 1) sorted) (drop_more records row [] within)
-    ∙ ap (λ r. r >>= λ v. refused_where (has_vehicle sorted v.id) (Duplicate (row + 1)) >>= λ _. fleet_from nodes (row + 1 + 1) (with_vehicle sorted v) (drop (row + 1) records)) is
-    ∙ ap (λ t. refused_where t (Duplicate (row + 1)) >>= λ _. fleet_from nodes (row + 1 + 1) (with_vehicle sorted vehicle) (drop (row + 1) records)) there
+pub vehicle_of_row-duplicate : (nodes : List ℕ) (records : List (List (List ℕ))) (row : ℕ) (sorted : List Vehicle) (vehicle : Vehicle) → vehicle_in nodes (row + 1) (get_or records row []) ≡ Ok vehicle → vehicle.id ≡ number_at (get_or records row []) 0 → ((id : ℕ) → has_vehicle sorted id ≡ is_known records row id) → has_vehicle sorted vehicle.id ≡ true → vehicle_of_row nodes records row ≡ Err (Duplicate (row + 1))
+vehicle_of_row-duplicate nodes records row sorted vehicle is named known there =
+    ap (λ r. r >>= λ v. refused_where (is_repeated records row) (Duplicate (row + 1)) >>= λ _. Ok v) is
+    ∙ ap (λ t. refused_where t (Duplicate (row + 1)) >>= λ _. Ok vehicle) (repeated records row sorted vehicle named known ∙ there)
 
--- a row that is refused
-pub fleet_from-fault : (nodes : List ℕ) (row : ℕ) (sorted : List Vehicle) (records : List (List (List ℕ))) (fault : FleetFault) → row < length records → vehicle_in nodes (row + 1) (get_or records row []) ≡ Err fault → fleet_from nodes (row + 1) sorted (drop row records) ≡ Err fault
-fleet_from-fault nodes row sorted records fault within is =
-    ap (fleet_from nodes (row + 1) sorted) (drop_more records row [] within)
-    ∙ ap (λ r. r >>= λ v. refused_where (has_vehicle sorted v.id) (Duplicate (row + 1)) >>= λ _. fleet_from nodes (row + 1 + 1) (with_vehicle sorted v) (drop (row + 1) records)) is
+-- a row whose fields are refused
+pub vehicle_of_row-fault : (nodes : List ℕ) (records : List (List (List ℕ))) (row : ℕ) (fault : FleetFault) → vehicle_in nodes (row + 1) (get_or records row []) ≡ Err fault → vehicle_of_row nodes records row ≡ Err fault
+vehicle_of_row-fault nodes records row fault is =
+    ap (λ r. r >>= λ v. refused_where (is_repeated records row) (Duplicate (row + 1)) >>= λ _. Ok v) is
+
+-- the vehicles of few rows
+vehicles_of-few : (nodes : List ℕ) (records : List (List (List ℕ))) → length records ≤ 500 → vehicles_of nodes records ≡ all_or_first (vehicle_of_row nodes records) (length records)
+vehicles_of-few nodes records few =
+    ap (λ b. cond b (Err TooManyVehicles) (all_or_first (vehicle_of_row nodes records) (length records))) (le-ltb 500 (length records) few)
+
+-- the first row that is refused
+pub vehicles_of-refused : (nodes : List ℕ) (records : List (List (List ℕ))) (row : ℕ) (vehicles : List Vehicle) (fault : FleetFault) → length records ≤ 500 → row < length records → all_or_first (vehicle_of_row nodes records) row ≡ Ok vehicles → vehicle_of_row nodes records row ≡ Err fault → vehicles_of nodes records ≡ Err fault
+vehicles_of-refused nodes records row vehicles fault few within before here =
+    vehicles_of-few nodes records few ∙ all_or_first-err (vehicle_of_row nodes records) (length records) row vehicles fault within before here
 
 -- after the last row
-pub fleet_from-end : (nodes : List ℕ) (row place : ℕ) (sorted : List Vehicle) (records : List (List (List ℕ))) → length records ≤ row → fleet_from nodes place sorted (drop row records) ≡ Ok sorted
-fleet_from-end nodes row place sorted records past = ap (fleet_from nodes place sorted) (drop_all row records past)
+pub vehicles_of-all : (nodes : List ℕ) (records : List (List (List ℕ))) (row : ℕ) (vehicles : List Vehicle) → length records ≤ 500 → row ≡ length records → all_or_first (vehicle_of_row nodes records) row ≡ Ok vehicles → vehicles_of nodes records ≡ Ok vehicles
+vehicles_of-all nodes records row vehicles few all before =
+    vehicles_of-few nodes records few ∙ ap (all_or_first (vehicle_of_row nodes records)) (sym all) ∙ before

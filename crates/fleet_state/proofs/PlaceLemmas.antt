@@ -10,7 +10,7 @@ use Rattle.batch_snapshot.specs.declared.vehicle.Vehicle.{Vehicle}
 use Rattle.batch_snapshot.specs.Vehicle.{HasSeats}
 use Rattle.batch_snapshot.specs.Kept.{IsFleet}
 use Rattle.fleet_state.specs.Vehicle.{empty_vehicle}
-use Rattle.fleet_state.specs.Place.{has_vehicle, stands_at, IsPlaceOf}
+use Rattle.fleet_state.specs.work.Place.{has_vehicle, has_id_at, IsPlaceOf}
 
 swapped : (a b c : Bool) → (a || (b || c)) ≡ (b || (a || c))
 swapped true true c = refl
@@ -118,15 +118,15 @@ IsFleet-insert vehicles vehicle place fleet few at seats empty =
     }
 
 -- an id that stands at a place is there
-pub stands_at-found : (vehicles : List Vehicle) (place id : ℕ) → stands_at vehicles place id ≡ true → has_vehicle vehicles id ≡ true
-stands_at-found vehicles place id stands =
+pub has_id_at-found : (vehicles : List Vehicle) (place id : ℕ) → has_id_at vehicles place id ≡ true → has_vehicle vehicles id ≡ true
+has_id_at-found vehicles place id stands =
     let there : Vehicle = get_or vehicles place (empty_vehicle 0 0 0 0) in
     let parts = and_parts (nat_lt place (length vehicles)) (eqb there.id id) stands in
     list_any_at (λ v. eqb v.id id) vehicles place (empty_vehicle 0 0 0 0) (ltb-true place (length vehicles) parts.0) parts.1
 
 -- where an id doesn't stand at a place, another does or none
-pub stands_at-other : (vehicles : List Vehicle) (place id : ℕ) → stands_at vehicles place id ≡ false → (d : Vehicle) → place < length vehicles → (get_or vehicles place d).id ≢ id
-stands_at-other vehicles place id stands d within = λ same.
+pub has_id_at-other : (vehicles : List Vehicle) (place id : ℕ) → has_id_at vehicles place id ≡ false → (d : Vehicle) → place < length vehicles → (get_or vehicles place d).id ≢ id
+has_id_at-other vehicles place id stands d within = λ same.
     let there : Vehicle = get_or vehicles place (empty_vehicle 0 0 0 0) in
     let read : (get_or vehicles place d).id ≡ there.id = ap (λ (v : Vehicle). v.id) (get_or_default vehicles place d (empty_vehicle 0 0 0 0) within) in
     both_ways (nat_lt place (length vehicles) && eqb there.id id) stands

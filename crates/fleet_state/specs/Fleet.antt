@@ -1,26 +1,39 @@
-use Rattle.std.specs.Prelude.{ℕ, ◌+◌, List, [], ◌∷◌, Result, Ok, Err, length, nat_lt, if◌then◌else◌}
-use Rattle.std.specs.List.{fold}
+use Rattle.std.specs.Prelude.{◌≡◌, ◌↔◌, ℕ, ◌+◌, ◌==◌, Bool, List, [], Result, Ok, Err, length, map, take, slice_index_or, nat_lt, Contains, if◌then◌else◌}
+use Rattle.std.specs.List.{list_any}
+use Rattle.std.specs.List.Sorted.{IsStrictlyIncreasing}
+use Rattle.pool_base.specs.InOrder.{◌>>=◌, refused_where, all_or_first}
+use Rattle.pool_base.specs.Numeral.{number_at}
 use Rattle.batch_snapshot.specs.declared.vehicle.Vehicle.{Vehicle}
 use Rattle.fleet_state.specs.declared.fault.FleetFault.{FleetFault}
 use Rattle.fleet_state.specs.declared.fault.FleetFault.TheVariants.{TooManyVehicles, Duplicate}
-use Rattle.fleet_state.specs.Vehicle.{◌>>=◌, refused_where, vehicle_in}
-use Rattle.fleet_state.specs.Place.{has_vehicle, with_vehicle}
+use Rattle.fleet_state.specs.Vehicle.{vehicle_in}
 
--- the vehicles of rows in order, or the first refusal; these vehicles stand in earlier rows
-abbrev pub vehicles_in : List ℕ → ℕ → List Vehicle → List (List (List ℕ)) → Result (List Vehicle) FleetFault
-vehicles_in nodes row earlier [] = Ok []
-vehicles_in nodes row earlier (fields ∷ records) = do
-  vehicle ← vehicle_in nodes row fields
-  _ ← refused_where (has_vehicle earlier vehicle.id) (Duplicate row)
-  vehicles ← vehicles_in nodes (row + 1) (vehicle ∷ earlier) records
-  Ok (vehicle ∷ vehicles)
+-- an earlier row has the vehicle of the row at a place
+abbrev pub is_repeated : List (List (List ℕ)) → ℕ → Bool
+is_repeated records place =
+    list_any (λ fields. number_at fields 0 == number_at (slice_index_or records place []) 0) (take place records)
 
--- vehicles by rising id
-abbrev pub by_id : List Vehicle → List Vehicle
-by_id vehicles = fold with_vehicle [] vehicles
+-- the vehicle of the row at a place, where these are the nodes, or why the row is refused: by its fields, or since an
+-- earlier row has the vehicle
+abbrev pub vehicle_of_row : List ℕ → List (List (List ℕ)) → ℕ → Result Vehicle FleetFault
+vehicle_of_row nodes records place = do
+  vehicle ← vehicle_in nodes (place + 1) (slice_index_or records place [])
+  _ ← refused_where (is_repeated records place) (Duplicate (place + 1))
+  Ok vehicle
 
--- the fleet that records give, where these are the nodes, or the first refusal
-abbrev pub fleet_of : List ℕ → List (List (List ℕ)) → Result (List Vehicle) FleetFault
-fleet_of nodes records =
+-- the vehicles of rows, in the order of the rows, or the first refusal
+abbrev pub vehicles_of : List ℕ → List (List (List ℕ)) → Result (List Vehicle) FleetFault
+vehicles_of nodes records =
     if nat_lt 500 (length records) then Err TooManyVehicles
-    else (vehicles_in nodes 1 [] records >>= λ vehicles. Ok (by_id vehicles))
+    else all_or_first (vehicle_of_row nodes records) (length records)
+
+-- a list by rising id, of these vehicles and no others
+pub record IsByRisingId (vehicles fleet : List Vehicle) : Type 0 where
+  pub rising : IsStrictlyIncreasing (map (λ v. v.id) fleet)
+  pub members : (v : Vehicle) → Contains fleet v ↔ Contains vehicles v
+
+-- the fleet that rows give, where these are the nodes: their vehicles by rising id
+pub record IsFleetOf (nodes : List ℕ) (records : List (List (List ℕ))) (fleet : List Vehicle) : Type 0 where
+  pub vehicles : List Vehicle
+  pub read : vehicles_of nodes records ≡ Ok vehicles
+  pub sorted : IsByRisingId vehicles fleet

@@ -1,3 +1,3 @@
 pub mod Vehicle
-pub mod Place
 pub mod Fleet
+pub mod work

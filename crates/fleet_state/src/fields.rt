@@ -1,6 +1,9 @@
 ghost use Rattle.std.specs.Prelude.{◌≡◌, ◌+◌, ◌<◌, ◌≤◌, [], IfOk};
 ghost use Rattle.pool_io.specs.Table.{record_at};
-ghost use Rattle.fleet_state.specs.Vehicle.{number_in, has_node, vehicle_in, IsRowOf};
+ghost use Rattle.pool_base.specs.Numeral.{number_in};
+ghost use Rattle.fleet_state.specs.Vehicle.{vehicle_in};
+ghost use Rattle.fleet_state.specs.work.Row.{IsFleetRow};
+ghost use Rattle.road_network.specs.Roads.{has_node};
 
 use crate::fault::FleetFault;
 use arrayvec::ArrayVec;
@@ -11,11 +14,10 @@ use road_network::Network;
 
 /// The number in a column of a row, at most 1,000,000,000. Rows and columns count from 0, in a fault
 /// from 1.
-#[tactic(auto, unfolding(crate::specs::Vehicle::number_in))]
 fn number(rows: &Rows, row: usize, column: usize) -> Result<u32, FleetFault>
-    requires row { IsRowOf rows.now row }
+    requires row { IsFleetRow rows.now row }
     requires column { column < 4 }
-    ensures value { result ≡ number_in (row + 1) (record_at rows.now row) column }
+    ensures value { result ≡ number_in FleetFault.Number (row + 1) (record_at rows.now row) column }
     ensures within { IfOk result (λ n. n ≤ 1000000000) }
 {
     match read_number_up_to(rows.field(row, column), 1_000_000_000) {
@@ -28,27 +30,27 @@ fn number(rows: &Rows, row: usize, column: usize) -> Result<u32, FleetFault>
 }
 
 fn vehicle_id(rows: &Rows, row: usize, column: usize) -> Result<VehicleId, FleetFault>
-    requires row { IsRowOf rows.now row }
+    requires row { IsFleetRow rows.now row }
     requires column { column < 4 }
-    ensures { result ≡ number_in (row + 1) (record_at rows.now row) column }
+    ensures { result ≡ number_in FleetFault.Number (row + 1) (record_at rows.now row) column }
 {
     let n = number(rows, row, column)?;
     Ok(VehicleId::new(u64::from(n)).unwrap())
 }
 
 fn node_id(rows: &Rows, row: usize, column: usize) -> Result<NodeId, FleetFault>
-    requires row { IsRowOf rows.now row }
+    requires row { IsFleetRow rows.now row }
     requires column { column < 4 }
-    ensures { result ≡ number_in (row + 1) (record_at rows.now row) column }
+    ensures { result ≡ number_in FleetFault.Number (row + 1) (record_at rows.now row) column }
 {
     let n = number(rows, row, column)?;
     Ok(NodeId::new(u64::from(n)).unwrap())
 }
 
 fn second(rows: &Rows, row: usize, column: usize) -> Result<Second, FleetFault>
-    requires row { IsRowOf rows.now row }
+    requires row { IsFleetRow rows.now row }
     requires column { column < 4 }
-    ensures { result ≡ number_in (row + 1) (record_at rows.now row) column }
+    ensures { result ≡ number_in FleetFault.Number (row + 1) (record_at rows.now row) column }
 {
     let n = number(rows, row, column)?;
     Ok(Second::new(u64::from(n)).unwrap())
@@ -74,7 +76,7 @@ pub(crate) fn read_vehicle(
     row: usize,
     network: &Network,
 ) -> Result<Vehicle, FleetFault>
-    requires { IsRowOf rows.now row }
+    requires { IsFleetRow rows.now row }
     ensures { result ≡ vehicle_in network.now.nodes (row + 1) (record_at rows.now row) }
 {
     let place = row as u64 + 1;

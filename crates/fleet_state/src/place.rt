@@ -1,6 +1,6 @@
 ghost use Rattle.std.specs.Prelude.{◌≡◌, true, map, nat_lt, MatchOption};
 ghost use Rattle.std.specs.List.Sorted.{IsStrictlyIncreasing};
-ghost use Rattle.fleet_state.specs.Place.{has_vehicle, stands_at, IsPlaceOf};
+ghost use Rattle.fleet_state.specs.work.Place.{has_vehicle, has_id_at, IsPlaceOf};
 
 use batch_snapshot::Vehicle;
 use pool_base::VehicleId;
@@ -12,8 +12,8 @@ fn is_lower(vehicle: &Vehicle, id: VehicleId) -> bool
 }
 
 /// Whether the vehicle at a place has this id.
-fn stands_at(vehicles: &[Vehicle], place: usize, id: VehicleId) -> bool
-    ensures { result ≡ stands_at vehicles.now place id }
+fn has_id_at(vehicles: &[Vehicle], place: usize, id: VehicleId) -> bool
+    ensures { result ≡ has_id_at vehicles.now place id }
 {
     place < vehicles.len() && vehicles[place].id == id
 }
@@ -24,7 +24,7 @@ pub(crate) fn find_place(vehicles: &[Vehicle], id: VehicleId) -> Option<usize>
     ensures { MatchOption result (has_vehicle vehicles.now id ≡ true) (IsPlaceOf vehicles.now id) }
 {
     let place = vehicles.partition_point(|vehicle| is_lower(vehicle, id));
-    if stands_at(vehicles, place, id) {
+    if has_id_at(vehicles, place, id) {
         return None;
     }
     Some(place)

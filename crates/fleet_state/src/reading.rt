@@ -1,6 +1,6 @@
-ghost use Rattle.std.specs.Prelude.{◌≡◌, ◌≢◌, All, true, Ok, Err, IfOk, IfErr};
-ghost use Rattle.fleet_state.specs.Vehicle.{has_node};
-ghost use Rattle.fleet_state.specs.Fleet.{fleet_of};
+ghost use Rattle.std.specs.Prelude.{◌≡◌, ◌≢◌, All, true, Err, IfOk, IfErr};
+ghost use Rattle.road_network.specs.Roads.{has_node};
+ghost use Rattle.fleet_state.specs.Fleet.{vehicles_of, IsFleetOf};
 
 use crate::fault::FleetFault;
 use crate::fields::read_vehicle;
@@ -16,14 +16,14 @@ pub const HEADER: &[u8] = b"vehicle,seats,node,second";
 /// The fleet that rows give: vehicles by rising id, with nobody aboard.
 ///
 /// More than 500 rows are refused. Else the first fault is given, row for row, and in each row in this
-/// order: the numbers of its fields, the seats, a node that the network doesn't have, a vehicle that an
-/// earlier row has.
+/// order: the numbers of its four fields from the left, seats that are not 1 to 10, a node that the
+/// network doesn't have, a vehicle that an earlier row has.
 pub fn read_fleet(alloc: Global, rows: &Rows, network: &Network) -> Result<Fleet, FleetFault>
     requires { rows.now.columns ≡ 4 }
-    ensures accepted { IfOk result (λ fleet. fleet_of network.now.nodes rows.now.records ≡ Ok fleet) }
+    ensures accepted { IfOk result (IsFleetOf network.now.nodes rows.now.records) }
     ensures named { IfOk result (All (λ vehicle. has_node network.now.nodes vehicle.node ≡ true)) }
     ensures refused { IfErr result (λ fault. fault ≢ FleetFault.OutOfMemory
-        → fleet_of network.now.nodes rows.now.records ≡ Err fault) }
+        → vehicles_of network.now.nodes rows.now.records ≡ Err fault) }
 {
     if rows.len() > 500 {
         return Err(FleetFault::TooManyVehicles);

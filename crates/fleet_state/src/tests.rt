@@ -28,14 +28,6 @@ fn read(alloc: Global, text: &str) -> Result<Result<Fleet, FleetFault>, AllocErr
     }
 }
 
-// How many vehicles a fleet has, or its refusal.
-fn outcome(alloc: Global, text: &str) -> Result<Result<usize, FleetFault>, AllocError> {
-    match read(alloc, text)? {
-        Ok(fleet) => Ok(Ok(fleet.vehicles().len())),
-        Err(fault) => Ok(Err(fault)),
-    }
-}
-
 #[test]
 fn answers_with_memory(rt: HostRuntime) -> Result<(), Fail> {
     let Ok(fleet) = read(rt.alloc(), "7,10,2,5\n3,1,1,1000000000\n1000000000,4,2,0\n")? else {
@@ -55,50 +47,6 @@ fn answers_with_memory(rt: HostRuntime) -> Result<(), Fail> {
     assert_eq!(rt;
         text.as_str(),
         "[3, 1, 1, 1000000000]\n[7, 10, 2, 5]\n[1000000000, 4, 2, 0]\n"
-    );
-    Ok(())
-}
-
-#[test]
-fn faults_are_named_at_their_rows(rt: HostRuntime) -> Result<(), Fail> {
-    let table = [
-        ("1,11,1,0\n", FleetFault::Seats { row: 1 }),
-        ("1,0,1,0\n", FleetFault::Seats { row: 1 }),
-        ("1,4,9,0\n", FleetFault::UnknownNode { row: 1 }),
-        ("1,4,1,0\n1,4,1,0\n", FleetFault::Duplicate { row: 2 }),
-        (
-            "2,4,1,0\n1,4,1,0\n3,4,1,0\n2,4,1,0\n",
-            FleetFault::Duplicate { row: 4 },
-        ),
-        (
-            "1,4,1,1000000001\n",
-            FleetFault::Number { row: 1, column: 4 },
-        ),
-        (
-            "1,4,1,0\n1,11,9,x\n",
-            FleetFault::Number { row: 2, column: 4 },
-        ),
-        ("1,4,1,0\n1,11,9,0\n", FleetFault::Seats { row: 2 }),
-        ("1,4,1,0\n1,10,9,0\n", FleetFault::UnknownNode { row: 2 }),
-    ];
-    for (text, fault) in table {
-        assert_eq!(rt; outcome(rt.alloc(), text)?, Err(fault), "at {text}");
-    }
-    Ok(())
-}
-
-#[test]
-fn as_many_vehicles_as_allowed_are_read(rt: HostRuntime) -> Result<(), Fail> {
-    let mut text = String::new(rt.alloc());
-    for id in (0..500u32).rev() {
-        let line = format!(in rt.alloc(); "{id},4,1,0\n")?;
-        text.push_str(line.as_str())?;
-    }
-    assert_eq!(rt; outcome(rt.alloc(), text.as_str())?, Ok(500));
-    text.push_str("500,4,1,0\n")?;
-    assert_eq!(rt;
-        outcome(rt.alloc(), text.as_str())?,
-        Err(FleetFault::TooManyVehicles)
     );
     Ok(())
 }

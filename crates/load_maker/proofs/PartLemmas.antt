@@ -3,28 +3,29 @@ use Rattle.std.proofs.lemmas.List.{append-nil, append_assoc}
 use Rattle.std.proofs.lemmas.List.Concat.{flat_map-append}
 use Rattle.rand_core.specs.Stream.{Stream}
 use Rattle.load_maker.specs.declared.row.Field.{Field}
-use Rattle.load_maker.specs.Row.{row_text, rows_text}
-use Rattle.load_maker.specs.Part.{Part, nothing, plain, both, each, Writes}
+use Rattle.load_maker.specs.Row.{csv_lines, csv_line}
+use Rattle.load_maker.specs.Part.{Part, nothing, plain, both, each}
+use Rattle.load_maker.specs.work.Written.{Writes}
 
 -- the text of one row
-pub one_row : (row : List Field) → row_text row ≡ rows_text (row ∷ [])
-one_row row = sym (append-nil (row_text row))
+pub one_row : (row : List Field) → csv_line row ≡ csv_lines (row ∷ [])
+one_row row = sym (append-nil (csv_line row))
 
 -- no part was written
 pub Writes-nothing : (text : List ℕ) (s : Stream) → Writes nothing text text s s
 Writes-nothing text s = record { text = sym (append-nil text); left = refl }
 
 -- a row was written without a draw
-pub Writes-plain : (row : List Field) (old new : List ℕ) (s : Stream) → new ≡ old ++ row_text row → Writes (plain (row ∷ [])) old new s s
+pub Writes-plain : (row : List Field) (old new : List ℕ) (s : Stream) → new ≡ old ++ csv_line row → Writes (plain (row ∷ [])) old new s s
 Writes-plain row old new s is = record { text = is ∙ ap (λ (t : List ℕ). old ++ t) (one_row row); left = refl }
 
 -- two parts were written
 pub Writes-both : (first second : Part) (old mid new : List ℕ) (s t u : Stream) → Writes first old mid s t → Writes second mid new t u → Writes (both first second) old new s u
 Writes-both first second old mid new s t u here rest = record {
   text =
-      rest.text ∙ ap (λ (r : List ℕ). r ++ rows_text (second t).0) here.text ∙ append_assoc old (rows_text (first s).0) (rows_text (second t).0)
-      ∙ ap (λ (v : Stream). old ++ (rows_text (first s).0 ++ rows_text (second v).0)) here.left
-      ∙ ap (λ (x : List ℕ). old ++ x) (sym (flat_map-append row_text (first s).0 (second (first s).1).0));
+      rest.text ∙ ap (λ (r : List ℕ). r ++ csv_lines (second t).0) here.text ∙ append_assoc old (csv_lines (first s).0) (csv_lines (second t).0)
+      ∙ ap (λ (v : Stream). old ++ (csv_lines (first s).0 ++ csv_lines (second v).0)) here.left
+      ∙ ap (λ (x : List ℕ). old ++ x) (sym (flat_map-append csv_line (first s).0 (second (first s).1).0));
   left = rest.left ∙ ap (λ (v : Stream). (second v).1) here.left;
 }
 

@@ -3,9 +3,11 @@ use Rattle.std.proofs.lemmas.List.{append_assoc}
 use Rattle.rand_core.specs.Stream.{Stream}
 use Rattle.rider_limits.specs.declared.load_shape.LoadShape.{LoadShape}
 use Rattle.load_maker.specs.declared.row.Field.{Field}
-use Rattle.load_maker.specs.Row.{rows_text, text_under}
-use Rattle.load_maker.specs.Part.{draws_of, Writes}
-use Rattle.load_maker.specs.Texts.{network_header, fleet_header, script_header, network_part, fleet_part, script_part, Texts, texts_of}
+use Rattle.load_maker.specs.Row.{text_under, csv_lines}
+use Rattle.load_maker.specs.Part.{draws_of}
+use Rattle.load_maker.specs.work.Written.{Writes}
+use Rattle.load_maker.specs.Texts.{network_part, fleet_part, script_part, Texts, texts_of}
+use Rattle.pool_base.specs.Header.{script_header, fleet_header, network_header}
 
 made_of : List (List Field) → List (List Field) → List (List Field) → Texts
 made_of n f t = record { network = text_under network_header n; fleet = text_under fleet_header f; script = text_under script_header t }
@@ -24,9 +26,9 @@ texts_of-written shape seed n f t u v w is network fleet script =
     let s = ap draws_of is in
     let left : u ≡ (network_part shape (draws_of shape.seed)).1 = network.left ∙ ap (λ d. (network_part shape d).1) s in
     let last : v ≡ (fleet_part shape (network_part shape (draws_of shape.seed)).1).1 = fleet.left ∙ ap (λ d. (fleet_part shape d).1) left in
-    ap (λ x. plain_of x f t) (network.text ∙ append_assoc network_header (10 ∷ []) (rows_text (network_part shape (draws_of seed)).0))
-    ∙ ap (λ x. plain_of (text_under network_header (network_part shape (draws_of seed)).0) x t) (fleet.text ∙ append_assoc fleet_header (10 ∷ []) (rows_text (fleet_part shape u).0))
-    ∙ ap (λ x. plain_of (text_under network_header (network_part shape (draws_of seed)).0) (text_under fleet_header (fleet_part shape u).0) x) (script.text ∙ append_assoc script_header (10 ∷ []) (rows_text (script_part shape v).0))
+    ap (λ x. plain_of x f t) (network.text ∙ append_assoc network_header (10 ∷ []) (csv_lines (network_part shape (draws_of seed)).0))
+    ∙ ap (λ x. plain_of (text_under network_header (network_part shape (draws_of seed)).0) x t) (fleet.text ∙ append_assoc fleet_header (10 ∷ []) (csv_lines (fleet_part shape u).0))
+    ∙ ap (λ x. plain_of (text_under network_header (network_part shape (draws_of seed)).0) (text_under fleet_header (fleet_part shape u).0) x) (script.text ∙ append_assoc script_header (10 ∷ []) (csv_lines (script_part shape v).0))
     ∙ ap (λ x. made_of x (fleet_part shape u).0 (script_part shape v).0) (ap (λ d. (network_part shape d).0) s)
     ∙ ap (λ x. made_of (network_part shape (draws_of shape.seed)).0 x (script_part shape v).0) (ap (λ d. (fleet_part shape d).0) left)
     ∙ ap (λ x. made_of (network_part shape (draws_of shape.seed)).0 (fleet_part shape (network_part shape (draws_of shape.seed)).1).0 x) (ap (λ d. (script_part shape d).0) last)

@@ -1,3 +1,4 @@
 pub mod Row
 pub mod Part
 pub mod Texts
+pub mod work

@@ -1,9 +1,8 @@
-use Rattle.std.specs.Prelude.{◌≡◌, ℕ, zero, suc, ◌%◌, List, [], ◌++◌}
+use Rattle.std.specs.Prelude.{ℕ, zero, suc, ◌%◌, List, [], ◌++◌}
 use Rattle.rand_core.specs.Stream.{Stream, next_u64}
 use Rattle.rand_core.specs.Steps.{stream_of}
 use Rattle.rand_xoshiro.specs.SplitMix64.{splitmix_steps}
 use Rattle.load_maker.specs.declared.row.Field.{Field}
-use Rattle.load_maker.specs.Row.{rows_text}
 
 -- the draws of a SplitMix64 generator with this state
 abbrev pub draws_of : ℕ → Stream
@@ -39,8 +38,3 @@ each parts (suc n) s =
     let before = each parts n s in
     let here = parts n before.1 in
     (before.0 ++ here.0, here.1)
-
--- the rows of a part were written behind a text, with these draws before and after
-pub record Writes (part : Part) (old new : List ℕ) (before after : Stream) : Type 0 where
-  pub text : new ≡ old ++ rows_text (part before).0
-  pub left : after ≡ (part before).1

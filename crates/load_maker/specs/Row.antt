@@ -13,15 +13,15 @@ field_text Seal = codes "seal"
 field_text Empty = []
 
 -- fields apart by commas, ended by a line feed
-abbrev pub row_text : List Field → List ℕ
-row_text [] = []
-row_text (field ∷ []) = field_text field ++ 10 ∷ []
-row_text (field ∷ next ∷ fields) = field_text field ++ 44 ∷ row_text (next ∷ fields)
+abbrev pub csv_line : List Field → List ℕ
+csv_line [] = []
+csv_line (field ∷ []) = field_text field ++ 10 ∷ []
+csv_line (field ∷ next ∷ fields) = field_text field ++ 44 ∷ csv_line (next ∷ fields)
 
 -- rows, one behind another
-abbrev pub rows_text : List (List Field) → List ℕ
-rows_text rows = flat_map row_text rows
+abbrev pub csv_lines : List (List Field) → List ℕ
+csv_lines rows = flat_map csv_line rows
 
 -- a text: its header line, then its rows
 abbrev pub text_under : List ℕ → List (List Field) → List ℕ
-text_under header rows = header ++ 10 ∷ rows_text rows
+text_under header rows = header ++ 10 ∷ csv_lines rows

@@ -1,4 +1,5 @@
-use Rattle.std.specs.Prelude.{ℕ, ◌+◌, ◌-◌, ◌*◌, ◌%◌, List, [], ◌∷◌, codes, nat_lt, if◌then◌else◌}
+use Rattle.std.specs.Prelude.{ℕ, ◌+◌, ◌-◌, ◌*◌, ◌%◌, List, [], ◌∷◌, nat_lt, if◌then◌else◌}
+use Rattle.pool_base.specs.Header.{network_header, fleet_header, script_header}
 use Rattle.rand_core.specs.Stream.{Stream}
 use Rattle.rider_limits.specs.declared.load_shape.LoadShape.{LoadShape}
 use Rattle.load_maker.specs.declared.row.Field.{Field}
@@ -87,16 +88,6 @@ batch_rows shape k = both (reports shape k) (both (submits shape k) (plain (seal
 -- the rows of the script: the batches
 unfoldable pub script_part : LoadShape → Part
 script_part shape = each (batch_rows shape) shape.rounds
-
--- the header lines
-abbrev pub network_header : List ℕ
-network_header = codes "from,to,seconds"
-
-abbrev pub fleet_header : List ℕ
-fleet_header = codes "vehicle,seats,node,second"
-
-abbrev pub script_header : List ℕ
-script_header = codes "round,lane,command,a,b,c,d"
 
 -- three texts
 pub record Texts : Type 0 where

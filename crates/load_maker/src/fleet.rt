@@ -1,5 +1,6 @@
 ghost use Rattle.std.specs.Prelude.{◌≡◌, ◌≤◌, OnOk};
-ghost use Rattle.load_maker.specs.Part.{draws_of, Writes};
+ghost use Rattle.load_maker.specs.Part.{draws_of};
+ghost use Rattle.load_maker.specs.work.Written.{Writes};
 ghost use Rattle.load_maker.specs.Texts.{vehicle_row, fleet_part};
 
 use crate::draw::draw_node;

@@ -1,5 +1,6 @@
 ghost use Rattle.std.specs.Prelude.{◌≡◌, ◌*◌, ◌<◌, ◌≤◌, OnOk};
-ghost use Rattle.load_maker.specs.Part.{draws_of, Writes};
+ghost use Rattle.load_maker.specs.Part.{draws_of};
+ghost use Rattle.load_maker.specs.work.Written.{Writes};
 ghost use Rattle.load_maker.specs.Texts.{node_id, arcs_between, arcs_right, arcs_down, arcs_of_row, network_part};
 
 use crate::draw::draw;

@@ -1,5 +1,5 @@
 ghost use Rattle.std.specs.Prelude.{◌≡◌, ◌++◌, OnOk};
-ghost use Rattle.load_maker.specs.Row.{field_text, row_text};
+ghost use Rattle.load_maker.specs.Row.{field_text, csv_line};
 
 use pool_base::{OutOfMemory, put_number};
 
@@ -28,7 +28,7 @@ fn put_field(text: &mut Vec<u8>, field: Field) -> Result<(), OutOfMemory>
 
 /// Appends fields apart by commas, ended by a line feed.
 pub(crate) fn put_row(text: &mut Vec<u8>, fields: &[Field]) -> Result<(), OutOfMemory>
-    ensures { OnOk result (text.new.items ≡ text.old.items ++ row_text fields.now) }
+    ensures { OnOk result (text.new.items ≡ text.old.items ++ csv_line fields.now) }
 {
     for (place, field) in fields.iter().enumerate() {
         put_field(text, *field)?;

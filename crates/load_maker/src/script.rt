@@ -1,6 +1,7 @@
 ghost use Rattle.std.specs.Prelude.{◌≡◌, ◌<◌, ◌≤◌, ◌^◌, ◌++◌, OnOk};
-ghost use Rattle.load_maker.specs.Row.{row_text};
-ghost use Rattle.load_maker.specs.Part.{draws_of, Writes};
+ghost use Rattle.load_maker.specs.Row.{csv_line};
+ghost use Rattle.load_maker.specs.Part.{draws_of};
+ghost use Rattle.load_maker.specs.work.Written.{Writes};
 ghost use Rattle.load_maker.specs.Texts.{report_row, all_reports, reports, other_than, submit_row, submits, seal_row, batch_rows, script_part};
 
 use crate::draw::{draw, draw_node};
@@ -119,7 +120,7 @@ fn put_submits(
 
 fn put_seal(text: &mut Vec<u8>, k: u64) -> Result<(), OutOfMemory>
     requires { k < 100 }
-    ensures { OnOk result (text.new.items ≡ text.old.items ++ row_text (seal_row k)) }
+    ensures { OnOk result (text.new.items ≡ text.old.items ++ csv_line (seal_row k)) }
 {
     put_row(
         text,

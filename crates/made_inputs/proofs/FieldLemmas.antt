@@ -11,10 +11,10 @@ use Rattle.csv.specs.declared.parser.State.TheVariants as st
 use Rattle.csv.proofs.RoundTrip.{read-write-many}
 use Rattle.pool_base.specs.Number.{IsDigit, AllDigits, value_after, IsNumeralOf}
 use Rattle.pool_base.specs.Numeral.{number_up_to}
-use Rattle.pool_base.proofs.NumeralLemmas.{is_numeral-digits, number_up_to-given}
+use Rattle.pool_base.proofs.lemmas.NumeralLemmas.{is_numeral-digits, number_up_to-given}
 use Rattle.load_maker.specs.declared.row.Field.{Field}
 use Rattle.load_maker.specs.declared.row.Field.TheVariants.{Number, Report, Submit, Seal, Empty}
-use Rattle.load_maker.specs.Row.{field_text, row_text}
+use Rattle.load_maker.specs.Row.{field_text, csv_line}
 
 -- numerals are read as std reads them
 own : IsNumeralModel AllDigits (value_after 0)
@@ -70,7 +70,7 @@ field_is_plain Empty fits = refl
 written_as : (field : Field) → Fits field → written default_writer (field_text field) ≡ field_text field
 written_as field fits = ap (λ b. cond b (quoted default_writer (field_text field)) (field_text field)) (field_is_plain field fits)
 
-rest_written : (field : Field) (fields : List Field) → AllFit (field ∷ fields) → 44 ∷ row_text (field ∷ fields) ≡ fields_text default_writer (map field_text (field ∷ fields)) ++ 10 ∷ []
+rest_written : (field : Field) (fields : List Field) → AllFit (field ∷ fields) → 44 ∷ csv_line (field ∷ fields) ≡ fields_text default_writer (map field_text (field ∷ fields)) ++ 10 ∷ []
 unfolding fields_text
 rest_written field [] fit =
     ap (λ (t : List ℕ). 44 ∷ (t ++ 10 ∷ [])) (sym (written_as field fit.0) ∙ sym (append-nil (written default_writer (field_text field))))
@@ -79,7 +79,7 @@ rest_written field (next ∷ fields) fit =
     ∙ ap (λ (t : List ℕ). 44 ∷ (t ++ (fields_text default_writer (map field_text (next ∷ fields)) ++ 10 ∷ []))) (sym (written_as field fit.0))
     ∙ ap (λ (t : List ℕ). 44 ∷ t) (sym (append_assoc (written default_writer (field_text field)) (fields_text default_writer (map field_text (next ∷ fields))) (10 ∷ [])))
 
-row_written : (first second : Field) (fields : List Field) → AllFit (first ∷ second ∷ fields) → row_text (first ∷ second ∷ fields) ≡ written_row default_writer (map field_text (first ∷ second ∷ fields))
+row_written : (first second : Field) (fields : List Field) → AllFit (first ∷ second ∷ fields) → csv_line (first ∷ second ∷ fields) ≡ written_row default_writer (map field_text (first ∷ second ∷ fields))
 unfolding is_blank
 row_written first second fields fit =
     ap (λ (t : List ℕ). field_text first ++ t) (rest_written second fields fit.1)
@@ -87,7 +87,7 @@ row_written first second fields fit =
     ∙ sym (append_assoc (written default_writer (field_text first)) (fields_text default_writer (map field_text (second ∷ fields))) (10 ∷ []))
 
 -- a row of two fields or more is read as its fields
-pub row_read : (first second : Field) (fields : List Field) (tail : List ℕ) → AllFit (first ∷ second ∷ fields) → next_record default_config st.StartRecord [] [] (row_text (first ∷ second ∷ fields) ++ tail) ≡ Some (map field_text (first ∷ second ∷ fields), st.StartRecord, tail)
+pub row_read : (first second : Field) (fields : List Field) (tail : List ℕ) → AllFit (first ∷ second ∷ fields) → next_record default_config st.StartRecord [] [] (csv_line (first ∷ second ∷ fields) ++ tail) ≡ Some (map field_text (first ∷ second ∷ fields), st.StartRecord, tail)
 row_read first second fields tail fit =
     ap (λ (t : List ℕ). next_record default_config st.StartRecord [] [] (t ++ tail)) (row_written first second fields fit)
     ∙ read-write-many (field_text first) (field_text second) (map field_text fields) tail

@@ -1,17 +1,19 @@
-use Rattle.std.proofs.Common.{◌≡◌, ℕ, zero, suc, ◌+◌, ◌*◌, ◌%◌, ◌<◌, ◌≤◌, ◌==◌, true, false, cond, List, [], ◌∷◌, ◌++◌, Some, Result, Ok, Err, map, length, decimal, refl, sym, ap, subst, ◌∙◌, arith}
-use Rattle.std.proofs.lemmas.Bool.{le-ltb, ne_eqb, or_from}
-use Rattle.std.proofs.lemmas.List.{length-append, length-map}
+use Rattle.std.proofs.Common.{◌≡◌, ℕ, zero, suc, ◌+◌, ◌*◌, ◌%◌, ◌<◌, ◌≤◌, ◌==◌, true, false, cond, List, [], ◌∷◌, ◌++◌, Some, Result, Ok, Err, map, length, take, get_or, unwrap_or, inl, inr, decimal, refl, sym, ap, subst, ◌∙◌, arith}
+use Rattle.std.specs.List.Sorted.{IsStrictlyIncreasing}
+use Rattle.std.proofs.lemmas.Bool.{cases_eq, le-ltb, ne_eqb}
+use Rattle.std.proofs.lemmas.List.{get_or-take, get_or_default, length-take-le, length-append, length-map, length_push, get_or-map, get_or_at, get_or_append_left}
+use Rattle.std.proofs.lemmas.List.Folds.{list_any_none}
 use Rattle.std.proofs.lemmas.Nat.{mod_below}
 use Rattle.std.proofs.Math.Nat.{mul-le-mul}
 use Rattle.rand_core.specs.Stream.{Stream, next_u64}
-use Rattle.pool_base.specs.Numeral.{number_up_to}
+use Rattle.pool_base.specs.InOrder.{◌>>=◌, refused_where, all_or_first}
+use Rattle.pool_base.specs.Numeral.{number_up_to, number_at}
 use Rattle.batch_snapshot.specs.declared.vehicle.Vehicle.{Vehicle}
 use Rattle.road_network.specs.Reading.{nodes_of}
-use Rattle.fleet_state.specs.declared.fault.FleetFault.{FleetFault}
 use Rattle.fleet_state.specs.declared.fault.FleetFault.TheVariants.{TooManyVehicles, Duplicate}
-use Rattle.fleet_state.specs.Vehicle.{◌>>=◌, refused_where, number_in, empty_vehicle, has_node, vehicle_in}
-use Rattle.fleet_state.specs.Place.{has_vehicle}
-use Rattle.fleet_state.specs.Fleet.{vehicles_in, by_id, fleet_of}
+use Rattle.fleet_state.specs.Vehicle.{empty_vehicle, vehicle_in}
+use Rattle.road_network.specs.Roads.{has_node}
+use Rattle.fleet_state.specs.Fleet.{is_repeated, vehicle_of_row, IsFleetOf}
 use Rattle.rider_limits.specs.declared.load_shape.LoadShape.{LoadShape}
 use Rattle.load_maker.specs.declared.row.Field.{Field}
 use Rattle.load_maker.specs.declared.row.Field.TheVariants as field
@@ -97,7 +99,7 @@ rows_fit nodes first (row ∷ rows) all =
 
 -- the row of a vehicle is accepted
 row_given : (nodes : List ℕ) (row id node : ℕ) → has_node nodes node ≡ true → node ≤ 1000000000 → id ≤ 1000000000 → vehicle_in nodes row (fields_of (field.Number id ∷ field.Number 4 ∷ field.Number node ∷ field.Number 0 ∷ [])) ≡ Ok (empty_vehicle id 4 node 0)
-unfolding vehicle_in number_in
+unfolding vehicle_in
 row_given nodes row id node known node_small id_small =
     let one : number_up_to 1000000000 (decimal id) ≡ Some id = number_up_to-decimal 1000000000 id id_small (omega arith) in
     let two : number_up_to 1000000000 (decimal 4) ≡ Some 4 = number_up_to-decimal 1000000000 4 (omega arith) (omega arith) in
@@ -110,33 +112,94 @@ row_given_of nodes number id row vehicle =
     ap (λ (fields : List Field). vehicle_in nodes number (fields_of fields)) vehicle.is
     ∙ row_given nodes number id vehicle.node vehicle.known vehicle.node_small vehicle.id_small
 
--- the vehicles that rows give
-record GiveVehicles (nodes : List ℕ) (number : ℕ) (earlier : List Vehicle) (records : List (List (List ℕ))) : Type 0 where
-  pub vehicles : List Vehicle
-  pub is : vehicles_in nodes number earlier records ≡ Ok vehicles
+-- rows of vehicles, place by place
+vehicle_at : (nodes : List ℕ) (first : ℕ) (rows : List (List Field)) (k : ℕ) → AreVehicles nodes first rows → k < length rows → IsVehicle nodes (first + k) (get_or rows k [])
+vehicle_at nodes first [] k all below = absurd (omega (arith, below))
+vehicle_at nodes first (row ∷ rows) zero all below = subst (λ n. IsVehicle nodes n row) (omega arith) all.0
+vehicle_at nodes first (row ∷ rows) (suc k) all below =
+    subst (λ n. IsVehicle nodes n (get_or rows k [])) (omega arith) (vehicle_at nodes (first + 1) rows k all.1 (omega (arith, below)))
 
-row_first : (nodes : List ℕ) (number : ℕ) (earlier : List Vehicle) (fields : List (List ℕ)) (records : List (List (List ℕ))) (vehicle : Vehicle) → vehicle_in nodes number fields ≡ Ok vehicle → has_vehicle earlier vehicle.id ≡ false → GiveVehicles nodes (number + 1) (vehicle ∷ earlier) records → GiveVehicles nodes number earlier (fields ∷ records)
-row_first nodes number earlier fields records vehicle here new rest =
-    let after : Vehicle → List Vehicle → Result (List Vehicle) FleetFault = λ v vs. Ok (v ∷ vs) in
-    let tail : Vehicle → Result (List Vehicle) FleetFault = λ v.
-    refused_where (has_vehicle earlier v.id) (Duplicate number) >>= λ _. vehicles_in nodes (number + 1) (v ∷ earlier) records >>= after v in
-    record {
-      vehicles = vehicle ∷ rest.vehicles;
-      is =
-          ap (λ (r : Result Vehicle FleetFault). r >>= tail) here
-          ∙ ap (λ b. refused_where b (Duplicate number) >>= λ _. vehicles_in nodes (number + 1) (vehicle ∷ earlier) records >>= after vehicle) new
-          ∙ ap (λ (r : Result (List Vehicle) FleetFault). r >>= after vehicle) rest.is;
-    }
+-- the id in a row
+id_named : (nodes : List ℕ) (id : ℕ) (row : List Field) → IsVehicle nodes id row → number_at (fields_of row) 0 ≡ id
+id_named nodes id row vehicle =
+    ap (λ (fields : List Field). number_at (fields_of fields) 0) vehicle.is
+    ∙ ap (λ o. unwrap_or o 0) (number_up_to-decimal 1000000000 id vehicle.id_small (omega arith))
 
-rows_given : (nodes : List ℕ) (number first : ℕ) (earlier : List Vehicle) (rows : List (List Field)) → ((id : ℕ) → first ≤ id → has_vehicle earlier id ≡ false) → AreVehicles nodes first rows → GiveVehicles nodes number earlier (map fields_of rows)
-rows_given nodes number first earlier [] new all = record { vehicles = []; is = refl }
-rows_given nodes number first earlier (row ∷ rows) new all =
-    let is : IsVehicle nodes first row = all.0 in
-    let vehicle : Vehicle = empty_vehicle first 4 is.node 0 in
-    row_first nodes number earlier (fields_of row) (map fields_of rows) vehicle (row_given_of nodes number first row is) (new first (omega arith))
-    (rows_given nodes (number + 1) (first + 1) (vehicle ∷ earlier) rows
-    (λ id above. or_from (first == id) (has_vehicle earlier id) (ne_eqb first id (λ e. omega arith)) (new id (omega arith)))
-    all.1)
+id_at : (nodes : List ℕ) (rows : List (List Field)) (k : ℕ) → AreVehicles nodes 1 rows → k < length rows → number_at (get_or (map fields_of rows) k []) 0 ≡ 1 + k
+id_at nodes rows k all below =
+    ap (λ fields. number_at fields 0) (get_or-map fields_of rows k [] [] below) ∙ id_named nodes (1 + k) (get_or rows k []) (vehicle_at nodes 1 rows k all below)
+
+-- no row has an earlier row's vehicle
+none_repeated : (nodes : List ℕ) (rows : List (List Field)) (k : ℕ) → AreVehicles nodes 1 rows → k < length rows → is_repeated (map fields_of rows) k ≡ false
+none_repeated nodes rows k all below =
+    let records : List (List (List ℕ)) = map fields_of rows in
+    let size : length records ≡ length rows = length-map rows fields_of in
+    let own : number_at (get_or records k []) 0 ≡ 1 + k = id_at nodes rows k all below in
+    list_any_none (λ fields. number_at fields 0 == number_at (get_or records k []) 0) (take k records)
+    (λ i d within.
+    let before : i < k = omega (arith, within, length-take-le k records (omega (arith, below, size))) in
+    let other : number_at (get_or records i []) 0 ≡ 1 + i = id_at nodes rows i all (omega (arith, before, below)) in
+    let read : get_or (take k records) i d ≡ get_or records i [] = get_or-take k records i d before ∙ get_or_default records i d [] (omega (arith, before, below, size)) in
+    ne_eqb (number_at (get_or (take k records) i d) 0) (number_at (get_or records k []) 0)
+    (λ e. omega (arith, before, own, other, ap (λ fields. number_at fields 0) read, e)))
+
+-- the vehicle of a row
+abbrev made_vehicle : List (List (List ℕ)) → ℕ → Vehicle
+made_vehicle records k = empty_vehicle (1 + k) 4 (number_at (get_or records k []) 2) 0
+
+row_made : (nodes : List ℕ) (rows : List (List Field)) (k : ℕ) → AreVehicles nodes 1 rows → k < length rows → vehicle_of_row nodes (map fields_of rows) k ≡ Ok (made_vehicle (map fields_of rows) k)
+row_made nodes rows k all below =
+    let records : List (List (List ℕ)) = map fields_of rows in
+    let row : List Field = get_or rows k [] in
+    let vehicle : IsVehicle nodes (1 + k) row = vehicle_at nodes 1 rows k all below in
+    let fields : get_or records k [] ≡ fields_of row = get_or-map fields_of rows k [] [] below in
+    let node : number_at (get_or records k []) 2 ≡ vehicle.node =
+    ap (λ (fs : List (List ℕ)). number_at fs 2) fields
+    ∙ ap (λ (fs : List Field). number_at (fields_of fs) 2) vehicle.is
+    ∙ ap (λ o. unwrap_or o 0) (number_up_to-decimal 1000000000 vehicle.node vehicle.node_small (omega arith)) in
+    let read : vehicle_in nodes (k + 1) (get_or records k []) ≡ Ok (made_vehicle records k) =
+    ap (vehicle_in nodes (k + 1)) fields ∙ row_given_of nodes (k + 1) (1 + k) row vehicle ∙ ap (λ n. Ok (empty_vehicle (1 + k) 4 n 0)) (sym node) in
+    ap (λ r. r >>= λ v. refused_where (is_repeated records k) (Duplicate (k + 1)) >>= λ _. Ok v) read
+    ∙ ap (λ t. refused_where t (Duplicate (k + 1)) >>= λ _. Ok (made_vehicle records k)) (none_repeated nodes rows k all below)
+
+-- what the first so many places give
+abbrev given_below : {A : Type 0} → (ℕ → A) → ℕ → List A
+given_below give zero = []
+given_below give (suc n) = given_below give n ++ give n ∷ []
+
+all_given : {A F : Type 0} (at : ℕ → Result A F) (give : ℕ → A) (n : ℕ) → ((k : ℕ) → k < n → at k ≡ Ok (give k)) → all_or_first at n ≡ Ok (given_below give n)
+all_given at give zero gives = refl
+all_given at give (suc n) gives =
+    ap (λ r. r >>= λ xs. at n >>= λ x. Ok (xs ++ x ∷ [])) (all_given at give n (λ k below. gives k (omega (arith, below))))
+    ∙ ap (λ r. r >>= λ x. Ok (given_below give n ++ x ∷ [])) (gives n (omega arith))
+
+length-given_below : {A : Type 0} (give : ℕ → A) (n : ℕ) → length (given_below give n) ≡ n
+length-given_below give zero = refl
+length-given_below give (suc n) = length_push (given_below give n) (give n) ∙ omega (arith, length-given_below give n)
+
+get_or-given_below : {A : Type 0} (give : ℕ → A) (n k : ℕ) (d : A) → k < n → get_or (given_below give n) k d ≡ give k
+get_or-given_below give zero k d below = absurd (omega (arith, below))
+get_or-given_below give (suc n) k d below =
+    let size : length (given_below give n) ≡ n = length-given_below give n in
+    elim (cases_eq k n) [
+      | inl same ↦ get_or_at (given_below give n) (give n) [] d k (size ∙ sym same) ∙ ap give (sym same)
+      | inr other ↦
+          let before : k < n = omega (arith, below, other) in
+          get_or_append_left (given_below give n) (give n ∷ []) d k (omega (arith, before, size)) ∙ get_or-given_below give n k d before
+    ]
+
+-- ids that rise by one rise
+rising : (records : List (List (List ℕ))) (n : ℕ) → IsStrictlyIncreasing (map (λ (v : Vehicle). v.id) (given_below (made_vehicle records) n))
+rising records n i within =
+    let made : List Vehicle = given_below (made_vehicle records) n in
+    let none : Vehicle = empty_vehicle 0 0 0 0 in
+    let size : length (map (λ (v : Vehicle). v.id) made) ≡ n = length-map made (λ (v : Vehicle). v.id) ∙ length-given_below (made_vehicle records) n in
+    let own : length made ≡ n = length-given_below (made_vehicle records) n in
+    let here : get_or (map (λ (v : Vehicle). v.id) made) i 0 ≡ 1 + i =
+    get_or-map (λ (v : Vehicle). v.id) made i none 0 (omega (arith, within, size, own)) ∙ ap (λ (v : Vehicle). v.id) (get_or-given_below (made_vehicle records) n i none (omega (arith, within, size))) in
+    let next : get_or (map (λ (v : Vehicle). v.id) made) (i + 1) 0 ≡ 1 + (i + 1) =
+    get_or-map (λ (v : Vehicle). v.id) made (i + 1) none 0 (omega (arith, within, size, own)) ∙ ap (λ (v : Vehicle). v.id) (get_or-given_below (made_vehicle records) n (i + 1) none (omega (arith, within, size))) in
+    omega (arith, here, next)
 
 -- the rows of the fleet of a shape
 abbrev pub fleet_rows : LoadShape → List (List Field)
@@ -144,19 +207,23 @@ fleet_rows shape = (fleet_part shape (network_part shape (draws_of shape.seed)).
 
 -- the fleet that rows give
 pub record GiveFleet (nodes : List ℕ) (records : List (List (List ℕ))) : Type 0 where
-  pub vehicles : List Vehicle
-  pub is : fleet_of nodes records ≡ Ok vehicles
+  pub fleet : List Vehicle
+  pub is : IsFleetOf nodes records fleet
 
 fleet_given : (nodes : List ℕ) (rows : List (List Field)) → AreVehicles nodes 1 rows → length rows ≤ 500 → GiveFleet nodes (map fields_of rows)
 fleet_given nodes rows all few =
-    let given : GiveVehicles nodes 1 [] (map fields_of rows) = rows_given nodes 1 1 [] rows (λ id above. refl) all in
-    let size : length (map fields_of rows) ≡ length rows = length-map rows fields_of in
-    let answer : List Vehicle → Result (List Vehicle) FleetFault = λ vs. Ok (by_id vs) in
+    let records : List (List (List ℕ)) = map fields_of rows in
+    let size : length records ≡ length rows = length-map rows fields_of in
+    let given : List Vehicle = given_below (made_vehicle records) (length records) in
     record {
-      vehicles = by_id given.vehicles;
-      is =
-          ap (λ b. cond b (Err TooManyVehicles) (vehicles_in nodes 1 [] (map fields_of rows) >>= answer)) (le-ltb 500 (length (map fields_of rows)) (omega (arith, size, few)))
-          ∙ ap (λ (r : Result (List Vehicle) FleetFault). r >>= answer) given.is;
+      fleet = given;
+      is = record {
+        vehicles = given;
+        read =
+            ap (λ b. cond b (Err TooManyVehicles) (all_or_first (vehicle_of_row nodes records) (length records))) (le-ltb 500 (length records) (omega (arith, size, few)))
+            ∙ all_given (vehicle_of_row nodes records) (made_vehicle records) (length records) (λ k below. row_made nodes rows k all (omega (arith, below, size)));
+        sorted = record { rising = rising records (length records); members = λ v. ((λ has. has), (λ has. has)) };
+      };
     }
 
 -- the rows of a shape's fleet give a fleet, on the nodes of its network

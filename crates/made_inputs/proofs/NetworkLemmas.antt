@@ -1,14 +1,16 @@
-use Rattle.std.proofs.Common.{◌≡◌, ℕ, zero, suc, ◌+◌, ◌*◌, ◌<◌, ◌≤◌, ◌%◌, ◌^◌, Bool, true, false, cond, ltb, List, [], ◌∷◌, ◌++◌, Some, None, Ok, Err, map, length, decimal, ◌-◌, ◌==◌, refl, sym, ap, subst, ◌∙◌, arith}
-use Rattle.std.specs.List.{list_any}
+use Rattle.std.proofs.Common.{◌≡◌, ℕ, zero, suc, ◌+◌, ◌*◌, ◌<◌, ◌≤◌, ◌%◌, ◌^◌, Bool, true, false, cond, ltb, List, [], ◌∷◌, ◌++◌, Some, None, Ok, Err, map, length, take, get_or, decimal, ◌-◌, refl, sym, ap, subst, ◌∙◌, arith}
+use Rattle.std.specs.List.{flat_map}
 use Rattle.std.specs.Option.{option_or}
 use Rattle.std.proofs.lemmas.Bool.{le-ltb}
-use Rattle.std.proofs.lemmas.List.{length-append, length-map}
+use Rattle.std.proofs.lemmas.List.{length-append, length-map, get_or-map, length-take-le}
 use Rattle.std.proofs.lemmas.Nat.{mod_below}
 use Rattle.std.proofs.Math.Nat.{mul-le-mul, suc-mul}
 use Rattle.rand_core.specs.Stream.{Stream, next_u64}
 use Rattle.pool_base.specs.Numeral.{number_up_to}
+use Rattle.pool_base.proofs.lemmas.DistinctLemmas.{length-distinct}
+use Rattle.pool_base.proofs.lemmas.InOrderLemmas.{first_fault-all}
 use Rattle.road_network.specs.Roads.{most_nodes, most_arcs, longest_arc, greatest_name}
-use Rattle.road_network.specs.Reading.{with_node, with_row, name_in, roads_of, field_refusal, row_refusal, first_refusal, unless_refused, network_of}
+use Rattle.road_network.specs.Reading.{names_in, nodes_of, roads_of, field_refusal, refusal_at, first_refusal, unless_refused, network_of}
 use Rattle.road_network.specs.declared.fault.NetworkFault.TheVariants.{TooManyArcs, TooManyNodes}
 use Rattle.rider_limits.specs.declared.load_shape.LoadShape.{LoadShape}
 use Rattle.load_maker.specs.declared.row.Field.{Field}
@@ -134,41 +136,41 @@ no_field_of number row arc =
     ap (λ (fields : List Field). field_refusal number (fields_of fields)) arc.is
     ∙ no_field number arc.from arc.to arc.seconds arc.from_small arc.to_small arc.short
 
-one_more_by : (nodes : List ℕ) (name : ℕ) (c : Bool) → length (cond c nodes (nodes ++ name ∷ [])) ≤ length nodes + 1
-one_more_by nodes name true = omega arith
-one_more_by nodes name false = omega (arith, length-append nodes (name ∷ []))
+-- a row names two nodes
+two_names : (rows : List (List (List ℕ))) → length (flat_map names_in rows) ≡ 2 * length rows
+two_names [] = refl
+two_names (fields ∷ rows) =
+    let rest : length (flat_map names_in rows) ≡ 2 * length rows = two_names rows in
+    let size : length (fields ∷ rows) ≡ suc (length rows) = refl in
+    length-append (names_in fields) (flat_map names_in rows) ∙ omega (arith, rest, size)
 
-one_more : (nodes : List ℕ) (name : ℕ) → length (with_node nodes name) ≤ length nodes + 1
-one_more nodes name = one_more_by nodes name (list_any (λ node. name == node) nodes)
-
-two_more : (nodes : List ℕ) (fields : List (List ℕ)) → length (with_row nodes fields) ≤ length nodes + 2
-two_more nodes fields =
-    let first : length (with_node nodes (name_in fields 0)) ≤ length nodes + 1 = one_more nodes (name_in fields 0) in
-    let second : length (with_row nodes fields) ≤ length (with_node nodes (name_in fields 0)) + 1 = one_more (with_node nodes (name_in fields 0)) (name_in fields 1) in
-    omega (arith, first, second)
-
-no_row : (number : ℕ) (nodes : List ℕ) (fields : List (List ℕ)) → field_refusal number fields ≡ None → length (with_row nodes fields) ≤ most_nodes → row_refusal number nodes fields ≡ None
-no_row number nodes fields fine few =
-    ap (λ o. option_or o (cond (ltb most_nodes (length (with_row nodes fields))) (Some (TooManyNodes number)) None)) fine
-    ∙ ap (λ b. cond b (Some (TooManyNodes number)) None) (le-ltb most_nodes (length (with_row nodes fields)) few)
+-- rows of arcs, place by place
+arc_at : (rows : List (List Field)) (k : ℕ) → AllArcs rows → k < length rows → IsArc (get_or rows k [])
+arc_at [] k all below = absurd (omega (arith, below))
+arc_at (row ∷ rows) zero all below = all.0
+arc_at (row ∷ rows) (suc k) all below = arc_at rows k all.1 (omega (arith, below))
 
 -- no row of arcs is refused, where the rows are few
-no_refusal : (number : ℕ) (nodes : List ℕ) (rows : List (List Field)) → AllArcs rows → length nodes + 2 * length rows ≤ most_nodes → first_refusal number nodes (map fields_of rows) ≡ None
-unfolding first_refusal
-no_refusal number nodes [] all few = refl
-no_refusal number nodes (row ∷ rows) all few =
-    let more : length (with_row nodes (fields_of row)) ≤ length nodes + 2 = two_more nodes (fields_of row) in
-    let size : length (row ∷ rows) ≡ suc (length rows) = refl in
-    let here : row_refusal number nodes (fields_of row) ≡ None = no_row number nodes (fields_of row) (no_field_of number row all.0) (omega (arith, more, few, size)) in
-    ap (λ o. option_or o (first_refusal (number + 1) (with_row nodes (fields_of row)) (map fields_of rows))) here
-    ∙ no_refusal (number + 1) (with_row nodes (fields_of row)) rows all.1 (omega (arith, more, few, size))
+no_refusal : (rows : List (List Field)) (k : ℕ) → AllArcs rows → 2 * length rows ≤ most_nodes → k < length rows → refusal_at (map fields_of rows) k ≡ None
+no_refusal rows k all few below =
+    let records : List (List (List ℕ)) = map fields_of rows in
+    let fine : field_refusal (k + 1) (get_or records k []) ≡ None =
+    ap (field_refusal (k + 1)) (get_or-map fields_of rows k [] [] below) ∙ no_field_of (k + 1) (get_or rows k []) (arc_at rows k all below) in
+    let named : length (nodes_of (take (k + 1) records)) ≤ length (flat_map names_in (take (k + 1) records)) = length-distinct (flat_map names_in (take (k + 1) records)) in
+    let twice : length (flat_map names_in (take (k + 1) records)) ≡ 2 * length (take (k + 1) records) = two_names (take (k + 1) records) in
+    let size : length records ≡ length rows = length-map rows fields_of in
+    let part : length (take (k + 1) records) ≡ k + 1 = length-take-le (k + 1) records (omega (arith, below, size)) in
+    ap (λ o. option_or o (cond (ltb most_nodes (length (nodes_of (take (k + 1) records)))) (Some (TooManyNodes (k + 1))) None)) fine
+    ∙ ap (λ b. cond b (Some (TooManyNodes (k + 1))) None) (le-ltb most_nodes (length (nodes_of (take (k + 1) records))) (omega (arith, named, twice, part, below, few)))
 
 network_given : (rows : List (List Field)) → AllArcs rows → length rows ≤ 40000 → network_of (map fields_of rows) ≡ Ok (roads_of (map fields_of rows))
 unfolding network_of
 network_given rows all few =
     let size : length (map fields_of rows) ≡ length rows = length-map rows fields_of in
-    ap (λ b. cond b (Err TooManyArcs) (unless_refused (first_refusal 1 [] (map fields_of rows)) (roads_of (map fields_of rows)))) (le-ltb most_arcs (length (map fields_of rows)) (omega (arith, size, few)))
-    ∙ ap (λ o. unless_refused o (roads_of (map fields_of rows))) (no_refusal 1 [] rows all (omega (arith, few)))
+    let none : first_refusal (map fields_of rows) ≡ None =
+    first_fault-all (refusal_at (map fields_of rows)) (length (map fields_of rows)) (λ k below. no_refusal rows k all (omega (arith, few)) (omega (arith, below, size))) in
+    ap (λ b. cond b (Err TooManyArcs) (unless_refused (first_refusal (map fields_of rows)) (roads_of (map fields_of rows)))) (le-ltb most_arcs (length (map fields_of rows)) (omega (arith, size, few)))
+    ∙ ap (λ o. unless_refused o (roads_of (map fields_of rows))) none
 
 -- the rows of the network of a shape
 abbrev pub network_rows : LoadShape → List (List Field)

@@ -1,15 +1,15 @@
-use Rattle.std.proofs.Common.{◌≡◌, ℕ, zero, suc, ◌+◌, ◌*◌, ◌/◌, ◌%◌, ◌<◌, ◌≤◌, ◌==◌, Bool, true, false, ◌||◌, cond, ltb, List, [], ◌∷◌, ◌++◌, Some, map, fold, decimal, unwrap_or, refl, sym, ap, subst, ◌∙◌, arith}
-use Rattle.std.specs.List.{list_any}
-use Rattle.std.proofs.lemmas.Bool.{lt-ltb, ltb-false, ltb-true, eq-eqb, eqb-true, false≢true}
+use Rattle.std.proofs.Common.{◌≡◌, ℕ, zero, suc, ◌+◌, ◌*◌, ◌/◌, ◌%◌, ◌<◌, ◌≤◌, ◌==◌, Bool, true, false, ◌||◌, cond, ltb, List, [], ◌∷◌, Some, map, inl, inr, decimal, unwrap_or, refl, sym, ap, subst, ◌∙◌, arith}
+use Rattle.std.specs.List.{list_any, flat_map}
+use Rattle.std.proofs.lemmas.Bool.{lt-ltb, ltb-false, ltb-true, eq-eqb, false≢true, or_cases, or_left, or_right}
 use Rattle.std.proofs.lemmas.List.Folds.{list_any-append}
 use Rattle.std.proofs.lemmas.Nat.{mod_below, div-add-mod'}
 use Rattle.std.proofs.Math.Bool.{or-true}
 use Rattle.std.proofs.Math.Nat.{div-lt_iff_lt-mul}
 use Rattle.rand_core.specs.Stream.{Stream}
-use Rattle.pool_base.specs.Numeral.{number_up_to}
-use Rattle.road_network.specs.Roads.{greatest_name}
-use Rattle.road_network.specs.Reading.{with_node, with_row, name_in, nodes_of}
-use Rattle.fleet_state.specs.Vehicle.{has_node}
+use Rattle.pool_base.specs.Numeral.{number_up_to, number_at}
+use Rattle.road_network.specs.Roads.{greatest_name, has_node}
+use Rattle.road_network.specs.Reading.{names_in, nodes_of}
+use Rattle.pool_base.proofs.lemmas.DistinctLemmas.{any-distinct}
 use Rattle.rider_limits.specs.declared.load_shape.LoadShape.{LoadShape}
 use Rattle.load_maker.specs.declared.row.Field.{Field}
 use Rattle.load_maker.specs.declared.row.Field.TheVariants as field
@@ -21,7 +21,7 @@ use Rattle.made_inputs.proofs.NetworkLemmas.{network_rows, node_small}
 
 -- whether a row's arc starts at a node
 abbrev pub starts_at : ℕ → List Field → Bool
-starts_at n row = name_in (fields_of row) 0 == n
+starts_at n row = number_at (fields_of row) 0 == n
 
 -- a part that names a node, whatever the draws
 abbrev pub Naming : ℕ → Part → Type 0
@@ -112,54 +112,19 @@ Naming-number shape m two small inside =
     let whole : m / side * side + m % side ≡ m = div-add-mod' m side in
     subst (λ n. Naming n (network_part shape)) (omega (arith, whole)) (Naming-network shape (m / side) (m % side) two small row column)
 
--- a node that was there is there
-kept_by : (nodes : List ℕ) (name n : ℕ) (c : Bool) → has_node nodes n ≡ true → has_node (cond c nodes (nodes ++ name ∷ [])) n ≡ true
-kept_by nodes name n true there = there
-kept_by nodes name n false there =
-    list_any-append (λ x. x == n) nodes (name ∷ []) ∙ ap (λ b. b || list_any (λ x. x == n) (name ∷ [])) there
-
-kept : (nodes : List ℕ) (name n : ℕ) → has_node nodes n ≡ true → has_node (with_node nodes name) n ≡ true
-kept nodes name n there = kept_by nodes name n (list_any (λ node. name == node) nodes) there
-
-kept_fold : (nodes : List ℕ) (rows : List (List (List ℕ))) (n : ℕ) → has_node nodes n ≡ true → has_node (fold with_row nodes rows) n ≡ true
-kept_fold nodes [] n there = there
-kept_fold nodes (fields ∷ rows) n there =
-    kept_fold (with_row nodes fields) rows n (kept (with_node nodes (name_in fields 0)) (name_in fields 1) n (kept nodes (name_in fields 0) n there))
-
--- the two ways to ask for a node
-other_way_by : (node : ℕ) (nodes : List ℕ) (n : ℕ) (c : Bool) → (n == node) ≡ c → (list_any (λ x. n == x) nodes ≡ true → has_node nodes n ≡ true) → (c || list_any (λ x. n == x) nodes) ≡ true → has_node (node ∷ nodes) n ≡ true
-other_way_by node nodes n true e rest is = ap (λ b. b || has_node nodes n) (eq-eqb node n (sym (eqb-true n node e)))
-other_way_by node nodes n false e rest is = ap (λ b. (node == n) || b) (rest is) ∙ or-true (node == n)
-
-other_way : (nodes : List ℕ) (n : ℕ) → list_any (λ node. n == node) nodes ≡ true → has_node nodes n ≡ true
-other_way [] n is = absurd (false≢true is)
-other_way (node ∷ nodes) n is = other_way_by node nodes n (n == node) refl (other_way nodes n) is
-
-added_by : (nodes : List ℕ) (n : ℕ) (c : Bool) → list_any (λ node. n == node) nodes ≡ c → has_node (cond c nodes (nodes ++ n ∷ [])) n ≡ true
-added_by nodes n true e = other_way nodes n e
-added_by nodes n false e =
-    list_any-append (λ x. x == n) nodes (n ∷ [])
-    ∙ ap (λ b. list_any (λ x. x == n) nodes || (b || false)) (eq-eqb n n refl)
-    ∙ or-true (list_any (λ x. x == n) nodes)
-
-added : (nodes : List ℕ) (n : ℕ) → has_node (with_node nodes n) n ≡ true
-added nodes n = added_by nodes n (list_any (λ node. n == node) nodes) refl
-
-row_named : (nodes : List ℕ) (fields : List (List ℕ)) (n : ℕ) → name_in fields 0 ≡ n → has_node (with_row nodes fields) n ≡ true
-row_named nodes fields n is =
-    kept (with_node nodes (name_in fields 0)) (name_in fields 1) n
-    (subst (λ name. has_node (with_node nodes name) n ≡ true) (sym is) (added nodes n))
-
--- a node that a row names is among the nodes
-named_by : (nodes : List ℕ) (row : List Field) (rows : List (List Field)) (n : ℕ) (c : Bool) → starts_at n row ≡ c → (list_any (starts_at n) rows ≡ true → has_node (fold with_row (with_row nodes (fields_of row)) (map fields_of rows)) n ≡ true) → (c || list_any (starts_at n) rows) ≡ true → has_node (fold with_row nodes (map fields_of (row ∷ rows))) n ≡ true
-named_by nodes row rows n true e rest is =
-    kept_fold (with_row nodes (fields_of row)) (map fields_of rows) n (row_named nodes (fields_of row) n (eqb-true (name_in (fields_of row) 0) n e))
-named_by nodes row rows n false e rest is = rest is
-
-named : (nodes : List ℕ) (rows : List (List Field)) (n : ℕ) → list_any (starts_at n) rows ≡ true → has_node (fold with_row nodes (map fields_of rows)) n ≡ true
-named nodes [] n is = absurd (false≢true is)
-named nodes (row ∷ rows) n is = named_by nodes row rows n (starts_at n row) refl (named (with_row nodes (fields_of row)) rows n) is
+-- a node at which a row's arc starts is named
+named : (rows : List (List Field)) (n : ℕ) → list_any (starts_at n) rows ≡ true → list_any (λ node. node == n) (flat_map names_in (map fields_of rows)) ≡ true
+named [] n is = absurd (false≢true is)
+named (row ∷ rows) n is =
+    elim (or_cases (starts_at n row) (list_any (starts_at n) rows) is) [
+      | inl here ↦ or_left (starts_at n row) (list_any (λ node. node == n) (number_at (fields_of row) 1 ∷ flat_map names_in (map fields_of rows))) here
+      | inr later ↦
+          or_right (starts_at n row) (list_any (λ node. node == n) (number_at (fields_of row) 1 ∷ flat_map names_in (map fields_of rows)))
+          (or_right (number_at (fields_of row) 1 == n) (list_any (λ node. node == n) (flat_map names_in (map fields_of rows))) (named rows n later))
+    ]
 
 -- each number of the square is a node of the network
 pub node_known : (shape : LoadShape) (m : ℕ) → 2 ≤ shape.side → shape.side ≤ 100 → m < shape.side * shape.side → has_node (nodes_of (map fields_of (network_rows shape))) (1 + m) ≡ true
-node_known shape m two small inside = named [] (network_rows shape) (1 + m) (Naming-number shape m two small inside (draws_of shape.seed))
+node_known shape m two small inside =
+    any-distinct (λ node. node == 1 + m) (flat_map names_in (map fields_of (network_rows shape)))
+    ∙ named (network_rows shape) (1 + m) (Naming-number shape m two small inside (draws_of shape.seed))

@@ -2,8 +2,10 @@ use Rattle.std.proofs.Common.{◌≡◌, ℕ, List, Result, Ok, Err, sym, ap, su
 use Rattle.pool_io.specs.Table.{Table, table_of}
 use Rattle.road_network.specs.Roads.{Roads}
 use Rattle.road_network.specs.Reading.{network_of}
-use Rattle.load_maker.specs.Texts.{Texts, network_header}
-use Rattle.made_inputs.specs.Accepted.{IsNetworkText, IsFleetText, IsScriptText, AreAccepted, IsSomeNetwork, IsSomeFleet, AreSomeRounds}
+use Rattle.load_maker.specs.Texts.{Texts}
+use Rattle.pool_base.specs.Header.{network_header}
+use Rattle.made_inputs.specs.Accepted.{IsNetworkText, IsFleetText, IsScriptText, AreReadable}
+use Rattle.made_inputs.specs.work.Some.{AreSomeRounds, IsSomeFleet, IsSomeNetwork}
 
 value_or : {A E : Type 0} → A → Result A E → A
 value_or d (Ok x) = x
@@ -20,13 +22,13 @@ same_network text one other here there =
     same_value (network_of here.table.records) one other here.is (ap (λ (t : Table). network_of t.records) table ∙ there.is)
 
 -- a text that is the network's, the fleet's and the script's
-pub some_network : (texts : Texts) (text : List ℕ) → AreAccepted texts → text ≡ texts.network → IsSomeNetwork text
+pub some_network : (texts : Texts) (text : List ℕ) → AreReadable texts → text ≡ texts.network → IsSomeNetwork text
 some_network texts text all is = (all.roads, subst (λ t. IsNetworkText t all.roads) (sym is) all.read.network)
 
-pub some_fleet : (texts : Texts) (text network : List ℕ) (roads : Roads) → AreAccepted texts → text ≡ texts.fleet → network ≡ texts.network → IsNetworkText network roads → IsSomeFleet roads.nodes text
+pub some_fleet : (texts : Texts) (text network : List ℕ) (roads : Roads) → AreReadable texts → text ≡ texts.fleet → network ≡ texts.network → IsNetworkText network roads → IsSomeFleet roads.nodes text
 some_fleet texts text network roads all is from read =
     let same : all.roads ≡ roads = same_network texts.network all.roads roads all.read.network (subst (λ t. IsNetworkText t roads) from read) in
     (all.vehicles, subst (λ r. IsFleetText r.nodes text all.vehicles) same (subst (λ t. IsFleetText all.roads.nodes t all.vehicles) (sym is) all.read.fleet))
 
-pub some_rounds : (texts : Texts) (text : List ℕ) → AreAccepted texts → text ≡ texts.script → AreSomeRounds text
+pub some_rounds : (texts : Texts) (text : List ℕ) → AreReadable texts → text ≡ texts.script → AreSomeRounds text
 some_rounds texts text all is = (all.rounds, subst (λ t. IsScriptText t all.rounds) (sym is) all.read.script)

@@ -1,20 +1,20 @@
-use Rattle.std.proofs.Common.{◌≡◌, ℕ, zero, suc, ◌+◌, ◌-◌, ◌*◌, ◌%◌, ◌<◌, ◌≤◌, Bool, true, false, cond, ltb, List, [], ◌∷◌, ◌++◌, Some, Result, Ok, Err, map, length, decimal, refl, ap, ◌∙◌, arith}
-use Rattle.std.specs.Result.{is_ok}
-use Rattle.std.proofs.lemmas.Bool.{le-ltb, false≢true}
+use Rattle.std.proofs.Common.{◌≡◌, ℕ, zero, suc, ◌+◌, ◌-◌, ◌*◌, ◌%◌, ◌<◌, ◌≤◌, Bool, true, false, cond, ltb, List, [], ◌∷◌, ◌++◌, Some, Ok, Err, map, length, get_or, unwrap_or, decimal, refl, sym, ap, ◌∙◌, arith}
+use Rattle.std.proofs.lemmas.Bool.{le-ltb}
 use Rattle.std.proofs.lemmas.List.{length-append, length-map}
 use Rattle.std.proofs.lemmas.Nat.{mod_below}
 use Rattle.std.proofs.Math.Nat.{mul-le-mul, suc-mul}
 use Rattle.rand_core.specs.Stream.{Stream, next_u64}
-use Rattle.pool_base.specs.Numeral.{number_up_to}
+use Rattle.pool_base.specs.InOrder.{◌>>=◌}
+use Rattle.pool_base.specs.Numeral.{number_up_to, number_at}
+use Rattle.pool_base.proofs.lemmas.InOrderLemmas.{all_or_first-all}
 use Rattle.request_book.specs.declared.command.Command.{Command}
 use Rattle.request_book.specs.declared.command.Command.TheVariants as command
-use Rattle.script_rows.specs.declared.fault.ScriptFault.{ScriptFault}
 use Rattle.script_rows.specs.declared.fault.ScriptFault.TheVariants.{TooManyRows}
 use Rattle.script_rows.specs.declared.version.ScriptVersion.TheVariants.{One}
 use Rattle.script_rows.specs.Word.{word_of}
-use Rattle.script_rows.specs.Line.{◌>>=◌, number_in, party_in, submit_in, report_in, command_in, leaves_empty, line_in}
+use Rattle.script_rows.specs.Line.{party_in, submit_in, report_in, command_in, leaves_empty, line_in}
 use Rattle.script_rows.specs.Round.{NumberedLanes}
-use Rattle.script_rows.specs.Script.{lines_in, rounds_of, script_of}
+use Rattle.script_rows.specs.Script.{round_before, line_at, lines_of, rounds_of, script_of}
 use Rattle.rider_limits.specs.declared.load_shape.LoadShape.{LoadShape}
 use Rattle.load_maker.specs.declared.row.Field.{Field}
 use Rattle.load_maker.specs.declared.row.Field.TheVariants as field
@@ -30,6 +30,7 @@ pub record IsLine (round : ℕ) (row : List Field) : Type 0 where
   pub fits : AllFit row
   pub lane : ℕ
   pub command : Command
+  pub named : number_at (fields_of row) 0 ≡ round
   pub given : (number last : ℕ) → last ≤ round → line_in One number last (fields_of row) ≡ Ok (record { round = round; lane = lane; command = command })
 
 -- rows of commands whose rounds never fall, from one round on and up to another
@@ -85,11 +86,15 @@ IsLines-cond low high most false one other one_is other_is = other_is
 one_line : (low round high : ℕ) (row : List Field) → low ≤ round → round ≤ high → IsLine round row → AreLines low high (row ∷ [])
 one_line low round high row below above line = (round, below, line, above)
 
+-- the number in a row's first column
+named_first : (n : ℕ) (fields : List Field) → n ≤ 1000000000 → number_at (fields_of (field.Number n ∷ fields)) 0 ≡ n
+named_first n fields small = ap (λ o. unwrap_or o 0) (number_up_to-decimal 1000000000 n small (omega arith))
+
 -- a vehicle's report is accepted
 report_given : (round vehicle node time number last : ℕ) → round ≤ 1000000000 → vehicle ≤ 1000000000 → node ≤ 1000000000 → time ≤ 1000000000 → last ≤ round
     → line_in One number last (fields_of (field.Number round ∷ field.Number 0 ∷ field.Report ∷ field.Number vehicle ∷ field.Number node ∷ field.Number time ∷ field.Empty ∷ []))
     ≡ Ok (record { round = round; lane = 0; command = command.Report vehicle node time })
-unfolding line_in number_in command_in report_in leaves_empty word_of
+unfolding line_in command_in report_in leaves_empty word_of
 report_given round vehicle node time number last round_small vehicle_small node_small time_small behind =
     let one : number_up_to 1000000000 (decimal round) ≡ Some round = number_up_to-decimal 1000000000 round round_small (omega arith) in
     let two : number_up_to 1000000000 (decimal 0) ≡ Some 0 = number_up_to-decimal 1000000000 0 (omega arith) (omega arith) in
@@ -102,7 +107,7 @@ report_given round vehicle node time number last round_small vehicle_small node_
 submit_given : (round lane rider origin destination time number last : ℕ) → round ≤ 1000000000 → lane ≤ 15 → rider ≤ 1000000000 → origin ≤ 1000000000 → destination ≤ 1000000000 → time ≤ 1000000000 → last ≤ round
     → line_in One number last (fields_of (field.Number round ∷ field.Number lane ∷ field.Submit ∷ field.Number rider ∷ field.Number origin ∷ field.Number destination ∷ field.Number time ∷ []))
     ≡ Ok (record { round = round; lane = lane; command = command.Submit rider origin destination time 1 })
-unfolding line_in number_in command_in submit_in party_in leaves_empty word_of
+unfolding line_in command_in submit_in party_in leaves_empty word_of
 submit_given round lane rider origin destination time number last round_small lane_small rider_small origin_small destination_small time_small behind =
     let one : number_up_to 1000000000 (decimal round) ≡ Some round = number_up_to-decimal 1000000000 round round_small (omega arith) in
     let two : number_up_to 1000000000 (decimal lane) ≡ Some lane = number_up_to-decimal 1000000000 lane (omega arith) (omega arith) in
@@ -116,7 +121,7 @@ submit_given round lane rider origin destination time number last round_small la
 seal_given : (round now number last : ℕ) → round ≤ 1000000000 → now ≤ 1000000000 → last ≤ round
     → line_in One number last (fields_of (field.Number round ∷ field.Number 0 ∷ field.Seal ∷ field.Number now ∷ field.Empty ∷ field.Empty ∷ field.Empty ∷ []))
     ≡ Ok (record { round = round; lane = 0; command = command.Seal now })
-unfolding line_in number_in command_in leaves_empty word_of
+unfolding line_in command_in leaves_empty word_of
 seal_given round now number last round_small now_small behind =
     let one : number_up_to 1000000000 (decimal round) ≡ Some round = number_up_to-decimal 1000000000 round round_small (omega arith) in
     let two : number_up_to 1000000000 (decimal 0) ≡ Some 0 = number_up_to-decimal 1000000000 0 (omega arith) (omega arith) in
@@ -133,6 +138,7 @@ IsLines-report shape k v two small early few = record {
       one_line (2 * k) (2 * k) (2 * k) (field.Number (2 * k) ∷ field.Number 0 ∷ field.Report ∷ field.Number v ∷ field.Number node ∷ field.Number (60 * k) ∷ field.Empty ∷ []) (omega arith) (omega arith)
       (record {
         long = refl;
+        named = named_first (2 * k) [] (omega arith);
         fits = (omega arith, (omega arith, (tt, (omega arith, (node_small, (omega arith, (tt, tt)))))));
         lane = 0;
         command = command.Report v node (60 * k);
@@ -176,6 +182,7 @@ IsLines-submit shape k m two small few early within = record {
       (field.Number (2 * k) ∷ field.Number (1 + m % 3) ∷ field.Submit ∷ field.Number (k * shape.riders + m) ∷ field.Number origin ∷ field.Number destination ∷ field.Number (60 * k + second) ∷ []) (omega arith) (omega arith)
       (record {
         long = refl;
+        named = named_first (2 * k) [] (omega arith);
         fits = (omega arith, (omega (arith, third), (tt, (omega (arith, ids), (origin_small, (destination_small, (omega (arith, second_below), tt)))))));
         lane = 1 + m % 3;
         command = command.Submit (k * shape.riders + m) origin destination (60 * k + second) 1;
@@ -198,6 +205,7 @@ IsLines-seal k early = record {
       one_line (2 * k) (2 * k + 1) (2 * suc k) (seal_row k) (omega arith) (omega arith)
       (record {
         long = refl;
+        named = named_first (2 * k + 1) [] (omega arith);
         fits = (omega arith, (omega arith, (tt, (omega arith, (tt, (tt, (tt, tt)))))));
         lane = 0;
         command = command.Seal (60 * (k + 1));
@@ -224,27 +232,30 @@ rows_fit low high (row ∷ rows) lines =
     let line : IsLine lines.0 row = lines.2 in
     (line.long, line.fits, rows_fit lines.0 high rows lines.3)
 
--- what is accepted stays so where it is only changed
-then_ok : {A B : Type 0} (r : Result A ScriptFault) (f : A → B) → is_ok (r >>= λ x. Ok (f x)) ≡ is_ok r
-then_ok (Ok x) f = refl
-then_ok (Err fault) f = refl
+-- the round before a row, where the rows stand behind a row of this round
+abbrev round_behind : ℕ → List (List (List ℕ)) → ℕ → ℕ
+round_behind low records zero = low
+round_behind low records (suc k) = number_at (get_or records k []) 0
 
--- a first that is accepted, and then the rest
-first_ok : {A B C : Type 0} (r : Result A ScriptFault) (x : A) (next : A → Result B ScriptFault) (f : A → B → C) → r ≡ Ok x → is_ok (next x) ≡ true → is_ok (r >>= λ y. (next y >>= λ z. Ok (f y z))) ≡ true
-first_ok r x next f is rest = ap (λ q. is_ok (q >>= λ y. (next y >>= λ z. Ok (f y z)))) is ∙ then_ok (next x) (f x) ∙ rest
+same_before : (records : List (List (List ℕ))) (k : ℕ) → round_before records k ≡ round_behind 0 records k
+same_before records zero = refl
+same_before records (suc k) = refl
 
-the_ok : {A : Type 0} (r : Result A ScriptFault) → is_ok r ≡ true → (x : A) × (r ≡ Ok x)
-the_ok (Ok x) is = (x, refl)
-the_ok (Err fault) is = absurd (false≢true is)
+-- the row before a row of the rest
+behind_first : (low round : ℕ) (row : List Field) (rows : List (List Field)) (k : ℕ) → number_at (fields_of row) 0 ≡ round → round_behind round (map fields_of rows) k ≡ round_behind low (map fields_of (row ∷ rows)) (suc k)
+behind_first low round row rows zero named = sym named
+behind_first low round row rows (suc k) named = refl
 
--- rows of commands whose rounds never fall are accepted
-lines_given : (number low high : ℕ) (rows : List (List Field)) → AreLines low high rows → is_ok (lines_in One number low (map fields_of rows)) ≡ true
-lines_given number low high [] lines = refl
-lines_given number low high (row ∷ rows) lines =
+-- rows of commands whose rounds never fall are accepted, each behind the one before
+lines_given : (low high : ℕ) (rows : List (List Field)) (number k : ℕ) → AreLines low high rows → k < length rows → (line : _) × (line_in One number (round_behind low (map fields_of rows) k) (get_or (map fields_of rows) k []) ≡ Ok line)
+lines_given low high [] number k lines below = absurd (omega (arith, below))
+lines_given low high (row ∷ rows) number zero lines below =
     let line : IsLine lines.0 row = lines.2 in
-    first_ok (line_in One number low (fields_of row)) (record { round = lines.0; lane = line.lane; command = line.command })
-    (λ l. lines_in One (number + 1) l.round (map fields_of rows)) (λ l ls. l ∷ ls) (line.given number low lines.1)
-    (lines_given (number + 1) lines.0 high rows lines.3)
+    (record { round = lines.0; lane = line.lane; command = line.command }, line.given number low lines.1)
+lines_given low high (row ∷ rows) number (suc k) lines below =
+    let line : IsLine lines.0 row = lines.2 in
+    let rest = lines_given lines.0 high rows number k lines.3 (omega (arith, below)) in
+    (rest.0, ap (λ last. line_in One number last (get_or (map fields_of rows) k [])) (sym (behind_first low lines.0 row rows k line.named)) ∙ rest.1)
 
 -- the rounds that rows give
 pub record GiveScript (records : List (List (List ℕ))) : Type 0 where
@@ -255,12 +266,16 @@ script_given : (high : ℕ) (rows : List (List Field)) → AreLines 0 high rows 
 script_given high rows lines few =
     let records : List (List (List ℕ)) = map fields_of rows in
     let size : length records ≡ length rows = length-map rows fields_of in
-    let accepted : is_ok (script_of One records) ≡ true =
-    ap (λ b. is_ok (cond b (Err TooManyRows) (lines_in One 1 0 records >>= λ ls. Ok (rounds_of ls)))) (le-ltb 200000 (length records) (omega (arith, size, few)))
-    ∙ then_ok (lines_in One 1 0 records) (λ ls. rounds_of ls)
-    ∙ lines_given 1 0 high rows lines in
-    let given = the_ok (script_of One records) accepted in
-    record { rounds = given.0; is = given.1 }
+    let given = all_or_first-all (line_at One records) (length records)
+    (λ k below.
+    let line = lines_given 0 high rows (k + 1) k lines (omega (arith, below, size)) in
+    (line.0, ap (λ last. line_in One (k + 1) last (get_or records k [])) (same_before records k) ∙ line.1)) in
+    record {
+      rounds = rounds_of given.0;
+      is =
+          ap (λ b. cond b (Err TooManyRows) (lines_of One records >>= λ ls. Ok (rounds_of ls))) (le-ltb 200000 (length records) (omega (arith, size, few)))
+          ∙ ap (λ r. r >>= λ ls. Ok (rounds_of ls)) given.1;
+    }
 
 -- the rows of the script of a shape
 abbrev pub script_rows : LoadShape → List (List Field)

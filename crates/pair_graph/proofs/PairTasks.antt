@@ -14,7 +14,8 @@ use Rattle.stop_orders.specs.declared.task.Task.{Task}
 use Rattle.stop_orders.specs.declared.route.Route.{Route}
 use Rattle.stop_orders.specs.Order.{IsOrder, is_of_rider}
 use Rattle.stop_orders.specs.Task.{IsTask, IsLeg, IsServable, Serves, no_leg}
-use Rattle.stop_orders.specs.Settled.{IsTrip, IsSound, IsRrEdge, pair_task, trip_task, IsRvEdge, rider_at, no_rider, no_vehicle, greatest}
+use Rattle.stop_orders.specs.Settled.{IsTrip, IsRrEdge, pair_task, trip_task, IsRvEdge, rider_at, no_rider, no_vehicle, greatest}
+use Rattle.stop_orders.specs.Sound.{IsSound}
 
 -- what is read of a rider is what stands at its number
 pub rider_read : (settled : Settled) (riders : List SettledRider) (r : ℕ) (x : SettledRider) → riders ≡ settled.riders → r < length settled.riders → get_or riders r x ≡ rider_at settled r
@@ -129,7 +130,7 @@ found_serves tau task other (Some route) answer same is serves none =
 pub rv_answer : (tau : ℕ → ℕ → ℕ) (settled : Settled) (v r : ℕ) (answer : Bool) → v < length settled.vehicles → r < length settled.riders
     → MatchBool answer (IsServable tau (trip_task settled v (r ∷ []))) (IsServable tau (trip_task settled v (r ∷ [])) → ⊥)
     → MatchBool answer (IsRvEdge tau settled v r) (IsRvEdge tau settled v r → ⊥)
-rv_answer tau settled v r true h k s = record { vehicle = h; rider = k; servable = s }
+rv_answer tau settled v r true h k s = record { vehicle = h; riders = one_trip (length settled.riders) r k; size = omega arith; servable = s }
 rv_answer tau settled v r false h k never = λ e. never e.servable
 
 -- the same of the second start, where the first serves no order

@@ -1,2 +1,3 @@
 pub mod RvGraph
 pub mod RrGraph
+pub mod work

@@ -1,6 +1,6 @@
-use Rattle.std.specs.Prelude.{ℕ, ◌+◌, ◌<◌, List, All, Contains, length, slice_index_or}
+use Rattle.std.specs.Prelude.{ℕ, ◌+◌, ◌<◌, List, All, Contains}
 use Rattle.stop_orders.specs.declared.settled.Settled.{Settled}
-use Rattle.stop_orders.specs.PairList.{IsBefore, ArePairs}
+use Rattle.stop_orders.specs.PairList.{ArePairs}
 use Rattle.stop_orders.specs.Settled.{IsRrEdge}
 
 -- the pairs are the edges between riders, in order, each once
@@ -8,10 +8,3 @@ pub record IsRrGraph (tau : ℕ → ℕ → ℕ) (settled : Settled) (pairs : Li
   pub right : All (λ p. IsRrEdge tau settled p.0 p.1) pairs
   pub order : ArePairs pairs
   pub whole : (a b : ℕ) → IsRrEdge tau settled a b → Contains pairs (a, b)
-
--- the same of the edges that stand before a pair
-pub record IsRrGraphUpTo (tau : ℕ → ℕ → ℕ) (settled : Settled) (first second : ℕ) (pairs : List (ℕ × ℕ)) : Type 0 where
-  pub right : All (λ p. IsRrEdge tau settled p.0 p.1) pairs
-  pub rising : (k : ℕ) → k + 1 < length pairs → IsBefore (slice_index_or pairs k (0, 0)) (slice_index_or pairs (k + 1) (0, 0))
-  pub before : All (λ p. IsBefore p (first, second)) pairs
-  pub whole : (a b : ℕ) → IsRrEdge tau settled a b → IsBefore (a, b) (first, second) → Contains pairs (a, b)

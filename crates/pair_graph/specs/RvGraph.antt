@@ -8,6 +8,7 @@ use Rattle.pair_graph.specs.declared.rv_edge.RvEdge.{RvEdge}
 abbrev pub no_edge : RvEdge
 no_edge = record { vehicle = 0; rider = 0 }
 
+-- the two numbers of an edge
 abbrev pub pair_of : RvEdge → ℕ × ℕ
 pair_of edge = (edge.vehicle, edge.rider)
 
@@ -16,10 +17,3 @@ pub record IsRvGraph (tau : ℕ → ℕ → ℕ) (settled : Settled) (edges : Li
   pub right : All (λ e. IsRvEdge tau settled e.vehicle e.rider) edges
   pub rising : (k : ℕ) → k + 1 < length edges → IsBefore (pair_of (slice_index_or edges k no_edge)) (pair_of (slice_index_or edges (k + 1) no_edge))
   pub whole : (v r : ℕ) → IsRvEdge tau settled v r → Contains edges (record { vehicle = v; rider = r })
-
--- the same of the edges that stand before a vehicle and a rider
-pub record IsRvGraphUpTo (tau : ℕ → ℕ → ℕ) (settled : Settled) (vehicle rider : ℕ) (edges : List RvEdge) : Type 0 where
-  pub right : All (λ e. IsRvEdge tau settled e.vehicle e.rider) edges
-  pub rising : (k : ℕ) → k + 1 < length edges → IsBefore (pair_of (slice_index_or edges k no_edge)) (pair_of (slice_index_or edges (k + 1) no_edge))
-  pub before : All (λ e. IsBefore (pair_of e) (vehicle, rider)) edges
-  pub whole : (v r : ℕ) → IsRvEdge tau settled v r → IsBefore (v, r) (vehicle, rider) → Contains edges (record { vehicle = v; rider = r })

@@ -1,12 +1,14 @@
 ghost use Rattle.std.specs.Prelude.{◌≡◌, ◌+◌, ◌<◌, ◌≤◌, min, ◌⊎◌, IfOk, OnOk, MatchBool, length};
 ghost use Rattle.pool_base.specs.Times.{point_count, travel_time};
 ghost use Rattle.stop_orders.specs.Task.{IsTask, IsServable};
-ghost use Rattle.stop_orders.specs.Settled.{IsSound, IsRrEdge, rider_at, pair_task};
-ghost use Rattle.pair_graph.specs.RrGraph.{IsRrGraph, IsRrGraphUpTo};
+ghost use Rattle.stop_orders.specs.Settled.{IsRrEdge, rider_at, pair_task};
+ghost use Rattle.stop_orders.specs.Sound.{IsSound};
+ghost use Rattle.pair_graph.specs.RrGraph.{IsRrGraph};
+ghost use Rattle.pair_graph.specs.work.RrGraph.{IsRrGraphUpTo};
 
 use arrayvec::ArrayVec;
 use pool_base::{OutOfMemory, Steps, Times};
-use small_routing::least_delay;
+use small_routing::{Workspace, least_delay_with};
 use std::alloc::Global;
 use std::marker::Brand;
 use std::sync::ledger::{Blank, Ledger};
@@ -36,16 +38,24 @@ fn all_pairs<L: Ledger>(
     ensures { IfOk result (λ pairs. IsRrGraph (travel_time times.entry.now) settled.entry.now pairs.items) }
 {
     let mut steps = Steps::<L>::new(blank);
+    let mut workspace = Workspace::new(alloc);
     let mut pairs = Vec::new(alloc);
     for first in 0..settled.riders.as_slice().len() {
-        add_first(alloc, settled, times, first, &mut pairs, &mut steps)?;
+        add_first(
+            &mut workspace,
+            settled,
+            times,
+            first,
+            &mut pairs,
+            &mut steps,
+        )?;
     }
     Ok(pairs)
 }
 
 /// Puts the pairs of one rider and a later one behind those found before.
 fn add_first<L: Ledger>(
-    alloc: Global,
+    workspace: &mut Workspace,
     settled: &Settled,
     times: &Times,
     first: usize,
@@ -58,14 +68,14 @@ fn add_first<L: Ledger>(
     ensures { OnOk result (IsRrGraphUpTo (travel_time times.entry.now) settled.entry.now (first + 1) 0 pairs.new.items) }
 {
     for second in first + 1..settled.riders.as_slice().len() {
-        add_pair(alloc, settled, times, first, second, pairs, steps)?;
+        add_pair(workspace, settled, times, first, second, pairs, steps)?;
     }
     Ok(())
 }
 
 /// Puts the pair, if it is an edge, behind those before it.
 fn add_pair<L: Ledger>(
-    alloc: Global,
+    workspace: &mut Workspace,
     settled: &Settled,
     times: &Times,
     first: usize,
@@ -79,7 +89,7 @@ fn add_pair<L: Ledger>(
     requires upto { IsRrGraphUpTo (travel_time times.now) settled.now first second pairs.old.items }
     ensures { OnOk result (IsRrGraphUpTo (travel_time times.entry.now) settled.entry.now first (second + 1) pairs.new.items) }
 {
-    if !is_edge(alloc, settled, times, first, second, steps)? {
+    if !is_edge(workspace, settled, times, first, second, steps)? {
         return Ok(());
     }
     pairs.push((first, second))?;
@@ -88,7 +98,7 @@ fn add_pair<L: Ledger>(
 
 /// Whether the two riders are an edge.
 fn is_edge<L: Ledger>(
-    alloc: Global,
+    workspace: &mut Workspace,
     settled: &Settled,
     times: &Times,
     first: usize,
@@ -106,11 +116,11 @@ fn is_edge<L: Ledger>(
         return Ok(false);
     }
     let one = settled.riders.as_slice()[first].leg.origin;
-    if starts_at(alloc, settled, times, one, first, second, steps)? {
+    if starts_at(workspace, settled, times, one, first, second, steps)? {
         return Ok(true);
     }
     let other = settled.riders.as_slice()[second].leg.origin;
-    starts_at(alloc, settled, times, other, first, second, steps)
+    starts_at(workspace, settled, times, other, first, second, steps)
 }
 
 /// How many persons the smaller party of two riders has.
@@ -127,7 +137,7 @@ fn smaller_party(settled: &Settled, first: usize, second: usize) -> u8
 
 /// Whether an empty vehicle that is ready now at this place serves both.
 fn starts_at<L: Ledger>(
-    alloc: Global,
+    workspace: &mut Workspace,
     settled: &Settled,
     times: &Times,
     place: usize,
@@ -142,7 +152,7 @@ fn starts_at<L: Ledger>(
         (IsServable (travel_time times.entry.now) (pair_task settled.entry.now place first second) → ⊥)) }
 {
     let task = task_of_pair(settled, place, first, second);
-    let route = least_delay(alloc, &task, times, steps)?;
+    let route = least_delay_with(workspace, &task, times, steps)?;
     Ok(route.is_some())
 }
 

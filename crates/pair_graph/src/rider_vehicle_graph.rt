@@ -1,11 +1,13 @@
 ghost use Rattle.std.specs.Prelude.{◌≡◌, ◌+◌, ◌<◌, ◌≤◌, IfOk, OnOk, MatchBool, length};
 ghost use Rattle.pool_base.specs.Times.{point_count, travel_time};
-ghost use Rattle.stop_orders.specs.Settled.{IsSound, IsRvEdge};
-ghost use Rattle.pair_graph.specs.RvGraph.{IsRvGraph, IsRvGraphUpTo};
+ghost use Rattle.stop_orders.specs.Settled.{IsRvEdge};
+ghost use Rattle.stop_orders.specs.Sound.{IsSound};
+ghost use Rattle.pair_graph.specs.RvGraph.{IsRvGraph};
+ghost use Rattle.pair_graph.specs.work.RvGraph.{IsRvGraphUpTo};
 
 use crate::rv_edge::RvEdge;
 use pool_base::{OutOfMemory, Steps, Times};
-use small_routing::least_delay;
+use small_routing::{Workspace, least_delay_with};
 use std::alloc::Global;
 use std::marker::Brand;
 use std::sync::ledger::{Blank, Ledger};
@@ -37,16 +39,24 @@ fn all_edges<L: Ledger>(
     ensures { IfOk result (λ edges. IsRvGraph (travel_time times.entry.now) settled.entry.now edges.items) }
 {
     let mut steps = Steps::<L>::new(blank);
+    let mut workspace = Workspace::new(alloc);
     let mut edges = Vec::new(alloc);
     for vehicle in 0..settled.vehicles.as_slice().len() {
-        add_vehicle(alloc, settled, times, vehicle, &mut edges, &mut steps)?;
+        add_vehicle(
+            &mut workspace,
+            settled,
+            times,
+            vehicle,
+            &mut edges,
+            &mut steps,
+        )?;
     }
     Ok(edges)
 }
 
 /// Puts the edges of one vehicle behind those of the vehicles before it.
 fn add_vehicle<L: Ledger>(
-    alloc: Global,
+    workspace: &mut Workspace,
     settled: &Settled,
     times: &Times,
     vehicle: usize,
@@ -59,14 +69,14 @@ fn add_vehicle<L: Ledger>(
     ensures { OnOk result (IsRvGraphUpTo (travel_time times.entry.now) settled.entry.now (vehicle + 1) 0 edges.new.items) }
 {
     for rider in 0..settled.riders.as_slice().len() {
-        add_edge(alloc, settled, times, vehicle, rider, edges, steps)?;
+        add_edge(workspace, settled, times, vehicle, rider, edges, steps)?;
     }
     Ok(())
 }
 
 /// Puts the edge of the vehicle and the rider, if it is one, behind those before it.
 fn add_edge<L: Ledger>(
-    alloc: Global,
+    workspace: &mut Workspace,
     settled: &Settled,
     times: &Times,
     vehicle: usize,
@@ -80,7 +90,7 @@ fn add_edge<L: Ledger>(
     requires upto { IsRvGraphUpTo (travel_time times.now) settled.now vehicle rider edges.old.items }
     ensures { OnOk result (IsRvGraphUpTo (travel_time times.entry.now) settled.entry.now vehicle (rider + 1) edges.new.items) }
 {
-    if !can_serve(alloc, settled, times, vehicle, rider, steps)? {
+    if !can_serve(workspace, settled, times, vehicle, rider, steps)? {
         return Ok(());
     }
     edges.push(RvEdge { vehicle, rider })?;
@@ -89,7 +99,7 @@ fn add_edge<L: Ledger>(
 
 /// Whether some order of the vehicle serves the rider alone.
 fn can_serve<L: Ledger>(
-    alloc: Global,
+    workspace: &mut Workspace,
     settled: &Settled,
     times: &Times,
     vehicle: usize,
@@ -104,6 +114,6 @@ fn can_serve<L: Ledger>(
 {
     let trip = [rider];
     let task = task_of(settled, vehicle, &trip);
-    let route = least_delay(alloc, &task, times, steps)?;
+    let route = least_delay_with(workspace, &task, times, steps)?;
     Ok(route.is_some())
 }

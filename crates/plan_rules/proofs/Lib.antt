@@ -1,12 +1,3 @@
-pub mod SumLemmas
-pub mod GraphLemmas
-pub mod MarkLemmas
+pub mod lemmas
 pub mod RowLemmas
-pub mod PlanLemmas
-pub mod GreedyLemmas
-pub mod DualityLemmas
-pub mod TreeLemmas
-pub mod PathLemmas
-pub mod HeldLemmas
-pub mod ReadLemmas
-pub mod UsableLemmas
+pub mod DeadEndLemmas

@@ -5,7 +5,7 @@ use Rattle.std.proofs.lemmas.List.{get_or_push, get_or_append_left}
 use Rattle.std.proofs.lemmas.Bool.{cases_eq, cases_lt, both_ways}
 use Rattle.std.proofs.lemmas.Bool.Decides.{nat_tests}
 use Rattle.std.specs.Cmp.Lexicographic.{slice_cmp}
-use Rattle.plan_rules.specs.Graph.{Graph, row_at, vehicle_at, IsInOrder, AreRisingBelow, IsStartOf, IsRow, row_cmp}
+use Rattle.plan_rules.specs.Graph.{Graph, row_at, row_vehicle, IsInOrder, AreRisingBelow, IsStartOf, IsGraphRow, row_cmp}
 use Rattle.plan_rules.specs.GraphFault.{HasRowsInOrder, IsFirstUnordered}
 
 -- the first i numbers rise and are below `riders`, and `least` is one above the last of them
@@ -65,38 +65,38 @@ not_rising riders least (suc k) xs h l (inl low) all =
 less_vehicle : (a b : ℕ) (o : Ordering) → ordering_then (nat_cmp a b) o ≡ Less → a ≤ b
 less_vehicle a b o e = grind (arith, nat_tests)
 
-pub vehicle_rises : (g : Graph) (k : ℕ) → IsInOrder g k → vehicle_at g k ≤ vehicle_at g (suc k)
-vehicle_rises g k e = less_vehicle (vehicle_at g k) (vehicle_at g (suc k)) _ e
+pub vehicle_rises : (g : Graph) (k : ℕ) → IsInOrder g k → row_vehicle g k ≤ row_vehicle g (suc k)
+vehicle_rises g k e = less_vehicle (row_vehicle g k) (row_vehicle g (suc k)) _ e
 
-pub vehicles_rise : (g : Graph) → HasRowsInOrder g → (j n : ℕ) → j + n < length g.rows → vehicle_at g j ≤ vehicle_at g (j + n)
+pub vehicles_rise : (g : Graph) → HasRowsInOrder g → (j n : ℕ) → j + n < length g.rows → row_vehicle g j ≤ row_vehicle g (j + n)
 vehicles_rise g order j zero l =
     let same : j + 0 ≡ j = omega arith in
-    let e : vehicle_at g (j + 0) ≡ vehicle_at g j = ap (vehicle_at g) same in
+    let e : row_vehicle g (j + 0) ≡ row_vehicle g j = ap (row_vehicle g) same in
     omega arith
 vehicles_rise g order j (suc n) l =
-    let before : vehicle_at g j ≤ vehicle_at g (j + n) = vehicles_rise g order j n (omega arith) in
-    let next : vehicle_at g (j + n) ≤ vehicle_at g (suc (j + n)) = vehicle_rises g (j + n) (order (j + n) (omega arith)) in
+    let before : row_vehicle g j ≤ row_vehicle g (j + n) = vehicles_rise g order j n (omega arith) in
+    let next : row_vehicle g (j + n) ≤ row_vehicle g (suc (j + n)) = vehicle_rises g (j + n) (order (j + n) (omega arith)) in
     let same : suc (j + n) ≡ j + suc n = omega arith in
-    let e : vehicle_at g (suc (j + n)) ≡ vehicle_at g (j + suc n) = ap (vehicle_at g) same in
+    let e : row_vehicle g (suc (j + n)) ≡ row_vehicle g (j + suc n) = ap (row_vehicle g) same in
     omega arith
 
 pub start_first : (g : Graph) → IsStartOf g 0 0
 start_first g = record { within = omega arith; below = λ k l. absurd (omega (arith, l)); above = λ k a b. omega arith }
 
 -- where the rows of vehicle v end, those of the next one start
-pub start_next : (g : Graph) (v row end : ℕ) → HasRowsInOrder g → IsStartOf g v row → row ≤ end → end ≤ length g.rows → ((k : ℕ) → row ≤ k → k < end → vehicle_at g k ≡ v) → (end < length g.rows → vehicle_at g end ≡ v → ⊥) → IsStartOf g (v + 1) end
+pub start_next : (g : Graph) (v row end : ℕ) → HasRowsInOrder g → IsStartOf g v row → row ≤ end → end ≤ length g.rows → ((k : ℕ) → row ≤ k → k < end → row_vehicle g k ≡ v) → (end < length g.rows → row_vehicle g end ≡ v → ⊥) → IsStartOf g (v + 1) end
 start_next g v row end order start up within own next = record {
   within = within;
   below = λ k l. ⊎_elim
-      (λ (before : k < row). let low : vehicle_at g k < v = start.below k before in omega arith)
-      (λ (inside : row ≤ k). let same : vehicle_at g k ≡ v = own k inside l in omega arith)
+      (λ (before : k < row). let low : row_vehicle g k < v = start.below k before in omega arith)
+      (λ (inside : row ≤ k). let same : row_vehicle g k ≡ v = own k inside l in omega arith)
       (cases_lt k row);
   above = λ k a b.
-      let first : v ≤ vehicle_at g end = start.above end up (omega (arith, a, b)) in
+      let first : v ≤ row_vehicle g end = start.above end up (omega (arith, a, b)) in
       let differs = next (omega (arith, a, b)) in
       let same : end + (k - end) ≡ k = omega (arith, a) in
-      let rise : vehicle_at g end ≤ vehicle_at g (end + (k - end)) = vehicles_rise g order end (k - end) (omega (arith, a, b)) in
-      let e : vehicle_at g (end + (k - end)) ≡ vehicle_at g k = ap (vehicle_at g) same in
+      let rise : row_vehicle g end ≤ row_vehicle g (end + (k - end)) = vehicles_rise g order end (k - end) (omega (arith, a, b)) in
+      let e : row_vehicle g (end + (k - end)) ≡ row_vehicle g k = ap (row_vehicle g) same in
       omega (arith, first, differs, rise, e);
 }
 

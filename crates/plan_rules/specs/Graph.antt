@@ -27,8 +27,8 @@ no_row = record { vehicle = 0; riders = record { items = [] }; cost = 0 }
 abbrev pub row_at : Graph → ℕ → TripRow
 row_at g k = slice_index_or g.rows k no_row
 
-abbrev pub vehicle_at : Graph → ℕ → ℕ
-vehicle_at g k = (row_at g k).vehicle
+abbrev pub row_vehicle : Graph → ℕ → ℕ
+row_vehicle g k = (row_at g k).vehicle
 
 abbrev pub riders_at : Graph → ℕ → List ℕ
 riders_at g k = (row_at g k).riders.items
@@ -43,7 +43,7 @@ has_rider g k r = list_any (λ x. x == r) (riders_at g k)
 -- the number is that of a row of this vehicle
 pub record IsRowOf (g : Graph) (v k : ℕ) : Type 0 where
   pub within : k < length g.rows
-  pub own : vehicle_at g k ≡ v
+  pub own : row_vehicle g k ≡ v
 
 -- the vehicle has no row
 abbrev pub HasNoRow : Graph → ℕ → Type 0
@@ -72,7 +72,7 @@ pub record AreRisingBelow (riders : ℕ) (members : List ℕ) : Type 0 where
   pub rising : IsStrictlyIncreasing members
 
 -- a row's vehicle and riders exist, its riders rise, they are at most six, and it costs at most 1,000,000,000
-pub record IsRow (vehicles riders : ℕ) (row : TripRow) : Type 0 where
+pub record IsGraphRow (vehicles riders : ℕ) (row : TripRow) : Type 0 where
   pub vehicle : row.vehicle < vehicles
   pub members : AreRisingBelow riders row.riders.items
   pub few : length row.riders.items ≤ 6
@@ -105,7 +105,7 @@ pub record IsWithinLimits (g : Graph) : Type 0 where
 -- a graph is good where its rows are, each is above the one before it, and each vehicle holds rightly
 pub record IsGoodGraph (g : Graph) : Type 0 where
   pub limits : IsWithinLimits g
-  pub rows : (k : ℕ) → k < length g.rows → IsRow g.vehicles g.riders (row_at g k)
+  pub rows : (k : ℕ) → k < length g.rows → IsGraphRow g.vehicles g.riders (row_at g k)
   pub order : (k : ℕ) → suc k < length g.rows → IsInOrder g k
   pub sized : length g.held ≡ g.vehicles
   pub holds : (v : ℕ) → v < g.vehicles → HoldsRightly g v
@@ -113,8 +113,8 @@ pub record IsGoodGraph (g : Graph) : Type 0 where
 -- the rows before this one are those of the vehicles before this one
 pub record IsStartOf (g : Graph) (v start : ℕ) : Type 0 where
   pub within : start ≤ length g.rows
-  pub below : (k : ℕ) → k < start → vehicle_at g k < v
-  pub above : (k : ℕ) → start ≤ k → k < length g.rows → v ≤ vehicle_at g k
+  pub below : (k : ℕ) → k < start → row_vehicle g k < v
+  pub above : (k : ℕ) → start ≤ k → k < length g.rows → v ≤ row_vehicle g k
 
 -- the rows of vehicle v begin at the v-th of these numbers and end before the next one
 pub record IsRowIndex (g : Graph) (index : List ℕ) : Type 0 where

@@ -1,11 +1,11 @@
 use Rattle.std.specs.Prelude.{◌≡◌, ◌≢◌, ◌⊎◌, ℕ, suc, ◌<◌, length, min}
-use Rattle.plan_rules.specs.Graph.{Graph, row_at, IsRow, IsInOrder, HoldsRightly}
+use Rattle.plan_rules.specs.Graph.{Graph, row_at, IsGraphRow, IsInOrder, HoldsRightly}
 use Rattle.plan_rules.specs.declared.fault.GraphFault.{GraphFault}
 use Rattle.plan_rules.specs.declared.fault.GraphFault.TheVariants.{Range, Order, Held, OutOfMemory}
 
 -- all rows' vehicles, riders and costs are in range
 abbrev pub HasGoodRows : Graph → Type 0
-HasGoodRows g = (k : ℕ) → k < length g.rows → IsRow g.vehicles g.riders (row_at g k)
+HasGoodRows g = (k : ℕ) → k < length g.rows → IsGraphRow g.vehicles g.riders (row_at g k)
 
 -- each row is above the one before it
 abbrev pub HasRowsInOrder : Graph → Type 0
@@ -14,8 +14,8 @@ HasRowsInOrder g = (k : ℕ) → suc k < length g.rows → IsInOrder g k
 -- the first row that is out of range
 pub record IsFirstOutOfRange (g : Graph) (row : ℕ) : Type 0 where
   pub within : row < length g.rows
-  pub wrong : IsRow g.vehicles g.riders (row_at g row) → ⊥
-  pub before : (k : ℕ) → k < row → IsRow g.vehicles g.riders (row_at g k)
+  pub wrong : IsGraphRow g.vehicles g.riders (row_at g row) → ⊥
+  pub before : (k : ℕ) → k < row → IsGraphRow g.vehicles g.riders (row_at g k)
 
 -- the first row that isn't above the one before it
 pub record IsFirstUnordered (g : Graph) (row : ℕ) : Type 0 where
@@ -51,8 +51,8 @@ pub record HasHeldOfOtherLength (g : Graph) (vehicle : ℕ) : Type 0 where
   pub before : (v : ℕ) → v < min g.vehicles (length g.held) → HoldsRightly g v
 
 -- why a graph is refused; want of memory has no cause in it
-abbrev pub IsFaultOf : Graph → GraphFault → Type 0
-IsFaultOf g (Range row) = IsFirstOutOfRange g row
-IsFaultOf g (Order row) = IsFirstOutOfOrder g row
-IsFaultOf g (Held vehicle) = IsFirstHeldWrongly g vehicle ⊎ HasHeldOfOtherLength g vehicle
-IsFaultOf g OutOfMemory = Unit {0}
+abbrev pub IsGraphFault : Graph → GraphFault → Type 0
+IsGraphFault g (Range row) = IsFirstOutOfRange g row
+IsGraphFault g (Order row) = IsFirstOutOfOrder g row
+IsGraphFault g (Held vehicle) = IsFirstHeldWrongly g vehicle ⊎ HasHeldOfOtherLength g vehicle
+IsGraphFault g OutOfMemory = Unit {0}

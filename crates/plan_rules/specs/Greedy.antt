@@ -1,5 +1,5 @@
 use Rattle.std.specs.Prelude.{◌≡◌, ℕ, ◌<◌, Bool, true, false, IsTrue, List, length, Option, Some, None, ◌==◌, ◌⊎◌, ◌↔◌}
-use Rattle.plan_rules.specs.Graph.{Graph, riders_at, cost_at, vehicle_at, has_rider, choice_at, IsRowOf}
+use Rattle.plan_rules.specs.Graph.{Graph, riders_at, cost_at, row_vehicle, has_rider, choice_at, IsRowOf}
 
 -- row j is tried before row k: it is larger, or as large and cheaper, or alike in both and of a lesser number
 abbrev pub IsTriedBefore : Graph → ℕ → ℕ → Type 0
@@ -10,12 +10,12 @@ IsTriedBefore g j k =
 
 -- the rows have neither a vehicle nor a rider in common
 pub record IsApart (g : Graph) (j k : ℕ) : Type 0 where
-  pub vehicles : vehicle_at g j ≡ vehicle_at g k → ⊥
+  pub vehicles : row_vehicle g j ≡ row_vehicle g k → ⊥
   pub riders : (r : ℕ) → IsTrue (has_rider g j r) → IsTrue (has_rider g k r) → ⊥
 
 -- the row is chosen
 abbrev pub IsTaken : Graph → List (Option ℕ) → ℕ → Type 0
-IsTaken g chosen k = choice_at chosen (vehicle_at g k) ≡ Some k
+IsTaken g chosen k = choice_at chosen (row_vehicle g k) ≡ Some k
 
 -- row after row, the larger, cheaper and lesser first, is taken where it is apart from those taken before it
 pub record IsGreedy (g : Graph) (chosen : List (Option ℕ)) : Type 0 where

@@ -6,5 +6,8 @@ pub mod Plan
 pub mod Greedy
 pub mod Multipliers
 pub mod Tree
+pub mod Reading
 pub mod Path
 pub mod Rank
+pub mod Size
+pub mod work

@@ -1,7 +1,7 @@
 use Rattle.std.specs.Prelude.{◌≡◌, ◌==◌, ◌&&◌, ℕ, zero, suc, ◌+◌, ◌*◌, Bool, false, List, [], ◌∷◌, ◌++◌, length, slice_index_or, Option, unwrap_or, if◌then◌else◌, ℤ, pos, ◌+ℤ◌, ◌-ℤ◌, ◌*ℤ◌}
 use Rattle.std.specs.Int.{int_min}
 use Rattle.plan_rules.specs.Sums.{int_sum_below, least_below, lesser}
-use Rattle.plan_rules.specs.Graph.{Graph, vehicle_at, riders_at, cost_at, has_rider, must_be_served}
+use Rattle.plan_rules.specs.Graph.{Graph, row_vehicle, riders_at, cost_at, has_rider, must_be_served}
 
 -- which rows may be chosen
 abbrev pub Usable : Type 0
@@ -26,7 +26,7 @@ reduced_cost g ms k = pos (1024 * cost_at g k) -ℤ multiplier_sum ms (riders_at
 
 -- whether row k is this vehicle's and may be chosen
 abbrev pub is_usable_by : Graph → Usable → ℕ → ℕ → Bool
-is_usable_by g usable v k = (vehicle_at g k == v) && usable k
+is_usable_by g usable v k = (row_vehicle g k == v) && usable k
 
 -- the least reduced cost of the vehicle's usable rows, 0 where it has none
 abbrev pub vehicle_term : Graph → Usable → List ℤ → ℕ → ℤ
@@ -48,7 +48,7 @@ least_cost g usable v = unwrap_or (least_below (length g.rows) (is_usable_by g u
 -- what the row costs above its vehicle's cheapest one, less the multipliers that its riders have so far
 abbrev pub room_at : Graph → Usable → List ℤ → ℕ → ℤ
 room_at g usable ms k =
-    pos 1024 *ℤ (pos (cost_at g k) -ℤ least_cost g usable (vehicle_at g k)) -ℤ multiplier_sum ms (riders_at g k)
+    pos 1024 *ℤ (pos (cost_at g k) -ℤ least_cost g usable (row_vehicle g k)) -ℤ multiplier_sum ms (riders_at g k)
 
 -- the next rider's first-fit multiplier: the least of the penalty and of the room of the usable rows that have her
 abbrev pub first_fit_of : Graph → Usable → List ℤ → ℕ → ℤ

@@ -1,6 +1,6 @@
 use Rattle.std.specs.Prelude.{◌≡◌, ◌≢◌, ◌==◌, ◌&&◌, ◌||◌, not, ◌⊎◌, ℕ, suc, ◌+◌, ◌/◌, ◌<◌, Bool, true, false, IsTrue, List, [], ◌∷◌, ◌++◌, length, Option, Some, None, unwrap_or, ℤ, pos, negsuc, neg_ℤ, All}
 use Rattle.plan_rules.specs.Sums.{all_below, lesser}
-use Rattle.plan_rules.specs.Graph.{Graph, IsRowOf, vehicle_at, has_rider, must_be_served, choice_at}
+use Rattle.plan_rules.specs.Graph.{Graph, IsRowOf, row_vehicle, has_rider, must_be_served, choice_at}
 use Rattle.plan_rules.specs.Multipliers.{Usable, leaf_value}
 use Rattle.plan_rules.specs.declared.node.Node.{Node}
 use Rattle.plan_rules.specs.declared.node.Node.TheVariants.{Branch, Leaf, Dead}
@@ -11,7 +11,7 @@ every_row = λ _. true
 
 -- of the vehicle's rows only this one may be chosen
 abbrev pub only_row : Graph → Usable → ℕ → ℕ → Usable
-only_row g usable v k = λ j. usable j && (not (vehicle_at g j == v) || j == k)
+only_row g usable v k = λ j. usable j && (not (row_vehicle g j == v) || j == k)
 
 -- this row may not be chosen
 abbrev pub without_row : Usable → ℕ → Usable
@@ -57,43 +57,47 @@ pub record IsStranded (g : Graph) (usable : Usable) : Type 0 where
 abbrev pub IsDeadEnd : Graph → Usable → Type 0
 IsDeadEnd g usable = IsClash g usable ⊎ IsStranded g usable
 
--- a branch names a row and leaves another, a leaf has a multiplier for each rider, a dead end is one
-abbrev pub IsSoundNode : Graph → Usable → Node → Type 0
-IsSoundNode g usable (Branch v k) = CanBranch g usable v k
-IsSoundNode g usable (Leaf ms) = length ms ≡ g.riders
-IsSoundNode g usable Dead = IsDeadEnd g usable
+-- a search tree: where it parts, a vehicle takes a row in the first part and another of its rows in the second; a part
+-- that is not parted has multipliers, or holds no lawful plan
+pub data SearchTree : Type 0 where
+  Parted : (vehicle row : ℕ) → SearchTree → SearchTree → SearchTree
+  Bounded : List ℤ → SearchTree
+  Closed : SearchTree
 
--- the usable rows of the subtrees that are still to come after this node: a branch adds two, an end adds none
-abbrev pub coming_after : Graph → Usable → Node → List Usable → List Usable
-coming_after g usable (Branch v k) coming = only_row g usable v k ∷ without_row usable k ∷ coming
-coming_after g usable (Leaf ms) coming = coming
-coming_after g usable Dead coming = coming
+-- its nodes, each before those of its parts
+abbrev pub preorder : SearchTree → List Node
+preorder (Parted v k first second) = Branch v k ∷ preorder first ++ preorder second
+preorder (Bounded ms) = Leaf ms ∷ []
+preorder Closed = Dead ∷ []
 
--- the nodes are sound, one after another, from where these subtrees are to come to where those are
-abbrev pub Reads : Graph → List Usable → List Node → List Usable → Type 0
-Reads g coming [] rest = coming ≡ rest
-Reads g [] (n ∷ nodes) rest = ⊥
-Reads g (usable ∷ coming) (n ∷ nodes) rest = IsSoundNode g usable n × Reads g (coming_after g usable n coming) nodes rest
-
--- the nodes are a sound tree in preorder, which ends with the list
-abbrev pub IsSoundTree : Graph → List Node → Type 0
-IsSoundTree g nodes = Reads g (every_row ∷ []) nodes []
+-- the tree is sound where these rows may be chosen: it parts by a row beside which the vehicle has another, has a
+-- multiplier for each rider, and closes dead ends alone
+abbrev pub IsSoundTree : Graph → Usable → SearchTree → Type 0
+IsSoundTree g usable (Parted v k first second) =
+    CanBranch g usable v k × IsSoundTree g (only_row g usable v k) first × IsSoundTree g (without_row usable k) second
+IsSoundTree g usable (Bounded ms) = length ms ≡ g.riders
+IsSoundTree g usable Closed = IsDeadEnd g usable
 
 -- a node and the rows that may be chosen there
 pub record Place : Type 0 where
   pub node : Node
   pub usable : Usable
 
--- each node with the rows that may be chosen there
-abbrev pub places_from : Graph → List Usable → List Node → List Place
-places_from g coming [] = []
-places_from g [] (n ∷ nodes) = []
-places_from g (usable ∷ coming) (n ∷ nodes) =
-    record { node = n; usable = usable } ∷ places_from g (coming_after g usable n coming) nodes
+-- each node of a tree with the rows that may be chosen there, where these may be chosen at its root
+abbrev pub places_within : Graph → Usable → SearchTree → List Place
+places_within g usable (Parted v k first second) =
+    record { node = Branch v k; usable = usable } ∷ places_within g (only_row g usable v k) first ++ places_within g (without_row usable k) second
+places_within g usable (Bounded ms) = record { node = Leaf ms; usable = usable } ∷ []
+places_within g usable Closed = record { node = Dead; usable = usable } ∷ []
 
--- the tree's nodes with the rows that may be chosen there
-abbrev pub places : Graph → List Node → List Place
-places g nodes = places_from g (every_row ∷ []) nodes
+-- each node of the whole tree with the rows that may be chosen there
+abbrev pub places : Graph → SearchTree → List Place
+places g tree = places_within g every_row tree
+
+-- the nodes are a sound tree, in preorder
+pub record IsTreeOf (g : Graph) (nodes : List Node) (tree : SearchTree) : Type 0 where
+  pub listed : nodes ≡ preorder tree
+  pub sound : IsSoundTree g every_row tree
 
 -- 1/1024 seconds as whole seconds, rounded up
 abbrev pub rounded_up : ℤ → ℤ
@@ -112,8 +116,12 @@ least_leaf g [] = None
 least_leaf g (p ∷ ps) = with_leaf g p.usable p.node (least_leaf g ps)
 
 -- the value of a tree: the least over its leaves
-abbrev pub tree_value : Graph → List Node → ℤ
-tree_value g nodes = unwrap_or (least_leaf g (places g nodes)) (pos 0)
+abbrev pub tree_value : Graph → SearchTree → ℤ
+tree_value g tree = unwrap_or (least_leaf g (places g tree)) (pos 0)
+
+-- the nodes are a sound tree, in preorder, of this value
+abbrev pub IsTreeOfValue : Graph → List Node → ℤ → Type 0
+IsTreeOfValue g nodes value = (tree : SearchTree) × IsTreeOf g nodes tree × (value ≡ tree_value g tree)
 
 -- whether a choice is usable; to choose nothing always is
 abbrev pub is_choice_usable : Usable → Option ℕ → Bool

@@ -1,6 +1,6 @@
 ghost use Rattle.std.specs.Prelude.{◌≡◌, ◌+◌, ◌<◌, ◌≤◌, IsTrue, IfOk, IfErr, length, slice_index, slice_index_or};
 ghost use Rattle.plan_rules.specs.Graph.{Graph, IsGoodGraph, IsStartOf, IsWithinLimits, must_be_served};
-ghost use Rattle.plan_rules.specs.GraphFault.{IsFaultOf};
+ghost use Rattle.plan_rules.specs.GraphFault.{IsGraphFault};
 
 use crate::fault::GraphFault;
 use crate::held::mark_held;
@@ -46,7 +46,7 @@ impl TripGraph {
         requires { IsWithinLimits (record { vehicles = vehicles; riders = riders; penalty = penalty; rows = rows.items; held = held.items }) }
         ensures value { IfOk result (λ g. g ≡ record { vehicles = vehicles; riders = riders; penalty = penalty; rows = rows.items; held = held.items }) }
         ensures good { IfOk result (λ g. IsGoodGraph g) }
-        ensures fault { IfErr result (IsFaultOf (record { vehicles = vehicles; riders = riders; penalty = penalty; rows = rows.items; held = held.items })) }
+        ensures fault { IfErr result (IsGraphFault (record { vehicles = vehicles; riders = riders; penalty = penalty; rows = rows.items; held = held.items })) }
     {
         let parts = Parts {
             vehicles,

@@ -1,7 +1,7 @@
 //! Judges which row each vehicle holds, and marks the riders who must be served.
 ghost use Rattle.std.specs.Prelude.{◌≡◌, ◌+◌, ◌<◌, ◌≤◌, ◌↔◌, ℕ, IsTrue, IfOk, IfErr, OnOk, length, slice_index, slice_index_or, false, nat_lt, Option};
 ghost use Rattle.plan_rules.specs.Graph.{IsRowIndex, MarksMust, MarksHeld, HoldsRightly, IsWithinLimits};
-ghost use Rattle.plan_rules.specs.GraphFault.{HasGoodRows, HasRowsInOrder, IsFaultOf, HasHeldRows};
+ghost use Rattle.plan_rules.specs.GraphFault.{HasGoodRows, HasRowsInOrder, IsGraphFault, HasHeldRows};
 ghost use Rattle.plan_rules.specs.Parts.{graph_of};
 
 use crate::fault::GraphFault;
@@ -45,7 +45,7 @@ pub fn mark_held(alloc: Global, parts: &Parts, starts: &[u32]) -> Result<Vec<boo
     requires starts { IsRowIndex (graph_of parts.now) starts.now }
     ensures marks { IfOk result (λ marks. MarksMust (graph_of parts.now) marks.items) }
     ensures held { OnOk result (HasHeldRows (graph_of parts.now)) }
-    ensures fault { IfErr result (IsFaultOf (graph_of parts.now)) }
+    ensures fault { IfErr result (IsGraphFault (graph_of parts.now)) }
 {
     let mut marks = vec![in alloc; false; parts.riders]?;
     let count = parts.vehicles.min(parts.held.len());

@@ -5,6 +5,7 @@
 //! value of a sound tree. The search and the separate checker both stand on these definitions.
 #![tactic(auto)]
 
+mod dead_end;
 mod fault;
 mod graph;
 mod greedy_plan;
@@ -23,7 +24,9 @@ mod rules;
 #[cfg(test)]
 mod tests;
 mod tree;
+mod value;
 
+pub use dead_end::is_dead_end;
 pub use fault::GraphFault;
 pub use graph::TripGraph;
 pub use greedy_plan::greedy;
@@ -38,3 +41,4 @@ pub use plan::Plan;
 pub use row::TripRow;
 pub use rules::{cost_of, held_plan, is_lawful};
 pub use tree::Tree;
+pub use value::{leaf_value, rounded_up};

@@ -1,6 +1,6 @@
 //! Where a walk through a tree in preorder stands.
 ghost use Rattle.std.specs.Prelude.{◌≡◌, ◌==◌, ◌+◌, ◌-◌, ◌&&◌, ◌||◌, not, ◌<◌, ◌≤◌, ℕ, [], ◌∷◌, ◌++◌, true, false, List, length, slice_index_or, OnOk, OnErr, MatchBool};
-ghost use Rattle.plan_rules.specs.Graph.{Graph, vehicle_at};
+ghost use Rattle.plan_rules.specs.Graph.{Graph, row_vehicle};
 ghost use Rattle.plan_rules.specs.Path.{standing_of, IsPathOf};
 
 use crate::graph::TripGraph;
@@ -115,7 +115,7 @@ fn mark_alone(graph: &TripGraph, decision: Decision, usable: &mut [bool])
     requires len { length usable.old ≡ length graph.now.rows }
     requires vehicle { decision.vehicle < graph.now.vehicles }
     ensures len { length usable.new ≡ length usable.old }
-    ensures usable { (k : ℕ) → k < length graph.now.rows → slice_index_or usable.new k false ≡ (slice_index_or usable.old k false && (not (vehicle_at graph.now k == decision.vehicle) || k == decision.row)) }
+    ensures usable { (k : ℕ) → k < length graph.now.rows → slice_index_or usable.new k false ≡ (slice_index_or usable.old k false && (not (row_vehicle graph.now k == decision.vehicle) || k == decision.row)) }
 {
     let vehicle = decision.vehicle as usize;
     for row in graph.first_row(vehicle)..graph.first_row(vehicle + 1) {

@@ -1,6 +1,6 @@
 //! Where the rows of each vehicle begin.
 ghost use Rattle.std.specs.Prelude.{◌≡◌, ℕ, ◌+◌, ◌<◌, ◌≤◌, IfOk, length};
-ghost use Rattle.plan_rules.specs.Graph.{IsRowIndex, vehicle_at};
+ghost use Rattle.plan_rules.specs.Graph.{IsRowIndex, row_vehicle};
 ghost use Rattle.plan_rules.specs.GraphFault.{HasGoodRows, HasRowsInOrder};
 ghost use Rattle.plan_rules.specs.Parts.{graph_of};
 
@@ -29,8 +29,8 @@ fn end_of_vehicle(parts: &Parts, vehicle: usize, row: usize) -> usize
     requires { row ≤ length parts.now.rows.items }
     ensures after { row ≤ result }
     ensures within { result ≤ length parts.now.rows.items }
-    ensures own { (k : ℕ) → row ≤ k → k < result → vehicle_at (graph_of parts.now) k ≡ vehicle }
-    ensures next { result < length parts.now.rows.items → vehicle_at (graph_of parts.now) result ≡ vehicle → ⊥ }
+    ensures own { (k : ℕ) → row ≤ k → k < result → row_vehicle (graph_of parts.now) k ≡ vehicle }
+    ensures next { result < length parts.now.rows.items → row_vehicle (graph_of parts.now) result ≡ vehicle → ⊥ }
 {
     for k in row..parts.rows.len() {
         if parts.rows[k].vehicle != vehicle {

@@ -2,7 +2,7 @@
 ghost use Rattle.std.specs.Prelude.{◌≡◌, ◌+◌, ◌<◌, ◌≤◌, ◌↔◌, ℕ, suc, IsTrue, IfSome, IfNone, length, slice_index};
 ghost use Rattle.std.specs.List.Sorted.{IsStrictlyIncreasing};
 ghost use Rattle.std.specs.declared.cmp.Ordering.TheVariants.{Less};
-ghost use Rattle.plan_rules.specs.Graph.{IsRow, row_cmp, row_at, IsInOrder};
+ghost use Rattle.plan_rules.specs.Graph.{IsGraphRow, row_cmp, row_at, IsInOrder};
 ghost use Rattle.plan_rules.specs.GraphFault.{HasGoodRows, HasRowsInOrder, IsFirstOutOfRange, IsFirstUnordered};
 ghost use Rattle.plan_rules.specs.Parts.{graph_of};
 ghost use Rattle.plan_rules.specs.Graph.{AreRisingBelow};
@@ -26,7 +26,7 @@ fn are_rising_below(members: &[usize], riders: usize) -> bool
 }
 
 fn is_in_range(row: &TripRow, vehicles: usize, riders: usize) -> bool
-    ensures { IsTrue result ↔ IsRow vehicles riders row.now }
+    ensures { IsTrue result ↔ IsGraphRow vehicles riders row.now }
 {
     row.vehicle < vehicles
         && row.cost <= 1_000_000_000

@@ -1,5 +1,4 @@
-pub mod TravelTimeLemmas
+pub mod lemmas
 pub mod TableLemmas
 pub mod FaultLemmas
 pub mod NumberLemmas
-pub mod NumeralLemmas

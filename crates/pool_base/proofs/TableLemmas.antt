@@ -2,7 +2,7 @@ use Rattle.std.proofs.Common.{◌≡◌, ℕ, zero, suc, ◌+◌, ◌*◌, ◌<�
 use Rattle.std.proofs.lemmas.Bool.{cases_lt}
 use Rattle.pool_base.specs.TravelTime.{never, longest, cell_of, IsTable}
 use Rattle.pool_base.specs.TimesFault.{IsDetourShorter, NoneTooLong, NoneOffZero}
-use Rattle.pool_base.proofs.TravelTimeLemmas.{cell_of-from_outside, cell_of-to_outside, cell_of-place, cell_place_within}
+use Rattle.pool_base.proofs.lemmas.TravelTimeLemmas.{cell_of-from_outside, cell_of-to_outside, cell_of-place, cell_place_within}
 
 zero_from : (x : ℕ) → ((x ≡ 0 → ⊥) → ⊥) → x ≡ 0
 zero_from zero h = omega arith

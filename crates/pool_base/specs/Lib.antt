@@ -4,3 +4,7 @@ pub mod Which
 pub mod TravelTime
 pub mod Times
 pub mod TimesFault
+pub mod InOrder
+pub mod Distinct
+pub mod Sums
+pub mod Header

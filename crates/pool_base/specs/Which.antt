@@ -3,7 +3,7 @@ use Rattle.pool_base.specs.declared.which.Which.{Which}
 use Rattle.pool_base.specs.declared.which.Which.TheVariants.{Network, Fleet, Script}
 
 -- the word by which commands and messages name a file
-abbrev pub name_of : Which → List ℕ
-name_of Network = codes "network"
-name_of Fleet = codes "fleet"
-name_of Script = codes "script"
+abbrev pub file_name : Which → List ℕ
+file_name Network = codes "network"
+file_name Fleet = codes "fleet"
+file_name Script = codes "script"

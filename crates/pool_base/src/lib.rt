@@ -21,7 +21,7 @@ mod which;
 
 pub use memory::OutOfMemory;
 pub use node_id::NodeId;
-pub use number::{NumberFault, number_reads_back, put_number, put_signed, read_number};
+pub use number::{NumberFault, number_reads_back, put_bytes, put_number, put_signed, read_number};
 pub use numeral::read_number_up_to;
 pub use party::Party;
 pub use rider_id::RiderId;

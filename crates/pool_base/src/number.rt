@@ -71,6 +71,15 @@ fn with_digit(value: u64, digit: u8) -> Option<u64>
     }
 }
 
+/// Appends bytes to a text.
+pub fn put_bytes(text: &mut Vec<u8>, bytes: &[u8]) -> Result<(), OutOfMemory>
+    ensures ok { OnOk result (text.new.items ≡ text.old.items ++ bytes.now) }
+    ensures err { OnErr result (text.new.items ≡ text.old.items) }
+{
+    text.extend_from_slice(bytes)?;
+    Ok(())
+}
+
 /// Appends a number's decimal text, without leading zeros.
 pub fn put_number(text: &mut Vec<u8>, n: u64) -> Result<(), OutOfMemory>
     ensures ok { OnOk result (text.new.items ≡ text.old.items ++ decimal n) }

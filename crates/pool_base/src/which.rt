@@ -1,5 +1,5 @@
 ghost use Rattle.std.specs.Prelude.{◌≡◌, codes};
-ghost use Rattle.pool_base.specs.Which.{name_of};
+ghost use Rattle.pool_base.specs.Which.{file_name};
 
 /// One of the program's input files.
 #[derive(Clone, Copy, Debug, PartialEq, Eq, Hash)]
@@ -12,7 +12,7 @@ pub enum Which {
 impl Which {
     /// The file's word in commands and messages.
     pub fn name(self) -> &'static str
-        ensures { result.now ≡ name_of self }
+        ensures { result.now ≡ file_name self }
     {
         match self {
             Which::Network => "network",

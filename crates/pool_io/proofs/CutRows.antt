@@ -5,7 +5,7 @@ use Rattle.std.proofs.lemmas.Bool.{cases_Bool}
 use Rattle.std.proofs.lemmas.Option.{none-some}
 use Rattle.std.proofs.lemmas.Bool.Decides.{nat_tests}
 use Rattle.std.specs.List.{position_from}
-use Rattle.pool_io.specs.Table.{cut_rows}
+use Rattle.pool_io.specs.work.Cutting.{cut_rows}
 
 pub length-cut_rows : (count columns : ℕ) (fields : List (List ℕ)) → length (cut_rows count columns fields) ≡ count
 length-cut_rows zero columns fields = refl

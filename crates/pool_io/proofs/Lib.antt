@@ -1,3 +1,4 @@
+pub mod lemmas
 pub mod CutRows
 pub mod RecordList
 pub mod Pieces
@@ -6,4 +7,3 @@ pub mod NextRecord
 pub mod IsRecord
 pub mod EvenRows
 pub mod UnderHeader
-pub mod TableLemmas

@@ -6,7 +6,7 @@ use Rattle.csv.specs.declared.reader.Reader.{Reader}
 use Rattle.csv.specs.declared.parser.State.TheVariants as st
 use Rattle.csv.proofs.ReadFacts.{rows-end, rows-more}
 use Rattle.pool_io.specs.Table.{records_of}
-use Rattle.pool_io.specs.Progress.{HasRead}
+use Rattle.pool_io.specs.work.Progress.{HasRead}
 use Rattle.pool_io.proofs.RecordList.{records_of-all}
 
 pub read_on : (bytes : List ℕ) (rows : List (List (List ℕ))) (old new : Reader (Bor (List ℕ))) (found : Bool) (fields : List (List ℕ))

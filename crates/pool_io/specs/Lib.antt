@@ -3,4 +3,4 @@ pub mod Source
 pub mod Sink
 pub mod StdSource
 pub mod Table
-pub mod Progress
+pub mod work

@@ -1,4 +1,4 @@
-use Rattle.std.specs.Prelude.{ℕ, zero, suc, ◌==◌, Bool, not, if◌then◌else◌, List, [], ◌∷◌, length, take, drop, slice_index_or, Result, Ok, Err}
+use Rattle.std.specs.Prelude.{ℕ, ◌==◌, Bool, not, if◌then◌else◌, List, [], ◌∷◌, length, slice_index_or, Result, Ok, Err}
 use Rattle.std.specs.List.{slice_split, position_from}
 use Rattle.std.specs.Option.{option_map_or}
 use Rattle.std.specs.Str.{bytes_eq}
@@ -49,8 +49,3 @@ rows_under names (first ∷ rows) =
 -- the table that bytes hold under a header line, or the first refusal
 abbrev pub table_of : List ℕ → List ℕ → Result Table RowFault
 table_of header bytes = rows_under (header_fields header) (records_of bytes)
-
--- a flat list of fields, cut into so many records of so many fields
-abbrev pub cut_rows : ℕ → ℕ → List (List ℕ) → List (List (List ℕ))
-cut_rows zero columns fields = []
-cut_rows (suc count) columns fields = take columns fields ∷ cut_rows count columns (drop columns fields)

@@ -1,7 +1,7 @@
 ghost use Rattle.std.specs.Prelude.{◌≡◌, ℕ, ◌<◌, ◌≤◌, ◌↔◌, ◌++◌, [], List, length, take, min, Some, IfOk, IfErr, Contains};
 ghost use Rattle.std.specs.Result.{IsErrOf};
 ghost use Rattle.std.specs.Io.KnownBytes.{WriteAppends};
-ghost use Rattle.pool_io.specs.Faults.{one_more, Rose};
+ghost use Rattle.pool_io.specs.Faults.{Rose, one_more};
 
 use crate::sink::{Sink, SinkFault};
 use std::alloc::Global;

@@ -1,6 +1,6 @@
 ghost use Rattle.std.specs.Prelude.{◌≡◌, ℕ, ◌+◌, ◌≤◌, ◌↔◌, [], List, length, drop, min, Option, Some, IfOk, IsErr, OnErr, MatchResult, Contains};
 ghost use Rattle.std.specs.Io.KnownBytes.{ReadConsumes};
-ghost use Rattle.pool_io.specs.Faults.{one_more, Rose};
+ghost use Rattle.pool_io.specs.Faults.{Rose, one_more};
 
 use crate::fill::fill_front;
 use crate::source::{Failed, Source};

@@ -1,6 +1,6 @@
 ghost use Rattle.std.specs.Prelude.{◌≡◌, ℕ, ◌+◌, ◌≤◌, List, length, None, true, false, IfOk, IsErr, OnErr, MatchResult};
 ghost use Rattle.std.specs.Io.KnownBytes.{ReadConsumes};
-ghost use Rattle.pool_io.specs.Faults.{one_more, Rose};
+ghost use Rattle.pool_io.specs.Faults.{Rose, one_more};
 
 use crate::source::{Failed, Source};
 use std::io::Read;

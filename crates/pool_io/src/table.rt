@@ -1,6 +1,7 @@
 ghost use Rattle.std.specs.Prelude.{◌≡◌, ◌*◌, ◌^◌, ◌<◌, ◌==◌, length};
 ghost use Rattle.csv.specs.Records.{fields_of};
-ghost use Rattle.pool_io.specs.Table.{record_at, field_at, cut_rows};
+ghost use Rattle.pool_io.specs.Table.{record_at, field_at};
+ghost use Rattle.pool_io.specs.work.Cutting.{cut_rows};
 
 use csv::ByteRecord;
 use std::marker::Model;
@@ -16,7 +17,8 @@ pub struct Rows {
 impl Model for Rows {
     ghost use Rattle.std.specs.Prelude.{◌≡◌, ◌*◌, ◌<◌, ◌^◌, length};
     ghost use Rattle.csv.specs.Records.{fields_of};
-    ghost use Rattle.pool_io.specs.Table.{Table, cut_rows};
+    ghost use Rattle.pool_io.specs.Table.{Table};
+    ghost use Rattle.pool_io.specs.work.Cutting.{cut_rows};
 
     ghost Value = { Table };
 

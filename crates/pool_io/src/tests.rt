@@ -84,18 +84,6 @@ fn rows_follow_csv(rt: HostRuntime) -> Result<(), Fail> {
 }
 
 #[test]
-fn rows_tell_the_first_refusal(rt: HostRuntime) {
-    let none = rows(rt.alloc(), b"\n\n", b"a,b");
-    assert!(rt; matches!(none, Err(RowFault::Header { fields: 0 })));
-    let joined = rows(rt.alloc(), b"\"a,b\"\n1,2\n", b"a,b");
-    assert!(rt; matches!(joined, Err(RowFault::Header { fields: 1 })));
-    let other = rows(rt.alloc(), b"a,c\n1\n", b"a,b");
-    assert!(rt; matches!(other, Err(RowFault::Header { fields: 2 })));
-    let short = rows(rt.alloc(), b"a,b\n1,2\n3\n4,5,6\n", b"a,b");
-    assert!(rt; matches!(short, Err(RowFault::UnequalLength { row: 2 })));
-}
-
-#[test]
 fn std_readers_and_writers_are_edges(rt: HostRuntime) -> Result<(), Fail> {
     let mut source = StdSource::over(b"bytes".as_slice());
     let bytes = read_all(rt.alloc(), &mut source, 16)?;

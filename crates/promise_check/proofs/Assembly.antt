@@ -18,12 +18,16 @@ use Rattle.stop_orders.specs.declared.settled_rider.SettledRider.{SettledRider}
 use Rattle.stop_orders.specs.declared.settled_vehicle.SettledVehicle.{SettledVehicle}
 use Rattle.stop_orders.specs.declared.settled.Settled.{Settled}
 use Rattle.stop_orders.specs.Task.{IsLeg, IsServable}
-use Rattle.stop_orders.specs.Settled.{no_rider, no_vehicle, greatest, IsShort, IsTrip, IsSound, IsSoundVehicle}
+use Rattle.stop_orders.specs.Settled.{no_rider, no_vehicle, greatest, IsTrip, vehicle_task}
+use Rattle.stop_orders.specs.Sound.{IsShort, IsSound, IsSoundVehicle}
 use Rattle.rider_limits.specs.declared.settings.Settings.{Settings}
-use Rattle.promise_check.specs.Requests.{request_at, no_request, ArePlain}
-use Rattle.promise_check.specs.Promised.{is_promised_to, promised_to, kept_leg, kept_legs, kept_rider, vehicle_task, IsLive, IsHeld, AreKept}
-use Rattle.promise_check.specs.Settling.{HoldsRightly, IsLiveRider, IsRiderOf, HasRightLimit, IsSettled, IsSettledVehicle, AreSettledVehicles}
-use Rattle.promise_check.proofs.Promises.{filter_range_has, promised_trip}
+use Rattle.promise_check.specs.Requests.{request_at, no_request}
+use Rattle.promise_check.specs.work.Requests.{ArePlain}
+use Rattle.promise_check.specs.Promised.{is_promised_to, promised_to, kept_leg, kept_legs, IsLive}
+use Rattle.promise_check.specs.work.Promised.{kept_rider, IsHeld, AreKept}
+use Rattle.promise_check.specs.Settling.{HoldsPromised, IsLiveRider, IsRiderOf, HasRightLimit, IsSettled}
+use Rattle.promise_check.specs.work.Settling.{IsSettledVehicle, AreSettledVehicles}
+use Rattle.promise_check.proofs.lemmas.Promises.{filter_range_has, promised_trip}
 use Rattle.promise_check.proofs.Seats.{kept_leg_valid, legs_valid, task_with_legs, plain_can_be_kept}
 
 some_at : {X : Type 0} (xs : List X) (k : ℕ) → k < length xs → (x : X) × (slice_get xs k ≡ Some x)
@@ -146,7 +150,7 @@ module _ (settings : Settings) (points : List ℕ) (tau : ℕ → ℕ → ℕ) (
   live_before v l = record { few = l.few; servable = subst (λ (legs : List Leg). IsServable tau (vehicle_task settings.dwell v legs)) (sym (same_legs v.id)) l.servable }
 
   -- who is held was promised, by a live vehicle
-  held_promised : (v : SettledVehicle) (r : ℕ) → HoldsRightly settings tau batch.riders plain v → Contains v.held.items r
+  held_promised : (v : SettledVehicle) (r : ℕ) → HoldsPromised settings tau batch.riders plain v → Contains v.held.items r
       → IsLive settings tau batch.riders plain v × (v.held.items ≡ promised_to v.id batch.riders) × (is_promised_to v.id (request_at batch.riders r) ≡ true)
   held_promised v r (inl w) c = (w.0, w.1, promised_passes v.id batch.riders r (subst (λ (t : List ℕ). Contains t r) w.1 c))
   held_promised v r (inr w) c = absurd (none_in_nil r (subst (λ (t : List ℕ). Contains t r) w.1 c))

@@ -5,8 +5,8 @@ use Rattle.batch_snapshot.specs.declared.passenger.Passenger.{Passenger}
 use Rattle.batch_snapshot.specs.declared.rider.Rider.{Rider}
 use Rattle.batch_snapshot.specs.Batch.{Batch}
 use Rattle.batch_snapshot.specs.Points.{ArePoints, vehicle_nodes, rider_nodes}
-use Rattle.promise_check.specs.Requests.{HasPlaces}
-use Rattle.promise_check.specs.Settling.{HasVehiclePlaces}
+use Rattle.promise_check.specs.work.Requests.{IsBetweenPlaces}
+use Rattle.promise_check.specs.work.Settling.{HasVehiclePlaces}
 
 in_flat_map : {X : Type 0} (f : X → List ℕ) (xs : List X) (k : ℕ) (d : X) (y : ℕ) → k < length xs → Contains (f (get_or xs k d)) y → Contains (flat_map f xs) y
 in_flat_map f [] k d y h c = absurd (omega arith)
@@ -15,7 +15,7 @@ in_flat_map f (x ∷ xs) (suc k) d y h c = Contains-append_right (f x) (flat_map
 
 module _ (b : Batch) (points : List ℕ) (p : ArePoints b points) where
   -- the riders' places
-  pub rider_places : All (λ (r : Rider). HasPlaces points r.origin r.destination) b.riders
+  pub rider_places : All (λ (r : Rider). IsBetweenPlaces points r.origin r.destination) b.riders
   rider_places k d h =
       let r = get_or b.riders k d in
       let named = λ (y : ℕ) (c : Contains (rider_nodes r) y). (p.named y).1 (Contains-append_right (flat_map vehicle_nodes b.vehicles) (flat_map rider_nodes b.riders) y (in_flat_map rider_nodes b.riders k d y h c)) in

@@ -1,3 +1,4 @@
 pub mod Requests
 pub mod Promised
 pub mod Settling
+pub mod work

@@ -1,13 +1,12 @@
-use Rattle.std.specs.Prelude.{◌≡◌, ◌==◌, ℕ, ◌+◌, ◌<◌, ◌≤◌, ◌⊎◌, Bool, false, Contains, List, length, map, min, filter, slice_index_or}
+use Rattle.std.specs.Prelude.{◌≡◌, ◌==◌, ℕ, ◌+◌, ◌<◌, ◌≤◌, ◌⊎◌, Bool, false, List, length, map, min, filter, slice_index_or}
 use Rattle.std.specs.Option.{option_map_or}
 use Rattle.std.specs.List.{range_with_len}
 use Rattle.batch_snapshot.specs.declared.rider.Rider.{Rider}
 use Rattle.stop_orders.specs.declared.leg.Leg.{Leg}
-use Rattle.stop_orders.specs.declared.task.Task.{Task}
 use Rattle.stop_orders.specs.declared.settled_rider.SettledRider.{SettledRider}
 use Rattle.stop_orders.specs.declared.settled_vehicle.SettledVehicle.{SettledVehicle}
 use Rattle.stop_orders.specs.Task.{IsServable}
-use Rattle.stop_orders.specs.Settled.{no_rider, no_vehicle}
+use Rattle.stop_orders.specs.Settled.{no_rider, vehicle_task}
 use Rattle.rider_limits.specs.declared.settings.Settings.{Settings}
 use Rattle.promise_check.specs.Requests.{request_at}
 
@@ -31,34 +30,8 @@ kept_leg wait request leg = record leg { latest_pickup = promised_limit wait req
 abbrev pub kept_legs : ℕ → List Rider → List SettledRider → List ℕ → List Leg
 kept_legs wait requests riders trip = map (λ k. kept_leg wait (request_at requests k) (slice_index_or riders k no_rider).leg) trip
 
--- a vehicle's task with these riders
-abbrev pub vehicle_task : ℕ → SettledVehicle → List Leg → Task
-vehicle_task dwell v legs = record {
-  start = v.start;
-  ready = v.ready;
-  dwell = dwell;
-  seats = v.seats;
-  aboard = v.aboard;
-  riders = record { items = legs };
-}
-
 -- at most as many riders as a trip may have are promised to the vehicle, and some order serves them all, each by the
 -- promised second
 pub record IsLive (settings : Settings) (tau : ℕ → ℕ → ℕ) (requests : List Rider) (riders : List SettledRider) (v : SettledVehicle) : Type 0 where
   pub few : length (promised_to v.id requests) ≤ settings.trip
   pub servable : IsServable tau (vehicle_task settings.dwell v (kept_legs settings.wait requests riders (promised_to v.id requests)))
-
--- the rider with the pickup that was promised
-abbrev pub kept_rider : ℕ → Rider → SettledRider → SettledRider
-kept_rider wait request rider = record rider { leg = kept_leg wait request rider.leg; lapsed = false }
-
--- one of the vehicles keeps its promise to the rider
-abbrev pub IsHeld : List SettledVehicle → ℕ → Type 0
-IsHeld vehicles r = (v : ℕ) × (v < length vehicles) × Contains (slice_index_or vehicles v no_vehicle).held.items r
-
--- who is held has the promised limit, the others stay
-pub record AreKept (wait : ℕ) (requests : List Rider) (plain : List SettledRider) (Held : ℕ → Type 0) (before after : List SettledRider) : Type 0 where
-  pub count : length after ≡ length before
-  pub each : (r : ℕ) → r < length before
-      → (Held r × (slice_index_or after r no_rider ≡ kept_rider wait (request_at requests r) (slice_index_or plain r no_rider)))
-      ⊎ ((Held r → ⊥) × (slice_index_or after r no_rider ≡ slice_index_or before r no_rider))

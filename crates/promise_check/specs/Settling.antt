@@ -1,4 +1,4 @@
-use Rattle.std.specs.Prelude.{◌≡◌, ℕ, ◌+◌, ◌<◌, ◌⊎◌, false, IsTrue, List, [], length, map, max, Some, slice_get, MatchBool, is_some, All, Contains, slice_index_or}
+use Rattle.std.specs.Prelude.{◌≡◌, ℕ, ◌+◌, ◌<◌, ◌⊎◌, false, IsTrue, List, [], length, map, max, Some, slice_get, MatchBool, is_some}
 use Rattle.batch_snapshot.specs.declared.passenger.Passenger.{Passenger}
 use Rattle.batch_snapshot.specs.declared.rider.Rider.{Rider}
 use Rattle.batch_snapshot.specs.declared.vehicle.Vehicle.{Vehicle}
@@ -7,11 +7,11 @@ use Rattle.stop_orders.specs.declared.leg.Leg.{Leg}
 use Rattle.stop_orders.specs.declared.settled_rider.SettledRider.{SettledRider}
 use Rattle.stop_orders.specs.declared.settled_vehicle.SettledVehicle.{SettledVehicle}
 use Rattle.stop_orders.specs.declared.settled.Settled.{Settled}
-use Rattle.stop_orders.specs.Task.{IsTask, IsServable, leg_at}
-use Rattle.stop_orders.specs.Settled.{IsShort, vehicle_at, rider_at, no_vehicle, greatest}
+use Rattle.stop_orders.specs.Task.{IsServable, leg_at}
+use Rattle.stop_orders.specs.Settled.{vehicle_at, rider_at, greatest, vehicle_task}
 use Rattle.rider_limits.specs.declared.settings.Settings.{Settings}
-use Rattle.promise_check.specs.Requests.{IsLegOf, HasPlaces, request_at}
-use Rattle.promise_check.specs.Promised.{promised_limit, is_promised_to, promised_to, vehicle_task, IsLive}
+use Rattle.promise_check.specs.Requests.{IsLegOf, request_at}
+use Rattle.promise_check.specs.Promised.{promised_limit, is_promised_to, promised_to, IsLive}
 
 -- the legs are the passengers', in their order
 pub record AreLegsOf (settings : Settings) (points : List ℕ) (tau : ℕ → ℕ → ℕ) (passengers : List Passenger) (legs : List Leg) : Type 0 where
@@ -32,8 +32,8 @@ abbrev pub IsLateRight : Settings → (ℕ → ℕ → ℕ) → SettledVehicle �
 IsLateRight settings tau v = MatchBool v.late (IsServable tau (vehicle_task settings.dwell v []) → ⊥) (IsServable tau (vehicle_task settings.dwell v []))
 
 -- the vehicle is live and keeps all riders promised to it; or it keeps none, and has none or isn't live
-abbrev pub HoldsRightly : Settings → (ℕ → ℕ → ℕ) → List Rider → List SettledRider → SettledVehicle → Type 0
-HoldsRightly settings tau requests riders v =
+abbrev pub HoldsPromised : Settings → (ℕ → ℕ → ℕ) → List Rider → List SettledRider → SettledVehicle → Type 0
+HoldsPromised settings tau requests riders v =
     (IsLive settings tau requests riders v × (v.held.items ≡ promised_to v.id requests))
     ⊎ ((0 < length (promised_to v.id requests) → IsLive settings tau requests riders v → ⊥) × (v.held.items ≡ []))
 
@@ -49,11 +49,13 @@ pub record IsRiderOf (settings : Settings) (points : List ℕ) (tau : ℕ → �
   pub id : y.id ≡ x.id
   pub leg : IsLegOf settings points tau x.origin x.destination x.time x.party (record y.leg { latest_pickup = x.time + settings.wait })
 
--- a live rider has the promised limit; another one's wait alone counts, and a promise has lapsed
+-- a live rider has the promised limit; of another one the wait alone counts, and a promise has lapsed
 abbrev pub HasRightLimit : Settings → (ℕ → ℕ → ℕ) → List Rider → Settled → ℕ → Type 0
 HasRightLimit settings tau requests settled r =
-    (IsLiveRider settings tau requests settled r × ((rider_at settled r).leg.latest_pickup ≡ promised_limit settings.wait (request_at requests r)) × ((rider_at settled r).lapsed ≡ false))
-    ⊎ ((IsLiveRider settings tau requests settled r → ⊥) × ((rider_at settled r).leg.latest_pickup ≡ (request_at requests r).time + settings.wait) × ((rider_at settled r).lapsed ≡ is_some (request_at requests r).promise))
+    (IsLiveRider settings tau requests settled r
+    × ((rider_at settled r).leg.latest_pickup ≡ promised_limit settings.wait (request_at requests r)) × ((rider_at settled r).lapsed ≡ false))
+    ⊎ ((IsLiveRider settings tau requests settled r → ⊥)
+    × ((rider_at settled r).leg.latest_pickup ≡ (request_at requests r).time + settings.wait) × ((rider_at settled r).lapsed ≡ is_some (request_at requests r).promise))
 
 -- the batch with its places, limits, late vehicles, and promises kept or lapsed
 pub record IsSettled (settings : Settings) (points : List ℕ) (tau : ℕ → ℕ → ℕ) (batch : Batch) (settled : Settled) : Type 0 where
@@ -64,24 +66,6 @@ pub record IsSettled (settings : Settings) (points : List ℕ) (tau : ℕ → �
   pub rider_count : length settled.riders ≡ length batch.riders
   pub placed : (v : ℕ) (x : Vehicle) → slice_get batch.vehicles v ≡ Some x → IsPlaced settings points tau batch.sealed_at x (vehicle_at settled v)
   pub late : (v : ℕ) → v < length settled.vehicles → IsLateRight settings tau (vehicle_at settled v)
-  pub held : (v : ℕ) → v < length settled.vehicles → HoldsRightly settings tau batch.riders settled.riders (vehicle_at settled v)
+  pub held : (v : ℕ) → v < length settled.vehicles → HoldsPromised settings tau batch.riders settled.riders (vehicle_at settled v)
   pub riders : (r : ℕ) (x : Rider) → slice_get batch.riders r ≡ Some x → IsRiderOf settings points tau x (rider_at settled r)
   pub limits : (r : ℕ) → r < length settled.riders → HasRightLimit settings tau batch.riders settled r
-
--- a vehicle with its place, whether it is late, and the riders that it keeps; its tasks are valid
-pub record IsSettledVehicle (settings : Settings) (points : List ℕ) (tau : ℕ → ℕ → ℕ) (now : ℕ) (requests : List Rider) (riders : List SettledRider) (x : Vehicle) (y : SettledVehicle) : Type 0 where
-  pub placed : IsPlaced settings points tau now x y
-  pub late : IsLateRight settings tau y
-  pub held : HoldsRightly settings tau requests riders y
-  pub valid : IsTask (length points) (vehicle_task settings.dwell y [])
-  pub short : All IsShort y.aboard.items
-
--- the vehicles of the batch, in order
-pub record AreSettledVehicles (settings : Settings) (points : List ℕ) (tau : ℕ → ℕ → ℕ) (now : ℕ) (requests : List Rider) (riders : List SettledRider) (xs : List Vehicle) (ys : List SettledVehicle) : Type 0 where
-  pub count : length ys ≡ length xs
-  pub each : (k : ℕ) (x : Vehicle) → slice_get xs k ≡ Some x → IsSettledVehicle settings points tau now requests riders x (slice_index_or ys k no_vehicle)
-
--- the places of a vehicle and its passengers
-pub record HasVehiclePlaces (points : List ℕ) (x : Vehicle) : Type 0 where
-  pub node : Contains points x.node
-  pub aboard : All (λ p. HasPlaces points p.origin p.destination) x.aboard.items

@@ -1,5 +1,6 @@
 ghost use Rattle.std.specs.Prelude.{◌≡◌, ℕ, ◌+◌, ◌<◌, ◌≤◌, All, Contains, IfOk, length};
-ghost use Rattle.promise_check.specs.Promised.{kept_leg, kept_legs, kept_rider, promised_limit, IsHeld, AreKept};
+ghost use Rattle.promise_check.specs.Promised.{kept_leg, kept_legs, promised_limit};
+ghost use Rattle.promise_check.specs.work.Promised.{kept_rider, IsHeld, AreKept};
 
 use arrayvec::ArrayVec;
 use batch_snapshot::Rider;
@@ -35,7 +36,7 @@ fn leg_as_promised(wait: u32, request: &Rider, leg: Leg) -> Leg
 }
 
 /// The legs of these riders, each with the pickup that was promised.
-pub fn legs_as_promised(
+pub(crate) fn legs_as_promised(
     wait: u32,
     requests: &[Rider],
     riders: &[SettledRider],
@@ -56,7 +57,7 @@ pub fn legs_as_promised(
 }
 
 /// The riders, where those whom one of the vehicles holds have the pickup that was promised.
-pub fn riders_as_promised(
+pub(crate) fn riders_as_promised(
     alloc: Global,
     wait: u32,
     requests: &[Rider],

@@ -6,7 +6,7 @@ use batch_snapshot::Rider;
 use pool_base::VehicleId;
 
 /// The numbers of the riders whose promise names the vehicle; `None` where they are more than `most`.
-pub fn riders_promised_to(
+pub(crate) fn riders_promised_to(
     requests: &[Rider],
     vehicle: VehicleId,
     most: usize,

@@ -1,8 +1,9 @@
 ghost use Rattle.std.specs.Prelude.{◌≡◌, ◌+◌, ◌<◌, ◌≤◌, All, Contains, IfOk, Some, length, slice_get};
 ghost use Rattle.pool_base.specs.Times.{point_count, travel_time};
 ghost use Rattle.stop_orders.specs.Task.{IsLeg};
-ghost use Rattle.stop_orders.specs.Settled.{IsShort};
-ghost use Rattle.promise_check.specs.Requests.{IsLegOf, IsPlain, ArePlain, HasPlaces, ideal_second};
+ghost use Rattle.stop_orders.specs.Sound.{IsShort};
+ghost use Rattle.promise_check.specs.Requests.{IsLegOf, ideal_second};
+ghost use Rattle.promise_check.specs.work.Requests.{IsPlain, ArePlain, IsBetweenPlaces};
 
 use batch_snapshot::{Points, Rider};
 use pool_base::{NodeId, OutOfMemory, Party, Second, Times};
@@ -11,7 +12,7 @@ use std::alloc::Global;
 use stop_orders::{Leg, SettledRider};
 
 /// The leg of a request, with the limits that follow from its second.
-pub fn leg_of(
+pub(crate) fn leg_of(
     settings: &Settings,
     points: &Points,
     times: &Times,
@@ -21,7 +22,7 @@ pub fn leg_of(
     party: Party,
 ) -> Leg
     requires table { point_count times.now ≡ length points.now }
-    requires places { HasPlaces points.now origin destination }
+    requires places { IsBetweenPlaces points.now origin destination }
     ensures leg { IsLegOf settings.now points.now (travel_time times.now) origin destination time party result }
     ensures valid { IsLeg (length points.now) result }
     ensures short { IsShort result }
@@ -43,7 +44,7 @@ pub fn leg_of(
 }
 
 /// Where a node of the batch stands in the table.
-pub fn place_of(points: &Points, node: NodeId) -> usize
+pub(crate) fn place_of(points: &Points, node: NodeId) -> usize
     requires { Contains points.now node }
     ensures place { slice_get points.now result ≡ Some node }
     ensures within { result < length points.now }
@@ -69,7 +70,7 @@ fn ideal_of(times: &Times, from: usize, to: usize, second: u64) -> u64
 }
 
 /// The riders, each with the wait alone as limit, and each promise lapsed.
-pub fn plain_riders(
+pub(crate) fn plain_riders(
     alloc: Global,
     settings: &Settings,
     points: &Points,
@@ -77,7 +78,7 @@ pub fn plain_riders(
     requests: &[Rider],
 ) -> Result<Vec<SettledRider>, OutOfMemory>
     requires table { point_count times.now ≡ length points.now }
-    requires places { All (λ r. HasPlaces points.now r.origin r.destination) requests.now }
+    requires places { All (λ r. IsBetweenPlaces points.now r.origin r.destination) requests.now }
     ensures { IfOk result (λ riders. ArePlain settings.now points.now (travel_time times.now) requests.now riders.items) }
 {
     let mut riders = Vec::with_capacity(alloc, requests.len())?;
@@ -89,7 +90,7 @@ pub fn plain_riders(
 
 fn plain_rider(settings: &Settings, points: &Points, times: &Times, request: &Rider) -> SettledRider
     requires table { point_count times.now ≡ length points.now }
-    requires places { HasPlaces points.now request.now.origin request.now.destination }
+    requires places { IsBetweenPlaces points.now request.now.origin request.now.destination }
     ensures { IsPlain settings.now points.now (travel_time times.now) request.now result }
 {
     let leg = leg_of(

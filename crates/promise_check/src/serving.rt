@@ -10,7 +10,7 @@ use std::sync::ledger::{Blank, Ledger};
 use stop_orders::Task;
 
 /// Whether some order serves the task.
-pub fn can_serve(alloc: Global, task: &Task, times: &Times) -> Result<bool, OutOfMemory>
+pub(crate) fn can_serve(alloc: Global, task: &Task, times: &Times) -> Result<bool, OutOfMemory>
     requires { IsTask (point_count times.now) task.now }
     ensures { IfOk result (λ can. MatchBool can (IsServable (travel_time times.now) task.now) (IsServable (travel_time times.now) task.now → ⊥)) }
 {

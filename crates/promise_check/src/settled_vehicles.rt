@@ -2,10 +2,13 @@ ghost use Rattle.std.specs.Prelude.{◌≡◌, ℕ, ◌+◌, ◌<◌, ◌≤◌,
 ghost use Rattle.pool_base.specs.Times.{point_count, travel_time};
 ghost use Rattle.batch_snapshot.specs.Vehicle.{HasSeats};
 ghost use Rattle.stop_orders.specs.Task.{IsLeg, IsTask, IsServable, persons};
-ghost use Rattle.stop_orders.specs.Settled.{IsShort, no_rider};
-ghost use Rattle.promise_check.specs.Requests.{HasPlaces, ArePlain, CanBeKept, request_at};
-ghost use Rattle.promise_check.specs.Promised.{vehicle_task, promised_to, IsLive};
-ghost use Rattle.promise_check.specs.Settling.{AreLegsOf, IsPlaced, HasVehiclePlaces, IsSettledVehicle, AreSettledVehicles};
+ghost use Rattle.stop_orders.specs.Settled.{no_rider, vehicle_task};
+ghost use Rattle.stop_orders.specs.Sound.{IsShort};
+ghost use Rattle.promise_check.specs.Requests.{request_at};
+ghost use Rattle.promise_check.specs.work.Requests.{IsBetweenPlaces, ArePlain, CanBeKept};
+ghost use Rattle.promise_check.specs.Promised.{promised_to, IsLive};
+ghost use Rattle.promise_check.specs.Settling.{AreLegsOf, IsPlaced};
+ghost use Rattle.promise_check.specs.work.Settling.{HasVehiclePlaces, IsSettledVehicle, AreSettledVehicles};
 
 use crate::kept_riders::legs_as_promised;
 use crate::promised::riders_promised_to;
@@ -19,7 +22,7 @@ use std::alloc::Global;
 use stop_orders::{Leg, SettledRider, SettledVehicle, Task};
 
 /// The vehicles of a batch, each with its place, whether it is late, and the riders that it keeps.
-pub fn settled_vehicles(
+pub(crate) fn settled_vehicles(
     alloc: Global,
     settings: &Settings,
     points: &Points,
@@ -113,7 +116,7 @@ fn legs_of(
     passengers: &[Passenger],
 ) -> ArrayVec<Leg, 10>
     requires table { point_count times.now ≡ length points.now }
-    requires places { All (λ p. HasPlaces points.now p.origin p.destination) passengers.now }
+    requires places { All (λ p. IsBetweenPlaces points.now p.origin p.destination) passengers.now }
     requires count { length passengers.now ≤ 10 }
     ensures legs { AreLegsOf settings.now points.now (travel_time times.now) passengers.now result.items }
     ensures valid { All (IsLeg (length points.now)) result.items }

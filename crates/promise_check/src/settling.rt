@@ -1,7 +1,8 @@
 ghost use Rattle.std.specs.Prelude.{◌≡◌, ◌≤◌, IfOk, length, map};
 ghost use Rattle.pool_base.specs.Times.{point_count, travel_time};
 ghost use Rattle.batch_snapshot.specs.Points.{ArePoints};
-ghost use Rattle.stop_orders.specs.Settled.{IsSound, greatest};
+ghost use Rattle.stop_orders.specs.Settled.{greatest};
+ghost use Rattle.stop_orders.specs.Sound.{IsSound};
 ghost use Rattle.promise_check.specs.Settling.{IsSettled};
 
 use crate::kept_riders::riders_as_promised;

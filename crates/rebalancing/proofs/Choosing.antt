@@ -6,11 +6,11 @@ use Rattle.std.proofs.lemmas.List.Elements.{All-push, Contains-append_left, Cont
 use Rattle.std.proofs.lemmas.List.Quantifiers.{all_pairs_push}
 use Rattle.pool_base.specs.TravelTime.{never}
 use Rattle.rebalancing.specs.declared.matching.Matching.{Matching}
-use Rattle.rebalancing.specs.Matching.{seconds_of, total_of, IsMatching}
+use Rattle.rebalancing.specs.Matching.{pair_seconds, total_of, IsMatching}
 use Rattle.rebalancing.specs.Potentials.{pair_worth, potential, ArePotentials}
-use Rattle.rebalancing.specs.Weights.{weight_of}
-use Rattle.rebalancing.specs.Prices.{IsPricedMatching, weight_in}
-use Rattle.rebalancing.specs.Chosen.{IsChosen, seconds_in}
+use Rattle.rebalancing.specs.work.Weights.{weight_of}
+use Rattle.rebalancing.specs.work.Prices.{IsPricedMatching, weight_in}
+use Rattle.rebalancing.specs.work.Chosen.{IsChosen, seconds_in}
 use Rattle.rebalancing.proofs.PlaceSums.{sum_by_same}
 
 -- a vehicle without a pair that has a way is passed over
@@ -75,10 +75,10 @@ module _ (tau : ℕ → ℕ → ℕ) (idle wanted : List ℕ) (s : Matching) (pa
   within k d h = (rw vehicles at ((chosen.sound k d h).0), rw riders at ((chosen.sound k d h).1))
 
   -- the weight of a chosen pair
-  weight_is : (k : ℕ) (d : ℕ × ℕ) → k < length pairs → weight_in s (get_or pairs k d).0 (get_or pairs k d).1 ≡ weight_of (seconds_of tau idle wanted (get_or pairs k d))
+  weight_is : (k : ℕ) (d : ℕ × ℕ) → k < length pairs → weight_in s (get_or pairs k d).0 (get_or pairs k d).1 ≡ weight_of (pair_seconds tau idle wanted (get_or pairs k d))
   weight_is k d h = weights _ _ (within k d h).0 (within k d h).1
 
-  way : (k : ℕ) (d : ℕ × ℕ) → k < length pairs → seconds_of tau idle wanted (get_or pairs k d) < never
+  way : (k : ℕ) (d : ℕ × ℕ) → k < length pairs → pair_seconds tau idle wanted (get_or pairs k d) < never
   way k d h = weight_of-way _ (rw (weight_is k d h) at ((chosen.sound k d h).3))
 
   pub IsMatching-chosen : IsMatching tau idle wanted pairs
@@ -99,9 +99,9 @@ module _ (tau : ℕ → ℕ → ℕ) (idle wanted : List ℕ) (s : Matching) (pa
   }
 
   pub total-chosen : sum_by (seconds_in s) pairs ≡ total_of tau idle wanted pairs
-  total-chosen = sum_by_same (seconds_in s) (seconds_of tau idle wanted) pairs (λ k d h.
-      let is : weight_in s (get_or pairs k d).0 (get_or pairs k d).1 ≡ weight_of (seconds_of tau idle wanted (get_or pairs k d)) = weight_is k d h in
-      let worth : weight_of (seconds_of tau idle wanted (get_or pairs k d)) + seconds_of tau idle wanted (get_or pairs k d) ≡ pair_worth = weight_of-is _ (way k d h) in
+  total-chosen = sum_by_same (seconds_in s) (pair_seconds tau idle wanted) pairs (λ k d h.
+      let is : weight_in s (get_or pairs k d).0 (get_or pairs k d).1 ≡ weight_of (pair_seconds tau idle wanted (get_or pairs k d)) = weight_is k d h in
+      let worth : weight_of (pair_seconds tau idle wanted (get_or pairs k d)) + pair_seconds tau idle wanted (get_or pairs k d) ≡ pair_worth = weight_of-is _ (way k d h) in
       omega arith)
 
   -- the negated price of a place
@@ -154,16 +154,16 @@ module _ (tau : ℕ → ℕ → ℕ) (idle wanted : List ℕ) (s : Matching) (pa
     to_at_most_0 = λ j h. rw (to_at j h) (negated-most _);
     at_most = λ i j hi hj reach.
         let cover : weight_in s i j ≤ slice_index s.vehicle_price.items i + slice_index s.rider_price.items j = priced.covers i j (rw vehicles hi) (rw riders hj) in
-        let is : weight_in s i j ≡ weight_of (seconds_of tau idle wanted (i, j)) = weights i j hi hj in
-        let worth : weight_of (seconds_of tau idle wanted (i, j)) + seconds_of tau idle wanted (i, j) ≡ pair_worth = weight_of-is _ reach in
-        rw (from_at i hi, to_at j hj) (negated-at_most (slice_index s.vehicle_price.items i) (slice_index s.rider_price.items j) (seconds_of tau idle wanted (i, j)) pair_worth (omega arith));
+        let is : weight_in s i j ≡ weight_of (pair_seconds tau idle wanted (i, j)) = weights i j hi hj in
+        let worth : weight_of (pair_seconds tau idle wanted (i, j)) + pair_seconds tau idle wanted (i, j) ≡ pair_worth = weight_of-is _ reach in
+        rw (from_at i hi, to_at j hj) (negated-at_most (slice_index s.vehicle_price.items i) (slice_index s.rider_price.items j) (pair_seconds tau idle wanted (i, j)) pair_worth (omega arith));
     equal = λ k d h.
         let p : ℕ × ℕ = get_or pairs k d in
         let sound = chosen.sound k d h in
         let tight : slice_index s.vehicle_price.items (get_or pairs k d).0 + slice_index s.rider_price.items (get_or pairs k d).1 ≡ weight_in s (get_or pairs k d).0 (get_or pairs k d).1 = rw sound.2 at (priced.tight (get_or pairs k d).0 sound.0 (rw sound.2 sound.1)) in
-        let is : weight_in s (get_or pairs k d).0 (get_or pairs k d).1 ≡ weight_of (seconds_of tau idle wanted (get_or pairs k d)) = weight_is k d h in
-        let worth : weight_of (seconds_of tau idle wanted (get_or pairs k d)) + seconds_of tau idle wanted (get_or pairs k d) ≡ pair_worth = weight_of-is _ (way k d h) in
-        rw (from_at _ (within k d h).0, to_at _ (within k d h).1) (negated-equal (slice_index s.vehicle_price.items (get_or pairs k d).0) (slice_index s.rider_price.items (get_or pairs k d).1) (seconds_of tau idle wanted (get_or pairs k d)) pair_worth (omega arith));
+        let is : weight_in s (get_or pairs k d).0 (get_or pairs k d).1 ≡ weight_of (pair_seconds tau idle wanted (get_or pairs k d)) = weight_is k d h in
+        let worth : weight_of (pair_seconds tau idle wanted (get_or pairs k d)) + pair_seconds tau idle wanted (get_or pairs k d) ≡ pair_worth = weight_of-is _ (way k d h) in
+        rw (from_at _ (within k d h).0, to_at _ (within k d h).1) (negated-equal (slice_index s.vehicle_price.items (get_or pairs k d).0) (slice_index s.rider_price.items (get_or pairs k d).1) (pair_seconds tau idle wanted (get_or pairs k d)) pair_worth (omega arith));
     from_unmatched = λ i h unchosen. from_at i h ∙ ap negated (from_free i h unchosen);
     to_unmatched = λ j h unchosen. to_at j h ∙ ap negated (to_free j h unchosen);
   }

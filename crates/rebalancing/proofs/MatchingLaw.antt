@@ -3,7 +3,7 @@ use Rattle.std.proofs.lemmas.Int.{ints}
 use Rattle.std.proofs.lemmas.List.{length-map, get_or-map, length-replicate, get_or-replicate}
 use Rattle.std.proofs.lemmas.List.Sums.{sum_by-le}
 use Rattle.pool_base.specs.TravelTime.{never, longest}
-use Rattle.rebalancing.specs.Matching.{seconds_of, total_of, IsMatching, IsBestMatching}
+use Rattle.rebalancing.specs.Matching.{pair_seconds, total_of, IsMatching, IsBestMatching}
 use Rattle.rebalancing.specs.Potentials.{pair_worth, potential, ArePotentials}
 use Rattle.rebalancing.proofs.PlaceSums.{sum_over_different, sum_over_covering, sum_at_least, sum_exactly}
 
@@ -34,8 +34,8 @@ IsMatching-short tau from to pairs m =
 pub record ArePrices (tau : ℕ → ℕ → ℕ) (from to : List ℕ) (pairs : List (ℕ × ℕ)) (a b : List ℕ) : Type 0 where
   pub a_length : length a ≡ length from
   pub b_length : length b ≡ length to
-  pub at_least : (i j : ℕ) → i < length from → j < length to → seconds_of tau from to (i, j) < never → pair_worth ≤ seconds_of tau from to (i, j) + get_or a i 0 + get_or b j 0
-  pub equal : All (λ (p : ℕ × ℕ). pair_worth ≡ seconds_of tau from to p + get_or a p.0 0 + get_or b p.1 0) pairs
+  pub at_least : (i j : ℕ) → i < length from → j < length to → pair_seconds tau from to (i, j) < never → pair_worth ≤ pair_seconds tau from to (i, j) + get_or a i 0 + get_or b j 0
+  pub equal : All (λ (p : ℕ × ℕ). pair_worth ≡ pair_seconds tau from to p + get_or a p.0 0 + get_or b p.1 0) pairs
   pub a_unmatched : (i : ℕ) → i < length a → (Any (λ (p : ℕ × ℕ). p.0 ≡ i) pairs → ⊥) → get_or a i 0 ≡ 0
   pub b_unmatched : (j : ℕ) → j < length b → (Any (λ (p : ℕ × ℕ). p.1 ≡ j) pairs → ⊥) → get_or b j 0 ≡ 0
 
@@ -43,7 +43,7 @@ pub record ArePrices (tau : ℕ → ℕ → ℕ) (from to : List ℕ) (pairs : L
 gains_no_more : (tau : ℕ → ℕ → ℕ) (from to : List ℕ) (pairs other : List (ℕ × ℕ)) (a b : List ℕ) → ArePrices tau from to pairs a b → IsMatching tau from to other
     → length other * pair_worth + total_of tau from to pairs ≤ total_of tau from to other + length pairs * pair_worth
 gains_no_more tau from to pairs other a b prices m =
-    let s : ℕ × ℕ → ℕ = seconds_of tau from to in
+    let s : ℕ × ℕ → ℕ = pair_seconds tau from to in
     let f : ℕ × ℕ → ℕ = λ p. get_or a p.0 0 in
     let g : ℕ × ℕ → ℕ = λ p. get_or b p.1 0 in
     let covered : length other * pair_worth ≤ sum_by s other + sum_by f other + sum_by g other = sum_at_least s f g pair_worth other (λ k d h. prices.at_least _ _ (m.within k d h).0 (m.within k d h).1 (m.reachable k d h)) in
@@ -59,7 +59,7 @@ gains_no_more tau from to pairs other a b prices m =
 -- the total of a matching of at most 500 places is less than the worth of one more pair
 total_short : (tau : ℕ → ℕ → ℕ) (from to : List ℕ) (pairs : List (ℕ × ℕ)) → ((a b : ℕ) → tau a b < never → tau a b ≤ longest) → length from ≤ 500 → IsMatching tau from to pairs → total_of tau from to pairs < pair_worth
 total_short tau from to pairs range few m =
-    let most : total_of tau from to pairs ≤ length pairs * longest = sum_by-le (seconds_of tau from to) longest pairs (λ k d h. range _ _ (m.reachable k d h)) in
+    let most : total_of tau from to pairs ≤ length pairs * longest = sum_by-le (pair_seconds tau from to) longest pairs (λ k d h. range _ _ (m.reachable k d h)) in
     let short : length pairs ≤ length from = IsMatching-short tau from to pairs m in
     omega arith
 

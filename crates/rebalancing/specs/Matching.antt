@@ -2,17 +2,17 @@ use Rattle.std.specs.Prelude.{◌≡◌, ◌≢◌, ℕ, ◌<◌, ◌≤◌, Lis
 use Rattle.pool_base.specs.TravelTime.{never}
 
 -- the seconds from the place of a pair's first index to the place of its second
-abbrev pub seconds_of : (ℕ → ℕ → ℕ) → List ℕ → List ℕ → ℕ × ℕ → ℕ
-seconds_of tau from to pair = tau (slice_index from pair.0) (slice_index to pair.1)
+abbrev pub pair_seconds : (ℕ → ℕ → ℕ) → List ℕ → List ℕ → ℕ × ℕ → ℕ
+pair_seconds tau from to pair = tau (slice_index from pair.0) (slice_index to pair.1)
 
 -- the sum of the pairs' seconds
 abbrev pub total_of : (ℕ → ℕ → ℕ) → List ℕ → List ℕ → List (ℕ × ℕ) → ℕ
-total_of tau from to pairs = sum_by (seconds_of tau from to) pairs
+total_of tau from to pairs = sum_by (pair_seconds tau from to) pairs
 
 -- the pairs join places of two lists, each place at most once, and only where there is a way
 pub record IsMatching (tau : ℕ → ℕ → ℕ) (from to : List ℕ) (pairs : List (ℕ × ℕ)) : Type 0 where
   pub within : All (λ (p : ℕ × ℕ). (p.0 < length from) × (p.1 < length to)) pairs
-  pub reachable : All (λ (p : ℕ × ℕ). seconds_of tau from to p < never) pairs
+  pub reachable : All (λ (p : ℕ × ℕ). pair_seconds tau from to p < never) pairs
   pub once_from : AllPairs (λ (p q : ℕ × ℕ). p.0 ≢ q.0) pairs
   pub once_to : AllPairs (λ (p q : ℕ × ℕ). p.1 ≢ q.1) pairs
 

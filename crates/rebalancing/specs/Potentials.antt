@@ -1,6 +1,6 @@
 use Rattle.std.specs.Prelude.{◌≡◌, ℕ, ◌<◌, ℤ, pos, ◌+ℤ◌, ◌-ℤ◌, ◌≤ℤ◌, List, length, slice_index_or, All, Any}
 use Rattle.pool_base.specs.TravelTime.{never}
-use Rattle.rebalancing.specs.Matching.{seconds_of}
+use Rattle.rebalancing.specs.Matching.{pair_seconds}
 
 -- what a pair is worth, in seconds: more than any total, so that most pairs come before least seconds
 abbrev pub pair_worth : ℕ
@@ -17,7 +17,7 @@ pub record ArePotentials (tau : ℕ → ℕ → ℕ) (from to : List ℕ) (pairs
   pub to_length : length v ≡ length to
   pub from_at_most_0 : (i : ℕ) → i < length from → potential u i ≤ℤ pos 0
   pub to_at_most_0 : (j : ℕ) → j < length to → potential v j ≤ℤ pos 0
-  pub at_most : (i j : ℕ) → i < length from → j < length to → seconds_of tau from to (i, j) < never → (potential u i +ℤ potential v j) ≤ℤ (pos (seconds_of tau from to (i, j)) -ℤ pos pair_worth)
-  pub equal : All (λ (p : ℕ × ℕ). potential u p.0 +ℤ potential v p.1 ≡ pos (seconds_of tau from to p) -ℤ pos pair_worth) pairs
+  pub at_most : (i j : ℕ) → i < length from → j < length to → pair_seconds tau from to (i, j) < never → (potential u i +ℤ potential v j) ≤ℤ (pos (pair_seconds tau from to (i, j)) -ℤ pos pair_worth)
+  pub equal : All (λ (p : ℕ × ℕ). potential u p.0 +ℤ potential v p.1 ≡ pos (pair_seconds tau from to p) -ℤ pos pair_worth) pairs
   pub from_unmatched : (i : ℕ) → i < length from → (Any (λ (p : ℕ × ℕ). p.0 ≡ i) pairs → ⊥) → potential u i ≡ pos 0
   pub to_unmatched : (j : ℕ) → j < length to → (Any (λ (p : ℕ × ℕ). p.1 ≡ j) pairs → ⊥) → potential v j ≡ pos 0

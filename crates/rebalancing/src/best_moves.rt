@@ -2,9 +2,9 @@ ghost use Rattle.std.specs.Prelude.{◌≡◌, ℕ, ◌+◌, ◌*◌, ◌<◌, �
 ghost use Rattle.pool_base.specs.Times.{point_count, travel_time};
 ghost use Rattle.rebalancing.specs.Matching.{IsBestMatching, total_of};
 ghost use Rattle.rebalancing.specs.Potentials.{ArePotentials, pair_worth};
-ghost use Rattle.rebalancing.specs.Weights.{weight_at};
-ghost use Rattle.rebalancing.specs.Prices.{IsPricedMatching, IsSized, weight_in};
-ghost use Rattle.rebalancing.specs.Chosen.{IsChosen, seconds_in};
+ghost use Rattle.rebalancing.specs.work.Weights.{weight_at};
+ghost use Rattle.rebalancing.specs.work.Prices.{IsPricedMatching, IsSized, weight_in};
+ghost use Rattle.rebalancing.specs.work.Chosen.{IsChosen, seconds_in};
 
 use crate::matching::Matching;
 use crate::moves::{Moves, Pairs, Potentials};

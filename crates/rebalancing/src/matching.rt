@@ -1,8 +1,8 @@
 ghost use Rattle.std.specs.Prelude.{◌≡◌, ◌≢◌, ℕ, ◌+◌, ◌*◌, ◌<◌, ◌≤◌, IfSome, IfNone, IfOk, OnOk, length, slice_index, slice_set};
 ghost use Rattle.rebalancing.specs.Potentials.{pair_worth};
-ghost use Rattle.rebalancing.specs.Weights.{weight_at};
-ghost use Rattle.rebalancing.specs.Prices.{IsPricedMatching, IsSized, IsSameProblem, weight_in};
-ghost use Rattle.rebalancing.specs.SearchTree.{HasRoom, IsNearest, IsOpenMatching, IsSearchTree, root_of};
+ghost use Rattle.rebalancing.specs.work.Weights.{weight_at};
+ghost use Rattle.rebalancing.specs.work.Prices.{IsPricedMatching, IsSized, IsSameProblem, weight_in};
+ghost use Rattle.rebalancing.specs.work.SearchTree.{HasRoom, IsNearest, IsOpenMatching, IsSearchTree, root_of};
 
 use crate::tree::{Tree, cheaper, lower, raise, relax};
 use crate::weights::PAIR_WORTH;
@@ -14,7 +14,7 @@ use std::alloc::Global;
 /// Prices are the negated potentials: a pair's prices are together at least its weight, and exactly that where it is
 /// matched; what is unmatched has price 0 as soon as it was tried.
 #[derive(Drop)]
-pub struct Matching {
+pub(crate) struct Matching {
     pub vehicles: usize,
     pub riders: usize,
     /// Row by row.
@@ -29,7 +29,7 @@ pub struct Matching {
 
 impl Matching {
     /// No pair, before any vehicle was tried.
-    pub fn new(
+    pub(crate) fn new(
         alloc: Global,
         vehicles: usize,
         riders: usize,
@@ -64,7 +64,7 @@ impl Matching {
     }
 
     /// The weight of a pair.
-    pub fn weight(&self, vehicle: usize, rider: usize) -> u64
+    pub(crate) fn weight(&self, vehicle: usize, rider: usize) -> u64
         requires sized { IsSized self.now }
         requires vehicle { vehicle < self.now.vehicles }
         requires rider { rider < self.now.riders }
@@ -74,7 +74,7 @@ impl Matching {
     }
 
     /// The rider with whom a vehicle is matched, if there is a way. A pair without a way weighs nothing and counts as none.
-    pub fn chosen(&self, vehicle: usize) -> Option<usize>
+    pub(crate) fn chosen(&self, vehicle: usize) -> Option<usize>
         requires sized { IsSized self.now }
         requires within { vehicle < self.now.vehicles }
         requires rider_of { length self.now.rider_of.items ≡ self.now.vehicles }
@@ -205,7 +205,7 @@ impl Matching {
     }
 
     /// Tries one more vehicle: the prices of a growing tree fall until a rider that is free is tight, or a price is 0.
-    pub fn insert(&mut self, tree: &mut Tree, vehicle: usize) -> Result<(), OutOfMemory>
+    pub(crate) fn insert(&mut self, tree: &mut Tree, vehicle: usize) -> Result<(), OutOfMemory>
         requires sized { IsSized self.old }
         requires room { HasRoom self.old.riders tree.old }
         requires within { vehicle < self.old.vehicles }

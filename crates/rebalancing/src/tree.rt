@@ -1,6 +1,6 @@
 ghost use Rattle.std.specs.Prelude.{◌≡◌, ◌≢◌, ◌⊎◌, ℕ, ◌+◌, ◌-◌, ◌<◌, ◌≤◌, ◌^◌, IfOk, length, slice_index, [], replicate};
-ghost use Rattle.rebalancing.specs.SearchTree.{HasRoom, IsNearest};
-ghost use Rattle.rebalancing.specs.Relaxation.{IsCheaper, Relaxes, Improves, Falls, Rises};
+ghost use Rattle.rebalancing.specs.work.SearchTree.{HasRoom, IsNearest};
+ghost use Rattle.rebalancing.specs.work.Relaxation.{IsCheaper, Relaxes, Improves, Falls, Rises};
 
 use pool_base::OutOfMemory;
 use std::alloc::Global;
@@ -8,7 +8,7 @@ use std::alloc::Global;
 /// The work space of the search for one vehicle: the vehicles reached so far, each with its rider and the position of
 /// the vehicle that reached it, and for each rider outside how near it is. It is made once and used for every vehicle.
 #[derive(Drop)]
-pub struct Tree {
+pub(crate) struct Tree {
     /// By position; the root stands first.
     pub vehicles: Vec<usize>,
     /// By position; the root has none, and the number of riders stands for it.
@@ -28,7 +28,7 @@ pub struct Tree {
 }
 
 impl Tree {
-    pub fn new(alloc: Global, vehicles: usize, riders: usize) -> Result<Tree, OutOfMemory>
+    pub(crate) fn new(alloc: Global, vehicles: usize, riders: usize) -> Result<Tree, OutOfMemory>
         ensures { IfOk result (HasRoom riders) }
     {
         Ok(Tree {
@@ -44,7 +44,7 @@ impl Tree {
     }
 
     /// Empties the tree.
-    pub fn clear(&mut self)
+    pub(crate) fn clear(&mut self)
         ensures vehicles { self.new.vehicles.items ≡ [] }
         ensures riders { self.new.riders.items ≡ [] }
         ensures parents { self.new.parents.items ≡ [] }
@@ -64,7 +64,7 @@ impl Tree {
     }
 
     /// How far the prices have yet to fall until this rider is tight; the greatest number where there is no such rider.
-    pub fn slack(&self, rider: usize) -> u64
+    pub(crate) fn slack(&self, rider: usize) -> u64
         requires { rider < length self.now.tight_at.items → self.now.lowered ≤ slice_index self.now.tight_at.items rider }
         ensures some { rider < length self.now.tight_at.items → self.now.lowered + result ≡ slice_index self.now.tight_at.items rider }
         ensures none { length self.now.tight_at.items ≤ rider → result ≡ u64.MAX }
@@ -79,7 +79,7 @@ impl Tree {
 
 /// Takes into account the vehicle at a position: `row` has the weights of its pairs, and `offset` is its price plus the
 /// fall so far. Answers the rider outside the tree that is tight first, and the number of riders where there is none.
-pub fn relax(
+pub(crate) fn relax(
     tight_at: &mut [u64],
     parent_of: &mut [usize],
     place: &[usize],
@@ -122,7 +122,7 @@ fn improve(tight_at: &mut [u64], parent_of: &mut [usize], rider: usize, when: u6
 }
 
 /// The position, of two, of the lesser price; the first where both are equal.
-pub fn cheaper(prices: &[u64], vehicles: &[usize], first: usize, second: usize) -> usize
+pub(crate) fn cheaper(prices: &[u64], vehicles: &[usize], first: usize, second: usize) -> usize
     requires first { first < length vehicles.now }
     requires second { second < length vehicles.now }
     requires first_price { slice_index vehicles.now first < length prices.now }
@@ -137,7 +137,7 @@ pub fn cheaper(prices: &[u64], vehicles: &[usize], first: usize, second: usize) 
 }
 
 /// Lowers the prices of these vehicles.
-pub fn lower(prices: &mut [u64], vehicles: &[usize], by: u64)
+pub(crate) fn lower(prices: &mut [u64], vehicles: &[usize], by: u64)
     requires within { (t : ℕ) → t < length vehicles.now → slice_index vehicles.now t < length prices.old }
     requires distinct { (s t : ℕ) → s < length vehicles.now → t < length vehicles.now → slice_index vehicles.now s ≡ slice_index vehicles.now t → s ≡ t }
     requires enough { (t : ℕ) → t < length vehicles.now → by ≤ slice_index prices.old (slice_index vehicles.now t) }
@@ -149,7 +149,7 @@ pub fn lower(prices: &mut [u64], vehicles: &[usize], by: u64)
 }
 
 /// Raises the prices of these riders, but for the root's place.
-pub fn raise(prices: &mut [u64], riders: &[usize], by: u64)
+pub(crate) fn raise(prices: &mut [u64], riders: &[usize], by: u64)
     requires within { (t : ℕ) → 0 < t → t < length riders.now → slice_index riders.now t < length prices.old }
     requires distinct { (s t : ℕ) → 0 < s → 0 < t → s < length riders.now → t < length riders.now → slice_index riders.now s ≡ slice_index riders.now t → s ≡ t }
     requires fits { (t : ℕ) → 0 < t → t < length riders.now → slice_index prices.old (slice_index riders.now t) + by < 2 ^ 64 }

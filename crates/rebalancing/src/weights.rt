@@ -1,12 +1,12 @@
 ghost use Rattle.std.specs.Prelude.{◌≡◌, ◌+◌, ◌++◌, ◌*◌, ◌<◌, ◌≤◌, ℕ, All, IfOk, OnOk, length, map, slice_index};
 ghost use Rattle.pool_base.specs.Times.{point_count, travel_time};
-ghost use Rattle.rebalancing.specs.Weights.{weight_at, weight_of};
+ghost use Rattle.rebalancing.specs.work.Weights.{weight_at, weight_of};
 
 use pool_base::{OutOfMemory, Times};
 use std::alloc::Global;
 
 /// What a pair is worth, in seconds: more than 500 pairs of 1,000,000,000 seconds.
-pub const PAIR_WORTH: u64 = 500_000_000_001;
+pub(crate) const PAIR_WORTH: u64 = 500_000_000_001;
 
 /// What is gained by a pair so many seconds apart; nothing where there is no way.
 fn weight(seconds: u32) -> u64
@@ -37,7 +37,7 @@ fn push_row(
 }
 
 /// The weights of all pairs, row by row, flat, so that the search reads one row in order.
-pub fn weights_of(
+pub(crate) fn weights_of(
     alloc: Global,
     idle: &[usize],
     wanted: &[usize],

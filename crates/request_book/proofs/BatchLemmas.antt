@@ -1,7 +1,7 @@
 -- The batch of a seal: what it shows, and what it keeps.
 use Rattle.std.proofs.Common.{◌≡◌, ℕ, zero, suc, ◌+◌, ◌<◌, ◌≤◌, Bool, true, false, cond, leb, ltb, eqb, ◌&&◌, List, [], ◌∷◌, ◌++◌, length, map, Option, Some, None, refl, sym, ap, subst, ◌∙◌, inl, inr, arith}
 use Rattle.std.specs.Prelude.{is_some, option_map, option_and_then, count_by, slice_index}
-use Rattle.std.specs.List.{filter_map, cons_option, All}
+use Rattle.std.specs.List.{filter_map, cons_option, All, Contains}
 use Rattle.std.specs.List.Sorted.{IsStrictlyIncreasing}
 use Rattle.std.proofs.lemmas.Bool.{cases_eq, ne_eqb, leb-true, true≢false}
 use Rattle.std.proofs.lemmas.List.{length-map}
@@ -16,14 +16,15 @@ use Rattle.request_book.specs.declared.rider.Status.{Status}
 use Rattle.request_book.specs.declared.rider.Status.TheVariants.{Waiting, Promised, Aboard, Cancelled, Delivered, Expired}
 use Rattle.request_book.specs.declared.state.State.{State}
 use Rattle.request_book.specs.Consistent.{IsConsistent, seat_in}
-use Rattle.request_book.specs.Keyed.{look_up, changed_in_turn, by_key, KeysRise, KeysDiffer, AllAbove}
-use Rattle.request_book.specs.Register.{pool_id}
+use Rattle.request_book.specs.Keyed.{look_up, by_key, KeysRise, KeysDiffer, AllAbove}
+use Rattle.request_book.specs.work.Keyed.{changed_in_turn}
+use Rattle.request_book.specs.work.Register.{pool_id}
 use Rattle.request_book.specs.Rider.{is_active, pool_promise, vehicle_of, shown, with_status, passenger_of}
 use Rattle.request_book.specs.Sealing.{is_over, after_seal, over_id, asking, batch_of}
 use Rattle.request_book.specs.State.{find_rider, find_vehicle, find_passenger}
 use Rattle.request_book.proofs.IndexLemmas.{IsPool, pool_id-keeps}
 use Rattle.request_book.proofs.SealLemmas.{changed_in_turn-marked, marked, map-agree}
-use Rattle.request_book.proofs.KeyedLemmas.{look_up-here, look_up-there, look_up-nil, look_up-key, look_up-at, look_up-filter_map, KeysDiffer-filter_map, KeysDiffer-from_rise, by_key-order, filter_map-by_key, made-rise, made-found, look_up-map, length-by_key, length-filter_map, All-from_look_up, All-look_up}
+use Rattle.request_book.proofs.KeyedLemmas.{IsOrderOf, look_up-here, look_up-there, look_up-nil, look_up-key, look_up-at, look_up-filter_map, KeysDiffer-filter_map, KeysDiffer-from_rise, by_key-order, filter_map-by_key, made-rise, made-found, look_up-map, length-by_key, length-filter_map, All-from_look_up, All-look_up}
 
 -- what is made of changed elements
 filter_map-map : {X Y Z : Type 0} (h : Y → Option Z) (g : X → Y) (xs : List X) → filter_map h (map g xs) ≡ filter_map (λ x. h (g x)) xs
@@ -34,32 +35,34 @@ module _ (wait now : ℕ) where
   abbrev pub shows : BookRider → Option Rider
   shows r = asking now (after_seal wait now r)
 
-  -- who is shown is active, asked by now, and keeps their id
+  -- who is shown is active, asked by now and still waits, and keeps their id
   pub record IsShown (r : BookRider) (y : Rider) : Type 0 where
     pub id : y.id ≡ r.id
     pub active : is_active r.status ≡ true
     pub asked : y.time ≤ now
+    pub waits : is_over wait now r ≡ false
     pub origin : y.origin ≡ r.origin
     pub destination : y.destination ≡ r.destination
 
   pub shown-is : (r : BookRider) (y : Rider) → shows r ≡ Some y → IsShown r y
   shown-is r y e = by (is_over wait now r) refl e
     where
-      in_pool : (o : Option (Option Promise)) → pool_promise r.status ≡ o → leb r.time now ≡ true → option_map (shown r) o ≡ Some y → IsShown r y
-      in_pool None p t f = absurd cc
-      in_pool (Some q) p t f =
+      in_pool : (o : Option (Option Promise)) → is_over wait now r ≡ false → pool_promise r.status ≡ o → leb r.time now ≡ true → option_map (shown r) o ≡ Some y → IsShown r y
+      in_pool None w p t f = absurd cc
+      in_pool (Some q) w p t f =
           let is : shown r q ≡ y = cc in
           record {
             id = sym (ap (λ (z : Rider). z.id) is);
             active = ap is_some p;
             asked = subst (λ (z : Rider). z.time ≤ now) is (leb-true r.time now t);
+            waits = w;
             origin = sym (ap (λ (z : Rider). z.origin) is);
             destination = sym (ap (λ (z : Rider). z.destination) is);
           }
 
-      in_time : (t : Bool) → leb r.time now ≡ t → cond t (option_map (shown r) (pool_promise r.status)) None ≡ Some y → IsShown r y
-      in_time false t f = absurd cc
-      in_time true t f = in_pool (pool_promise r.status) refl t f
+      in_time : (t : Bool) → is_over wait now r ≡ false → leb r.time now ≡ t → cond t (option_map (shown r) (pool_promise r.status)) None ≡ Some y → IsShown r y
+      in_time false w t f = absurd cc
+      in_time true w t f = in_pool (pool_promise r.status) w refl t f
 
       gone : (t : Bool) → cond t None None ≡ Some y → IsShown r y
       gone true f = absurd cc
@@ -67,7 +70,7 @@ module _ (wait now : ℕ) where
 
       by : (o : Bool) → is_over wait now r ≡ o → asking now (cond o (with_status Expired r) r) ≡ Some y → IsShown r y
       by true o f = gone (leb r.time now) f
-      by false o f = in_time (leb r.time now) refl f
+      by false o f = in_time (leb r.time now) o refl f
 
   -- whose wait is over is active
   pub over-is : (r : BookRider) (n : ℕ) → over_id wait now r ≡ Some n → (n ≡ r.id) × (is_active r.status ≡ true)
@@ -272,8 +275,27 @@ module _ (wait now : ℕ) (s : State) (kept : IsConsistent s) where
       active r None e on = let off = ap is_some e in absurd cc
       active r (Some y) e on = (shown-is wait now r y e).active
 
-  expired-rise : KeysRise (λ n. n) (by_key (λ n. n) (filter_map (over_id wait now) s.riders))
-  expired-rise = (by_key-order (λ n. n) (filter_map (over_id wait now) s.riders) (KeysDiffer-filter_map (λ (r : BookRider). r.id) (λ n. n) (over_id wait now) (λ r n e. (over-is wait now r n e).0) s.riders kept.riders_differ)).rise
+  abbrev expired-list : List ℕ
+  expired-list = by_key (λ n. n) (filter_map (over_id wait now) s.riders)
+
+  expired-order : IsOrderOf (λ n. n) (filter_map (over_id wait now) s.riders) expired-list
+  expired-order = by_key-order (λ n. n) (filter_map (over_id wait now) s.riders) (KeysDiffer-filter_map (λ (r : BookRider). r.id) (λ n. n) (over_id wait now) (λ r n e. (over-is wait now r n e).0) s.riders kept.riders_differ)
+
+  -- who still waits is not among those whose wait is over
+  not-expired : (k : ℕ) (r : BookRider) → find_rider k s.riders ≡ Some r → is_over wait now r ≡ false → look_up (λ n. n) k expired-list ≡ None
+  not-expired k r found waits =
+      expired-order.found k
+      ∙ look_up-filter_map (λ (r : BookRider). r.id) (λ n. n) (over_id wait now) (λ r n e. (over-is wait now r n e).0) k s.riders kept.riders_differ
+      ∙ ap (option_and_then (over_id wait now)) found
+      ∙ rw waits refl
+
+  batch-apart : All (λ y. ¬ (Contains expired-list y.id)) batch-list
+  batch-apart = batch-each (λ (y : Rider). ¬ (Contains expired-list y.id)) (λ k r y found is in'.
+      let id : k ≡ y.id = sym (look_up-key (λ (r : BookRider). r.id) k s.riders r found) ∙ sym is.id in
+      let none : look_up (λ n. n) y.id expired-list ≡ None = subst (λ j. look_up (λ n. n) j expired-list ≡ None) id (not-expired k r found is.waits) in
+      let at = look_up-at (λ n. n) in'.0 expired-list y.id (KeysDiffer-from_rise (λ n. n) expired-list expired-order.rise) in'.1 in
+      let some : look_up (λ n. n) y.id expired-list ≡ Some y.id = subst (λ j. look_up (λ n. n) j expired-list ≡ Some j) in'.2 at in
+      absurd cc)
 
   -- who is in the pool is aboard of no vehicle
   pool-seatless : (r : BookRider) (x : ℕ) → is_active r.status ≡ true → seat_in x r ≡ None
@@ -307,10 +329,11 @@ module _ (wait now : ℕ) (s : State) (kept : IsConsistent s) where
     rider_count = few;
     vehicles_rise = increasing_from_rise (λ (v : Vehicle). v.id) s.vehicles kept.vehicles_rise;
     riders_rise = increasing_from_rise (λ (y : Rider). y.id) batch-list batch-rise;
-    expired_rise = subst IsStrictlyIncreasing (map-own _) (increasing_from_rise (λ n. n) (by_key (λ n. n) (filter_map (over_id wait now) s.riders)) expired-rise);
+    expired_rise = subst IsStrictlyIncreasing (map-own _) (increasing_from_rise (λ n. n) expired-list expired-order.rise);
     seats = kept.seats;
     asked = batch-each (λ (y : Rider). y.time ≤ now) (λ k r y found is. is.asked);
     once = batch-once;
+    apart = batch-apart;
   }
 
 -- what a seal makes of the riders and the pool

@@ -14,13 +14,16 @@ use Rattle.request_book.specs.declared.outcome.PlannedStop.{PlannedStop}
 use Rattle.request_book.specs.declared.rider.BookRider.{BookRider}
 use Rattle.request_book.specs.declared.rider.Status.{Status}
 use Rattle.request_book.specs.declared.rider.Status.TheVariants.{Waiting, Promised, Aboard, Cancelled, Delivered, Expired}
-use Rattle.request_book.specs.Closing.{Pick, picks, trip_picks, planned_status, in_batch, after_plan, waits_again, takes_promise, promised_in_turn, after_answer}
+use Rattle.request_book.specs.Closing.{Pick, picks, trip_picks, planned_status, in_batch, after_plan, after_answer}
+use Rattle.request_book.specs.work.Closing.{waits_again, takes_promise, promised_in_turn}
 use Rattle.request_book.specs.declared.outcome.Answer.{Answer}
 use Rattle.request_book.specs.declared.outcome.Answer.TheVariants.{Overflow, Planned as Plan}
-use Rattle.request_book.specs.Register.{pool_id}
+use Rattle.request_book.specs.work.Register.{pool_id}
 use Rattle.request_book.proofs.IndexLemmas.{IsPool, IsPool-map}
-use Rattle.request_book.specs.Keyed.{look_up, changed_at, changed_in_turn, KeysRise, KeysDiffer, AllAbove}
-use Rattle.request_book.specs.Rider.{is_active, is_waiting, with_status}
+use Rattle.request_book.specs.Keyed.{look_up, changed_at, KeysRise, KeysDiffer, AllAbove}
+use Rattle.request_book.specs.work.Keyed.{changed_in_turn}
+use Rattle.request_book.specs.Rider.{is_active, with_status}
+use Rattle.request_book.specs.work.Closing.{is_waiting}
 use Rattle.request_book.proofs.KeyedLemmas.{look_up-here, look_up-there, look_up-nil, look_up-at, look_up-push_here, look_up-push_there, look_up-push_found, KeysDiffer-map, map-keys, KeysDiffer-from_rise}
 use Rattle.request_book.proofs.SealLemmas.{changed_in_turn-marked, marked}
 

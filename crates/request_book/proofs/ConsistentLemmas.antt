@@ -27,7 +27,8 @@ use Rattle.request_book.specs.Consistent.{AreConsistent, IsConsistent, seat_in}
 use Rattle.request_book.specs.Keyed.{changed_at, without, KeysRise, KeysDiffer}
 use Rattle.request_book.specs.Refusals.{first_of, unknown_vehicle, unknown_rider, is_aboard, has_ended, not_promised, not_aboard, time_back, vehicle_full, seat_refusal, not_this_batch}
 use Rattle.request_book.specs.Rider.{is_active, vehicle_of, with_status, passenger_of}
-use Rattle.request_book.specs.Sealing.{is_over, after_seal, one_more, sealed_state}
+use Rattle.request_book.specs.Sealing.{is_over, after_seal, sealed_state}
+use Rattle.pool_io.specs.Faults.{one_more}
 use Rattle.request_book.specs.State.{find_rider, find_vehicle, find_passenger, pool_count}
 use Rattle.request_book.specs.Step.{answer, rider_becomes, vehicle_becomes, stands_at, takes_in, lets_out, picked_up, dropped_off, submit_refusal, submit_step, cancel_step, report_step, pickup_step, dropoff_step, seal_refusal, seal_step, close_step, step}
 use Rattle.request_book.proofs.BatchLemmas.{after_seal-id}

@@ -7,7 +7,7 @@ use Rattle.request_book.specs.declared.rider.BookRider.{BookRider}
 use Rattle.request_book.specs.declared.rider.Status.{Status}
 use Rattle.request_book.specs.Keyed.{look_up, changed_at, without, placed, by_key, KeysRise, KeysDiffer}
 use Rattle.request_book.specs.declared.register.Register.{Register}
-use Rattle.request_book.specs.Register.{pool_id, HasRoom}
+use Rattle.request_book.specs.work.Register.{pool_id, HasRoom}
 use Rattle.request_book.specs.Rider.{is_active, with_status}
 use Rattle.request_book.specs.State.{find_rider, find_vehicle, pool_count}
 use Rattle.batch_snapshot.specs.declared.vehicle.Vehicle.{Vehicle}

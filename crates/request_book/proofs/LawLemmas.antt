@@ -23,7 +23,8 @@ use Rattle.request_book.specs.Closing.{closed_state}
 use Rattle.request_book.specs.Consistent.{IsConsistent, IsPassenger, seat_in, status_in}
 use Rattle.request_book.specs.Replay.{state_after}
 use Rattle.request_book.specs.Rider.{passenger_of, vehicle_of}
-use Rattle.request_book.specs.Sealing.{one_more, sealed_state}
+use Rattle.request_book.specs.Sealing.{sealed_state}
+use Rattle.pool_io.specs.Faults.{one_more}
 use Rattle.request_book.specs.State.{find_rider}
 use Rattle.request_book.specs.Step.{answer, rider_becomes, vehicle_becomes, stands_at, picked_up, dropped_off, submit_step, cancel_step, report_step, pickup_step, dropoff_step, seal_step, close_step, step}
 use Rattle.request_book.proofs.BookLemmas.{opening-consistent}

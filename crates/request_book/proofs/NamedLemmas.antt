@@ -22,8 +22,10 @@ use Rattle.request_book.specs.Consistent.{IsConsistent, IsNode, NamesNodes, seat
 use Rattle.request_book.specs.Keyed.{KeysDiffer, by_key}
 use Rattle.request_book.specs.Refusals.{unknown_node}
 use Rattle.request_book.specs.Rider.{is_active, vehicle_of, with_status, passenger_of}
-use Rattle.request_book.specs.Sealing.{is_over, after_seal, asking, batch_of, one_more, sealed_state}
-use Rattle.request_book.specs.State.{find_rider, find_vehicle, find_passenger, has_node}
+use Rattle.request_book.specs.Sealing.{is_over, after_seal, asking, batch_of, sealed_state}
+use Rattle.pool_io.specs.Faults.{one_more}
+use Rattle.request_book.specs.State.{find_rider, find_vehicle, find_passenger}
+use Rattle.road_network.specs.Roads.{has_node}
 use Rattle.request_book.specs.Step.{rider_becomes, vehicle_becomes, stands_at, takes_in, lets_out, picked_up, dropped_off, submit_refusal, submit_step, cancel_step, report_step, pickup_step, dropoff_step, seal_refusal, seal_step, close_step, step}
 use Rattle.request_book.proofs.BatchLemmas.{batch-each}
 use Rattle.request_book.proofs.ConsistentLemmas.{answer-keeps, close-keeps}

@@ -5,7 +5,8 @@ use Rattle.batch_snapshot.specs.declared.vehicle.Vehicle.{Vehicle}
 use Rattle.batch_snapshot.specs.Batch.{Batch}
 use Rattle.request_book.specs.declared.outcome.Answer.{Answer}
 use Rattle.request_book.specs.Closing.{after_answer, closed_state}
-use Rattle.request_book.specs.Sealing.{one_more, sealed_state}
+use Rattle.request_book.specs.Sealing.{sealed_state}
+use Rattle.pool_io.specs.Faults.{one_more}
 use Rattle.request_book.specs.declared.reply.BookRefusal.{BookRefusal}
 use Rattle.request_book.specs.declared.reply.Reply.TheVariants.{Refused, Accepted, Cancelled, Placed, Picked, Dropped, Sealed, Closed}
 use Rattle.request_book.specs.declared.reply.BookRefusal.TheVariants.{UnknownRider, UnknownVehicle, PoolFull}
@@ -13,7 +14,7 @@ use Rattle.request_book.specs.declared.rider.BookRider.{BookRider}
 use Rattle.request_book.specs.declared.rider.Status.{Status}
 use Rattle.request_book.specs.declared.rider.Status.TheVariants.{Waiting, Promised, Aboard, Cancelled as GivenUp, Delivered, Expired}
 use Rattle.request_book.specs.declared.state.State.{State}
-use Rattle.request_book.specs.Register.{pool_id}
+use Rattle.request_book.specs.work.Register.{pool_id}
 use Rattle.request_book.specs.Rider.{is_active}
 use Rattle.request_book.specs.Refusals.{first_of, duplicate_rider, aboard_refusal, ended_refusal, promise_refusal, seat_refusal, time_back, vehicle_full, unknown_node, not_this_batch}
 use Rattle.request_book.specs.State.{find_rider, find_vehicle, pool_count}

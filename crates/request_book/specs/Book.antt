@@ -2,7 +2,7 @@ use Rattle.std.specs.Prelude.{◌≡◌, ℕ, ◌+◌, ◌-◌, ◌^◌, List, [
 use Rattle.batch_snapshot.specs.Batch.{Batch}
 use Rattle.batch_snapshot.specs.declared.vehicle.Vehicle.{Vehicle}
 use Rattle.request_book.specs.declared.command.Command.{Command}
-use Rattle.request_book.specs.declared.command.Command.TheVariants.{Submit, Cancel, Report, Pickup, Dropoff, Seal, Close}
+use Rattle.request_book.specs.declared.command.Command.TheVariants.{Seal}
 use Rattle.request_book.specs.declared.journal.Entry.{Entry}
 use Rattle.request_book.specs.declared.reply.BookRefusal.{BookRefusal}
 use Rattle.request_book.specs.declared.reply.Reply.{Reply}
@@ -49,12 +49,7 @@ next_position first entries = min (first + length entries) (2 ^ 64 - 1)
 -- every command but a seal
 abbrev pub IsLight : Command → Type 0
 IsLight (Seal now) = ⊥
-IsLight (Submit rider origin destination time party) = Unit {0}
-IsLight (Cancel rider) = Unit {0}
-IsLight (Report vehicle node time) = Unit {0}
-IsLight (Pickup vehicle rider time) = Unit {0}
-IsLight (Dropoff vehicle rider time) = Unit {0}
-IsLight (Close batch outcome) = Unit {0}
+IsLight _ = Unit {0}
 
 -- the batch that a seal would put into `sealed`; none where the step refuses the seal
 abbrev pub batch_unless : Option BookRefusal → Batch → Option Batch

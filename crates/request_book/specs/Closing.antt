@@ -10,8 +10,8 @@ use Rattle.request_book.specs.declared.rider.BookRider.{BookRider}
 use Rattle.request_book.specs.declared.rider.Status.{Status}
 use Rattle.request_book.specs.declared.rider.Status.TheVariants.{Waiting, Promised}
 use Rattle.request_book.specs.declared.state.State.{State}
-use Rattle.request_book.specs.Keyed.{look_up, changed_at}
-use Rattle.request_book.specs.Rider.{is_active, is_waiting, with_status}
+use Rattle.request_book.specs.Keyed.{look_up}
+use Rattle.request_book.specs.Rider.{is_active, with_status}
 
 -- a pick stop: whom it picks, and what it promises
 pub record Pick : Type 0 where
@@ -48,16 +48,3 @@ after_answer batch (Planned plan) riders = map (after_plan batch (picks plan.cho
 -- the state after the close of the sealed batch
 unfoldable pub closed_state : State → Answer → State
 closed_state s answer = elim s.sealed [ None ↦ s | Some b ↦ record s { riders = after_answer b.riders answer s.riders; sealed = None } ]
-
--- a rider of the pool waits again
-abbrev pub waits_again : BookRider → BookRider
-waits_again r = if is_active r.status then with_status Waiting r else r
-
--- the rider, where a pick stop is theirs: who is in the snapshot and waits is promised
-abbrev pub takes_promise : List Rider → Pick → BookRider → BookRider
-takes_promise riders p r = if in_batch riders p.rider && is_waiting r.status then with_status (Promised p.promise) r else r
-
--- the riders after these pick stops, one after another
-unfoldable pub promised_in_turn : List Rider → List Pick → List BookRider → List BookRider
-promised_in_turn riders [] rs = rs
-promised_in_turn riders (p ∷ ps) rs = promised_in_turn riders ps (changed_at (λ r. r.id) p.rider (takes_promise riders p) rs)

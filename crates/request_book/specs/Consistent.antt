@@ -10,7 +10,8 @@ use Rattle.request_book.specs.declared.rider.Status.{Status}
 use Rattle.request_book.specs.declared.state.State.{State}
 use Rattle.request_book.specs.Keyed.{KeysRise, KeysDiffer}
 use Rattle.request_book.specs.Rider.{vehicle_of, passenger_of}
-use Rattle.request_book.specs.State.{find_rider, find_vehicle, find_passenger, pool_count, has_node}
+use Rattle.request_book.specs.State.{find_rider, find_vehicle, find_passenger, pool_count}
+use Rattle.road_network.specs.Roads.{has_node}
 
 -- the rider as a passenger of this vehicle, if their status says so
 abbrev pub seat_in : ℕ → BookRider → Option Passenger

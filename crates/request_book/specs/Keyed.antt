@@ -38,8 +38,3 @@ module _ {X : Type 0} (key : X → ℕ) where
   unfoldable pub by_key : List X → List X
   by_key [] = []
   by_key (x ∷ xs) = placed x (by_key xs)
-
-  -- the elements, with a change of each of these keys in turn
-  unfoldable pub changed_in_turn : (X → X) → List ℕ → List X → List X
-  changed_in_turn change [] xs = xs
-  changed_in_turn change (k ∷ ks) xs = changed_in_turn change ks (changed_at k change xs)

@@ -4,9 +4,8 @@ pub mod State
 pub mod Refusals
 pub mod Sealing
 pub mod Closing
-pub mod Register
 pub mod Step
 pub mod Replay
 pub mod Consistent
 pub mod Book
-pub mod Stored
+pub mod work

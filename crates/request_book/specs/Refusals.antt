@@ -9,7 +9,8 @@ use Rattle.request_book.specs.declared.reply.BookRefusal.TheVariants.{DuplicateR
 use Rattle.request_book.specs.declared.rider.BookRider.{BookRider}
 use Rattle.request_book.specs.declared.rider.Status.{Status}
 use Rattle.request_book.specs.declared.rider.Status.TheVariants.{Waiting, Promised, Aboard, Cancelled, Delivered, Expired}
-use Rattle.request_book.specs.State.{has_node, pool_count}
+use Rattle.request_book.specs.State.{pool_count}
+use Rattle.road_network.specs.Roads.{has_node}
 
 -- the first refusal of a list of those that hold
 unfoldable pub first_of : List (Option BookRefusal) → Option BookRefusal
@@ -46,12 +47,9 @@ unknown_rider None = Some UnknownRider
 -- the rider is aboard of a vehicle
 abbrev pub aboard_refusal : Status → Option BookRefusal
 aboard_refusal (Aboard v) = Some (IsAboard v)
-aboard_refusal Waiting = None
-aboard_refusal (Promised p) = None
-aboard_refusal Cancelled = None
-aboard_refusal Delivered = None
-aboard_refusal Expired = None
+aboard_refusal _ = None
 
+-- the same of the rider who was found
 abbrev pub is_aboard : Option BookRider → Option BookRefusal
 is_aboard r = option_and_then (λ r. aboard_refusal r.status) r
 
@@ -60,10 +58,9 @@ abbrev pub ended_refusal : Status → Option BookRefusal
 ended_refusal Cancelled = Some (Ended Cancelled)
 ended_refusal Delivered = Some (Ended Delivered)
 ended_refusal Expired = Some (Ended Expired)
-ended_refusal Waiting = None
-ended_refusal (Promised p) = None
-ended_refusal (Aboard v) = None
+ended_refusal _ = None
 
+-- the same of the rider who was found
 abbrev pub has_ended : Option BookRider → Option BookRefusal
 has_ended r = option_and_then (λ r. ended_refusal r.status) r
 
@@ -80,11 +77,9 @@ time_back v time = option_and_then (λ v. if nat_lt time v.time then Some (TimeB
 abbrev pub promise_refusal : ℕ → Status → Option BookRefusal
 promise_refusal vehicle Waiting = Some (NotPromised None)
 promise_refusal vehicle (Promised p) = if p.vehicle == vehicle then None else Some (NotPromised (Some p.vehicle))
-promise_refusal vehicle (Aboard v) = None
-promise_refusal vehicle Cancelled = None
-promise_refusal vehicle Delivered = None
-promise_refusal vehicle Expired = None
+promise_refusal vehicle _ = None
 
+-- the same of the rider who was found
 abbrev pub not_promised : Option BookRider → ℕ → Option BookRefusal
 not_promised r vehicle = option_and_then (λ r. promise_refusal vehicle r.status) r
 
@@ -95,12 +90,9 @@ vehicle_full v r = option_and_then (λ v. option_and_then (λ r. if nat_le (pers
 -- the rider isn't aboard of this vehicle
 abbrev pub seat_refusal : ℕ → Status → Option BookRefusal
 seat_refusal vehicle (Aboard v) = if v == vehicle then None else Some NotAboard
-seat_refusal vehicle Waiting = Some NotAboard
-seat_refusal vehicle (Promised p) = Some NotAboard
-seat_refusal vehicle Cancelled = Some NotAboard
-seat_refusal vehicle Delivered = Some NotAboard
-seat_refusal vehicle Expired = Some NotAboard
+seat_refusal vehicle _ = Some NotAboard
 
+-- the same of the rider who was found
 abbrev pub not_aboard : Option BookRider → ℕ → Option BookRefusal
 not_aboard r vehicle = option_and_then (λ r. seat_refusal vehicle r.status) r
 

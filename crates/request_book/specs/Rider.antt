@@ -10,32 +10,16 @@ use Rattle.request_book.specs.declared.rider.BookRider.{BookRider}
 abbrev pub pool_promise : Status → Option (Option Promise)
 pool_promise Waiting = Some None
 pool_promise (Promised p) = Some (Some p)
-pool_promise (Aboard v) = None
-pool_promise Cancelled = None
-pool_promise Delivered = None
-pool_promise Expired = None
+pool_promise _ = None
 
 -- the rider is in the pool: waiting, or promised to a vehicle
 abbrev pub is_active : Status → Bool
 is_active status = is_some (pool_promise status)
 
--- the rider waits, with no promise
-abbrev pub is_waiting : Status → Bool
-is_waiting Waiting = true
-is_waiting (Promised p) = false
-is_waiting (Aboard v) = false
-is_waiting Cancelled = false
-is_waiting Delivered = false
-is_waiting Expired = false
-
 -- the vehicle that the rider is aboard of
 abbrev pub vehicle_of : Status → Option ℕ
 vehicle_of (Aboard v) = Some v
-vehicle_of Waiting = None
-vehicle_of (Promised p) = None
-vehicle_of Cancelled = None
-vehicle_of Delivered = None
-vehicle_of Expired = None
+vehicle_of _ = None
 
 -- the rider with another status
 abbrev pub with_status : Status → BookRider → BookRider

@@ -1,3 +1,4 @@
+use Rattle.pool_io.specs.Faults.{one_more}
 use Rattle.std.specs.Prelude.{ℕ, Bool, ◌+◌, ◌-◌, ◌^◌, ◌&&◌, Option, None, Some, map, min, option_map, nat_lt, nat_le, if◌then◌else◌}
 use Rattle.std.specs.List.{filter_map}
 use Rattle.batch_snapshot.specs.Batch.{Batch}
@@ -23,10 +24,6 @@ over_id wait now r = if is_over wait now r then Some r.id else None
 -- a rider of the pool who asked by now, as a snapshot shows them
 abbrev pub asking : ℕ → BookRider → Option Rider
 asking now r = if nat_le r.time now then option_map (shown r) (pool_promise r.status) else None
-
--- one more, at most the greatest u64
-abbrev pub one_more : ℕ → ℕ
-one_more n = min (n + 1) (2 ^ 64 - 1)
 
 -- the batch of a seal: all vehicles; whose wait is over, by rising id; who is then in the pool and asked by
 -- now, by rising id

@@ -21,7 +21,3 @@ find_passenger = look_up (λ p. p.rider)
 -- how many riders wait or have a promise
 abbrev pub pool_count : List BookRider → ℕ
 pool_count riders = count_by (λ r. is_active r.status) riders
-
--- the node is one of these
-abbrev pub has_node : List ℕ → ℕ → Bool
-has_node nodes node = list_any (λ n. n == node) nodes

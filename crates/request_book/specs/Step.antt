@@ -16,7 +16,8 @@ use Rattle.request_book.specs.Keyed.{changed_at, without}
 use Rattle.request_book.specs.Rider.{with_status, passenger_of}
 use Rattle.request_book.specs.State.{find_rider, find_vehicle}
 use Rattle.request_book.specs.Refusals.{first_of, duplicate_rider, unknown_node, same_place, pool_full, book_full, unknown_rider, is_aboard, has_ended, unknown_vehicle, time_back, not_promised, vehicle_full, not_aboard, batch_open, clock_back, not_this_batch}
-use Rattle.request_book.specs.Sealing.{one_more, sealed_state}
+use Rattle.request_book.specs.Sealing.{sealed_state}
+use Rattle.pool_io.specs.Faults.{one_more}
 use Rattle.request_book.specs.Closing.{closed_state}
 
 -- a refusal changes nothing; without one the reply and the new state are these

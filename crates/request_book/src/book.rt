@@ -9,9 +9,8 @@ use crate::journal::{Entry, Journal};
 use crate::register::Register;
 use crate::reply::Reply;
 use crate::rider::Status;
-use crate::sealing::copied_vehicles;
 use crate::state::State;
-use batch_snapshot::{Fleet, Snapshot, Vehicle};
+use batch_snapshot::{Fleet, Snapshot, Vehicle, copied_vehicles};
 use indexmap::IndexSet;
 use pool_base::{NodeId, OutOfMemory, RiderId, Second, Sequence};
 use road_network::Network;
@@ -40,8 +39,8 @@ pub struct Book {
 impl Model for Book {
     ghost use Rattle.std.specs.Prelude.{vec_len, vec_capacity};
     ghost use Rattle.request_book.specs.Book.{BookView};
-    ghost use Rattle.request_book.specs.Register.{state_of};
-    ghost use Rattle.request_book.specs.Stored.{IsStored};
+    ghost use Rattle.request_book.specs.work.Register.{state_of};
+    ghost use Rattle.request_book.specs.work.Stored.{IsStored};
 
     ghost Value = { BookView };
 

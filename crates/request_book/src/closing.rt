@@ -1,10 +1,12 @@
 //! Closes: the riders of the sealed batch who still wait get what the plan gives them.
 
 ghost use Rattle.std.specs.Prelude.{◌≡◌, ◌&&◌, ℕ, map, vec_len, vec_capacity, if◌then◌else◌};
-ghost use Rattle.request_book.specs.Keyed.{changed_at, changed_in_turn, KeysDiffer, KeysRise};
-ghost use Rattle.request_book.specs.Register.{state_of, IsIndexed, HasRoom};
-ghost use Rattle.request_book.specs.Rider.{is_waiting, with_status};
-ghost use Rattle.request_book.specs.Closing.{in_batch, waits_again, takes_promise, promised_in_turn, picks, trip_picks, after_answer};
+ghost use Rattle.request_book.specs.Keyed.{changed_at, KeysDiffer, KeysRise};
+ghost use Rattle.request_book.specs.work.Keyed.{changed_in_turn};
+ghost use Rattle.request_book.specs.work.Register.{state_of, IsIndexed, HasRoom};
+ghost use Rattle.request_book.specs.Rider.{with_status};
+ghost use Rattle.request_book.specs.Closing.{in_batch, picks, trip_picks, after_answer};
+ghost use Rattle.request_book.specs.work.Closing.{is_waiting, waits_again, takes_promise, promised_in_turn};
 ghost use Rattle.request_book.specs.Step.{close_step};
 
 use crate::outcome::{Answer, ChosenTrip, PlannedStop};
@@ -18,7 +20,7 @@ use pool_base::{RiderId, VehicleId};
 
 impl Register {
     /// Closes the sealed batch.
-    pub fn close(&mut self, batch: u64, answer: &Answer) -> Reply
+    pub(crate) fn close(&mut self, batch: u64, answer: &Answer) -> Reply
         requires { IsIndexed self.old }
         ensures stepped { (state_of self.new, result) ≡ close_step (state_of self.old) batch answer.now }
         ensures indexed { IsIndexed self.new }

@@ -11,13 +11,13 @@ use indexmap::IndexSet;
 use pool_base::{NodeId, Party, Second, VehicleId};
 
 /// How many riders may wait or have a promise.
-pub const POOL: usize = 1_000;
+pub(crate) const POOL: usize = 1_000;
 
 /// How many riders a book may have.
-pub const RIDERS: usize = 100_000;
+pub(crate) const RIDERS: usize = 100_000;
 
 /// The first refusal of those that hold.
-pub fn first_of(refusals: &[Option<BookRefusal>]) -> Option<BookRefusal>
+pub(crate) fn first_of(refusals: &[Option<BookRefusal>]) -> Option<BookRefusal>
     ensures { result ≡ first_of refusals.now }
 {
     for refusal in refusals {
@@ -28,7 +28,7 @@ pub fn first_of(refusals: &[Option<BookRefusal>]) -> Option<BookRefusal>
     None
 }
 
-pub fn duplicate_rider(found: Option<BookRider>) -> Option<BookRefusal>
+pub(crate) fn duplicate_rider(found: Option<BookRider>) -> Option<BookRefusal>
     ensures { result ≡ duplicate_rider found }
 {
     match found {
@@ -37,7 +37,7 @@ pub fn duplicate_rider(found: Option<BookRider>) -> Option<BookRefusal>
     }
 }
 
-pub fn unknown_node(nodes: &IndexSet<NodeId>, node: NodeId) -> Option<BookRefusal>
+pub(crate) fn unknown_node(nodes: &IndexSet<NodeId>, node: NodeId) -> Option<BookRefusal>
     ensures { result ≡ unknown_node nodes.now.keys node }
 {
     if nodes.contains(&node) {
@@ -47,7 +47,7 @@ pub fn unknown_node(nodes: &IndexSet<NodeId>, node: NodeId) -> Option<BookRefusa
     }
 }
 
-pub fn same_place(origin: NodeId, destination: NodeId) -> Option<BookRefusal>
+pub(crate) fn same_place(origin: NodeId, destination: NodeId) -> Option<BookRefusal>
     ensures { result ≡ same_place origin destination }
 {
     if origin == destination {
@@ -57,7 +57,7 @@ pub fn same_place(origin: NodeId, destination: NodeId) -> Option<BookRefusal>
     }
 }
 
-pub fn pool_full(pool: usize) -> Option<BookRefusal>
+pub(crate) fn pool_full(pool: usize) -> Option<BookRefusal>
     ensures { result ≡ (if nat_le 1000 pool then Some BookRefusal.PoolFull else None) }
 {
     if pool >= POOL {
@@ -67,7 +67,7 @@ pub fn pool_full(pool: usize) -> Option<BookRefusal>
     }
 }
 
-pub fn book_full(riders: usize) -> Option<BookRefusal>
+pub(crate) fn book_full(riders: usize) -> Option<BookRefusal>
     ensures { result ≡ (if nat_le 100000 riders then Some BookRefusal.BookFull else None) }
 {
     if riders >= RIDERS {
@@ -77,7 +77,7 @@ pub fn book_full(riders: usize) -> Option<BookRefusal>
     }
 }
 
-pub fn is_aboard(status: Status) -> Option<BookRefusal>
+pub(crate) fn is_aboard(status: Status) -> Option<BookRefusal>
     ensures { result ≡ aboard_refusal status }
 {
     match status {
@@ -86,7 +86,7 @@ pub fn is_aboard(status: Status) -> Option<BookRefusal>
     }
 }
 
-pub fn has_ended(status: Status) -> Option<BookRefusal>
+pub(crate) fn has_ended(status: Status) -> Option<BookRefusal>
     ensures { result ≡ ended_refusal status }
 {
     match status {
@@ -97,7 +97,7 @@ pub fn has_ended(status: Status) -> Option<BookRefusal>
     }
 }
 
-pub fn not_promised(status: Status, vehicle: VehicleId) -> Option<BookRefusal>
+pub(crate) fn not_promised(status: Status, vehicle: VehicleId) -> Option<BookRefusal>
     ensures { result ≡ promise_refusal vehicle status }
 {
     match status {
@@ -115,7 +115,7 @@ pub fn not_promised(status: Status, vehicle: VehicleId) -> Option<BookRefusal>
     }
 }
 
-pub fn not_aboard(status: Status, vehicle: VehicleId) -> Option<BookRefusal>
+pub(crate) fn not_aboard(status: Status, vehicle: VehicleId) -> Option<BookRefusal>
     ensures { result ≡ seat_refusal vehicle status }
 {
     match status {
@@ -130,7 +130,7 @@ pub fn not_aboard(status: Status, vehicle: VehicleId) -> Option<BookRefusal>
     }
 }
 
-pub fn time_back(vehicle: &Vehicle, time: Second) -> Option<BookRefusal>
+pub(crate) fn time_back(vehicle: &Vehicle, time: Second) -> Option<BookRefusal>
     ensures { result ≡ time_back (Some vehicle.now) time }
 {
     if time < vehicle.time {
@@ -140,7 +140,7 @@ pub fn time_back(vehicle: &Vehicle, time: Second) -> Option<BookRefusal>
     }
 }
 
-pub fn vehicle_full(vehicle: &Vehicle, party: Party) -> Option<BookRefusal>
+pub(crate) fn vehicle_full(vehicle: &Vehicle, party: Party) -> Option<BookRefusal>
     ensures seats { result ≡ (if nat_le (persons_aboard vehicle.now + party) vehicle.now.seats then None else Some BookRefusal.VehicleFull) }
     ensures room { IfNone result (length vehicle.now.aboard.items < vehicle.now.seats) }
 {
@@ -165,7 +165,7 @@ fn persons(aboard: &[Passenger]) -> u64
     persons
 }
 
-pub fn batch_open(sealed: &Option<Snapshot>) -> Option<BookRefusal>
+pub(crate) fn batch_open(sealed: &Option<Snapshot>) -> Option<BookRefusal>
     ensures { result ≡ batch_open sealed.now }
 {
     match sealed {
@@ -176,7 +176,7 @@ pub fn batch_open(sealed: &Option<Snapshot>) -> Option<BookRefusal>
     }
 }
 
-pub fn clock_back(last: Option<Second>, now: Second) -> Option<BookRefusal>
+pub(crate) fn clock_back(last: Option<Second>, now: Second) -> Option<BookRefusal>
     ensures { result ≡ clock_back last now }
 {
     match last {
@@ -191,7 +191,7 @@ pub fn clock_back(last: Option<Second>, now: Second) -> Option<BookRefusal>
     }
 }
 
-pub fn not_this_batch(sealed: &Option<Snapshot>, batch: u64) -> Option<BookRefusal>
+pub(crate) fn not_this_batch(sealed: &Option<Snapshot>, batch: u64) -> Option<BookRefusal>
     ensures { result ≡ not_this_batch sealed.now batch }
 {
     match sealed {

@@ -10,7 +10,7 @@ use pool_base::{RiderId, Second, VehicleId};
 
 /// The riders and vehicles of a book, with the numbers by which they are found.
 #[derive(Drop)]
-pub struct Register {
+pub(crate) struct Register {
     pub riders: Vec<BookRider>,
     /// The riders' ids, in the order of the riders.
     pub ids: IndexSet<RiderId>,
@@ -25,10 +25,10 @@ pub struct Register {
 }
 
 impl Register {
-    ghost use Rattle.request_book.specs.Register.{IsIndexed};
+    ghost use Rattle.request_book.specs.work.Register.{IsIndexed};
 
     /// Where a rider stands among the riders.
-    pub fn rider_at(&self, rider: RiderId) -> Option<usize>
+    pub(crate) fn rider_at(&self, rider: RiderId) -> Option<usize>
         requires { IsIndexed self.now }
         ensures { MatchOption result (find_rider rider self.now.riders.items ≡ None) (λ at. (at < length self.now.riders.items) × ((d : BookRider) → find_rider rider self.now.riders.items ≡ Some (slice_index_or self.now.riders.items at d))) }
     {
@@ -36,7 +36,7 @@ impl Register {
     }
 
     /// The rider of this id.
-    pub fn rider(&self, rider: RiderId) -> Option<BookRider>
+    pub(crate) fn rider(&self, rider: RiderId) -> Option<BookRider>
         requires { IsIndexed self.now }
         ensures { result ≡ find_rider rider self.now.riders.items }
     {
@@ -47,7 +47,7 @@ impl Register {
     }
 
     /// Where a vehicle stands among the vehicles.
-    pub fn vehicle_at(&self, vehicle: VehicleId) -> Option<usize>
+    pub(crate) fn vehicle_at(&self, vehicle: VehicleId) -> Option<usize>
         requires { IsIndexed self.now }
         ensures { MatchOption result (find_vehicle vehicle self.now.vehicles.items ≡ None) (λ at. (at < length self.now.vehicles.items) × ((d : Vehicle) → find_vehicle vehicle self.now.vehicles.items ≡ Some (slice_index_or self.now.vehicles.items at d))) }
     {
@@ -56,7 +56,7 @@ impl Register {
 }
 
 /// Adds a rider who waits, last. There is room for one more.
-pub fn add(riders: &mut Vec<BookRider>, new: &BookRider)
+pub(crate) fn add(riders: &mut Vec<BookRider>, new: &BookRider)
     requires room { vec_len riders.old < vec_capacity riders.old }
     requires waits { new.now.status ≡ Status.Waiting }
     ensures items { riders.new.items ≡ riders.old.items ++ new.now ∷ [] }
@@ -74,7 +74,7 @@ pub fn add(riders: &mut Vec<BookRider>, new: &BookRider)
 }
 
 /// Gives a rider another status. Nothing changes where there is no such rider.
-pub fn change_status(
+pub(crate) fn change_status(
     riders: &mut Vec<BookRider>,
     ids: &IndexSet<RiderId>,
     rider: RiderId,

@@ -5,7 +5,7 @@ ghost use Rattle.std.specs.List.{list_any};
 ghost use Rattle.indexmap.specs.IndexSet.{spare};
 ghost use Rattle.batch_snapshot.specs.Vehicle.{HasSeats};
 ghost use Rattle.request_book.specs.Keyed.{look_up, changed_at, without, placed, KeysRise, KeysDiffer};
-ghost use Rattle.request_book.specs.Register.{state_of, IsIndexed, HasRoom};
+ghost use Rattle.request_book.specs.work.Register.{state_of, IsIndexed, HasRoom};
 ghost use Rattle.request_book.specs.Rider.{is_active};
 ghost use Rattle.request_book.specs.State.{find_rider, find_passenger, pool_count};
 ghost use Rattle.request_book.specs.Consistent.{IsConsistent};
@@ -24,7 +24,7 @@ use pool_base::{NodeId, RiderId, Second, VehicleId};
 
 impl Register {
     /// A rider asks for a trip. It takes no memory where there is room for one more.
-    pub fn submit(&mut self, nodes: &IndexSet<NodeId>, new: &BookRider) -> Reply
+    pub(crate) fn submit(&mut self, nodes: &IndexSet<NodeId>, new: &BookRider) -> Reply
         requires indexed { IsIndexed self.old }
         requires consistent { IsConsistent (state_of self.old) }
         requires room { HasRoom 1 self.old }
@@ -73,7 +73,7 @@ impl Register {
     }
 
     /// A rider who isn't aboard gives up.
-    pub fn cancel(&mut self, rider: RiderId) -> Reply
+    pub(crate) fn cancel(&mut self, rider: RiderId) -> Reply
         requires { IsIndexed self.old }
         ensures stepped { (state_of self.new, result) ≡ cancel_step (state_of self.old) rider }
         ensures indexed { IsIndexed self.new }
@@ -93,7 +93,7 @@ impl Register {
     }
 
     /// A vehicle is at a node.
-    pub fn report(
+    pub(crate) fn report(
         &mut self,
         nodes: &IndexSet<NodeId>,
         vehicle: VehicleId,
@@ -122,7 +122,7 @@ impl Register {
     }
 
     /// A vehicle picks up the rider who is promised to it.
-    pub fn pickup(&mut self, vehicle: VehicleId, rider: RiderId, time: Second) -> Reply
+    pub(crate) fn pickup(&mut self, vehicle: VehicleId, rider: RiderId, time: Second) -> Reply
         requires indexed { IsIndexed self.old }
         requires seats { All HasSeats self.old.vehicles.items }
         ensures stepped { (state_of self.new, result) ≡ pickup_step (state_of self.old) vehicle rider time }
@@ -156,7 +156,7 @@ impl Register {
     }
 
     /// A vehicle drops its passenger.
-    pub fn dropoff(&mut self, vehicle: VehicleId, rider: RiderId, time: Second) -> Reply
+    pub(crate) fn dropoff(&mut self, vehicle: VehicleId, rider: RiderId, time: Second) -> Reply
         requires indexed { IsIndexed self.old }
         requires consistent { IsConsistent (state_of self.old) }
         ensures stepped { (state_of self.new, result) ≡ dropoff_step (state_of self.old) vehicle rider time }

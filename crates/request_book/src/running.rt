@@ -5,7 +5,7 @@ ghost use Rattle.std.specs.List.{list_any};
 ghost use Rattle.request_book.specs.Book.{opening, IsLight};
 ghost use Rattle.request_book.specs.Consistent.{IsConsistent};
 ghost use Rattle.request_book.specs.Keyed.{KeysRise, KeysDiffer};
-ghost use Rattle.request_book.specs.Register.{state_of, IsIndexed, HasRoom};
+ghost use Rattle.request_book.specs.work.Register.{state_of, IsIndexed, HasRoom};
 ghost use Rattle.request_book.specs.Step.{step};
 
 use crate::command::Command;
@@ -13,16 +13,15 @@ use crate::refusals::POOL;
 use crate::register::Register;
 use crate::reply::Reply;
 use crate::rider::{BookRider, Status};
-use crate::sealing::copied_vehicles;
 use crate::state::State;
-use batch_snapshot::{Snapshot, Vehicle};
+use batch_snapshot::{Snapshot, Vehicle, copied_vehicles};
 use indexmap::IndexSet;
 use pool_base::{NodeId, OutOfMemory, Sequence, VehicleId};
 use std::alloc::Global;
 
 impl Register {
     /// The register of these vehicles, without a rider.
-    pub fn of(alloc: Global, vehicles: Vec<Vehicle>) -> Result<Register, OutOfMemory>
+    pub(crate) fn of(alloc: Global, vehicles: Vec<Vehicle>) -> Result<Register, OutOfMemory>
         requires { KeysRise (λ v. v.id) vehicles.items }
         ensures state { IfOk result (λ register. state_of register ≡ opening vehicles.items) }
         ensures indexed { IfOk result IsIndexed }
@@ -44,7 +43,7 @@ impl Register {
 
     /// One command of any kind. Only a seal takes memory where there is room for one more rider; after an
     /// error nothing has changed.
-    pub fn run(
+    pub(crate) fn run(
         &mut self,
         alloc: Global,
         nodes: &IndexSet<NodeId>,
@@ -101,7 +100,7 @@ impl Register {
     }
 
     /// The state, as a value of its own.
-    pub fn state(&self, alloc: Global) -> Result<State, OutOfMemory>
+    pub(crate) fn state(&self, alloc: Global) -> Result<State, OutOfMemory>
         ensures { IfOk result (λ state. state ≡ state_of self.now) }
     {
         let riders = Vec::from_slice(alloc, &self.riders)?;
@@ -117,7 +116,7 @@ impl Register {
     }
 
     /// Makes room for so many more riders. Nothing else changes.
-    pub fn reserve(&mut self, additional: usize) -> Result<(), OutOfMemory>
+    pub(crate) fn reserve(&mut self, additional: usize) -> Result<(), OutOfMemory>
         requires { IsIndexed self.old }
         ensures state { state_of self.new ≡ state_of self.old }
         ensures indexed { IsIndexed self.new }

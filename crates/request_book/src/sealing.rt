@@ -3,26 +3,28 @@
 ghost use Rattle.std.specs.Prelude.{◌≡◌, ◌+◌, ◌-◌, ◌^◌, ◌<◌, ◌≤◌, ℕ, min, map, ◌++◌, option_and_then, IfOk, OnOk, OnErr, vec_len, vec_capacity};
 ghost use Rattle.std.specs.List.{filter_map};
 ghost use Rattle.std.specs.Option.{option_to_list};
-ghost use Rattle.request_book.specs.Keyed.{changed_in_turn, KeysDiffer};
-ghost use Rattle.request_book.specs.Register.{state_of, pool_id, IsIndexed, HasRoom};
+ghost use Rattle.request_book.specs.Keyed.{KeysDiffer};
+ghost use Rattle.request_book.specs.work.Keyed.{changed_in_turn};
+ghost use Rattle.request_book.specs.work.Register.{state_of, pool_id, IsIndexed, HasRoom};
 ghost use Rattle.request_book.specs.Rider.{with_status, pool_promise};
 ghost use Rattle.request_book.specs.State.{find_rider};
 ghost use Rattle.request_book.specs.Consistent.{IsConsistent};
-ghost use Rattle.request_book.specs.Sealing.{is_over, over_id, asking, after_seal, one_more, batch_of};
+ghost use Rattle.request_book.specs.Sealing.{is_over, over_id, asking, after_seal, batch_of};
+ghost use Rattle.pool_io.specs.Faults.{one_more};
 ghost use Rattle.request_book.specs.Step.{seal_refusal, seal_step};
 
 use crate::refusals::{POOL, batch_open, clock_back, first_of};
 use crate::register::{Register, change_status};
 use crate::reply::{BookRefusal, Reply};
 use crate::rider::{BookRider, Status};
-use batch_snapshot::{Promise, Rider, Snapshot, Vehicle};
+use batch_snapshot::{Promise, Rider, Snapshot, copied_vehicles};
 use indexmap::IndexSet;
 use pool_base::{OutOfMemory, RiderId, Second, Sequence};
 use std::alloc::Global;
 
 impl Register {
     /// Why a seal at this second is refused.
-    pub fn seal_refusal(&self, second: Second) -> Option<BookRefusal>
+    pub(crate) fn seal_refusal(&self, second: Second) -> Option<BookRefusal>
         ensures { result ≡ seal_refusal (state_of self.now) second }
     {
         let refusals = [batch_open(&self.sealed), clock_back(self.last_seal, second)];
@@ -30,7 +32,7 @@ impl Register {
     }
 
     /// The snapshot that a seal at this second makes.
-    pub fn snapshot(
+    pub(crate) fn snapshot(
         &self,
         alloc: Global,
         wait: u32,
@@ -90,7 +92,12 @@ impl Register {
     }
 
     /// Seals a batch. After an error nothing has changed.
-    pub fn seal(&mut self, alloc: Global, wait: u32, second: Second) -> Result<Reply, OutOfMemory>
+    pub(crate) fn seal(
+        &mut self,
+        alloc: Global,
+        wait: u32,
+        second: Second,
+    ) -> Result<Reply, OutOfMemory>
         requires indexed { IsIndexed self.old }
         requires consistent { IsConsistent (state_of self.old) }
         ensures ok { IfOk result (λ reply. (state_of self.new, reply) ≡ seal_step wait (state_of self.old) second) }
@@ -217,17 +224,6 @@ fn pool_promise(status: &Status) -> Option<Option<Promise>>
         Status::Promised(promise) => Some(Some(*promise)),
         _ => None,
     }
-}
-
-/// Equal vehicles.
-pub fn copied_vehicles(alloc: Global, vehicles: &[Vehicle]) -> Result<Vec<Vehicle>, OutOfMemory>
-    ensures { IfOk result (λ copy. copy.items ≡ vehicles.now) }
-{
-    let mut copy = Vec::with_capacity(alloc, vehicles.len())?;
-    for vehicle in vehicles {
-        copy.push(vehicle.copied())?;
-    }
-    Ok(copy)
 }
 
 /// Lets riders expire.

@@ -728,6 +728,34 @@ fn commands_find_the_room_that_was_made(rt: HostRuntime) -> Result<(), Fail> {
     Ok(())
 }
 
+/// Whether a batch is copied, and its nodes are listed.
+fn is_copied(alloc: Global, batch: &Snapshot) -> bool {
+    let same = match batch.copy(alloc) {
+        Ok(copy) => copy.same(batch),
+        Err(_) => false,
+    };
+    let listed = match batch.points(alloc) {
+        Ok(points) => points.nodes().len(),
+        Err(_) => 0,
+    };
+    same && listed == 3
+}
+
+/// Whether the batch that a seal at second 121 would put up, with who expires, is copied.
+fn copies(alloc: Global) -> Result<bool, AllocError> {
+    let mut book = book(alloc, ONE)?;
+    let script = [
+        (Ask::Submit(1, 2, 4, 0), Accepted),
+        (Ask::Submit(2, 2, 4, 1), Accepted),
+    ];
+    let other = first_other(alloc, &mut book, &script);
+    let copied = match book.would_seal(second(121)) {
+        Ok(Some(batch)) => is_copied(alloc, &batch),
+        _ => false,
+    };
+    Ok(other.is_none() & copied)
+}
+
 #[test]
 fn answers_with_memory(rt: HostRuntime) -> Result<(), Fail> {
     let alloc = rt.alloc();
@@ -735,6 +763,7 @@ fn answers_with_memory(rt: HostRuntime) -> Result<(), Fail> {
     assert!(rt; played_in_room(alloc, 1, &script)?);
     let text = "1 at 0: 1 vehicles, riders [1], expired []";
     assert!(rt; seals(alloc, ONE, &script, 0, text)?);
+    assert!(rt; copies(alloc)?);
     let told = [Some([0, 0, 1, 1]), Some([1, 1, 0, 1]), Some([1, 1, 0, 1])];
     assert!(rt; rounds(alloc, &script, &[])? == told);
     Ok(())

@@ -1,78 +1,98 @@
--- What the readers say of sources and of made texts, as what is said of inputs.
-use Rattle.std.proofs.Common.{◌≡◌, ℕ, List, Result, Ok, refl, sym, ap, subst, ◌∙◌}
+-- What is said of the inputs of a call, from what the readers say of sources and of made texts.
+use Rattle.std.proofs.Common.{◌≡◌, ℕ, List, Result, Ok, Err, MatchResult, refl, sym, ap, subst, ◌∙◌, arith}
+use Rattle.std.specs.Prelude.{IfOk, IfErr}
 use Rattle.batch_snapshot.specs.declared.vehicle.Vehicle.{Vehicle}
-use Rattle.fleet_state.specs.Fleet.{fleet_of}
+use Rattle.fleet_state.specs.Fleet.{vehicles_of}
 use Rattle.load_maker.specs.Texts.{texts_of}
-use Rattle.made_inputs.specs.Accepted.{IsNetworkText, IsFleetText, IsScriptText, AreRead}
+use Rattle.made_inputs.specs.Accepted.{IsNetworkText, IsFleetText, IsScriptText, AreRead as TextsAreRead}
 use Rattle.pool_base.specs.declared.which.Which.{Which}
+use Rattle.pool_io.specs.declared.input.Input.{Input}
 use Rattle.pool_base.specs.declared.which.Which.TheVariants as file
-use Rattle.pool_io.specs.Table.{Table, table_of}
-use Rattle.pool_io.specs.declared.records.RowFault.{RowFault}
 use Rattle.rider_limits.specs.declared.load_shape.LoadShape.{LoadShape}
-use Rattle.rider_limits.specs.declared.settings.Mode.TheVariants.{Load}
+use Rattle.rider_limits.specs.declared.settings.Mode.{Mode}
+use Rattle.rider_limits.specs.declared.settings.Mode.TheVariants.{Run, Load}
+use Rattle.rider_limits.specs.declared.settings.Settings.{Settings}
 use Rattle.road_network.specs.Roads.{Roads}
 use Rattle.road_network.specs.Reading.{network_of}
 use Rattle.script_rows.specs.Round.{NumberedLanes}
 use Rattle.script_rows.specs.Script.{script_of}
 use Rattle.script_rows.specs.declared.version.ScriptVersion.TheVariants.{One}
-use Rattle.ridepool.specs.Inputs.{SeenSources, AreInputs, CameToSource, IsSourceFault}
-use Rattle.ridepool.specs.Reading.{Gives, own_fault, in_rows, first_version, network_in, fleet_in, script_in, IsNetworkFault, IsFleetFault, IsScriptFault}
+use Rattle.ridepool.specs.Explained.{HidesNoMemory}
+use Rattle.ridepool.specs.Inputs.{Inputs, IsWithin, IsSourceTooLong, Reads, AreReadFrom, AreTexts, AreUntouched, AreInputs, CameTo, IsStop}
+use Rattle.ridepool.specs.Reading.{own_fault, in_rows, first_version, network_in, vehicles_in, IsFleetIn, script_in}
+use Rattle.dispatch_report.specs.Written.{Change}
+use Rattle.ridepool.specs.Seen.{SourceView, Sources, source_at}
+use Rattle.ridepool.specs.declared.inputs.ReadInputs.{ReadInputs}
 use Rattle.ridepool.specs.declared.status.RunStatus.{RunStatus}
 use Rattle.ridepool.specs.declared.status.RunStatus.TheVariants.{Done, Words, Network, Fleet, Script, TooLong, ReadFault, WriteFault, OutOfMemory}
+use Rattle.ridepool.specs.work.Reading.{IsUnread, StopsAt, IsNoInput, GotInputs}
+use Rattle.ridepool.proofs.ReadingLemmas.{reads_within}
 
 -- a text that is read as a network, a fleet, a script
 network_made : (text : List ℕ) (roads : Roads) → IsNetworkText text roads → network_in text ≡ Ok roads
 unfolding network_in
 network_made text roads is = ap (λ r. in_rows r (λ t. network_of t.records)) is.rows ∙ ap (λ r. own_fault r) is.is
 
-fleet_made : (nodes text : List ℕ) (vehicles : List Vehicle) → IsFleetText nodes text vehicles → fleet_in nodes text ≡ Ok vehicles
-unfolding fleet_in
-fleet_made nodes text vehicles is = ap (λ r. in_rows r (λ t. fleet_of nodes t.records)) is.rows ∙ ap (λ r. own_fault r) is.is
+vehicles_made : (nodes text : List ℕ) (fleet : List Vehicle) → (is : IsFleetText nodes text fleet) → vehicles_in nodes text ≡ Ok is.is.vehicles
+unfolding vehicles_in
+vehicles_made nodes text fleet is = ap (λ r. in_rows r (λ t. vehicles_of nodes t.records)) is.rows ∙ ap (λ r. own_fault r) is.is.read
+
+fleet_made : (nodes text : List ℕ) (fleet : List Vehicle) → IsFleetText nodes text fleet → IsFleetIn nodes text fleet
+fleet_made nodes text fleet is = record { vehicles = is.is.vehicles; read = vehicles_made nodes text fleet is; sorted = is.is.sorted }
 
 script_made : (text : List ℕ) (rounds : List NumberedLanes) → IsScriptText text rounds → script_in text ≡ Ok rounds
 unfolding script_in
 script_made text rounds is = ap (λ r. first_version text r) is.rows ∙ ap (λ r. own_fault r) is.is
 
--- made texts give the inputs of a made workload
-pub inputs_made : (shape : LoadShape) (sources : SeenSources) (roads : Roads) (vehicles : List Vehicle) (rounds : List NumberedLanes) → AreRead (texts_of shape) roads vehicles rounds → AreInputs (Load shape) sources roads vehicles rounds
-inputs_made shape sources roads vehicles rounds read = record {
-  network = network_made (texts_of shape).network roads read.network;
-  fleet = fleet_made roads.nodes (texts_of shape).fleet vehicles read.fleet;
-  script = script_made (texts_of shape).script rounds read.script;
-}
+-- why a source stopped a run, by the source
+unread_stops : (s : Sources) (w : Which) (e : RunStatus) → CameTo s w → IsUnread (source_at s w) w e → IsStop s e
+unread_stops s w _ came (IsUnread.long why) = (came, why)
+unread_stops s w _ came (IsUnread.failed within rose) = (came, within, rose)
+unread_stops s w _ came (IsUnread.memory within) = (w, came, within)
 
--- the first source wasn't read
-pub network_stops : (s : SeenSources) (e : RunStatus) → IsNetworkFault s.network e → IsSourceFault s e
-network_stops s (Network fault) why = why
-network_stops s (TooLong w) why = (let P : Which → Type 0 = λ v. CameToSource s v (TooLong v) in subst P (sym why.0) (refl, why.1))
-network_stops s (ReadFault w) why = (let P : Which → Type 0 = λ v. CameToSource s v (ReadFault v) in subst P (sym why.0) (refl, why.1))
-network_stops s OutOfMemory why = tt
-network_stops s Done why = absurd why
-network_stops s (Words fault) why = absurd why
-network_stops s (Fleet fault) why = absurd why
-network_stops s (Script fault) why = absurd why
-network_stops s WriteFault why = absurd why
+pub network_stop : (s : Sources) (e : RunStatus) → CameTo s file.Network → StopsAt s.network file.Network Network network_in e → IsStop s e
+network_stop s _ came (StopsAt.unread e why) = unread_stops s file.Network e came why
+network_stop s _ came (StopsAt.refused fault reads hides) = (came, reads)
 
--- the second
-pub fleet_stops : (s : SeenSources) (roads : Roads) (e : RunStatus) → Gives s.network (λ bytes. network_in bytes ≡ Ok roads) → IsFleetFault s.fleet roads.nodes e → IsSourceFault s e
-fleet_stops s roads (Fleet fault) network why = (roads, network, why)
-fleet_stops s roads (TooLong w) network why = (let P : Which → Type 0 = λ v. CameToSource s v (TooLong v) in subst P (sym why.0) (roads, network, (refl, why.1)))
-fleet_stops s roads (ReadFault w) network why = (let P : Which → Type 0 = λ v. CameToSource s v (ReadFault v) in subst P (sym why.0) (roads, network, (refl, why.1)))
-fleet_stops s roads OutOfMemory network why = tt
-fleet_stops s roads Done network why = absurd why
-fleet_stops s roads (Words fault) network why = absurd why
-fleet_stops s roads (Network fault) network why = absurd why
-fleet_stops s roads (Script fault) network why = absurd why
-fleet_stops s roads WriteFault network why = absurd why
+pub fleet_stop : (s : Sources) (e : RunStatus) → (came : CameTo s file.Fleet) → StopsAt s.fleet file.Fleet Fleet (vehicles_in came.0.nodes) e → IsStop s e
+fleet_stop s _ came (StopsAt.unread e why) = unread_stops s file.Fleet e came why
+fleet_stop s _ came (StopsAt.refused fault reads hides) = (came, reads)
 
--- the third
-pub script_stops : (s : SeenSources) (roads : Roads) (vehicles : List Vehicle) (e : RunStatus) → Gives s.network (λ bytes. network_in bytes ≡ Ok roads) → Gives s.fleet (λ bytes. fleet_in roads.nodes bytes ≡ Ok vehicles) → IsScriptFault s.script e → IsSourceFault s e
-script_stops s roads vehicles (Script fault) network fleet why = (roads, vehicles, network, fleet, why)
-script_stops s roads vehicles (TooLong w) network fleet why = (let P : Which → Type 0 = λ v. CameToSource s v (TooLong v) in subst P (sym why.0) (roads, vehicles, network, fleet, (refl, why.1)))
-script_stops s roads vehicles (ReadFault w) network fleet why = (let P : Which → Type 0 = λ v. CameToSource s v (ReadFault v) in subst P (sym why.0) (roads, vehicles, network, fleet, (refl, why.1)))
-script_stops s roads vehicles OutOfMemory network fleet why = tt
-script_stops s roads vehicles Done network fleet why = absurd why
-script_stops s roads vehicles (Words fault) network fleet why = absurd why
-script_stops s roads vehicles (Network fault) network fleet why = absurd why
-script_stops s roads vehicles (Fleet fault) network fleet why = absurd why
-script_stops s roads vehicles WriteFault network fleet why = absurd why
+pub script_stop : (s : Sources) (e : RunStatus) → CameTo s file.Script → StopsAt s.script file.Script Script script_in e → IsStop s e
+script_stop s _ came (StopsAt.unread e why) = unread_stops s file.Script e came why
+script_stop s _ came (StopsAt.refused fault reads hides) = (came, reads)
+
+-- no stop at a source hides want of memory
+unread_hides : (s : Change SourceView) (w : Which) (e : RunStatus) → IsUnread s w e → HidesNoMemory e
+unread_hides s w _ (IsUnread.long why) = tt
+unread_hides s w _ (IsUnread.failed within rose) = tt
+unread_hides s w _ (IsUnread.memory within) = tt
+
+pub stop_hides : {A F : Type 0} (s : Change SourceView) (w : Which) (refusal : Input F → RunStatus) (read : List ℕ → Result A (Input F)) (e : RunStatus)
+    → StopsAt s w refusal read e → HidesNoMemory e
+stop_hides s w refusal read _ (StopsAt.unread e why) = unread_hides s w e why
+stop_hides s w refusal read _ (StopsAt.refused fault reads hides) = hides
+
+-- what came of a run's inputs
+pub got_stop : (settings : Settings) (s : Sources) (e : RunStatus) → settings.mode ≡ Run → IsStop s e → HidesNoMemory e → GotInputs settings s (Err e)
+got_stop settings s e is stop hides = record { inputs = subst (λ m. IsNoInput m s e) (sym is) stop; refused = hides }
+
+pub got_read : (settings : Settings) (s : Sources) (got : ReadInputs) → settings.mode ≡ Run
+    → AreReadFrom s (record { settings = settings; roads = got.network; vehicles = got.fleet; rounds = got.script }) → GotInputs settings s (Ok got)
+got_read settings s got is read =
+    let i : Inputs = record { settings = settings; roads = got.network; vehicles = got.fleet; rounds = got.script } in
+    record { inputs = subst (λ m. AreInputs m s i) (sym is) read; refused = tt }
+
+-- what came of a made workload's
+pub got_made : (settings : Settings) (s : Sources) (shape : LoadShape) (r : Result ReadInputs RunStatus) → settings.mode ≡ Load shape → AreUntouched s
+    → IfOk r (λ got. TextsAreRead (texts_of shape) got.network got.fleet got.script) → IfErr r (λ e. e ≡ OutOfMemory) → GotInputs settings s r
+got_made settings s shape (Ok got) is untouched read none =
+    let i : Inputs = record { settings = settings; roads = got.network; vehicles = got.fleet; rounds = got.script } in
+    let texts : AreTexts (texts_of shape) i = record {
+      network = network_made (texts_of shape).network got.network read.network;
+      fleet = fleet_made got.network.nodes (texts_of shape).fleet got.fleet read.fleet;
+      script = script_made (texts_of shape).script got.script read.script;
+    } in
+    record { inputs = subst (λ m. AreInputs m s i) (sym is) (texts, untouched); refused = tt }
+got_made settings s shape (Err e) is untouched read none =
+    record { inputs = subst (λ m. IsNoInput m s e) (sym is) (untouched, none); refused = subst HidesNoMemory (sym none) tt }

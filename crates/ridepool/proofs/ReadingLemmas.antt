@@ -1,81 +1,118 @@
--- Why an input wasn't read, from why its bytes weren't and from why they are refused.
-use Rattle.std.proofs.Common.{◌≡◌, ℕ, List, Option, Some, None, Result, Err, IfSome, IfErr, subst}
-use Rattle.std.proofs.lemmas.Result.{MatchResult-weaker}
+-- Why a source stopped a run, from why it wasn't read to its end and from why its bytes are refused.
+use Rattle.std.proofs.Common.{◌≡◌, ℕ, ◌+◌, ◌≤◌, List, Option, Some, None, Result, Ok, Err, IfSome, IfOk, IfErr, MatchResult, length, refl, sym, ap, subst, ◌∙◌, arith, length-append}
+use Rattle.std.specs.Prelude.{◌<◌, ◌↔◌}
+use Rattle.batch_snapshot.specs.declared.vehicle.Vehicle.{Vehicle}
+use Rattle.pool_base.specs.declared.which.Which.{Which}
 use Rattle.pool_base.specs.declared.which.Which.TheVariants as file
-use Rattle.ridepool.specs.Reading.{SeenSource, network_in, fleet_in, script_in, IsReadingFault, IsNetworkFault, IsFleetFault, IsScriptFault, RefusesNetwork, RefusesFleet, RefusesRounds}
+use Rattle.pool_io.specs.Faults.{Rose}
+use Rattle.pool_io.specs.Source.{Loses}
+use Rattle.pool_io.specs.declared.input.Input.{Input}
+use Rattle.pool_io.specs.declared.reading.ReadAll.{ReadAll}
+use Rattle.pool_io.specs.declared.reading.ReadAll.TheVariants as of_read
+use Rattle.road_network.specs.Roads.{Roads}
+use Rattle.script_rows.specs.Round.{NumberedLanes}
+use Rattle.ridepool.specs.Explained.{HidesNoMemory}
+use Rattle.ridepool.specs.Inputs.{IsWithin, Reads}
+use Rattle.ridepool.specs.Reading.{network_in, vehicles_in, IsFleetIn, script_in}
+use Rattle.dispatch_report.specs.Written.{Change}
+use Rattle.ridepool.specs.Seen.{SourceView}
 use Rattle.ridepool.specs.declared.status.RunStatus.{RunStatus}
 use Rattle.ridepool.specs.declared.status.RunStatus.TheVariants.{Done, Words, Network, Fleet, Script, TooLong, ReadFault, WriteFault, OutOfMemory}
+use Rattle.ridepool.specs.work.Reading.{IsUnread, StopsAt, RefusesNetwork, RefusesFleet, RefusesRounds}
 
--- what holds of the bytes that were read holds of the bytes that were told
-pub told_is : (o : Option (List ℕ)) (bytes : List ℕ) (P : List ℕ → Type 0) → IfSome o (λ told. bytes ≡ told) → P bytes → IfSome o P
-told_is None bytes P is h = tt
-told_is (Some told) bytes P is h = subst P is h
+-- bytes that were lost were told, where any were
+pub told_so_many : (old new : Option (List ℕ)) (count least : ℕ) → Loses old new count → least < count → IfSome old (λ left. least < length left)
+told_so_many None new count least lost below = tt
+told_so_many (Some xs) None count least lost below = absurd lost.1
+told_so_many (Some xs) (Some ys) count least lost below =
+    let whole : length xs ≡ length lost.0 + length ys = ap length lost.1 ∙ length-append lost.0 ys in
+    omega (arith, whole, lost.2, below)
 
-pub IfErr-weaker : {X E : Type 0} (r : Result X E) (P Q : E → Type 0) → ((e : E) → P e → Q e) → IfErr r P → IfErr r Q
-IfErr-weaker r P Q more h = MatchResult-weaker r h (λ x y. y) more
+-- what holds of the bytes that were read
+pub reads_as : (s : Change SourceView) (bytes : List ℕ) (P : List ℕ → Type 0) → Reads s (λ came. came ≡ bytes) → P bytes → Reads s P
+reads_as s bytes P whole holds =
+    record { bytes = whole.bytes; told = whole.told; ended = whole.ended; taken = whole.taken; short = whole.short; holds = subst P (sym whole.holds) holds }
 
-pub network_unread : (s : SeenSource) (e : RunStatus) → IsReadingFault s file.Network e → IsNetworkFault s e
-network_unread s Done why = absurd why
-network_unread s (Words fault) why = absurd why
-network_unread s (Network fault) why = absurd why
-network_unread s (Fleet fault) why = absurd why
-network_unread s (Script fault) why = absurd why
-network_unread s (TooLong w) why = why
-network_unread s (ReadFault w) why = why
-network_unread s WriteFault why = absurd why
-network_unread s OutOfMemory why = tt
+-- a source that was read to its end gave no more than may be
+pub reads_within : (s : Change SourceView) (P : List ℕ → Type 0) → Reads s P → IsWithin s
+reads_within s P r = omega (arith, r.taken, r.short)
 
-pub network_refused : (s : SeenSource) (bytes : List ℕ) → IfSome s.told (λ told. bytes ≡ told) → (e : RunStatus) → RefusesNetwork bytes e → IsNetworkFault s e
-network_refused s bytes told Done why = absurd why
-network_refused s bytes told (Words fault) why = absurd why
-network_refused s bytes told (Network fault) why = told_is s.told bytes (λ b. network_in b ≡ Err fault) told why
-network_refused s bytes told (Fleet fault) why = absurd why
-network_refused s bytes told (Script fault) why = absurd why
-network_refused s bytes told (TooLong w) why = absurd why
-network_refused s bytes told (ReadFault w) why = absurd why
-network_refused s bytes told WriteFault why = absurd why
-network_refused s bytes told OutOfMemory why = tt
+-- why a source wasn't read to its end, by the answer that came
+module _ {A : Type 0} (s : Change SourceView) (which : Which) (r : Result A ReadAll)
+    (moved : (count : ℕ) × (count ≤ 67108865) × (s.after.taken ≡ s.before.taken + count) × Loses s.before.left s.after.left count)
+    (too_long : (r ≡ Err (of_read.TooLong 67108864)) ↔ (s.after.taken ≡ s.before.taken + 67108865)) where
+  within : ((s.after.taken ≡ s.before.taken + 67108865) → ⊥) → IsWithin s
+  within few = (let at : s.after.taken ≡ s.before.taken + moved.0 = moved.2 in let most : moved.0 ≤ 67108865 = moved.1 in omega (arith, at, most, few))
 
-pub fleet_unread : (s : SeenSource) (nodes : List ℕ) (e : RunStatus) → IsReadingFault s file.Fleet e → IsFleetFault s nodes e
-fleet_unread s nodes Done why = absurd why
-fleet_unread s nodes (Words fault) why = absurd why
-fleet_unread s nodes (Network fault) why = absurd why
-fleet_unread s nodes (Fleet fault) why = absurd why
-fleet_unread s nodes (Script fault) why = absurd why
-fleet_unread s nodes (TooLong w) why = why
-fleet_unread s nodes (ReadFault w) why = why
-fleet_unread s nodes WriteFault why = absurd why
-fleet_unread s nodes OutOfMemory why = tt
+  pub read_failed : r ≡ Err of_read.ReadFault → (r ≡ Err of_read.ReadFault → Rose s.before.faults s.after.faults) → IsUnread s which (ReadFault which)
+  read_failed is fault = IsUnread.failed (within (λ long. cc (is, too_long.1 long))) (fault is)
 
-pub fleet_refused : (s : SeenSource) (nodes : List ℕ) (bytes : List ℕ) → IfSome s.told (λ told. bytes ≡ told) → (e : RunStatus) → RefusesFleet nodes bytes e → IsFleetFault s nodes e
-fleet_refused s nodes bytes told Done why = absurd why
-fleet_refused s nodes bytes told (Words fault) why = absurd why
-fleet_refused s nodes bytes told (Network fault) why = absurd why
-fleet_refused s nodes bytes told (Fleet fault) why = told_is s.told bytes (λ b. fleet_in nodes b ≡ Err fault) told why
-fleet_refused s nodes bytes told (Script fault) why = absurd why
-fleet_refused s nodes bytes told (TooLong w) why = absurd why
-fleet_refused s nodes bytes told (ReadFault w) why = absurd why
-fleet_refused s nodes bytes told WriteFault why = absurd why
-fleet_refused s nodes bytes told OutOfMemory why = tt
+  pub no_memory_left : r ≡ Err of_read.OutOfMemory → IsUnread s which OutOfMemory
+  no_memory_left is = IsUnread.memory (within (λ long. cc (is, too_long.1 long)))
 
-pub script_unread : (s : SeenSource) (e : RunStatus) → IsReadingFault s file.Script e → IsScriptFault s e
-script_unread s Done why = absurd why
-script_unread s (Words fault) why = absurd why
-script_unread s (Network fault) why = absurd why
-script_unread s (Fleet fault) why = absurd why
-script_unread s (Script fault) why = absurd why
-script_unread s (TooLong w) why = why
-script_unread s (ReadFault w) why = why
-script_unread s WriteFault why = absurd why
-script_unread s OutOfMemory why = tt
+  pub was_too_long : (limit : ℕ) → r ≡ Err (of_read.TooLong limit) → ((bound : ℕ) → r ≡ Err (of_read.TooLong bound) → bound ≡ 67108864) → IsUnread s which (TooLong which)
+  was_too_long limit is its =
+      let taken : s.after.taken ≡ s.before.taken + 67108865 = too_long.0 (is ∙ ap (λ b. Err (of_read.TooLong b)) (its limit is)) in
+      let at : s.after.taken ≡ s.before.taken + moved.0 = moved.2 in
+      let count : moved.0 ≡ 67108865 = omega (arith, taken, at) in
+      IsUnread.long (record { taken = taken; told = told_so_many s.before.left s.after.left moved.0 67108864 moved.3 (omega (arith, count)) })
 
-pub script_refused : (s : SeenSource) (bytes : List ℕ) → IfSome s.told (λ told. bytes ≡ told) → (e : RunStatus) → RefusesRounds (script_in bytes) e → IsScriptFault s e
-script_refused s bytes told Done why = absurd why
-script_refused s bytes told (Words fault) why = absurd why
-script_refused s bytes told (Network fault) why = absurd why
-script_refused s bytes told (Fleet fault) why = absurd why
-script_refused s bytes told (Script fault) why = told_is s.told bytes (λ b. script_in b ≡ Err fault) told why
-script_refused s bytes told (TooLong w) why = absurd why
-script_refused s bytes told (ReadFault w) why = absurd why
-script_refused s bytes told WriteFault why = absurd why
-script_refused s bytes told OutOfMemory why = tt
+module _ (s : Change SourceView) where
+  stops_for_memory : {A F : Type 0} (which : Which) (refusal : Input F → RunStatus) (read : List ℕ → Result A (Input F)) (bytes : List ℕ)
+      → Reads s (λ came. came ≡ bytes) → StopsAt s which refusal read OutOfMemory
+  stops_for_memory which refusal read bytes whole = StopsAt.unread OutOfMemory (IsUnread.memory (reads_within s (λ came. came ≡ bytes) whole))
+
+  pub network_stops : (bytes : List ℕ) (status : RunStatus) → Reads s (λ came. came ≡ bytes) → RefusesNetwork bytes status → HidesNoMemory status
+      → StopsAt s file.Network Network network_in status
+  network_stops bytes (Network fault) whole why hides = StopsAt.refused fault (reads_as s bytes (λ b. network_in b ≡ Err fault) whole why) hides
+  network_stops bytes OutOfMemory whole why hides = stops_for_memory file.Network Network network_in bytes whole
+  network_stops bytes Done whole why hides = absurd why
+  network_stops bytes (Words fault) whole why hides = absurd why
+  network_stops bytes (Fleet fault) whole why hides = absurd why
+  network_stops bytes (Script fault) whole why hides = absurd why
+  network_stops bytes (TooLong w) whole why hides = absurd why
+  network_stops bytes (ReadFault w) whole why hides = absurd why
+  network_stops bytes WriteFault whole why hides = absurd why
+
+  pub fleet_stops : (nodes bytes : List ℕ) (status : RunStatus) → Reads s (λ came. came ≡ bytes) → RefusesFleet nodes bytes status → HidesNoMemory status
+      → StopsAt s file.Fleet Fleet (vehicles_in nodes) status
+  fleet_stops nodes bytes (Fleet fault) whole why hides = StopsAt.refused fault (reads_as s bytes (λ b. vehicles_in nodes b ≡ Err fault) whole why) hides
+  fleet_stops nodes bytes OutOfMemory whole why hides = stops_for_memory file.Fleet Fleet (vehicles_in nodes) bytes whole
+  fleet_stops nodes bytes Done whole why hides = absurd why
+  fleet_stops nodes bytes (Words fault) whole why hides = absurd why
+  fleet_stops nodes bytes (Network fault) whole why hides = absurd why
+  fleet_stops nodes bytes (Script fault) whole why hides = absurd why
+  fleet_stops nodes bytes (TooLong w) whole why hides = absurd why
+  fleet_stops nodes bytes (ReadFault w) whole why hides = absurd why
+  fleet_stops nodes bytes WriteFault whole why hides = absurd why
+
+  pub script_stops : (bytes : List ℕ) (status : RunStatus) → Reads s (λ came. came ≡ bytes) → RefusesRounds (script_in bytes) status → HidesNoMemory status
+      → StopsAt s file.Script Script script_in status
+  script_stops bytes (Script fault) whole why hides = StopsAt.refused fault (reads_as s bytes (λ b. script_in b ≡ Err fault) whole why) hides
+  script_stops bytes OutOfMemory whole why hides = stops_for_memory file.Script Script script_in bytes whole
+  script_stops bytes Done whole why hides = absurd why
+  script_stops bytes (Words fault) whole why hides = absurd why
+  script_stops bytes (Network fault) whole why hides = absurd why
+  script_stops bytes (Fleet fault) whole why hides = absurd why
+  script_stops bytes (TooLong w) whole why hides = absurd why
+  script_stops bytes (ReadFault w) whole why hides = absurd why
+  script_stops bytes WriteFault whole why hides = absurd why
+
+-- what came of an input, from what came of its bytes
+pub network_read : (s : Change SourceView) (items bytes : List ℕ) (r : Result Roads RunStatus) → Reads s (λ came. came ≡ items) → bytes ≡ items
+    → IfOk r (λ roads. network_in bytes ≡ Ok roads) → IfErr r (RefusesNetwork bytes) → IfErr r HidesNoMemory
+    → MatchResult r (λ roads. Reads s (λ b. network_in b ≡ Ok roads)) (StopsAt s file.Network Network network_in)
+network_read s items bytes (Ok roads) whole is ok why hides = reads_as s items (λ b. network_in b ≡ Ok roads) whole (subst (λ b. network_in b ≡ Ok roads) is ok)
+network_read s items bytes (Err e) whole is ok why hides = network_stops s items e whole (subst (λ b. RefusesNetwork b e) is why) hides
+
+pub fleet_read : (s : Change SourceView) (nodes items bytes : List ℕ) (r : Result (List Vehicle) RunStatus) → Reads s (λ came. came ≡ items) → bytes ≡ items
+    → IfOk r (λ fleet. IsFleetIn nodes bytes fleet) → IfErr r (RefusesFleet nodes bytes) → IfErr r HidesNoMemory
+    → MatchResult r (λ fleet. Reads s (λ b. IsFleetIn nodes b fleet)) (StopsAt s file.Fleet Fleet (vehicles_in nodes))
+fleet_read s nodes items bytes (Ok fleet) whole is ok why hides = reads_as s items (λ b. IsFleetIn nodes b fleet) whole (subst (λ b. IsFleetIn nodes b fleet) is ok)
+fleet_read s nodes items bytes (Err e) whole is ok why hides = fleet_stops s nodes items e whole (subst (λ b. RefusesFleet nodes b e) is why) hides
+
+pub script_read : (s : Change SourceView) (items bytes : List ℕ) (r : Result (List NumberedLanes) RunStatus) → Reads s (λ came. came ≡ items) → bytes ≡ items
+    → IfOk r (λ rounds. script_in bytes ≡ Ok rounds) → IfErr r (RefusesRounds (script_in bytes)) → IfErr r HidesNoMemory
+    → MatchResult r (λ rounds. Reads s (λ b. script_in b ≡ Ok rounds)) (StopsAt s file.Script Script script_in)
+script_read s items bytes (Ok rounds) whole is ok why hides = reads_as s items (λ b. script_in b ≡ Ok rounds) whole (subst (λ b. script_in b ≡ Ok rounds) is ok)
+script_read s items bytes (Err e) whole is ok why hides = script_stops s items e whole (subst (λ b. RefusesRounds (script_in b) e) is why) hides

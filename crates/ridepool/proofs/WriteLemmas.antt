@@ -1,14 +1,17 @@
 -- Texts of rounds, one after the other, and what stands where the last isn't whole.
-use Rattle.std.proofs.Common.{◌≡◌, ℕ, ◌+◌, ◌-◌, ◌^◌, ◌<◌, ◌≤◌, List, [], ◌∷◌, ◌++◌, length, take, drop, get_or, Option, Result, Ok, Err, MatchResult, refl, sym, subst, ap, ◌∙◌, append_assoc, append-nil, add-one, arith, inl, inr}
+use Rattle.std.proofs.Common.{◌≡◌, ℕ, Bool, ◌+◌, ◌-◌, ◌^◌, ◌<◌, ◌≤◌, List, [], ◌∷◌, ◌++◌, length, take, drop, get_or, Option, Result, Ok, Err, MatchResult, refl, sym, subst, ap, ◌∙◌, append_assoc, append-nil, add-one, arith, inl, inr}
 use Rattle.std.specs.Prelude.{◌⊎◌}
 use Rattle.std.specs.Io.KnownBytes.{Appends, Keeps}
 use Rattle.std.proofs.KnownBytes.{Appends-nil, Appends-trans, Appends-kept}
 use Rattle.std.proofs.lemmas.List.{take-append-drop, length-drop}
 use Rattle.std.proofs.Math.Seq.{take-suc}
 use Rattle.pool_io.specs.Sink.{AppendsPart}
-use Rattle.dispatch_engine.specs.Run.{IsReady, IsRoundRun, IsRun, IsSameRun, state_after_run, position_after_run, journal_of}
+use Rattle.dispatch_engine.specs.Run.{IsReady, IsRoundRun, IsRun, IsSameRun, position_after_run, journal_of}
+use Rattle.dispatch_engine.specs.work.Run.{state_after_run}
 use Rattle.dispatch_report.specs.Head.{head_text}
-use Rattle.dispatch_report.specs.Round.{end_text}
+use Rattle.dispatch_report.specs.Round.{round_text, end_text}
+use Rattle.dispatch_report.specs.Summary.{load_text, summary_text}
+use Rattle.dispatch_report.specs.Written.{Change, SinkView, WritesText}
 use Rattle.dispatch_report.specs.declared.fault.ReportFault.{ReportFault}
 use Rattle.dispatch_report.specs.declared.fault.ReportFault.TheVariants as report
 use Rattle.pool_io.specs.Faults.{Rose}
@@ -18,18 +21,33 @@ use Rattle.request_book.specs.declared.journal.Journal.{Journal}
 use Rattle.request_book.specs.declared.state.State.{State}
 use Rattle.batch_snapshot.specs.declared.vehicle.Vehicle.{Vehicle}
 use Rattle.rider_limits.specs.declared.settings.Mode.{Mode}
-use Rattle.rider_limits.specs.declared.settings.Mode.TheVariants.{Run}
+use Rattle.rider_limits.specs.declared.load_shape.LoadShape.{LoadShape}
+use Rattle.rider_limits.specs.declared.settings.Mode.TheVariants.{Run, Load}
 use Rattle.rider_limits.specs.declared.settings.Settings.{Settings}
 use Rattle.road_network.specs.Roads.{Roads}
 use Rattle.script_rows.specs.Round.{NumberedLanes}
-use Rattle.ridepool.specs.Report.{Inputs, RunsRounds, first_text, added_text, rounds_text, begun_text, report_text, Begins, IsPart}
-use Rattle.ridepool.specs.Writing.{NextJournal, WritesRound, WritesPart, WritesRounds, WritesFirst, LacksEnd, IsRoundFault, IsRoundsFault, IsWritingFault, status_of}
+use Rattle.ridepool.specs.Inputs.{Inputs}
+use Rattle.ridepool.specs.Report.{RunsRounds, first_text, added_text, rounds_text, begun_text, report_text, Begins, IsPart}
+use Rattle.ridepool.specs.work.Writing.{NextJournal, WritesRound, WritesPart, WritesRounds, WritesFirst, LacksEnd, IsRoundFault, IsRoundsFault, IsWritingFault, status_of}
 use Rattle.ridepool.specs.declared.status.RunStatus.{RunStatus}
 use Rattle.ridepool.specs.declared.status.RunStatus.TheVariants.{Done, Words, Network, Fleet, Script, TooLong, ReadFault, WriteFault, OutOfMemory}
 
--- the first lines of a run
-pub first_of_run : (m : Mode) (settings : Settings) (roads : Roads) (vehicles : List Vehicle) → m ≡ Run → first_text m settings roads vehicles ≡ head_text settings roads vehicles
-first_of_run m settings roads vehicles is = ap (λ x. first_text x settings roads vehicles) is
+-- the same text
+pub text_is : {sink : Change SinkView} {r : Result (Unit {0}) ReportFault} (t u : List ℕ) → t ≡ u → WritesText sink t r → WritesText sink u r
+text_is {sink} {r} t u is w = subst (λ x. WritesText sink x r) is w
+
+-- the first lines, and what a round adds, by the command
+pub first_of_run : (m : Mode) (settings : Settings) (roads : Roads) (vehicles : List Vehicle) → m ≡ Run → head_text settings roads vehicles ≡ first_text m settings roads vehicles
+first_of_run m settings roads vehicles is = ap (λ x. first_text x settings roads vehicles) (sym is)
+
+pub first_of_load : (m : Mode) (shape : LoadShape) (settings : Settings) (roads : Roads) (vehicles : List Vehicle) → m ≡ Load shape → load_text shape ≡ first_text m settings roads vehicles
+first_of_load m shape settings roads vehicles is = ap (λ x. first_text x settings roads vehicles) (sym is)
+
+pub added_of_run : (m : Mode) (proof : Bool) (number : ℕ) (journal : Journal) → m ≡ Run → round_text number proof journal ≡ added_text m proof number journal
+added_of_run m proof number journal is = ap (λ x. added_text x proof number journal) (sym is)
+
+pub added_of_load : (m : Mode) (shape : LoadShape) (proof : Bool) (number : ℕ) (journal : Journal) → m ≡ Load shape → summary_text journal ≡ added_text m proof number journal
+added_of_load m shape proof number journal is = ap (λ x. added_text x proof number journal) (sym is)
 
 -- positions of runs
 pub position_after_run-more : (position : ℕ) (js : List Journal) (j : Journal) → position_after_run position (js ++ j ∷ []) ≡ next_position (position_after_run position js) j.entries

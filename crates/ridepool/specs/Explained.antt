@@ -1,26 +1,25 @@
 -- How a call ends, and what stands then.
-use Rattle.std.specs.Prelude.{◌≡◌, ℕ, List, Option, Some, None, ◌⊎◌, ◌+◌, true, is_some}
-use Rattle.std.specs.Io.KnownBytes.{Appends, Keeps}
+use Rattle.std.specs.Prelude.{◌≡◌, ◌≢◌, ℕ, ◌≤◌, List, Option, Some, None, length, ◌⊎◌}
+use Rattle.std.specs.Io.KnownBytes.{Appends}
+use Rattle.fleet_state.specs.declared.fault.FleetFault.TheVariants as fleet
+use Rattle.load_maker.specs.Texts.{Texts}
+use Rattle.pool_base.specs.declared.which.Which.{Which}
 use Rattle.pool_io.specs.Faults.{Rose}
+use Rattle.pool_io.specs.declared.input.Input.TheVariants.{Rows, Own}
+use Rattle.pool_io.specs.declared.records.RowFault.TheVariants as row
 use Rattle.request_book.specs.declared.journal.Journal.{Journal}
 use Rattle.rider_limits.specs.Settings.{AreGiven}
 use Rattle.rider_limits.specs.Words.{fault_of}
 use Rattle.rider_limits.specs.declared.settings.Mode.TheVariants.{Run}
 use Rattle.rider_limits.specs.declared.settings.Settings.{Settings}
-use Rattle.ridepool.specs.Inputs.{SeenSources, AreInputs, IsSourceFault, AreUntouched}
-use Rattle.ridepool.specs.Reading.{SeenSource}
-use Rattle.ridepool.specs.Report.{Inputs, RunsRounds, report_text, IsPart}
+use Rattle.road_network.specs.declared.fault.NetworkFault.TheVariants as network
+use Rattle.script_rows.specs.declared.fault.ScriptFault.TheVariants as script
+use Rattle.ridepool.specs.Inputs.{Inputs, AreInputs, AreTexts, AreUntouched, IsStop, IsWithin}
+use Rattle.ridepool.specs.Report.{RunsRounds, report_text, IsPart}
+use Rattle.dispatch_report.specs.Written.{Change}
+use Rattle.ridepool.specs.Seen.{Seen, Sources, SourceView, IsUntouched, source_at}
 use Rattle.ridepool.specs.declared.status.RunStatus.{RunStatus}
-use Rattle.ridepool.specs.declared.status.RunStatus.TheVariants.{Done, Words, Network, Fleet, Script, TooLong, ReadFault, WriteFault, OutOfMemory}
-
--- what is seen of a call: its words, its sources, and its sink's bytes and count of faults
-pub record Seen : Type 0 where
-  pub words : List (List ℕ)
-  pub sources : SeenSources
-  pub written_before : Option (List ℕ)
-  pub written_after : Option (List ℕ)
-  pub faults_before : ℕ
-  pub faults_after : ℕ
+use Rattle.ridepool.specs.declared.status.RunStatus.TheVariants.{Done, Words, Network, Fleet, Script, TooLong, WriteFault, OutOfMemory}
 
 -- the words are good, and give these settings
 pub record AreGood (words : List (List ℕ)) (settings : Settings) : Type 0 where
@@ -33,68 +32,75 @@ AreForRun words = (s : Settings) × AreGood words s × (s.mode ≡ Run)
 
 -- the words are good for a made workload
 abbrev pub AreForLoad : List (List ℕ) → Type 0
-AreForLoad words = (s : Settings) × AreGood words s × (s.mode ≡ Run → ⊥)
+AreForLoad words = (s : Settings) × AreGood words s × (s.mode ≢ Run)
 
--- all inputs pass, and are these: the sources' bytes, or the texts of a made workload
+-- the words are good, all inputs pass, and are these
 pub record AreAccepted (seen : Seen) (i : Inputs) : Type 0 where
   pub words : AreGood seen.words i.settings
-  pub inputs : AreInputs i.settings.mode seen.sources i.roads i.vehicles i.rounds
+  pub inputs : AreInputs i.settings.mode seen.sources i
 
--- nothing was written
-abbrev pub NothingWritten : Seen → Type 0
-NothingWritten seen = Keeps seen.written_before seen.written_after
+-- a run stopped at a source, with nothing written
+abbrev pub StopsRun : Seen → RunStatus → Type 0
+StopsRun seen status = AreForRun seen.words × IsStop seen.sources status × IsUntouched seen.out
 
--- a source of a run couldn't be read, and nothing was written
-abbrev pub StopsAtSource : Seen → RunStatus → Type 0
-StopsAtSource seen status = AreForRun seen.words × IsSourceFault seen.sources status × NothingWritten seen
+-- the inputs pass, and the report of the first rounds stands in part
+abbrev pub WritesPart : Seen → Type 0
+WritesPart seen = (i : Inputs) × AreAccepted seen i × IsPart i seen.out.before.written seen.out.after.written
 
 -- why a call ended as it did, and what is written
 abbrev pub Explains : Seen → RunStatus → Type 0
 Explains seen Done =
     (i : Inputs) × (journals : List Journal) × AreAccepted seen i × RunsRounds i i.rounds journals
-    × Appends seen.written_before seen.written_after (report_text i journals)
-Explains seen (Words fault) = (fault_of seen.words ≡ Some fault) × NothingWritten seen
-Explains seen (Network fault) = StopsAtSource seen (Network fault)
-Explains seen (Fleet fault) = StopsAtSource seen (Fleet fault)
-Explains seen (Script fault) = StopsAtSource seen (Script fault)
-Explains seen (TooLong w) = StopsAtSource seen (TooLong w)
-Explains seen (ReadFault w) = StopsAtSource seen (ReadFault w)
-Explains seen WriteFault =
-    Rose seen.faults_before seen.faults_after
-    × ((i : Inputs) × AreAccepted seen i × IsPart i seen.written_before seen.written_after)
-Explains seen OutOfMemory = NothingWritten seen ⊎ ((i : Inputs) × AreAccepted seen i × IsPart i seen.written_before seen.written_after)
+    × Appends seen.out.before.written seen.out.after.written (report_text i journals)
+Explains seen (Words fault) = (fault_of seen.words ≡ Some fault) × AreUntouched seen.sources × IsUntouched seen.out
+Explains seen WriteFault = WritesPart seen × Rose seen.out.before.faults seen.out.after.faults
+Explains seen OutOfMemory =
+    StopsRun seen OutOfMemory ⊎ (AreForLoad seen.words × AreUntouched seen.sources × IsUntouched seen.out) ⊎ WritesPart seen
+Explains seen status = StopsRun seen status
 
--- the sources are as they were, unless the words are good for a run
-abbrev pub TouchesForRun : Seen → Type 0
-TouchesForRun seen = AreForRun seen.words ⊎ AreUntouched seen.sources
+-- a source tells these bytes at entry, at most 67,108,864, and no read of it fails
+pub record Tells (s : Change SourceView) (bytes : List ℕ) : Type 0 where
+  pub told : s.before.left ≡ Some bytes
+  pub short : length bytes ≤ 67108864
+  pub faultless : Rose s.before.faults s.after.faults → ⊥
 
--- why the words aren't good
-abbrev pub IsWordsFault : List (List ℕ) → RunStatus → Type 0
-IsWordsFault words (Words fault) = fault_of words ≡ Some fault
-IsWordsFault words _ = ⊥
-
--- a source tells its bytes, didn't give too many, and had no fault
-pub record IsFaultlessSource (s : SeenSource) : Type 0 where
-  pub told : is_some s.told ≡ true
-  pub short : s.taken_after ≡ s.taken_before + 67108865 → ⊥
-  pub faults : Rose s.faults_before s.faults_after → ⊥
-
--- in a run the inputs pass, and no source had a fault
+-- the words are good for a run, the sources tell texts that give inputs, and no read fails
 pub record IsFaultlessRun (seen : Seen) : Type 0 where
   pub inputs : Inputs
-  pub accepted : AreAccepted seen inputs
+  pub words : AreGood seen.words inputs.settings
   pub run : inputs.settings.mode ≡ Run
-  pub network : IsFaultlessSource seen.sources.network
-  pub fleet : IsFaultlessSource seen.sources.fleet
-  pub script : IsFaultlessSource seen.sources.script
+  pub texts : Texts
+  pub give : AreTexts texts inputs
+  pub network : Tells seen.sources.network texts.network
+  pub fleet : Tells seen.sources.fleet texts.fleet
+  pub script : Tells seen.sources.script texts.script
 
--- the inputs of a run pass, or the words are good for a made workload; and the sink had no fault
+-- so is a run, or the words are good for a made workload; and no write fails
 pub record IsFaultless (seen : Seen) : Type 0 where
   pub inputs : IsFaultlessRun seen ⊎ AreForLoad seen.words
-  pub sink : Rose seen.faults_before seen.faults_after → ⊥
+  pub sink : Rose seen.out.before.faults seen.out.after.faults → ⊥
 
--- all was done, or there was no memory
-abbrev pub IsDoneOrMemory : RunStatus → Type 0
-IsDoneOrMemory Done = Unit {0}
-IsDoneOrMemory OutOfMemory = Unit {0}
-IsDoneOrMemory _ = ⊥
+-- at most 67,108,864 bytes were taken from each source, and one more only where it is answered as too long
+abbrev pub IsLimited : Sources → RunStatus → Type 0
+IsLimited s status = (w : Which) → IsWithin (source_at s w) ⊎ (status ≡ TooLong w)
+
+-- want of memory stands inside no other status
+abbrev pub HidesNoMemory : RunStatus → Type 0
+HidesNoMemory (Network (Rows fault)) = fault ≢ row.OutOfMemory
+HidesNoMemory (Network (Own fault)) = fault ≢ network.OutOfMemory
+HidesNoMemory (Fleet (Rows fault)) = fault ≢ row.OutOfMemory
+HidesNoMemory (Fleet (Own fault)) = fault ≢ fleet.OutOfMemory
+HidesNoMemory (Script (Rows fault)) = fault ≢ row.OutOfMemory
+HidesNoMemory (Script (Own fault)) = fault ≢ script.OutOfMemory
+HidesNoMemory _ = Unit {0}
+
+-- what a call's answer says
+pub record Answers (seen : Seen) (status : RunStatus) : Type 0 where
+  -- its cause, and what is written
+  pub explained : Explains seen status
+  -- where nothing is wrong, all is done or there is no memory
+  pub complete : IsFaultless seen → (status ≡ Done) ⊎ (status ≡ OutOfMemory)
+  -- only a run touches its sources
+  pub untouched : AreForRun seen.words ⊎ AreUntouched seen.sources
+  pub limited : IsLimited seen.sources status
+  pub refused : HidesNoMemory status

@@ -1,69 +1,84 @@
--- Where the inputs of a call come from, and what comes in the way.
-use Rattle.std.specs.Prelude.{◌≡◌, ℕ, List, Ok}
+-- Where the inputs of a call come from, and where a run can stop at them.
+use Rattle.std.specs.Prelude.{◌≡◌, ℕ, ◌+◌, ◌<◌, ◌≤◌, List, length, Ok, Err, IfSome}
+use Rattle.std.specs.Io.KnownBytes.{IsAtEnd}
 use Rattle.batch_snapshot.specs.declared.vehicle.Vehicle.{Vehicle}
 use Rattle.load_maker.specs.Texts.{Texts, texts_of}
 use Rattle.pool_base.specs.declared.which.Which.{Which}
 use Rattle.pool_base.specs.declared.which.Which.TheVariants as file
+use Rattle.pool_io.specs.Faults.{Rose}
 use Rattle.rider_limits.specs.declared.settings.Mode.{Mode}
 use Rattle.rider_limits.specs.declared.settings.Mode.TheVariants.{Run, Load}
+use Rattle.rider_limits.specs.declared.settings.Settings.{Settings}
 use Rattle.road_network.specs.Roads.{Roads}
 use Rattle.script_rows.specs.Round.{NumberedLanes}
-use Rattle.ridepool.specs.Reading.{network_in, fleet_in, script_in, SeenSource, Gives, IsNetworkFault, IsFleetFault, IsScriptFault}
+use Rattle.ridepool.specs.Reading.{network_in, vehicles_in, IsFleetIn, script_in}
+use Rattle.dispatch_report.specs.Written.{Change}
+use Rattle.ridepool.specs.Seen.{IsUntouched, SourceView, Sources, source_at}
 use Rattle.ridepool.specs.declared.status.RunStatus.{RunStatus}
 use Rattle.ridepool.specs.declared.status.RunStatus.TheVariants.{Network, Fleet, Script, TooLong, ReadFault, OutOfMemory}
 
--- what is seen of the three sources
-pub record SeenSources : Type 0 where
-  pub network : SeenSource
-  pub fleet : SeenSource
-  pub script : SeenSource
+-- what a call works on
+pub record Inputs : Type 0 where
+  pub settings : Settings
+  pub roads : Roads
+  pub vehicles : List Vehicle
+  pub rounds : List NumberedLanes
 
--- an input's bytes, by the command: those of its source, or the text that is made of the shape
-abbrev pub GivesInput : Mode → SeenSource → (Texts → List ℕ) → (List ℕ → Type 0) → Type 0
-GivesInput Run source text P = Gives source P
-GivesInput (Load shape) source text P = P (text (texts_of shape))
+-- at most 67,108,864 bytes were taken from a source
+abbrev pub IsWithin : Change SourceView → Type 0
+IsWithin s = s.after.taken ≤ s.before.taken + 67108864
 
--- the inputs' bytes are read as this network, this fleet on it, and these rounds
-pub record AreInputs (mode : Mode) (sources : SeenSources) (roads : Roads) (vehicles : List Vehicle) (rounds : List NumberedLanes) : Type 0 where
-  pub network : GivesInput mode sources.network (λ t. t.network) (λ bytes. network_in bytes ≡ Ok roads)
-  pub fleet : GivesInput mode sources.fleet (λ t. t.fleet) (λ bytes. fleet_in roads.nodes bytes ≡ Ok vehicles)
-  pub script : GivesInput mode sources.script (λ t. t.script) (λ bytes. script_in bytes ≡ Ok rounds)
+-- one byte more was taken, and where the source tells its bytes, there are so many
+pub record IsSourceTooLong (s : Change SourceView) : Type 0 where
+  pub taken : s.after.taken ≡ s.before.taken + 67108865
+  pub told : IfSome s.before.left (λ left. 67108864 < length left)
 
--- a source couldn't be read, those before it having passed
-abbrev pub CameToSource : SeenSources → Which → RunStatus → Type 0
-CameToSource s file.Network status = IsNetworkFault s.network status
-CameToSource s file.Fleet status =
-    (roads : Roads) × Gives s.network (λ bytes. network_in bytes ≡ Ok roads) × IsFleetFault s.fleet roads.nodes status
-CameToSource s file.Script status =
-    (roads : Roads) × (vehicles : List Vehicle) × Gives s.network (λ bytes. network_in bytes ≡ Ok roads)
-    × Gives s.fleet (λ bytes. fleet_in roads.nodes bytes ≡ Ok vehicles) × IsScriptFault s.script status
+-- a source was read to its end, and this holds of its bytes, at most 67,108,864
+pub record Reads (s : Change SourceView) (Holds : List ℕ → Type 0) : Type 0 where
+  pub bytes : List ℕ
+  pub told : IfSome s.before.left (λ left. bytes ≡ left)
+  pub ended : IsAtEnd s.after.left
+  pub taken : s.after.taken ≡ s.before.taken + length bytes
+  pub short : length bytes ≤ 67108864
+  pub holds : Holds bytes
 
--- why the sources weren't read
-abbrev pub IsSourceFault : SeenSources → RunStatus → Type 0
-IsSourceFault s (Network fault) = CameToSource s file.Network (Network fault)
-IsSourceFault s (Fleet fault) = CameToSource s file.Fleet (Fleet fault)
-IsSourceFault s (Script fault) = CameToSource s file.Script (Script fault)
-IsSourceFault s (TooLong w) = CameToSource s w (TooLong w)
-IsSourceFault s (ReadFault w) = CameToSource s w (ReadFault w)
-IsSourceFault s OutOfMemory = Unit {0}
-IsSourceFault s _ = ⊥
+-- the three sources were read as these inputs
+pub record AreReadFrom (s : Sources) (i : Inputs) : Type 0 where
+  pub network : Reads s.network (λ bytes. network_in bytes ≡ Ok i.roads)
+  pub fleet : Reads s.fleet (λ bytes. IsFleetIn i.roads.nodes bytes i.vehicles)
+  pub script : Reads s.script (λ bytes. script_in bytes ≡ Ok i.rounds)
 
--- why there are no inputs: of a made workload want of memory alone
-abbrev pub IsInputFault : Mode → SeenSources → RunStatus → Type 0
-IsInputFault Run s status = IsSourceFault s status
-IsInputFault (Load shape) s status = status ≡ OutOfMemory
+-- three texts give these inputs
+pub record AreTexts (t : Texts) (i : Inputs) : Type 0 where
+  pub network : network_in t.network ≡ Ok i.roads
+  pub fleet : IsFleetIn i.roads.nodes t.fleet i.vehicles
+  pub script : script_in t.script ≡ Ok i.rounds
 
--- nothing was taken from a source
-pub record IsUntouched (s : SeenSource) : Type 0 where
-  pub taken : s.taken_after ≡ s.taken_before
-  pub faults : s.faults_after ≡ s.faults_before
-
-pub record AreUntouched (s : SeenSources) : Type 0 where
+-- no source is touched
+pub record AreUntouched (s : Sources) : Type 0 where
   pub network : IsUntouched s.network
   pub fleet : IsUntouched s.fleet
   pub script : IsUntouched s.script
 
--- only a run touches its sources
-abbrev pub TouchedBy : Mode → SeenSources → Type 0
-TouchedBy Run s = Unit {0}
-TouchedBy (Load shape) s = AreUntouched s
+-- the inputs by the command: of a run what its sources were read as; of a made workload what its texts give
+abbrev pub AreInputs : Mode → Sources → Inputs → Type 0
+AreInputs Run s i = AreReadFrom s i
+AreInputs (Load shape) s i = AreTexts (texts_of shape) i × AreUntouched s
+
+-- a run came to a source: those before it were read and pass, those behind it are untouched
+abbrev pub CameTo : Sources → Which → Type 0
+CameTo s file.Network = IsUntouched s.fleet × IsUntouched s.script
+CameTo s file.Fleet = (roads : Roads) × Reads s.network (λ bytes. network_in bytes ≡ Ok roads) × IsUntouched s.script
+CameTo s file.Script =
+    (roads : Roads) × (vehicles : List Vehicle) × Reads s.network (λ bytes. network_in bytes ≡ Ok roads)
+    × Reads s.fleet (λ bytes. IsFleetIn roads.nodes bytes vehicles)
+
+-- why a run stopped at a source: what was read is refused, or there was more than may be, or a read failed, or there was no memory
+abbrev pub IsStop : Sources → RunStatus → Type 0
+IsStop s (Network fault) = CameTo s file.Network × Reads s.network (λ bytes. network_in bytes ≡ Err fault)
+IsStop s (Fleet fault) = (came : CameTo s file.Fleet) × Reads s.fleet (λ bytes. vehicles_in came.0.nodes bytes ≡ Err fault)
+IsStop s (Script fault) = CameTo s file.Script × Reads s.script (λ bytes. script_in bytes ≡ Err fault)
+IsStop s (TooLong w) = CameTo s w × IsSourceTooLong (source_at s w)
+IsStop s (ReadFault w) = CameTo s w × IsWithin (source_at s w) × Rose (source_at s w).before.faults (source_at s w).after.faults
+IsStop s OutOfMemory = (w : Which) × CameTo s w × IsWithin (source_at s w)
+IsStop s _ = ⊥

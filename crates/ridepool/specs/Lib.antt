@@ -1,7 +1,8 @@
-pub mod Status
-pub mod Text
+pub mod Seen
 pub mod Reading
 pub mod Inputs
 pub mod Report
-pub mod Writing
 pub mod Explained
+pub mod Status
+pub mod Text
+pub mod work

@@ -8,18 +8,12 @@ use Rattle.dispatch_report.specs.Round.{round_text, end_text}
 use Rattle.dispatch_report.specs.Summary.{load_text, summary_text}
 use Rattle.request_book.specs.Book.{opening}
 use Rattle.request_book.specs.declared.journal.Journal.{Journal}
+use Rattle.ridepool.specs.Inputs.{Inputs}
 use Rattle.rider_limits.specs.declared.settings.Mode.{Mode}
 use Rattle.rider_limits.specs.declared.settings.Mode.TheVariants.{Run, Load}
 use Rattle.rider_limits.specs.declared.settings.Settings.{Settings}
 use Rattle.road_network.specs.Roads.{Roads}
 use Rattle.script_rows.specs.Round.{NumberedLanes}
-
--- what was read
-pub record Inputs : Type 0 where
-  pub settings : Settings
-  pub roads : Roads
-  pub vehicles : List Vehicle
-  pub rounds : List NumberedLanes
 
 -- journals are a run of these rounds, from an empty book with all vehicles as the fleet gives them
 abbrev pub RunsRounds : Inputs → List NumberedLanes → List Journal → Type 0

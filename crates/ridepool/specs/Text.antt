@@ -1,8 +1,9 @@
 -- The line on standard error that tells why a run ended.
-use Rattle.std.specs.Prelude.{ℕ, List, [], ◌∷◌, ◌++◌, codes, decimal}
+use Rattle.std.specs.Prelude.{ℕ, List, [], ◌++◌, codes}
+use Rattle.dispatch_report.specs.Words.{numbered}
 use Rattle.fleet_state.specs.declared.fault.FleetFault.{FleetFault}
 use Rattle.fleet_state.specs.declared.fault.FleetFault.TheVariants as fleet
-use Rattle.pool_base.specs.Which.{name_of}
+use Rattle.pool_base.specs.Which.{file_name}
 use Rattle.pool_io.specs.declared.input.Input.{Input}
 use Rattle.pool_io.specs.declared.input.Input.TheVariants.{Rows, Own}
 use Rattle.pool_io.specs.declared.records.RowFault.{RowFault}
@@ -16,50 +17,51 @@ use Rattle.script_rows.specs.declared.fault.ScriptFault.TheVariants as script
 use Rattle.ridepool.specs.declared.status.RunStatus.{RunStatus}
 use Rattle.ridepool.specs.declared.status.RunStatus.TheVariants.{Done, Words, Network, Fleet, Script, TooLong, ReadFault, WriteFault, OutOfMemory}
 
--- words, and the number of a row, a word or a column after them
-unfoldable pub at_number : List ℕ → ℕ → List ℕ
-at_number words n = words ++ 32 ∷ decimal n
-
--- the same for a row and a column
+-- a number that isn't one, by its row and its column
 unfoldable pub at_place : ℕ → ℕ → List ℕ
-at_place row column = at_number (codes "bad number at row") row ++ at_number (codes " column") column
+at_place row column = numbered (codes "bad number at row ") row ++ numbered (codes " column ") column
 
+-- why words are refused
 abbrev pub word_text : WordFault → List ℕ
 word_text word.NoCommand = codes "no command"
-word_text (word.UnknownKey n) = at_number (codes "unknown key at word") n
-word_text (word.Repeated n) = at_number (codes "repeated key at word") n
-word_text (word.BadValue n) = at_number (codes "bad value at word") n
-word_text (word.MissingFile w) = codes "missing " ++ name_of w
+word_text (word.UnknownKey n) = numbered (codes "unknown key at word ") n
+word_text (word.Repeated n) = numbered (codes "repeated key at word ") n
+word_text (word.BadValue n) = numbered (codes "bad value at word ") n
+word_text (word.MissingFile w) = codes "missing " ++ file_name w
 
+-- why bytes are no rows
 abbrev pub row_text : RowFault → List ℕ
-row_text (row.Header n) = at_number (codes "wrong header of") n ++ codes " fields"
-row_text (row.UnequalLength n) = at_number (codes "row") n ++ codes " has another length"
+row_text (row.Header n) = numbered (codes "wrong header of ") n ++ codes " fields"
+row_text (row.UnequalLength n) = numbered (codes "row ") n ++ codes " has another length"
 row_text row.OutOfMemory = codes "out of memory"
 
+-- why rows are no network
 abbrev pub network_text : NetworkFault → List ℕ
 network_text network.TooManyArcs = codes "more than 400000 arcs"
 network_text (network.Number r c) = at_place r c
-network_text (network.ArcTooLong r) = at_number (codes "arc too long at row") r
-network_text (network.TooManyNodes r) = at_number (codes "more than 100000 nodes at row") r
+network_text (network.ArcTooLong r) = numbered (codes "arc too long at row ") r
+network_text (network.TooManyNodes r) = numbered (codes "more than 100000 nodes at row ") r
 network_text network.OutOfMemory = codes "out of memory"
 
+-- why rows are no fleet
 abbrev pub fleet_text : FleetFault → List ℕ
 fleet_text fleet.TooManyVehicles = codes "more than 500 vehicles"
 fleet_text (fleet.Number r c) = at_place r c
-fleet_text (fleet.Seats r) = at_number (codes "bad seats at row") r
-fleet_text (fleet.UnknownNode r) = at_number (codes "unknown node at row") r
-fleet_text (fleet.Duplicate r) = at_number (codes "repeated vehicle at row") r
+fleet_text (fleet.Seats r) = numbered (codes "bad seats at row ") r
+fleet_text (fleet.UnknownNode r) = numbered (codes "unknown node at row ") r
+fleet_text (fleet.Duplicate r) = numbered (codes "repeated vehicle at row ") r
 fleet_text fleet.OutOfMemory = codes "out of memory"
 
+-- why rows are no script
 abbrev pub script_text : ScriptFault → List ℕ
 script_text script.TooManyRows = codes "more than 200000 rows"
 script_text (script.Number r c) = at_place r c
-script_text (script.LaneRange r) = at_number (codes "lane above 15 at row") r
-script_text (script.RoundBack r) = at_number (codes "round goes back at row") r
-script_text (script.UnknownCommand r) = at_number (codes "unknown command at row") r
-script_text (script.ExtraField r) = at_number (codes "field not empty at row") r
-script_text (script.SealLane r) = at_number (codes "seal outside lane 0 at row") r
-script_text (script.Party r) = at_number (codes "bad party at row") r
+script_text (script.LaneRange r) = numbered (codes "lane above 15 at row ") r
+script_text (script.RoundBack r) = numbered (codes "round goes back at row ") r
+script_text (script.UnknownCommand r) = numbered (codes "unknown command at row ") r
+script_text (script.ExtraField r) = numbered (codes "field not empty at row ") r
+script_text (script.SealLane r) = numbered (codes "seal outside lane 0 at row ") r
+script_text (script.Party r) = numbered (codes "bad party at row ") r
 script_text script.OutOfMemory = codes "out of memory"
 
 -- the fault of an input: of its rows, or of what they say
@@ -74,7 +76,7 @@ status_text (Words fault) = codes "words: " ++ word_text fault
 status_text (Network fault) = codes "network: " ++ input_text network_text fault
 status_text (Fleet fault) = codes "fleet: " ++ input_text fleet_text fault
 status_text (Script fault) = codes "script: " ++ input_text script_text fault
-status_text (TooLong w) = name_of w ++ codes ": longer than 67108864 bytes"
-status_text (ReadFault w) = name_of w ++ codes ": read failed"
+status_text (TooLong w) = file_name w ++ codes ": longer than 67108864 bytes"
+status_text (ReadFault w) = file_name w ++ codes ": read failed"
 status_text WriteFault = codes "report: write failed"
 status_text OutOfMemory = codes "out of memory"

@@ -6,13 +6,7 @@
 //! leaves nothing written.
 #![tactic(auto)]
 
-#[cfg(test)]
-mod batch_tests;
 mod inputs;
-#[cfg(test)]
-mod lane_tests;
-#[cfg(test)]
-mod limit_tests;
 mod reading;
 mod run;
 mod status;

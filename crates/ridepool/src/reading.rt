@@ -1,7 +1,14 @@
-ghost use Rattle.std.specs.Prelude.{◌≡◌, ◌≤◌, All, Ok, IfOk, IfErr, IfSome, codes};
-ghost use Rattle.request_book.specs.Consistent.{IsNode};
-ghost use Rattle.ridepool.specs.Reading.{network_in, fleet_in, script_in, SeenSource, Gives, IsReadingFault, IsNetworkFault, IsFleetFault, IsScriptFault, RefusesNetwork, RefusesFleet, RefusesRounds, in_rows, own_fault};
+ghost use Rattle.std.specs.Prelude.{◌≡◌, All, Ok, IfOk, IfErr, MatchResult};
+ghost use Rattle.pool_base.specs.declared.which.Which.TheVariants as file;
+ghost use Rattle.pool_base.specs.Header.{party_header};
 ghost use Rattle.pool_io.specs.Table.{table_of};
+ghost use Rattle.request_book.specs.Consistent.{IsNode};
+ghost use Rattle.ridepool.specs.Explained.{HidesNoMemory};
+ghost use Rattle.ridepool.specs.Inputs.{Reads};
+ghost use Rattle.ridepool.specs.Reading.{network_in, vehicles_in, IsFleetIn, script_in, in_rows, own_fault};
+ghost use Rattle.ridepool.specs.Seen.{source_seen};
+ghost use Rattle.ridepool.specs.declared.status.RunStatus.TheVariants as status;
+ghost use Rattle.ridepool.specs.work.Reading.{IsUnread, StopsAt, RefusesNetwork, RefusesFleet, RefusesRounds};
 ghost use Rattle.script_rows.specs.Script.{script_of};
 ghost use Rattle.script_rows.specs.Word.{columns_of};
 
@@ -19,9 +26,8 @@ const LONGEST: u64 = 67_108_864;
 
 /// Reads a source to its end.
 fn read_input<S: Source>(alloc: Global, source: &mut S, which: Which) -> Result<Vec<u8>, RunStatus>
-    ensures bytes { IfOk result (λ bytes. IfSome (S.left source.old) (λ told. bytes.items ≡ told)) }
-    ensures cause { IfErr result (IsReadingFault (record { told = S.left source.old; taken_before = S.taken source.old; taken_after = S.taken source.new; faults_before = S.faults source.old; faults_after = S.faults source.new }) which) }
-    ensures never_falls { S.faults source.old ≤ S.faults source.new }
+    ensures { let seen = source_seen S.left S.taken S.faults source.old source.new in
+        MatchResult result (λ bytes. Reads seen (λ came. came ≡ bytes.items)) (IsUnread seen which) }
 {
     match read_all(alloc, source, LONGEST) {
         Ok(bytes) => Ok(bytes),
@@ -33,9 +39,8 @@ fn read_input<S: Source>(alloc: Global, source: &mut S, which: Which) -> Result<
 
 /// Reads the network from its source.
 pub(crate) fn network_from<S: Source>(alloc: Global, source: &mut S) -> Result<Network, RunStatus>
-    ensures network { IfOk result (λ network. IfSome (S.left source.old) (λ told. network_in told ≡ Ok network)) }
-    ensures cause { IfErr result (IsNetworkFault (record { told = S.left source.old; taken_before = S.taken source.old; taken_after = S.taken source.new; faults_before = S.faults source.old; faults_after = S.faults source.new })) }
-    ensures never_falls { S.faults source.old ≤ S.faults source.new }
+    ensures { let seen = source_seen S.left S.taken S.faults source.old source.new in
+        MatchResult result (λ network. Reads seen (λ bytes. network_in bytes ≡ Ok network)) (StopsAt seen file.Network status.Network network_in) }
 {
     let bytes = read_input(alloc, source, Which::Network)?;
     accept_network(alloc, &bytes)
@@ -47,10 +52,10 @@ pub(crate) fn fleet_from<S: Source>(
     source: &mut S,
     network: &Network,
 ) -> Result<Fleet, RunStatus>
-    ensures fleet { IfOk result (λ fleet. IfSome (S.left source.old) (λ told. fleet_in network.now.nodes told ≡ Ok fleet)) }
+    ensures read { let seen = source_seen S.left S.taken S.faults source.old source.new in
+        MatchResult result (λ fleet. Reads seen (λ bytes. IsFleetIn network.now.nodes bytes fleet))
+        (StopsAt seen file.Fleet status.Fleet (vehicles_in network.now.nodes)) }
     ensures named { IfOk result (All (λ vehicle. IsNode network.now.nodes vehicle.node)) }
-    ensures cause { IfErr result (IsFleetFault (record { told = S.left source.old; taken_before = S.taken source.old; taken_after = S.taken source.new; faults_before = S.faults source.old; faults_after = S.faults source.new }) network.now.nodes) }
-    ensures never_falls { S.faults source.old ≤ S.faults source.new }
 {
     let bytes = read_input(alloc, source, Which::Fleet)?;
     accept_fleet(alloc, &bytes, network)
@@ -58,9 +63,8 @@ pub(crate) fn fleet_from<S: Source>(
 
 /// Reads the script from its source.
 pub(crate) fn script_from<S: Source>(alloc: Global, source: &mut S) -> Result<Script, RunStatus>
-    ensures script { IfOk result (λ script. IfSome (S.left source.old) (λ told. script_in told ≡ Ok script)) }
-    ensures cause { IfErr result (IsScriptFault (record { told = S.left source.old; taken_before = S.taken source.old; taken_after = S.taken source.new; faults_before = S.faults source.old; faults_after = S.faults source.new })) }
-    ensures never_falls { S.faults source.old ≤ S.faults source.new }
+    ensures { let seen = source_seen S.left S.taken S.faults source.old source.new in
+        MatchResult result (λ script. Reads seen (λ bytes. script_in bytes ≡ Ok script)) (StopsAt seen file.Script status.Script script_in) }
 {
     let bytes = read_input(alloc, source, Which::Script)?;
     accept_script(alloc, &bytes)
@@ -70,6 +74,7 @@ pub(crate) fn script_from<S: Source>(alloc: Global, source: &mut S) -> Result<Sc
 fn accept_network(alloc: Global, bytes: &[u8]) -> Result<Network, RunStatus>
     ensures network { IfOk result (λ network. network_in bytes.now ≡ Ok network) }
     ensures refused { IfErr result (RefusesNetwork bytes.now) }
+    ensures no_memory { IfErr result HidesNoMemory }
 {
     match rows(alloc, bytes, b"from,to,seconds") {
         Err(RowFault::OutOfMemory) => Err(RunStatus::OutOfMemory),
@@ -82,11 +87,12 @@ fn accept_network(alloc: Global, bytes: &[u8]) -> Result<Network, RunStatus>
     }
 }
 
-#[tactic(auto, unfolding(crate::specs::Reading::fleet_in))]
+#[tactic(auto, unfolding(crate::specs::Reading::vehicles_in))]
 fn accept_fleet(alloc: Global, bytes: &[u8], network: &Network) -> Result<Fleet, RunStatus>
-    ensures fleet { IfOk result (λ fleet. fleet_in network.now.nodes bytes.now ≡ Ok fleet) }
+    ensures fleet { IfOk result (λ fleet. IsFleetIn network.now.nodes bytes.now fleet) }
     ensures named { IfOk result (All (λ vehicle. IsNode network.now.nodes vehicle.node)) }
     ensures refused { IfErr result (RefusesFleet network.now.nodes bytes.now) }
+    ensures no_memory { IfErr result HidesNoMemory }
 {
     match rows(alloc, bytes, b"vehicle,seats,node,second") {
         Err(RowFault::OutOfMemory) => Err(RunStatus::OutOfMemory),
@@ -103,6 +109,7 @@ fn accept_fleet(alloc: Global, bytes: &[u8], network: &Network) -> Result<Fleet,
 fn accept_script(alloc: Global, bytes: &[u8]) -> Result<Script, RunStatus>
     ensures script { IfOk result (λ script. script_in bytes.now ≡ Ok script) }
     ensures refused { IfErr result (RefusesRounds (script_in bytes.now)) }
+    ensures no_memory { IfErr result HidesNoMemory }
 {
     match rows(alloc, bytes, b"round,lane,command,a,b,c,d") {
         Err(RowFault::OutOfMemory) => Err(RunStatus::OutOfMemory),
@@ -113,8 +120,9 @@ fn accept_script(alloc: Global, bytes: &[u8]) -> Result<Script, RunStatus>
 }
 
 fn accept_second_version(alloc: Global, bytes: &[u8]) -> Result<Script, RunStatus>
-    ensures script { IfOk result (λ script. in_rows (table_of (codes "round,lane,command,a,b,c,d,e") bytes.now) (λ t. script_of ScriptVersion.Two t.records) ≡ Ok script) }
-    ensures refused { IfErr result (RefusesRounds (in_rows (table_of (codes "round,lane,command,a,b,c,d,e") bytes.now) (λ t. script_of ScriptVersion.Two t.records))) }
+    ensures script { IfOk result (λ script. in_rows (table_of party_header bytes.now) (λ t. script_of ScriptVersion.Two t.records) ≡ Ok script) }
+    ensures refused { IfErr result (RefusesRounds (in_rows (table_of party_header bytes.now) (λ t. script_of ScriptVersion.Two t.records))) }
+    ensures no_memory { IfErr result HidesNoMemory }
 {
     match rows(alloc, bytes, b"round,lane,command,a,b,c,d,e") {
         Err(RowFault::OutOfMemory) => Err(RunStatus::OutOfMemory),
@@ -127,6 +135,7 @@ fn accept_rounds(alloc: Global, table: &Rows, version: ScriptVersion) -> Result<
     requires { table.now.columns ≡ columns_of version }
     ensures script { IfOk result (λ script. script_of version table.now.records ≡ Ok script) }
     ensures refused { IfErr result (RefusesRounds (own_fault (script_of version table.now.records))) }
+    ensures no_memory { IfErr result HidesNoMemory }
 {
     match read_script(alloc, table, version) {
         Ok(script) => Ok(script),

@@ -1,13 +1,14 @@
-ghost use Rattle.std.specs.Prelude.{map, IfOk, IfErr, MatchResult};
+ghost use Rattle.std.specs.Prelude.{map};
 ghost use Rattle.std.specs.String.{string_bytes};
-ghost use Rattle.ridepool.specs.Explained.{Seen, AreGood, IsFaultless, IsDoneOrMemory, Explains, IsWordsFault, TouchesForRun};
-ghost use Rattle.ridepool.specs.declared.status.RunStatus.TheVariants as status;
+ghost use Rattle.ridepool.specs.Explained.{Answers};
+ghost use Rattle.dispatch_report.specs.Written.{sink_seen};
+ghost use Rattle.ridepool.specs.Seen.{source_seen};
 
-use crate::inputs::{ReadInputs, inputs_from};
+use crate::inputs::inputs_from;
 use crate::status::RunStatus;
 use crate::writing::write_report;
 use pool_io::{Sink, Source};
-use rider_limits::{Settings, read_words};
+use rider_limits::read_words;
 use std::alloc::Global;
 use std::sync::Wait;
 use std::thread::Threads;
@@ -22,10 +23,11 @@ use std::thread::Threads;
 /// `Done` says that the report of a run of the whole script is written. `Words` comes exactly where the
 /// words are refused. For `run` alone, `Network`, `Fleet` and `Script` come exactly where that input is
 /// refused and the earlier ones pass; `TooLong` exactly where 67,108,865 bytes were taken from that source;
-/// `ReadFault` only where that source's count of faults rose. `WriteFault` comes only where the sink's did.
-/// Where nothing of this is so, the answer is `Done` or `OutOfMemory`. After all of these but `WriteFault`
-/// nothing is written; after `WriteFault` and `OutOfMemory` a beginning of the report of a run of the
-/// script's first rounds stands.
+/// `ReadFault` only where that source's count of faults rose. Sources behind the one that is named are
+/// untouched, and those before it were read to their ends. `WriteFault` comes only where the sink's count
+/// of faults rose. Where nothing of this is so, the answer is `Done` or `OutOfMemory`. After all of these
+/// but `WriteFault` nothing is written; after `WriteFault` and `OutOfMemory` a beginning of the report of
+/// a run of the script's first rounds stands.
 pub fn ridepool<N: Source, F: Source, S: Source, K: Sink>(
     rt: &(impl Threads + Wait + Sync),
     alloc: Global,
@@ -35,101 +37,26 @@ pub fn ridepool<N: Source, F: Source, S: Source, K: Sink>(
     script: &mut S,
     out: &mut K,
 ) -> RunStatus
-    ensures explained { Explains (record {
+    ensures { Answers (record {
       words = map string_bytes words.now;
       sources = record {
-        network = record { told = N.left network.old; taken_before = N.taken network.old; taken_after = N.taken network.new; faults_before = N.faults network.old; faults_after = N.faults network.new };
-        fleet = record { told = F.left fleet.old; taken_before = F.taken fleet.old; taken_after = F.taken fleet.new; faults_before = F.faults fleet.old; faults_after = F.faults fleet.new };
-        script = record { told = S.left script.old; taken_before = S.taken script.old; taken_after = S.taken script.new; faults_before = S.faults script.old; faults_after = S.faults script.new };
+        network = source_seen N.left N.taken N.faults network.old network.new;
+        fleet = source_seen F.left F.taken F.faults fleet.old fleet.new;
+        script = source_seen S.left S.taken S.faults script.old script.new;
       };
-      written_before = K.written out.old;
-      written_after = K.written out.new;
-      faults_before = K.faults out.old;
-      faults_after = K.faults out.new;
+      out = sink_seen K.written K.faults out.old out.new;
     }) result }
-    ensures complete { let seen : Seen = record {
-      words = map string_bytes words.now;
-      sources = record {
-        network = record { told = N.left network.old; taken_before = N.taken network.old; taken_after = N.taken network.new; faults_before = N.faults network.old; faults_after = N.faults network.new };
-        fleet = record { told = F.left fleet.old; taken_before = F.taken fleet.old; taken_after = F.taken fleet.new; faults_before = F.faults fleet.old; faults_after = F.faults fleet.new };
-        script = record { told = S.left script.old; taken_before = S.taken script.old; taken_after = S.taken script.new; faults_before = S.faults script.old; faults_after = S.faults script.new };
-      };
-      written_before = K.written out.old;
-      written_after = K.written out.new;
-      faults_before = K.faults out.old;
-      faults_after = K.faults out.new;
-    } in
-        IsFaultless seen → IsDoneOrMemory result }
-    ensures untouched { TouchesForRun (record {
-      words = map string_bytes words.now;
-      sources = record {
-        network = record { told = N.left network.old; taken_before = N.taken network.old; taken_after = N.taken network.new; faults_before = N.faults network.old; faults_after = N.faults network.new };
-        fleet = record { told = F.left fleet.old; taken_before = F.taken fleet.old; taken_after = F.taken fleet.new; faults_before = F.faults fleet.old; faults_after = F.faults fleet.new };
-        script = record { told = S.left script.old; taken_before = S.taken script.old; taken_after = S.taken script.new; faults_before = S.faults script.old; faults_after = S.faults script.new };
-      };
-      written_before = K.written out.old;
-      written_after = K.written out.new;
-      faults_before = K.faults out.old;
-      faults_after = K.faults out.new;
-    }) }
 {
-    match run(rt, alloc, words, network, fleet, script, out) {
+    let settings = match read_words(words) {
+        Ok(settings) => settings,
+        Err(fault) => return RunStatus::Words(fault),
+    };
+    let inputs = match inputs_from(alloc, &settings, network, fleet, script) {
+        Ok(inputs) => inputs,
+        Err(status) => return status,
+    };
+    match write_report(rt, alloc, out, &settings, inputs) {
         Ok(()) => RunStatus::Done,
         Err(status) => status,
-    }
-}
-
-fn run<N: Source, F: Source, S: Source, K: Sink>(
-    rt: &(impl Threads + Wait + Sync),
-    alloc: Global,
-    words: &[String],
-    network: &mut N,
-    fleet: &mut F,
-    script: &mut S,
-    out: &mut K,
-) -> Result<(), RunStatus>
-    ensures explained { let seen : Seen = record {
-      words = map string_bytes words.now;
-      sources = record {
-        network = record { told = N.left network.old; taken_before = N.taken network.old; taken_after = N.taken network.new; faults_before = N.faults network.old; faults_after = N.faults network.new };
-        fleet = record { told = F.left fleet.old; taken_before = F.taken fleet.old; taken_after = F.taken fleet.new; faults_before = F.faults fleet.old; faults_after = F.faults fleet.new };
-        script = record { told = S.left script.old; taken_before = S.taken script.old; taken_after = S.taken script.new; faults_before = S.faults script.old; faults_after = S.faults script.new };
-      };
-      written_before = K.written out.old;
-      written_after = K.written out.new;
-      faults_before = K.faults out.old;
-      faults_after = K.faults out.new;
-    } in
-        MatchResult result (λ _. Explains seen status.Done) (Explains seen) }
-    ensures untouched { TouchesForRun (record {
-      words = map string_bytes words.now;
-      sources = record {
-        network = record { told = N.left network.old; taken_before = N.taken network.old; taken_after = N.taken network.new; faults_before = N.faults network.old; faults_after = N.faults network.new };
-        fleet = record { told = F.left fleet.old; taken_before = F.taken fleet.old; taken_after = F.taken fleet.new; faults_before = F.faults fleet.old; faults_after = F.faults fleet.new };
-        script = record { told = S.left script.old; taken_before = S.taken script.old; taken_after = S.taken script.new; faults_before = S.faults script.old; faults_after = S.faults script.new };
-      };
-      written_before = K.written out.old;
-      written_after = K.written out.new;
-      faults_before = K.faults out.old;
-      faults_after = K.faults out.new;
-    }) }
-{
-    let settings = settings_from(words)?;
-    let ReadInputs {
-        network,
-        fleet,
-        script,
-    } = inputs_from(alloc, &settings.mode, network, fleet, script)?;
-    write_report(rt, alloc, out, &settings, &network, fleet, &script)
-}
-
-/// The settings that good words give.
-fn settings_from(words: &[String]) -> Result<Settings, RunStatus>
-    ensures settings { IfOk result (AreGood (map string_bytes words.now)) }
-    ensures cause { IfErr result (IsWordsFault (map string_bytes words.now)) }
-{
-    match read_words(words) {
-        Ok(settings) => Ok(settings),
-        Err(fault) => Err(RunStatus::Words(fault)),
     }
 }

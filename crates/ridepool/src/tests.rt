@@ -1,4 +1,5 @@
 use crate::{RunStatus, fault_text, ridepool};
+use pool_base::Which;
 use pool_io::{MemorySink, MemorySource};
 use std::alloc::{AllocError, Global};
 use std::sync::Wait;
@@ -9,6 +10,9 @@ const NETWORK: &[u8] =
     b"from,to,seconds\n1,2,60\n2,1,60\n2,3,60\n3,2,60\n3,4,60\n4,3,60\n4,5,60\n5,4,60\n";
 
 const FLEET: &[u8] = b"vehicle,seats,node,second\n";
+
+const BATCH: &[u8] =
+    b"round,lane,command,a,b,c,d\n0,0,submit,1,2,4,0\n0,3,submit,2,3,5,0\n1,0,seal,0,,,\n";
 
 const SUBMITS: &[u8] =
     b"round,lane,command,a,b,c,d\n0,0,submit,1,2,4,0\n0,0,submit,1,2,4,0\n0,0,submit,2,9,4,0\n0,0,submit,3,2,2,0\n";
@@ -24,19 +28,19 @@ round 0\n\
 3 0 submit 3 2 2 0 refused same-place\n\
 done 4\n";
 
-// What a run shows: its exit status, the line of its fault and a bar before the bytes that were written.
+// What a run shows: the line of its fault, and a bar before the bytes that were written.
 fn shown(
     rt: &(impl Threads + Wait + Sync),
     alloc: Global,
     script: &[u8],
     pieces: usize,
-    failing_read: Option<u64>,
+    failing_reads: [Option<u64>; 3],
     failing_write: Option<u64>,
 ) -> Result<Vec<u8>, AllocError> {
     let words = words(alloc, "run network=n fleet=f script=s")?;
-    let mut network = source(alloc, NETWORK, pieces, None)?;
-    let mut fleet = source(alloc, FLEET, pieces, failing_read)?;
-    let mut script = source(alloc, script, pieces, None)?;
+    let mut network = source(alloc, NETWORK, pieces, failing_reads[0])?;
+    let mut fleet = source(alloc, FLEET, pieces, failing_reads[1])?;
+    let mut script = source(alloc, script, pieces, failing_reads[2])?;
     let mut out = MemorySink::new(alloc, pieces.max(1), planned(alloc, failing_write)?);
     let status = ridepool(
         rt,
@@ -128,7 +132,7 @@ fn whole(alloc: Global) -> Result<Vec<u8>, AllocError> {
 fn submits_give_their_report_in_pieces_of_any_size(rt: HostRuntime) -> Result<(), Fail> {
     let expected = whole(rt.alloc())?;
     for pieces in [1, 2, 7, 100_000] {
-        let text = shown(&rt, rt.alloc(), SUBMITS, pieces, None, None)?;
+        let text = shown(&rt, rt.alloc(), SUBMITS, pieces, [None; 3], None)?;
         assert_eq!(rt; text.as_slice(), expected.as_slice());
     }
     Ok(())
@@ -137,17 +141,21 @@ fn submits_give_their_report_in_pieces_of_any_size(rt: HostRuntime) -> Result<()
 #[test]
 fn a_failing_read_is_blamed_on_its_file(rt: HostRuntime) -> Result<(), Fail> {
     for call in 0..3 {
-        let text = shown(&rt, rt.alloc(), SUBMITS, 10, Some(call), None)?;
+        let text = shown(&rt, rt.alloc(), SUBMITS, 10, [Some(call), None, None], None)?;
+        assert_eq!(rt; text.as_slice(), b"network: read failed|".as_slice());
+        let text = shown(&rt, rt.alloc(), SUBMITS, 10, [None, Some(call), None], None)?;
         assert_eq!(rt; text.as_slice(), b"fleet: read failed|".as_slice());
+        let text = shown(&rt, rt.alloc(), SUBMITS, 10, [None, None, Some(call)], None)?;
+        assert_eq!(rt; text.as_slice(), b"script: read failed|".as_slice());
     }
     Ok(())
 }
 
 #[test]
 fn a_failing_write_leaves_a_beginning(rt: HostRuntime) -> Result<(), Fail> {
-    let text = shown(&rt, rt.alloc(), SUBMITS, 10, None, Some(0))?;
+    let text = shown(&rt, rt.alloc(), SUBMITS, 10, [None; 3], Some(0))?;
     assert_eq!(rt; text.as_slice(), b"report: write failed|".as_slice());
-    let text = shown(&rt, rt.alloc(), SUBMITS, 10, None, Some(2))?;
+    let text = shown(&rt, rt.alloc(), SUBMITS, 10, [None; 3], Some(2))?;
     assert_eq!(rt;
         text.as_slice(),
         b"report: write failed|ridepool report 1\n".as_slice()
@@ -180,274 +188,71 @@ fn a_failing_write_leaves_a_beginning_of_a_summary(rt: HostRuntime) -> Result<()
     Ok(())
 }
 
-// Whether a run of these words and files ends with this line and writes nothing.
-fn refuses(
+// Whether a sink that takes so many bytes a write and fails at this call leaves a beginning of the report;
+// `None` where there is no such call.
+fn fails_well(
     rt: &(impl Threads + Wait + Sync),
     alloc: Global,
-    given: &str,
-    files: [&[u8]; 3],
-    line: &str,
-) -> Result<bool, AllocError> {
-    let words = words(alloc, given)?;
-    let mut network = source(alloc, files[0], 4096, None)?;
-    let mut fleet = source(alloc, files[1], 4096, None)?;
-    let mut script = source(alloc, files[2], 4096, None)?;
-    let mut out = MemorySink::new(alloc, 4096, Vec::new(alloc));
-    let status = ridepool(
-        rt,
-        alloc,
-        &words,
-        &mut network,
-        &mut fleet,
-        &mut script,
-        &mut out,
-    );
-    let text = line_of(alloc, &status)?;
-    Ok(text.as_slice() == line.as_bytes() && out.written().is_empty())
-}
-
-fn refuses_words(
-    rt: &(impl Threads + Wait + Sync),
-    alloc: Global,
-    given: &str,
-    line: &str,
-) -> Result<bool, AllocError> {
-    refuses(rt, alloc, given, [NETWORK, FLEET, SUBMITS], line)
-}
-
-fn refuses_network(
-    rt: &(impl Threads + Wait + Sync),
-    alloc: Global,
-    network: &[u8],
-    line: &str,
-) -> Result<bool, AllocError> {
-    refuses(
-        rt,
-        alloc,
-        "run network=n fleet=f script=s",
-        [network, b"", b""],
-        line,
+    whole: &[u8],
+    pieces: usize,
+    call: u64,
+) -> Result<Option<bool>, AllocError> {
+    let text = shown(rt, alloc, BATCH, pieces, [None; 3], Some(call))?;
+    if text.as_slice() == whole {
+        return Ok(None);
+    }
+    Ok(
+        match text
+            .as_slice()
+            .strip_prefix(b"report: write failed|".as_slice())
+        {
+            Some(written) => Some(whole.starts_with(b"|") && whole[1..].starts_with(written)),
+            None => Some(false),
+        },
     )
 }
 
-fn refuses_fleet(
+// How many calls of such a sink fail well in turn, until there is no further call.
+fn failing_calls(
     rt: &(impl Threads + Wait + Sync),
     alloc: Global,
-    fleet: &[u8],
-    line: &str,
-) -> Result<bool, AllocError> {
-    refuses(
-        rt,
-        alloc,
-        "run network=n fleet=f script=s",
-        [NETWORK, fleet, b""],
-        line,
-    )
-}
-
-fn refuses_script(
-    rt: &(impl Threads + Wait + Sync),
-    alloc: Global,
-    script: &[u8],
-    line: &str,
-) -> Result<bool, AllocError> {
-    refuses(
-        rt,
-        alloc,
-        "run network=n fleet=f script=s",
-        [NETWORK, FLEET, script],
-        line,
-    )
+    pieces: usize,
+) -> Result<u64, AllocError> {
+    let whole = shown(rt, alloc, BATCH, pieces, [None; 3], None)?;
+    for call in 0..1000 {
+        match fails_well(rt, alloc, &whole, pieces, call)? {
+            Some(true) => {}
+            Some(false) => return Ok(0),
+            None => return Ok(call),
+        }
+    }
+    Ok(0)
 }
 
 #[test]
-fn refused_words_have_their_lines(rt: HostRuntime) -> Result<(), Fail> {
-    let alloc = rt.alloc();
-    assert!(rt; refuses_words(&rt, alloc, "", "words: no command")?);
-    assert!(rt; refuses_words(&rt, alloc, "run fly=1", "words: unknown key at word 2")?);
-    assert!(rt;
-        refuses_words(
-            &rt,
-            alloc,
-            "run trip=2 trip=2",
-            "words: repeated key at word 3"
-        )?
-    );
-    assert!(rt;
-        refuses_words(
-            &rt,
-            alloc,
-            "run network=n fleet=f script=s trip=7",
-            "words: bad value at word 5"
-        )?
-    );
-    assert!(rt; refuses_words(&rt, alloc, "run", "words: missing network")?);
-    assert!(rt; refuses_words(&rt, alloc, "run network=n", "words: missing fleet")?);
-    assert!(rt; refuses_words(&rt, alloc, "run network=n fleet=f", "words: missing script")?);
-    assert!(rt; refuses_words(&rt, alloc, "load side=1", "words: bad value at word 2")?);
-    assert!(rt; refuses_words(&rt, alloc, "load network=n", "words: unknown key at word 2")?);
+fn a_sink_may_fail_at_each_of_its_calls(rt: HostRuntime) -> Result<(), Fail> {
+    assert!(rt; 30 < failing_calls(&rt, rt.alloc(), 16)?);
+    assert!(rt; 60 < failing_calls(&rt, rt.alloc(), 7)?);
     Ok(())
 }
 
 #[test]
-fn a_refused_network_has_its_line(rt: HostRuntime) -> Result<(), Fail> {
-    let alloc = rt.alloc();
-    assert!(rt;
-        refuses_network(
-            &rt,
-            alloc,
-            b"from,to\n",
-            "network: wrong header of 2 fields"
-        )?
-    );
-    assert!(rt;
-        refuses_network(
-            &rt,
-            alloc,
-            b"from,to,seconds\n1,2\n",
-            "network: row 1 has another length"
-        )?
-    );
-    assert!(rt;
-        refuses_network(
-            &rt,
-            alloc,
-            b"from,to,seconds\n1,2,3\n1,x,3\n",
-            "network: bad number at row 2 column 2"
-        )?
-    );
-    assert!(rt;
-        refuses_network(
-            &rt,
-            alloc,
-            b"from,to,seconds\n1,2,10001\n",
-            "network: arc too long at row 1"
-        )?
-    );
-    Ok(())
-}
-
-#[test]
-fn a_refused_fleet_has_its_line(rt: HostRuntime) -> Result<(), Fail> {
-    let alloc = rt.alloc();
-    assert!(rt; refuses_fleet(&rt, alloc, b"vehicle\n", "fleet: wrong header of 1 fields")?);
-    assert!(rt;
-        refuses_fleet(
-            &rt,
-            alloc,
-            b"vehicle,seats,node,second\n1,1,1\n",
-            "fleet: row 1 has another length"
-        )?
-    );
-    assert!(rt;
-        refuses_fleet(
-            &rt,
-            alloc,
-            b"vehicle,seats,node,second\n1,1,1,x\n",
-            "fleet: bad number at row 1 column 4"
-        )?
-    );
-    assert!(rt;
-        refuses_fleet(
-            &rt,
-            alloc,
-            b"vehicle,seats,node,second\n1,11,1,0\n",
-            "fleet: bad seats at row 1"
-        )?
-    );
-    assert!(rt;
-        refuses_fleet(
-            &rt,
-            alloc,
-            b"vehicle,seats,node,second\n1,10,6,0\n",
-            "fleet: unknown node at row 1"
-        )?
-    );
-    assert!(rt;
-        refuses_fleet(
-            &rt,
-            alloc,
-            b"vehicle,seats,node,second\n1,1,1,0\n1,1,1,0\n",
-            "fleet: repeated vehicle at row 2"
-        )?
-    );
-    Ok(())
-}
-
-#[test]
-fn a_refused_script_has_its_line(rt: HostRuntime) -> Result<(), Fail> {
-    let alloc = rt.alloc();
-    assert!(rt;
-        refuses_script(
-            &rt,
-            alloc,
-            b"round,lane\n",
-            "script: wrong header of 2 fields"
-        )?
-    );
-    assert!(rt;
-        refuses_script(
-            &rt,
-            alloc,
-            b"round,lane,command,a,b,c,d\n0,0\n",
-            "script: row 1 has another length"
-        )?
-    );
-    assert!(rt;
-        refuses_script(
-            &rt,
-            alloc,
-            b"round,lane,command,a,b,c,d\n0,0,cancel,x,,,\n",
-            "script: bad number at row 1 column 4"
-        )?
-    );
-    assert!(rt;
-        refuses_script(
-            &rt,
-            alloc,
-            b"round,lane,command,a,b,c,d\n0,16,cancel,1,,,\n",
-            "script: lane above 15 at row 1"
-        )?
-    );
-    assert!(rt;
-        refuses_script(
-            &rt,
-            alloc,
-            b"round,lane,command,a,b,c,d\n1,0,cancel,1,,,\n0,0,cancel,1,,,\n",
-            "script: round goes back at row 2"
-        )?
-    );
-    assert!(rt;
-        refuses_script(
-            &rt,
-            alloc,
-            b"round,lane,command,a,b,c,d\n0,0,fly,1,,,\n",
-            "script: unknown command at row 1"
-        )?
-    );
-    assert!(rt;
-        refuses_script(
-            &rt,
-            alloc,
-            b"round,lane,command,a,b,c,d\n0,0,cancel,1,2,,\n",
-            "script: field not empty at row 1"
-        )?
-    );
-    assert!(rt;
-        refuses_script(
-            &rt,
-            alloc,
-            b"round,lane,command,a,b,c,d\n0,1,seal,1,,,\n",
-            "script: seal outside lane 0 at row 1"
-        )?
-    );
-    assert!(rt;
-        refuses_script(
-            &rt,
-            alloc,
-            b"round,lane,command,a,b,c,d,e\n0,0,submit,1,2,3,4,7\n",
-            "script: bad party at row 1"
-        )?
+fn answers_with_memory(rt: HostRuntime) -> Result<(), Fail> {
+    let report = shown(&rt, rt.alloc(), BATCH, 4096, [None; 3], None)?;
+    assert!(rt; report.as_slice().starts_with(b"|ridepool report 1\n"));
+    assert!(rt; report.as_slice().ends_with(b"\nend\ndone 4\n"));
+    let summary = summed_up(
+        &rt,
+        rt.alloc(),
+        "load side=3 vehicles=2 riders=9 rounds=2",
+        4096,
+        None,
+    )?;
+    assert!(rt; summary.as_slice().ends_with(b"\ndone 24\n"));
+    let line = line_of(rt.alloc(), &RunStatus::TooLong(Which::Fleet))?;
+    assert_eq!(rt;
+        line.as_slice(),
+        b"fleet: longer than 67108864 bytes".as_slice()
     );
     Ok(())
 }

@@ -1,9 +1,10 @@
 ghost use Rattle.std.specs.Prelude.{◌≡◌, ◌++◌, IfOk, OnOk};
-ghost use Rattle.ridepool.specs.Text.{at_number, at_place, word_text, row_text, network_text, fleet_text, script_text, input_text, status_text};
+ghost use Rattle.dispatch_report.specs.Words.{numbered};
+ghost use Rattle.ridepool.specs.Text.{at_place, word_text, row_text, network_text, fleet_text, script_text, input_text, status_text};
 
 use crate::status::RunStatus;
 use fleet_state::FleetFault;
-use pool_base::{OutOfMemory, put_number};
+use pool_base::{OutOfMemory, put_bytes, put_number};
 use pool_io::{Input, RowFault};
 use rider_limits::WordFault;
 use road_network::NetworkFault;
@@ -26,47 +27,39 @@ fn put_status(text: &mut Vec<u8>, status: &RunStatus) -> Result<(), OutOfMemory>
     match status {
         RunStatus::Done => Ok(()),
         RunStatus::Words(fault) => {
-            put(text, b"words: ")?;
+            put_bytes(text, b"words: ")?;
             put_word_fault(text, *fault)
         }
         RunStatus::Network(fault) => {
-            put(text, b"network: ")?;
+            put_bytes(text, b"network: ")?;
             put_network_input(text, fault)
         }
         RunStatus::Fleet(fault) => {
-            put(text, b"fleet: ")?;
+            put_bytes(text, b"fleet: ")?;
             put_fleet_input(text, fault)
         }
         RunStatus::Script(fault) => {
-            put(text, b"script: ")?;
+            put_bytes(text, b"script: ")?;
             put_script_input(text, fault)
         }
         RunStatus::TooLong(which) => {
-            put(text, which.name().as_bytes())?;
-            put(text, b": longer than 67108864 bytes")
+            put_bytes(text, which.name().as_bytes())?;
+            put_bytes(text, b": longer than 67108864 bytes")
         }
         RunStatus::ReadFault(which) => {
-            put(text, which.name().as_bytes())?;
-            put(text, b": read failed")
+            put_bytes(text, which.name().as_bytes())?;
+            put_bytes(text, b": read failed")
         }
-        RunStatus::WriteFault => put(text, b"report: write failed"),
-        RunStatus::OutOfMemory => put(text, b"out of memory"),
+        RunStatus::WriteFault => put_bytes(text, b"report: write failed"),
+        RunStatus::OutOfMemory => put_bytes(text, b"out of memory"),
     }
 }
 
-fn put(text: &mut Vec<u8>, words: &[u8]) -> Result<(), OutOfMemory>
-    ensures { OnOk result (text.new.items ≡ text.old.items ++ words.now) }
-{
-    text.extend_from_slice(words)?;
-    Ok(())
-}
-
-#[tactic(auto, unfolding(crate::specs::Text::at_number))]
+#[tactic(auto, unfolding(dispatch_report::specs::Words::numbered))]
 fn put_at(text: &mut Vec<u8>, words: &[u8], number: u64) -> Result<(), OutOfMemory>
-    ensures { OnOk result (text.new.items ≡ text.old.items ++ at_number words.now number) }
+    ensures { OnOk result (text.new.items ≡ text.old.items ++ numbered words.now number) }
 {
-    text.extend_from_slice(words)?;
-    text.push(b' ')?;
+    put_bytes(text, words)?;
     put_number(text, number)
 }
 
@@ -74,21 +67,21 @@ fn put_at(text: &mut Vec<u8>, words: &[u8], number: u64) -> Result<(), OutOfMemo
 fn put_place(text: &mut Vec<u8>, row: u64, column: u64) -> Result<(), OutOfMemory>
     ensures { OnOk result (text.new.items ≡ text.old.items ++ at_place row column) }
 {
-    put_at(text, b"bad number at row", row)?;
-    put_at(text, b" column", column)
+    put_at(text, b"bad number at row ", row)?;
+    put_at(text, b" column ", column)
 }
 
 fn put_word_fault(text: &mut Vec<u8>, fault: WordFault) -> Result<(), OutOfMemory>
     ensures { OnOk result (text.new.items ≡ text.old.items ++ word_text fault) }
 {
     match fault {
-        WordFault::NoCommand => put(text, b"no command"),
-        WordFault::UnknownKey { word } => put_at(text, b"unknown key at word", word),
-        WordFault::Repeated { word } => put_at(text, b"repeated key at word", word),
-        WordFault::BadValue { word } => put_at(text, b"bad value at word", word),
+        WordFault::NoCommand => put_bytes(text, b"no command"),
+        WordFault::UnknownKey { word } => put_at(text, b"unknown key at word ", word),
+        WordFault::Repeated { word } => put_at(text, b"repeated key at word ", word),
+        WordFault::BadValue { word } => put_at(text, b"bad value at word ", word),
         WordFault::MissingFile { which } => {
-            put(text, b"missing ")?;
-            put(text, which.name().as_bytes())
+            put_bytes(text, b"missing ")?;
+            put_bytes(text, which.name().as_bytes())
         }
     }
 }
@@ -98,14 +91,14 @@ fn put_row_fault(text: &mut Vec<u8>, fault: RowFault) -> Result<(), OutOfMemory>
 {
     match fault {
         RowFault::Header { fields } => {
-            put_at(text, b"wrong header of", fields)?;
-            put(text, b" fields")
+            put_at(text, b"wrong header of ", fields)?;
+            put_bytes(text, b" fields")
         }
         RowFault::UnequalLength { row } => {
-            put_at(text, b"row", row)?;
-            put(text, b" has another length")
+            put_at(text, b"row ", row)?;
+            put_bytes(text, b" has another length")
         }
-        RowFault::OutOfMemory => put(text, b"out of memory"),
+        RowFault::OutOfMemory => put_bytes(text, b"out of memory"),
     }
 }
 
@@ -140,11 +133,11 @@ fn put_network_fault(text: &mut Vec<u8>, fault: NetworkFault) -> Result<(), OutO
     ensures { OnOk result (text.new.items ≡ text.old.items ++ network_text fault) }
 {
     match fault {
-        NetworkFault::TooManyArcs => put(text, b"more than 400000 arcs"),
+        NetworkFault::TooManyArcs => put_bytes(text, b"more than 400000 arcs"),
         NetworkFault::Number { row, column } => put_place(text, row, column),
-        NetworkFault::ArcTooLong { row } => put_at(text, b"arc too long at row", row),
-        NetworkFault::TooManyNodes { row } => put_at(text, b"more than 100000 nodes at row", row),
-        NetworkFault::OutOfMemory => put(text, b"out of memory"),
+        NetworkFault::ArcTooLong { row } => put_at(text, b"arc too long at row ", row),
+        NetworkFault::TooManyNodes { row } => put_at(text, b"more than 100000 nodes at row ", row),
+        NetworkFault::OutOfMemory => put_bytes(text, b"out of memory"),
     }
 }
 
@@ -152,12 +145,12 @@ fn put_fleet_fault(text: &mut Vec<u8>, fault: FleetFault) -> Result<(), OutOfMem
     ensures { OnOk result (text.new.items ≡ text.old.items ++ fleet_text fault) }
 {
     match fault {
-        FleetFault::TooManyVehicles => put(text, b"more than 500 vehicles"),
+        FleetFault::TooManyVehicles => put_bytes(text, b"more than 500 vehicles"),
         FleetFault::Number { row, column } => put_place(text, row, column),
-        FleetFault::Seats { row } => put_at(text, b"bad seats at row", row),
-        FleetFault::UnknownNode { row } => put_at(text, b"unknown node at row", row),
-        FleetFault::Duplicate { row } => put_at(text, b"repeated vehicle at row", row),
-        FleetFault::OutOfMemory => put(text, b"out of memory"),
+        FleetFault::Seats { row } => put_at(text, b"bad seats at row ", row),
+        FleetFault::UnknownNode { row } => put_at(text, b"unknown node at row ", row),
+        FleetFault::Duplicate { row } => put_at(text, b"repeated vehicle at row ", row),
+        FleetFault::OutOfMemory => put_bytes(text, b"out of memory"),
     }
 }
 
@@ -165,14 +158,14 @@ fn put_script_fault(text: &mut Vec<u8>, fault: ScriptFault) -> Result<(), OutOfM
     ensures { OnOk result (text.new.items ≡ text.old.items ++ script_text fault) }
 {
     match fault {
-        ScriptFault::TooManyRows => put(text, b"more than 200000 rows"),
+        ScriptFault::TooManyRows => put_bytes(text, b"more than 200000 rows"),
         ScriptFault::Number { row, column } => put_place(text, row, column),
-        ScriptFault::LaneRange { row } => put_at(text, b"lane above 15 at row", row),
-        ScriptFault::RoundBack { row } => put_at(text, b"round goes back at row", row),
-        ScriptFault::UnknownCommand { row } => put_at(text, b"unknown command at row", row),
-        ScriptFault::ExtraField { row } => put_at(text, b"field not empty at row", row),
-        ScriptFault::SealLane { row } => put_at(text, b"seal outside lane 0 at row", row),
-        ScriptFault::Party { row } => put_at(text, b"bad party at row", row),
-        ScriptFault::OutOfMemory => put(text, b"out of memory"),
+        ScriptFault::LaneRange { row } => put_at(text, b"lane above 15 at row ", row),
+        ScriptFault::RoundBack { row } => put_at(text, b"round goes back at row ", row),
+        ScriptFault::UnknownCommand { row } => put_at(text, b"unknown command at row ", row),
+        ScriptFault::ExtraField { row } => put_at(text, b"field not empty at row ", row),
+        ScriptFault::SealLane { row } => put_at(text, b"seal outside lane 0 at row ", row),
+        ScriptFault::Party { row } => put_at(text, b"bad party at row ", row),
+        ScriptFault::OutOfMemory => put_bytes(text, b"out of memory"),
     }
 }

@@ -1,15 +1,15 @@
-ghost use Rattle.std.specs.Prelude.{◌≡◌, ◌≤◌, [], List, OnOk, OnErr, MatchResult};
+ghost use Rattle.std.specs.Prelude.{◌≡◌, ◌≤◌, [], List, MatchResult};
 ghost use Rattle.std.specs.Io.KnownBytes.{Appends};
 ghost use Rattle.std.specs.List.{All};
-ghost use Rattle.std.specs.Result.{IsErrOf};
 ghost use Rattle.dispatch_engine.specs.Run.{IsReady};
 ghost use Rattle.request_book.specs.Consistent.{IsNode};
 ghost use Rattle.request_book.specs.declared.journal.Journal.{Journal};
-ghost use Rattle.pool_io.specs.Faults.{Rose};
-ghost use Rattle.pool_io.specs.Sink.{AppendsPart};
-ghost use Rattle.ridepool.specs.Report.{Inputs, RunsRounds, first_text, added_text, report_text};
-ghost use Rattle.ridepool.specs.Writing.{IsWritingFault, IsRoundsFault, IsRoundFault, WritesRound, WritesRounds, status_of};
+ghost use Rattle.dispatch_report.specs.Written.{sink_seen, WritesText};
+ghost use Rattle.ridepool.specs.Inputs.{Inputs};
+ghost use Rattle.ridepool.specs.Report.{RunsRounds, first_text, added_text, report_text};
+ghost use Rattle.ridepool.specs.work.Writing.{IsWritingFault, IsRoundsFault, IsRoundFault, WritesRound, WritesRounds, status_of};
 
+use crate::inputs::ReadInputs;
 use crate::status::RunStatus;
 use batch_snapshot::Fleet;
 use dispatch_engine::run_round;
@@ -18,7 +18,7 @@ use pool_io::Sink;
 use request_book::{Book, Journal};
 use rider_limits::{Mode, Settings};
 use road_network::Network;
-use script_rows::{Round, Script};
+use script_rows::Round;
 use std::alloc::Global;
 use std::sync::Wait;
 use std::thread::Threads;
@@ -29,24 +29,27 @@ pub(crate) fn write_report<K: Sink>(
     alloc: Global,
     out: &mut K,
     settings: &Settings,
-    network: &Network,
-    fleet: Fleet,
-    script: &Script,
+    inputs: ReadInputs,
 ) -> Result<(), RunStatus>
-    requires named { All (λ v. IsNode network.now.nodes v.node) fleet }
-    ensures report { let i : Inputs = record { settings = settings.now; roads = network.now; vehicles = fleet; rounds = script.now } in
+    requires named { All (λ vehicle. IsNode inputs.network.nodes vehicle.node) inputs.fleet }
+    ensures report { let i : Inputs = record { settings = settings.now; roads = inputs.network; vehicles = inputs.fleet; rounds = inputs.script } in
         MatchResult result
-        (λ _. (journals : List Journal) × RunsRounds i script.now journals × Appends (K.written out.old) (K.written out.new) (report_text i journals))
+        (λ _. (journals : List Journal) × RunsRounds i i.rounds journals × Appends (K.written out.old) (K.written out.new) (report_text i journals))
         (IsWritingFault i (K.written out.old) (K.written out.new) (K.faults out.old) (K.faults out.new)) }
     ensures never_falls { K.faults out.old ≤ K.faults out.new }
 {
-    if let Err(fault) = write_first(alloc, out, settings, network, &fleet) {
+    let ReadInputs {
+        network,
+        fleet,
+        script,
+    } = inputs;
+    if let Err(fault) = write_first(alloc, out, settings, &network, &fleet) {
         return Err(status_of(fault));
     }
-    let Ok(book) = Book::new(alloc, network, fleet, settings.wait) else {
+    let Ok(book) = Book::new(alloc, &network, fleet, settings.wait) else {
         return Err(RunStatus::OutOfMemory);
     };
-    write_rounds(rt, alloc, out, book, script.rounds(), network, settings)
+    write_rounds(rt, alloc, out, book, script.rounds(), &network, settings)
 }
 
 fn write_rounds<K: Sink>(
@@ -112,10 +115,7 @@ fn write_first<K: Sink>(
     network: &Network,
     fleet: &Fleet,
 ) -> Result<(), ReportFault>
-    ensures whole { OnOk result (Appends (K.written out.old) (K.written out.new) (first_text settings.now.mode settings.now network.now fleet.now)) }
-    ensures part { OnErr result (AppendsPart (K.written out.old) (K.written out.new) (first_text settings.now.mode settings.now network.now fleet.now)) }
-    ensures fault { IsErrOf result ReportFault.WriteFault → Rose (K.faults out.old) (K.faults out.new) }
-    ensures never_falls { K.faults out.old ≤ K.faults out.new }
+    ensures { WritesText (sink_seen K.written K.faults out.old out.new) (first_text settings.now.mode settings.now network.now fleet.now) result }
 {
     match &settings.mode {
         Mode::Run => write_head(alloc, out, settings, network, fleet),
@@ -131,10 +131,7 @@ fn write_added<K: Sink>(
     number: u32,
     journal: &Journal,
 ) -> Result<(), ReportFault>
-    ensures whole { OnOk result (Appends (K.written out.old) (K.written out.new) (added_text settings.now.mode settings.now.proof number journal.now)) }
-    ensures part { OnErr result (AppendsPart (K.written out.old) (K.written out.new) (added_text settings.now.mode settings.now.proof number journal.now)) }
-    ensures fault { IsErrOf result ReportFault.WriteFault → Rose (K.faults out.old) (K.faults out.new) }
-    ensures never_falls { K.faults out.old ≤ K.faults out.new }
+    ensures { WritesText (sink_seen K.written K.faults out.old out.new) (added_text settings.now.mode settings.now.proof number journal.now) result }
 {
     match &settings.mode {
         Mode::Run => write_round(alloc, out, number, journal, settings.proof),

@@ -1,4 +1,4 @@
-use Rattle.std.proofs.Common.{◌≡◌, ℕ, ◌+◌, ◌<◌, ◌≤◌, ◌^◌, Bool, true, false, not, cond, List, [], ◌∷◌, ◌++◌, Option, Some, None, length, take, drop, nat_eq, nat_lt, nat_le, is_some, refl, sym, ap, ◌∙◌, inl, inr, lit≤, arith}
+use Rattle.std.proofs.Common.{◌≡◌, ℕ, suc, ◌+◌, ◌<◌, ◌≤◌, ◌^◌, Bool, true, false, not, cond, List, [], ◌∷◌, ◌++◌, Option, Some, None, length, get_or, take, drop, nat_eq, nat_lt, nat_le, is_some, refl, sym, ap, ◌∙◌, inl, inr, lit≤, arith}
 use Rattle.std.specs.List.{list_all, prefix_len, position_or_len, before_first, after_first}
 use Rattle.std.specs.Option.{option_map, option_map_or, option_or}
 use Rattle.std.proofs.lemmas.List.{append_assoc, length-append, take_at, drop_at, length_push}
@@ -6,15 +6,17 @@ use Rattle.std.proofs.lemmas.Bool.{and_parts, cases_Bool, lt-ltb, leb-true}
 use Rattle.pool_base.specs.declared.which.Which.TheVariants.{Network, Fleet, Script}
 use Rattle.pool_base.specs.Number.{value_of}
 use Rattle.pool_base.specs.Numeral.{is_numeral, number_up_to}
-use Rattle.pool_base.proofs.NumeralLemmas.{number_up_to-some}
+use Rattle.pool_base.proofs.lemmas.InOrderLemmas.{first_fault-each}
+use Rattle.pool_base.proofs.lemmas.NumeralLemmas.{number_up_to-some}
 use Rattle.rider_limits.specs.declared.command.Command.{Command}
 use Rattle.rider_limits.specs.declared.command.Command.TheVariants.{Run, Load}
 use Rattle.rider_limits.specs.declared.key.Key.{Key}
 use Rattle.rider_limits.specs.declared.key.Key.TheVariants.{Input, Notices, Wait, Delay, Trip, Penalty, Budget, Pairs, Workers, Proof, Dwell, Seed, Side, Vehicles, Riders, Rounds}
 use Rattle.rider_limits.specs.declared.key.Takes.TheVariants.{Number}
 use Rattle.rider_limits.specs.declared.word_fault.WordFault.TheVariants.{UnknownKey, Repeated, BadValue}
-use Rattle.rider_limits.specs.Key.{name_of, has_key, key_of, takes_of, default_of, accepts, IsNumber, IsTaken}
-use Rattle.rider_limits.specs.Words.{after_key, text_given, option_of, fault_at, first_fault}
+use Rattle.rider_limits.specs.Key.{key_name, has_key, key_of, takes_of, default_of, accepts}
+use Rattle.rider_limits.specs.work.Taken.{IsNumber, IsAccepted}
+use Rattle.rider_limits.specs.Words.{after_key, text_given, option_of, option_fault, fault_at, words_fault}
 use Rattle.rider_limits.proofs.WordsLemmas.{after_key-some}
 
 -- a front that passes, before one that fails, is the longest front that passes
@@ -26,7 +28,7 @@ prefix_len-front p (x ∷ xs) y ys pass fails =
     ap (λ b. cond b (1 + prefix_len p (xs ++ y ∷ ys)) 0) parts.0 ∙ omega (arith, rest)
 
 -- no key's name has `=` in it
-name_lacks_equals : (key : Key) → list_all (λ c. not (nat_eq c 61)) (name_of key) ≡ true
+name_lacks_equals : (key : Key) → list_all (λ c. not (nat_eq c 61)) (key_name key) ≡ true
 name_lacks_equals (Input Network) = refl
 name_lacks_equals (Input Fleet) = refl
 name_lacks_equals (Input Script) = refl
@@ -47,7 +49,7 @@ name_lacks_equals Riders = refl
 name_lacks_equals Rounds = refl
 
 -- a key is found by its name, where the command has it
-key_of-name : (command : Command) (key : Key) → key_of command (name_of key) ≡ cond (has_key command key) (Some key) None
+key_of-name : (command : Command) (key : Key) → key_of command (key_name key) ≡ cond (has_key command key) (Some key) None
 unfolding key_of
 key_of-name Run (Input Network) = refl
 key_of-name Run (Input Fleet) = refl
@@ -87,10 +89,10 @@ key_of-name Load Riders = refl
 key_of-name Load Rounds = refl
 
 -- a word of a key's name, `=` and a text gives that key and text, where the command has the key
-option_of-named : (command : Command) (key : Key) (word text : List ℕ) → word ≡ name_of key ++ 61 ∷ text → option_of command word ≡ option_map (λ k. (k, text)) (cond (has_key command key) (Some key) None)
+option_of-named : (command : Command) (key : Key) (word text : List ℕ) → word ≡ key_name key ++ 61 ∷ text → option_of command word ≡ option_map (λ k. (k, text)) (cond (has_key command key) (Some key) None)
 unfolding option_of
 option_of-named command key word text is =
-    let name : List ℕ = name_of key in
+    let name : List ℕ = key_name key in
     let at : position_or_len (λ c. nat_eq c 61) word ≡ length name =
     ap (position_or_len (λ c. nat_eq c 61)) is ∙ prefix_len-front (λ c. not (nat_eq c 61)) name 61 text (name_lacks_equals key) refl in
     let size : length word ≡ length name + length (61 ∷ text) = ap length is ∙ length-append name (61 ∷ text) in
@@ -106,20 +108,15 @@ option_of-named command key word text is =
     ∙ ap (λ t. option_map (λ k. (k, t)) (key_of command name)) after
     ∙ ap (option_map (λ k. (k, text))) (key_of-name command key)
 
--- two choices that give nothing give nothing each
-or_none : {X : Type 0} (o p : Option X) → option_or o p ≡ None → (o ≡ None) × (p ≡ None)
-or_none None p none = (refl, none)
-or_none (Some x) p none = absurd (let e : Some x ≡ None = none in cc)
-
 -- a word without a fault gives a key of the command a text that the key takes
-faultless : (command : Command) (key : Key) (earlier : List (List ℕ)) (place : ℕ) (word text : List ℕ) → word ≡ name_of key ++ 61 ∷ text → fault_at earlier place (option_of command word) ≡ None → accepts (takes_of key) text ≡ true
+faultless : (command : Command) (key : Key) (earlier : List (List ℕ)) (place : ℕ) (word text : List ℕ) → word ≡ key_name key ++ 61 ∷ text → option_fault earlier place (option_of command word) ≡ None → accepts (takes_of key) text ≡ true
 faultless command key earlier place word text is none =
     let named = option_of-named command key word text is in
-    let at : fault_at earlier place (option_map (λ k. (k, text)) (cond (has_key command key) (Some key) None)) ≡ None = sym (ap (fault_at earlier place) named) ∙ none in
+    let at : option_fault earlier place (option_map (λ k. (k, text)) (cond (has_key command key) (Some key) None)) ≡ None = sym (ap (option_fault earlier place) named) ∙ none in
     elim (cases_Bool (has_key command key)) [
       | inl has ↦
-          let found : fault_at earlier place (Some (key, text)) ≡ None = sym (ap (λ b. fault_at earlier place (option_map (λ k. (k, text)) (cond b (Some key) None))) has) ∙ at in
-          elim (cases_Bool (is_some (text_given (name_of key) earlier))) [
+          let found : option_fault earlier place (Some (key, text)) ≡ None = sym (ap (λ b. option_fault earlier place (option_map (λ k. (k, text)) (cond b (Some key) None))) has) ∙ at in
+          elim (cases_Bool (is_some (text_given (key_name key) earlier))) [
             | inl repeated ↦
                 let e : Some (Repeated place) ≡ None = sym (ap (λ b. cond b (Some (Repeated place)) (cond (accepts (takes_of key) text) None (Some (BadValue place)))) repeated) ∙ found in
                 absurd cc
@@ -133,23 +130,25 @@ faultless command key earlier place word text is none =
                 ]
           ]
       | inr lacks ↦
-          let e : Some (UnknownKey place) ≡ None = sym (ap (λ b. fault_at earlier place (option_map (λ k. (k, text)) (cond b (Some key) None))) lacks) ∙ at in
+          let e : Some (UnknownKey place) ≡ None = sym (ap (λ b. option_fault earlier place (option_map (λ k. (k, text)) (cond b (Some key) None))) lacks) ∙ at in
           absurd cc
     ]
 
--- words without a fault give each key a text that it takes
-given_is_accepted : (command : Command) (key : Key) (earlier : List (List ℕ)) (place : ℕ) (words : List (List ℕ)) (text : List ℕ) → first_fault command earlier place words ≡ None → text_given (name_of key) words ≡ Some text → accepts (takes_of key) text ≡ true
-given_is_accepted command key earlier place [] text none given = absurd (let e : None ≡ Some text = given in cc)
-given_is_accepted command key earlier place (word ∷ words) text none given =
-    let parts = or_none (fault_at earlier place (option_of command word)) (first_fault command (earlier ++ word ∷ []) (place + 1) words) none in
-    by_first (λ none given. given_is_accepted command key (earlier ++ word ∷ []) (place + 1) words text none given)
-    (after_key (name_of key) word) refl parts given
+-- a text that words give stands in the first of them that begins with the key
+text_given-at : (key : List ℕ) (words : List (List ℕ)) (text : List ℕ) → text_given key words ≡ Some text → (i : ℕ) × (i < length words) × (after_key key (get_or words i []) ≡ Some text)
+text_given-at key [] text given = absurd (let e : None ≡ Some text = given in cc)
+text_given-at key (word ∷ words) text given = by_first (λ given. text_given-at key words text given) (after_key key word) refl given
   where
-    by_first : (first_fault command (earlier ++ word ∷ []) (place + 1) words ≡ None → text_given (name_of key) words ≡ Some text → accepts (takes_of key) text ≡ true) → (o : Option (List ℕ)) → after_key (name_of key) word ≡ o → (fault_at earlier place (option_of command word) ≡ None) × (first_fault command (earlier ++ word ∷ []) (place + 1) words ≡ None) → option_or o (text_given (name_of key) words) ≡ Some text → accepts (takes_of key) text ≡ true
-    by_first later None here parts given = later parts.1 given
-    by_first later (Some t) here parts given =
-        let same : t ≡ text = cc in
-        faultless command key earlier place word text (after_key-some (name_of key) word t here ∙ ap (λ r. name_of key ++ 61 ∷ r) same) parts.0
+    by_first : (text_given key words ≡ Some text → (i : ℕ) × (i < length words) × (after_key key (get_or words i []) ≡ Some text)) → (o : Option (List ℕ)) → after_key key word ≡ o → option_or o (text_given key words) ≡ Some text → (i : ℕ) × (i < length (word ∷ words)) × (after_key key (get_or (word ∷ words) i []) ≡ Some text)
+    by_first later None here given = (let rest = later given in (suc rest.0, omega (arith, rest.1), rest.2))
+    by_first later (Some t) here given = (0, omega arith, here ∙ given)
+
+-- words without a fault give each key a text that it takes
+given_is_accepted : (command : Command) (key : Key) (words : List (List ℕ)) (text : List ℕ) → words_fault command words ≡ None → text_given (key_name key) words ≡ Some text → accepts (takes_of key) text ≡ true
+given_is_accepted command key words text none given =
+    let at = text_given-at (key_name key) words text given in
+    faultless command key (take at.0 words) (at.0 + 2) (get_or words at.0 []) text (after_key-some (key_name key) (get_or words at.0 []) text at.2)
+    (first_fault-each (fault_at command words) (length words) at.0 none at.1)
 
 -- a text that a range takes is a numeral, and its value is of the range
 pub record IsValueIn (least greatest : ℕ) (text : List ℕ) : Type 0 where
@@ -171,7 +170,7 @@ accepts-number least greatest text good = by_number (number_up_to greatest text)
 pub record IsTakenText (key : Key) (text : List ℕ) : Type 0 where
   pub numeral : is_numeral text ≡ true
   pub small : value_of text < 2 ^ 64
-  pub taken : IsTaken (takes_of key) (value_of text)
+  pub taken : IsAccepted (takes_of key) (value_of text)
 
 number_taken : (key : Key) (least greatest : ℕ) (text : List ℕ) → takes_of key ≡ Number least greatest → greatest ≤ 1000000000 → accepts (takes_of key) text ≡ true → IsTakenText key text
 number_taken key least greatest text is small good =
@@ -201,7 +200,7 @@ accepted_is_taken Riders text number good = number_taken Riders 1 1000 text refl
 accepted_is_taken Rounds text number good = number_taken Rounds 1 100 text refl (lit≤ tt) good
 
 -- what a key gives of itself is a number that it takes
-pub default_is_taken : (key : Key) → IsNumber (takes_of key) → IsTaken (takes_of key) (default_of key)
+pub default_is_taken : (key : Key) → IsNumber (takes_of key) → IsAccepted (takes_of key) (default_of key)
 default_is_taken (Input which) number = absurd number
 default_is_taken Notices number = absurd number
 default_is_taken Wait number = (lit≤ tt, lit≤ tt)
@@ -220,6 +219,6 @@ default_is_taken Riders number = (lit≤ tt, lit≤ tt)
 default_is_taken Rounds number = (lit≤ tt, lit≤ tt)
 
 -- words without a fault give a key of numbers a numeral that it takes
-pub given_is_taken : (command : Command) (key : Key) (words : List (List ℕ)) (text : List ℕ) → first_fault command [] 2 words ≡ None → IsNumber (takes_of key) → text_given (name_of key) words ≡ Some text → IsTakenText key text
+pub given_is_taken : (command : Command) (key : Key) (words : List (List ℕ)) (text : List ℕ) → words_fault command words ≡ None → IsNumber (takes_of key) → text_given (key_name key) words ≡ Some text → IsTakenText key text
 given_is_taken command key words text none number given =
-    accepted_is_taken key text number (given_is_accepted command key [] 2 words text none given)
+    accepted_is_taken key text number (given_is_accepted command key words text none given)

@@ -1,3 +1,3 @@
+pub mod lemmas
 pub mod WordsLemmas
 pub mod GivenLemmas
-pub mod ModeLemmas

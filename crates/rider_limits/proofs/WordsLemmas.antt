@@ -1,16 +1,18 @@
 use Rattle.std.proofs.Common.{◌≡◌, ◌≢◌, ℕ, ◌+◌, ◌<◌, true, cond, List, [], ◌∷◌, ◌++◌, Option, Some, None, MatchOption, length, get_or, take, drop, map, nat_eq, refl, sym, ap, ◌∙◌, inl, inr, arith}
 use Rattle.std.specs.List.{starts_with, position_or_len, before_first, after_first}
 use Rattle.std.specs.Borrow.{Bor}
-use Rattle.std.specs.Option.{option_or, option_copied, option_map}
-use Rattle.std.proofs.lemmas.List.{append_assoc, append_cancel_left, drop_at, length_push, drop_more, take_more, map-append}
+use Rattle.std.specs.Option.{option_copied, option_map}
+use Rattle.std.proofs.lemmas.List.{append_assoc, append_cancel_left, drop_at, length_push, length-map, get_or-map, take-map}
 use Rattle.std.proofs.lemmas.Bool.{cases_Bool, le-ltb, lt-ltb}
 use Rattle.std.proofs.lemmas.Option.{MatchOption-at_some, MatchOption-at_none}
 use Rattle.std.proofs.lemmas.Bool.Decides.{Decides-eqb}
 use Rattle.std.proofs.lemmas.Slice.Eq.{starts_is}
+use Rattle.pool_base.specs.InOrder.{first_fault}
+use Rattle.pool_base.proofs.lemmas.InOrderLemmas.{first_fault-none, first_fault-some}
 use Rattle.rider_limits.specs.declared.command.Command.{Command}
 use Rattle.rider_limits.specs.declared.word_fault.WordFault.{WordFault}
 use Rattle.rider_limits.specs.Key.{key_of}
-use Rattle.rider_limits.specs.Words.{after_key, option_of, fault_at, first_fault}
+use Rattle.rider_limits.specs.Words.{after_key, option_of, option_fault, fault_at, words_fault}
 
 -- a word that begins with the key and `=` gives what stands behind them
 pub after_key-found : (key word rest : List ℕ) → word ≡ key ++ 61 ∷ rest → after_key key word ≡ Some rest
@@ -79,20 +81,25 @@ option_of-parts command word r x parts some =
     ∙ ap (λ name. option_map (λ key. (key, after_first (λ c. nat_eq c 61) word)) (key_of command name)) (sym at.1)
     ∙ ap (λ text. option_map (λ key. (key, text)) (key_of command x.0.now)) (sym at.2)
 
--- the first fault from a word on, where the word has none, is the first from the next word on
-pub first_fault-step : {X : Type 0} (f : X → List ℕ) (command : Command) (xs : List X) (i place : ℕ) (x : X) → i < length xs → x ≡ get_or xs i x → fault_at (map f (take i xs)) place (option_of command (f x)) ≡ None → first_fault command (map f (take i xs)) place (map f (drop i xs)) ≡ first_fault command (map f (take (i + 1) xs)) (place + 1) (map f (drop (i + 1) xs))
-first_fault-step f command xs i place x lt is none =
-    let rest = drop (i + 1) xs in
-    let from : drop i xs ≡ x ∷ drop (i + 1) xs = drop_more xs i x lt ∙ ap (λ y. y ∷ drop (i + 1) xs) (sym is) in
-    let before : map f (take (i + 1) xs) ≡ map f (take i xs) ++ f x ∷ [] =
-    ap (map f) (take_more xs i x lt ∙ ap (λ y. take i xs ++ y ∷ []) (sym is)) ∙ map-append f (take i xs) (x ∷ []) in
-    ap (λ ys. first_fault command (map f (take i xs)) place (map f ys)) from
-    ∙ ap (λ o. option_or o (first_fault command (map f (take i xs) ++ f x ∷ []) (place + 1) (map f (drop (i + 1) xs)))) none
-    ∙ ap (λ e. first_fault command e (place + 1) (map f (drop (i + 1) xs))) (sym before)
+-- what a word says among all words is what is wrong at its place
+fault_at-word : {X : Type 0} (f : X → List ℕ) (command : Command) (xs : List X) (i : ℕ) (x : X) → i < length xs → x ≡ get_or xs i x → fault_at command (map f xs) i ≡ option_fault (map f (take i xs)) (i + 2) (option_of command (f x))
+fault_at-word f command xs i x within is =
+    ap (λ earlier. option_fault earlier (i + 2) (option_of command (get_or (map f xs) i []))) (take-map f i xs)
+    ∙ ap (λ word. option_fault (map f (take i xs)) (i + 2) (option_of command word)) (get_or-map f xs i x [] within ∙ ap f (sym is))
 
--- a word with a fault is the first of those from it on
-pub first_fault-here : {X : Type 0} (f : X → List ℕ) (command : Command) (xs : List X) (i place : ℕ) (x : X) (fault : WordFault) → i < length xs → x ≡ get_or xs i x → fault_at (map f (take i xs)) place (option_of command (f x)) ≡ Some fault → first_fault command (map f (take i xs)) place (map f (drop i xs)) ≡ Some fault
-first_fault-here f command xs i place x fault lt is some =
-    let from : drop i xs ≡ x ∷ drop (i + 1) xs = drop_more xs i x lt ∙ ap (λ y. y ∷ drop (i + 1) xs) (sym is) in
-    ap (λ ys. first_fault command (map f (take i xs)) place (map f ys)) from
-    ∙ ap (λ o. option_or o (first_fault command (map f (take i xs) ++ f x ∷ []) (place + 1) (map f (drop (i + 1) xs)))) some
+-- a word without a fault
+pub words_fault-step : {X : Type 0} (f : X → List ℕ) (command : Command) (xs : List X) (i : ℕ) (x : X) → i < length xs → x ≡ get_or xs i x → option_fault (map f (take i xs)) (i + 2) (option_of command (f x)) ≡ None → first_fault (fault_at command (map f xs)) i ≡ None → first_fault (fault_at command (map f xs)) (i + 1) ≡ None
+words_fault-step f command xs i x within is none before =
+    first_fault-none (fault_at command (map f xs)) i before (fault_at-word f command xs i x within is ∙ none)
+
+-- the first word with a fault
+pub words_fault-here : {X : Type 0} (f : X → List ℕ) (command : Command) (xs : List X) (i : ℕ) (x : X) (fault : WordFault) → i < length xs → x ≡ get_or xs i x → option_fault (map f (take i xs)) (i + 2) (option_of command (f x)) ≡ Some fault → first_fault (fault_at command (map f xs)) i ≡ None → words_fault command (map f xs) ≡ Some fault
+words_fault-here f command xs i x fault within is some before =
+    let size : length (map f xs) ≡ length xs = length-map xs f in
+    first_fault-some (fault_at command (map f xs)) (length (map f xs)) i fault (omega (arith, within, size)) before (fault_at-word f command xs i x within is ∙ some)
+
+-- no word is left
+pub words_fault-end : {X : Type 0} (f : X → List ℕ) (command : Command) (xs : List X) (i : ℕ) → i ≡ length xs → first_fault (fault_at command (map f xs)) i ≡ None → words_fault command (map f xs) ≡ None
+words_fault-end f command xs i all before =
+    let size : length (map f xs) ≡ i = length-map xs f ∙ sym all in
+    ap (first_fault (fault_at command (map f xs))) size ∙ before

@@ -1,4 +1,4 @@
-use Rattle.std.specs.Prelude.{ℕ, ◌≤◌, Bool, true, false, ◌&&◌, List, [], ◌∷◌, Option, nat_le, nat_lt, length, codes}
+use Rattle.std.specs.Prelude.{ℕ, Bool, true, false, ◌&&◌, List, [], ◌∷◌, Option, nat_le, nat_lt, length, codes}
 use Rattle.std.specs.List.{find}
 use Rattle.std.specs.Option.{option_map_or}
 use Rattle.std.specs.Str.{bytes_eq}
@@ -13,32 +13,32 @@ use Rattle.rider_limits.specs.declared.key.Takes.{Takes}
 use Rattle.rider_limits.specs.declared.key.Takes.TheVariants.{FileName, Number}
 
 -- the word of a command
-abbrev pub word_of : Command → List ℕ
-word_of Run = codes "run"
-word_of Load = codes "load"
+abbrev pub command_name : Command → List ℕ
+command_name Run = codes "run"
+command_name Load = codes "load"
 
 -- the command of a word
 abbrev pub command_of : List ℕ → Option Command
-command_of word = find (λ command. bytes_eq (word_of command) word) (Run ∷ Load ∷ [])
+command_of word = find (λ command. bytes_eq (command_name command) word) (Run ∷ Load ∷ [])
 
 -- the name of a key
-abbrev pub name_of : Key → List ℕ
-name_of (Input which) = file.name_of which
-name_of Notices = codes "notices"
-name_of Wait = codes "wait"
-name_of Delay = codes "delay"
-name_of Trip = codes "trip"
-name_of Penalty = codes "penalty"
-name_of Budget = codes "budget"
-name_of Pairs = codes "pairs"
-name_of Workers = codes "workers"
-name_of Proof = codes "proof"
-name_of Dwell = codes "dwell"
-name_of Seed = codes "seed"
-name_of Side = codes "side"
-name_of Vehicles = codes "vehicles"
-name_of Riders = codes "riders"
-name_of Rounds = codes "rounds"
+abbrev pub key_name : Key → List ℕ
+key_name (Input which) = file.file_name which
+key_name Notices = codes "notices"
+key_name Wait = codes "wait"
+key_name Delay = codes "delay"
+key_name Trip = codes "trip"
+key_name Penalty = codes "penalty"
+key_name Budget = codes "budget"
+key_name Pairs = codes "pairs"
+key_name Workers = codes "workers"
+key_name Proof = codes "proof"
+key_name Dwell = codes "dwell"
+key_name Seed = codes "seed"
+key_name Side = codes "side"
+key_name Vehicles = codes "vehicles"
+key_name Riders = codes "riders"
+key_name Rounds = codes "rounds"
 
 -- every key
 abbrev pub keys : List Key
@@ -61,7 +61,7 @@ has_key Load _ = true
 
 -- a command has this key, and this is its name
 abbrev pub is_key : Command → List ℕ → Key → Bool
-is_key command name key = has_key command key && bytes_eq (name_of key) name
+is_key command name key = has_key command key && bytes_eq (key_name key) name
 
 -- the key of this name that a command has
 unfoldable pub key_of : Command → List ℕ → Option Key
@@ -109,13 +109,3 @@ default_of Rounds = 4
 abbrev pub accepts : Takes → List ℕ → Bool
 accepts FileName text = nat_lt 0 (length text)
 accepts (Number least greatest) text = option_map_or (nat_le least) (number_up_to greatest text) false
-
--- a key takes a number
-abbrev pub IsNumber : Takes → Type 0
-IsNumber FileName = ⊥
-IsNumber (Number _ _) = Unit {0}
-
--- a number is one that a key takes
-abbrev pub IsTaken : Takes → ℕ → Type 0
-IsTaken FileName n = ⊥
-IsTaken (Number least greatest) n = (least ≤ n) × (n ≤ greatest)

@@ -2,3 +2,4 @@ pub mod Key
 pub mod Words
 pub mod Range
 pub mod Settings
+pub mod work

@@ -9,12 +9,12 @@ use Rattle.rider_limits.specs.declared.load_shape.LoadShape.{LoadShape}
 use Rattle.rider_limits.specs.declared.settings.Mode.{Mode}
 use Rattle.rider_limits.specs.declared.settings.Mode.TheVariants.{Run as Running, Load as Loading}
 use Rattle.rider_limits.specs.declared.settings.Settings.{Settings}
-use Rattle.rider_limits.specs.Key.{command_of, name_of, default_of}
+use Rattle.rider_limits.specs.Key.{command_of, key_name, default_of}
 use Rattle.rider_limits.specs.Words.{text_given}
 
 -- the number that words give a key, or the key's own where none does
 abbrev pub number_given : Key → List (List ℕ) → ℕ
-number_given key words = option_map_or value_of (text_given (name_of key) words) (default_of key)
+number_given key words = option_map_or value_of (text_given (key_name key) words) (default_of key)
 
 -- the shape is the one that the words give
 pub record IsShapeGiven (words : List (List ℕ)) (shape : LoadShape) : Type 0 where

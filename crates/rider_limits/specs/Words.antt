@@ -1,6 +1,7 @@
-use Rattle.std.specs.Prelude.{ℕ, ◌+◌, Bool, List, [], ◌∷◌, ◌++◌, Option, Some, None, is_some, is_none, nat_eq, nat_lt, length, drop, if◌then◌else◌, ◌==◌}
+use Rattle.std.specs.Prelude.{ℕ, ◌+◌, Bool, List, [], ◌∷◌, ◌++◌, Option, Some, None, is_some, is_none, nat_eq, nat_lt, length, take, drop, slice_index_or, if◌then◌else◌, ◌==◌}
 use Rattle.std.specs.List.{find, starts_with, position_or_len, before_first, after_first}
 use Rattle.std.specs.Option.{option_map, option_or}
+use Rattle.pool_base.specs.InOrder.{first_fault}
 use Rattle.pool_base.specs.Which as file
 use Rattle.pool_base.specs.declared.which.Which.{Which}
 use Rattle.pool_base.specs.declared.which.Which.TheVariants.{Network, Fleet, Script}
@@ -9,7 +10,7 @@ use Rattle.rider_limits.specs.declared.command.Command.TheVariants.{Run, Load}
 use Rattle.rider_limits.specs.declared.key.Key.{Key}
 use Rattle.rider_limits.specs.declared.word_fault.WordFault.{WordFault}
 use Rattle.rider_limits.specs.declared.word_fault.WordFault.TheVariants.{NoCommand, UnknownKey, Repeated, BadValue, MissingFile}
-use Rattle.rider_limits.specs.Key.{command_of, key_of, name_of, takes_of, accepts}
+use Rattle.rider_limits.specs.Key.{command_of, key_of, key_name, takes_of, accepts}
 
 -- what stands behind a key and `=`, where a word begins with them
 unfoldable pub after_key : List ℕ → List ℕ → Option (List ℕ)
@@ -27,22 +28,25 @@ option_of command word =
     then option_map (λ key. (key, after_first (λ c. c == 61) word)) (key_of command (before_first (λ c. c == 61) word))
     else None
 
--- what is wrong with the word at a place, where these stand before it, and it gives this key and text or none
-abbrev pub fault_at : List (List ℕ) → ℕ → Option (Key × List ℕ) → Option WordFault
-fault_at earlier place None = Some (UnknownKey place)
-fault_at earlier place (Some (key, text)) =
-    if is_some (text_given (name_of key) earlier) then Some (Repeated place)
-    else (if accepts (takes_of key) text then None else Some (BadValue place))
+-- what is wrong with a word that gives this key and text, or none: an unknown key, else a key that an earlier word
+-- has, else a value that the key doesn't take
+abbrev pub option_fault : List (List ℕ) → ℕ → Option (Key × List ℕ) → Option WordFault
+option_fault earlier word None = Some (UnknownKey word)
+option_fault earlier word (Some (key, text)) =
+    if is_some (text_given (key_name key) earlier) then Some (Repeated word)
+    else (if accepts (takes_of key) text then None else Some (BadValue word))
 
--- the first fault of words in order, from the word at a place on, where these stand before it
-abbrev pub first_fault : Command → List (List ℕ) → ℕ → List (List ℕ) → Option WordFault
-first_fault command earlier place [] = None
-first_fault command earlier place (word ∷ words) =
-    option_or (fault_at earlier place (option_of command word)) (first_fault command (earlier ++ word ∷ []) (place + 1) words)
+-- what is wrong with the word at a place behind the command, if anything; the command is word 1
+abbrev pub fault_at : Command → List (List ℕ) → ℕ → Option WordFault
+fault_at command words place = option_fault (take place words) (place + 2) (option_of command (slice_index_or words place []))
+
+-- the first fault of the words behind a command
+abbrev pub words_fault : Command → List (List ℕ) → Option WordFault
+words_fault command words = first_fault (fault_at command words) (length words)
 
 -- no word names a file
 abbrev pub is_missing : List (List ℕ) → Which → Bool
-is_missing words which = is_none (text_given (file.name_of which) words)
+is_missing words which = is_none (text_given (file.file_name which) words)
 
 -- the first file that a command needs and these words don't name
 abbrev pub missing_file : Command → List (List ℕ) → Option Which
@@ -53,7 +57,7 @@ missing_file Load words = None
 abbrev pub fault_behind : Option Command → List (List ℕ) → Option WordFault
 fault_behind None words = Some NoCommand
 fault_behind (Some command) words =
-    option_or (first_fault command [] 2 words) (option_map (λ which. MissingFile which) (missing_file command words))
+    option_or (words_fault command words) (option_map (λ which. MissingFile which) (missing_file command words))
 
 -- why words are refused, if they are: the first word is the command, and words count from 1
 abbrev pub fault_of : List (List ℕ) → Option WordFault

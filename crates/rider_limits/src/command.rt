@@ -8,10 +8,10 @@ pub(crate) enum Command {
 }
 
 impl Command {
-    ghost use Rattle.rider_limits.specs.Key.{word_of, command_of};
+    ghost use Rattle.rider_limits.specs.Key.{command_name, command_of};
 
     fn word(self) -> &'static str
-        ensures { result.now ≡ word_of self }
+        ensures { result.now ≡ command_name self }
     {
         match self {
             Command::Run => "run",

@@ -34,10 +34,10 @@ pub(crate) enum Takes {
 }
 
 impl Key {
-    ghost use Rattle.rider_limits.specs.Key.{name_of, is_key, key_of, has_key, takes_of, default_of};
+    ghost use Rattle.rider_limits.specs.Key.{key_name, is_key, key_of, has_key, takes_of, default_of};
 
     pub(crate) fn name(self) -> &'static str
-        ensures { result.now ≡ name_of self }
+        ensures { result.now ≡ key_name self }
     {
         match self {
             Key::Input(which) => which.name(),

@@ -1,7 +1,8 @@
-ghost use Rattle.std.specs.Prelude.{◌≡◌, [], None, Some, map, IfOk, IfErr};
+ghost use Rattle.std.specs.Prelude.{◌≡◌, None, Some, map, IfOk, IfErr};
 ghost use Rattle.std.specs.String.{string_bytes};
-ghost use Rattle.rider_limits.specs.Key.{takes_of, IsNumber, IsTaken};
-ghost use Rattle.rider_limits.specs.Words.{first_fault, fault_of};
+ghost use Rattle.rider_limits.specs.Key.{takes_of};
+ghost use Rattle.rider_limits.specs.work.Taken.{IsNumber, IsAccepted};
+ghost use Rattle.rider_limits.specs.Words.{words_fault, fault_of};
 ghost use Rattle.rider_limits.specs.Settings.{number_given, IsShapeGiven, AreGivenBehind, AreGiven};
 ghost use Rattle.rider_limits.specs.declared.command.Command.TheVariants.{Load};
 
@@ -15,10 +16,10 @@ use pool_base::read_number_up_to;
 
 /// The number that words without a fault give a key.
 fn number(command: Command, options: &[String], key: Key) -> u64
-    requires faultless { first_fault command [] 2 (map string_bytes options.now) ≡ None }
+    requires faultless { words_fault command (map string_bytes options.now) ≡ None }
     requires number { IsNumber (takes_of key) }
     ensures value { result ≡ number_given key (map string_bytes options.now) }
-    ensures within { IsTaken (takes_of key) result }
+    ensures within { IsAccepted (takes_of key) result }
 {
     match value_of(options, key.name()) {
         None => key.default_number(),
@@ -28,7 +29,7 @@ fn number(command: Command, options: &[String], key: Key) -> u64
 
 /// The shape that words without a fault give.
 fn shape(options: &[String]) -> LoadShape
-    requires { first_fault Command.Load [] 2 (map string_bytes options.now) ≡ None }
+    requires { words_fault Command.Load (map string_bytes options.now) ≡ None }
     ensures { IsShapeGiven (map string_bytes options.now) result }
 {
     LoadShape {
@@ -42,7 +43,7 @@ fn shape(options: &[String]) -> LoadShape
 
 /// The settings that words without a fault give.
 fn settings(command: Command, options: &[String]) -> Settings
-    requires { first_fault command [] 2 (map string_bytes options.now) ≡ None }
+    requires { words_fault command (map string_bytes options.now) ≡ None }
     ensures { AreGivenBehind (Some command) (map string_bytes options.now) result }
 {
     Settings {

@@ -1,5 +1,4 @@
-use crate::{LoadShape, Mode, Settings, WordFault, read_words, value_of};
-use pool_base::Which;
+use crate::{LoadShape, Mode, Settings, read_words, value_of};
 use std::alloc::{AllocError, Global};
 use std::test::Fail;
 
@@ -70,46 +69,5 @@ fn numbers_are_read_up_to_their_ends(rt: HostRuntime) -> Result<(), Fail> {
         })
     );
     assert_eq!(rt; value_of(&given, "script"), Some("a=b"));
-    Ok(())
-}
-
-#[test]
-fn faults_are_named_at_their_words(rt: HostRuntime) -> Result<(), Fail> {
-    let table = [
-        ("", WordFault::NoCommand),
-        ("drive", WordFault::NoCommand),
-        (
-            "run",
-            WordFault::MissingFile {
-                which: Which::Network,
-            },
-        ),
-        (
-            "run network=n script=s",
-            WordFault::MissingFile {
-                which: Which::Fleet,
-            },
-        ),
-        ("run fly=1", WordFault::UnknownKey { word: 2 }),
-        ("run seed=1", WordFault::UnknownKey { word: 2 }),
-        ("load proof=1", WordFault::UnknownKey { word: 2 }),
-        ("run trip=2 trip=2", WordFault::Repeated { word: 3 }),
-        ("run trip=2 trip=7", WordFault::Repeated { word: 3 }),
-        (
-            "run network=n fleet=f script=s trip=7",
-            WordFault::BadValue { word: 5 },
-        ),
-        (
-            "run network=n fleet=f script=s dwell=601",
-            WordFault::BadValue { word: 5 },
-        ),
-        ("run network= fly=1", WordFault::BadValue { word: 2 }),
-        ("run wait=-1", WordFault::BadValue { word: 2 }),
-        ("load side=1", WordFault::BadValue { word: 2 }),
-    ];
-    for (text, fault) in table {
-        let given = words(rt.alloc(), text)?;
-        assert_eq!(rt; read_words(&given), Err(fault), "at {text}");
-    }
     Ok(())
 }

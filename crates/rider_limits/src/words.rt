@@ -1,7 +1,7 @@
-ghost use Rattle.std.specs.Prelude.{◌≡◌, [], None, Some, map, MatchOption};
+ghost use Rattle.std.specs.Prelude.{◌≡◌, None, Some, map, MatchOption};
 ghost use Rattle.std.specs.String.{string_bytes};
 ghost use Rattle.std.specs.Option.{option_copied};
-ghost use Rattle.rider_limits.specs.Words.{after_key, text_given, option_of, fault_at, first_fault, is_missing, missing_file};
+ghost use Rattle.rider_limits.specs.Words.{after_key, text_given, option_of, option_fault, words_fault, is_missing, missing_file};
 
 use crate::command::Command;
 use crate::key::Key;
@@ -37,29 +37,34 @@ fn option_of(command: Command, word: &str) -> Option<(Key, &str)>
     Some((key, text))
 }
 
-/// What is wrong with the word at a place, where these stand before it.
-fn fault_at(command: Command, earlier: &[String], word: &str, place: u64) -> Option<WordFault>
-    ensures { result ≡ fault_at (map string_bytes earlier.now) place (option_of command word.now) }
+/// What is wrong with the word of a number, where these stand before it.
+fn word_fault(command: Command, earlier: &[String], word: &str, number: u64) -> Option<WordFault>
+    ensures { result ≡ option_fault (map string_bytes earlier.now) number (option_of command word.now) }
 {
     let Some((key, text)) = option_of(command, word) else {
-        return Some(WordFault::UnknownKey { word: place });
+        return Some(WordFault::UnknownKey { word: number });
     };
     if value_of(earlier, key.name()).is_some() {
-        return Some(WordFault::Repeated { word: place });
+        return Some(WordFault::Repeated { word: number });
     }
     if key.takes().accepts(text) {
         None
     } else {
-        Some(WordFault::BadValue { word: place })
+        Some(WordFault::BadValue { word: number })
     }
 }
 
 /// The first fault of the words behind a command.
 pub(crate) fn first_fault(command: Command, options: &[String]) -> Option<WordFault>
-    ensures { result ≡ first_fault command [] 2 (map string_bytes options.now) }
+    ensures { result ≡ words_fault command (map string_bytes options.now) }
 {
     for (index, word) in options.iter().enumerate() {
-        if let Some(fault) = fault_at(command, &options[..index], word.as_str(), index as u64 + 2) {
+        if let Some(fault) = word_fault(
+            command,
+            &options[..index],
+            word.as_str(),
+            index as u64 + 2,
+        ) {
             return Some(fault);
         }
     }

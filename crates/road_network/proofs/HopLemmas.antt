@@ -7,7 +7,7 @@ use Rattle.std.proofs.lemmas.List.{get_or-map, length-map}
 use Rattle.std.proofs.lemmas.List.Elements.{All-contains, All-contains_itself, All-filter, All-map, All-nil, All-cons, All-weaker, filter_passes, Contains-append_right, Contains-get_or}
 use Rattle.road_network.specs.Walk.{Arc}
 use Rattle.road_network.specs.Roads.{hop_of, leaving}
-use Rattle.road_network.specs.Storage.{arc_from}
+use Rattle.road_network.specs.work.Storage.{arc_from}
 use Rattle.road_network.specs.declared.hop.Hop.{Hop}
 
 from_is : (node : ℕ) (arc : Arc) → (arc.from == node) ≡ true → arc_from node (hop_of arc) ≡ arc

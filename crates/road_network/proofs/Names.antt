@@ -1,5 +1,5 @@
 -- Names and their indexes in a list of nodes.
-use Rattle.std.proofs.Common.{◌≡◌, ℕ, ◌<◌, eqb, true, false, List, length, get_or, Option, Some, None, slice_get, position, refl, sym, ap, ◌∙◌, arith}
+use Rattle.std.proofs.Common.{◌≡◌, ℕ, ◌<◌, eqb, true, false, List, length, get_or, Option, Some, None, slice_get, position, refl, sym, ap, ◌∙◌, arith, inl, inr}
 use Rattle.std.specs.Prelude.{All, Contains, IfSome, nat_lt}
 use Rattle.std.specs.List.{IsDistinct, list_any, position_or_len}
 use Rattle.std.proofs.lemmas.Bool.{cases_Bool}
@@ -9,9 +9,8 @@ use Rattle.std.proofs.lemmas.List.Quantifiers.{position-Some}
 use Rattle.std.proofs.lemmas.List.Sums.{passes_at_first, position_or_len_is}
 use Rattle.std.proofs.lemmas.List.Elements.{All-push}
 use Rattle.std.proofs.lemmas.Map.Keys.{any_passes_from_place, apart_from_distinct}
-use Rattle.road_network.specs.Reading.{with_node}
+use Rattle.road_network.specs.work.Numbering.{with_node}
 use Rattle.road_network.proofs.Numbering.{any_found}
-use Rattle.std.proofs.Common.{inl, inr}
 
 same_name : (a b : ℕ) → eqb a b ≡ true → b ≡ a
 same_name a b e = grind (arith, nat_tests)

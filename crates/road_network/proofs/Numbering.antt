@@ -7,7 +7,9 @@ use Rattle.std.specs.Prelude.{All}
 use Rattle.std.specs.List.{list_any, position_or_len}
 use Rattle.road_network.specs.Walk.{Arc}
 use Rattle.road_network.specs.Roads.{index_in}
-use Rattle.road_network.specs.Reading.{arc_in, name_in, with_node, with_row}
+use Rattle.road_network.specs.Reading.{arc_in}
+use Rattle.pool_base.specs.Numeral.{number_at}
+use Rattle.road_network.specs.work.Numbering.{with_row, with_node}
 
 pub any_found : {A : Type 0} (p : A → Bool) (xs : List A) → list_any p xs ≡ true → position_or_len p xs < length xs
 any_found p [] e = absurd (false≢true e)
@@ -73,21 +75,21 @@ with_node-keeps nodes name other numbered =
 
 -- both nodes of a row are numbered
 abbrev pub IsRowNumbered : List ℕ → List (List ℕ) → Type 0
-IsRowNumbered nodes fields = IsNumbered nodes (name_in fields 0) × IsNumbered nodes (name_in fields 1)
+IsRowNumbered nodes fields = IsNumbered nodes (number_at fields 0) × IsNumbered nodes (number_at fields 1)
 
 -- the nodes of a row are numbered after it, with these indexes
 pub with_row-numbers : (nodes : List ℕ) (fields : List (List ℕ)) → IsRowNumbered (with_row nodes fields) fields
-    × (index_in (with_row nodes fields) (name_in fields 0) ≡ index_in (with_node nodes (name_in fields 0)) (name_in fields 0))
+    × (index_in (with_row nodes fields) (number_at fields 0) ≡ index_in (with_node nodes (number_at fields 0)) (number_at fields 0))
 with_row-numbers nodes fields =
-    let first = with_node-numbers nodes (name_in fields 0) in
-    let kept = with_node-keeps (with_node nodes (name_in fields 0)) (name_in fields 1) (name_in fields 0) first.1 in
-    let second = with_node-numbers (with_node nodes (name_in fields 0)) (name_in fields 1) in
+    let first = with_node-numbers nodes (number_at fields 0) in
+    let kept = with_node-keeps (with_node nodes (number_at fields 0)) (number_at fields 1) (number_at fields 0) first.1 in
+    let second = with_node-numbers (with_node nodes (number_at fields 0)) (number_at fields 1) in
     ((kept.1, second.1), kept.0)
 
 with_row-keeps : (nodes : List ℕ) (fields : List (List ℕ)) (other : ℕ) → IsNumbered nodes other → (index_in (with_row nodes fields) other ≡ index_in nodes other) × IsNumbered (with_row nodes fields) other
 with_row-keeps nodes fields other numbered =
-    let first = with_node-keeps nodes (name_in fields 0) other numbered in
-    let second = with_node-keeps (with_node nodes (name_in fields 0)) (name_in fields 1) other first.1 in
+    let first = with_node-keeps nodes (number_at fields 0) other numbered in
+    let second = with_node-keeps (with_node nodes (number_at fields 0)) (number_at fields 1) other first.1 in
     (second.0 ∙ first.0, second.1)
 
 pub All-numbered : (nodes : List ℕ) (fields : List (List ℕ)) (rows : List (List (List ℕ))) → All (IsRowNumbered nodes) rows → All (IsRowNumbered (with_row nodes fields)) rows
@@ -98,7 +100,7 @@ pub map-arc_in : (nodes : List ℕ) (fields : List (List ℕ)) (rows : List (Lis
 map-arc_in nodes fields [] all = refl
 map-arc_in nodes fields (row ∷ rows) all =
     let here = All-head (IsRowNumbered nodes) row rows all in
-    let from = (with_row-keeps nodes fields (name_in row 0) here.0).0 in
-    let to = (with_row-keeps nodes fields (name_in row 1) here.1).0 in
+    let from = (with_row-keeps nodes fields (number_at row 0) here.0).0 in
+    let to = (with_row-keeps nodes fields (number_at row 1) here.1).0 in
     let arc : arc_in (with_row nodes fields) row ≡ arc_in nodes row = rw (from, to) refl in
     ap (λ (a : Arc). a ∷ map (arc_in (with_row nodes fields)) rows) arc ∙ ap (λ (arcs : List Arc). arc_in nodes row ∷ arcs) (map-arc_in nodes fields rows (All-tail (IsRowNumbered nodes) row rows all))

@@ -1,47 +1,58 @@
 -- The first refusal, row by row.
-use Rattle.std.proofs.Common.{◌≡◌, ℕ, ◌+◌, ◌<◌, ◌≤◌, List, [], Some, None, Ok, Err, true, false, length, get_or, drop, refl, arith}
+use Rattle.std.proofs.Common.{◌≡◌, ℕ, ◌+◌, ◌<◌, ◌≤◌, cond, List, [], Some, None, Ok, Err, true, false, length, get_or, take, sym, ap, ◌∙◌, refl, arith}
 use Rattle.std.specs.Prelude.{nat_lt}
+use Rattle.std.specs.Option.{option_or}
+use Rattle.std.proofs.lemmas.Bool.{le-ltb, lt-ltb}
 use Rattle.std.proofs.lemmas.Bool.Decides.{nat_tests}
-use Rattle.std.proofs.lemmas.List.{drop_more, drop_all}
+use Rattle.pool_base.specs.InOrder.{first_fault}
+use Rattle.pool_base.proofs.lemmas.InOrderLemmas.{first_fault-none, first_fault-some, first_fault-each, first_fault-all}
 use Rattle.road_network.specs.Roads.{most_nodes, most_arcs}
-use Rattle.road_network.specs.Reading.{field_refusal, first_refusal, network_of, roads_of, with_row}
+use Rattle.road_network.specs.Reading.{nodes_of, field_refusal, refusal_at, first_refusal, network_of, roads_of}
+use Rattle.road_network.specs.work.Numbering.{with_row}
 use Rattle.road_network.specs.declared.fault.NetworkFault.{NetworkFault}
 use Rattle.road_network.specs.declared.fault.NetworkFault.TheVariants.{TooManyArcs, TooManyNodes}
+use Rattle.road_network.proofs.RowSteps.{nodes_of-more}
+
+-- a row whose fields are accepted is refused where it brings too many nodes
+refusal_at-accepted : (rows : List (List (List ℕ))) (row : ℕ) (nodes : List ℕ) → row < length rows → nodes ≡ nodes_of (take row rows) → field_refusal (row + 1) (get_or rows row []) ≡ None
+    → refusal_at rows row ≡ cond (nat_lt most_nodes (length (with_row nodes (get_or rows row [])))) (Some (TooManyNodes (row + 1))) None
+refusal_at-accepted rows row nodes within so_far accepted =
+    ap (λ o. option_or o (cond (nat_lt most_nodes (length (nodes_of (take (row + 1) rows)))) (Some (TooManyNodes (row + 1))) None)) accepted
+    ∙ ap (λ (ns : List ℕ). cond (nat_lt most_nodes (length ns)) (Some (TooManyNodes (row + 1))) None) (sym (nodes_of-more rows row nodes within so_far))
 
 -- a row that is accepted
-pub first_refusal-next : (rows : List (List (List ℕ))) (row : ℕ) (nodes : List ℕ) → row < length rows → field_refusal (row + 1) (get_or rows row []) ≡ None → length (with_row nodes (get_or rows row [])) ≤ most_nodes
-    → first_refusal (row + 1) nodes (drop row rows) ≡ first_refusal (row + 1 + 1) (with_row nodes (get_or rows row [])) (drop (row + 1) rows)
-unfolding first_refusal
-first_refusal-next rows row nodes within accepted few =
-    let test : nat_lt most_nodes (length (with_row nodes (get_or rows row []))) ≡ false = grind (arith, nat_tests) in
-    rw (drop_more rows row [] within, accepted, test) refl
+pub first_refusal-next : (rows : List (List (List ℕ))) (row : ℕ) (nodes : List ℕ) → row < length rows → nodes ≡ nodes_of (take row rows) → field_refusal (row + 1) (get_or rows row []) ≡ None → length (with_row nodes (get_or rows row [])) ≤ most_nodes
+    → first_fault (refusal_at rows) row ≡ None → first_fault (refusal_at rows) (row + 1) ≡ None
+first_refusal-next rows row nodes within so_far accepted few before =
+    first_fault-none (refusal_at rows) row before
+    (refusal_at-accepted rows row nodes within so_far accepted ∙ ap (λ b. cond b (Some (TooManyNodes (row + 1))) None) (le-ltb most_nodes (length (with_row nodes (get_or rows row []))) few))
 
 -- a row whose fields are refused
-pub first_refusal-field : (rows : List (List (List ℕ))) (row : ℕ) (nodes : List ℕ) (fault : NetworkFault) → row < length rows → field_refusal (row + 1) (get_or rows row []) ≡ Some fault
-    → first_refusal (row + 1) nodes (drop row rows) ≡ Some fault
-unfolding first_refusal
-first_refusal-field rows row nodes fault within refused = rw (drop_more rows row [] within, refused) refl
+pub first_refusal-field : (rows : List (List (List ℕ))) (row : ℕ) (fault : NetworkFault) → row < length rows → field_refusal (row + 1) (get_or rows row []) ≡ Some fault
+    → first_fault (refusal_at rows) row ≡ None → first_refusal rows ≡ Some fault
+first_refusal-field rows row fault within refused before =
+    first_fault-some (refusal_at rows) (length rows) row fault within before
+    (ap (λ o. option_or o (cond (nat_lt most_nodes (length (nodes_of (take (row + 1) rows)))) (Some (TooManyNodes (row + 1))) None)) refused)
 
 -- a row that brings too many nodes
-pub first_refusal-nodes : (rows : List (List (List ℕ))) (row : ℕ) (nodes : List ℕ) → row < length rows → field_refusal (row + 1) (get_or rows row []) ≡ None → most_nodes < length (with_row nodes (get_or rows row []))
-    → first_refusal (row + 1) nodes (drop row rows) ≡ Some (TooManyNodes (row + 1))
-unfolding first_refusal
-first_refusal-nodes rows row nodes within accepted many =
-    let test : nat_lt most_nodes (length (with_row nodes (get_or rows row []))) ≡ true = grind (arith, nat_tests) in
-    rw (drop_more rows row [] within, accepted, test) refl
+pub first_refusal-nodes : (rows : List (List (List ℕ))) (row : ℕ) (nodes : List ℕ) → row < length rows → nodes ≡ nodes_of (take row rows) → field_refusal (row + 1) (get_or rows row []) ≡ None → most_nodes < length (with_row nodes (get_or rows row []))
+    → first_fault (refusal_at rows) row ≡ None → first_refusal rows ≡ Some (TooManyNodes (row + 1))
+first_refusal-nodes rows row nodes within so_far accepted many before =
+    first_fault-some (refusal_at rows) (length rows) row (TooManyNodes (row + 1)) within before
+    (refusal_at-accepted rows row nodes within so_far accepted ∙ ap (λ b. cond b (Some (TooManyNodes (row + 1))) None) (lt-ltb most_nodes (length (with_row nodes (get_or rows row []))) many))
 
 -- no row is left
-pub first_refusal-end : (rows : List (List (List ℕ))) (row : ℕ) (nodes : List ℕ) → length rows ≤ row → first_refusal (row + 1) nodes (drop row rows) ≡ None
-unfolding first_refusal
-first_refusal-end rows row nodes all = rw (drop_all row rows all) refl
+pub first_refusal-end : (rows : List (List (List ℕ))) (row : ℕ) → length rows ≤ row → first_fault (refusal_at rows) row ≡ None → first_refusal rows ≡ None
+first_refusal-end rows row all none =
+    first_fault-all (refusal_at rows) (length rows) (λ k below. first_fault-each (refusal_at rows) row k none (omega (arith, below, all)))
 
-pub network_of-refused : (rows : List (List (List ℕ))) (fault : NetworkFault) → length rows ≤ most_arcs → first_refusal 1 [] rows ≡ Some fault → network_of rows ≡ Err fault
+pub network_of-refused : (rows : List (List (List ℕ))) (fault : NetworkFault) → length rows ≤ most_arcs → first_refusal rows ≡ Some fault → network_of rows ≡ Err fault
 unfolding network_of
 network_of-refused rows fault few refused =
     let test : nat_lt most_arcs (length rows) ≡ false = grind (arith, nat_tests) in
     rw (test, refused) refl
 
-pub network_of-accepted : (rows : List (List (List ℕ))) → length rows ≤ most_arcs → first_refusal 1 [] rows ≡ None → network_of rows ≡ Ok (roads_of rows)
+pub network_of-accepted : (rows : List (List (List ℕ))) → length rows ≤ most_arcs → first_refusal rows ≡ None → network_of rows ≡ Ok (roads_of rows)
 unfolding network_of
 network_of-accepted rows few accepted =
     let test : nat_lt most_arcs (length rows) ≡ false = grind (arith, nat_tests) in

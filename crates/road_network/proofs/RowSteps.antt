@@ -1,16 +1,43 @@
 -- One more row of a network.
-use Rattle.std.proofs.Common.{◌≡◌, ℕ, ◌+◌, ◌<◌, ◌≤◌, List, [], ◌∷◌, ◌++◌, length, get_or, take, map, refl, sym, ap, ◌∙◌}
+use Rattle.std.proofs.Common.{◌≡◌, ◌==◌, ◌||◌, ℕ, cond, ◌+◌, ◌<◌, ◌≤◌, List, [], ◌∷◌, ◌++◌, length, get_or, take, map, refl, sym, ap, ◌∙◌, arith}
 use Rattle.std.specs.Prelude.{All}
-use Rattle.std.proofs.lemmas.List.{map_more}
-use Rattle.std.proofs.lemmas.List.Sums.{fold_more}
+use Rattle.std.specs.List.{list_any, flat_map}
+use Rattle.std.proofs.lemmas.Bool.Decides.{nat_tests}
+use Rattle.std.proofs.lemmas.List.{append_assoc, flat_map_more, map_more, take_more}
+use Rattle.pool_base.specs.Distinct.{distinct}
+use Rattle.pool_base.proofs.lemmas.DistinctLemmas.{any-distinct, distinct-push}
 use Rattle.std.proofs.lemmas.List.Elements.{All-map, All-more}
 use Rattle.road_network.specs.Walk.{Arc}
 use Rattle.road_network.specs.Roads.{IsArcAmong, index_in, longest_arc}
-use Rattle.road_network.specs.Reading.{arc_in, name_in, nodes_of, seconds_in, with_node, with_row}
+use Rattle.road_network.specs.Reading.{arc_in, names_in, nodes_of, arc_seconds}
+use Rattle.pool_base.specs.Numeral.{number_at}
+use Rattle.road_network.specs.work.Numbering.{with_row, with_node}
 use Rattle.road_network.proofs.Numbering.{IsRowNumbered, All-numbered, map-arc_in, with_row-numbers}
 
+-- the two ways to ask for a name
+any_flip : (name : ℕ) (nodes : List ℕ) → list_any (λ node. name == node) nodes ≡ list_any (λ node. node == name) nodes
+any_flip name [] = refl
+any_flip name (node ∷ nodes) =
+    let same : (name == node) ≡ (node == name) = grind (arith, nat_tests) in
+    ap (λ b. b || list_any (λ n. name == n) nodes) same ∙ ap (λ b. (node == name) || b) (any_flip name nodes)
+
+-- one more name among distinct ones
+with_node-distinct : (names : List ℕ) (name : ℕ) → with_node (distinct names) name ≡ distinct (names ++ name ∷ [])
+with_node-distinct names name =
+    ap (λ b. cond b (distinct names) (distinct names ++ name ∷ [])) (any_flip name (distinct names) ∙ any-distinct (λ node. node == name) names)
+    ∙ sym (distinct-push names name)
+
+-- the nodes with one more row
 pub nodes_of-more : (rows : List (List (List ℕ))) (row : ℕ) (nodes : List ℕ) → row < length rows → nodes ≡ nodes_of (take row rows) → with_row nodes (get_or rows row []) ≡ nodes_of (take (row + 1) rows)
-nodes_of-more rows row nodes within so_far = ap (λ (ns : List ℕ). with_row ns (get_or rows row [])) so_far ∙ sym (fold_more with_row [] rows row [] within)
+nodes_of-more rows row nodes within so_far =
+    let fields : List (List ℕ) = get_or rows row [] in
+    let names : List ℕ = flat_map names_in (take row rows) in
+    let more : flat_map names_in (take (row + 1) rows) ≡ names ++ names_in fields =
+    ap (flat_map names_in) (take_more rows row [] within) ∙ sym (flat_map_more names_in [] (take row rows) fields) in
+    ap (λ (ns : List ℕ). with_row ns fields) so_far
+    ∙ ap (λ (ns : List ℕ). with_node ns (number_at fields 1)) (with_node-distinct names (number_at fields 0))
+    ∙ with_node-distinct (names ++ number_at fields 0 ∷ []) (number_at fields 1)
+    ∙ ap distinct (append_assoc names (number_at fields 0 ∷ []) (number_at fields 1 ∷ []) ∙ sym more)
 
 pub arcs-more : (rows : List (List (List ℕ))) (row : ℕ) (nodes : List ℕ) (arcs : List Arc) (arc : Arc) → row < length rows → All (IsRowNumbered nodes) (take row rows) → arcs ≡ map (arc_in nodes) (take row rows)
     → arc ≡ arc_in (with_row nodes (get_or rows row [])) (get_or rows row []) → arcs ++ arc ∷ [] ≡ map (arc_in (with_row nodes (get_or rows row []))) (take (row + 1) rows)
@@ -19,13 +46,13 @@ arcs-more rows row nodes arcs arc within numbered so_far is =
     ap (λ (l : List Arc). l ++ arc ∷ []) before ∙ ap (λ (a : Arc). map (arc_in (with_row nodes (get_or rows row []))) (take row rows) ++ a ∷ []) is
     ∙ sym (map_more (arc_in (with_row nodes (get_or rows row []))) rows row [] within)
 
-pub arc_in-numbered : (nodes : List ℕ) (fields : List (List ℕ)) (from to seconds : ℕ) → from ≡ index_in (with_node nodes (name_in fields 0)) (name_in fields 0) → to ≡ index_in (with_row nodes fields) (name_in fields 1)
-    → seconds ≡ seconds_in fields → record { from = from; to = to; seconds = seconds } ≡ arc_in (with_row nodes fields) fields
+pub arc_in-numbered : (nodes : List ℕ) (fields : List (List ℕ)) (from to seconds : ℕ) → from ≡ index_in (with_node nodes (number_at fields 0)) (number_at fields 0) → to ≡ index_in (with_row nodes fields) (number_at fields 1)
+    → seconds ≡ arc_seconds fields → record { from = from; to = to; seconds = seconds } ≡ arc_in (with_row nodes fields) fields
 arc_in-numbered nodes fields from to seconds from_is to_is seconds_is = rw (from_is, to_is, seconds_is, (with_row-numbers nodes fields).1) refl
 
 pub All-numbered-more : (rows : List (List (List ℕ))) (row : ℕ) (nodes : List ℕ) → row < length rows → All (IsRowNumbered nodes) (take row rows) → All (IsRowNumbered (with_row nodes (get_or rows row []))) (take (row + 1) rows)
 All-numbered-more rows row nodes within numbered =
     All-more (IsRowNumbered (with_row nodes (get_or rows row []))) rows row [] within (All-numbered nodes (get_or rows row []) (take row rows) numbered) (with_row-numbers nodes (get_or rows row [])).0
 
-pub All-arc_in : (nodes : List ℕ) (rows : List (List (List ℕ))) → All (IsRowNumbered nodes) rows → All (λ fields. seconds_in fields ≤ longest_arc) rows → All (IsArcAmong (length nodes)) (map (arc_in nodes) rows)
+pub All-arc_in : (nodes : List ℕ) (rows : List (List (List ℕ))) → All (IsRowNumbered nodes) rows → All (λ fields. arc_seconds fields ≤ longest_arc) rows → All (IsArcAmong (length nodes)) (map (arc_in nodes) rows)
 All-arc_in nodes rows numbered short = All-map (IsArcAmong (length nodes)) (arc_in nodes) rows (λ k d below. ((numbered k d below).0, (numbered k d below).1, short k d below))

@@ -2,3 +2,4 @@ pub mod Walk
 pub mod Roads
 pub mod Reading
 pub mod Storage
+pub mod work

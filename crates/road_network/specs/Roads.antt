@@ -1,5 +1,5 @@
-use Rattle.std.specs.Prelude.{ℕ, zero, suc, ◌<◌, ◌≤◌, ◌==◌, List, [], ◌++◌, All, length, filter, nat_eq}
-use Rattle.std.specs.List.{IsDistinct, position_or_len}
+use Rattle.std.specs.Prelude.{ℕ, zero, suc, ◌<◌, ◌≤◌, ◌==◌, Bool, List, [], ◌++◌, All, length, filter, nat_eq}
+use Rattle.std.specs.List.{IsDistinct, list_any, position_or_len}
 use Rattle.road_network.specs.Walk.{Arc}
 use Rattle.road_network.specs.declared.hop.Hop.{Hop}
 
@@ -11,6 +11,10 @@ pub record Roads : Type 0 where
 -- the index of a node: the place of its name
 abbrev pub index_in : List ℕ → ℕ → ℕ
 index_in nodes name = position_or_len (λ node. name == node) nodes
+
+-- a node is among these
+abbrev pub has_node : List ℕ → ℕ → Bool
+has_node nodes name = list_any (λ node. node == name) nodes
 
 -- the arcs that leave a node, in their order
 abbrev pub leaving : ℕ → List Arc → List Arc

@@ -32,7 +32,7 @@ pub struct Network {
 impl Model for Network {
     ghost use Rattle.std.specs.Prelude.{length};
     ghost use Rattle.road_network.specs.Roads.{Roads};
-    ghost use Rattle.road_network.specs.Storage.{stored_arcs, IsStored};
+    ghost use Rattle.road_network.specs.work.Storage.{stored_arcs, ArePacked};
 
     ghost Value = { Roads };
 
@@ -41,7 +41,7 @@ impl Model for Network {
       arcs = stored_arcs (length a.names.keys) a.ends.items a.hops.items;
     } };
 
-    ghost invariant = { λ a. IsStored a.names.keys a.ends.items a.hops.items };
+    ghost invariant = { λ a. ArePacked a.names.keys a.ends.items a.hops.items };
 }
 
 impl Network {

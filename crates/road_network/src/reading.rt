@@ -1,7 +1,9 @@
 ghost use Rattle.std.specs.Prelude.{◌≡◌, ◌≢◌, ◌+◌, ◌<◌, ◌≤◌, Ok, Err, Some, None, All, length, map, IfOk, IfErr, MatchResult};
 ghost use Rattle.pool_io.specs.Table.{record_at};
 ghost use Rattle.road_network.specs.Roads.{IsArcAmong, greatest_name, index_in, longest_arc, most_arcs, most_nodes};
-ghost use Rattle.road_network.specs.Reading.{arc_in, field_refusal, first_refusal, name_in, network_of, nodes_of, seconds_in, with_node};
+ghost use Rattle.road_network.specs.Reading.{arc_in, field_refusal, first_refusal, network_of, nodes_of, arc_seconds};
+ghost use Rattle.pool_base.specs.Numeral.{number_at};
+ghost use Rattle.road_network.specs.work.Numbering.{with_node};
 
 use crate::arc::Arc;
 use crate::fault::NetworkFault;
@@ -33,9 +35,9 @@ fn read_row(rows: &Rows, row: usize) -> Result<NamedArc, NetworkFault>
     requires row { row < length rows.now.records }
     requires few { row < 400000 }
     ensures accepted { IfOk result (λ arc. (field_refusal (row + 1) (record_at rows.now row) ≡ None)
-        × (arc.from ≡ name_in (record_at rows.now row) 0)
-        × (arc.to ≡ name_in (record_at rows.now row) 1)
-        × (arc.seconds ≡ seconds_in (record_at rows.now row))) }
+        × (arc.from ≡ number_at (record_at rows.now row) 0)
+        × (arc.to ≡ number_at (record_at rows.now row) 1)
+        × (arc.seconds ≡ arc_seconds (record_at rows.now row))) }
     ensures small { IfOk result (λ arc. (arc.from ≤ greatest_name) × (arc.to ≤ greatest_name)
         × (arc.seconds ≤ longest_arc)) }
     ensures refused { IfErr result (λ fault. field_refusal (row + 1) (record_at rows.now row) ≡ Some fault) }

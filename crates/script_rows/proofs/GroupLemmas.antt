@@ -7,9 +7,15 @@ use Rattle.std.proofs.lemmas.List.Elements.{All-head, All-tail, filter-append}
 use Rattle.request_book.specs.declared.command.Command.{Command}
 use Rattle.script_rows.specs.declared.line.Line.{Line}
 use Rattle.script_rows.specs.Round.{NumberedLanes}
-use Rattle.script_rows.specs.Building.{empty_round, with_command}
+use Rattle.script_rows.specs.work.Building.{empty_round, with_command}
 use Rattle.script_rows.specs.Script.{commands_of, round_of}
-use Rattle.script_rows.proofs.DistinctLemmas.{map-agree}
+
+-- two functions that agree on a list map it alike
+pub map-agree : {X Y : Type 0} (f g : X → Y) (xs : List X) → All (λ x. f x ≡ g x) xs → map f xs ≡ map g xs
+map-agree f g [] agree = refl
+map-agree f g (x ∷ xs) agree =
+    ap (λ y. y ∷ map f xs) (All-head (λ k. f k ≡ g k) x xs agree)
+    ∙ ap (λ ys. g x ∷ ys) (map-agree f g xs (All-tail (λ k. f k ≡ g k) x xs agree))
 
 -- whether a row is one of a round's lane
 abbrev is_of : ℕ → ℕ → Line → Bool

@@ -1,28 +1,23 @@
-use Rattle.std.proofs.Common.{◌≡◌, ℕ, Bool, true, false, not, ◌&&◌, eqb, nat_lt, List, Result, Ok, Err, refl, subst, arith}
+use Rattle.std.proofs.Common.{◌≡◌, ℕ, false, not, ◌&&◌, eqb, nat_lt, List, Result, Ok, subst, arith}
 use Rattle.std.specs.Option.{ok_or}
 use Rattle.std.proofs.lemmas.Bool.{ltb-false, eqb-true, not-false}
 use Rattle.pool_io.specs.Table.{field_at}
+use Rattle.pool_base.specs.InOrder.{refused_where}
+use Rattle.pool_base.specs.Numeral.{number_in, number_at}
+use Rattle.pool_base.proofs.lemmas.InOrderLemmas.{then_ok, refused_where-passed}
+use Rattle.pool_base.proofs.lemmas.NumeralLemmas.{number_in-at, number_in-within}
 use Rattle.request_book.specs.declared.command.Command.{Command}
 use Rattle.request_book.specs.declared.command.Command.TheVariants.{Submit as submit, Cancel as cancel, Report as report, Pickup as pickup, Dropoff as dropoff, Seal as seal}
 use Rattle.script_rows.specs.declared.fault.ScriptFault.{ScriptFault}
-use Rattle.script_rows.specs.declared.fault.ScriptFault.TheVariants.{LaneRange, RoundBack, UnknownCommand, ExtraField, SealLane}
+use Rattle.script_rows.specs.declared.fault.ScriptFault.TheVariants.{Number, LaneRange, RoundBack, UnknownCommand, ExtraField, SealLane}
 use Rattle.script_rows.specs.declared.line.Line.{Line}
 use Rattle.script_rows.specs.declared.version.ScriptVersion.{ScriptVersion}
 use Rattle.script_rows.specs.declared.word.Word.{Word}
 use Rattle.script_rows.specs.declared.word.Word.TheVariants.{Submit, Cancel, Report, Pickup, Dropoff, Seal}
 use Rattle.script_rows.specs.Word.{word_of}
-use Rattle.script_rows.specs.Line.{◌>>=◌, refused_where, number_in, party_in, submit_in, report_in, pickup_in, dropoff_in, command_in, leaves_empty, is_seal, line_in}
+use Rattle.script_rows.specs.Line.{party_in, submit_in, report_in, pickup_in, dropoff_in, command_in, leaves_empty, is_seal, line_in}
 use Rattle.script_rows.specs.Round.{MayStand}
-use Rattle.script_rows.specs.Building.{IsBehind}
-
--- what comes after a step that answers, answers only where the step does
-then_ok : {A B : Type 0} (r : Result A ScriptFault) (next : A → Result B ScriptFault) (b : B) (P : Type 0) → (r >>= next) ≡ Ok b → ((a : A) → r ≡ Ok a → next a ≡ Ok b → P) → P
-then_ok (Ok a) next b P is gives = gives a refl is
-then_ok (Err fault) next b P is gives = absurd cc
-
-passed : (t : Bool) (fault : ScriptFault) (u : Unit {0}) → refused_where t fault ≡ Ok u → t ≡ false
-passed true fault u is = absurd cc
-passed false fault u is = refl
+use Rattle.script_rows.specs.work.Building.{IsBehind}
 
 -- where a step answers with a command that stands, so does its answer
 stands_as : (lane : ℕ) (made command : Command) → ◌≡◌ {A = Result Command ScriptFault} (Ok made) (Ok command) → MayStand lane made → MayStand lane command
@@ -32,49 +27,57 @@ stands_as lane made command is stands = let same : made ≡ command = cc in subs
 MayStand-command_in : (version : ScriptVersion) (row : ℕ) (fields : List (List ℕ)) (word : Word) (command : Command) (lane : ℕ) → command_in version row fields word ≡ Ok command → (is_seal word && not (eqb lane 0)) ≡ false → MayStand lane command
 unfolding command_in submit_in report_in pickup_in dropoff_in
 MayStand-command_in version row fields Submit command lane is stands =
-    then_ok (number_in row fields 3) _ command (MayStand lane command) is (λ rider _ is.
-    then_ok (number_in row fields 4) _ command (MayStand lane command) is (λ origin _ is.
-    then_ok (number_in row fields 5) _ command (MayStand lane command) is (λ destination _ is.
-    then_ok (number_in row fields 6) _ command (MayStand lane command) is (λ time _ is.
+    then_ok (number_in Number row fields 3) _ command (MayStand lane command) is (λ rider _ is.
+    then_ok (number_in Number row fields 4) _ command (MayStand lane command) is (λ origin _ is.
+    then_ok (number_in Number row fields 5) _ command (MayStand lane command) is (λ destination _ is.
+    then_ok (number_in Number row fields 6) _ command (MayStand lane command) is (λ time _ is.
     then_ok (party_in version row fields) _ command (MayStand lane command) is (λ party _ is.
     stands_as lane (submit rider origin destination time party) command is tt)))))
 MayStand-command_in version row fields Cancel command lane is stands =
-    then_ok (number_in row fields 3) _ command (MayStand lane command) is (λ rider _ is.
+    then_ok (number_in Number row fields 3) _ command (MayStand lane command) is (λ rider _ is.
     stands_as lane (cancel rider) command is tt)
 MayStand-command_in version row fields Report command lane is stands =
-    then_ok (number_in row fields 3) _ command (MayStand lane command) is (λ vehicle _ is.
-    then_ok (number_in row fields 4) _ command (MayStand lane command) is (λ node _ is.
-    then_ok (number_in row fields 5) _ command (MayStand lane command) is (λ time _ is.
+    then_ok (number_in Number row fields 3) _ command (MayStand lane command) is (λ vehicle _ is.
+    then_ok (number_in Number row fields 4) _ command (MayStand lane command) is (λ node _ is.
+    then_ok (number_in Number row fields 5) _ command (MayStand lane command) is (λ time _ is.
     stands_as lane (report vehicle node time) command is tt)))
 MayStand-command_in version row fields Pickup command lane is stands =
-    then_ok (number_in row fields 3) _ command (MayStand lane command) is (λ vehicle _ is.
-    then_ok (number_in row fields 4) _ command (MayStand lane command) is (λ rider _ is.
-    then_ok (number_in row fields 5) _ command (MayStand lane command) is (λ time _ is.
+    then_ok (number_in Number row fields 3) _ command (MayStand lane command) is (λ vehicle _ is.
+    then_ok (number_in Number row fields 4) _ command (MayStand lane command) is (λ rider _ is.
+    then_ok (number_in Number row fields 5) _ command (MayStand lane command) is (λ time _ is.
     stands_as lane (pickup vehicle rider time) command is tt)))
 MayStand-command_in version row fields Dropoff command lane is stands =
-    then_ok (number_in row fields 3) _ command (MayStand lane command) is (λ vehicle _ is.
-    then_ok (number_in row fields 4) _ command (MayStand lane command) is (λ rider _ is.
-    then_ok (number_in row fields 5) _ command (MayStand lane command) is (λ time _ is.
+    then_ok (number_in Number row fields 3) _ command (MayStand lane command) is (λ vehicle _ is.
+    then_ok (number_in Number row fields 4) _ command (MayStand lane command) is (λ rider _ is.
+    then_ok (number_in Number row fields 5) _ command (MayStand lane command) is (λ time _ is.
     stands_as lane (dropoff vehicle rider time) command is tt)))
 MayStand-command_in version row fields Seal command lane is stands =
-    then_ok (number_in row fields 3) _ command (MayStand lane command) is (λ now _ is.
+    then_ok (number_in Number row fields 3) _ command (MayStand lane command) is (λ now _ is.
     stands_as lane (seal now) command is (eqb-true lane 0 (not-false (eqb lane 0) stands)))
 
--- a row that is read stands behind the row before
-pub IsBehind-line_in : (version : ScriptVersion) (row last : ℕ) (fields : List (List ℕ)) (line : Line) → line_in version row last fields ≡ Ok line → IsBehind last line
+-- what is known of a row that is read: it stands behind the row before, and its round is the number in its first column
+pub record IsRead (fields : List (List ℕ)) (last : ℕ) (line : Line) : Type 0 where
+  pub behind : IsBehind last line
+  pub named : line.round ≡ number_at fields 0
+
+pub IsRead-line_in : (version : ScriptVersion) (row last : ℕ) (fields : List (List ℕ)) (line : Line) → line_in version row last fields ≡ Ok line → IsRead fields last line
 unfolding line_in
-IsBehind-line_in version row last fields line is =
-    then_ok (number_in row fields 0) _ line (IsBehind last line) is (λ round _ is.
-    then_ok (number_in row fields 1) _ line (IsBehind last line) is (λ lane _ is.
-    then_ok (refused_where (nat_lt 15 lane) (LaneRange row)) _ line (IsBehind last line) is (λ u in_range is.
-    then_ok (refused_where (nat_lt round last) (RoundBack row)) _ line (IsBehind last line) is (λ v forward is.
-    then_ok (ok_or (word_of (field_at fields 2)) (UnknownCommand row)) _ line (IsBehind last line) is (λ word _ is.
-    then_ok (command_in version row fields word) _ line (IsBehind last line) is (λ command read is.
-    then_ok (refused_where (not (leaves_empty version fields word)) (ExtraField row)) _ line (IsBehind last line) is (λ w _ is.
-    then_ok (refused_where (is_seal word && not (eqb lane 0)) (SealLane row)) _ line (IsBehind last line) is (λ x stands is.
+IsRead-line_in version row last fields line is =
+    then_ok (number_in Number row fields 0) _ line (IsRead fields last line) is (λ round numbered is.
+    then_ok (number_in Number row fields 1) _ line (IsRead fields last line) is (λ lane _ is.
+    then_ok (refused_where (nat_lt 15 lane) (LaneRange row)) _ line (IsRead fields last line) is (λ u in_range is.
+    then_ok (refused_where (nat_lt round last) (RoundBack row)) _ line (IsRead fields last line) is (λ v forward is.
+    then_ok (ok_or (word_of (field_at fields 2)) (UnknownCommand row)) _ line (IsRead fields last line) is (λ word _ is.
+    then_ok (command_in version row fields word) _ line (IsRead fields last line) is (λ command read is.
+    then_ok (refused_where (not (leaves_empty version fields word)) (ExtraField row)) _ line (IsRead fields last line) is (λ w _ is.
+    then_ok (refused_where (is_seal word && not (eqb lane 0)) (SealLane row)) _ line (IsRead fields last line) is (λ x stands is.
     let same : record { round = round; lane = lane; command = command } ≡ line = cc in
-    subst (IsBehind last) same (record {
-      round = ltb-false round last (passed (nat_lt round last) (RoundBack row) v forward);
-      lane = (let most = ltb-false 15 lane (passed (nat_lt 15 lane) (LaneRange row) u in_range) in omega arith);
-      stands = MayStand-command_in version row fields word command lane read (passed (is_seal word && not (eqb lane 0)) (SealLane row) x stands);
+    subst (IsRead fields last) same (record {
+      named = number_in-at Number row fields 0 round numbered;
+      behind = record {
+        number = number_in-within Number row fields 0 round numbered;
+        round = ltb-false round last (refused_where-passed (nat_lt round last) (RoundBack row) v forward);
+        lane = (let most = ltb-false 15 lane (refused_where-passed (nat_lt 15 lane) (LaneRange row) u in_range) in omega arith);
+        stands = MayStand-command_in version row fields word command lane read (refused_where-passed (is_seal word && not (eqb lane 0)) (SealLane row) x stands);
+      };
     })))))))))

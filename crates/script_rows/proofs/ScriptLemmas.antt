@@ -1,19 +1,21 @@
-use Rattle.std.proofs.Common.{◌≡◌, ◌≢◌, ◌⊎◌, ℕ, ◌+◌, ◌-◌, ◌<◌, ◌≤◌, true, false, ◌&&◌, cond, eqb, nat_lt, List, [], ◌∷◌, ◌++◌, map, length, get_or, drop, set, Result, Ok, Err, refl, sym, ap, subst, ◌∙◌, inl, inr, arith}
+use Rattle.std.proofs.Common.{◌≡◌, ◌≢◌, ◌⊎◌, ℕ, ◌+◌, ◌-◌, ◌<◌, ◌≤◌, true, false, ◌&&◌, cond, eqb, nat_lt, List, [], ◌∷◌, ◌++◌, map, length, get_or, set, Result, Ok, Err, refl, sym, ap, subst, ◌∙◌, inl, inr, arith}
 use Rattle.std.specs.List.{All, list_any}
 use Rattle.std.proofs.lemmas.Bool.{cases_order, lt-ltb, le-ltb, eq-eqb, ne_eqb, and_parts, ltb-true}
-use Rattle.std.proofs.lemmas.List.{append-nil, append_assoc, map-append, length_push, set_at, get_or_at, get_or_default, drop_more, drop_all}
+use Rattle.std.proofs.lemmas.List.{map-append, length_push, set_at, get_or_at, get_or_default}
 use Rattle.std.proofs.lemmas.List.Elements.{All-nil, All-push, All-weaker, All-same}
+use Rattle.pool_base.specs.Distinct.{distinct}
+use Rattle.pool_base.specs.InOrder.{◌>>=◌, all_or_first}
+use Rattle.pool_base.proofs.lemmas.DistinctLemmas.{any-more, distinct-push_new, distinct-push_old}
+use Rattle.pool_base.proofs.lemmas.InOrderLemmas.{all_or_first-err}
 use Rattle.script_rows.specs.declared.fault.ScriptFault.{ScriptFault}
 use Rattle.script_rows.specs.declared.fault.ScriptFault.TheVariants.{TooManyRows}
 use Rattle.script_rows.specs.declared.line.Line.{Line}
 use Rattle.script_rows.specs.declared.version.ScriptVersion.{ScriptVersion}
-use Rattle.script_rows.specs.Line.{◌>>=◌, line_in}
+use Rattle.script_rows.specs.Line.{line_in}
 use Rattle.script_rows.specs.Round.{NumberedLanes}
-use Rattle.script_rows.specs.Building.{IsBehind, empty_round, last_round, with_command, joins, with_line}
-use Rattle.script_rows.specs.Script.{lines_in, distinct, round_of, rounds_of, script_of}
-use Rattle.script_rows.proofs.LineLemmas.{IsBehind-line_in}
-use Rattle.script_rows.proofs.DistinctLemmas.{any-more, distinct-push_new, distinct-push_old, map-agree}
-use Rattle.script_rows.proofs.GroupLemmas.{round_of-push, round_of-push_other, round_of-none}
+use Rattle.script_rows.specs.work.Building.{IsBehind, empty_round, last_round, with_command, joins, with_line}
+use Rattle.script_rows.specs.Script.{round_before, line_at, lines_of, round_of, rounds_of, script_of}
+use Rattle.script_rows.proofs.GroupLemmas.{map-agree, round_of-push, round_of-push_other, round_of-none}
 
 -- a row that joins the last round
 pub with_line-joins : (rounds : List NumberedLanes) (line : Line) → joins rounds line.round ≡ true → with_line rounds line ≡ set rounds (length rounds - 1) (with_command (last_round rounds) line.lane line.command)
@@ -36,23 +38,23 @@ joins-push rounds round number =
     ∙ ap (λ (r : NumberedLanes). eqb r.number number) (last_round-push rounds round)
 
 -- the numbers of rows
-abbrev numbers : List Line → List ℕ
+abbrev pub numbers : List Line → List ℕ
 numbers lines = map (λ l. l.round) lines
 
 -- the last number of rows, and those before it
-record LastIs (lines : List Line) (last : ℕ) : Type 0 where
+pub record LastIs (lines : List Line) (last : ℕ) : Type 0 where
   front : List ℕ
   ends : distinct (numbers lines) ≡ front ++ last ∷ []
   before : All (λ n. n < last) front
   here : list_any (λ n. eqb n last) (numbers lines) ≡ true
 
 -- the rounds of rows whose numbers rise up to the last
-record Built (lines : List Line) (last : ℕ) (rounds : List NumberedLanes) : Type 0 where
-  made : rounds ≡ rounds_of lines
+pub record Built (lines : List Line) (last : ℕ) (rounds : List NumberedLanes) : Type 0 where
+  pub made : rounds ≡ rounds_of lines
   below : All (λ n. n ≤ last) (numbers lines)
   shape : (lines ≡ []) ⊎ LastIs lines last
 
-Built-none : Built [] 0 []
+pub Built-none : Built [] 0 []
 unfolding rounds_of
 Built-none = record { made = refl; below = All-nil (λ n. n ≤ 0); shape = inl refl }
 
@@ -128,7 +130,7 @@ later_line lines line front last within later ends before below =
     ∙ ap (map (round_of all)) (sym names)
 
 -- the rounds with one more row are the rounds of one row more
-Built-more : (lines : List Line) (last : ℕ) (rounds : List NumberedLanes) (line : Line) → Built lines last rounds → IsBehind last line → Built (lines ++ line ∷ []) line.round (with_line rounds line)
+pub Built-more : (lines : List Line) (last : ℕ) (rounds : List NumberedLanes) (line : Line) → Built lines last rounds → IsBehind last line → Built (lines ++ line ∷ []) line.round (with_line rounds line)
 Built-more lines last rounds line built behind =
     let found : list_any (λ n. eqb n line.round) (numbers (lines ++ line ∷ [])) ≡ true =
     ap (list_any (λ n. eqb n line.round)) (numbers-push lines line) ∙ any-more (λ n. eqb n line.round) (numbers lines) line.round (eq-eqb line.round line.round refl) in
@@ -170,53 +172,26 @@ Built-more lines last rounds line built behind =
           ]
     ]
 
--- the rounds behind these, as rows come, or the first refusal
-abbrev pub script_from : ScriptVersion → ℕ → ℕ → List NumberedLanes → List (List (List ℕ)) → Result (List NumberedLanes) ScriptFault
-script_from version row last rounds [] = Ok rounds
-script_from version row last rounds (fields ∷ records) =
-    line_in version row last fields >>= λ line. script_from version (row + 1) line.round (with_line rounds line) records
+-- a row that is read behind the row before
+pub line_at-read : (version : ScriptVersion) (records : List (List (List ℕ))) (row last : ℕ) (made : Result Line ScriptFault) → last ≡ round_before records row → line_in version (row + 1) last (get_or records row []) ≡ made → line_at version records row ≡ made
+line_at-read version records row last made before is = ap (λ n. line_in version (row + 1) n (get_or records row [])) (sym before) ∙ is
 
--- the rows behind these, put behind them, give their rounds
-script_from-lines : (version : ScriptVersion) (row last : ℕ) (lines : List Line) (rounds : List NumberedLanes) (records : List (List (List ℕ))) → Built lines last rounds → script_from version row last rounds records ≡ (lines_in version row last records >>= λ more. Ok (rounds_of (lines ++ more)))
-script_from-lines version row last lines rounds [] built = ap (λ rs. Ok rs) (built.made ∙ ap rounds_of (sym (append-nil lines)))
-script_from-lines version row last lines rounds (fields ∷ records) built =
-    by_line (λ line behind. script_from-lines version (row + 1) line.round (lines ++ line ∷ []) (with_line rounds line) records (Built-more lines last rounds line built behind))
-    (line_in version row last fields) (λ line is. IsBehind-line_in version row last fields line is)
-  where
-    joined : (line : Line) (r : Result (List Line) ScriptFault) → (r >>= λ more. Ok (rounds_of ((lines ++ line ∷ []) ++ more))) ≡ ((r >>= λ more. Ok (line ∷ more)) >>= λ more. Ok (rounds_of (lines ++ more)))
-    joined line (Err fault) = refl
-    joined line (Ok more) = ap (λ ls. Ok (rounds_of ls)) (append_assoc lines (line ∷ []) more)
+-- the rounds of few rows
+script_of-few : (version : ScriptVersion) (records : List (List (List ℕ))) → length records ≤ 200000 → script_of version records ≡ (lines_of version records >>= λ lines. Ok (rounds_of lines))
+script_of-few version records few =
+    ap (λ b. cond b (Err TooManyRows) (lines_of version records >>= λ lines. Ok (rounds_of lines))) (le-ltb 200000 (length records) few)
 
-    by_line : ((line : Line) → IsBehind last line → script_from version (row + 1) line.round (with_line rounds line) records ≡ (lines_in version (row + 1) line.round records >>= λ more. Ok (rounds_of ((lines ++ line ∷ []) ++ more)))) → (r : Result Line ScriptFault) → ((line : Line) → r ≡ Ok line → IsBehind last line) → (r >>= λ line. script_from version (row + 1) line.round (with_line rounds line) records) ≡ ((r >>= λ line. (lines_in version (row + 1) line.round records >>= λ more. Ok (line ∷ more))) >>= λ more. Ok (rounds_of (lines ++ more)))
-    by_line later (Err fault) behind = refl
-    by_line later (Ok line) behind =
-        later line (behind line refl) ∙ joined line (lines_in version (row + 1) line.round records)
-
--- all rows, from the first on
-pub script_from-first : (version : ScriptVersion) (records : List (List (List ℕ))) → script_from version 1 0 [] records ≡ (lines_in version 1 0 records >>= λ lines. Ok (rounds_of lines))
-script_from-first version records = script_from-lines version 1 0 [] [] records Built-none
-
--- a row that is read
-pub script_from-step : (version : ScriptVersion) (row last : ℕ) (rounds : List NumberedLanes) (records : List (List (List ℕ))) (line : Line) → row < length records → line_in version (row + 1) last (get_or records row []) ≡ Ok line → script_from version (row + 1) last rounds (drop row records) ≡ script_from version (row + 1 + 1) line.round (with_line rounds line) (drop (row + 1) records)
-script_from-step version row last rounds records line within is =
-    ap (script_from version (row + 1) last rounds) (drop_more records row [] within)
-    ∙ ap (λ r. r >>= λ l. script_from version (row + 1 + 1) l.round (with_line rounds l) (drop (row + 1) records)) is
-
--- a row that is refused
-pub script_from-fault : (version : ScriptVersion) (row last : ℕ) (rounds : List NumberedLanes) (records : List (List (List ℕ))) (fault : ScriptFault) → row < length records → line_in version (row + 1) last (get_or records row []) ≡ Err fault → script_from version (row + 1) last rounds (drop row records) ≡ Err fault
-script_from-fault version row last rounds records fault within is =
-    ap (script_from version (row + 1) last rounds) (drop_more records row [] within)
-    ∙ ap (λ r. r >>= λ l. script_from version (row + 1 + 1) l.round (with_line rounds l) (drop (row + 1) records)) is
+-- the first row that is refused
+pub script_of-refused : (version : ScriptVersion) (records : List (List (List ℕ))) (row : ℕ) (lines : List Line) (fault : ScriptFault) → length records ≤ 200000 → row < length records → all_or_first (line_at version records) row ≡ Ok lines → line_at version records row ≡ Err fault → script_of version records ≡ Err fault
+script_of-refused version records row lines fault few within before here =
+    script_of-few version records few
+    ∙ ap (λ r. r >>= λ ls. Ok (rounds_of ls)) (all_or_first-err (line_at version records) (length records) row lines fault within before here)
 
 -- after the last row
-pub script_from-end : (version : ScriptVersion) (row place last : ℕ) (rounds : List NumberedLanes) (records : List (List (List ℕ))) → length records ≤ row → script_from version place last rounds (drop row records) ≡ Ok rounds
-script_from-end version row place last rounds records past = ap (script_from version place last rounds) (drop_all row records past)
-
--- a script of few rows
-pub script_of-few : (version : ScriptVersion) (records : List (List (List ℕ))) → length records ≤ 200000 → script_of version records ≡ script_from version 1 0 [] records
-script_of-few version records few =
-    ap (λ b. cond b (Err TooManyRows) (lines_in version 1 0 records >>= λ lines. Ok (rounds_of lines))) (le-ltb 200000 (length records) few)
-    ∙ sym (script_from-first version records)
+pub script_of-all : (version : ScriptVersion) (records : List (List (List ℕ))) (row : ℕ) (lines : List Line) → length records ≤ 200000 → row ≡ length records → all_or_first (line_at version records) row ≡ Ok lines → script_of version records ≡ Ok (rounds_of lines)
+script_of-all version records row lines few all before =
+    script_of-few version records few
+    ∙ ap (λ r. r >>= λ ls. Ok (rounds_of ls)) (ap (all_or_first (line_at version records)) (sym all) ∙ before)
 
 -- a command that is added to the last round, which has the row's number
 pub added_to_last : (rounds : List NumberedLanes) (line : Line) (count : ℕ) (there : NumberedLanes) → joins rounds line.round ≡ true → count ≡ length rounds → there ≡ get_or rounds (count - 1) there → set rounds (count - 1) (with_command there line.lane line.command) ≡ with_line rounds line

@@ -1,6 +1,5 @@
 pub mod Word
-pub mod Table
 pub mod Line
 pub mod Round
-pub mod Building
 pub mod Script
+pub mod work

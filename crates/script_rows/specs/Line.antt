@@ -1,7 +1,8 @@
-use Rattle.std.specs.Prelude.{ℕ, ◌+◌, Bool, true, false, not, ◌&&◌, List, Result, Ok, Err, length, nat_lt, nat_le, ◌==◌, if◌then◌else◌}
+use Rattle.std.specs.Prelude.{ℕ, Bool, true, false, not, ◌&&◌, List, Result, Ok, Err, length, nat_lt, nat_le, ◌==◌, if◌then◌else◌}
 use Rattle.std.specs.List.{list_all}
 use Rattle.std.specs.Option.{ok_or}
-use Rattle.pool_base.specs.Numeral.{number_up_to}
+use Rattle.pool_base.specs.InOrder.{◌>>=◌, refused_where}
+use Rattle.pool_base.specs.Numeral.{number_in}
 use Rattle.pool_io.specs.Table.{field_at}
 use Rattle.request_book.specs.declared.command.Command.{Command}
 use Rattle.request_book.specs.declared.command.Command.TheVariants.{Submit as submit, Cancel as cancel, Report as report, Pickup as pickup, Dropoff as dropoff, Seal as seal}
@@ -14,66 +15,55 @@ use Rattle.script_rows.specs.declared.word.Word.{Word}
 use Rattle.script_rows.specs.declared.word.Word.TheVariants.{Submit, Cancel, Report, Pickup, Dropoff, Seal}
 use Rattle.script_rows.specs.Word.{word_of, unused_by}
 
--- what comes next, unless there is a refusal
-infixl 10 ◌>>=◌
-abbrev pub ◌>>=◌ : {A B : Type 0} → Result A ScriptFault → (A → Result B ScriptFault) → Result B ScriptFault
-(Ok x) >>= next = next x
-(Err fault) >>= next = Err fault
-
--- a refusal where a test holds
-abbrev pub refused_where : Bool → ScriptFault → Result (Unit {0}) ScriptFault
-refused_where true fault = Err fault
-refused_where false fault = Ok tt
-
--- the number in a column, at most 1,000,000,000; a fault counts the columns from 1
-unfoldable pub number_in : ℕ → List (List ℕ) → ℕ → Result ℕ ScriptFault
-number_in row fields column = ok_or (number_up_to 1000000000 (field_at fields column)) (Number row (column + 1))
-
 -- the party of a request: one person in the first version, and what the last column says in the second
 unfoldable pub party_in : ScriptVersion → ℕ → List (List ℕ) → Result ℕ ScriptFault
 party_in One row fields = Ok 1
 party_in Two row fields = do
-  party ← number_in row fields 7
+  party ← number_in Number row fields 7
   if nat_le 1 party && nat_le party 6 then Ok party else Err (Party row)
 
+-- a request: its rider, the nodes, the second, and the party
 unfoldable pub submit_in : ScriptVersion → ℕ → List (List ℕ) → Result Command ScriptFault
 submit_in version row fields = do
-  rider ← number_in row fields 3
-  origin ← number_in row fields 4
-  destination ← number_in row fields 5
-  time ← number_in row fields 6
+  rider ← number_in Number row fields 3
+  origin ← number_in Number row fields 4
+  destination ← number_in Number row fields 5
+  time ← number_in Number row fields 6
   party ← party_in version row fields
   Ok (submit rider origin destination time party)
 
+-- a report of a vehicle at a node, at a second
 unfoldable pub report_in : ℕ → List (List ℕ) → Result Command ScriptFault
 report_in row fields = do
-  vehicle ← number_in row fields 3
-  node ← number_in row fields 4
-  time ← number_in row fields 5
+  vehicle ← number_in Number row fields 3
+  node ← number_in Number row fields 4
+  time ← number_in Number row fields 5
   Ok (report vehicle node time)
 
+-- a pickup by a vehicle of a rider, at a second
 unfoldable pub pickup_in : ℕ → List (List ℕ) → Result Command ScriptFault
 pickup_in row fields = do
-  vehicle ← number_in row fields 3
-  rider ← number_in row fields 4
-  time ← number_in row fields 5
+  vehicle ← number_in Number row fields 3
+  rider ← number_in Number row fields 4
+  time ← number_in Number row fields 5
   Ok (pickup vehicle rider time)
 
+-- a dropoff by a vehicle of a rider, at a second
 unfoldable pub dropoff_in : ℕ → List (List ℕ) → Result Command ScriptFault
 dropoff_in row fields = do
-  vehicle ← number_in row fields 3
-  rider ← number_in row fields 4
-  time ← number_in row fields 5
+  vehicle ← number_in Number row fields 3
+  rider ← number_in Number row fields 4
+  time ← number_in Number row fields 5
   Ok (dropoff vehicle rider time)
 
 -- the command of a row, by its word
 unfoldable pub command_in : ScriptVersion → ℕ → List (List ℕ) → Word → Result Command ScriptFault
 command_in version row fields Submit = submit_in version row fields
-command_in version row fields Cancel = number_in row fields 3 >>= λ rider. Ok (cancel rider)
+command_in version row fields Cancel = number_in Number row fields 3 >>= λ rider. Ok (cancel rider)
 command_in version row fields Report = report_in row fields
 command_in version row fields Pickup = pickup_in row fields
 command_in version row fields Dropoff = dropoff_in row fields
-command_in version row fields Seal = number_in row fields 3 >>= λ now. Ok (seal now)
+command_in version row fields Seal = number_in Number row fields 3 >>= λ now. Ok (seal now)
 
 -- a column is empty
 abbrev pub is_empty_in : List (List ℕ) → ℕ → Bool
@@ -91,8 +81,8 @@ is_seal _ = false
 -- a row behind a row of this round, or the first refusal; rows count from 1
 unfoldable pub line_in : ScriptVersion → ℕ → ℕ → List (List ℕ) → Result Line ScriptFault
 line_in version row last fields = do
-  round ← number_in row fields 0
-  lane ← number_in row fields 1
+  round ← number_in Number row fields 0
+  lane ← number_in Number row fields 1
   _ ← refused_where (nat_lt 15 lane) (LaneRange row)
   _ ← refused_where (nat_lt round last) (RoundBack row)
   word ← ok_or (word_of (field_at fields 2)) (UnknownCommand row)

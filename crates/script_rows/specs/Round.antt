@@ -1,4 +1,4 @@
-use Rattle.std.specs.Prelude.{◌≡◌, ℕ, List, [], length, slice_index_or}
+use Rattle.std.specs.Prelude.{◌≡◌, ℕ, ◌≤◌, List, [], length, slice_index_or}
 use Rattle.std.specs.List.{All}
 use Rattle.request_book.specs.declared.command.Command.{Command}
 use Rattle.request_book.specs.declared.command.Command.TheVariants.{Seal, Close}
@@ -20,5 +20,6 @@ MayStand lane _ = Unit {0}
 
 -- what every round keeps
 pub record IsRound (round : NumberedLanes) : Type 0 where
+  pub named : round.number ≤ 1000000000
   pub sixteen : length round.lanes ≡ 16
   pub stand : (lane : ℕ) → All (MayStand lane) (lane_at round lane)

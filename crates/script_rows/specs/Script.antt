@@ -1,25 +1,28 @@
-use Rattle.std.specs.Prelude.{ℕ, ◌+◌, not, ◌&&◌, List, [], ◌∷◌, Result, Ok, Err, map, length, nat_lt, ◌==◌, if◌then◌else◌}
+use Rattle.std.specs.Prelude.{ℕ, zero, suc, ◌+◌, ◌&&◌, List, [], Result, Ok, Err, map, length, slice_index_or, nat_lt, ◌==◌, if◌then◌else◌}
 use Rattle.std.specs.List.{filter, range_with_len}
+use Rattle.pool_base.specs.Distinct.{distinct}
+use Rattle.pool_base.specs.InOrder.{◌>>=◌, all_or_first}
+use Rattle.pool_base.specs.Numeral.{number_at}
 use Rattle.request_book.specs.declared.command.Command.{Command}
 use Rattle.script_rows.specs.declared.fault.ScriptFault.{ScriptFault}
 use Rattle.script_rows.specs.declared.fault.ScriptFault.TheVariants.{TooManyRows}
 use Rattle.script_rows.specs.declared.line.Line.{Line}
 use Rattle.script_rows.specs.declared.version.ScriptVersion.{ScriptVersion}
-use Rattle.script_rows.specs.Line.{◌>>=◌, line_in}
+use Rattle.script_rows.specs.Line.{line_in}
 use Rattle.script_rows.specs.Round.{NumberedLanes}
 
--- the rows behind a row of a round, or the first refusal
-abbrev pub lines_in : ScriptVersion → ℕ → ℕ → List (List (List ℕ)) → Result (List Line) ScriptFault
-lines_in version row last [] = Ok []
-lines_in version row last (fields ∷ records) = do
-  line ← line_in version row last fields
-  lines ← lines_in version (row + 1) line.round records
-  Ok (line ∷ lines)
+-- the number in the first column of the row before a place, and 0 before the first row
+abbrev pub round_before : List (List (List ℕ)) → ℕ → ℕ
+round_before records zero = 0
+round_before records (suc place) = number_at (slice_index_or records place []) 0
 
--- numbers, each once, in the order in which they first come
-abbrev pub distinct : List ℕ → List ℕ
-distinct [] = []
-distinct (n ∷ ns) = n ∷ filter (λ m. not (m == n)) (distinct ns)
+-- the row at a place, behind the row before it, or why it is refused
+abbrev pub line_at : ScriptVersion → List (List (List ℕ)) → ℕ → Result Line ScriptFault
+line_at version records place = line_in version (place + 1) (round_before records place) (slice_index_or records place [])
+
+-- all rows, or the first refusal
+abbrev pub lines_of : ScriptVersion → List (List (List ℕ)) → Result (List Line) ScriptFault
+lines_of version records = all_or_first (line_at version records) (length records)
 
 -- the commands of a round's lane, in the order of the rows
 abbrev pub commands_of : List Line → ℕ → ℕ → List Command
@@ -37,4 +40,4 @@ rounds_of lines = map (round_of lines) (distinct (map (λ l. l.round) lines))
 abbrev pub script_of : ScriptVersion → List (List (List ℕ)) → Result (List NumberedLanes) ScriptFault
 script_of version records =
     if nat_lt 200000 (length records) then Err TooManyRows
-    else (lines_in version 1 0 records >>= λ lines. Ok (rounds_of lines))
+    else (lines_of version records >>= λ lines. Ok (rounds_of lines))

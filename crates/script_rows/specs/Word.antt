@@ -1,23 +1,24 @@
 use Rattle.std.specs.Prelude.{ℕ, ◌+◌, ◌-◌, List, [], ◌∷◌, Bool, Option, codes}
 use Rattle.std.specs.List.{find, range_with_len}
 use Rattle.std.specs.Str.{bytes_eq}
+use Rattle.pool_base.specs.Header.{script_header, party_header}
 use Rattle.script_rows.specs.declared.version.ScriptVersion.{ScriptVersion}
 use Rattle.script_rows.specs.declared.version.ScriptVersion.TheVariants.{One, Two}
 use Rattle.script_rows.specs.declared.word.Word.{Word}
 use Rattle.script_rows.specs.declared.word.Word.TheVariants.{Submit, Cancel, Report, Pickup, Dropoff, Seal}
 
 -- the word of a command
-abbrev pub name_of : Word → List ℕ
-name_of Submit = codes "submit"
-name_of Cancel = codes "cancel"
-name_of Report = codes "report"
-name_of Pickup = codes "pickup"
-name_of Dropoff = codes "dropoff"
-name_of Seal = codes "seal"
+abbrev pub command_word : Word → List ℕ
+command_word Submit = codes "submit"
+command_word Cancel = codes "cancel"
+command_word Report = codes "report"
+command_word Pickup = codes "pickup"
+command_word Dropoff = codes "dropoff"
+command_word Seal = codes "seal"
 
 -- a field names a command
 abbrev pub is_named : List ℕ → Word → Bool
-is_named field word = bytes_eq (name_of word) field
+is_named field word = bytes_eq (command_word word) field
 
 -- the command that a field names
 unfoldable pub word_of : List ℕ → Option Word
@@ -30,8 +31,8 @@ columns_of Two = 8
 
 -- the header line of a script
 abbrev pub header_of : ScriptVersion → List ℕ
-header_of One = codes "round,lane,command,a,b,c,d"
-header_of Two = codes "round,lane,command,a,b,c,d,e"
+header_of One = script_header
+header_of Two = party_header
 
 -- how many of the columns behind its word a command uses
 abbrev pub used_by : ScriptVersion → Word → ℕ

@@ -1,8 +1,9 @@
 ghost use Rattle.std.specs.Prelude.{◌≡◌, ◌+◌, ◌-◌, ◌<◌, ◌≤◌, length, IfOk};
 ghost use Rattle.std.specs.List.{list_all, range_with_len};
 ghost use Rattle.pool_io.specs.Table.{record_at};
-ghost use Rattle.script_rows.specs.Table.{IsRowOf, IsFieldOf};
-ghost use Rattle.script_rows.specs.Line.{number_in, party_in, submit_in, report_in, pickup_in, dropoff_in, command_in, is_empty_in, leaves_empty};
+ghost use Rattle.pool_base.specs.Numeral.{number_in};
+ghost use Rattle.script_rows.specs.work.Row.{IsScriptRow, IsScriptField};
+ghost use Rattle.script_rows.specs.Line.{party_in, submit_in, report_in, pickup_in, dropoff_in, command_in, is_empty_in, leaves_empty};
 
 use crate::fault::ScriptFault;
 use crate::version::ScriptVersion;
@@ -13,10 +14,9 @@ use request_book::Command;
 
 /// The number in a column of a row, at most 1,000,000,000. Rows and columns count from 0, in a fault
 /// from 1.
-#[tactic(auto, unfolding(crate::specs::Line::number_in))]
 pub(crate) fn number(rows: &Rows, row: usize, column: usize) -> Result<u32, ScriptFault>
-    requires { IsFieldOf rows.now row column }
-    ensures value { result ≡ number_in (row + 1) (record_at rows.now row) column }
+    requires { IsScriptField rows.now row column }
+    ensures value { result ≡ number_in ScriptFault.Number (row + 1) (record_at rows.now row) column }
     ensures within { IfOk result (λ n. n ≤ 1000000000) }
 {
     match read_number_up_to(rows.field(row, column), 1_000_000_000) {
@@ -29,32 +29,32 @@ pub(crate) fn number(rows: &Rows, row: usize, column: usize) -> Result<u32, Scri
 }
 
 fn rider(rows: &Rows, row: usize, column: usize) -> Result<RiderId, ScriptFault>
-    requires { IsFieldOf rows.now row column }
-    ensures { result ≡ number_in (row + 1) (record_at rows.now row) column }
+    requires { IsScriptField rows.now row column }
+    ensures { result ≡ number_in ScriptFault.Number (row + 1) (record_at rows.now row) column }
 {
     let n = number(rows, row, column)?;
     Ok(RiderId::new(u64::from(n)).unwrap())
 }
 
 fn vehicle(rows: &Rows, row: usize, column: usize) -> Result<VehicleId, ScriptFault>
-    requires { IsFieldOf rows.now row column }
-    ensures { result ≡ number_in (row + 1) (record_at rows.now row) column }
+    requires { IsScriptField rows.now row column }
+    ensures { result ≡ number_in ScriptFault.Number (row + 1) (record_at rows.now row) column }
 {
     let n = number(rows, row, column)?;
     Ok(VehicleId::new(u64::from(n)).unwrap())
 }
 
 fn node(rows: &Rows, row: usize, column: usize) -> Result<NodeId, ScriptFault>
-    requires { IsFieldOf rows.now row column }
-    ensures { result ≡ number_in (row + 1) (record_at rows.now row) column }
+    requires { IsScriptField rows.now row column }
+    ensures { result ≡ number_in ScriptFault.Number (row + 1) (record_at rows.now row) column }
 {
     let n = number(rows, row, column)?;
     Ok(NodeId::new(u64::from(n)).unwrap())
 }
 
 fn second(rows: &Rows, row: usize, column: usize) -> Result<Second, ScriptFault>
-    requires { IsFieldOf rows.now row column }
-    ensures { result ≡ number_in (row + 1) (record_at rows.now row) column }
+    requires { IsScriptField rows.now row column }
+    ensures { result ≡ number_in ScriptFault.Number (row + 1) (record_at rows.now row) column }
 {
     let n = number(rows, row, column)?;
     Ok(Second::new(u64::from(n)).unwrap())
@@ -63,7 +63,7 @@ fn second(rows: &Rows, row: usize, column: usize) -> Result<Second, ScriptFault>
 /// The party of a request: one person in the first version, and the last column in the second.
 #[tactic(auto, unfolding(crate::specs::Line::party_in))]
 fn party(rows: &Rows, row: usize, version: ScriptVersion) -> Result<Party, ScriptFault>
-    requires { IsRowOf rows.now row version }
+    requires { IsScriptRow rows.now row version }
     ensures { result ≡ party_in version (row + 1) (record_at rows.now row) }
 {
     match version {
@@ -82,7 +82,7 @@ fn party(rows: &Rows, row: usize, version: ScriptVersion) -> Result<Party, Scrip
 
 #[tactic(auto, unfolding(crate::specs::Line::submit_in))]
 fn submit(rows: &Rows, row: usize, version: ScriptVersion) -> Result<Command, ScriptFault>
-    requires { IsRowOf rows.now row version }
+    requires { IsScriptRow rows.now row version }
     ensures { result ≡ submit_in version (row + 1) (record_at rows.now row) }
 {
     Ok(Command::Submit {
@@ -96,7 +96,7 @@ fn submit(rows: &Rows, row: usize, version: ScriptVersion) -> Result<Command, Sc
 
 #[tactic(auto, unfolding(crate::specs::Line::report_in))]
 fn report(rows: &Rows, row: usize, version: ScriptVersion) -> Result<Command, ScriptFault>
-    requires { IsRowOf rows.now row version }
+    requires { IsScriptRow rows.now row version }
     ensures { result ≡ report_in (row + 1) (record_at rows.now row) }
 {
     Ok(Command::Report {
@@ -108,7 +108,7 @@ fn report(rows: &Rows, row: usize, version: ScriptVersion) -> Result<Command, Sc
 
 #[tactic(auto, unfolding(crate::specs::Line::pickup_in))]
 fn pickup(rows: &Rows, row: usize, version: ScriptVersion) -> Result<Command, ScriptFault>
-    requires { IsRowOf rows.now row version }
+    requires { IsScriptRow rows.now row version }
     ensures { result ≡ pickup_in (row + 1) (record_at rows.now row) }
 {
     Ok(Command::Pickup {
@@ -120,7 +120,7 @@ fn pickup(rows: &Rows, row: usize, version: ScriptVersion) -> Result<Command, Sc
 
 #[tactic(auto, unfolding(crate::specs::Line::dropoff_in))]
 fn dropoff(rows: &Rows, row: usize, version: ScriptVersion) -> Result<Command, ScriptFault>
-    requires { IsRowOf rows.now row version }
+    requires { IsScriptRow rows.now row version }
     ensures { result ≡ dropoff_in (row + 1) (record_at rows.now row) }
 {
     Ok(Command::Dropoff {
@@ -138,7 +138,7 @@ pub(crate) fn command(
     version: ScriptVersion,
     word: Word,
 ) -> Result<Command, ScriptFault>
-    requires { IsRowOf rows.now row version }
+    requires { IsScriptRow rows.now row version }
     ensures { result ≡ command_in version (row + 1) (record_at rows.now row) word }
 {
     match word {
@@ -158,7 +158,7 @@ pub(crate) fn command(
 /// Whether every column that a command doesn't use is empty.
 #[tactic(auto, unfolding(crate::specs::Line::leaves_empty))]
 pub(crate) fn leaves_empty(rows: &Rows, row: usize, version: ScriptVersion, word: Word) -> bool
-    requires { IsRowOf rows.now row version }
+    requires { IsScriptRow rows.now row version }
     ensures { result ≡ leaves_empty version (record_at rows.now row) word }
 {
     are_empty(rows, row, 3 + word.used(version), version.columns())

@@ -1,9 +1,9 @@
 ghost use Rattle.std.specs.Prelude.{◌≡◌, ◌≢◌, ◌+◌, ◌<◌, length, IsTrue, Ok, Err, IfOk, IfErr, OnOk};
 ghost use Rattle.pool_io.specs.Table.{record_at};
 ghost use Rattle.script_rows.specs.Word.{columns_of};
-ghost use Rattle.script_rows.specs.Table.{IsRowOf};
+ghost use Rattle.script_rows.specs.work.Row.{IsScriptRow};
 ghost use Rattle.script_rows.specs.Line.{line_in};
-ghost use Rattle.script_rows.specs.Building.{IsBehind, joins, with_line};
+ghost use Rattle.script_rows.specs.work.Building.{IsBehind, joins, with_line};
 ghost use Rattle.script_rows.specs.Script.{script_of};
 
 use crate::fault::ScriptFault;
@@ -24,7 +24,7 @@ fn read_line(
     version: ScriptVersion,
     last: u32,
 ) -> Result<Line, ScriptFault>
-    requires { IsRowOf rows.now row version }
+    requires { IsScriptRow rows.now row version }
     ensures { result ≡ line_in version (row + 1) last (record_at rows.now row) }
 {
     let place = row as u64 + 1;
@@ -88,9 +88,10 @@ fn add_line(alloc: Global, rounds: &mut Vec<Round>, line: Line) -> Result<(), Sc
 /// The script that rows give: of the first version without a party, of the second with one.
 ///
 /// More than 200,000 rows are refused. Else the first fault is given, row for row, and in each row in
-/// this order: the numbers of round and lane, the lane's range, a round below the row before, an unknown
-/// command, the numbers of the fields that the command uses, the party, a field that it doesn't use and
-/// that isn't empty, a seal outside lane 0.
+/// this order: the number of the round, the number of the lane, a lane above 15, a round below the round
+/// of the row before, an unknown command, the numbers of the fields that the command uses, from the left,
+/// a party that is not 1 to 6, a field that the command doesn't use and that isn't empty, a seal in
+/// another lane than 0.
 pub fn read_script(
     alloc: Global,
     rows: &Rows,

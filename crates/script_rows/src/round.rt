@@ -1,4 +1,4 @@
-ghost use Rattle.std.specs.Prelude.{◌≡◌, ◌<◌, ◌++◌, ◌∷◌, [], replicate, IfOk, IfErr, OnOk, OnErr};
+ghost use Rattle.std.specs.Prelude.{◌≡◌, ◌<◌, ◌≤◌, ◌++◌, ◌∷◌, [], replicate, IfOk, IfErr, OnOk, OnErr};
 
 use crate::fault::ScriptFault;
 use request_book::Command;
@@ -31,7 +31,7 @@ impl Lane {
     }
 }
 
-/// The rows of one number: sixteen lanes, each with its commands in order.
+/// The rows of one number, which is at most 1,000,000,000: sixteen lanes, each with its commands in order.
 ///
 /// A seal stands in lane 0 alone, and no lane has a close.
 #[derive(Debug, Drop)]
@@ -52,14 +52,15 @@ impl Model for Round {
 
 impl Round {
     ghost use Rattle.script_rows.specs.Round.{IsRound, MayStand, lane_at};
-    ghost use Rattle.script_rows.specs.Building.{empty_round, with_command};
+    ghost use Rattle.script_rows.specs.work.Building.{empty_round, with_command};
 
     /// How many lanes a round has.
     pub const LANES: usize = 16;
 
     /// The number of the round's rows, at most 1,000,000,000.
     pub fn number(&self) -> u32
-        ensures { result ≡ self.now.number }
+        ensures value { result ≡ self.now.number }
+        ensures within { self.now.number ≤ 1000000000 }
     {
         self.number
     }
@@ -75,6 +76,7 @@ impl Round {
 
     // The round of a number, without commands.
     pub(crate) fn new(alloc: Global, number: u32) -> Result<Round, ScriptFault>
+        requires { number ≤ 1000000000 }
         ensures empty { IfOk result (λ round. round ≡ empty_round number) }
         ensures refused { IfErr result (λ fault. fault ≡ ScriptFault.OutOfMemory) }
     {

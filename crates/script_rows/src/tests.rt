@@ -20,18 +20,6 @@ fn read(
     }
 }
 
-// How many rounds a script has, or its refusal.
-fn outcome(
-    alloc: Global,
-    version: ScriptVersion,
-    text: &str,
-) -> Result<Result<usize, ScriptFault>, AllocError> {
-    match read(alloc, version, text)? {
-        Ok(script) => Ok(Ok(script.rounds().len())),
-        Err(fault) => Ok(Err(fault)),
-    }
-}
-
 fn show_command(text: &mut String, command: &Command) -> Result<(), AllocError> {
     let word = match command {
         Command::Submit {
@@ -110,83 +98,6 @@ fn answers_with_memory(rt: HostRuntime) -> Result<(), Fail> {
     assert_eq!(rt;
         text.as_str(),
         "round 3 lane 0 cancel[7] lane 1 submit[1, 2, 4, 0, 6] report[9, 2, 5] lane 15 pickup[9, 1, 60]\nround 7 lane 0 dropoff[9, 1, 1000000000] seal[80]\n"
-    );
-    Ok(())
-}
-
-#[test]
-fn faults_are_named_at_their_rows(rt: HostRuntime) -> Result<(), Fail> {
-    let table = [
-        ("0,0,fly,1,,,\n", ScriptFault::UnknownCommand { row: 1 }),
-        ("0,3,seal,0,,,\n", ScriptFault::SealLane { row: 1 }),
-        ("0,16,submit,1,2,4,0\n", ScriptFault::LaneRange { row: 1 }),
-        ("0,0,cancel,1,2,,\n", ScriptFault::ExtraField { row: 1 }),
-        (
-            "1,0,cancel,1,,,\n0,0,cancel,1,,,\n",
-            ScriptFault::RoundBack { row: 2 },
-        ),
-        (
-            "0,0,cancel,x,,,\n",
-            ScriptFault::Number { row: 1, column: 4 },
-        ),
-        (
-            "0,0,cancel,1,,,\n0,0,submit,1,2,4,1000000001\n",
-            ScriptFault::Number { row: 2, column: 7 },
-        ),
-        (
-            "x,16,fly,x,x,x,x\n",
-            ScriptFault::Number { row: 1, column: 1 },
-        ),
-        ("0,16,fly,x,x,x,x\n", ScriptFault::LaneRange { row: 1 }),
-        (
-            "5,1,cancel,1,,,\n4,1,fly,x,x,x,x\n",
-            ScriptFault::RoundBack { row: 2 },
-        ),
-        ("5,1,seal,0,x,,\n", ScriptFault::ExtraField { row: 1 }),
-    ];
-    for (text, fault) in table {
-        let read = outcome(rt.alloc(), ScriptVersion::One, text)?;
-        assert_eq!(rt; read, Err(fault), "at {text}");
-    }
-    Ok(())
-}
-
-#[test]
-fn parties_are_of_the_second_version(rt: HostRuntime) -> Result<(), Fail> {
-    let table = [
-        ("0,15,submit,1,2,4,1000000000,6\n", Ok(1)),
-        ("0,0,submit,1,2,4,0,7\n", Err(ScriptFault::Party { row: 1 })),
-        ("0,0,submit,1,2,4,0,0\n", Err(ScriptFault::Party { row: 1 })),
-        (
-            "0,0,submit,1,2,4,0,x\n",
-            Err(ScriptFault::Number { row: 1, column: 8 }),
-        ),
-        (
-            "0,0,cancel,1,,,,1\n",
-            Err(ScriptFault::ExtraField { row: 1 }),
-        ),
-    ];
-    for (text, wanted) in table {
-        let read = outcome(rt.alloc(), ScriptVersion::Two, text)?;
-        assert_eq!(rt; read, wanted, "at {text}");
-    }
-    Ok(())
-}
-
-#[test]
-fn as_many_rows_as_allowed_are_read(rt: HostRuntime) -> Result<(), Fail> {
-    let mut text = String::new(rt.alloc());
-    for _ in 0..200_000 {
-        text.push_str("8,1,cancel,1,,,\n")?;
-    }
-    assert_eq!(rt;
-        outcome(rt.alloc(), ScriptVersion::One, text.as_str())?,
-        Ok(1)
-    );
-    text.push_str("8,1,cancel,1,,,\n")?;
-    assert_eq!(rt;
-        outcome(rt.alloc(), ScriptVersion::One, text.as_str())?,
-        Err(ScriptFault::TooManyRows)
     );
     Ok(())
 }

@@ -16,10 +16,10 @@ pub(crate) enum Word {
 }
 
 impl Word {
-    ghost use Rattle.script_rows.specs.Word.{name_of, is_named, word_of, used_by};
+    ghost use Rattle.script_rows.specs.Word.{command_word, is_named, word_of, used_by};
 
     fn name(self) -> &'static str
-        ensures { result.now ≡ name_of self }
+        ensures { result.now ≡ command_word self }
     {
         match self {
             Word::Submit => "submit",

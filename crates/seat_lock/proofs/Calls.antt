@@ -5,7 +5,7 @@ use Rattle.std.proofs.lemmas.List.Elements.{filter-append}
 use Rattle.seat_lock.specs.declared.logged.Entry.{Entry}
 use Rattle.seat_lock.specs.declared.view.Claim.{Claim}
 use Rattle.seat_lock.specs.Values.{calls_of}
-use Rattle.seat_lock.specs.Rule.{Claimed, Laned, lane_weight}
+use Rattle.seat_lock.specs.work.Rule.{Claimed, Laned, lane_weight}
 use Rattle.seat_lock.proofs.Totals.{at, at-same}
 
 module _ {C R : Type 0} where

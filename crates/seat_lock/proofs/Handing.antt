@@ -8,9 +8,9 @@ use Rattle.seat_lock.specs.declared.logged.Entry.{Entry}
 use Rattle.seat_lock.specs.declared.view.View.{View}
 use Rattle.seat_lock.specs.declared.view.Stage.TheVariants.{Idle}
 use Rattle.seat_lock.specs.Values.{PassValue, calls_of}
-use Rattle.seat_lock.specs.Views.{claim, calls_in, lane_view, lanes_view, lane_given, lanes_kept, pass_value, IsPass}
-use Rattle.seat_lock.specs.Rule.{Claimed, Laned}
-use Rattle.seat_lock.specs.Passes.{claim_of}
+use Rattle.seat_lock.specs.work.Views.{claim, calls_in, lane_view, lanes_view, lane_given, lanes_kept, pass_value, IsPass}
+use Rattle.seat_lock.specs.work.Rule.{Claimed, Laned}
+use Rattle.seat_lock.specs.work.Passes.{claim_of}
 
 module _ {A : Type 0} where
   front_at : (xs ys : List A) (k : ℕ) (d : A) → k < length xs → get_or (xs ++ ys) k d ≡ get_or xs k d

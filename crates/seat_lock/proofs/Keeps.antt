@@ -17,11 +17,11 @@ use Rattle.seat_lock.specs.declared.view.Claim.{Claim}
 use Rattle.seat_lock.specs.declared.view.Stage.{Stage}
 use Rattle.seat_lock.specs.declared.view.Stage.TheVariants.{Idle, Waiting, InTurn}
 use Rattle.seat_lock.specs.Values.{calls_of}
-use Rattle.seat_lock.specs.Views.{fresh_claims, first_claim, other_claims, with_stage, in_turn, lane_view, first_view, spent_view, lane_given, lanes_kept, lanes_joined}
-use Rattle.seat_lock.specs.Rule.{total, below, ticket_weight, lane_weight, IsInTurn, Claimed, Laned, Knows, Agrees, Sound, IsHome, IsOut, Kept}
-use Rattle.seat_lock.specs.Moves.{since, drew, LooksAt, looked, noted, gave_way}
-use Rattle.seat_lock.specs.Passes.{IsClosed}
-use Rattle.seat_lock.specs.Turns.{CanNote, CanServe}
+use Rattle.seat_lock.specs.work.Views.{fresh_claims, first_claim, other_claims, with_stage, in_turn, lane_view, first_view, spent_view, lane_given, lanes_kept, lanes_joined}
+use Rattle.seat_lock.specs.work.Rule.{total, below, ticket_weight, lane_weight, IsInTurn, Claimed, Laned, Knows, Agrees, Sound, IsHome, IsOut, Kept}
+use Rattle.seat_lock.specs.work.Moves.{since, drew, LooksAt, looked, noted, gave_way}
+use Rattle.seat_lock.specs.work.Passes.{IsClosed}
+use Rattle.seat_lock.specs.work.Turns.{CanNote, CanServe}
 use Rattle.seat_lock.proofs.Totals.{total-set, total-append, term-le, terms-le, total-le, total-ext, at, at-same, below-past, below-hit, below-most, below-count, lane_weight-count, lane_weight-append, lane_weight-cut, length-fresh, fresh-most, fresh-within}
 use Rattle.seat_lock.proofs.Calls.{Claimed-push, Claimed-append, Laned-push}
 

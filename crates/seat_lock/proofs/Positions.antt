@@ -6,7 +6,7 @@ use Rattle.std.specs.List.{enumerate_from}
 use Rattle.std.proofs.lemmas.List.Sums.{sum_by-cons}
 use Rattle.seat_lock.specs.declared.logged.Entry.{Entry}
 use Rattle.seat_lock.specs.Values.{calls_of}
-use Rattle.seat_lock.specs.Rule.{below, Laned}
+use Rattle.seat_lock.specs.work.Rule.{below, Laned}
 use Rattle.seat_lock.proofs.Totals.{at, at-same, at-other}
 
 below-ext : (f h : ℕ → ℕ) (n : ℕ) → ((k : ℕ) → f k ≡ h k) → below f n ≡ below h n

@@ -5,8 +5,8 @@ use mathlib.Core.Logic.{dite}
 use native.Mathlib.Decide.{ℕ_discrete}
 use lib.ListN.{get_elem?}
 use Rattle.seat_lock.specs.declared.view.Claim.{Claim}
-use Rattle.seat_lock.specs.Rule.{total, below, lane_weight}
-use Rattle.seat_lock.specs.Views.{fresh_claims, first_claim, other_claims}
+use Rattle.seat_lock.specs.work.Rule.{total, below, lane_weight}
+use Rattle.seat_lock.specs.work.Views.{fresh_claims, first_claim, other_claims}
 
 module _ {A : Type 0} (f : A → ℕ) where
   pub total-set : (l : List A) (j : ℕ) (v w : A) → get_elem? l j ≡ some v → total f (set l j w) + f v ≡ total f l + f w

@@ -7,8 +7,8 @@ use Rattle.seat_lock.specs.declared.logged.Entry.{Entry}
 use Rattle.seat_lock.specs.declared.view.View.{View}
 use Rattle.seat_lock.specs.declared.view.Stage.TheVariants.{Idle, Waiting, InTurn}
 use Rattle.seat_lock.specs.Values.{calls_of}
-use Rattle.seat_lock.specs.Views.{claim, calls_in, with_stage, in_turn, lane_view}
-use Rattle.seat_lock.specs.Moves.{since, held, NotesAt}
+use Rattle.seat_lock.specs.work.Views.{claim, calls_in, with_stage, in_turn, lane_view}
+use Rattle.seat_lock.specs.work.Moves.{since, held, NotesAt}
 use Rattle.seat_lock.proofs.Calls.{calls-own}
 
 -- a seat holds one value

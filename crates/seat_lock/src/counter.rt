@@ -41,7 +41,7 @@ impl Counter {
 
 impl Logged for Counter {
     ghost use Rattle.std.specs.Prelude.{ℕ, ◌-◌, ◌<◌, true, map, vec_len, vec_capacity};
-    ghost use Rattle.seat_lock.specs.Counted.{entry_of};
+    ghost use Rattle.seat_lock.specs.work.Counted.{entry_of};
 
     type Call = u64;
 

@@ -2,8 +2,8 @@
 ghost use Rattle.std.specs.Prelude.{◌≡◌, ℕ, ◌<◌, ◌≤◌, [], ◌∷◌, length, vec_len, vec_capacity, All, Some, slice_index_or};
 ghost use Rattle.seat_lock.specs.declared.view.Stage.TheVariants.{Idle};
 ghost use Rattle.seat_lock.specs.Values.{GainsCalls};
-ghost use Rattle.seat_lock.specs.Views.{first_view};
-ghost use Rattle.seat_lock.specs.Passes.{new_pass, AreReturned, HasAll, IsClosed};
+ghost use Rattle.seat_lock.specs.work.Views.{first_view};
+ghost use Rattle.seat_lock.specs.work.Passes.{new_pass, AreReturned, HasAll, IsClosed};
 
 use crate::logged::Logged;
 use crate::moves::{Lanes, Place, Queue};

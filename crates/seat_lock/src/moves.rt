@@ -26,8 +26,8 @@ pub(crate) struct InTurns<B> {
 }
 
 impl<B: Logged> TableRule<Option<B>, View<B, B::Call, B::Reply>, Key<B>> for InTurns<B> {
-    ghost use Rattle.seat_lock.specs.Rule.{Kept};
-    ghost use Rattle.seat_lock.specs.Views.{first_view};
+    ghost use Rattle.seat_lock.specs.work.Rule.{Kept};
+    ghost use Rattle.seat_lock.specs.work.Views.{first_view};
 
     ghost holds = { λ key. Kept B.root B.log B.spare key.opening.value key.lanes };
 
@@ -47,7 +47,7 @@ pub(crate) type Place<B> = Seat<Option<B>, View<B, <B as Logged>::Call, <B as Lo
 pub(crate) struct Draw;
 
 impl<B, C, R> Play<Option<B>, View<B, C, R>> for Draw {
-    ghost use Rattle.seat_lock.specs.Moves.{drew};
+    ghost use Rattle.seat_lock.specs.work.Moves.{drew};
 
     ghost then = { drew };
 }
@@ -57,7 +57,7 @@ pub(crate) struct Look<B> {
 }
 
 impl<B: Logged> Play<Option<B>, View<B, B::Call, B::Reply>> for Look<B> {
-    ghost use Rattle.seat_lock.specs.Moves.{looked};
+    ghost use Rattle.seat_lock.specs.work.Moves.{looked};
 
     ghost then = { looked B.root B.log B.spare };
 }
@@ -67,7 +67,7 @@ pub(crate) struct Note<B> {
 }
 
 impl<B: Logged> Play<Option<B>, View<B, B::Call, B::Reply>> for Note<B> {
-    ghost use Rattle.seat_lock.specs.Moves.{noted};
+    ghost use Rattle.seat_lock.specs.work.Moves.{noted};
 
     ghost then = { noted B.log };
 }
@@ -75,7 +75,7 @@ impl<B: Logged> Play<Option<B>, View<B, B::Call, B::Reply>> for Note<B> {
 pub(crate) struct Serve;
 
 impl<B, C, R> Play<Option<B>, View<B, C, R>> for Serve {
-    ghost use Rattle.seat_lock.specs.Moves.{gave_way};
+    ghost use Rattle.seat_lock.specs.work.Moves.{gave_way};
 
     ghost then = { gave_way };
 }
@@ -83,7 +83,7 @@ impl<B, C, R> Play<Option<B>, View<B, C, R>> for Serve {
 pub(crate) struct Lanes;
 
 impl<B, C, R> Split<View<B, C, R>> for Lanes {
-    ghost use Rattle.seat_lock.specs.Views.{lanes_kept, lane_given};
+    ghost use Rattle.seat_lock.specs.work.Views.{lanes_kept, lane_given};
 
     ghost left = { lanes_kept };
 
@@ -91,7 +91,7 @@ impl<B, C, R> Split<View<B, C, R>> for Lanes {
 }
 
 impl<B, C, R> Join<View<B, C, R>> for Lanes {
-    ghost use Rattle.seat_lock.specs.Views.{lanes_joined, spent_view};
+    ghost use Rattle.seat_lock.specs.work.Views.{lanes_joined, spent_view};
 
     ghost both = { lanes_joined };
 

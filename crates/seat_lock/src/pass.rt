@@ -1,7 +1,7 @@
 //! The pass of a lane.
 ghost use Rattle.std.specs.Prelude.{◌≡◌, [], ◌∷◌};
 ghost use Rattle.seat_lock.specs.declared.view.Stage.TheVariants.{Idle};
-ghost use Rattle.seat_lock.specs.Views.{claim};
+ghost use Rattle.seat_lock.specs.work.Views.{claim};
 
 use crate::logged::Logged;
 use crate::moves::Place;
@@ -17,7 +17,7 @@ pub struct Pass<B: Logged> {
 impl<B: Logged> Model for Pass<B> {
     ghost use Rattle.std.specs.Prelude.{◌≡◌};
     ghost use Rattle.seat_lock.specs.Values.{PassValue};
-    ghost use Rattle.seat_lock.specs.Views.{pass_value, IsPass};
+    ghost use Rattle.seat_lock.specs.work.Views.{pass_value, IsPass};
 
     ghost Value = { PassValue B B.Call B.Reply };
 

@@ -2,9 +2,9 @@
 ghost use Rattle.std.specs.Prelude.{◌≡◌, ◌≢◌, ℕ, ◌+◌, ◌%◌, ◌^◌, ◌<◌, length, [], ◌∷◌, Some, None};
 ghost use Rattle.atomic_table.specs.Table.{rest};
 ghost use Rattle.seat_lock.specs.declared.view.Stage.TheVariants.{Idle, Waiting, InTurn};
-ghost use Rattle.seat_lock.specs.Views.{with_stage};
-ghost use Rattle.seat_lock.specs.Moves.{TakesTurn, NotesAt, held};
-ghost use Rattle.seat_lock.specs.Turns.{IsSameSeat, CanDraw, CanNote, CanServe};
+ghost use Rattle.seat_lock.specs.work.Views.{with_stage};
+ghost use Rattle.seat_lock.specs.work.Moves.{TakesTurn, NotesAt, held};
+ghost use Rattle.seat_lock.specs.work.Turns.{IsSameSeat, CanDraw, CanNote, CanServe};
 
 use crate::logged::Logged;
 use crate::moves::{Draw, Look, Note, Place, Queue, Serve};

@@ -1,6 +1,6 @@
 -- From the calls of passes to the entries of a book.
 use Rattle.std.proofs.Common.{◌≡◌, ℕ, ◌<◌, List, [], ◌∷◌, ◌++◌, length, map, refl, sym, ap, subst, ◌∙◌}
-use Rattle.std.specs.Prelude.{All, slice_index_or, nat_lt, if◌then◌else◌}
+use Rattle.std.specs.Prelude.{All, nat_lt, if◌then◌else◌}
 use Rattle.std.proofs.lemmas.List.{append_cancel_left, map-append}
 use Rattle.std.proofs.lemmas.List.Elements.{All-map}
 use Rattle.request_book.specs.Book.{BookView, IsBook}
@@ -9,7 +9,6 @@ use Rattle.request_book.specs.Step.{step}
 use Rattle.request_book.specs.declared.command.Command.{Command}
 use Rattle.request_book.specs.declared.journal.Entry.{Entry}
 use Rattle.request_book.specs.declared.state.State.{State}
-use Rattle.request_book.proofs.LawLemmas.{rounds-join}
 use Rattle.seat_lock.specs.Values.{GainsCalls, calls_of}
 use Rattle.seat_lock.specs.declared.logged.Entry.{Entry as Logged}
 use Rattle.shared_book.specs.declared.locked.BookRoot.{BookRoot}
@@ -50,8 +49,9 @@ module _ (nodes : List ℕ) (wait : ℕ) where
 lanes-mapped : (n : ℕ) (calls : List (Logged Command LockedReply)) → All (λ c. c.lane < n) calls → All (λ e. e.lane < n) (map entry_of calls)
 lanes-mapped n calls all = All-map (λ (e : Entry). e.lane < n) entry_of calls all
 
-pub finished : (start book : BookView) (passes : List BookPass) → IsBook start → IsBook book → root_of book ≡ root_of start → GainsCalls (log_of start) (log_of book) passes → IsFinished start passes book
-finished start book passes opened closed root gains =
+pub finished : ((nodes : List ℕ) (wait : ℕ) (s : State) (round later : List Entry) → state_after nodes wait s (round ++ later) ≡ state_after nodes wait (state_after nodes wait s round) later)
+    → (start book : BookView) (passes : List BookPass) → IsBook start → IsBook book → root_of book ≡ root_of start → GainsCalls (log_of start) (log_of book) passes → IsFinished start passes book
+finished rounds_join start book passes opened closed root gains =
     let since : List Entry = map entry_of gains.since in
     let gained : calls_from start.nodes start.wait start.base book.entries ≡ log_of start ++ gains.since =
     sym (ap (λ (r : BookRoot). calls_from r.nodes r.wait r.base book.entries) root) ∙ gains.gained in
@@ -73,7 +73,7 @@ finished start book passes opened closed root gains =
           closed.state
           ∙ ap (λ (r : BookRoot). state_after r.nodes r.wait r.base book.entries) root
           ∙ ap (state_after start.nodes start.wait start.base) entries
-          ∙ rounds-join start.nodes start.wait start.base start.entries since
+          ∙ rounds_join start.nodes start.wait start.base start.entries since
           ∙ ap (λ (s : State). state_after start.nodes start.wait s since) (sym opened.state);
       cut = λ k d lt. gains.cut k d lt ∙ ap (calls_of k) (sym calls);
       lanes = lanes-mapped (length passes) gains.since gains.lanes;

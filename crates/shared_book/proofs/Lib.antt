@@ -1,4 +1,2 @@
 pub mod LockedLemmas
 pub mod FinishLemmas
-pub mod LaneLemmas
-pub mod PassLemmas

@@ -1,24 +1,24 @@
 -- The calls in a book's journal, entry by entry.
-use Rattle.std.proofs.Common.{◌≡◌, ℕ, suc, Bool, true, false, List, [], ◌∷◌, ◌++◌, length, Option, Some, None, refl, sym, ap, subst, ◌∙◌}
-use Rattle.std.specs.Prelude.{All, is_some}
+use Rattle.std.proofs.Common.{◌≡◌, ℕ, suc, false, List, [], ◌∷◌, ◌++◌, length, Option, Some, None, refl, sym, ap, subst, ◌∙◌}
+use Rattle.std.specs.Prelude.{All, option_map}
 use Rattle.batch_snapshot.specs.Batch.{Batch}
 use Rattle.batch_snapshot.specs.Points.{named_nodes}
-use Rattle.request_book.specs.Book.{BookView, IsApplied, IsBook, would_seal, batch_unless}
-use Rattle.request_book.specs.Consistent.{IsNode, NamesNodes}
-use Rattle.request_book.specs.Closing.{closed_state}
+use Rattle.request_book.specs.Book.{BookView, IsApplied, IsBook, batch_unless}
+use Rattle.request_book.specs.Consistent.{IsNode}
 use Rattle.request_book.specs.Replay.{state_after}
-use Rattle.request_book.specs.Sealing.{batch_of, one_more, sealed_state}
-use Rattle.request_book.specs.State.{find_rider}
-use Rattle.request_book.specs.Step.{answer, rider_becomes, vehicle_becomes, stands_at, picked_up, dropped_off, seal_refusal, submit_step, cancel_step, report_step, pickup_step, dropoff_step, seal_step, close_step, step}
+use Rattle.request_book.specs.Sealing.{batch_of, sealed_state}
+use Rattle.pool_io.specs.Faults.{one_more}
+use Rattle.request_book.specs.Step.{answer, seal_refusal, submit_step, cancel_step, report_step, pickup_step, dropoff_step, seal_step, close_step, step}
 use Rattle.request_book.specs.declared.command.Command.{Command}
 use Rattle.request_book.specs.declared.command.Command.TheVariants.{Submit, Cancel, Report, Pickup, Dropoff, Seal, Close}
 use Rattle.request_book.specs.declared.journal.Entry.{Entry}
 use Rattle.request_book.specs.declared.reply.BookRefusal.{BookRefusal}
 use Rattle.request_book.specs.declared.reply.Reply.{Reply}
-use Rattle.request_book.specs.declared.reply.Reply.TheVariants.{Accepted, Cancelled, Placed, Picked, Dropped, Sealed, Closed, Refused}
+use Rattle.request_book.specs.declared.reply.Reply.TheVariants.{Accepted, Cancelled, Placed, Picked, Dropped, Sealed, Closed}
 use Rattle.request_book.specs.declared.state.State.{State}
 use Rattle.seat_lock.specs.declared.logged.Entry.{Entry as Logged}
-use Rattle.shared_book.specs.Locked.{is_light, is_sealed, snapshot_after, snapshot_before, call_of, calls_from, log_of, root_of, Fits}
+use Rattle.shared_book.specs.Locked.{is_light, sealed_by, snapshot_after, call_of, calls_from, log_of, root_of, Fits}
+use Rattle.shared_book.specs.work.Locked.{snapshot_before}
 
 module _ (nodes : List ℕ) (wait : ℕ) where
   -- one more entry is one more call
@@ -75,12 +75,16 @@ pub same-root : (old new : BookView) → new.nodes ≡ old.nodes → new.wait �
 same-root old new nodes wait first base = λ i. record { nodes = nodes i; wait = wait i; first = first i; base = base i }
 
 -- a reply goes with the root and the command
-not-sealed : (s next : State) (o : Option BookRefusal) (reply : Reply) → is_sealed reply ≡ false → false ≡ is_sealed (answer s o reply next).1
+not-sealed : (s next : State) (o : Option BookRefusal) (reply : Reply) → sealed_by reply ≡ None → None ≡ sealed_by (answer s o reply next).1
 not-sealed s next None reply e = sym e
 not-sealed s next (Some refusal) reply e = refl
 
-pub step-sealed : (nodes : List ℕ) (wait : ℕ) (s : State) (command : Command) → is_some (snapshot_before wait s command) ≡ is_sealed (step nodes wait s command).1
-unfolding step submit_step cancel_step report_step pickup_step dropoff_step seal_step close_step
+-- the number of a batch, if any
+abbrev number_of : Option Batch → Option ℕ
+number_of = option_map (λ b. b.number)
+
+pub step-sealed : (nodes : List ℕ) (wait : ℕ) (s : State) (command : Command) → number_of (snapshot_before wait s command) ≡ sealed_by (step nodes wait s command).1
+unfolding step submit_step cancel_step report_step pickup_step dropoff_step seal_step close_step batch_of
 step-sealed nodes wait s (Submit rider origin destination time party) = not-sealed s _ _ Accepted refl
 step-sealed nodes wait s (Cancel rider) = not-sealed s _ _ Cancelled refl
 step-sealed nodes wait s (Report vehicle node time) = not-sealed s _ _ Placed refl
@@ -88,15 +92,14 @@ step-sealed nodes wait s (Pickup vehicle rider time) = not-sealed s _ _ Picked r
 step-sealed nodes wait s (Dropoff vehicle rider time) = not-sealed s _ _ Dropped refl
 step-sealed nodes wait s (Seal now) = by (seal_refusal s now)
   where
-    by : (o : Option BookRefusal) → is_some (batch_unless o (batch_of wait s now)) ≡ is_sealed (answer s o (Sealed (one_more s.batches)) (sealed_state wait s now)).1
+    by : (o : Option BookRefusal) → number_of (batch_unless o (batch_of wait s now)) ≡ sealed_by (answer s o (Sealed (one_more s.batches)) (sealed_state wait s now)).1
     by None = refl
     by (Some refusal) = refl
 step-sealed nodes wait s (Close batch outcome) = not-sealed s _ _ Closed refl
 
--- where a command seals a batch, it is a seal, the reply has the batch's number, and the batch stands sealed
+-- where a command seals a batch, it is a seal, and the batch stands sealed
 pub record HasSealed (command : Command) (after : State × Reply) (b : Batch) : Type 0 where
   pub seals : is_light command ≡ false
-  pub numbered : after.1 ≡ Sealed b.number
   pub stands : after.0.sealed ≡ Some b
 
 pub step-seals : (nodes : List ℕ) (wait : ℕ) (s : State) (command : Command) (b : Batch) → snapshot_before wait s command ≡ Some b → HasSealed command (step nodes wait s command) b
@@ -109,7 +112,7 @@ step-seals nodes wait s (Dropoff vehicle rider time) b e = absurd cc
 step-seals nodes wait s (Seal now) b e = by (seal_refusal s now) e
   where
     by : (o : Option BookRefusal) → batch_unless o (batch_of wait s now) ≡ Some b → HasSealed (Seal now) (answer s o (Sealed (one_more s.batches)) (sealed_state wait s now)) b
-    by None f = let is : batch_of wait s now ≡ b = cc in record { seals = refl; numbered = ap (λ t. Sealed t.number) is; stands = f }
+    by None f = record { seals = refl; stands = f }
     by (Some refusal) f = absurd cc
 step-seals nodes wait s (Close batch outcome) b e = absurd cc
 
@@ -122,8 +125,7 @@ applied-fits old new lane command reply snapshot book applied is =
     let state : new.state ≡ after.0 = ap (λ p. p.0) applied.stepped in
     let sealed : (b : Batch) → snapshot ≡ Some b → HasSealed command after b = λ b e. step-seals old.nodes old.wait old.state command b (sym is ∙ e) in
     record {
-      sealed = ap is_some is ∙ step-sealed old.nodes old.wait old.state command ∙ ap is_sealed (sym told);
+      sealed = ap number_of is ∙ step-sealed old.nodes old.wait old.state command ∙ ap sealed_by (sym told);
       named = λ b e. subst (λ nodes. All (IsNode nodes) (named_nodes b)) applied.nodes (book.named.sealed b (ap (λ (t : State). t.sealed) state ∙ (sealed b e).stands));
-      numbered = λ b e. told ∙ (sealed b e).numbered;
       seals = λ b e. (sealed b e).seals;
     }

@@ -1,16 +1,12 @@
 -- What lanes know of the book that they share.
-use Rattle.std.specs.Prelude.{◌≡◌, ℕ, ◌+◌, ◌<◌, ◌≤◌, ◌==◌, Bool, List, [], ◌∷◌, ◌++◌, length, All, Option, None, Some, is_some, slice_index_or, sum_by, count_by, nat_lt, if◌then◌else◌}
+use Rattle.std.specs.Prelude.{◌≡◌, ℕ, ◌+◌, ◌<◌, ◌≤◌, ◌==◌, List, [], ◌∷◌, ◌++◌, length, All, Option, slice_index_or, sum_by, count_by, nat_lt, if◌then◌else◌}
 use Rattle.batch_snapshot.specs.Batch.{Batch}
-use Rattle.batch_snapshot.specs.Points.{named_nodes}
 use Rattle.request_book.specs.Book.{BookView}
-use Rattle.request_book.specs.Consistent.{IsNode}
 use Rattle.request_book.specs.Replay.{state_after, RepliesAreSteps}
 use Rattle.request_book.specs.declared.command.Command.{Command}
 use Rattle.request_book.specs.declared.journal.Entry.{Entry}
 use Rattle.request_book.specs.declared.reply.Reply.{Reply}
-use Rattle.request_book.specs.declared.reply.Reply.TheVariants.{Sealed}
 use Rattle.seat_lock.specs.Values.{PassValue, calls_of, entry}
-use Rattle.seat_lock.specs.declared.logged.Entry.{Entry as Logged}
 use Rattle.shared_book.specs.declared.locked.LockedReply.{LockedReply}
 use Rattle.shared_book.specs.declared.shared.Receipt.{Receipt}
 use Rattle.shared_book.specs.Locked.{calls_from, Fits}
@@ -36,8 +32,8 @@ pub record HasCalledSome (nodes : List ℕ) (old : BookPass) (command : Command)
   pub called : HasCalled nodes old command receipt.position (with_snapshot receipt.reply snapshot) new
 
 -- the pass has no new call
-abbrev pub IsUntouched : BookPass → BookPass → Type 0
-IsUntouched old new = (new.calls ≡ old.calls) × (old.seen ≤ new.seen)
+abbrev pub IsSamePass : BookPass → BookPass → Type 0
+IsSamePass old new = (new.calls ≡ old.calls) × (old.seen ≤ new.seen)
 
 -- the book after all calls of these passes, in one history
 pub record IsFinished (start : BookView) (passes : List BookPass) (book : BookView) : Type 0 where

@@ -5,12 +5,10 @@
 //! replays; and that the snapshot which a seal handed out is the one that stood in the book at its entry.
 #![tactic(auto)]
 
-mod laws;
 mod locked;
 mod shared;
 #[cfg(test)]
 mod tests;
 
-pub use laws::{Judge, lanes_run_as_one, runs_join};
 pub use locked::{BookRoot, LockedBook, LockedReply};
 pub use shared::{Pass, Receipt, SealReceipt, SharedBook, UnfinishedBook};

@@ -3,12 +3,12 @@ ghost use Rattle.std.specs.Prelude.{◌≡◌, ◌≤◌, All, IfOk, IfErr, IsOk
 ghost use Rattle.request_book.specs.Book.{IsBook, IsLight};
 ghost use Rattle.request_book.specs.declared.command.Command.TheVariants.{Seal};
 ghost use Rattle.seat_lock.specs.Values.{AreAllPasses, IsNew, IsPassOf};
-ghost use Rattle.shared_book.specs.Shared.{with_snapshot, HasCalled, HasCalledSome, IsFinished, IsUntouched};
+ghost use Rattle.shared_book.specs.Shared.{with_snapshot, HasCalled, HasCalledSome, IsFinished, IsSamePass};
 
 use crate::locked::{LockedBook, LockedReply};
 use batch_snapshot::Snapshot;
 use pool_base::{OutOfMemory, Second};
-use request_book::{Book, Command, Reply};
+use request_book::{Book, Command, Reply, rounds_join};
 use seat_lock::{Played, Refused, SeatLock};
 use std::alloc::Global;
 use std::marker::Model;
@@ -91,7 +91,7 @@ impl SharedBook {
         requires { IsPassOf self.now pass.old }
         ensures pass { IsPassOf self.now pass.new × (pass.new.lane ≡ pass.old.lane) }
         ensures call { IfOk result (λ r. HasCalledSome self.now.start.nodes pass.old command r pass.new) }
-        ensures refused { OnErr result (IsUntouched pass.old pass.new) }
+        ensures refused { OnErr result (IsSamePass pass.old pass.new) }
 
         // Where the book has room, others have used it up.
         ensures light { OnErr result (IsLight command → self.now.start.spare ≤ pass.new.seen) }
@@ -113,7 +113,7 @@ impl SharedBook {
         requires { IsPassOf self.now pass.old }
         ensures pass { IsPassOf self.now pass.new × (pass.new.lane ≡ pass.old.lane) }
         ensures call { IfOk result (λ r. HasCalled self.now.start.nodes pass.old (Seal now) r.receipt.position (with_snapshot r.receipt.reply r.snapshot) pass.new) }
-        ensures refused { OnErr result (IsUntouched pass.old pass.new) }
+        ensures refused { OnErr result (IsSamePass pass.old pass.new) }
     {
         let seal = Command::Seal { now };
         let Played { position, reply } = self.lock.with_turn(rt, alloc, pass, seal)?;
@@ -129,6 +129,7 @@ impl SharedBook {
         ensures calls { IfOk result (λ book. IsFinished self.start passes.items book) }
         ensures kept { IfOk result IsBook }
     {
+        rounds_join();
         match self.lock.finish(passes) {
             Ok(locked) => Ok(locked.into_book()),
             Err(unfinished) => Err(UnfinishedBook {

@@ -1,232 +1,212 @@
-//! Four lanes on threads: one seals and closes, while the others hand in riders.
-ghost use Rattle.std.specs.Prelude.{◌≡◌};
+//! A worked script of two passes, call by call.
+ghost use Rattle.std.specs.Prelude.{◌≡◌, ◌<◌, vec_len};
 ghost use Rattle.seat_lock.specs.Values.{IsPassOf, AreAllPasses};
 
-use crate::{Pass, Receipt, SealReceipt, SharedBook};
-use batch_snapshot::Fleet;
-use pool_base::{NodeId, Party, RiderId, Second, Sequence};
+use crate::{Pass, SealReceipt, SharedBook};
+use arrayvec::ArrayVec;
+use fleet_state::{HEADER as FLEET_HEADER, read_fleet};
+use plan_rules::Tree;
+use pool_base::{NodeId, Party, RiderId, Second, Sequence, VehicleId};
 use pool_io::rows;
-use request_book::{Answer, Book, Command, Entry, Outcome, Reply};
+use request_book::{
+    Answer, Book, BookRefusal, ChosenTrip, Command, Outcome, Planned, PlannedStop, Reply, Status,
+};
 use road_network::{Network, read_network};
-use std::alloc::{AllocError, Global};
-use std::sync::{Mutex, Wait};
+use std::alloc::Global;
+use std::sync::Wait;
 use std::test::Fail;
-use std::thread;
-use std::thread::Threads;
 
-const LANES: u8 = 4;
+// Five nodes in a line, a minute between neighbours.
+const LINE: &[u8] =
+    b"from,to,seconds\n1,2,60\n2,1,60\n2,3,60\n3,2,60\n3,4,60\n4,3,60\n4,5,60\n5,4,60\n";
 
-const RIDERS: u64 = 100;
-
-const SEALS: u64 = 50;
-
-// What a lane was told of a command, and of a sealed batch its number and how many riders it has.
-#[derive(Drop)]
-struct Told {
-    receipt: Receipt,
-    shown: Option<(u64, usize)>,
-}
-
-type Notes = Mutex<Vec<Told>>;
+// A vehicle with four seats at node 1, from second 0 on.
+const ONE: &[u8] = b"vehicle,seats,node,second\n1,4,1,0\n";
 
 fn node(name: u64) -> NodeId {
     NodeId::new(name).unwrap_or(NodeId::default())
 }
 
-fn rider(lane: usize, index: u64) -> RiderId {
-    RiderId::new((lane as u64 % 16) * RIDERS + index % RIDERS).unwrap_or(RiderId::default())
+fn vehicle(name: u64) -> VehicleId {
+    VehicleId::new(name).unwrap_or(VehicleId::default())
 }
 
-fn submit(rider: RiderId) -> Command {
+fn rider_one() -> RiderId {
+    RiderId::new(1).unwrap_or(RiderId::default())
+}
+
+// The book of a fleet on the line.
+fn book_of(alloc: Global, fleet: &[u8]) -> Option<Book> {
+    match rows(alloc, LINE, b"from,to,seconds") {
+        Ok(table) => match read_network(alloc, &table) {
+            Ok(network) => book_on(alloc, &network, fleet),
+            Err(_) => None,
+        },
+        Err(_) => None,
+    }
+}
+
+fn book_on(alloc: Global, network: &Network, fleet: &[u8]) -> Option<Book> {
+    match rows(alloc, fleet, FLEET_HEADER) {
+        Ok(table) => match read_fleet(alloc, &table, network) {
+            Ok(fleet) => Book::new(alloc, network, fleet, 120).ok(),
+            Err(_) => None,
+        },
+        Err(_) => None,
+    }
+}
+
+// Rider 1 asks to go from node 2 to node 4.
+fn asks() -> Command {
     Command::Submit {
-        rider,
-        origin: node(1),
-        destination: node(2),
+        rider: rider_one(),
+        origin: node(2),
+        destination: node(4),
         time: Second::default(),
         party: Party::ONE,
     }
 }
 
-// The close of a batch that has too many rows: every rider keeps waiting.
-fn overflow(alloc: Global, batch: u64) -> Command {
-    Command::Close {
+fn gives_up() -> Command {
+    Command::Cancel { rider: rider_one() }
+}
+
+// The trip of a vehicle that fetches rider 1 at second 60.
+fn fetching(name: u64) -> ChosenTrip {
+    let mut stops = ArrayVec::new();
+    stops.push(PlannedStop {
+        pick: true,
+        rider: rider_one(),
+        node: node(2),
+        second: 60,
+    });
+    ChosenTrip {
+        vehicle: vehicle(name),
+        cost: 0,
+        stops,
+    }
+}
+
+// The close of a batch whose plan gives rider 1 to a vehicle.
+fn gives(alloc: Global, batch: u64, name: u64) -> Option<Command> {
+    let mut chosen = Vec::new(alloc);
+    if chosen.push(fetching(name)).is_err() {
+        return None;
+    }
+    let planned = Planned {
+        lapsed: Sequence::empty(alloc),
+        late: Sequence::empty(alloc),
+        rv: Sequence::empty(alloc),
+        rr: Sequence::empty(alloc),
+        rows: Sequence::empty(alloc),
+        chosen: Sequence::of(chosen),
+        left: Sequence::empty(alloc),
+        moves: Sequence::empty(alloc),
+        cost: 0,
+        bound: 0,
+        tree: Tree::of(Vec::new(alloc)),
+    };
+    Some(Command::Close {
         batch,
         outcome: Outcome {
             expired: Sequence::empty(alloc),
-            answer: Answer::Overflow,
+            answer: Answer::Planned(planned),
         },
-    }
+    })
 }
 
-fn network(alloc: Global) -> Result<Network, AllocError> {
-    match rows(alloc, b"from,to,seconds\n1,2,60\n", b"from,to,seconds") {
-        Ok(rows) => match read_network(alloc, &rows) {
-            Ok(network) => Ok(network),
-            Err(_) => Err(AllocError),
-        },
-        Err(_) => Err(AllocError),
-    }
-}
-
-// A book without vehicles.
-fn book(alloc: Global) -> Result<Book, AllocError> {
-    let network = network(alloc)?;
-    match Book::new(alloc, &network, Fleet::of(Vec::new(alloc)), 120) {
-        Ok(book) => Ok(book),
-        Err(_) => Err(AllocError),
-    }
-}
-
-fn note(told: &mut Vec<Told>, receipt: Receipt, shown: Option<(u64, usize)>) -> bool {
-    told.push(Told { receipt, shown }).is_ok()
-}
-
-fn call_one<R: Wait>(
+// What a lane is told of a command: its position and the reply.
+fn reply_of<R: Wait>(
     rt: &R,
     alloc: Global,
     book: &SharedBook,
-    pass: &mut Pass,
-    command: Command,
-    told: &mut Vec<Told>,
-) -> bool
-    requires { IsPassOf book.now pass.old }
-    ensures { IsPassOf book.now pass.new × (pass.new.lane ≡ pass.old.lane) }
-{
-    match book.call(rt, alloc, pass, command) {
-        Ok(receipt) => note(told, receipt, None),
-        Err(_) => false,
-    }
-}
-
-// Seals a batch, and closes it.
-fn seal_one<R: Wait>(
-    rt: &R,
-    alloc: Global,
-    book: &SharedBook,
-    pass: &mut Pass,
-    told: &mut Vec<Told>,
-) -> bool
-    requires { IsPassOf book.now pass.old }
-    ensures { IsPassOf book.now pass.new × (pass.new.lane ≡ pass.old.lane) }
-{
-    let Ok(SealReceipt { receipt, snapshot }) = book.seal(rt, alloc, pass, Second::default()) else {
-        return false;
-    };
-    let Some(snapshot) = snapshot else {
-        return false;
-    };
-    let batch = snapshot.batch;
-    let shown = (batch, snapshot.riders.len());
-    note(told, receipt, Some(shown))
-        && call_one(rt, alloc, book, pass, overflow(alloc, batch), told)
-}
-
-fn play<R: Wait>(
-    rt: &R,
-    alloc: Global,
-    book: &SharedBook,
-    pass: &mut Pass,
-    lane: usize,
-    told: &mut Vec<Told>,
-)
-    requires { IsPassOf book.now pass.old }
-    ensures { IsPassOf book.now pass.new × (pass.new.lane ≡ pass.old.lane) }
-{
-    let turns = if lane == 0 { SEALS } else { RIDERS };
-    for index in 0..turns {
-        let done = if lane == 0 {
-            seal_one(rt, alloc, book, pass, told)
-        } else {
-            call_one(rt, alloc, book, pass, submit(rider(lane, index)), told)
-        };
-        if !done {
-            return;
-        }
-    }
-}
-
-fn play_lane<R: Wait>(
-    rt: &R,
-    alloc: Global,
-    book: &SharedBook,
-    notes: &[Notes],
-    lane: usize,
-    pass: &mut Pass,
-)
-    requires { IsPassOf book.now pass.old }
-    ensures { IsPassOf book.now pass.new × (pass.new.lane ≡ pass.old.lane) }
-{
-    if let Some(mine) = notes.get(lane) {
-        let mut mine = mine.lock(rt);
-        play(rt, alloc, book, pass, lane, &mut *mine);
-    }
-}
-
-// Each lane on a thread of its own.
-fn play_lanes<R: Threads + Wait + Sync>(
-    rt: &R,
-    alloc: Global,
-    book: &SharedBook,
-    notes: &[Notes],
     passes: &mut Vec<Pass>,
-)
-    requires { AreAllPasses book.now passes.old.items }
+    lane: usize,
+    command: Command,
+) -> Option<(u64, Reply)>
+    requires all { AreAllPasses book.now passes.old.items }
+    requires lane { lane < vec_len passes.old }
     ensures { AreAllPasses book.now passes.new.items }
 {
-    thread::for_each_mut(
-        rt,
-        passes.as_mut_slice(),
-        usize::from(LANES),
-        &|lane, pass| play_lane(rt, alloc, book, notes, lane, pass),
-    );
+    match book.call(rt, alloc, &mut passes[lane], command) {
+        Ok(receipt) => Some((receipt.position, receipt.reply)),
+        Err(_) => None,
+    }
 }
 
-// How many riders were accepted before a position.
-fn accepted_before(entries: &[Entry], position: usize) -> usize {
-    entries
-        .iter()
-        .take(position)
-        .filter(|entry| matches!(entry.reply, Reply::Accepted))
-        .count()
+// The same of the close of a batch that gives rider 1 to a vehicle, by lane 0.
+fn close_reply<R: Wait>(
+    rt: &R,
+    alloc: Global,
+    book: &SharedBook,
+    passes: &mut Vec<Pass>,
+    batch: u64,
+    name: u64,
+) -> Option<(u64, Reply)>
+    requires all { AreAllPasses book.now passes.old.items }
+    requires lane { 0 < vec_len passes.old }
+    ensures { AreAllPasses book.now passes.new.items }
+{
+    match gives(alloc, batch, name) {
+        Some(close) => reply_of(rt, alloc, book, passes, 0, close),
+        None => None,
+    }
 }
 
-// Whether what a lane was told stands in the journal.
-fn stands(entries: &[Entry], lane: usize, told: &Told) -> bool {
-    let position = told.receipt.position as usize;
-    let Some(entry) = entries.get(position) else {
-        return false;
+// What lane 0 is told of a seal, and of the batch its number and how many vehicles and riders it has.
+fn seal_reply<R: Wait>(
+    rt: &R,
+    alloc: Global,
+    book: &SharedBook,
+    passes: &mut Vec<Pass>,
+) -> Option<(u64, Reply, [usize; 3])>
+    requires all { AreAllPasses book.now passes.old.items }
+    requires lane { 0 < vec_len passes.old }
+    ensures { AreAllPasses book.now passes.new.items }
+{
+    let sealed = book.seal(rt, alloc, &mut passes[0], Second::default());
+    let Ok(SealReceipt { receipt, snapshot }) = sealed else {
+        return None;
     };
-    if usize::from(entry.lane) != lane || entry.reply != told.receipt.reply {
-        return false;
-    }
-    match told.shown {
-        None => matches!(entry.reply, Reply::Accepted | Reply::Closed),
-        Some((batch, riders)) => {
-            entry.reply == Reply::Sealed { batch } && riders == accepted_before(entries, position)
-        }
-    }
+    let Some(shown) = snapshot else {
+        return None;
+    };
+    let counts = [
+        shown.batch as usize,
+        shown.vehicles.len(),
+        shown.riders.len(),
+    ];
+    Some((receipt.position, receipt.reply, counts))
 }
 
+// A rider gives up while a batch is solved: each call that takes memory answers, and its reply is the step table's.
 #[test]
-fn four_lanes(rt: HostRuntime) -> Result<(), Fail> {
+fn answers_with_memory(rt: HostRuntime) -> Result<(), Fail> {
     let alloc = rt.alloc();
-    let Ok((shared, mut passes)) = SharedBook::start(alloc, book(alloc)?, LANES) else {
+    let Some(book) = book_of(alloc, ONE) else {
+        panic!(rt; "no memory for a book")
+    };
+    let Ok((shared, mut passes)) = SharedBook::start(alloc, book, 2) else {
         panic!(rt; "no memory to start")
     };
-    let mut notes = Vec::new(alloc);
-    for _ in 0..LANES {
-        notes.push(Mutex::new(Vec::new(alloc)))?;
-    }
-    play_lanes(&rt, alloc, &shared, notes.as_slice(), &mut passes);
+    let asked = reply_of(&rt, alloc, &shared, &mut passes, 1, asks());
+    assert!(rt; asked == Some((0, Reply::Accepted)));
+    let sealed = seal_reply(&rt, alloc, &shared, &mut passes);
+    assert!(rt; sealed == Some((1, Reply::Sealed { batch: 1 }, [1, 1, 1])));
+    let left = reply_of(&rt, alloc, &shared, &mut passes, 1, gives_up());
+    assert!(rt; left == Some((2, Reply::Cancelled)));
+    let closed = close_reply(&rt, alloc, &shared, &mut passes, 1, 1);
+    assert!(rt; closed == Some((3, Reply::Closed)));
+    let again = reply_of(&rt, alloc, &shared, &mut passes, 1, gives_up());
+    let ended = Reply::Refused(BookRefusal::Ended {
+        status: Status::Cancelled,
+    });
+    assert!(rt; again == Some((4, ended)));
     let Ok(book) = shared.finish(passes) else {
         panic!(rt; "no memory to finish")
     };
-    let entries = book.entries();
-    assert_eq!(rt; entries.len(), 400);
-    for (lane, mine) in notes.into_iter().enumerate() {
-        let mine = mine.into_inner();
-        assert_eq!(rt; mine.len(), 100);
-        assert!(rt; mine.iter().all(|told| stands(entries, lane, told)));
-    }
+    assert!(rt;
+        book.entries().len() == 5 && book.status_of(rider_one()) == Some(Status::Cancelled)
+    );
     Ok(())
 }

@@ -7,12 +7,13 @@ use Rattle.stop_orders.specs.declared.stop.Stop.{Stop}
 use Rattle.stop_orders.specs.declared.stop.Stop.TheVariants.{Pick, Drop, Alight}
 use Rattle.stop_orders.specs.Visit.{place_of, lateness}
 use Rattle.stop_orders.specs.Task.{leg_at, visit_at}
-use Rattle.stop_orders.specs.Done.{has, IsNext, sum_below}
-use Rattle.stop_orders.proofs.DoneLemmas.{has-with_same, has-with_other, Completes-front, IsAllDone-from_nil, sum_below-le}
-use Rattle.stop_orders.proofs.ClockLemmas.{AtLeastAsSoon, two_hops}
+use Rattle.stop_orders.specs.Done.{has, IsNextStop}
+use Rattle.stop_orders.specs.work.Rest.{sum_below}
+use Rattle.stop_orders.proofs.lemmas.DoneLemmas.{has-with_same, has-with_other, Completes-front, IsAllDone-from_nil, sum_below-le}
+use Rattle.stop_orders.proofs.lemmas.ClockLemmas.{AtLeastAsSoon, two_hops}
 use Rattle.small_routing.specs.declared.label.Label.{Label}
-use Rattle.small_routing.specs.Label.{rider_count, passenger_count, CanVisit, next_label, second_at, GoesOn, rest_delay}
-use Rattle.small_routing.specs.Ahead.{CanStill, late_at_once, RiderCan, rider_late, PassengerCan, passenger_late, least_ahead}
+use Rattle.small_routing.specs.work.Label.{task_riders, task_passengers, CanVisit, next_label, second_at, GoesOn, rest_delay}
+use Rattle.small_routing.specs.work.Ahead.{CanStill, late_at_once, RiderCan, rider_late, PassengerCan, passenger_late, least_ahead}
 
 sum_below-zero : (f : ℕ → ℕ) (n : ℕ) → ((k : ℕ) → k < n → f k ≤ 0) → sum_below f n ≤ 0
 sum_below-zero f zero h = omega arith
@@ -70,36 +71,36 @@ still_out tau dwell leg picked dropped p f h = rw h (tt, omega arith)
 
 -- everyone left can still be served, and no way on has less delay than the sum of those at once
 pub record IsAhead (tau : ℕ → ℕ → ℕ) (task : Task) (label : Label) (rest : List Stop) : Type 0 where
-  pub riders : (i : ℕ) → i < rider_count task → RiderCan tau task label i
-  pub passengers : (j : ℕ) → j < passenger_count task → PassengerCan tau task label j
+  pub riders : (i : ℕ) → i < task_riders task → RiderCan tau task label i
+  pub passengers : (j : ℕ) → j < task_passengers task → PassengerCan tau task label j
   pub least : least_ahead tau task label ≤ rest_delay tau task label rest
 
-module _ (points : ℕ) (tau : ℕ → ℕ → ℕ) (t : IsTravelTime points tau) (task : Task) (few : rider_count task ≤ 6) where
+module _ (points : ℕ) (tau : ℕ → ℕ → ℕ) (t : IsTravelTime points tau) (task : Task) (few : task_riders task ≤ 6) where
   soon_next : (label : Label) (s : Stop) → tau label.place (place_of (visit_at task s)) < never → AtLeastAsSoon tau label.place label.free (next_label tau task label s).place (next_label tau task label s).free
   soon_next label s reach = record {
     soon = λ x there. let hops = two_hops points tau t label.place (place_of (visit_at task s)) x reach there in (hops.0, omega (arith, hops.1));
   }
 
   -- one stop earlier
-  ahead_step : (label : Label) (s : Stop) → IsNext (rider_count task) (passenger_count task) label.done s → CanVisit tau task label s
-      → ((i : ℕ) → i < rider_count task → RiderCan tau task (next_label tau task label s) i) → ((j : ℕ) → j < passenger_count task → PassengerCan tau task (next_label tau task label s) j)
-      → ((i : ℕ) → i < rider_count task → RiderCan tau task label i) × ((j : ℕ) → j < passenger_count task → PassengerCan tau task label j)
+  ahead_step : (label : Label) (s : Stop) → IsNextStop (task_riders task) (task_passengers task) label.done s → CanVisit tau task label s
+      → ((i : ℕ) → i < task_riders task → RiderCan tau task (next_label tau task label s) i) → ((j : ℕ) → j < task_passengers task → PassengerCan tau task (next_label tau task label s) j)
+      → ((i : ℕ) → i < task_riders task → RiderCan tau task label i) × ((j : ℕ) → j < task_passengers task → PassengerCan tau task label j)
       × (least_ahead tau task label ≤ least_ahead tau task (next_label tau task label s) + lateness (visit_at task s) (second_at tau task label s))
   ahead_step label (Pick k) next can riders passengers =
       let after = next_label tau task label (Pick k) in
       let soon = soon_next label (Pick k) can.0 in
-      let rider : (i : ℕ) → i < rider_count task → RiderCan tau task label i × (rider_late tau task label i ≤ rider_late tau task after i) = λ i h. elim (cases_eq i k) [
+      let rider : (i : ℕ) → i < task_riders task → RiderCan tau task label i × (rider_late tau task label i ≤ rider_late tau task after i) = λ i h. elim (cases_eq i k) [
         | inl e ↦ subst (λ n. RiderCan tau task label n × (rider_late tau task label n ≤ rider_late tau task after n)) (sym e)
             (still_picked tau task.dwell (leg_at task.riders.items k) (has label.done k) (has label.done (6 + k)) (has after.done k) (has after.done (6 + k)) label.place label.free next.1 next.2
             (has-with_same label.done k) (has-with_other label.done k (6 + k) (λ q. omega arith) ∙ next.2) can.0 can.1 (riders k next.0))
         | inr ne ↦ still_same tau task.dwell (leg_at task.riders.items i) (has label.done i) (has label.done (6 + i)) (has after.done i) (has after.done (6 + i)) label.place label.free after.place after.free
             (has-with_other label.done k i ne) (has-with_other label.done k (6 + i) (λ q. omega arith)) soon (riders i h)
       ] in
-      let passenger : (j : ℕ) → j < passenger_count task → PassengerCan tau task label j × (passenger_late tau task label j ≤ passenger_late tau task after j) = λ j h.
+      let passenger : (j : ℕ) → j < task_passengers task → PassengerCan tau task label j × (passenger_late tau task label j ≤ passenger_late tau task after j) = λ j h.
       still_same tau task.dwell (leg_at task.aboard.items j) true (has label.done (12 + j)) true (has after.done (12 + j)) label.place label.free after.place after.free
       refl (has-with_other label.done k (12 + j) (λ q. omega arith)) soon (passengers j h) in
-      let first = sum_below-le (rider_late tau task after) (rider_late tau task label) (rider_count task) (λ i h. (rider i h).1) in
-      let second = sum_below-le (passenger_late tau task after) (passenger_late tau task label) (passenger_count task) (λ j h. (passenger j h).1) in
+      let first = sum_below-le (rider_late tau task after) (rider_late tau task label) (task_riders task) (λ i h. (rider i h).1) in
+      let second = sum_below-le (passenger_late tau task after) (passenger_late tau task label) (task_passengers task) (λ j h. (passenger j h).1) in
       ((λ i h. (rider i h).0), (λ j h. (passenger j h).0), omega (arith, first, second))
   ahead_step label (Drop k) next can riders passengers =
       let after = next_label tau task label (Drop k) in
@@ -108,14 +109,14 @@ module _ (points : ℕ) (tau : ℕ → ℕ → ℕ) (t : IsTravelTime points tau
       let own : RiderCan tau task label k × (rider_late tau task label k ≤ rider_late tau task after k + late) =
       still_dropped tau task.dwell (leg_at task.riders.items k) (has label.done k) (has label.done (6 + k)) (has after.done k) (has after.done (6 + k)) label.place label.free after.place after.free next.1 next.2
       (has-with_same label.done (6 + k)) can.0 can.1 in
-      let other : (i : ℕ) → i < rider_count task → (i ≡ k → ⊥) → RiderCan tau task label i × (rider_late tau task label i ≤ rider_late tau task after i) = λ i h ne.
+      let other : (i : ℕ) → i < task_riders task → (i ≡ k → ⊥) → RiderCan tau task label i × (rider_late tau task label i ≤ rider_late tau task after i) = λ i h ne.
       still_same tau task.dwell (leg_at task.riders.items i) (has label.done i) (has label.done (6 + i)) (has after.done i) (has after.done (6 + i)) label.place label.free after.place after.free
       (has-with_other label.done (6 + k) i (λ q. omega arith)) (has-with_other label.done (6 + k) (6 + i) (λ q. ne (omega arith))) soon (riders i h) in
-      let passenger : (j : ℕ) → j < passenger_count task → PassengerCan tau task label j × (passenger_late tau task label j ≤ passenger_late tau task after j) = λ j h.
+      let passenger : (j : ℕ) → j < task_passengers task → PassengerCan tau task label j × (passenger_late tau task label j ≤ passenger_late tau task after j) = λ j h.
       still_same tau task.dwell (leg_at task.aboard.items j) true (has label.done (12 + j)) true (has after.done (12 + j)) label.place label.free after.place after.free
       refl (has-with_other label.done (6 + k) (12 + j) (λ q. omega arith)) soon (passengers j h) in
-      let first = sum_below-le_one (rider_late tau task label) (rider_late tau task after) (rider_count task) k late next.0 (λ i h ne. (other i h ne).1) own.1 in
-      let second = sum_below-le (passenger_late tau task after) (passenger_late tau task label) (passenger_count task) (λ j h. (passenger j h).1) in
+      let first = sum_below-le_one (rider_late tau task label) (rider_late tau task after) (task_riders task) k late next.0 (λ i h ne. (other i h ne).1) own.1 in
+      let second = sum_below-le (passenger_late tau task after) (passenger_late tau task label) (task_passengers task) (λ j h. (passenger j h).1) in
       ((λ i h. elim (cases_eq i k) [ inl e ↦ subst (λ n. RiderCan tau task label n) (sym e) own.0 | inr ne ↦ (other i h ne).0 ]), (λ j h. (passenger j h).0), omega (arith, first, second))
   ahead_step label (Alight k) next can riders passengers =
       let after = next_label tau task label (Alight k) in
@@ -124,34 +125,34 @@ module _ (points : ℕ) (tau : ℕ → ℕ → ℕ) (t : IsTravelTime points tau
       let own : PassengerCan tau task label k × (passenger_late tau task label k ≤ passenger_late tau task after k + late) =
       still_dropped tau task.dwell (leg_at task.aboard.items k) true (has label.done (12 + k)) true (has after.done (12 + k)) label.place label.free after.place after.free refl next.1
       (has-with_same label.done (12 + k)) can.0 can.1 in
-      let other : (j : ℕ) → j < passenger_count task → (j ≡ k → ⊥) → PassengerCan tau task label j × (passenger_late tau task label j ≤ passenger_late tau task after j) = λ j h ne.
+      let other : (j : ℕ) → j < task_passengers task → (j ≡ k → ⊥) → PassengerCan tau task label j × (passenger_late tau task label j ≤ passenger_late tau task after j) = λ j h ne.
       still_same tau task.dwell (leg_at task.aboard.items j) true (has label.done (12 + j)) true (has after.done (12 + j)) label.place label.free after.place after.free
       refl (has-with_other label.done (12 + k) (12 + j) (λ q. ne (omega arith))) soon (passengers j h) in
-      let rider : (i : ℕ) → i < rider_count task → RiderCan tau task label i × (rider_late tau task label i ≤ rider_late tau task after i) = λ i h.
+      let rider : (i : ℕ) → i < task_riders task → RiderCan tau task label i × (rider_late tau task label i ≤ rider_late tau task after i) = λ i h.
       still_same tau task.dwell (leg_at task.riders.items i) (has label.done i) (has label.done (6 + i)) (has after.done i) (has after.done (6 + i)) label.place label.free after.place after.free
       (has-with_other label.done (12 + k) i (λ q. omega arith)) (has-with_other label.done (12 + k) (6 + i) (λ q. omega arith)) soon (riders i h) in
-      let first = sum_below-le (rider_late tau task after) (rider_late tau task label) (rider_count task) (λ i h. (rider i h).1) in
-      let second = sum_below-le_one (passenger_late tau task label) (passenger_late tau task after) (passenger_count task) k late next.0 (λ j h ne. (other j h ne).1) own.1 in
+      let first = sum_below-le (rider_late tau task after) (rider_late tau task label) (task_riders task) (λ i h. (rider i h).1) in
+      let second = sum_below-le_one (passenger_late tau task label) (passenger_late tau task after) (task_passengers task) k late next.0 (λ j h ne. (other j h ne).1) own.1 in
       ((λ i h. (rider i h).0), (λ j h. elim (cases_eq j k) [ inl e ↦ subst (λ n. PassengerCan tau task label n) (sym e) own.0 | inr ne ↦ (other j h ne).0 ]), omega (arith, first, second))
 
   -- a way on and the label after its first stop
   pub goes_on_next : (label : Label) (s : Stop) (rest : List Stop) → GoesOn tau task label (s ∷ rest)
-      → IsNext (rider_count task) (passenger_count task) label.done s × CanVisit tau task label s × GoesOn tau task (next_label tau task label s) rest
+      → IsNextStop (task_riders task) (task_passengers task) label.done s × CanVisit tau task label s × GoesOn tau task (next_label tau task label s) rest
   goes_on_next label s rest way =
-      let front = Completes-front (rider_count task) (passenger_count task) label.done few s rest way.completes in
+      let front = Completes-front (task_riders task) (task_passengers task) label.done few s rest way.completes in
       (front.0, (way.serves.0, way.serves.1, way.serves.2), record { completes = front.1; serves = way.serves.3 })
 
   pub is_ahead : (rest : List Stop) (label : Label) → GoesOn tau task label rest → IsAhead tau task label rest
   is_ahead [] label way =
-      let all = IsAllDone-from_nil (rider_count task) (passenger_count task) label.done way.completes in
-      let rider : (i : ℕ) → i < rider_count task → RiderCan tau task label i × (rider_late tau task label i ≤ 0) = λ i h.
+      let all = IsAllDone-from_nil (task_riders task) (task_passengers task) label.done way.completes in
+      let rider : (i : ℕ) → i < task_riders task → RiderCan tau task label i × (rider_late tau task label i ≤ 0) = λ i h.
       still_out tau task.dwell (leg_at task.riders.items i) (has label.done i) (has label.done (6 + i)) label.place label.free (all.riders_out i h) in
-      let passenger : (j : ℕ) → j < passenger_count task → PassengerCan tau task label j × (passenger_late tau task label j ≤ 0) = λ j h.
+      let passenger : (j : ℕ) → j < task_passengers task → PassengerCan tau task label j × (passenger_late tau task label j ≤ 0) = λ j h.
       still_out tau task.dwell (leg_at task.aboard.items j) true (has label.done (12 + j)) label.place label.free (all.passengers_out j h) in
       record {
         riders = λ i h. (rider i h).0;
         passengers = λ j h. (passenger j h).0;
-        least = omega (arith, sum_below-zero (rider_late tau task label) (rider_count task) (λ i h. (rider i h).1), sum_below-zero (passenger_late tau task label) (passenger_count task) (λ j h. (passenger j h).1));
+        least = omega (arith, sum_below-zero (rider_late tau task label) (task_riders task) (λ i h. (rider i h).1), sum_below-zero (passenger_late tau task label) (task_passengers task) (λ j h. (passenger j h).1));
       }
   is_ahead (s ∷ rest) label way =
       let on = goes_on_next label s rest way in

@@ -10,12 +10,13 @@ use Rattle.stop_orders.specs.declared.visit.Visit.TheVariants.{Pickup, Dropoff}
 use Rattle.stop_orders.specs.Order.{IsKnown}
 use Rattle.stop_orders.specs.Visit.{place_of, room_after, lateness, ServesFrom}
 use Rattle.stop_orders.specs.Task.{no_leg, IsLeg, IsTask, visit_at, visits_of, free_seats, order_delay}
-use Rattle.stop_orders.specs.Done.{IsNext, left_count}
-use Rattle.stop_orders.proofs.DoneLemmas.{left_count-most}
-use Rattle.stop_orders.proofs.PlainLemmas.{MakesOrders-next, MakesOrders-none, append_one}
+use Rattle.stop_orders.specs.Done.{IsNextStop}
+use Rattle.stop_orders.specs.work.Rest.{left_count}
+use Rattle.stop_orders.proofs.lemmas.DoneLemmas.{left_count-most}
+use Rattle.stop_orders.proofs.lemmas.PlainLemmas.{MakesOrders-next, MakesOrders-none, append_one}
 use Rattle.small_routing.specs.declared.label.Label.{Label}
-use Rattle.small_routing.specs.Label.{IsRoutable, IsRoutableLeg, rider_count, passenger_count, first_label, second_at, CanVisit, next_label, rest_delay, IsSmall}
-use Rattle.small_routing.specs.Search.{LeadsTo}
+use Rattle.small_routing.specs.work.Label.{IsRoutable, IsRoutableLeg, task_riders, task_passengers, first_label, second_at, CanVisit, next_label, rest_delay, IsSmallLabel}
+use Rattle.small_routing.specs.work.Search.{LeadsTo}
 
 routable_leg : (points : ℕ) (leg : Leg) → IsLeg points leg → IsRoutableLeg points leg
 routable_leg points leg h = record { origin = h.origin; destination = h.destination; party = h.party }
@@ -35,7 +36,7 @@ routable points task valid = record {
 }
 
 -- who may come next is known
-pub known_next : (riders passengers done : ℕ) (s : Stop) → IsNext riders passengers done s → IsKnown riders passengers s
+pub known_next : (riders passengers done : ℕ) (s : Stop) → IsNextStop riders passengers done s → IsKnown riders passengers s
 known_next riders passengers done (Pick i) next = next.0
 known_next riders passengers done (Drop i) next = next.0
 known_next riders passengers done (Alight j) next = next.0
@@ -45,21 +46,21 @@ lateness-most (Pickup place latest party) second = omega arith
 lateness-most (Dropoff place latest ideal party) second = omega arith
 
 module _ (points : ℕ) (tau : ℕ → ℕ → ℕ) (t : IsTravelTime points tau) (task : Task) (valid : IsRoutable points task) where
-  place_in : (s : Stop) → IsKnown (rider_count task) (passenger_count task) s → place_of (visit_at task s) < points
+  place_in : (s : Stop) → IsKnown (task_riders task) (task_passengers task) s → place_of (visit_at task s) < points
   place_in (Pick i) h = (valid.riders i no_leg h).origin
   place_in (Drop i) h = (valid.riders i no_leg h).destination
   place_in (Alight j) h = (valid.passengers j no_leg h).destination
 
-  room_most : (s : Stop) → IsKnown (rider_count task) (passenger_count task) s → (room : ℕ) → room_after (visit_at task s) room ≤ room + 6
+  room_most : (s : Stop) → IsKnown (task_riders task) (task_passengers task) s → (room : ℕ) → room_after (visit_at task s) room ≤ room + 6
   room_most (Pick i) h room = omega arith
   room_most (Drop i) h room = omega (arith, (valid.riders i no_leg h).party)
   room_most (Alight j) h room = omega (arith, (valid.passengers j no_leg h).party)
 
   -- the numbers stay small
-  pub small_next : (label : Label) (s : Stop) (left less : ℕ) → IsSmall points left label → less + 1 ≤ left → IsNext (rider_count task) (passenger_count task) label.done s → CanVisit tau task label s
-      → IsSmall points less (next_label tau task label s)
+  pub small_next : (label : Label) (s : Stop) (left less : ℕ) → IsSmallLabel points left label → less + 1 ≤ left → IsNextStop (task_riders task) (task_passengers task) label.done s → CanVisit tau task label s
+      → IsSmallLabel points less (next_label tau task label s)
   small_next label s left less small fall next can =
-      let known = known_next (rider_count task) (passenger_count task) label.done s next in
+      let known = known_next (task_riders task) (task_passengers task) label.done s next in
       let hop : tau label.place (place_of (visit_at task s)) ≤ longest = t.range label.place (place_of (visit_at task s)) can.0 in
       let late = lateness-most (visit_at task s) (second_at tau task label s) in
       let room = room_most s known label.room in
@@ -71,7 +72,7 @@ module _ (points : ℕ) (tau : ℕ → ℕ → ℕ) (t : IsTravelTime points tau
       }
 
   -- one more stop leads to the next label
-  pub leads_next : (label : Label) (path : List Stop) (s : Stop) → LeadsTo tau task path label → IsNext (rider_count task) (passenger_count task) label.done s → CanVisit tau task label s
+  pub leads_next : (label : Label) (path : List Stop) (s : Stop) → LeadsTo tau task path label → IsNextStop (task_riders task) (task_passengers task) label.done s → CanVisit tau task label s
       → LeadsTo tau task (path ++ s ∷ []) (next_label tau task label s)
   leads_next label path s leads next can = record {
     orders = MakesOrders-next task valid.rider_count label.done path s next leads.orders;
@@ -83,9 +84,9 @@ module _ (points : ℕ) (tau : ℕ → ℕ → ℕ) (t : IsTravelTime points tau
   }
 
   -- the first label
-  pub small_first : (done room : ℕ) → done ≡ 0 → room ≡ free_seats task → IsSmall points (left_count (rider_count task) (passenger_count task) done) (record { done = done; place = task.start; free = task.ready; room = room; delay = 0 })
+  pub small_first : (done room : ℕ) → done ≡ 0 → room ≡ free_seats task → IsSmallLabel points (left_count (task_riders task) (task_passengers task) done) (record { done = done; place = task.start; free = task.ready; room = room; delay = 0 })
   small_first done room e f =
-      let most = left_count-most (rider_count task) (passenger_count task) done in
+      let most = left_count-most (task_riders task) (task_passengers task) done in
       record {
         place = valid.start;
         free = omega (arith, most, valid.ready, valid.rider_count, valid.passenger_count);
@@ -93,9 +94,9 @@ module _ (points : ℕ) (tau : ℕ → ℕ → ℕ) (t : IsTravelTime points tau
         delay = omega (arith, most, valid.rider_count, valid.passenger_count);
       }
 
-  pub left_first : (done : ℕ) (path : List Stop) → path ≡ [] → length path + left_count (rider_count task) (passenger_count task) done ≤ 22
+  pub left_first : (done : ℕ) (path : List Stop) → path ≡ [] → length path + left_count (task_riders task) (task_passengers task) done ≤ 22
   left_first done path e =
-      let most = left_count-most (rider_count task) (passenger_count task) done in
+      let most = left_count-most (task_riders task) (task_passengers task) done in
       let none : length path ≡ 0 = ap length e in
       omega (arith, most, none, valid.rider_count, valid.passenger_count)
 

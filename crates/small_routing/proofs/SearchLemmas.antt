@@ -9,17 +9,18 @@ use Rattle.stop_orders.specs.declared.task.Task.{Task}
 use Rattle.stop_orders.specs.declared.stop.Stop.{Stop}
 use Rattle.stop_orders.specs.Visit.{ServesFrom}
 use Rattle.stop_orders.specs.Task.{visits_of, free_seats, order_delay, Serves}
-use Rattle.stop_orders.specs.Done.{IsAllDone, Completes}
-use Rattle.stop_orders.specs.Plain.{IsFound, NoneBetter, StaysGood}
-use Rattle.stop_orders.proofs.ClockLemmas.{soon_over, ServesFrom-soon}
-use Rattle.stop_orders.proofs.DoneLemmas.{IsAllDone-from_nil, Completes-none}
-use Rattle.stop_orders.proofs.PlainLemmas.{MakesOrders-all, rest_of_all}
+use Rattle.stop_orders.specs.Done.{IsAllDone}
+use Rattle.stop_orders.specs.work.Rest.{Completes}
+use Rattle.stop_orders.specs.work.Plain.{IsFound, NoneBetter, StaysGood}
+use Rattle.stop_orders.proofs.lemmas.ClockLemmas.{soon_over, ServesFrom-soon}
+use Rattle.stop_orders.proofs.lemmas.DoneLemmas.{IsAllDone-from_nil, Completes-none}
+use Rattle.stop_orders.proofs.lemmas.PlainLemmas.{MakesOrders-all, rest_of_all}
 use Rattle.small_routing.specs.declared.label.Label.{Label}
 use Rattle.small_routing.specs.declared.candidate.Candidate.{Candidate}
-use Rattle.small_routing.specs.Label.{IsRoutable, rider_count, passenger_count, next_label, GoesOn, rest_delay}
-use Rattle.small_routing.specs.Ahead.{RiderCan, PassengerCan, least_ahead}
-use Rattle.small_routing.specs.Kept.{no_label, IsDominated}
-use Rattle.small_routing.specs.Search.{LeadsTo, IsExhausted, IsTried, IsSettled, AreCandidates, Searched}
+use Rattle.small_routing.specs.work.Label.{IsRoutable, task_riders, task_passengers, next_label, GoesOn, rest_delay}
+use Rattle.small_routing.specs.work.Ahead.{RiderCan, PassengerCan, least_ahead}
+use Rattle.small_routing.specs.work.Kept.{no_label, IsDominated}
+use Rattle.small_routing.specs.work.Search.{LeadsTo, IsExhausted, IsTried, IsLabelDone, AreCandidates, Searched}
 use Rattle.small_routing.proofs.AheadLemmas.{is_ahead, goes_on_next}
 use Rattle.small_routing.proofs.LabelLemmas.{known_next}
 
@@ -34,23 +35,23 @@ good_better None route worse = λ d n. absurd n
 good_better (Some old) route worse = λ d n. elim (cases_lt route.delay old.delay) [ inl less ↦ omega arith | inr more ↦ absurd (worse more) ]
 
 -- what was settled stays so
-pub settled_good : (points : ℕ) (tau : ℕ → ℕ → ℕ) (task : Task) (old new : Option Route) (labels : List Label) → StaysGood old new → All (IsSettled points tau task old) labels → All (IsSettled points tau task new) labels
-settled_good points tau task old new labels good = All-weaker (IsSettled points tau task old) (IsSettled points tau task new) (λ label s. record {
+pub settled_good : (points : ℕ) (tau : ℕ → ℕ → ℕ) (task : Task) (old new : Option Route) (labels : List Label) → StaysGood old new → All (IsLabelDone points tau task old) labels → All (IsLabelDone points tau task new) labels
+settled_good points tau task old new labels good = All-weaker (IsLabelDone points tau task old) (IsLabelDone points tau task new) (λ label s. record {
   placed = s.placed;
   exhausted = λ rest way. good (label.delay + rest_delay tau task label rest) (s.exhausted rest way);
 }) labels
 
 module _ (points : ℕ) (tau : ℕ → ℕ → ℕ) (t : IsTravelTime points tau) (task : Task) (valid : IsRoutable points task) where
   -- where all are dropped, the delay is that of the label
-  exhausted_all : (label : Label) (best : Option Route) → IsAllDone (rider_count task) (passenger_count task) label.done → NoneBetter best label.delay → IsExhausted tau task best label
+  exhausted_all : (label : Label) (best : Option Route) → IsAllDone (task_riders task) (task_passengers task) label.done → NoneBetter best label.delay → IsExhausted tau task best label
   exhausted_all label best all none = λ rest way.
-      let e : rest ≡ [] = rest_of_all (rider_count task) (passenger_count task) label.done valid.rider_count all rest way.completes in
+      let e : rest ≡ [] = rest_of_all (task_riders task) (task_passengers task) label.done valid.rider_count all rest way.completes in
       let same : label.delay ≡ label.delay + rest_delay tau task label [] = omega arith in
       subst (λ stops. NoneBetter best (label.delay + rest_delay tau task label stops)) (sym e) (subst (λ d. NoneBetter best d) same none)
 
   -- a better order was found
-  pub searched_better : (path stops : List Stop) (label : Label) (old : Option Route) (route : Route) (labels : List Label) → LeadsTo tau task path label → IsAllDone (rider_count task) (passenger_count task) label.done
-      → route.stops.items ≡ path → route.delay ≡ label.delay → (NoneBetter old label.delay → ⊥) → All (IsSettled points tau task old) labels → Searched points tau task label old (Some route) labels
+  pub searched_better : (path stops : List Stop) (label : Label) (old : Option Route) (route : Route) (labels : List Label) → LeadsTo tau task path label → IsAllDone (task_riders task) (task_passengers task) label.done
+      → route.stops.items ≡ path → route.delay ≡ label.delay → (NoneBetter old label.delay → ⊥) → All (IsLabelDone points tau task old) labels → Searched points tau task label old (Some route) labels
   searched_better path stops label old route labels leads all same delay worse settled =
       let order = MakesOrders-all task valid.rider_count label.done path all leads.orders in
       let in_time = subst (λ xs. ServesFrom tau task.dwell task.start task.ready (free_seats task) (visits_of task xs)) (append-nil path) (leads.serves [] tt) in
@@ -68,16 +69,16 @@ module _ (points : ℕ) (tau : ℕ → ℕ → ℕ) (t : IsTravelTime points tau
       }
 
   -- what was found is as good
-  pub searched_no_better : (label : Label) (best : Option Route) (labels : List Label) → IsFound tau task best → IsExhausted tau task best label → All (IsSettled points tau task best) labels → Searched points tau task label best best labels
+  pub searched_no_better : (label : Label) (best : Option Route) (labels : List Label) → IsFound tau task best → IsExhausted tau task best label → All (IsLabelDone points tau task best) labels → Searched points tau task label best best labels
   searched_no_better label best labels found exhausted settled = record { found = found; good = λ d n. n; exhausted = exhausted; settled = settled }
 
-  pub searched_all : (label : Label) (best : Option Route) (labels : List Label) → IsFound tau task best → IsAllDone (rider_count task) (passenger_count task) label.done → NoneBetter best label.delay
-      → All (IsSettled points tau task best) labels → Searched points tau task label best best labels
+  pub searched_all : (label : Label) (best : Option Route) (labels : List Label) → IsFound tau task best → IsAllDone (task_riders task) (task_passengers task) label.done → NoneBetter best label.delay
+      → All (IsLabelDone points tau task best) labels → Searched points tau task label best best labels
   searched_all label best labels found all none settled = searched_no_better label best labels found (exhausted_all label best all none) settled
 
   -- where not even at once all can be served
   pub exhausted_none : (label : Label) (best : Option Route)
-      → (((i : ℕ) → i < rider_count task → RiderCan tau task label i) → ((j : ℕ) → j < passenger_count task → PassengerCan tau task label j) → ⊥) → IsExhausted tau task best label
+      → (((i : ℕ) → i < task_riders task → RiderCan tau task label i) → ((j : ℕ) → j < task_passengers task → PassengerCan tau task label j) → ⊥) → IsExhausted tau task best label
   exhausted_none label best hopeless = λ rest way.
       let ahead = is_ahead points tau t task valid.rider_count rest label way in
       absurd (hopeless ahead.riders ahead.passengers)
@@ -89,13 +90,13 @@ module _ (points : ℕ) (tau : ℕ → ℕ → ℕ) (t : IsTravelTime points tau
       NoneBetter-more best (label.delay + ahead) (label.delay + rest_delay tau task label rest) (omega (arith, is, least)) none
 
   -- where a settled label dominates
-  pub exhausted_dominated : (label : Label) (best : Option Route) (labels : List Label) → IsDominated tau labels label → All (IsSettled points tau task best) labels → IsExhausted tau task best label
+  pub exhausted_dominated : (label : Label) (best : Option Route) (labels : List Label) → IsDominated tau labels label → All (IsLabelDone points tau task best) labels → IsExhausted tau task best label
   exhausted_dominated label best labels dominated settled = λ rest way.
       let kept = get_or labels dominated.0 no_label in
       let d = dominated.2 in
       let soon = soon_over points tau t kept.place kept.free label.place label.free d.reach d.soon in
       let same = ServesFrom-soon tau task.dwell (visits_of task rest) kept.place kept.free kept.room label.place label.free label.room soon d.room way.serves in
-      let there : GoesOn tau task kept rest = record { completes = subst (λ n. Completes (rider_count task) (passenger_count task) n rest) (sym d.done) way.completes; serves = same.0 } in
+      let there : GoesOn tau task kept rest = record { completes = subst (λ n. Completes (task_riders task) (task_passengers task) n rest) (sym d.done) way.completes; serves = same.0 } in
       NoneBetter-more best (kept.delay + rest_delay tau task kept rest) (label.delay + rest_delay tau task label rest) (omega (arith, same.1, d.delay)) ((settled dominated.0 no_label dominated.1).exhausted rest there)
 
   -- a stop whose next label was searched was tried
@@ -108,12 +109,12 @@ module _ (points : ℕ) (tau : ℕ → ℕ → ℕ) (t : IsTravelTime points tau
       subst (λ d. NoneBetter new d) same here
 
   -- where all candidates were tried
-  pub exhausted_tried : (label : Label) (best : Option Route) (candidates : List Candidate) → (IsAllDone (rider_count task) (passenger_count task) label.done → ⊥) → AreCandidates tau task label (rider_count task) (passenger_count task) candidates
+  pub exhausted_tried : (label : Label) (best : Option Route) (candidates : List Candidate) → (IsAllDone (task_riders task) (task_passengers task) label.done → ⊥) → AreCandidates tau task label (task_riders task) (task_passengers task) candidates
       → All (λ c. IsTried tau task best label c.stop) candidates → IsExhausted tau task best label
-  exhausted_tried label best candidates more are tried [] way = absurd (more (IsAllDone-from_nil (rider_count task) (passenger_count task) label.done way.completes))
+  exhausted_tried label best candidates more are tried [] way = absurd (more (IsAllDone-from_nil (task_riders task) (task_passengers task) label.done way.completes))
   exhausted_tried label best candidates more are tried (s ∷ rest) way =
       let on = goes_on_next points tau t task valid.rider_count label s rest way in
-      let listed = are.whole s on.0 (known_next (rider_count task) (passenger_count task) label.done s on.0) on.1 in
+      let listed = are.whole s on.0 (known_next (task_riders task) (task_passengers task) label.done s on.0) on.1 in
       All-contains (IsTried tau task best label) (map (λ c. c.stop) candidates) s (All-map (IsTried tau task best label) (λ c. c.stop) candidates tried) listed rest way
 
 -- what holds in the loop over the candidates
@@ -121,7 +122,7 @@ pub record TriesAll (points : ℕ) (tau : ℕ → ℕ → ℕ) (task : Task) (la
   pub same : now ≡ path
   pub found : IsFound tau task best
   pub good : StaysGood first best
-  pub settled : All (IsSettled points tau task best) labels
+  pub settled : All (IsLabelDone points tau task best) labels
   pub tried : All (λ c. IsTried tau task best label c.stop) done
 
 pub tries_more : (points : ℕ) (tau : ℕ → ℕ → ℕ) (task : Task) (label next : Label) (path before after : List Stop) (first old new : Option Route) (labels more : List Label) (candidates : List Candidate) (i : ℕ) (c : Candidate)
@@ -143,6 +144,6 @@ pub least_none : (points : ℕ) (tau : ℕ → ℕ → ℕ) (task : Task) (done 
 least_none points tau task done room best e f exhausted = λ stops serves.
     let start = subst (λ n. IsExhausted tau task best (record { done = 0; place = task.start; free = task.ready; room = n; delay = 0 })) f
     (subst (λ n. IsExhausted tau task best (record { done = n; place = task.start; free = task.ready; room = room; delay = 0 })) e exhausted) in
-    let way : GoesOn tau task (record { done = 0; place = task.start; free = task.ready; room = free_seats task; delay = 0 }) stops = record { completes = Completes-none (rider_count task) (passenger_count task) stops serves.order; serves = serves.in_time } in
+    let way : GoesOn tau task (record { done = 0; place = task.start; free = task.ready; room = free_seats task; delay = 0 }) stops = record { completes = Completes-none (task_riders task) (task_passengers task) stops serves.order; serves = serves.in_time } in
     let same : 0 + order_delay tau task stops ≡ order_delay tau task stops = omega arith in
     subst (λ d. NoneBetter best d) same (start stops way)

@@ -12,9 +12,9 @@ use Rattle.stop_orders.specs.declared.stop.Stop.TheVariants.{Pick, Drop, Alight}
 use Rattle.stop_orders.specs.Order.{IsKnown, IsOrder}
 use Rattle.stop_orders.specs.Visit.{place_of, latest_of, boarding_of, room_after, lateness, Reaches, ServesFrom, delay_from}
 use Rattle.stop_orders.specs.Task.{no_leg, IsTask, persons, leg_at, visit_at, visits_of, free_seats, IsOrderOf, ReachesAll, order_delay, Serves}
-use Rattle.stop_orders.proofs.ScanLemmas.{order_short}
-use Rattle.small_routing.specs.Label.{IsRoutable, IsRoutableLeg}
-use Rattle.small_routing.specs.Unlimited.{without_latest, without_limits}
+use Rattle.stop_orders.proofs.lemmas.ScanLemmas.{order_short}
+use Rattle.small_routing.specs.work.Label.{IsRoutable, IsRoutableLeg}
+use Rattle.small_routing.specs.work.Unlimited.{without_latest, without_limits}
 use Rattle.small_routing.proofs.LabelLemmas.{routable}
 
 leg_unlimited : (legs : List Leg) (j : ℕ) → j < length legs → leg_at (map without_latest legs) j ≡ without_latest (leg_at legs j)

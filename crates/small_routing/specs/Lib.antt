@@ -1,5 +1,1 @@
-pub mod Label
-pub mod Ahead
-pub mod Kept
-pub mod Search
-pub mod Unlimited
+pub mod work

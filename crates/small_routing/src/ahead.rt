@@ -1,8 +1,8 @@
 ghost use Rattle.std.specs.Prelude.{◌≡◌, ℕ, ◌+◌, ◌-◌, ◌*◌, ◌<◌, ◌≤◌, Bool, MatchOption, IfSome, IfNone};
 ghost use Rattle.pool_base.specs.Times.{point_count, travel_time};
 ghost use Rattle.pool_base.specs.TravelTime.{never};
-ghost use Rattle.small_routing.specs.Label.{IsRoutable, IsRoutableLeg, rider_count, passenger_count};
-ghost use Rattle.small_routing.specs.Ahead.{CanStill, late_at_once, RiderCan, PassengerCan, least_ahead, rider_late, passenger_late};
+ghost use Rattle.small_routing.specs.work.Label.{IsRoutable, IsRoutableLeg, task_riders, task_passengers};
+ghost use Rattle.small_routing.specs.work.Ahead.{CanStill, late_at_once, RiderCan, PassengerCan, least_ahead, rider_late, passenger_late};
 
 use crate::label::Label;
 use pool_base::Times;
@@ -10,14 +10,14 @@ use stop_orders::{Leg, Task, arrival};
 
 /// A lower bound of the delay from a label on, as if the vehicle went to each rider at once; `None` only
 /// where not even so someone is served in time.
-pub fn look_ahead(task: &Task, times: &Times, label: &Label) -> Option<u64>
+pub(crate) fn look_ahead(task: &Task, times: &Times, label: &Label) -> Option<u64>
     requires valid { IsRoutable (point_count times.now) task.now }
     requires place { label.now.place < point_count times.now }
     requires free { label.now.free ≤ 30000000000 }
     ensures bound { IfSome result (λ delay. delay ≡ least_ahead (travel_time times.now) task.now label.now) }
     ensures small { IfSome result (λ delay. delay ≤ 1600000000000) }
-    ensures none { IfNone result (((i : ℕ) → i < rider_count task.now → RiderCan (travel_time times.now) task.now label.now i)
-        → ((j : ℕ) → j < passenger_count task.now → PassengerCan (travel_time times.now) task.now label.now j) → ⊥) }
+    ensures none { IfNone result (((i : ℕ) → i < task_riders task.now → RiderCan (travel_time times.now) task.now label.now i)
+        → ((j : ℕ) → j < task_passengers task.now → PassengerCan (travel_time times.now) task.now label.now j) → ⊥) }
 {
     let mut delay = 0u64;
     for i in 0..task.riders.len() {

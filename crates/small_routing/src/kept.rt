@@ -1,6 +1,6 @@
 ghost use Rattle.std.specs.Prelude.{◌≡◌, ◌<◌, ◌≤◌, [], ◌∷◌, ◌++◌, IsTrue, All, OnOk};
 ghost use Rattle.pool_base.specs.Times.{point_count, travel_time};
-ghost use Rattle.small_routing.specs.Kept.{labels_of, Dominates, IsDominated, IsPlaced};
+ghost use Rattle.small_routing.specs.work.Kept.{labels_of, Dominates, IsDominated, IsLabelPlaced};
 
 use crate::label::Label;
 use pool_base::{OutOfMemory, Times};
@@ -44,7 +44,7 @@ impl Workspace {
 
 impl Kept {
     /// Forgets all labels, and makes chains for a task of so many stops.
-    pub fn begin(&mut self, stops: usize) -> Result<(), OutOfMemory>
+    pub(crate) fn begin(&mut self, stops: usize) -> Result<(), OutOfMemory>
         ensures { OnOk result (labels_of self.new ≡ []) }
     {
         self.entries.clear();
@@ -55,8 +55,13 @@ impl Kept {
         Ok(())
     }
 
+    /// Whether the task has so many stops that labels are looked up.
+    pub(crate) fn is_of_use(&self) -> bool {
+        self.chains > 0
+    }
+
     /// Keeps a label.
-    pub fn keep(&mut self, label: Label) -> Result<(), OutOfMemory>
+    pub(crate) fn keep(&mut self, label: Label) -> Result<(), OutOfMemory>
         ensures { OnOk result (labels_of self.new ≡ labels_of self.old ++ label ∷ []) }
     {
         let chain = self.chain_of(label.done);
@@ -69,8 +74,8 @@ impl Kept {
     }
 
     /// Whether a kept label dominates this one.
-    pub fn dominates(&self, times: &Times, label: &Label) -> bool
-        requires placed { All (IsPlaced (point_count times.now)) (labels_of self.now) }
+    pub(crate) fn dominates(&self, times: &Times, label: &Label) -> bool
+        requires placed { All (IsLabelPlaced (point_count times.now)) (labels_of self.now) }
         requires place { label.now.place < point_count times.now }
         ensures { IsTrue result → IsDominated (travel_time times.now) (labels_of self.now) label.now }
     {
@@ -123,7 +128,7 @@ fn chain_count(stops: usize) -> usize {
 /// Whether a label of the same stops is as soon wherever the other goes, with as much room and no more
 /// delay. That holds across places, since no way round is shorter.
 fn dominates(times: &Times, kept: &Label, label: &Label) -> bool
-    requires kept { IsPlaced (point_count times.now) kept.now }
+    requires kept { IsLabelPlaced (point_count times.now) kept.now }
     requires place { label.now.place < point_count times.now }
     ensures { IsTrue result → Dominates (travel_time times.now) kept.now label.now }
 {

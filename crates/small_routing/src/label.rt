@@ -1,7 +1,7 @@
 ghost use Rattle.std.specs.Prelude.{◌≡◌, ◌+◌, ◌<◌, ◌≤◌, MatchOption};
 ghost use Rattle.pool_base.specs.Times.{point_count, travel_time};
 ghost use Rattle.stop_orders.specs.Order.{IsKnown};
-ghost use Rattle.small_routing.specs.Label.{IsRoutable, CanVisit, next_label, first_label, rider_count, passenger_count};
+ghost use Rattle.small_routing.specs.work.Label.{IsRoutable, CanVisit, next_label, first_label, task_riders, task_passengers};
 
 use pool_base::Times;
 use stop_orders::{Done, Stop, Task, arrival, visit_of};
@@ -30,9 +30,9 @@ impl Default for Label {
 }
 
 /// The label after one more stop; `None` exactly where it can't be reached, is late, or finds too few seats.
-pub fn label_after(task: &Task, times: &Times, label: &Label, stop: Stop) -> Option<Label>
+pub(crate) fn label_after(task: &Task, times: &Times, label: &Label, stop: Stop) -> Option<Label>
     requires valid { IsRoutable (point_count times.now) task.now }
-    requires known { IsKnown (rider_count task.now) (passenger_count task.now) stop }
+    requires known { IsKnown (task_riders task.now) (task_passengers task.now) stop }
     requires place { label.now.place < point_count times.now }
     requires free { label.now.free ≤ 30000000000 }
     requires room { label.now.room ≤ 150 }

@@ -2,7 +2,7 @@ ghost use Rattle.std.specs.Prelude.{◌≡◌, ◌+◌, ◌≤◌, List, IfOk, I
 ghost use Rattle.pool_base.specs.Times.{point_count, travel_time};
 ghost use Rattle.stop_orders.specs.declared.stop.Stop.{Stop as OneStop};
 ghost use Rattle.stop_orders.specs.Task.{IsTask, Serves, order_delay};
-ghost use Rattle.small_routing.specs.Label.{IsRoutable};
+ghost use Rattle.small_routing.specs.work.Label.{IsRoutable};
 
 use crate::Workspace;
 use crate::kept::Kept;
@@ -12,7 +12,7 @@ use arrayvec::ArrayVec;
 use pool_base::{OutOfMemory, Steps, Times};
 use std::alloc::Global;
 use std::sync::ledger::Ledger;
-use stop_orders::{Done, Route, Task, first_position_of};
+use stop_orders::{Done, Route, Task, free_seats_of};
 
 /// The least delay of an order that serves the task, and an order that has it; `None` exactly where no
 /// order serves. It counts one step.
@@ -66,12 +66,11 @@ pub(crate) fn least_route(
     ensures none { IfOk result (λ found. IfNone found ((stops : List OneStop) → Serves (travel_time times.now) task.now stops → ⊥)) }
 {
     kept.begin(task.riders.len() * 2 + task.aboard.len())?;
-    let first = first_position_of(task);
     let label = Label {
         done: Done::none(),
         place: task.start,
         free: task.ready,
-        room: first.room,
+        room: free_seats_of(task),
         delay: 0,
     };
     let mut path = ArrayVec::new();

@@ -1,11 +1,11 @@
 ghost use Rattle.std.specs.Prelude.{◌≡◌, ◌+◌, ◌<◌, ◌≤◌, ◌↔◌, All, IfOk, IsFalse, IsTrue, OnOk, length};
 ghost use Rattle.pool_base.specs.Times.{point_count, travel_time};
 ghost use Rattle.stop_orders.specs.Task.{IsOrderOf};
-ghost use Rattle.stop_orders.specs.Done.{left_count};
-ghost use Rattle.stop_orders.specs.Plain.{IsFound, NoneBetter};
-ghost use Rattle.small_routing.specs.Label.{IsRoutable, IsSmall, rider_count, passenger_count};
-ghost use Rattle.small_routing.specs.Kept.{labels_of};
-ghost use Rattle.small_routing.specs.Search.{LeadsTo, IsExhausted, IsSettled, Searched};
+ghost use Rattle.stop_orders.specs.work.Rest.{left_count};
+ghost use Rattle.stop_orders.specs.work.Plain.{IsFound, NoneBetter};
+ghost use Rattle.small_routing.specs.work.Label.{IsRoutable, IsSmallLabel, task_riders, task_passengers};
+ghost use Rattle.small_routing.specs.work.Kept.{labels_of};
+ghost use Rattle.small_routing.specs.work.Search.{LeadsTo, IsExhausted, IsLabelDone, Searched};
 
 use crate::ahead::look_ahead;
 use crate::candidate::candidates_after;
@@ -17,7 +17,7 @@ use stop_orders::{Route, Stop, Task};
 
 /// Tries all ways on from a label, depth first and the soonest stop first, but for those from labels that
 /// are hopeless.
-pub fn search(
+pub(crate) fn search(
     task: &Task,
     times: &Times,
     label: &Label,
@@ -27,10 +27,10 @@ pub fn search(
 ) -> Result<(), OutOfMemory>
     requires valid { IsRoutable (point_count times.now) task.now }
     requires leads { LeadsTo (travel_time times.now) task.now path.old.items label.now }
-    requires small { IsSmall (point_count times.now) (left_count (rider_count task.now) (passenger_count task.now) label.now.done) label.now }
-    requires room { length path.old.items + left_count (rider_count task.now) (passenger_count task.now) label.now.done ≤ 22 }
+    requires small { IsSmallLabel (point_count times.now) (left_count (task_riders task.now) (task_passengers task.now) label.now.done) label.now }
+    requires room { length path.old.items + left_count (task_riders task.now) (task_passengers task.now) label.now.done ≤ 22 }
     requires found { IsFound (travel_time times.now) task.now best.old }
-    requires settled { All (IsSettled (point_count times.now) (travel_time times.now) task.now best.old) (labels_of kept.old) }
+    requires settled { All (IsLabelDone (point_count times.now) (travel_time times.now) task.now best.old) (labels_of kept.old) }
     ensures path { OnOk result (path.new.items ≡ path.old.items) }
     ensures searched { OnOk result (Searched (point_count times.now) (travel_time times.now) task.now label.now best.old best.new (labels_of kept.new)) }
 {
@@ -52,10 +52,10 @@ fn try_all(
 ) -> Result<(), OutOfMemory>
     requires valid { IsRoutable (point_count times.now) task.now }
     requires leads { LeadsTo (travel_time times.now) task.now path.old.items label.now }
-    requires small { IsSmall (point_count times.now) (left_count (rider_count task.now) (passenger_count task.now) label.now.done) label.now }
-    requires room { length path.old.items + left_count (rider_count task.now) (passenger_count task.now) label.now.done ≤ 22 }
+    requires small { IsSmallLabel (point_count times.now) (left_count (task_riders task.now) (task_passengers task.now) label.now.done) label.now }
+    requires room { length path.old.items + left_count (task_riders task.now) (task_passengers task.now) label.now.done ≤ 22 }
     requires found { IsFound (travel_time times.now) task.now best.old }
-    requires settled { All (IsSettled (point_count times.now) (travel_time times.now) task.now best.old) (labels_of kept.old) }
+    requires settled { All (IsLabelDone (point_count times.now) (travel_time times.now) task.now best.old) (labels_of kept.old) }
     ensures path { OnOk result (path.new.items ≡ path.old.items) }
     ensures searched { OnOk result (Searched (point_count times.now) (travel_time times.now) task.now label.now best.old best.new (labels_of kept.new)) }
 {
@@ -81,6 +81,9 @@ fn try_all(
         try_all(task, times, &next, path, best, kept)?;
         path.pop();
     }
+    if !kept.is_of_use() {
+        return Ok(());
+    }
     kept.keep(*label)
 }
 
@@ -88,8 +91,8 @@ fn try_all(
 /// served any more, or not with less delay, or a label from which all ways on were tried dominates it.
 fn is_hopeless(task: &Task, times: &Times, label: &Label, best: &Option<Route>, kept: &Kept) -> bool
     requires valid { IsRoutable (point_count times.now) task.now }
-    requires small { IsSmall (point_count times.now) (left_count (rider_count task.now) (passenger_count task.now) label.now.done) label.now }
-    requires settled { All (IsSettled (point_count times.now) (travel_time times.now) task.now best.now) (labels_of kept.now) }
+    requires small { IsSmallLabel (point_count times.now) (left_count (task_riders task.now) (task_passengers task.now) label.now.done) label.now }
+    requires settled { All (IsLabelDone (point_count times.now) (travel_time times.now) task.now best.now) (labels_of kept.now) }
     ensures { IsTrue result → IsExhausted (travel_time times.now) task.now best.now label.now }
 {
     let Some(ahead) = look_ahead(task, times, label) else {

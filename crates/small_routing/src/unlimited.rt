@@ -2,7 +2,7 @@ ghost use Rattle.std.specs.Prelude.{◌≡◌, ◌≤◌, [], List, IfOk, IfSome
 ghost use Rattle.pool_base.specs.Times.{point_count, travel_time};
 ghost use Rattle.stop_orders.specs.declared.stop.Stop.{Stop as OneStop};
 ghost use Rattle.stop_orders.specs.Task.{IsTask, IsOrderOf, ReachesAll, order_delay};
-ghost use Rattle.small_routing.specs.Unlimited.{without_latest, without_limits};
+ghost use Rattle.small_routing.specs.work.Unlimited.{without_latest, without_limits};
 
 use crate::Workspace;
 use crate::least::least_route;

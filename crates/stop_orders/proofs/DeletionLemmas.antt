@@ -16,7 +16,7 @@ use Rattle.stop_orders.specs.Order.{is_of_rider, is_of_passenger, IsKnown}
 use Rattle.stop_orders.specs.Visit.{place_of, latest_of, boarding_of, room_after, lateness, ServesFrom, delay_from}
 use Rattle.stop_orders.specs.Task.{no_leg, leg_at, persons, IsLeg, IsTask, visit_at, free_seats, IsOrderOf, Serves, order_delay}
 use Rattle.stop_orders.specs.Laws.{number_without, stop_without_rider, stop_without_passenger, stops_without_rider, stops_without_passenger, without_rider, without_passenger, StillServes}
-use Rattle.stop_orders.proofs.ClockLemmas.{room_after-le, lateness-le, two_hops, AtLeastAsSoon, soon_there}
+use Rattle.stop_orders.proofs.lemmas.ClockLemmas.{room_after-le, lateness-le, two_hops, AtLeastAsSoon, soon_there}
 
 -- how many persons get out
 pub leaving_of : Visit → ℕ

@@ -15,12 +15,13 @@ use Rattle.stop_orders.specs.declared.settled_vehicle.SettledVehicle.{SettledVeh
 use Rattle.stop_orders.specs.Order.{IsKnown, IsOrder}
 use Rattle.stop_orders.specs.Visit.{place_of, latest_of, room_after, lateness, ServesFrom, delay_from}
 use Rattle.stop_orders.specs.Task.{no_leg, leg_at, IsTask, IsServable, IsLeastDelay, visit_at, visits_of, free_seats, Serves, order_delay}
-use Rattle.stop_orders.specs.Done.{IsNext}
-use Rattle.stop_orders.specs.Settled.{no_vehicle, no_rider, vehicle_at, rider_at, trip_task, pair_task, greatest, IsTrip, IsShort, IsSound, IsRrEdge}
+use Rattle.stop_orders.specs.Done.{IsNextStop}
+use Rattle.stop_orders.specs.Settled.{no_vehicle, no_rider, vehicle_at, rider_at, trip_task, pair_task, greatest, IsTrip, IsRrEdge}
+use Rattle.stop_orders.specs.Sound.{IsShort, IsSound}
 use Rattle.stop_orders.specs.Laws.{without_rider, without_passenger, stops_without_rider, stops_without_passenger, StillServes}
-use Rattle.stop_orders.proofs.ClockLemmas.{soon_there, ServesFrom-soon}
-use Rattle.stop_orders.proofs.DoneLemmas.{has-none, Completes-none, Completes-front}
-use Rattle.stop_orders.proofs.ScanLemmas.{order_short}
+use Rattle.stop_orders.proofs.lemmas.ClockLemmas.{soon_there, ServesFrom-soon}
+use Rattle.stop_orders.proofs.lemmas.DoneLemmas.{has-none, Completes-none, Completes-front}
+use Rattle.stop_orders.proofs.lemmas.ScanLemmas.{order_short}
 use Rattle.stop_orders.proofs.DeletionLemmas.{rider_left_out, passenger_left_out}
 
 map-remove : {X Y : Type 0} (f : X → Y) (xs : List X) (i : ℕ) → map f (remove xs i) ≡ remove (map f xs) i
@@ -122,7 +123,7 @@ no_pick : (i : ℕ) (rest : List Stop) → [] ≡ Pick i ∷ rest → ⊥
 no_pick i rest e = cc
 
 -- what may come first is a pickup
-pick_of : (s : Stop) → IsNext 2 0 0 s → (i : ℕ) × (i < 2) × (s ≡ Pick i)
+pick_of : (s : Stop) → IsNextStop 2 0 0 s → (i : ℕ) × (i < 2) × (s ≡ Pick i)
 pick_of (Pick i) next = (i, next.0, refl)
 pick_of (Drop i) next = absurd (false≢true (sym (has-none i) ∙ next.1))
 pick_of (Alight j) next = absurd (omega (arith, next.0))

@@ -6,7 +6,8 @@ use Rattle.stop_orders.specs.declared.task.Task.{Task}
 use Rattle.stop_orders.specs.declared.settled.Settled.{Settled}
 use Rattle.stop_orders.specs.Order.{is_of_rider, is_of_passenger}
 use Rattle.stop_orders.specs.Task.{IsTask, IsServable, IsLeastDelay, Serves, order_delay}
-use Rattle.stop_orders.specs.Settled.{IsSound, IsTrip, IsRrEdge, trip_task}
+use Rattle.stop_orders.specs.Settled.{IsTrip, IsRrEdge, trip_task}
+use Rattle.stop_orders.specs.Sound.{IsSound}
 
 -- the number k when number i is left out: those above it move down
 abbrev pub number_without : ℕ → ℕ → ℕ

@@ -1,9 +1,9 @@
 pub mod Visit
 pub mod Order
-pub mod Done
 pub mod Task
-pub mod Position
 pub mod Settled
+pub mod Sound
 pub mod PairList
+pub mod Done
 pub mod Laws
-pub mod Plain
+pub mod work

@@ -1,6 +1,7 @@
 ghost use Rattle.std.specs.Prelude.{◌≡◌, ℕ, ◌+◌, ◌<◌, ◌≤◌, ◌↔◌, true, IsTrue};
 ghost use Rattle.stop_orders.specs.Order.{IsKnown};
-ghost use Rattle.stop_orders.specs.Done.{stop_with, has, with_bit, with_stop, IsNext, IsAllDone};
+ghost use Rattle.stop_orders.specs.Done.{has, with_bit, with_stop, IsNextStop, IsAllDone};
+ghost use Rattle.stop_orders.specs.work.Rest.{stop_with};
 
 use crate::Stop;
 use std::marker::Model;
@@ -90,7 +91,7 @@ impl Done {
     pub fn is_next(self, riders: usize, passengers: usize, stop: Stop) -> bool
         requires riders { riders ≤ 6 }
         requires passengers { passengers ≤ 10 }
-        ensures { IsTrue result ↔ IsNext riders passengers self stop }
+        ensures { IsTrue result ↔ IsNextStop riders passengers self stop }
     {
         match stop {
             Stop::Pick(i) => {
@@ -143,7 +144,7 @@ impl Done {
 }
 
 /// The stop with this bit: riders' pickups from 0, their drop-offs from 6, passengers from 12.
-pub fn stop_of(bit: u8) -> Stop
+pub(crate) fn stop_of(bit: u8) -> Stop
     ensures { result ≡ stop_with bit }
 {
     if bit < 6 {

@@ -23,12 +23,12 @@ mod trip;
 mod validity;
 mod visit;
 
-pub use done::{Done, stop_of};
+pub use done::Done;
 pub use leg::Leg;
 pub use order::is_order;
 pub use pair_list::PairList;
 pub use plain::least_over_all_orders;
-pub use position::{Position, arrival, first_position_of, position_after_visit};
+pub use position::{arrival, free_seats_of};
 pub use route::Route;
 pub use serving::{delay_of, serves, stop_second, visit_of};
 pub use settled::{Settled, SettledRiders, SettledVehicles};

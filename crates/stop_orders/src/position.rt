@@ -2,23 +2,32 @@ ghost use Rattle.std.specs.Prelude.{◌≡◌, ◌+◌, ◌^◌, ◌<◌, ◌≤
 ghost use Rattle.pool_base.specs.Times.{point_count, travel_time};
 ghost use Rattle.pool_base.specs.TravelTime.{never, longest};
 ghost use Rattle.stop_orders.specs.Visit.{place_of, latest_of, boarding_of};
-ghost use Rattle.stop_orders.specs.Task.{persons};
-ghost use Rattle.stop_orders.specs.Position.{first_position, position_after, CanServe};
+ghost use Rattle.stop_orders.specs.Task.{free_seats, persons};
+ghost use Rattle.stop_orders.specs.work.Position.{first_position, position_after, CanVisitFrom};
 
 use crate::validity::persons_of;
 use crate::{Task, Visit};
 use pool_base::Times;
 
 /// Where a vehicle is, from which second on it can leave, and how many of its seats are free.
-#[derive(Clone, Copy, Debug, PartialEq, Eq)]
+#[derive(Clone, Copy, Debug)]
 pub struct Position {
     pub place: usize,
     pub free: u64,
     pub room: u32,
 }
 
+/// How many seats the passengers leave free.
+pub fn free_seats_of(task: &Task) -> u32
+    requires few { length task.now.aboard.items ≤ 10 }
+    requires seated { persons task.now.aboard.items ≤ task.now.seats }
+    ensures { result ≡ free_seats task.now }
+{
+    task.seats as u32 - persons_of(&task.aboard)
+}
+
 /// The position of the task's vehicle before its first stop.
-pub fn first_position_of(task: &Task) -> Position
+pub(crate) fn first_position_of(task: &Task) -> Position
     requires few { length task.now.aboard.items ≤ 10 }
     requires seated { persons task.now.aboard.items ≤ task.now.seats }
     ensures { result ≡ first_position task.now }
@@ -26,7 +35,7 @@ pub fn first_position_of(task: &Task) -> Position
     Position {
         place: task.start,
         free: task.ready,
-        room: task.seats as u32 - persons_of(&task.aboard),
+        room: free_seats_of(task),
     }
 }
 
@@ -45,7 +54,7 @@ pub fn arrival(times: &Times, place: usize, free: u64, to: usize) -> Option<u64>
 
 /// The position after a visit; `None` exactly where the visit can't be reached, is late, or finds too few
 /// seats.
-pub fn position_after_visit(
+pub(crate) fn position_after_visit(
     times: &Times,
     dwell: u16,
     position: Position,
@@ -55,8 +64,8 @@ pub fn position_after_visit(
     requires to { place_of visit.now < point_count times.now }
     requires fits { position.free < 2 ^ 40 }
     requires seats { position.room < 2 ^ 31 }
-    ensures { MatchOption result (CanServe (travel_time times.now) position visit.now → ⊥)
-        (λ next. CanServe (travel_time times.now) position visit.now
+    ensures { MatchOption result (CanVisitFrom (travel_time times.now) position visit.now → ⊥)
+        (λ next. CanVisitFrom (travel_time times.now) position visit.now
         × (next ≡ position_after (travel_time times.now) dwell position visit.now)) }
 {
     let second = arrival(times, position.place, position.free, visit.place())?;

@@ -1,7 +1,7 @@
 //! Worked orders on a line of five places, 60 seconds between neighbours.
 use super::*;
 use arrayvec::ArrayVec;
-use pool_base::{Party, Times};
+use pool_base::{OutOfMemory, Party, RiderId, Times, VehicleId};
 use std::alloc::Global;
 use std::process::Abort;
 use std::test::Fail;
@@ -336,5 +336,51 @@ fn at_the_greatest_second(rt: HostRuntime) -> Result<(), Fail> {
         &[1_000_000_000, 1_000_000_000],
         0,
     );
+    Ok(())
+}
+
+/// A batch with one empty vehicle and one rider, who has been promised a vehicle before.
+fn small_batch(alloc: Global, vehicle: VehicleId, rider: RiderId) -> Result<Settled, OutOfMemory> {
+    let mut vehicles = Vec::new(alloc);
+    vehicles.push(SettledVehicle {
+        id: vehicle,
+        start: 0,
+        ready: 0,
+        seats: 4,
+        aboard: ArrayVec::new(),
+        aboard_ids: ArrayVec::new(),
+        late: false,
+        held: ArrayVec::new(),
+    })?;
+    let mut riders = Vec::new(alloc);
+    riders.push(SettledRider {
+        id: rider,
+        leg: Leg::default(),
+        lapsed: true,
+    })?;
+    Ok(Settled {
+        now: 0,
+        dwell: 0,
+        most_seats: 4,
+        vehicles: SettledVehicles::of(vehicles),
+        riders: SettledRiders::of(riders),
+    })
+}
+
+/// No call of the crate takes memory; its lists hold what the caller put into them.
+#[test]
+fn answers_with_memory(rt: HostRuntime) -> Result<(), Fail> {
+    let vehicle = VehicleId::new(3).ok_or("an id")?;
+    let rider = RiderId::new(7).ok_or("an id")?;
+    let batch = small_batch(rt.alloc(), vehicle, rider)?;
+    assert_eq!(rt; batch.vehicles.as_slice().len(), 1);
+    assert_eq!(rt; batch.riders.as_slice().len(), 1);
+    let vehicles = batch.vehicles.into_vec();
+    let riders = batch.riders.into_vec();
+    assert_eq!(rt; vehicles.len(), 1);
+    assert_eq!(rt; riders.len(), 1);
+    assert_eq!(rt; vehicles[0].id, vehicle);
+    assert_eq!(rt; riders[0].id, rider);
+    assert!(rt; riders[0].lapsed);
     Ok(())
 }

@@ -8,7 +8,7 @@ use Rattle.road_network.specs.declared.arc.Arc.{Arc}
 use Rattle.road_network.specs.declared.hop.Hop.{Hop}
 use Rattle.road_network.specs.Walk.{IsWalk, walk_seconds, IsTimeBetween}
 use Rattle.road_network.specs.Roads.{IsArcAmong, hop_of, leaving}
-use Rattle.travel_times.specs.Search.{waits, HasWalkOf, IsSearching, IsTaken, IsHopRelaxed, Relaxes}
+use Rattle.travel_times.specs.work.Search.{waits, HasWalkOf, IsSearching, IsNextTaken, IsHopRelaxed, RelaxesHops}
 use Rattle.travel_times.proofs.WalkLemmas.{IsWalk-push, walk_seconds-push, short_walk}
 
 -- what a filter keeps passes its test, and what passes is kept
@@ -53,8 +53,8 @@ hops_among arcs n node among k d h =
     rw (get_or-map hop_of (leaving node arcs) k none d inside) (arc.1, arc.2)
 
 -- a node that waited is taken
-pub IsTaken-set : (waiting : List Bool) (node : ℕ) → node < length waiting → waits waiting node ≡ true → IsTaken waiting (set waiting node false) node
-IsTaken-set waiting node within waited =
+pub IsNextTaken-set : (waiting : List Bool) (node : ℕ) → node < length waiting → waits waiting node ≡ true → IsNextTaken waiting (set waiting node false) node
+IsNextTaken-set waiting node within waited =
     let written : count_by (λ w. w) (set waiting node false) + cond (get_or waiting node false) 1 0 ≡ count_by (λ w. w) waiting + cond false 1 0 = sum_by-set (λ (w : Bool). cond w 1 0) waiting node false false within in
     let counted : count_by (λ w. w) (set waiting node false) + 1 ≡ count_by (λ w. w) waiting + 0 = rw waited at written in
     record {
@@ -66,10 +66,10 @@ IsTaken-set waiting node within waited =
       fewer = omega arith;
     }
 
-module _ {hops : List Hop} {count here : ℕ} {s : List ℕ} {w : List Bool} {s' : List ℕ} {w' : List Bool} (inv : Relaxes hops count here s w s' w') {hop : Hop} (inside : count < length hops) (read : hop ≡ get_or hops count hop) where
+module _ {hops : List Hop} {count here : ℕ} {s : List ℕ} {w : List Bool} {s' : List ℕ} {w' : List Bool} (inv : RelaxesHops hops count here s w s' w') {hop : Hop} (inside : count < length hops) (read : hop ≡ get_or hops count hop) where
   -- the hop gives fewer seconds
-  pub Relaxes-take : {through : ℕ} → through ≡ here + hop.seconds → through ≤ longest → through < slice_index s' hop.to → hop.to < length s' → length w' ≡ length s' → Relaxes hops (count + 1) here s w (set s' hop.to through) (set w' hop.to true)
-  Relaxes-take {through} is short less within lengths =
+  pub RelaxesHops-take : {through : ℕ} → through ≡ here + hop.seconds → through ≤ longest → through < slice_index s' hop.to → hop.to < length s' → length w' ≡ length s' → RelaxesHops hops (count + 1) here s w (set s' hop.to through) (set w' hop.to true)
+  RelaxesHops-take {through} is short less within lengths =
       let in_w : hop.to < length w' = omega arith in
       let here_is : slice_index (set s' hop.to through) hop.to ≡ through = get_or-set_same s' hop.to through 0 within in
       let here_waits : waits (set w' hop.to true) hop.to ≡ true = get_or-set_same w' hop.to true false in_w in
@@ -111,8 +111,8 @@ module _ {hops : List Hop} {count here : ℕ} {s : List ℕ} {w : List Bool} {s'
       }
 
   -- the hop gives no fewer seconds, or leads past the longest time
-  pub Relaxes-skip : (slice_index s' hop.to ≤ here + hop.seconds) ⊎ (longest < here + hop.seconds) → Relaxes hops (count + 1) here s w s' w'
-  Relaxes-skip done = record {
+  pub RelaxesHops-skip : (slice_index s' hop.to ≤ here + hop.seconds) ⊎ (longest < here + hop.seconds) → RelaxesHops hops (count + 1) here s w s' w'
+  RelaxesHops-skip done = record {
     seconds_length = inv.seconds_length;
     waiting_length = inv.waiting_length;
     no_later = inv.no_later;
@@ -126,7 +126,7 @@ module _ {hops : List Hop} {count here : ℕ} {s : List ℕ} {w : List Bool} {s'
 
 -- one node is taken and its arcs are relaxed
 pub IsSearching-step : (arcs : List Arc) (n start node : ℕ) (s s' : List ℕ) (w w' w'' : List Bool) → All (IsArcAmong n) arcs
-    → IsSearching arcs n start s w → IsTaken w w' node → Relaxes (map hop_of (leaving node arcs)) (length (map hop_of (leaving node arcs))) (slice_index s node) s w' s' w'' → IsSearching arcs n start s' w''
+    → IsSearching arcs n start s w → IsNextTaken w w' node → RelaxesHops (map hop_of (leaving node arcs)) (length (map hop_of (leaving node arcs))) (slice_index s node) s w' s' w'' → IsSearching arcs n start s' w''
 IsSearching-step arcs n start node s s' w w' w'' among inv taken relaxes =
     let hops : List Hop = map hop_of (leaving node arcs) in
     let node_within : node < n = let e : length w ≡ n = inv.waiting_length in let h : node < length w = taken.within in omega arith in

@@ -6,11 +6,11 @@ use Rattle.std.proofs.lemmas.Nat.{mul-add-lt}
 use Rattle.std.proofs.lemmas.List.{length-append, get_or_append_left, get_or-append_right, get_or-map, length-map, get_or-set_other, length-set, get_or_default}
 use Rattle.pool_base.specs.declared.memory.OutOfMemory.{OutOfMemory}
 use Rattle.pool_base.specs.TravelTime.{never, longest, cell_of, IsTable}
-use Rattle.pool_base.proofs.TravelTimeLemmas.{cell_of-within, cell_of-from_outside, cell_of-to_outside}
+use Rattle.pool_base.proofs.lemmas.TravelTimeLemmas.{cell_of-within, cell_of-from_outside, cell_of-to_outside}
 use Rattle.road_network.specs.declared.arc.Arc.{Arc}
 use Rattle.road_network.specs.Walk.{walk_seconds, IsTimeBetween}
 use Rattle.road_network.specs.Roads.{IsArcAmong}
-use Rattle.travel_times.specs.Table.{AreRows}
+use Rattle.travel_times.specs.work.Table.{AreRows}
 use Rattle.travel_times.proofs.WalkLemmas.{IsWalk-append, walk_seconds-append, short_walk}
 
 -- rows, and the rows after them
@@ -52,71 +52,12 @@ AreRows-one arcs points n from seconds known times = record {
       rw (node, place, get_or-map (λ (point : ℕ). slice_index seconds point) points j 0 0 hj) (times (slice_index points j) (known j 0 hj));
 }
 
--- every piece begins at a point
-pub piece_within : (p pieces rows n : ℕ) → p < pieces → pieces * rows < n + rows → p * rows < n
-piece_within p pieces rows n lt tight =
-    let step : suc p * rows ≤ pieces * rows = mul-le-mul_right rows lt in
-    omega arith
-
--- from piece `next` on each block that was computed is the rows of its piece
-pub record AreBlocks (arcs : List Arc) (points : List ℕ) (rows next pieces : ℕ) (blocks : List (Result (Vec ℕ Global) OutOfMemory)) : Type 0 where
-  pub count : length blocks ≡ pieces
-  pub covered : length points ≤ pieces * rows
-  pub placed : (p : ℕ) → p < pieces → p * rows < length points
-  pub rest : (p : ℕ) (d : Result (Vec ℕ Global) OutOfMemory) → next ≤ p → p < pieces → IfOk (get_or blocks p d) (λ cells. AreRows arcs points (p * rows) (min (p * rows + rows) (length points) - p * rows) cells.items)
-
--- a block of which nothing more is wanted may be taken
-pub AreBlocks-next : (arcs : List Arc) (points : List ℕ) (rows next pieces : ℕ) (blocks : List (Result (Vec ℕ Global) OutOfMemory)) (left : Result (Vec ℕ Global) OutOfMemory) → AreBlocks arcs points rows next pieces blocks → AreBlocks arcs points rows (next + 1) pieces (set blocks next left)
-AreBlocks-next arcs points rows next pieces blocks left inv = record {
-  count = length-set blocks next left ∙ inv.count;
-  covered = inv.covered;
-  placed = inv.placed;
-  rest = λ p d le lt. rw (get_or-set_other blocks next p left d (λ e. omega arith)) (inv.rest p d (omega arith) lt);
-}
-
--- one more pair before others
-AllZip-at : {Y : Type 0} (R : ℕ → Y → Type 0) (a n : ℕ) (y : Y) (ys : List Y) → R a y → ((p : ℕ) (d : Y) → p < n → R (a + 1 + p) (get_or ys p d)) → (p : ℕ) (d : Y) → p < suc n → R (a + p) (get_or (y ∷ ys) p d)
-AllZip-at R a n y ys first rest zero d lt = let e : a + zero ≡ a = omega arith in rw e first
-AllZip-at R a n y ys first rest (suc p) d lt = let e : a + suc p ≡ a + 1 + p = omega arith in rw e (rest p d (omega arith))
-
--- pairs of a relation, by index from a number on
-AllZip-from : {Y : Type 0} (R : ℕ → Y → Type 0) (a n : ℕ) (ys : List Y) → AllZip R (range_with_len a n) ys → (length ys ≡ n) × ((p : ℕ) (d : Y) → p < n → R (a + p) (get_or ys p d))
-AllZip-from R a zero [] h = (refl, λ p d lt. absurd (omega arith))
-AllZip-from R a zero (y ∷ ys) h = absurd h
-AllZip-from R a (suc n) [] h = absurd h
-AllZip-from R a (suc n) (y ∷ ys) h =
-    let rest = AllZip-from R (a + 1) n ys h.1 in
-    let count : length ys ≡ n = rest.0 in
-    (omega arith, λ p d lt. AllZip-at R a n y ys h.0 rest.1 p d lt)
-
--- the rows so far, with those of one more piece
-pub AreRows-piece : (arcs : List Arc) (points : List ℕ) (rows p pieces : ℕ) (cells more : List ℕ) → p * rows < length points
-    → AreRows arcs points 0 (min (p * rows) (length points)) cells → AreRows arcs points (p * rows) (min (p * rows + rows) (length points) - p * rows) more → AreRows arcs points 0 (min ((p + 1) * rows) (length points)) (cells ++ more)
-AreRows-piece arcs points rows p pieces cells more placed first second =
-    let from : 0 + min (p * rows) (length points) ≡ p * rows = omega arith in
-    let count : min ((p + 1) * rows) (length points) ≡ min (p * rows) (length points) + (min (p * rows + rows) (length points) - p * rows) = omega arith in
-    rw count (AreRows-append arcs points 0 (min (p * rows) (length points)) (min (p * rows + rows) (length points) - p * rows) cells more first (rw from second))
-
 -- the place at which a look-up found something
 pub position-is : {X : Type 0} (p : X → Bool) (xs : List X) (i : ℕ) → position p xs ≡ Some i → position_or_len p xs ≡ i
 position-is p xs i h = ⊎_elim
     (λ (found : nat_lt (position_or_len p xs) (length xs) ≡ true). let e : Some (position_or_len p xs) ≡ Some i = rw found at h in cc)
     (λ (lost : nat_lt (position_or_len p xs) (length xs) ≡ false). let e : None ≡ Some i = rw lost at h in cc)
     (cases_Bool (nat_lt (position_or_len p xs) (length xs)))
-
--- what the threads computed
-pub AreBlocks-collected : (arcs : List Arc) (points : List ℕ) (rows pieces : ℕ) (blocks : List (Result (Vec ℕ Global) OutOfMemory)) → length points ≤ pieces * rows → pieces * rows < length points + rows
-    → AllZip (λ piece block. IfOk block (λ (cells : Vec ℕ Global). AreRows arcs points (piece * rows) (min (piece * rows + rows) (length points) - piece * rows) cells.items)) (range_with_len 0 pieces) blocks
-    → AreBlocks arcs points rows 0 pieces blocks
-AreBlocks-collected arcs points rows pieces blocks covered tight zipped =
-    let R : ℕ → Result (Vec ℕ Global) OutOfMemory → Type 0 = λ piece block. IfOk block (λ (cells : Vec ℕ Global). AreRows arcs points (piece * rows) (min (piece * rows + rows) (length points) - piece * rows) cells.items) in
-    let all = AllZip-from R 0 pieces blocks zipped in
-    record {
-      count = all.0;
-      covered = covered;
-      placed = λ p lt. piece_within p pieces rows (length points) lt tight;
-      rest = λ p d le lt. let e : 0 + p ≡ p = omega arith in rw e at (all.1 p d lt);
-    }
 
 -- a travel time to the place itself is 0
 to_itself : (arcs : List Arc) (node seconds : ℕ) → IsTimeBetween arcs node node seconds → seconds ≡ 0

@@ -1,13 +1,8 @@
-use Rattle.std.specs.Prelude.{◌≡◌, ℕ, ◌+◌, ◌*◌, ◌<◌, List, length, slice_index}
+use Rattle.std.specs.Prelude.{◌≡◌, ℕ, ◌<◌, List, length, slice_index}
 use Rattle.pool_base.specs.Times.{point_count, travel_time}
 use Rattle.pool_base.specs.declared.times.Times.{Times}
 use Rattle.road_network.specs.declared.arc.Arc.{Arc}
 use Rattle.road_network.specs.Walk.{IsTimeBetween}
-
--- the cells are so many rows of travel times, from the points at `from` and after to all points
-pub record AreRows (arcs : List Arc) (points : List ℕ) (from count : ℕ) (cells : List ℕ) : Type 0 where
-  pub size : length cells ≡ count * length points
-  pub times : (i j : ℕ) → i < count → j < length points → IsTimeBetween arcs (slice_index points (from + i)) (slice_index points j) (slice_index cells (i * length points + j))
 
 -- the table has these places as its points, and its cells are the travel times between them
 pub record AreTravelTimes (arcs : List Arc) (places : List ℕ) (times : Times) : Type 0 where

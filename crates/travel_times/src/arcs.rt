@@ -1,7 +1,7 @@
 ghost use Rattle.std.specs.Prelude.{◌≡◌, ℕ, ◌<◌, ◌≤◌, ◌++◌, All, IfOk, OnOk, length, map, slice_index, slice_range};
 ghost use Rattle.road_network.specs.Roads.{hop_of, leaving};
 ghost use Rattle.road_network.specs.Storage.{start_at};
-ghost use Rattle.travel_times.specs.Arcs.{AreArcsOf};
+ghost use Rattle.travel_times.specs.work.Arcs.{AreArcsOf};
 
 use crate::short_hop::ShortHop;
 use pool_base::OutOfMemory;
@@ -21,7 +21,7 @@ pub struct Arcs {
 
 impl Arcs {
     /// A copy of the network's arcs.
-    pub fn of(alloc: Global, network: &Network) -> Result<Arcs, OutOfMemory>
+    pub(crate) fn of(alloc: Global, network: &Network) -> Result<Arcs, OutOfMemory>
         ensures { IfOk result (λ copy. AreArcsOf network.now.arcs (length network.now.nodes) copy.ends.items copy.hops.items) }
     {
         let nodes = network.node_count();
@@ -36,7 +36,7 @@ impl Arcs {
 
     /// The arcs that leave a node.
     #[inline]
-    pub fn leaving(&self, node: usize) -> &[ShortHop]
+    pub(crate) fn leaving(&self, node: usize) -> &[ShortHop]
         requires { node < length self.now.ends.items }
         ensures { result.now ≡ slice_range self.now.hops.items (start_at self.now.ends.items node) (slice_index self.now.ends.items node) }
     {

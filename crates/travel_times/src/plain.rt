@@ -2,8 +2,9 @@ ghost use Rattle.std.specs.Prelude.{◌≡◌, ℕ, ◌+◌, ◌<◌, ◌≤◌,
 ghost use Rattle.pool_base.specs.TravelTime.{longest};
 ghost use Rattle.road_network.specs.Roads.{index_in};
 ghost use Rattle.road_network.specs.Walk.{IsTimeBetween};
-ghost use Rattle.travel_times.specs.Search.{Relaxes};
-ghost use Rattle.travel_times.specs.Table.{AreRows, AreTravelTimes};
+ghost use Rattle.travel_times.specs.work.Search.{RelaxesHops};
+ghost use Rattle.travel_times.specs.Table.{AreTravelTimes};
+ghost use Rattle.travel_times.specs.work.Table.{AreRows};
 
 use crate::rows::push_row;
 use crate::search::{LONGEST, first_waiting};
@@ -75,12 +76,12 @@ fn none_waiting(alloc: Global, nodes: usize) -> Result<Vec<bool>, OutOfMemory>
     Ok(vec![in alloc; false; nodes]?)
 }
 
-/// Relaxes the arcs of a node.
+/// RelaxesHops the arcs of a node.
 fn relax(hops: &[Hop], here: u32, seconds: &mut [u32], waiting: &mut [bool])
     requires lengths { length waiting.old ≡ length seconds.old }
     requires short { here ≤ longest }
     requires hops { All (λ hop. (hop.to < length seconds.old) × (hop.seconds ≤ 10000)) hops.now }
-    ensures { Relaxes hops.now (length hops.now) here seconds.old waiting.old seconds.new waiting.new }
+    ensures { RelaxesHops hops.now (length hops.now) here seconds.old waiting.old seconds.new waiting.new }
 {
     for hop in hops {
         let through = here + hop.seconds;

@@ -25,7 +25,7 @@ pub struct Ring {
 }
 
 impl Ring {
-    pub fn new(alloc: Global) -> Result<Ring, OutOfMemory> {
+    pub(crate) fn new(alloc: Global) -> Result<Ring, OutOfMemory> {
         let buckets = empty_buckets(alloc)?;
         let filled = vec![in alloc; 0; WORDS]?;
         Ok(Ring {
@@ -38,7 +38,7 @@ impl Ring {
 
     /// Puts a node in by its seconds.
     #[inline]
-    pub fn push(&mut self, node: u32, seconds: u32) -> Result<(), OutOfMemory> {
+    pub(crate) fn push(&mut self, node: u32, seconds: u32) -> Result<(), OutOfMemory> {
         let bucket = seconds as usize % BUCKETS;
         self.buckets[bucket].push(node)?;
         self.filled[bucket / 64] |= 1 << (bucket % 64);
@@ -48,7 +48,7 @@ impl Ring {
 
     /// Takes out the next node.
     #[inline]
-    pub fn pop(&mut self) -> Option<u32>
+    pub(crate) fn pop(&mut self) -> Option<u32>
         ensures { OnSome result (self.new.len < self.old.len) }
     {
         if self.len == 0 {

@@ -1,40 +1,107 @@
-ghost use Rattle.std.specs.Prelude.{◌≡◌, ℕ, ◌+◌, ◌-◌, ◌++◌, ◌<◌, ◌≤◌, All, IfOk, OnOk, length, map, slice_index};
-ghost use Rattle.travel_times.specs.Arcs.{AreArcsOf};
-ghost use Rattle.travel_times.specs.Table.{AreRows};
+ghost use Rattle.std.specs.Prelude.{◌≡◌, ℕ, ◌+◌, ◌*◌, ◌<◌, ◌≤◌, ◌++◌, All, IsTrue, OnOk, length, map, slice_index};
+ghost use Rattle.pool_base.specs.TravelTime.{never};
+ghost use Rattle.travel_times.specs.work.Arcs.{AreArcsOf};
+ghost use Rattle.travel_times.specs.work.Table.{AreWritten, IsPiece, IsPieceWritten, WritesRow};
 
 use crate::arcs::Arcs;
 use crate::search::Search;
-use pool_base::OutOfMemory;
+use pool_base::{OutOfMemory, Times};
+use rayon::prelude::*;
 use road_network::Network;
 use std::alloc::Global;
+use std::thread::Threads;
 
-/// The rows of the points from one place to before another, with one work space.
-pub fn rows_between(
+/// Writes the rows of a table where they stay, so many in one piece of work. A row for which there was no
+/// memory stays as it was, with no way from its point to itself.
+pub(crate) fn write_pieces(
+    rt: &(impl Threads + Sync),
     alloc: Global,
     network: &Network,
     arcs: &Arcs,
     points: &[usize],
-    from: usize,
-    to: usize,
-) -> Result<Vec<u32>, OutOfMemory>
+    rows: usize,
+    cells: &mut [u32],
+)
     requires arcs { AreArcsOf network.now.arcs (length network.now.nodes) arcs.now.ends.items arcs.now.hops.items }
     requires known { All (λ point. point < length network.now.nodes) points.now }
     requires few { length points.now ≤ 12500 }
-    requires order { from ≤ to }
-    requires within { to ≤ length points.now }
-    ensures { IfOk result (λ cells. AreRows network.now.arcs points.now from (to - from) cells.items) }
+    requires rows { 0 < rows }
+    requires most { rows ≤ length points.now }
+    requires size { length cells.old ≡ length points.now * length points.now }
+    requires unwritten { All (λ cell. cell ≡ never) cells.old }
+    ensures { AreWritten network.entry.now.arcs points.entry.now 0 (length points.entry.now) cells.new }
 {
-    let mut search = Search::new(alloc, network.node_count())?;
-    let mut cells = Vec::with_capacity(alloc, (to - from) * points.len())?;
-    for place in from..to {
-        search.run(network, arcs, points[place])?;
-        push_row(&mut cells, points, &search.seconds)?;
+    par_chunks_mut_for_each(
+        rt,
+        cells,
+        rows * points.len(),
+        |start: usize, piece: &mut [u32]|
+            requires { AreArcsOf network.now.arcs (length network.now.nodes) arcs.now.ends.items arcs.now.hops.items × All (λ point. point < length network.now.nodes) points.now × (length points.now ≤ 12500) × (0 < length points.now) × IsPiece (length points.now) start piece.now }
+            ensures { IsPieceWritten network.entry.now.arcs points.entry.now start piece.old piece.new }
+        { write_rows(alloc, network, arcs, points, start, piece) },
+    );
+}
+
+/// Writes the rows of a piece of a table that begins at cell `start`, with one work space.
+fn write_rows(
+    alloc: Global,
+    network: &Network,
+    arcs: &Arcs,
+    points: &[usize],
+    start: usize,
+    cells: &mut [u32],
+)
+    requires arcs { AreArcsOf network.now.arcs (length network.now.nodes) arcs.now.ends.items arcs.now.hops.items }
+    requires known { All (λ point. point < length network.now.nodes) points.now }
+    requires few { length points.now ≤ 12500 }
+    requires some { 0 < length points.now }
+    requires piece { IsPiece (length points.now) start cells.old }
+    ensures { IsPieceWritten network.now.arcs points.now start cells.old cells.new }
+{
+    let Ok(mut search) = Search::new(alloc, network.node_count()) else {
+        return;
+    };
+    let from = start / points.len();
+    let count = cells.len() / points.len();
+    for row in 0..count {
+        let Ok(()) = search.run(network, arcs, points[from + row]) else {
+            return;
+        };
+        write_row(cells, row * points.len(), points, &search.seconds);
     }
-    Ok(cells)
+}
+
+/// Writes the seconds of the points into the cells from `at` on.
+fn write_row(cells: &mut [u32], at: usize, points: &[usize], seconds: &[u32])
+    requires known { All (λ point. point < length seconds.now) points.now }
+    requires room { at + length points.now ≤ length cells.old }
+    ensures { WritesRow points.now seconds.now at cells.old cells.new }
+{
+    for place in 0..points.len() {
+        cells[at + place] = seconds[points[place]];
+    }
+}
+
+/// Whether each of so many rows tells of a way from its point to itself, as each row does that was computed.
+pub(crate) fn are_computed(count: usize, cells: &[u32]) -> bool
+    requires few { count ≤ 12500 }
+    requires size { length cells.now ≡ count * count }
+    ensures { IsTrue result → (i : ℕ) → i < count → slice_index cells.now (i * count + i) ≡ never → ⊥ }
+{
+    for row in 0..count {
+        if cells[row * count + row] == Times::NEVER {
+            return false;
+        }
+    }
+    true
 }
 
 /// Appends the seconds of these points.
-pub fn push_row(cells: &mut Vec<u32>, points: &[usize], seconds: &[u32]) -> Result<(), OutOfMemory>
+pub(crate) fn push_row(
+    cells: &mut Vec<u32>,
+    points: &[usize],
+    seconds: &[u32],
+) -> Result<(), OutOfMemory>
     requires { All (λ point. point < length seconds.now) points.now }
     ensures { OnOk result (cells.new.items ≡ cells.old.items ++ map (λ point. slice_index seconds.now point) points.now) }
 {

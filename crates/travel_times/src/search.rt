@@ -1,8 +1,8 @@
 ghost use Rattle.std.specs.Prelude.{◌≡◌, ℕ, ◌+◌, ◌<◌, ◌≤◌, true, false, All, IfOk, IfSome, IfNone, OnOk, length, replicate, slice_index};
 ghost use Rattle.pool_base.specs.TravelTime.{longest};
 ghost use Rattle.road_network.specs.Walk.{IsTimeBetween};
-ghost use Rattle.travel_times.specs.Arcs.{AreArcsOf};
-ghost use Rattle.travel_times.specs.Search.{IsTaken, Relaxes, waits};
+ghost use Rattle.travel_times.specs.work.Arcs.{AreArcsOf};
+ghost use Rattle.travel_times.specs.work.Search.{IsNextTaken, RelaxesHops, waits};
 
 use crate::arcs::Arcs;
 use crate::ring::Ring;
@@ -26,7 +26,7 @@ pub struct Search {
 }
 
 impl Search {
-    pub fn new(alloc: Global, nodes: usize) -> Result<Search, OutOfMemory>
+    pub(crate) fn new(alloc: Global, nodes: usize) -> Result<Search, OutOfMemory>
         ensures seconds { IfOk result (λ s. length s.seconds.items ≡ nodes) }
         ensures waiting { IfOk result (λ s. length s.waiting.items ≡ nodes) }
     {
@@ -48,7 +48,12 @@ impl Search {
 
     /// Finds the least seconds from one node to every node (Dijkstra 1959, with a ring of buckets by Dial 1969).
     /// The arcs are the network's.
-    pub fn run(&mut self, network: &Network, arcs: &Arcs, start: usize) -> Result<(), OutOfMemory>
+    pub(crate) fn run(
+        &mut self,
+        network: &Network,
+        arcs: &Arcs,
+        start: usize,
+    ) -> Result<(), OutOfMemory>
         requires arcs { AreArcsOf network.now.arcs (length network.now.nodes) arcs.now.ends.items arcs.now.hops.items }
         requires seconds { length self.old.seconds.items ≡ length network.now.nodes }
         requires waiting { length self.old.waiting.items ≡ length network.now.nodes }
@@ -79,7 +84,7 @@ impl Search {
 /// Takes a node that waits: the ring's next, or any, should the ring be empty before.
 fn next_waiting(ring: &mut Ring, waiting: &mut [bool]) -> Option<usize>
     ensures length { length waiting.new ≡ length waiting.old }
-    ensures some { IfSome result (IsTaken waiting.old waiting.new) }
+    ensures some { IfSome result (IsNextTaken waiting.old waiting.new) }
     ensures none { IfNone result ((node : ℕ) → waits waiting.new node ≡ false) }
     ensures unchanged { IfNone result (waiting.new ≡ waiting.old) }
 {
@@ -96,7 +101,7 @@ fn next_waiting(ring: &mut Ring, waiting: &mut [bool]) -> Option<usize>
 }
 
 /// The first node that waits.
-pub fn first_waiting(waiting: &[bool]) -> Option<usize>
+pub(crate) fn first_waiting(waiting: &[bool]) -> Option<usize>
     ensures some { IfSome result (λ node. (node < length waiting.now) × (waits waiting.now node ≡ true)) }
     ensures none { IfNone result ((node : ℕ) → waits waiting.now node ≡ false) }
 {
@@ -108,7 +113,7 @@ pub fn first_waiting(waiting: &[bool]) -> Option<usize>
     None
 }
 
-/// Relaxes the arcs of a node: where one gives fewer seconds, these are noted, and the node at its end waits.
+/// RelaxesHops the arcs of a node: where one gives fewer seconds, these are noted, and the node at its end waits.
 fn relax(
     hops: &[ShortHop],
     here: u32,
@@ -120,7 +125,7 @@ fn relax(
     requires lengths { length waiting.old ≡ length seconds.old }
     requires short { here ≤ longest }
     requires hops { All (λ hop. (hop.to < length seconds.old) × (hop.seconds ≤ 10000)) hops.now }
-    ensures relaxes { OnOk result (Relaxes hops.now (length hops.now) here seconds.old waiting.old seconds.new waiting.new) }
+    ensures relaxes { OnOk result (RelaxesHops hops.now (length hops.now) here seconds.old waiting.old seconds.new waiting.new) }
     ensures seconds_length { length seconds.new ≡ length seconds.old }
     ensures waiting_length { length waiting.new ≡ length waiting.old }
 {

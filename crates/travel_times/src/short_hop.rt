@@ -21,7 +21,7 @@ impl Model for ShortHop {
 }
 
 impl ShortHop {
-    pub fn of(hop: Hop) -> ShortHop
+    pub(crate) fn of(hop: Hop) -> ShortHop
         requires { hop.to < 100000 }
         ensures { result ≡ hop }
     {
@@ -33,14 +33,14 @@ impl ShortHop {
 
     /// The index of the node where it ends.
     #[inline]
-    pub fn to(self) -> usize
+    pub(crate) fn to(self) -> usize
         ensures { result ≡ self.to }
     {
         self.to as usize
     }
 
     #[inline]
-    pub fn seconds(self) -> u32
+    pub(crate) fn seconds(self) -> u32
         ensures { result ≡ self.seconds }
     {
         self.seconds

@@ -1,15 +1,14 @@
-ghost use Rattle.std.specs.Prelude.{◌≡◌, ℕ, ◌+◌, ◌-◌, ◌*◌, ◌<◌, ◌≤◌, ◌↔◌, min, All, IsTrue, Contains, IfOk, length, map};
+ghost use Rattle.std.specs.Prelude.{◌≡◌, ◌<◌, ◌≤◌, ◌↔◌, All, IsTrue, Contains, IfOk, length, map, replicate};
+ghost use Rattle.pool_base.specs.TravelTime.{never};
 ghost use Rattle.road_network.specs.Roads.{index_in};
-ghost use Rattle.travel_times.specs.Arcs.{AreArcsOf};
-ghost use Rattle.travel_times.specs.Table.{AreRows, AreTravelTimes};
+ghost use Rattle.travel_times.specs.Table.{AreTravelTimes};
+ghost use Rattle.travel_times.specs.work.Table.{AreRows};
 
 use crate::arcs::Arcs;
-use crate::rows::rows_between;
+use crate::rows::{are_computed, write_pieces};
 use pool_base::{NodeId, OutOfMemory, Times};
-use rayon::prelude::*;
 use road_network::Network;
 use std::alloc::Global;
-use std::mem;
 use std::thread::Threads;
 
 /// Work below so many settled nodes takes less than a millisecond or two, and stays on one thread.
@@ -35,7 +34,7 @@ pub fn times_between(
 }
 
 /// The table of these cells: what follows from least times over walks is what a table keeps.
-pub fn table_of(network: &Network, points: &[usize], cells: Vec<u32>) -> Times
+pub(crate) fn table_of(network: &Network, points: &[usize], cells: Vec<u32>) -> Times
     requires known { All (λ point. point < length network.now.nodes) points.now }
     requires rows { AreRows network.now.arcs points.now 0 (length points.now) cells.items }
     ensures { AreTravelTimes network.now.arcs points.now result }
@@ -57,7 +56,7 @@ pub fn are_known(network: &Network, nodes: &[NodeId]) -> bool
 }
 
 /// The indexes of nodes.
-pub fn indexes_of(
+pub(crate) fn indexes_of(
     alloc: Global,
     network: &Network,
     nodes: &[NodeId],
@@ -75,16 +74,18 @@ pub fn indexes_of(
 
 /// How many rows one thread computes.
 fn rows_of_a_piece(rt: &impl Threads, points: usize, nodes: usize) -> usize
-    ensures { 0 < result }
+    requires { 0 < points }
+    ensures some { 0 < result }
+    ensures most { result ≤ points }
 {
     if points.saturating_mul(nodes) < SMALL {
-        points.max(1)
+        points
     } else {
-        points.div_ceil(rayon::current_num_threads(rt)).max(1)
+        points.div_ceil(rayon::current_num_threads(rt))
     }
 }
 
-/// The cells of the table, row by row.
+/// The cells of the table, row by row, each written where it stays: the table is held once.
 fn cells_between(
     rt: &(impl Threads + Sync),
     alloc: Global,
@@ -96,35 +97,22 @@ fn cells_between(
     ensures { IfOk result (λ cells. AreRows network.now.arcs points.now 0 (length points.now) cells.items) }
 {
     let arcs = Arcs::of(alloc, network)?;
-    let rows = rows_of_a_piece(rt, points.len(), network.node_count());
-    if points.len() <= rows {
-        return rows_between(alloc, network, &arcs, points, 0, points.len());
+    let count = points.len();
+    let mut cells = unwritten(alloc, count * count)?;
+    if count == 0 {
+        return Ok(cells);
     }
-    let pieces = points.len().div_ceil(rows);
-    let mut parts = (0..pieces)
-        .into_par_iter()
-        .with_min_len(1)
-        .map(
-            |piece: usize| -> Result<Vec<u32>, OutOfMemory>
-                requires { AreArcsOf network.now.arcs (length network.now.nodes) arcs.ends.items arcs.hops.items × (piece * rows < length points.now) × (rows < length points.now) × All (λ point. point < length network.now.nodes) points.now × (length points.now ≤ 12500) }
-                ensures { IfOk result (λ cells. AreRows network.entry.now.arcs points.entry.now (piece * rows) (min (piece * rows + rows) (length points.entry.now) - piece * rows) cells.items) }
-            {
-                let from = piece * rows;
-                rows_between(
-                    alloc,
-                    network,
-                    &arcs,
-                    points,
-                    from,
-                    (from + rows).min(points.len()),
-                )
-            },
-        )
-        .collect::<Vec<Result<Vec<u32>, OutOfMemory>>>(rt, alloc)?;
-    let mut cells = Vec::with_capacity(alloc, points.len() * points.len())?;
-    for piece in 0..pieces {
-        let block = mem::replace(&mut parts[piece], Ok(Vec::new(alloc)))?;
-        cells.extend_from_slice(&block)?;
+    let rows = rows_of_a_piece(rt, count, network.node_count());
+    write_pieces(rt, alloc, network, &arcs, points, rows, &mut cells);
+    if !are_computed(count, &cells) {
+        return Err(OutOfMemory);
     }
     Ok(cells)
+}
+
+/// As many cells that tell of no way.
+fn unwritten(alloc: Global, cells: usize) -> Result<Vec<u32>, OutOfMemory>
+    ensures { IfOk result (λ list. list.items ≡ replicate cells never) }
+{
+    Ok(vec![in alloc; Times::NEVER; cells]?)
 }

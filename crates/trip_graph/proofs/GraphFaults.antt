@@ -8,16 +8,18 @@ use Rattle.std.proofs.lemmas.Option.{none-some, same_Some}
 use Rattle.pool_base.specs.TravelTime.{IsTravelTime}
 use Rattle.stop_orders.specs.declared.settled.Settled.{Settled}
 use Rattle.stop_orders.specs.Task.{IsServable}
-use Rattle.stop_orders.specs.Settled.{IsTrip, IsSound, trip_task, vehicle_at}
-use Rattle.stop_orders.proofs.TripLemmas.{sub_trip_servable, delay_small}
+use Rattle.stop_orders.specs.Settled.{IsTrip, trip_task, vehicle_at}
+use Rattle.stop_orders.specs.Sound.{IsSound}
+use Rattle.stop_orders.specs.Laws.{SubTripsAreServable, DelaysAreSmall}
 use Rattle.plan_rules.specs.declared.row.TripRow.{TripRow}
 use Rattle.plan_rules.specs.declared.fault.GraphFault.{GraphFault}
 use Rattle.plan_rules.specs.declared.fault.GraphFault.TheVariants.{Range, Order, Held, OutOfMemory}
 use Rattle.plan_rules.specs.Graph.{Graph, no_row, choice_at, riders_at, has_rider, times_served, HoldsRightly}
-use Rattle.plan_rules.specs.GraphFault.{HasGoodRows, HasRowsInOrder, HasHeldRows, IsFaultOf}
-use Rattle.plan_rules.proofs.GraphLemmas.{tail_rises, times_served_found, in_choice}
-use Rattle.plan_rules.proofs.HeldLemmas.{holds_at}
-use Rattle.trip_graph.specs.Answer.{IsRowWith, AreRowsOf, HoldRows}
+use Rattle.plan_rules.specs.GraphFault.{HasGoodRows, HasRowsInOrder, HasHeldRows, IsGraphFault}
+use Rattle.plan_rules.proofs.lemmas.GraphLemmas.{tail_rises, times_served_found, in_choice}
+use Rattle.plan_rules.proofs.lemmas.HeldLemmas.{holds_at}
+use Rattle.trip_graph.specs.Answer.{IsRowWith, HoldRows}
+use Rattle.trip_graph.specs.work.Levels.{AreRowsUpTo}
 use Rattle.trip_graph.proofs.RowOrder.{AreInOrder}
 
 contains_of : (xs : List ℕ) (r : ℕ) → list_any (λ x. x == r) xs ≡ true → Contains xs r
@@ -31,26 +33,26 @@ held_riders rows held w k riders true none e = absurd (none-some k (sym none ∙
 held_riders rows held w k riders false found e =
     subst (λ (j : ℕ). (get_or rows j no_row).riders.items ≡ riders) (same_Some found.0 k (sym found.1 ∙ e)) found.2.trip
 
-module _ (most points : ℕ) (tau : ℕ → ℕ → ℕ) (settled : Settled) (few : most ≤ 6) (travel : IsTravelTime points tau) (sound : IsSound most points tau settled) where
+module _ (most points : ℕ) (tau : ℕ → ℕ → ℕ) (settled : Settled) (subs : SubTripsAreServable) (delays : DelaysAreSmall) (few : most ≤ 6) (travel : IsTravelTime points tau) (sound : IsSound most points tau settled) where
   -- where a vehicle serves a trip, it serves its passengers alone
   alone_served : (v : ℕ) (trip : List ℕ) → v < length settled.vehicles → IsTrip (length settled.riders) trip → length trip ≤ 6
       → IsServable tau (trip_task settled v trip) → IsServable tau (trip_task settled v [])
   alone_served v [] less riders short served = served
   alone_served v (r ∷ rs) less riders short served =
       alone_served v rs less (record { rising = tail_rises r rs riders.rising; within = λ k d lt. riders.within (suc k) d (omega arith) }) (omega arith)
-      (sub_trip_servable most points tau settled travel sound v less (r ∷ rs) riders short 0 (omega arith) served)
+      (subs most points tau settled v (r ∷ rs) 0 travel sound less riders short (omega arith) served)
 
   module _ (g : Graph) (vehicles : g.vehicles ≡ length settled.vehicles) (riders : g.riders ≡ length settled.riders)
-      (exact : AreRowsOf most tau settled (length settled.vehicles) g.rows) (hold : HoldRows settled (length settled.vehicles) g.rows g.held) where
+      (exact : AreRowsUpTo most tau settled (length settled.vehicles) g.rows) (hold : HoldRows settled (length settled.vehicles) g.rows g.held) where
     good_rows : HasGoodRows g
     good_rows k lt =
         let row = exact.right k lt in
-        let size = row.size in
-        let small = delay_small most points tau settled (get_or g.rows k no_row).vehicle (get_or g.rows k no_row).riders.items row.costs.stops sound row.vehicle row.riders (omega arith) row.costs.serves in
-        let cost = row.costs.has_delay in
+        let size = row.served.size in
+        let small = delays most points tau settled (get_or g.rows k no_row).vehicle (get_or g.rows k no_row).riders.items row.least.stops sound row.served.vehicle row.served.riders (omega arith) row.least.serves in
+        let cost = row.least.has_delay in
         record {
-          vehicle = (let b = row.vehicle in omega arith);
-          members = record { below = λ i l. (let b = row.riders.within i 0 l in omega arith); rising = row.riders.rising };
+          vehicle = (let b = row.served.vehicle in omega arith);
+          members = record { below = λ i l. (let b = row.served.riders.within i 0 l in omega arith); rising = row.served.riders.rising };
           few = omega arith;
           cheap = omega arith;
         }
@@ -81,9 +83,9 @@ module _ (most points : ℕ) (tau : ℕ → ℕ → ℕ) (settled : Settled) (fe
     holds_by v less true unserved none =
         holds_at g v None none (λ k own.
         let row = exact.right k own.within in
-        let size = row.size in
-        let served = subst (λ (w : ℕ). IsServable tau (trip_task settled w (riders_at g k))) own.own (row.costs.stops, row.costs.serves) in
-        unserved (alone_served v (riders_at g k) less row.riders (omega arith) served))
+        let size = row.served.size in
+        let served = subst (λ (w : ℕ). IsServable tau (trip_task settled w (riders_at g k))) own.own row.served.servable in
+        unserved (alone_served v (riders_at g k) less row.served.riders (omega arith) served))
     holds_by v less false served found =
         holds_at g v (Some found.0) found.1 (record { within = found.2.within; own = found.2.own }, none_earlier v found.0 less found.2)
 
@@ -94,7 +96,7 @@ module _ (most points : ℕ) (tau : ℕ → ℕ → ℕ) (settled : Settled) (fe
     }
 
 -- what may be wrong where rows are good, in order, and held rightly
-only_memory : (g : Graph) (fault : GraphFault) → HasGoodRows g → HasRowsInOrder g → HasHeldRows g → IsFaultOf g fault → fault ≡ OutOfMemory
+only_memory : (g : Graph) (fault : GraphFault) → HasGoodRows g → HasRowsInOrder g → HasHeldRows g → IsGraphFault g fault → fault ≡ OutOfMemory
 only_memory g (Range row) rows order held h = absurd (h.wrong (rows row h.within))
 only_memory g (Order row) rows order held h = absurd (h.first.wrong (order h.first.previous (let n = h.first.next in let w = h.first.within in omega arith)))
 only_memory g (Held vehicle) rows order held (inl h) = absurd (h.wrong (held.holds vehicle (let w = h.within in omega arith)))
@@ -102,10 +104,10 @@ only_memory g (Held vehicle) rows order held (inr h) = absurd (h.differs held.si
 only_memory g OutOfMemory rows order held h = refl
 
 -- want of memory alone keeps such a graph from being made
-pub memory_only : (most points : ℕ) (tau : ℕ → ℕ → ℕ) (settled : Settled) → most ≤ 6 → IsTravelTime points tau → IsSound most points tau settled
-    → (g : Graph) → g.vehicles ≡ length settled.vehicles → g.riders ≡ length settled.riders → AreRowsOf most tau settled (length settled.vehicles) g.rows
-    → HoldRows settled (length settled.vehicles) g.rows g.held → AreInOrder g.rows → (fault : GraphFault) → IsFaultOf g fault → fault ≡ OutOfMemory
-memory_only most points tau settled few travel sound g vehicles riders exact hold order fault h =
-    only_memory g fault (good_rows most points tau settled few travel sound g vehicles riders exact hold)
-    (rows_in_order most points tau settled few travel sound g vehicles riders exact hold order)
-    (held_rows most points tau settled few travel sound g vehicles riders exact hold) h
+pub memory_only : (most points : ℕ) (tau : ℕ → ℕ → ℕ) (settled : Settled) → SubTripsAreServable → DelaysAreSmall → most ≤ 6 → IsTravelTime points tau → IsSound most points tau settled
+    → (g : Graph) → g.vehicles ≡ length settled.vehicles → g.riders ≡ length settled.riders → AreRowsUpTo most tau settled (length settled.vehicles) g.rows
+    → HoldRows settled (length settled.vehicles) g.rows g.held → AreInOrder g.rows → (fault : GraphFault) → IsGraphFault g fault → fault ≡ OutOfMemory
+memory_only most points tau settled subs delays few travel sound g vehicles riders exact hold order fault h =
+    only_memory g fault (good_rows most points tau settled subs delays few travel sound g vehicles riders exact hold)
+    (rows_in_order most points tau settled subs delays few travel sound g vehicles riders exact hold order)
+    (held_rows most points tau settled subs delays few travel sound g vehicles riders exact hold) h

@@ -2,7 +2,7 @@ use Rattle.std.proofs.Common.{◌≡◌, ℕ, suc, ◌+◌, ◌-◌, ◌<◌, �
 use Rattle.std.specs.Prelude.{MatchBool, MatchOption}
 use Rattle.std.specs.List.{All, flat_map}
 use Rattle.std.proofs.lemmas.Bool.{cases_lt}
-use Rattle.std.proofs.lemmas.List.{length-map, length-append, get_or_append_left, get_or-append_right, get_or_push, get_or-map, take_more}
+use Rattle.std.proofs.lemmas.List.{length-map, length-append, get_or_append_left, get_or-append_right, get_or_push, get_or-map, get_or_default, get_or_past, take_more, take_all}
 use Rattle.std.proofs.lemmas.List.Elements.{All-append, All-nil}
 use Rattle.std.proofs.lemmas.List.Concat.{flat_map-cons, get_or-flat_map}
 use Rattle.std.proofs.lemmas.List.Folds.{length-flat_map-take}
@@ -10,15 +10,16 @@ use Rattle.std.proofs.lemmas.List.Sums.{sum_by-cons, sum_by_push, sum_by-take-le
 use Rattle.stop_orders.specs.declared.settled.Settled.{Settled}
 use Rattle.stop_orders.specs.declared.settled_vehicle.SettledVehicle.{SettledVehicle}
 use Rattle.stop_orders.specs.Task.{IsServable}
-use Rattle.stop_orders.specs.Settled.{IsTrip, IsRow, IsSoundVehicle, trip_task, vehicle_at}
+use Rattle.stop_orders.specs.Settled.{IsTrip, IsRow, trip_task, vehicle_at}
+use Rattle.stop_orders.specs.Sound.{IsSoundVehicle}
 use Rattle.plan_rules.specs.declared.row.TripRow.{TripRow}
 use Rattle.plan_rules.specs.Graph.{Graph, IsGoodGraph, no_row, choice_at}
 use Rattle.rider_limits.specs.declared.settings.Settings.{Settings}
 use Rattle.trip_growth.specs.declared.trip_of.TripOf.{TripOf}
-use Rattle.trip_growth.specs.Rows.{AreRowsOfSize}
-use Rattle.trip_graph.specs.Levels.{AreLevels, row_total, level_total}
-use Rattle.trip_graph.specs.Rows.{trip_row, vehicle_rows}
-use Rattle.trip_graph.specs.Answer.{IsRowWith, AreRowsOf, HoldRows, IsTripGraphOf, total_upto}
+use Rattle.trip_growth.specs.Rows.{AreSomeRows, AreRowsOfSize}
+use Rattle.trip_graph.specs.work.Levels.{AreLevels, row_total, level_total, AreRowsUpTo, total_upto}
+use Rattle.trip_graph.specs.work.Rows.{trip_row, vehicle_rows}
+use Rattle.trip_graph.specs.Answer.{IsRowWith, AreRowsOf, HoldRows, IsTripGraphOf}
 
 no_trip : TripOf
 no_trip = record { riders = record { items = [] }; cost = 0 }
@@ -47,36 +48,67 @@ total_few (lists ∷ levels) n =
     let rest = total_few levels n in
     omega arith
 
-total_step : (levels : List (List (List TripOf))) (v : ℕ) → ((k : ℕ) → k < length levels → v < length (get_or levels k [])) → total_upto levels (v + 1) ≡ total_upto levels v + length (vehicle_rows levels v)
-total_step [] v each = refl
-total_step (lists ∷ levels) v each =
+-- of one vehicle more, which may have no list
+one_more_list : (lists : List (List TripOf)) (v : ℕ) → row_total (take (v + 1) lists) ≡ row_total (take v lists) + length (get_or lists v [])
+one_more_list lists v = elim (cases_lt v (length lists)) as (λ _. row_total (take (v + 1) lists) ≡ row_total (take v lists) + length (get_or lists v [])) [
+  | inl lt ↦ ap row_total (take_more lists v [] lt) ∙ sum_by_push (λ (rows : List TripOf). length rows) (take v lists) (get_or lists v [])
+  | inr ge ↦
+      let long = take_all (v + 1) lists (omega arith) in
+      let same = take_all v lists ge in
+      let none : length (get_or lists v []) ≡ 0 = ap length (get_or_past lists v [] ge) in
+      let a = ap row_total long in
+      let b = ap row_total same in
+      omega arith
+]
+
+pub total_step : (levels : List (List (List TripOf))) (v : ℕ) → total_upto levels (v + 1) ≡ total_upto levels v + length (vehicle_rows levels v)
+total_step [] v = refl
+total_step (lists ∷ levels) v =
     let f : List (List TripOf) → List TripRow = λ ls. map (trip_row v) (get_or ls v []) in
     let a = sum_by-cons (λ (ls : List (List TripOf)). row_total (take (v + 1) ls)) lists levels in
     let b = sum_by-cons (λ (ls : List (List TripOf)). row_total (take v ls)) lists levels in
-    let rest = total_step levels v (λ k lt. each (suc k) (omega arith)) in
-    let more : row_total (take (v + 1) lists) ≡ row_total (take v lists) + length (get_or lists v []) =
-    ap row_total (take_more lists v [] (each 0 (omega arith))) ∙ sum_by_push (λ (rows : List TripOf). length rows) (take v lists) (get_or lists v []) in
+    let rest = total_step levels v in
+    let more = one_more_list lists v in
     let long : length (vehicle_rows (lists ∷ levels) v) ≡ length (f lists) + length (vehicle_rows levels v) =
     ap length (flat_map-cons f lists levels) ∙ length-append (f lists) (vehicle_rows levels v) in
     let same = length-map (get_or lists v []) (trip_row v) in
     omega arith
 
-module _ (most : ℕ) (tau : ℕ → ℕ → ℕ) (settled : Settled) where
-  record IsOwn (v : ℕ) (row : TripRow) : Type 0 where
-    own : row.vehicle ≡ v
-    right : IsRow most tau settled row.vehicle row.riders.items row.cost
+-- all vehicles together have all rows
+pub total_all : (levels : List (List (List TripOf))) (n : ℕ) → ((k : ℕ) → k < length levels → length (get_or levels k []) ≤ n) → total_upto levels n ≡ level_total levels
+total_all [] n few = refl
+total_all (lists ∷ levels) n few =
+    let a = sum_by-cons (λ (ls : List (List TripOf)). row_total (take n ls)) lists levels in
+    let b = sum_by-cons row_total lists levels in
+    let rest = total_all levels n (λ k lt. few (suc k) (omega arith)) in
+    let one = ap row_total (take_all n lists (few 0 (omega arith))) in
+    omega arith
 
-  own_level : (v size : ℕ) (rows : List TripOf) → v < length settled.vehicles → size ≤ most → AreRowsOfSize tau settled v size rows → All (IsOwn v) (map (trip_row v) rows)
-  own_level v size rows less below level k d lt =
+module _ (most : ℕ) (tau : ℕ → ℕ → ℕ) (settled : Settled) where
+  pub record IsOwn (v : ℕ) (row : TripRow) : Type 0 where
+    pub own : row.vehicle ≡ v
+    pub right : IsRow most tau settled row.vehicle row.riders.items row.cost
+
+  own_level : (v size : ℕ) (rows : List TripOf) → size ≤ most → AreSomeRows tau settled v (λ n. n ≡ size) rows → All (IsOwn v) (map (trip_row v) rows)
+  own_level v size rows below level k d lt =
       let within : k < length rows = (let e = length-map rows (trip_row v) in omega arith) in
       let right = level.right k no_trip within in
       let sized = level.sized k no_trip within in
+      let served = right.served in
       rw (get_or-map (trip_row v) rows k no_trip d within)
-      (record { own = refl; right = record { vehicle = less; riders = right.served.riders; size = omega arith; costs = right.least } })
+      (record { own = refl; right = record { served = record { vehicle = served.vehicle; riders = served.riders; size = omega arith; servable = served.servable }; least = right.least } })
 
-  own_rows : (v : ℕ) (levels : List (List (List TripOf))) → AreLevels tau settled (most + 1) levels → v < length settled.vehicles → All (IsOwn v) (vehicle_rows levels v)
-  own_rows v levels all less =
-      own_all (IsOwn v) v levels (λ k lt. let c = all.count in own_level v k (get_or (get_or levels k []) v []) less (omega arith) ((all.each k (omega arith)).each v less))
+  pub own_rows : (v : ℕ) (levels : List (List (List TripOf))) → length levels ≤ most + 1
+      → ((k : ℕ) → k < length levels → AreSomeRows tau settled v (λ n. n ≡ k) (get_or (get_or levels k []) v [])) → All (IsOwn v) (vehicle_rows levels v)
+  own_rows v levels sizes each = own_all (IsOwn v) v levels (λ k lt. own_level v k (get_or (get_or levels k []) v []) (omega arith) (each k lt))
+
+  -- the rows of a vehicle in whole levels
+  pub some_of_levels : (v : ℕ) (levels : List (List (List TripOf))) → AreLevels tau settled (most + 1) levels → v < length settled.vehicles
+      → (k : ℕ) → k < length levels → AreSomeRows tau settled v (λ n. n ≡ k) (get_or (get_or levels k []) v [])
+  some_of_levels v levels all less k lt = let c = all.count in ((all.each k (omega arith)).each v less).some
+
+  own_of_levels : (v : ℕ) (levels : List (List (List TripOf))) → AreLevels tau settled (most + 1) levels → v < length settled.vehicles → All (IsOwn v) (vehicle_rows levels v)
+  own_of_levels v levels all less = own_rows v levels (let c = all.count in omega arith) (some_of_levels v levels all less)
 
   own_whole : (v : ℕ) (levels : List (List (List TripOf))) (trip : List ℕ) → AreLevels tau settled (most + 1) levels → most ≤ 6 → v < length settled.vehicles
       → IsTrip (length settled.riders) trip → length trip ≤ most → IsServable tau (trip_task settled v trip)
@@ -88,7 +120,7 @@ module _ (most : ℕ) (tau : ℕ → ℕ → ℕ) (settled : Settled) where
       let lt : n < length levels = (let c = all.count in omega arith) in
       let rows = get_or (get_or levels n []) v [] in
       let level : AreRowsOfSize tau settled v n rows = (all.each n (omega arith)).each v less in
-      let found = level.whole trip refl (record { riders = is_trip; size = omega arith; servable = servable }) in
+      let found = level.whole trip refl (record { vehicle = less; riders = is_trip; size = omega arith; servable = servable }) in
       let within : found.0 < length rows = (let e = length-map rows g in let h = found.1 in omega arith) in
       let inside : found.0 < length (f (get_or levels n [])) = (let e = length-map rows (trip_row v) in omega arith) in
       let bound = length-flat_map-take f levels n [] lt in
@@ -97,15 +129,15 @@ module _ (most : ℕ) (tau : ℕ → ℕ → ℕ) (settled : Settled) where
       ap (λ (r : TripRow). r.riders.items) (get_or-map (trip_row v) rows found.0 no_trip no_row within) ∙ sym (get_or-map g rows found.0 no_trip trip within) ∙ found.2 in
       (length (flat_map f (take n levels)) + found.0, omega arith, ap (λ (r : TripRow). r.riders.items) at ∙ item)
 
-  pub rows_none : AreRowsOf most tau settled 0 []
+  pub rows_none : AreRowsUpTo most tau settled 0 []
   rows_none = record { right = λ k lt. absurd (omega arith); below = λ k lt. absurd (omega arith); whole = λ v trip lt. absurd (omega arith) }
 
   -- rows of one vehicle more
   pub rows_more : (v : ℕ) (levels : List (List (List TripOf))) (rows : List TripRow) → AreLevels tau settled (most + 1) levels → most ≤ 6 → v < length settled.vehicles
-      → AreRowsOf most tau settled v rows → AreRowsOf most tau settled (v + 1) (rows ++ vehicle_rows levels v)
+      → AreRowsUpTo most tau settled v rows → AreRowsUpTo most tau settled (v + 1) (rows ++ vehicle_rows levels v)
   rows_more v levels rows all few less before =
       let new = vehicle_rows levels v in
-      let own = own_rows v levels all less in
+      let own = own_of_levels v levels all less in
       let count = length-append rows new in
       let each : (k : ℕ) → k < length (rows ++ new) → IsRow most tau settled (get_or (rows ++ new) k no_row).vehicle (get_or (rows ++ new) k no_row).riders.items (get_or (rows ++ new) k no_row).cost
       × ((get_or (rows ++ new) k no_row).vehicle < v + 1) =
@@ -183,12 +215,12 @@ module _ (most : ℕ) (tau : ℕ → ℕ → ℕ) (settled : Settled) where
 
   -- the row that one vehicle more holds
   pub hold_more : (points v : ℕ) (levels : List (List (List TripOf))) (rows : List TripRow) (held : List (Option ℕ)) (h : Option ℕ) → AreLevels tau settled (most + 1) levels → most ≤ 6
-      → v < length settled.vehicles → IsSoundVehicle most points tau settled v → AreRowsOf most tau settled v rows → HoldRows settled v rows held
+      → v < length settled.vehicles → IsSoundVehicle most points tau settled v → AreRowsUpTo most tau settled v rows → HoldRows settled v rows held
       → Finds v (rows ++ vehicle_rows levels v) (length rows) h → HoldRows settled (v + 1) (rows ++ vehicle_rows levels v) (held ++ h ∷ [])
   hold_more points v levels rows held h all few less sound before hold found =
       let new = vehicle_rows levels v in
       let vehicle = vehicle_at settled v in
-      let own = own_rows v levels all less in
+      let own = own_of_levels v levels all less in
       let after = rows_more v levels rows all few less before in
       let count = length-append rows new in
       let last : MatchBool vehicle.late (h ≡ None) ((k : ℕ) × (h ≡ Some k) × IsRowWith (rows ++ new) v vehicle.held.items k) =
@@ -236,12 +268,19 @@ module _ (most : ℕ) (tau : ℕ → ℕ → ℕ) (settled : Settled) where
       → length (rows ++ vehicle_rows levels v) ≡ total_upto levels (v + 1)
   total_more v levels rows all less so_far =
       let a = length-append rows (vehicle_rows levels v) in
-      let b = total_step levels v (λ k lt. let c = all.count in let t = (all.each k (omega arith)).total in omega arith) in
+      let b = total_step levels v in
       omega arith
+
+-- the rows of all vehicles
+rows_of_all : (most : ℕ) (tau : ℕ → ℕ → ℕ) (settled : Settled) (rows : List TripRow) → AreRowsUpTo most tau settled (length settled.vehicles) rows → AreRowsOf most tau settled rows
+rows_of_all most tau settled rows all = record {
+  right = λ k d lt. subst (λ (row : TripRow). IsRow most tau settled row.vehicle row.riders.items row.cost) (get_or_default rows k no_row d lt) (all.right k lt);
+  whole = λ v trip can. all.whole v trip can.vehicle can.riders can.size can.servable;
+}
 
 pub graph_right : (settings : Settings) (tau : ℕ → ℕ → ℕ) (settled : Settled) (graph : Graph) (vehicles riders : ℕ) (rows : List TripRow) (held : List (Option ℕ))
     → graph ≡ record { vehicles = vehicles; riders = riders; penalty = settings.penalty; rows = rows; held = held } → IsGoodGraph graph
-    → vehicles ≡ length settled.vehicles → riders ≡ length settled.riders → AreRowsOf settings.trip tau settled (length settled.vehicles) rows
+    → vehicles ≡ length settled.vehicles → riders ≡ length settled.riders → AreRowsUpTo settings.trip tau settled (length settled.vehicles) rows
     → HoldRows settled (length settled.vehicles) rows held → length rows ≤ settings.pairs → IsTripGraphOf settings tau settled graph
 graph_right settings tau settled graph vehicles riders rows held value good a b exact hold few =
     let r : rows ≡ graph.rows = sym (ap (λ (g : Graph). g.rows) value) in
@@ -250,7 +289,7 @@ graph_right settings tau settled graph vehicles riders rows held value good a b 
       vehicle_total = ap (λ (g : Graph). g.vehicles) value ∙ a;
       rider_total = ap (λ (g : Graph). g.riders) value ∙ b;
       left_out = ap (λ (g : Graph). g.penalty) value;
-      exact = subst (λ (x : List TripRow). AreRowsOf settings.trip tau settled (length settled.vehicles) x) r exact;
+      exact = subst (λ (x : List TripRow). AreRowsOf settings.trip tau settled x) r (rows_of_all settings.trip tau settled rows exact);
       hold = subst (λ (y : List (Option ℕ)). HoldRows settled (length settled.vehicles) graph.rows y) h (subst (λ (x : List TripRow). HoldRows settled (length settled.vehicles) x held) r hold);
       few = subst (λ (x : List TripRow). length x ≤ settings.pairs) r few;
       good = good;

@@ -4,10 +4,11 @@ use Rattle.std.proofs.lemmas.List.{length-map, length-append, get_or_append_left
 use Rattle.std.proofs.lemmas.List.Sums.{sum_by_push}
 use Rattle.stop_orders.specs.declared.settled.Settled.{Settled}
 use Rattle.trip_growth.specs.declared.trip_of.TripOf.{TripOf}
-use Rattle.trip_growth.specs.Trip.{ComesBefore}
-use Rattle.trip_growth.specs.Level.{trips_of, HasMoreThan}
-use Rattle.trip_growth.specs.Rows.{CanServe, CostsLeast, AreRowsOfSize}
-use Rattle.trip_graph.specs.Levels.{AreSomeRows, IsLevelUpTo, HasMoreOfSize, AreLevels, HasMoreRows, row_total, level_total}
+use Rattle.trip_growth.specs.Trip.{ComesBefore, trips_of}
+use Rattle.trip_growth.specs.Rows.{AreSomeRows, AreRowsOfSize, HasMoreThan}
+use Rattle.trip_graph.specs.work.Levels.{AreLevelsUpTo, HasMoreOfSize, AreLevels, row_total, level_total}
+use Rattle.trip_graph.specs.Answer.{HasMoreRows}
+use Rattle.trip_graph.proofs.MoreRows.{more_rows}
 
 none_before : (a b : List ℕ) → length a ≡ 0 → length b ≡ 0 → ComesBefore a b → ⊥
 none_before [] b p q (inl h) = absurd (omega arith)
@@ -28,20 +29,17 @@ module _ (tau : ℕ → ℕ → ℕ) (settled : Settled) where
             let f : TripOf → List ℕ = λ row. row.riders.items in
             let whole : length (trips_of rows) ≡ length rows = length-map rows f in
             let d : TripOf = record { riders = record { items = [] }; cost = 0 } in
-            let first : length (get_or (trips_of rows) 0 []) ≡ 0 = rw (get_or-map f rows 0 d [] (omega arith)) (own.sized 0 d (omega arith)) in
-            let second : length (get_or (trips_of rows) 1 []) ≡ 0 = rw (get_or-map f rows 1 d [] (omega arith)) (own.sized 1 d more) in
-            absurd (none_before (get_or (trips_of rows) 0 []) (get_or (trips_of rows) 1 []) first second (own.rising 0 1 (omega arith) (omega arith)))
+            let first : length (get_or (trips_of rows) 0 []) ≡ 0 = rw (get_or-map f rows 0 d [] (omega arith)) (own.some.sized 0 d (omega arith)) in
+            let second : length (get_or (trips_of rows) 1 []) ≡ 0 = rw (get_or-map f rows 1 d [] (omega arith)) (own.some.sized 1 d more) in
+            absurd (none_before (get_or (trips_of rows) 0 []) (get_or (trips_of rows) 1 []) first second (own.some.rising 0 1 (omega arith) (omega arith)))
         | inr ge ↦ omega arith
       ]
 
-  pub some_rows : (v size : ℕ) (rows : List TripOf) → AreRowsOfSize tau settled v size rows → AreSomeRows tau settled v size rows
-  some_rows v size rows own = record { right = own.right; sized = own.sized; rising = own.rising }
-
-  pub level_none : (size : ℕ) → IsLevelUpTo tau settled size 0 []
+  pub level_none : (size : ℕ) → AreLevelsUpTo tau settled size 0 []
   level_none size = record { total = refl; each = λ v lt. absurd (omega arith) }
 
-  pub level_more : (size n : ℕ) (lists : List (List TripOf)) (rows : List TripOf) → IsLevelUpTo tau settled size n lists → AreRowsOfSize tau settled n size rows
-      → IsLevelUpTo tau settled size (n + 1) (lists ++ rows ∷ [])
+  pub level_more : (size n : ℕ) (lists : List (List TripOf)) (rows : List TripOf) → AreLevelsUpTo tau settled size n lists → AreRowsOfSize tau settled n size rows
+      → AreLevelsUpTo tau settled size (n + 1) (lists ++ rows ∷ [])
   level_more size n lists rows level own =
       record {
         total = (let a = length-append lists (rows ∷ []) in let b = level.total in omega arith);
@@ -54,65 +52,62 @@ module _ (tau : ℕ → ℕ → ℕ) (settled : Settled) where
       }
 
   -- some rows of one vehicle more, which together with those before are more than the room
-  pub more_than_room : (size room n : ℕ) (lists : List (List TripOf)) (rows : List TripOf) → IsLevelUpTo tau settled size n lists → AreSomeRows tau settled n size rows
+  pub more_than_room : (size room n : ℕ) (lists : List (List TripOf)) (rows : List TripOf) → AreLevelsUpTo tau settled size n lists → AreSomeRows tau settled n (λ m. m ≡ size) rows
       → n < length settled.vehicles → room < row_total lists + length rows → HasMoreOfSize tau settled size room
   more_than_room size room n lists rows level own lt more =
       record {
         lists = lists ++ rows ∷ [];
         few = (let a = length-append lists (rows ∷ []) in let b = level.total in omega arith);
-        each = λ v less. elim (cases_lt v n) as (λ _. AreSomeRows tau settled v size (get_or (lists ++ rows ∷ []) v [])) [
-          | inl lower ↦ rw (get_or_append_left lists (rows ∷ []) [] v (let b = level.total in omega arith)) (some_rows v size (get_or lists v []) (level.each v lower))
+        each = λ v less. elim (cases_lt v n) as (λ _. AreSomeRows tau settled v (λ m. m ≡ size) (get_or (lists ++ rows ∷ []) v [])) [
+          | inl lower ↦ rw (get_or_append_left lists (rows ∷ []) [] v (let b = level.total in omega arith)) (level.each v lower).some
           | inr ge ↦
               let e : n ≡ v = (let a = length-append lists (rows ∷ []) in let b = level.total in omega arith) in
-              subst (λ (w : ℕ). AreSomeRows tau settled w size (get_or (lists ++ rows ∷ []) w [])) e (rw (get_or_push lists rows [] n level.total) own)
+              subst (λ (w : ℕ). AreSomeRows tau settled w (λ m. m ≡ size) (get_or (lists ++ rows ∷ []) w [])) e (rw (get_or_push lists rows [] n level.total) own)
         ];
         more = rw (total_more lists rows) more;
       }
 
   -- the vehicle alone has more rows than there is room left
-  pub more_than_left : (size room left n : ℕ) (lists : List (List TripOf)) → IsLevelUpTo tau settled size n lists
-      → HasMoreThan (CanServe tau settled n) (CostsLeast tau settled n) size left → n < length settled.vehicles → room ≤ row_total lists + left → HasMoreOfSize tau settled size room
+  pub more_than_left : (size room left n : ℕ) (lists : List (List TripOf)) → AreLevelsUpTo tau settled size n lists
+      → HasMoreThan tau settled n (λ m. m ≡ size) left → n < length settled.vehicles → room ≤ row_total lists + left → HasMoreOfSize tau settled size room
   more_than_left size room left n lists level more lt enough =
-      more_than_room size room n lists more.rows level (record { right = more.right; sized = more.sized; rising = more.rising }) lt (let m = more.more in omega arith)
+      more_than_room size room n lists more.rows level more.some lt (let m = more.more in omega arith)
 
-  pub levels_one : (lists : List (List TripOf)) → IsLevelUpTo tau settled 0 (length settled.vehicles) lists → AreLevels tau settled 1 (lists ∷ [])
+  pub levels_one : (lists : List (List TripOf)) → AreLevelsUpTo tau settled 0 (length settled.vehicles) lists → AreLevels tau settled 1 (lists ∷ [])
   levels_one lists level =
       record {
         count = refl;
-        each = λ k lt. let e : 0 ≡ k = omega arith in subst (λ (j : ℕ). IsLevelUpTo tau settled j (length settled.vehicles) (get_or (lists ∷ []) j [])) e level;
+        each = λ k lt. let e : 0 ≡ k = omega arith in subst (λ (j : ℕ). AreLevelsUpTo tau settled j (length settled.vehicles) (get_or (lists ∷ []) j [])) e level;
       }
 
-  pub levels_more : (sizes : ℕ) (levels : List (List (List TripOf))) (lists : List (List TripOf)) → AreLevels tau settled sizes levels → IsLevelUpTo tau settled sizes (length settled.vehicles) lists
+  pub levels_more : (sizes : ℕ) (levels : List (List (List TripOf))) (lists : List (List TripOf)) → AreLevels tau settled sizes levels → AreLevelsUpTo tau settled sizes (length settled.vehicles) lists
       → AreLevels tau settled (sizes + 1) (levels ++ lists ∷ [])
   levels_more sizes levels lists all level =
       record {
         count = (let a = length-append levels (lists ∷ []) in let b = all.count in omega arith);
-        each = λ k lt. elim (cases_lt k sizes) as (λ _. IsLevelUpTo tau settled k (length settled.vehicles) (get_or (levels ++ lists ∷ []) k [])) [
+        each = λ k lt. elim (cases_lt k sizes) as (λ _. AreLevelsUpTo tau settled k (length settled.vehicles) (get_or (levels ++ lists ∷ []) k [])) [
           | inl less ↦ rw (get_or_append_left levels (lists ∷ []) [] k (let b = all.count in omega arith)) (all.each k less)
           | inr ge ↦
               let e : sizes ≡ k = omega arith in
-              subst (λ (j : ℕ). IsLevelUpTo tau settled j (length settled.vehicles) (get_or (levels ++ lists ∷ []) j [])) e (rw (get_or_push levels lists [] sizes all.count) level)
+              subst (λ (j : ℕ). AreLevelsUpTo tau settled j (length settled.vehicles) (get_or (levels ++ lists ∷ []) j [])) e (rw (get_or_push levels lists [] sizes all.count) level)
         ];
       }
 
-  pub more_of_first : (most room : ℕ) (lists : List (List TripOf)) → IsLevelUpTo tau settled 0 (length settled.vehicles) lists → room < row_total lists → HasMoreRows tau settled most room
-  more_of_first most room lists level more =
-      record {
-        levels = lists ∷ [];
+  pub more_of_first : (most room : ℕ) (lists : List (List TripOf)) → most ≤ 6 → AreLevelsUpTo tau settled 0 (length settled.vehicles) lists → room < row_total lists → HasMoreRows tau settled most room
+  more_of_first most room lists small level more =
+      more_rows most tau settled room (lists ∷ []) small (record {
         sizes = omega arith;
         few = λ k lt. let e : 0 ≡ k = omega arith in subst (λ (j : ℕ). length (get_or (lists ∷ []) j []) ≤ length settled.vehicles) e (let t = level.total in omega arith);
         each = λ k v lt less. let e : 0 ≡ k = omega arith in
-            subst (λ (j : ℕ). v < length (get_or (lists ∷ []) j []) → AreSomeRows tau settled v j (get_or (get_or (lists ∷ []) j []) v [])) e
-            (λ h. some_rows v 0 (get_or lists v []) (level.each v (let t = level.total in omega arith))) less;
-        more = omega arith;
-      }
+            subst (λ (j : ℕ). v < length (get_or (lists ∷ []) j []) → AreSomeRows tau settled v (λ n. n ≡ j) (get_or (get_or (lists ∷ []) j []) v [])) e
+            (λ h. (level.each v (let t = level.total in omega arith)).some) less;
+      }) (omega arith)
 
-  pub more_of_next : (most room left sizes : ℕ) (levels : List (List (List TripOf))) → AreLevels tau settled sizes levels → HasMoreOfSize tau settled sizes left → sizes ≤ most
+  pub more_of_next : (most room left sizes : ℕ) (levels : List (List (List TripOf))) → most ≤ 6 → AreLevels tau settled sizes levels → HasMoreOfSize tau settled sizes left → sizes ≤ most
       → room ≤ level_total levels + left → HasMoreRows tau settled most room
-  more_of_next most room left sizes levels all more below enough =
+  more_of_next most room left sizes levels small all more below enough =
       let n = length settled.vehicles in
-      record {
-        levels = levels ++ more.lists ∷ [];
+      more_rows most tau settled room (levels ++ more.lists ∷ []) small (record {
         sizes = (let a = length-append levels (more.lists ∷ []) in let b = all.count in omega arith);
         few = λ k lt. elim (cases_lt k sizes) as (λ _. length (get_or (levels ++ more.lists ∷ []) k []) ≤ n) [
           | inl less ↦ rw (get_or_append_left levels (more.lists ∷ []) [] k (let b = all.count in omega arith)) (let t = (all.each k less).total in omega arith)
@@ -120,13 +115,12 @@ module _ (tau : ℕ → ℕ → ℕ) (settled : Settled) where
               let e : sizes ≡ k = (let a = length-append levels (more.lists ∷ []) in let b = all.count in omega arith) in
               subst (λ (j : ℕ). length (get_or (levels ++ more.lists ∷ []) j []) ≤ n) e (rw (get_or_push levels more.lists [] sizes all.count) more.few)
         ];
-        each = λ k v lt. elim (cases_lt k sizes) as (λ _. v < length (get_or (levels ++ more.lists ∷ []) k []) → AreSomeRows tau settled v k (get_or (get_or (levels ++ more.lists ∷ []) k []) v [])) [
+        each = λ k v lt. elim (cases_lt k sizes) as (λ _. v < length (get_or (levels ++ more.lists ∷ []) k []) → AreSomeRows tau settled v (λ n. n ≡ k) (get_or (get_or (levels ++ more.lists ∷ []) k []) v [])) [
           | inl less ↦ rw (get_or_append_left levels (more.lists ∷ []) [] k (let b = all.count in omega arith))
-              (λ h. some_rows v k (get_or (get_or levels k []) v []) ((all.each k less).each v (let t = (all.each k less).total in omega arith)))
+              (λ h. ((all.each k less).each v (let t = (all.each k less).total in omega arith)).some)
           | inr ge ↦
               let e : sizes ≡ k = (let a = length-append levels (more.lists ∷ []) in let b = all.count in omega arith) in
-              subst (λ (j : ℕ). v < length (get_or (levels ++ more.lists ∷ []) j []) → AreSomeRows tau settled v j (get_or (get_or (levels ++ more.lists ∷ []) j []) v [])) e
+              subst (λ (j : ℕ). v < length (get_or (levels ++ more.lists ∷ []) j []) → AreSomeRows tau settled v (λ n. n ≡ j) (get_or (get_or (levels ++ more.lists ∷ []) j []) v [])) e
               (rw (get_or_push levels more.lists [] sizes all.count) (more.each v))
         ];
-        more = rw (total_level levels more.lists) (let m = more.more in omega arith);
-      }
+      }) (rw (total_level levels more.lists) (let m = more.more in omega arith))

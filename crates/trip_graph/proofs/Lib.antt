@@ -1,4 +1,5 @@
-pub mod LevelSteps
-pub mod GraphSteps
 pub mod RowOrder
+pub mod GraphSteps
+pub mod MoreRows
+pub mod LevelSteps
 pub mod GraphFaults

@@ -14,11 +14,10 @@ use Rattle.plan_rules.specs.declared.row.TripRow.{TripRow}
 use Rattle.plan_rules.specs.Graph.{no_row, row_cmp}
 use Rattle.trip_growth.specs.declared.trip_of.TripOf.{TripOf}
 use Rattle.trip_growth.specs.Trip.{IsLower, ComesBefore}
-use Rattle.trip_growth.specs.Rows.{AreRowsOfSize}
-use Rattle.trip_growth.proofs.TripOrder.{lower_irrefl, lower_asym}
-use Rattle.trip_growth.proofs.TripSearch.{compared}
-use Rattle.trip_graph.specs.Rows.{trip_row, vehicle_rows}
-use Rattle.trip_graph.specs.Levels.{AreLevels}
+use Rattle.trip_growth.specs.Rows.{AreSomeRows}
+use Rattle.trip_growth.proofs.lemmas.TripOrder.{lower_irrefl, lower_asym}
+use Rattle.trip_growth.proofs.lemmas.TripSearch.{compared}
+use Rattle.trip_graph.specs.work.Rows.{trip_row, vehicle_rows}
 
 -- each row stands before all later ones
 abbrev pub AreInOrder : List TripRow → Type 0
@@ -77,7 +76,7 @@ module _ (tau : ℕ → ℕ → ℕ) (settled : Settled) (v : ℕ) where
   no_trip : TripOf
   no_trip = record { riders = record { items = [] }; cost = 0 }
 
-  level_in_order : (size : ℕ) (trips : List TripOf) → AreRowsOfSize tau settled v size trips → AreInOrder (map (trip_row v) trips)
+  level_in_order : (size : ℕ) (trips : List TripOf) → AreSomeRows tau settled v (λ n. n ≡ size) trips → AreInOrder (map (trip_row v) trips)
   level_in_order size trips level i j less lt =
       let f : TripOf → List ℕ = λ row. row.riders.items in
       let n = length-map trips (trip_row v) in
@@ -89,21 +88,21 @@ module _ (tau : ℕ → ℕ → ℕ) (settled : Settled) (v : ℕ) where
       rw (get_or-map (trip_row v) trips i no_trip no_row (omega arith), get_or-map (trip_row v) trips j no_trip no_row (omega arith))
       (by_riders (trip_row v (get_or trips i no_trip)) (trip_row v (get_or trips j no_trip)) refl (a ∙ sym b) low)
 
-  level_from : (least size : ℕ) (trips : List TripOf) → least ≤ size → AreRowsOfSize tau settled v size trips → All (IsFrom v least) (map (trip_row v) trips)
+  level_from : (least size : ℕ) (trips : List TripOf) → least ≤ size → AreSomeRows tau settled v (λ n. n ≡ size) trips → All (IsFrom v least) (map (trip_row v) trips)
   level_from least size trips le level k d lt =
       let n = length-map trips (trip_row v) in
       let sized = level.sized k no_trip (omega arith) in
       rw (get_or-map (trip_row v) trips k no_trip d (omega arith)) (record { own = refl; large = omega arith })
 
   -- a level is of one size, and the levels behind it have larger ones
-  levels_from : (least : ℕ) (levels : List (List (List TripOf))) → ((k : ℕ) → k < length levels → AreRowsOfSize tau settled v (least + k) (get_or (get_or levels k []) v []))
+  levels_from : (least : ℕ) (levels : List (List (List TripOf))) → ((k : ℕ) → k < length levels → AreSomeRows tau settled v (λ n. n ≡ least + k) (get_or (get_or levels k []) v []))
       → AreInOrder (vehicle_rows levels v) × All (IsFrom v least) (vehicle_rows levels v)
   levels_from least [] each = (none_in_order, All-nil (IsFrom v least))
   levels_from least (lists ∷ levels) each =
       let f : List (List TripOf) → List TripRow = λ ls. map (trip_row v) (get_or ls v []) in
-      let own : AreRowsOfSize tau settled v least (get_or lists v []) = subst (λ (n : ℕ). AreRowsOfSize tau settled v n (get_or lists v [])) (let e : least + 0 ≡ least = omega arith in e) (each 0 (omega arith)) in
-      let later : (k : ℕ) → k < length levels → AreRowsOfSize tau settled v (least + 1 + k) (get_or (get_or levels k []) v []) =
-      (λ k lt. subst (λ (n : ℕ). AreRowsOfSize tau settled v n (get_or (get_or levels k []) v [])) (let e : least + suc k ≡ least + 1 + k = omega arith in e) (each (suc k) (omega arith))) in
+      let own : AreSomeRows tau settled v (λ n. n ≡ least) (get_or lists v []) = subst (λ (n : ℕ). AreSomeRows tau settled v (λ m. m ≡ n) (get_or lists v [])) (let e : least + 0 ≡ least = omega arith in e) (each 0 (omega arith)) in
+      let later : (k : ℕ) → k < length levels → AreSomeRows tau settled v (λ n. n ≡ least + 1 + k) (get_or (get_or levels k []) v []) =
+      (λ k lt. subst (λ (n : ℕ). AreSomeRows tau settled v (λ m. m ≡ n) (get_or (get_or levels k []) v [])) (let e : least + suc k ≡ least + 1 + k = omega arith in e) (each (suc k) (omega arith))) in
       let rest = levels_from (least + 1) levels later in
       let here = level_in_order least (get_or lists v []) own in
       let low = level_from least least (get_or lists v []) (omega arith) own in
@@ -120,10 +119,11 @@ module _ (tau : ℕ → ℕ → ℕ) (settled : Settled) (v : ℕ) where
       )
 
 -- the rows of one vehicle more
-pub more_in_order : (most : ℕ) (tau : ℕ → ℕ → ℕ) (settled : Settled) (v : ℕ) (levels : List (List (List TripOf))) (rows : List TripRow) → AreLevels tau settled (most + 1) levels → v < length settled.vehicles
+pub more_in_order : (tau : ℕ → ℕ → ℕ) (settled : Settled) (v : ℕ) (levels : List (List (List TripOf))) (rows : List TripRow)
+    → ((k : ℕ) → k < length levels → AreSomeRows tau settled v (λ n. n ≡ k) (get_or (get_or levels k []) v []))
     → ((k : ℕ) → k < length rows → (get_or rows k no_row).vehicle < v) → AreInOrder rows → AreInOrder (rows ++ vehicle_rows levels v)
-more_in_order most tau settled v levels rows all less below before =
+more_in_order tau settled v levels rows each below before =
     let own = levels_from tau settled v 0 levels
-    (λ k lt. let c = all.count in subst (λ (n : ℕ). AreRowsOfSize tau settled v n (get_or (get_or levels k []) v [])) (let e : k ≡ 0 + k = omega arith in e) ((all.each k (omega arith)).each v less)) in
+    (λ k lt. subst (λ (n : ℕ). AreSomeRows tau settled v (λ m. m ≡ n) (get_or (get_or levels k []) v [])) (let e : k ≡ 0 + k = omega arith in e) (each k lt)) in
     join_in_order rows (vehicle_rows levels v) before own.0
     (λ i j lt within. let b = below i lt in let o = (own.1 j no_row within).own in by_vehicle (get_or rows i no_row) (get_or (vehicle_rows levels v) j no_row) (omega arith))

@@ -1,17 +1,14 @@
-use Rattle.std.specs.Prelude.{◌≡◌, ℕ, ◌<◌, ◌≤◌, List, MatchBool, None, Some, Option, length, take, slice_index_or}
-use Rattle.std.specs.List.{sum_by}
+use Rattle.std.specs.Prelude.{◌≡◌, ℕ, suc, ◌<◌, ◌≤◌, List, All, MatchBool, None, Some, Option, length, slice_index_or}
+use Rattle.std.specs.declared.cmp.Ordering.TheVariants.{Less}
 use Rattle.stop_orders.specs.declared.settled.Settled.{Settled}
-use Rattle.stop_orders.specs.Task.{IsServable}
-use Rattle.stop_orders.specs.Settled.{IsTrip, IsRow, trip_task, vehicle_at}
+use Rattle.stop_orders.specs.Settled.{CanServe, IsRow, vehicle_at}
 use Rattle.pair_graph.specs.RvGraph.{IsRvGraph}
 use Rattle.pair_graph.specs.RrGraph.{IsRrGraph}
 use Rattle.plan_rules.specs.declared.row.TripRow.{TripRow}
-use Rattle.plan_rules.specs.Graph.{Graph, IsGoodGraph, no_row, choice_at}
+use Rattle.plan_rules.specs.Graph.{Graph, IsGoodGraph, no_row, choice_at, row_cmp}
 use Rattle.rider_limits.specs.declared.settings.Settings.{Settings}
 use Rattle.trip_graph.specs.declared.answer.GraphAnswer.{GraphAnswer}
 use Rattle.trip_graph.specs.declared.answer.GraphAnswer.TheVariants.{Graph as Grown, Overflow}
-use Rattle.trip_growth.specs.declared.trip_of.TripOf.{TripOf}
-use Rattle.trip_graph.specs.Levels.{HasMoreRows, row_total}
 
 -- the number is that of a row of this vehicle with exactly these riders
 pub record IsRowWith (rows : List TripRow) (vehicle : ℕ) (riders : List ℕ) (k : ℕ) : Type 0 where
@@ -19,12 +16,10 @@ pub record IsRowWith (rows : List TripRow) (vehicle : ℕ) (riders : List ℕ) (
   pub own : (slice_index_or rows k no_row).vehicle ≡ vehicle
   pub trip : (slice_index_or rows k no_row).riders.items ≡ riders
 
--- the rows are the trips of at most so many riders that the first vehicles can serve, at their least delays
-pub record AreRowsOf (most : ℕ) (tau : ℕ → ℕ → ℕ) (settled : Settled) (vehicles : ℕ) (rows : List TripRow) : Type 0 where
-  pub right : (k : ℕ) → k < length rows → IsRow most tau settled (slice_index_or rows k no_row).vehicle (slice_index_or rows k no_row).riders.items (slice_index_or rows k no_row).cost
-  pub below : (k : ℕ) → k < length rows → (slice_index_or rows k no_row).vehicle < vehicles
-  pub whole : (v : ℕ) (trip : List ℕ) → v < vehicles → IsTrip (length settled.riders) trip → length trip ≤ most → IsServable tau (trip_task settled v trip)
-      → (k : ℕ) × IsRowWith rows v trip k
+-- each row is a vehicle with a trip of at most so many riders that it can serve, at the least delay, and none is missing
+pub record AreRowsOf (most : ℕ) (tau : ℕ → ℕ → ℕ) (settled : Settled) (rows : List TripRow) : Type 0 where
+  pub right : All (λ row. IsRow most tau settled row.vehicle row.riders.items row.cost) rows
+  pub whole : (v : ℕ) (trip : List ℕ) → CanServe most tau settled v trip → (k : ℕ) × IsRowWith rows v trip k
 
 -- a late vehicle holds no row, another one the row of the riders that it keeps
 pub record HoldRows (settled : Settled) (vehicles : ℕ) (rows : List TripRow) (held : List (Option ℕ)) : Type 0 where
@@ -37,16 +32,19 @@ pub record IsTripGraphOf (settings : Settings) (tau : ℕ → ℕ → ℕ) (sett
   pub vehicle_total : graph.vehicles ≡ length settled.vehicles
   pub rider_total : graph.riders ≡ length settled.riders
   pub left_out : graph.penalty ≡ settings.penalty
-  pub exact : AreRowsOf settings.trip tau settled (length settled.vehicles) graph.rows
+  pub exact : AreRowsOf settings.trip tau settled graph.rows
   pub hold : HoldRows settled (length settled.vehicles) graph.rows graph.held
   pub few : length graph.rows ≤ settings.pairs
   pub good : IsGoodGraph graph
+
+-- there are more rows than allowed: so many in order, each above the one before it, that none stands twice
+pub record HasMoreRows (tau : ℕ → ℕ → ℕ) (settled : Settled) (most allowed : ℕ) : Type 0 where
+  pub rows : List TripRow
+  pub right : All (λ row. IsRow most tau settled row.vehicle row.riders.items row.cost) rows
+  pub order : (k : ℕ) → suc k < length rows → row_cmp (slice_index_or rows k no_row) (slice_index_or rows (suc k) no_row) ≡ Less
+  pub more : allowed < length rows
 
 -- either the three graphs of the batch, or more rows than the settings allow
 abbrev pub IsAnswer : Settings → (ℕ → ℕ → ℕ) → Settled → GraphAnswer → Type 0
 IsAnswer settings tau settled (Grown graph rv rr) = IsTripGraphOf settings tau settled graph × IsRvGraph tau settled rv × IsRrGraph tau settled rr
 IsAnswer settings tau settled Overflow = HasMoreRows tau settled settings.trip settings.pairs
-
--- how many rows the first vehicles have in all levels
-abbrev pub total_upto : List (List (List TripOf)) → ℕ → ℕ
-total_upto levels vehicles = sum_by (λ lists. row_total (take vehicles lists)) levels

@@ -1,30 +1,27 @@
 ghost use Rattle.std.specs.Prelude.{◌≡◌, ℕ, ◌+◌, ◌<◌, ◌≤◌, IfOk, MatchOption, Contains, length};
-ghost use Rattle.pool_base.specs.Times.{point_count, travel_time};
-ghost use Rattle.stop_orders.specs.Settled.{IsSound, IsRrEdge};
-ghost use Rattle.trip_graph.specs.Levels.{AreLevels, HasMoreRows, level_total};
+ghost use Rattle.trip_graph.specs.work.Growth.{CanGrowBatch, batch_of, tau_of};
+ghost use Rattle.trip_graph.specs.work.Levels.{AreLevels, level_total};
+ghost use Rattle.trip_graph.specs.Answer.{HasMoreRows};
 
+use crate::batch_growth::BatchGrowth;
 use crate::levels::{first_level, next_level};
-use pool_base::{OutOfMemory, Sequence, Times};
+use pool_base::{OutOfMemory, Sequence};
 use std::alloc::Global;
-use stop_orders::{PairList, Settled};
 use trip_growth::VehicleTrips;
 
 /// The rows of all vehicles of each size from 0 to `most`; `None` exactly where they are more than `room`.
-pub fn all_levels(
+pub(crate) fn all_levels(
     alloc: Global,
-    settled: &Settled,
-    times: &Times,
-    pairs: &PairList,
+    growth: &BatchGrowth<'_>,
     most: u8,
     room: u64,
 ) -> Result<Option<Vec<Sequence<VehicleTrips>>>, OutOfMemory>
-    requires sound { IsSound 6 (point_count times.now) (travel_time times.now) settled.now }
-    requires pairs { (a b : ℕ) → IsRrEdge (travel_time times.now) settled.now a b → Contains pairs.now (a, b) }
+    requires can { CanGrowBatch growth.now }
     requires most { most ≤ 6 }
-    ensures { IfOk result (λ answer. MatchOption answer (HasMoreRows (travel_time times.entry.now) settled.entry.now most room)
-        (λ levels. AreLevels (travel_time times.entry.now) settled.entry.now (most + 1) levels.items × (level_total levels.items ≤ room))) }
+    ensures { IfOk result (λ answer. MatchOption answer (HasMoreRows (tau_of growth.now) (batch_of growth.now) most room)
+        (λ levels. AreLevels (tau_of growth.now) (batch_of growth.now) (most + 1) levels.items × (level_total levels.items ≤ room))) }
 {
-    let first = first_level(alloc, settled, times)?;
+    let first = first_level(alloc, growth)?;
     if first.total > room {
         return Ok(None);
     }
@@ -33,7 +30,7 @@ pub fn all_levels(
     levels.push(Sequence::of(first.lists))?;
     for size in 0..most {
         let below = levels[usize::from(size)].as_slice();
-        let Some(next) = next_level(alloc, settled, times, pairs, size, below, room - total)? else {
+        let Some(next) = next_level(alloc, growth, size, below, room - total)? else {
             return Ok(None);
         };
         total += next.total;

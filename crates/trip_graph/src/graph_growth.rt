@@ -1,19 +1,20 @@
 ghost use Rattle.std.specs.Prelude.{◌≡◌, ◌+◌, ◌<◌, ◌≤◌, IfOk, length};
 ghost use Rattle.plan_rules.specs.declared.fault.GraphFault.TheVariants.{OutOfMemory as NoMemory};
 ghost use Rattle.pool_base.specs.Times.{point_count, travel_time};
-ghost use Rattle.stop_orders.specs.Settled.{IsSound};
-ghost use Rattle.trip_graph.specs.Levels.{AreLevels, level_total};
-ghost use Rattle.trip_graph.specs.Answer.{IsAnswer, IsTripGraphOf, AreRowsOf, HoldRows};
+ghost use Rattle.stop_orders.specs.Sound.{IsSound};
+ghost use Rattle.trip_graph.specs.work.Levels.{AreLevels, level_total, AreRowsUpTo};
+ghost use Rattle.trip_graph.specs.Answer.{IsAnswer, IsTripGraphOf, HoldRows};
 
 use crate::all_levels::all_levels;
 use crate::answer::GraphAnswer;
+use crate::batch_growth::BatchGrowth;
 use crate::rows::{add_vehicle, held_row};
 use pair_graph::{rider_rider, rider_vehicle};
 use plan_rules::{GraphFault, TripGraph, TripRow};
 use pool_base::{OutOfMemory, Sequence, Times};
 use rider_limits::Settings;
 use std::alloc::Global;
-use stop_orders::Settled;
+use stop_orders::{Settled, laws};
 use trip_growth::VehicleTrips;
 
 /// The three graphs of a batch: which vehicle can serve which rider, which two riders could share an empty
@@ -29,8 +30,13 @@ pub fn grow_graph(
     ensures { IfOk result (IsAnswer settings.entry.now (travel_time times.entry.now) settled.entry.now) }
 {
     let rr = rider_rider(alloc, settled, times)?;
+    let growth = BatchGrowth {
+        settled,
+        times,
+        pairs: &rr,
+    };
     let room = u64::from(settings.pairs);
-    let Some(levels) = all_levels(alloc, settled, times, &rr, settings.trip, room)? else {
+    let Some(levels) = all_levels(alloc, &growth, settings.trip, room)? else {
         return Ok(GraphAnswer::Overflow);
     };
     let rv = rider_vehicle(alloc, settled, times)?;
@@ -55,6 +61,9 @@ fn graph_of(
     requires few { level_total levels.now ≤ settings.now.pairs }
     ensures { IfOk result (IsTripGraphOf settings.entry.now (travel_time times.entry.now) settled.entry.now) }
 {
+    // What the graph's own rules ask of costs and late vehicles.
+    laws::delays_are_small();
+    laws::sub_trips_are_servable();
     let vehicles = settled.vehicles.as_slice();
     let mut rows = Vec::new(alloc);
     let mut held = Vec::with_capacity(alloc, vehicles.len())?;

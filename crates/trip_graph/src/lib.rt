@@ -6,6 +6,7 @@
 
 mod all_levels;
 mod answer;
+mod batch_growth;
 mod graph_growth;
 mod level_rows;
 mod levels;

@@ -1,6 +1,6 @@
 ghost use Rattle.std.specs.Prelude.{◌≡◌, ℕ, ◌+◌, ◌<◌, ◌≤◌, ◌^◌, ◌++◌, [], OnOk, IfOk, MatchBool, MatchOption, None, length, map, slice_index_or};
 ghost use Rattle.plan_rules.specs.Graph.{no_row};
-ghost use Rattle.trip_graph.specs.Rows.{trip_row, vehicle_rows};
+ghost use Rattle.trip_graph.specs.work.Rows.{trip_row, vehicle_rows};
 
 use arrayvec::ArrayVec;
 use plan_rules::TripRow;
@@ -9,7 +9,7 @@ use stop_orders::SettledVehicle;
 use trip_growth::{TripOf, VehicleTrips};
 
 /// Puts the rows of one vehicle, size by size, behind those of the vehicles before.
-pub fn add_vehicle(
+pub(crate) fn add_vehicle(
     levels: &[Sequence<VehicleTrips>],
     vehicle: usize,
     rows: &mut Vec<TripRow>,
@@ -47,7 +47,7 @@ fn row_of(vehicle: usize, trip: &TripOf) -> TripRow
 }
 
 /// The row that the vehicle holds, among its own, which begin at this one; a late vehicle holds none.
-pub fn held_row(rows: &[TripRow], from: usize, vehicle: &SettledVehicle) -> Option<u32>
+pub(crate) fn held_row(rows: &[TripRow], from: usize, vehicle: &SettledVehicle) -> Option<u32>
     requires from { from ≤ length rows.now }
     requires few { length rows.now < 2 ^ 32 }
     ensures { MatchBool vehicle.now.late (result ≡ None) (MatchOption result ((k : ℕ) → from ≤ k → k < length rows.now → (slice_index_or rows.now k no_row).riders.items ≡ vehicle.now.held.items → ⊥)

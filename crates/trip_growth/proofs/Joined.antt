@@ -3,8 +3,8 @@ use Rattle.std.specs.List.{All, Contains}
 use Rattle.std.proofs.lemmas.Bool.{cases_lt}
 use Rattle.std.proofs.lemmas.List.{length-map, length-append, map-append, get_or_append_left, get_or-append_right, get_or-map, nil_from_length}
 use Rattle.std.proofs.lemmas.List.Elements.{All-append, All-nil, All-cons, Contains-append_left, Contains-append_right}
-use Rattle.trip_growth.specs.Trip.{ComesBefore, IsRising}
-use Rattle.trip_growth.specs.Level.{trips_of, IsRow, IsLevel, AreRowsWithin, HasMoreThan, HasMoreWithin}
+use Rattle.trip_growth.specs.Trip.{ComesBefore, IsRising, trips_of}
+use Rattle.trip_growth.specs.work.Level.{IsLevelRow, IsLevel, AreRowsWithin, HasMoreOfLevel, HasMoreWithin}
 use Rattle.trip_growth.specs.declared.trip_of.TripOf.{TripOf}
 
 rising_append : (ts us : List (List ℕ)) → IsRising ts → IsRising us
@@ -41,7 +41,7 @@ trips_rise size xs ys left right small large =
 module _ (Serves : List ℕ → Type 0) (Costs : List ℕ → ℕ → Type 0) where
   -- the rows of fewer than so many riders
   pub record AreSmaller (size : ℕ) (rows : List TripOf) : Type 0 where
-    pub right : All (IsRow Serves Costs) rows
+    pub right : All (IsLevelRow Serves Costs) rows
     pub sized : All (λ row. length row.riders.items < size) rows
     pub rising : IsRising (trips_of rows)
     pub whole : (trip : List ℕ) → length trip < size → Serves trip → Contains (trips_of rows) trip
@@ -49,7 +49,7 @@ module _ (Serves : List ℕ → Type 0) (Costs : List ℕ → ℕ → Type 0) wh
   pub smaller_none : AreSmaller 0 []
   smaller_none =
       record {
-        right = All-nil (IsRow Serves Costs);
+        right = All-nil (IsLevelRow Serves Costs);
         sized = All-nil (λ r. length r.riders.items < 0);
         rising = λ i j h k. absurd (omega arith);
         whole = λ t h s. absurd (omega arith);
@@ -58,7 +58,7 @@ module _ (Serves : List ℕ → Type 0) (Costs : List ℕ → ℕ → Type 0) wh
   pub smaller_joined : (size : ℕ) (xs ys : List TripOf) → AreSmaller size xs → IsLevel Serves Costs size ys → AreSmaller (size + 1) (xs ++ ys)
   smaller_joined size xs ys small level =
       record {
-        right = All-append (IsRow Serves Costs) xs ys small.right level.right;
+        right = All-append (IsLevelRow Serves Costs) xs ys small.right level.right;
         sized = All-append (λ r. length r.riders.items < size + 1) xs ys (λ k d lt. let s = small.sized k d lt in omega arith) (λ k d lt. let s = level.sized k d lt in omega arith);
         rising = trips_rise size xs ys small.rising level.rising small.sized level.sized;
         whole = λ t h s. rw (trips_of-append xs ys) (elim (cases_lt (length t) size) as (λ _. Contains (trips_of xs ++ trips_of ys) t) [
@@ -77,23 +77,23 @@ module _ (Serves : List ℕ → Type 0) (Costs : List ℕ → ℕ → Type 0) wh
       }
 
   -- more rows of one size than there is room left for
-  pub more_joined : (size left room most : ℕ) (xs ys : List TripOf) → AreSmaller size xs → IsLevel Serves Costs size ys → HasMoreThan Serves Costs (size + 1) left
+  pub more_joined : (size left room most : ℕ) (xs ys : List TripOf) → AreSmaller size xs → IsLevel Serves Costs size ys → HasMoreOfLevel Serves Costs (size + 1) left
       → size + 1 ≤ most → room ≤ length xs + length ys + left → HasMoreWithin Serves Costs most room
   more_joined size left room most xs ys small level more h enough =
       let both = smaller_joined size xs ys small level in
       record {
         rows = (xs ++ ys) ++ more.rows;
-        right = All-append (IsRow Serves Costs) (xs ++ ys) more.rows both.right more.right;
+        right = All-append (IsLevelRow Serves Costs) (xs ++ ys) more.rows both.right more.right;
         sized = All-append (λ r. length r.riders.items ≤ most) (xs ++ ys) more.rows (λ k d lt. let s = both.sized k d lt in omega arith) (λ k d lt. let s = more.sized k d lt in omega arith);
         rising = trips_rise (size + 1) (xs ++ ys) more.rows both.rising more.rising both.sized more.sized;
         more = (let n = length-append (xs ++ ys) more.rows in let n' = length-append xs ys in let m = more.more in omega arith);
       }
 
   -- the row of the empty trip
-  pub level_of_empty : (row : TripOf) → row.riders.items ≡ [] → IsRow Serves Costs row → IsLevel Serves Costs 0 (row ∷ [])
+  pub level_of_empty : (row : TripOf) → row.riders.items ≡ [] → IsLevelRow Serves Costs row → IsLevel Serves Costs 0 (row ∷ [])
   level_of_empty row is good =
       record {
-        right = All-cons (IsRow Serves Costs) row [] good (All-nil (IsRow Serves Costs));
+        right = All-cons (IsLevelRow Serves Costs) row [] good (All-nil (IsLevelRow Serves Costs));
         sized = All-cons (λ r. length r.riders.items ≡ 0) row [] (ap length is) (All-nil (λ r. length r.riders.items ≡ 0));
         rising = λ i j h k. absurd (omega arith);
         whole = λ t e s. (0, omega arith, is ∙ sym (nil_from_length t e));
@@ -102,7 +102,7 @@ module _ (Serves : List ℕ → Type 0) (Costs : List ℕ → ℕ → Type 0) wh
   pub level_of_none : (Serves [] → ⊥) → IsLevel Serves Costs 0 []
   level_of_none never =
       record {
-        right = All-nil (IsRow Serves Costs);
+        right = All-nil (IsLevelRow Serves Costs);
         sized = All-nil (λ r. length r.riders.items ≡ 0);
         rising = λ i j h k. absurd (omega arith);
         whole = λ t e s. absurd (never (subst Serves (nil_from_length t e) s));

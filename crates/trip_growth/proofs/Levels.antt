@@ -3,10 +3,10 @@ use Rattle.std.specs.List.{Contains, remove}
 use Rattle.std.proofs.lemmas.List.{append-nil, length-map, map_push, get_or-map, get_or_default, get_or_append_left, get_or_push, length_push, take_at, length-take-le, get_or_past}
 use Rattle.std.proofs.lemmas.Bool.{cases_lt, cases_order}
 use Rattle.std.proofs.lemmas.List.Elements.{All-push, All-nil, Contains-append_left, Contains-push}
-use Rattle.trip_growth.specs.Trip.{IsLower, ComesBefore, IsRising}
-use Rattle.trip_growth.specs.Level.{trips_of, IsRow, IsLevel, IsLevelUpTo, IsTripRule}
+use Rattle.trip_growth.specs.Trip.{IsLower, ComesBefore, IsRising, trips_of}
+use Rattle.trip_growth.specs.work.Level.{IsLevelRow, IsLevel, IsLevelUpTo, IsTripRule}
 use Rattle.trip_growth.specs.declared.trip_of.TripOf.{TripOf}
-use Rattle.trip_growth.proofs.TripOrder.{lower_irrefl, lower_trans, lower_asym, lower_append, lower_front, lower_back, lower_last, lower_longer, lower_raise, squeeze, front_and_last}
+use Rattle.trip_growth.proofs.lemmas.TripOrder.{lower_irrefl, lower_trans, lower_asym, lower_append, lower_front, lower_back, lower_last, lower_longer, lower_raise, squeeze, front_and_last}
 
 -- the trips of the size below, in order, with each that can be served
 pub record AreBelow (Serves : List ℕ → Type 0) (size : ℕ) (ts : List (List ℕ)) : Type 0 where
@@ -39,6 +39,10 @@ remove_last (x ∷ xs) b = ap (λ (v : List ℕ). x ∷ v) (remove_last xs b)
 remove_second_last : (q : List ℕ) (a e : ℕ) → remove ((q ++ a ∷ []) ++ e ∷ []) (length q) ≡ q ++ e ∷ []
 remove_second_last [] a e = refl
 remove_second_last (x ∷ xs) a e = ap (λ (v : List ℕ). x ∷ v) (remove_second_last xs a e)
+
+-- a list of so many and one more begins with them
+front_of : (t q : List ℕ) (x m : ℕ) → t ≡ q ++ x ∷ [] → length q ≡ m → take m t ≡ q
+front_of t q x m is e = ap (λ (v : List ℕ). take m v) is ∙ take_at q (x ∷ []) m e
 
 rising_push : (ts : List (List ℕ)) (t : List ℕ) → IsRising ts → ((i : ℕ) → i < length ts → ComesBefore (get_or ts i []) t) → IsRising (ts ++ t ∷ [])
 rising_push ts t up low i j h k =
@@ -87,14 +91,14 @@ module _ (riders : ℕ) (Serves : List ℕ → Type 0) (Costs : List ℕ → ℕ
 
   -- the trip at the limit can be served: it goes to the end
   pub taken : (p : List ℕ) (b : ℕ) (rows : List TripOf) (row : TripOf)
-      → row.riders.items ≡ p ++ b ∷ [] → IsRow Serves Costs row
+      → row.riders.items ≡ p ++ b ∷ [] → IsLevelRow Serves Costs row
       → IsLevelUpTo Serves Costs (length p + 1) (p ++ b ∷ []) rows
       → IsLevelUpTo Serves Costs (length p + 1) (p ++ (b + 1) ∷ []) (rows ++ row ∷ [])
   taken p b rows row is good h =
       let f : TripOf → List ℕ = λ r. r.riders.items in
       let longer : length (p ++ b ∷ []) ≡ length p + 1 = length_push p b in
       record {
-        right = All-push (IsRow Serves Costs) rows row h.right good;
+        right = All-push (IsLevelRow Serves Costs) rows row h.right good;
         sized = All-push (λ r. length r.riders.items ≡ length p + 1) rows row h.sized (ap length is ∙ longer);
         lower = All-push (λ r. IsLower r.riders.items (p ++ (b + 1) ∷ [])) rows row
             (λ k d lt. lower_raise p _ b (b + 1) (h.sized k d lt) (omega arith) (h.lower k d lt))
@@ -136,7 +140,7 @@ module _ (riders : ℕ) (Serves : List ℕ → Type 0) (Costs : List ℕ → ℕ
   pub first_begun : IsLevelUpTo Serves Costs 1 (0 ∷ []) []
   first_begun =
       record {
-        right = All-nil (IsRow Serves Costs);
+        right = All-nil (IsLevelRow Serves Costs);
         sized = All-nil (λ r. length r.riders.items ≡ 1);
         lower = All-nil (λ r. IsLower r.riders.items (0 ∷ []));
         rising = λ i j h k. absurd (omega arith);
@@ -176,7 +180,7 @@ module _ (riders : ℕ) (Serves : List ℕ → Type 0) (Costs : List ℕ → ℕ
     pub begun : IsLevelUpTo Serves Costs (m + 2) (get_or ts 0 (riders ∷ [])) []
     begun =
         record {
-          right = All-nil (IsRow Serves Costs);
+          right = All-nil (IsLevelRow Serves Costs);
           sized = All-nil (λ r. length r.riders.items ≡ m + 2);
           lower = All-nil (λ r. IsLower r.riders.items (get_or ts 0 (riders ∷ [])));
           rising = λ i j h k. absurd (omega arith);
@@ -238,10 +242,10 @@ module _ (riders : ℕ) (Serves : List ℕ → Type 0) (Costs : List ℕ → ℕ
         let first : IsLower (q ++ x ∷ []) (get_or ts (j + 1) []) = rw (sym at_j) (lower_from_order Serves (m + 1) ts b j (j + 1) (omega arith) room) in
         let upto : IsLower (get_or ts (j + 1) []) (q ++ d ∷ []) ⊎ (get_or ts (j + 1) [] ≡ q ++ d ∷ []) = elim (cases_lt (j + 1) at.0) as (λ _. IsLower (get_or ts (j + 1) []) (q ++ d ∷ []) ⊎ (get_or ts (j + 1) [] ≡ q ++ d ∷ [])) [
           | inl lt ↦ inl (rw (sym at.2) (lower_from_order Serves (m + 1) ts b (j + 1) at.0 lt at.1))
-          | inr ge ↦ inr (let same : j + 1 ≡ at.0 = omega arith in ap (λ (v : ℕ). get_or ts v []) same ∙ at.2)
+          | inr ge ↦ inr (let same : j + 1 ≡ at.0 = omega arith in subst (λ (v : ℕ). get_or ts v [] ≡ q ++ d ∷ []) (sym same) at.2)
         ] in
         let w = squeeze q (get_or ts (j + 1) []) x d (omega (arith, b.sizes (j + 1) room)) first upto in
-        stop room (ap (λ (v : List ℕ). take m v) w.1 ∙ take_at q (w.0 ∷ []) m e)
+        stop room (front_of (get_or ts (j + 1) []) q w.0 m w.1 e)
 
     -- after the last sibling no trip of this row can be served
     pub closed : (i : ℕ) (q : List ℕ) (a j x : ℕ) (rows : List TripOf) → length q ≡ m → i ≤ j → j < length ts

@@ -8,12 +8,12 @@ use Rattle.stop_orders.specs.declared.task.Task.{Task}
 use Rattle.stop_orders.specs.declared.settled.Settled.{Settled}
 use Rattle.stop_orders.specs.declared.settled_rider.SettledRider.{SettledRider}
 use Rattle.stop_orders.specs.Settled.{no_rider, rider_at, trip_task, IsTrip}
-use Rattle.trip_growth.specs.Rows.{task_with}
-use Rattle.trip_growth.specs.Trip.{IsLower}
-use Rattle.trip_growth.specs.Level.{trips_of, IsRow, IsLevel, IsLevelUpTo, IsTripRule, IsBelow, HasMoreThan}
+use Rattle.trip_growth.specs.work.Growth.{task_with}
+use Rattle.trip_growth.specs.Trip.{IsLower, trips_of}
+use Rattle.trip_growth.specs.work.Level.{IsLevelRow, IsLevel, IsLevelUpTo, IsTripRule, IsBelow, HasMoreOfLevel}
 use Rattle.trip_growth.specs.declared.trip_of.TripOf.{TripOf}
-use Rattle.trip_growth.proofs.TripOrder.{front_and_last}
-use Rattle.trip_growth.proofs.TripSearch.{size_of}
+use Rattle.trip_growth.proofs.lemmas.TripOrder.{front_and_last}
+use Rattle.trip_growth.proofs.lemmas.TripSearch.{size_of}
 use Rattle.trip_growth.proofs.Levels.{AreBelow, trip_at, lower_last_back, opened, advanced, closed, begun, ended, lower_from_order}
 
 -- the rows below, as a list of trips
@@ -141,10 +141,10 @@ module _ (riders : ℕ) (Serves : List ℕ → Type 0) (Costs : List ℕ → ℕ
       ap (λ (v : List ℕ). v ++ (get_or d m 0 + 1) ∷ []) es ∙ ap (λ (v : List ℕ). get_or (trips_of rows) i [] ++ (get_or v m 0 + 1) ∷ []) ed in
       subst (λ (v : ℕ). IsLevelUpTo Serves Costs v (get_or (trips_of rows) i [] ++ (get_or (get_or (trips_of rows) j []) m 0 + 1) ∷ []) found) n (subst (λ (v : List ℕ). IsLevelUpTo Serves Costs (length s + 1) v found) limit level)
 
-  pub more_as_stored : (i room : ℕ) (s : List ℕ) → i < length rows → s ≡ get_or (trips_of rows) i [] → HasMoreThan Serves Costs (length s + 1) room → HasMoreThan Serves Costs (m + 2) room
+  pub more_as_stored : (i room : ℕ) (s : List ℕ) → i < length rows → s ≡ get_or (trips_of rows) i [] → HasMoreOfLevel Serves Costs (length s + 1) room → HasMoreOfLevel Serves Costs (m + 2) room
   more_as_stored i room s h es more =
       let n : length s + 1 ≡ m + 2 = omega (arith, ap length es, size_of (m + 1) rows i b.sized h) in
-      subst (λ (v : ℕ). HasMoreThan Serves Costs v room) n more
+      subst (λ (v : ℕ). HasMoreOfLevel Serves Costs v room) n more
 
   pub below_as_read : (i : ℕ) (s : List ℕ) → i < length rows → s ≡ get_or (trips_of rows) i [] → IsBelow Serves (length s) rows
   below_as_read i s h es =
@@ -167,7 +167,7 @@ pub none_first : (riders : ℕ) (Serves : List ℕ → Type 0) (Costs : List ℕ
 none_first riders Serves Costs rows found rule b e none =
     let n : length (trips_of rows) ≡ length rows = length-map rows (λ (r : TripOf). r.riders.items) in
     subst (IsLevel Serves Costs 1) (sym none) (record {
-      right = All-nil (IsRow Serves Costs);
+      right = All-nil (IsLevelRow Serves Costs);
       sized = All-nil (λ r. length r.riders.items ≡ 1);
       rising = λ i j h k. absurd (omega arith);
       whole = λ t one s.
@@ -186,12 +186,12 @@ at_least_once zero n h = absurd (omega arith)
 at_least_once (suc k) n h = omega (arith, suc-mul k n)
 
 -- the row of a trip at the limit
-pub row_of : (Serves : List ℕ → Type 0) (Costs : List ℕ → ℕ → Type 0) (t : List ℕ) (row : TripOf) → row.riders.items ≡ t → Serves t → Costs t row.cost → IsRow Serves Costs row
+pub row_of : (Serves : List ℕ → Type 0) (Costs : List ℕ → ℕ → Type 0) (t : List ℕ) (row : TripOf) → row.riders.items ≡ t → Serves t → Costs t row.cost → IsLevelRow Serves Costs row
 row_of Serves Costs t row is s c = record { served = subst Serves (sym is) s; least = subst (λ (v : List ℕ). Costs v row.cost) (sym is) c }
 
 -- one row more than there is room for
 pub one_too_many : (Serves : List ℕ → Type 0) (Costs : List ℕ → ℕ → Type 0) (size room : ℕ) (limit : List ℕ) (found : List TripOf) (row : TripOf)
-    → IsLevelUpTo Serves Costs size limit (found ++ row ∷ []) → room ≤ length found → HasMoreThan Serves Costs size room
+    → IsLevelUpTo Serves Costs size limit (found ++ row ∷ []) → room ≤ length found → HasMoreOfLevel Serves Costs size room
 one_too_many Serves Costs size room limit found row level h =
     record { rows = found ++ row ∷ []; right = level.right; sized = level.sized; rising = level.rising; more = omega (arith, length_push found row) }
 

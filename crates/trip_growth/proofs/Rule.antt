@@ -6,10 +6,10 @@ use Rattle.std.proofs.lemmas.List.{length_push, get_or_append_left, get_or_push}
 use Rattle.std.proofs.lemmas.List.Edits.{length-remove, get_or-remove_below, get_or-remove_above}
 use Rattle.pool_base.specs.TravelTime.{IsTravelTime}
 use Rattle.stop_orders.specs.declared.settled.Settled.{Settled}
-use Rattle.stop_orders.specs.Settled.{IsTrip, IsSound, IsRrEdge}
-use Rattle.stop_orders.proofs.TripLemmas.{sub_trip_servable, pair_is_edge}
-use Rattle.trip_growth.specs.Level.{IsTripRule}
-use Rattle.trip_growth.specs.Rows.{CanServe}
+use Rattle.stop_orders.specs.Settled.{IsTrip, IsRrEdge, CanServe}
+use Rattle.stop_orders.specs.Sound.{IsSound}
+use Rattle.stop_orders.specs.Laws.{SubTripsAreServable, PairsAreEdges}
+use Rattle.trip_growth.specs.work.Level.{IsTripRule}
 
 -- a trip without one of its riders
 trip_without : (riders : ℕ) (t : List ℕ) (i : ℕ) → i < length t → IsTrip riders t → IsTrip riders (remove t i)
@@ -40,21 +40,22 @@ last_two_rise front a b up =
     rw (get_or_append_left (front ++ a ∷ []) (b ∷ []) 0 (length front) first, get_or_push front a 0 (length front) refl, get_or_push (front ++ a ∷ []) b 0 (length front + 1) second) at h
 
 -- the law on smaller trips, in the form that growth uses
-pub rule_of : (points : ℕ) (tau : ℕ → ℕ → ℕ) (settled : Settled) (v : ℕ) → IsTravelTime points tau → IsSound 6 points tau settled
-    → v < length settled.vehicles → IsTripRule (length settled.riders) (CanServe tau settled v)
-rule_of points tau settled v travel sound h =
+pub rule_of : SubTripsAreServable → (points : ℕ) (tau : ℕ → ℕ → ℕ) (settled : Settled) (v : ℕ) → IsTravelTime points tau → IsSound 6 points tau settled
+    → v < length settled.vehicles → IsTripRule (length settled.riders) (CanServe 6 tau settled v)
+rule_of law points tau settled v travel sound h =
     record {
       within = λ t s k lt. s.riders.within k 0 lt;
       rising = λ front a b s. last_two_rise front a b s.riders.rising;
       without = λ t k s lt. record {
+        vehicle = h;
         riders = trip_without (length settled.riders) t k lt s.riders;
         size = (let n = length-remove t k lt in let few = s.size in omega arith);
-        servable = sub_trip_servable 6 points tau settled travel sound v h t s.riders s.size k lt s.servable;
+        servable = law 6 points tau settled v t k travel sound h s.riders s.size lt s.servable;
       };
     }
 
 -- two riders that the vehicle can serve are an edge between riders
-pub edge_of : (points : ℕ) (tau : ℕ → ℕ → ℕ) (settled : Settled) (v : ℕ) → IsTravelTime points tau → IsSound 6 points tau settled
-    → v < length settled.vehicles → (a b : ℕ) → CanServe tau settled v (a ∷ b ∷ []) → IsRrEdge tau settled a b
-edge_of points tau settled v travel sound h a b s =
-    pair_is_edge 6 points tau settled travel sound v h a b s.riders s.servable
+pub edge_of : PairsAreEdges → (points : ℕ) (tau : ℕ → ℕ → ℕ) (settled : Settled) (v : ℕ) → IsTravelTime points tau → IsSound 6 points tau settled
+    → v < length settled.vehicles → (a b : ℕ) → CanServe 6 tau settled v (a ∷ b ∷ []) → IsRrEdge tau settled a b
+edge_of law points tau settled v travel sound h a b s =
+    law 6 points tau settled v a b travel sound h s.riders s.servable

@@ -1,27 +1,28 @@
 use Rattle.std.proofs.Common.{◌≡◌, ℕ, ◌+◌, ◌*◌, ◌≤◌, List, ◌++◌, length, subst, arith}
 use Rattle.std.proofs.lemmas.List.{length-append}
 use Rattle.stop_orders.specs.declared.settled.Settled.{Settled}
-use Rattle.trip_growth.specs.Rows.{CanServe, CostsLeast, AreRowsOfSize, AreRowsUpTo, TakesSteps}
+use Rattle.stop_orders.specs.Settled.{CanServe}
+use Rattle.trip_growth.specs.work.Growth.{CostsLeast}
+use Rattle.trip_growth.specs.Rows.{AreAllRows, AreRowsOfSize, TakesSteps}
 use Rattle.trip_growth.specs.declared.trip_of.TripOf.{TripOf}
+use Rattle.trip_growth.proofs.AllRows.{some_rows, level_of_rows, rows_within}
 use Rattle.trip_growth.proofs.Joined.{AreSmaller, smaller_joined, smaller_all}
 
 one_for_each : (x y n a b : ℕ) → a ≤ b + (x * n + 1) + y * n → a ≤ b + ((x + y) * (n + 1) + 1)
 one_for_each x y n a b h = omega arith
 
 module _ (tau : ℕ → ℕ → ℕ) (settled : Settled) (v : ℕ) (size : ℕ) (xs ys : List TripOf)
-    (small : AreSmaller (CanServe tau settled v) (CostsLeast tau settled v) size xs) (level : AreRowsOfSize tau settled v size ys) where
+    (small : AreSmaller (CanServe 6 tau settled v) (CostsLeast tau settled v) size xs) (level : AreRowsOfSize tau settled v size ys) where
   -- the searches made so far, against the rows so far
   pub steps_so_far : (most room before after : ℕ) → size ≤ most → length xs + length ys ≤ room + 1
       → after ≤ before + (length xs * length settled.riders + 1) + length ys * length settled.riders
       → TakesSteps tau settled v most room before after
   steps_so_far most room before after h few taken =
-      let both = smaller_joined (CanServe tau settled v) (CostsLeast tau settled v) size xs ys small level in
+      let both = smaller_joined (CanServe 6 tau settled v) (CostsLeast tau settled v) size xs ys small (level_of_rows tau settled v size ys level) in
       let n : length (xs ++ ys) ≡ length xs + length ys = length-append xs ys in
       record {
         rows = xs ++ ys;
-        right = both.right;
-        sized = λ k d lt. let s = both.sized k d lt in omega arith;
-        rising = both.rising;
+        some = some_rows tau settled v (λ n. n ≤ most) (xs ++ ys) both.right (λ k d lt. let s = both.sized k d lt in omega arith) both.rising;
         few = omega arith;
         taken = rw n (one_for_each (length xs) (length ys) (length settled.riders) after before taken);
       }
@@ -38,9 +39,10 @@ module _ (tau : ℕ → ℕ → ℕ) (settled : Settled) (v : ℕ) (size : ℕ) 
 
   -- all rows, where this size is the last
   pub rows_of_all : (most room : ℕ) (rows : List TripOf) → size ≡ most → rows ≡ xs ++ ys → length xs + length ys ≤ room
-      → AreRowsUpTo tau settled v most rows × (length rows ≤ room)
+      → AreAllRows tau settled v (λ n. n ≤ most) rows × (length rows ≤ room)
   rows_of_all most room rows e is few =
       let n : length (xs ++ ys) ≡ length xs + length ys = length-append xs ys in
-      let all : AreRowsUpTo tau settled v size (xs ++ ys) =
-      smaller_all (CanServe tau settled v) (CostsLeast tau settled v) size (xs ++ ys) (smaller_joined (CanServe tau settled v) (CostsLeast tau settled v) size xs ys small level) in
-      rw is (subst (λ (k : ℕ). AreRowsUpTo tau settled v k (xs ++ ys)) e all, omega arith)
+      let joined = smaller_joined (CanServe 6 tau settled v) (CostsLeast tau settled v) size xs ys small (level_of_rows tau settled v size ys level) in
+      let all : AreAllRows tau settled v (λ n. n ≤ size) (xs ++ ys) =
+      rows_within tau settled v size (xs ++ ys) (smaller_all (CanServe 6 tau settled v) (CostsLeast tau settled v) size (xs ++ ys) joined) in
+      rw is (subst (λ (k : ℕ). AreAllRows tau settled v (λ n. n ≤ k) (xs ++ ys)) e all, omega arith)

@@ -1,4 +1,3 @@
 pub mod Trip
-pub mod Level
 pub mod Rows
-pub mod Growth
+pub mod work

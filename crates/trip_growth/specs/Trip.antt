@@ -1,4 +1,5 @@
-use Rattle.std.specs.Prelude.{◌≡◌, ℕ, ◌<◌, ◌⊎◌, List, [], ◌∷◌, length, slice_index_or}
+use Rattle.std.specs.Prelude.{◌≡◌, ℕ, ◌<◌, ◌⊎◌, List, [], ◌∷◌, length, map, slice_index_or}
+use Rattle.trip_growth.specs.declared.trip_of.TripOf.{TripOf}
 
 -- where the two trips first differ, the first has the lower rider
 abbrev pub IsLower : List ℕ → List ℕ → Type 0
@@ -13,3 +14,7 @@ ComesBefore a b = (length a < length b) ⊎ ((length a ≡ length b) × IsLower 
 -- the trips stand by size, then riders, each once
 abbrev pub IsRising : List (List ℕ) → Type 0
 IsRising trips = (i j : ℕ) → i < j → j < length trips → ComesBefore (slice_index_or trips i []) (slice_index_or trips j [])
+
+-- the riders of each row
+abbrev pub trips_of : List TripOf → List (List ℕ)
+trips_of rows = map (λ row. row.riders.items) rows

@@ -1,6 +1,7 @@
 ghost use Rattle.std.specs.Prelude.{◌≡◌, ◌-◌, ◌<◌, ◌≤◌, ◌++◌, ◌∷◌, [], ◌↔◌, IsTrue, IsFalse, length, take, remove, slice_index};
-ghost use Rattle.trip_growth.specs.Level.{trips_of, IsBelow};
-ghost use Rattle.trip_growth.specs.Growth.{CanGrow, serves};
+ghost use Rattle.trip_growth.specs.Trip.{trips_of};
+ghost use Rattle.trip_growth.specs.work.Level.{IsBelow};
+ghost use Rattle.trip_growth.specs.work.Growth.{CanGrow, serves};
 
 use crate::growth::Growth;
 use crate::trip_of::TripOf;
@@ -8,7 +9,7 @@ use crate::trip_search::has_trip;
 use arrayvec::ArrayVec;
 
 /// The trip with one more rider.
-pub fn with_rider(riders: &[usize], rider: usize) -> ArrayVec<usize, 6>
+pub(crate) fn with_rider(riders: &[usize], rider: usize) -> ArrayVec<usize, 6>
     requires { length riders.now < 6 }
     ensures { result.items ≡ riders.now ++ rider ∷ [] }
 {
@@ -19,7 +20,7 @@ pub fn with_rider(riders: &[usize], rider: usize) -> ArrayVec<usize, 6>
 }
 
 /// The trip without the rider at this place.
-pub fn without_rider(trip: &[usize], place: usize) -> ArrayVec<usize, 6>
+pub(crate) fn without_rider(trip: &[usize], place: usize) -> ArrayVec<usize, 6>
     requires place { place < length trip.now }
     requires size { length trip.now ≤ 6 }
     ensures { result.items ≡ remove trip.now place }
@@ -31,7 +32,7 @@ pub fn without_rider(trip: &[usize], place: usize) -> ArrayVec<usize, 6>
 }
 
 /// Whether the first riders of two trips, so many of each, are the same.
-pub fn have_same_front(one: &[usize], other: &[usize], front: usize) -> bool
+pub(crate) fn have_same_front(one: &[usize], other: &[usize], front: usize) -> bool
     requires one { front ≤ length one.now }
     requires other { front ≤ length other.now }
     ensures { IsTrue result ↔ (take front one.now ≡ take front other.now) }
@@ -41,7 +42,7 @@ pub fn have_same_front(one: &[usize], other: &[usize], front: usize) -> bool
 
 /// Whether the smaller trips leave it possible that the vehicle can serve the trip. The two smaller trips
 /// without one of the last two riders are known to be rows.
-pub fn is_possible(growth: &Growth<'_>, rows: &[TripOf], trip: &[usize]) -> bool
+pub(crate) fn is_possible(growth: &Growth<'_>, rows: &[TripOf], trip: &[usize]) -> bool
     requires can { CanGrow growth.now }
     requires below { IsBelow (serves growth.now) (length trip.now - 1) rows.now }
     requires some { 1 ≤ length trip.now }

@@ -1,6 +1,7 @@
 ghost use Rattle.std.specs.Prelude.{◌≡◌, ℕ, ◌+◌, ◌-◌, ◌*◌, ◌<◌, ◌≤◌, IfOk, Contains, length};
 ghost use Rattle.pool_base.specs.Times.{point_count, travel_time};
-ghost use Rattle.stop_orders.specs.Settled.{IsSound, IsRrEdge};
+ghost use Rattle.stop_orders.specs.Settled.{IsRrEdge};
+ghost use Rattle.stop_orders.specs.Sound.{IsSound};
 ghost use Rattle.trip_growth.specs.Rows.{AreRowsOfSize, IsLevelOf};
 
 use crate::growth::Growth;
@@ -14,7 +15,7 @@ use pool_base::{OutOfMemory, Steps, Times};
 use small_routing::Workspace;
 use std::alloc::Global;
 use std::sync::ledger::Ledger;
-use stop_orders::{PairList, Settled, task_of};
+use stop_orders::{PairList, Settled, laws, task_of};
 
 /// The vehicle's rows of size 0: the empty trip, or nothing where no order serves the passengers in time.
 ///
@@ -71,6 +72,9 @@ pub fn grow_level<L: Ledger>(
     ensures level { IfOk result (IsLevelOf (travel_time times.entry.now) settled.entry.now vehicle level room) }
     ensures steps { steps.new ≤ steps.old + length below.entry.now * length settled.entry.now.riders }
 {
+    // A trip can be served only where its smaller trips can, and two riders only where they are one of the pairs.
+    laws::sub_trips_are_servable();
+    laws::pairs_are_edges();
     let growth = Growth {
         settled,
         times,

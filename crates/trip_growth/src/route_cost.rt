@@ -1,7 +1,7 @@
 ghost use Rattle.std.specs.Prelude.{◌≡◌, ◌+◌, ◌<◌, IfOk, IfSome, IfNone, OnOk, length};
 ghost use Rattle.pool_base.specs.Times.{point_count, travel_time};
 ghost use Rattle.stop_orders.specs.Task.{IsTask, IsServable, IsLeastDelay};
-ghost use Rattle.trip_growth.specs.Rows.{task_with};
+ghost use Rattle.trip_growth.specs.work.Growth.{task_with};
 
 use pool_base::{OutOfMemory, Steps, Times};
 use small_routing::{Workspace, least_delay_with};
@@ -10,7 +10,7 @@ use stop_orders::{Leg, Task};
 
 /// The least delay of an order that serves the task; `None` where no order serves it. It is one search, in the
 /// room of earlier ones.
-pub fn least_cost<L: Ledger>(
+pub(crate) fn least_cost<L: Ledger>(
     workspace: &mut Workspace,
     task: &Task,
     times: &Times,
@@ -29,7 +29,7 @@ pub fn least_cost<L: Ledger>(
 
 /// The same of the task with one more rider. The task stays as it was, so that no copy of it is made for each rider
 /// who is tried.
-pub fn cost_with<L: Ledger>(
+pub(crate) fn cost_with<L: Ledger>(
     workspace: &mut Workspace,
     task: &mut Task,
     leg: Leg,

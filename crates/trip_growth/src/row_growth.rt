@@ -1,7 +1,8 @@
 ghost use Rattle.std.specs.Prelude.{◌≡◌, ◌+◌, ◌-◌, ◌*◌, ◌<◌, ◌≤◌, ◌++◌, ◌∷◌, [], IfOk, OnOk, MatchBool, length, slice_index_or};
 ghost use Rattle.stop_orders.specs.Settled.{IsTrip};
-ghost use Rattle.trip_growth.specs.Level.{trips_of, IsBelow, IsLevel, IsLevelUpTo, HasMoreThan};
-ghost use Rattle.trip_growth.specs.Growth.{CanGrow, rider_count, serves, costs, task_of_trip};
+ghost use Rattle.trip_growth.specs.Trip.{trips_of};
+ghost use Rattle.trip_growth.specs.work.Level.{IsBelow, IsLevel, IsLevelUpTo, HasMoreOfLevel};
+ghost use Rattle.trip_growth.specs.work.Growth.{CanGrow, rider_count, serves, costs, task_of_trip};
 
 use crate::candidate::{have_same_front, is_possible, with_rider};
 use crate::growth::Growth;
@@ -34,7 +35,7 @@ fn add_trip<L: Ledger>(
     ensures answer { IfOk result (λ goes_on. MatchBool goes_on
         (IsLevelUpTo (serves growth.now) (costs growth.now) (length riders.now + 1) (riders.now ++ (rider + 1) ∷ []) found.new.items
         × (length found.new.items ≤ growth.now.room))
-        (HasMoreThan (serves growth.now) (costs growth.now) (length riders.now + 1) growth.now.room)) }
+        (HasMoreOfLevel (serves growth.now) (costs growth.now) (length riders.now + 1) growth.now.room)) }
     ensures steps { steps.new ≤ steps.old + 1 }
     ensures task { OnOk result (task.new ≡ task.old) }
 {
@@ -76,7 +77,7 @@ fn grow_row<L: Ledger>(
     ensures answer { IfOk result (λ goes_on. MatchBool goes_on
         (IsLevelUpTo (serves growth.now) (costs growth.now) (size + 2) (slice_index_or (trips_of rows.now) (row + 1) (rider_count growth.now ∷ [])) found.new.items
         × (length found.new.items ≤ growth.now.room))
-        (HasMoreThan (serves growth.now) (costs growth.now) (size + 2) growth.now.room)) }
+        (HasMoreOfLevel (serves growth.now) (costs growth.now) (size + 2) growth.now.room)) }
     ensures steps { steps.new ≤ steps.old + rider_count growth.now }
 {
     let riders = rows[row].riders.as_slice();
@@ -119,7 +120,7 @@ fn grow_rows<L: Ledger>(
     requires none { found.old.items ≡ [] }
     ensures answer { IfOk result (λ goes_on. MatchBool goes_on
         (IsLevel (serves growth.now) (costs growth.now) (size + 2) found.new.items × (length found.new.items ≤ growth.now.room))
-        (HasMoreThan (serves growth.now) (costs growth.now) (size + 2) growth.now.room)) }
+        (HasMoreOfLevel (serves growth.now) (costs growth.now) (size + 2) growth.now.room)) }
     ensures steps { steps.new ≤ steps.old + length rows.now * rider_count growth.now }
 {
     for row in 0..rows.len() {
@@ -143,7 +144,7 @@ fn grow_first<L: Ledger>(
     requires none { found.old.items ≡ [] }
     ensures answer { IfOk result (λ goes_on. MatchBool goes_on
         (IsLevel (serves growth.now) (costs growth.now) 1 found.new.items × (length found.new.items ≤ growth.now.room))
-        (HasMoreThan (serves growth.now) (costs growth.now) 1 growth.now.room)) }
+        (HasMoreOfLevel (serves growth.now) (costs growth.now) 1 growth.now.room)) }
     ensures steps { steps.new ≤ steps.old + length rows.now * rider_count growth.now }
 {
     if rows.is_empty() {
@@ -159,7 +160,7 @@ fn grow_first<L: Ledger>(
 }
 
 /// The trips of `level` riders, 1 to 6, from the rows of one rider fewer. `false` where there is no room.
-pub fn grow_size<L: Ledger>(
+pub(crate) fn grow_size<L: Ledger>(
     workspace: &mut Workspace,
     growth: &Growth<'_>,
     rows: &[TripOf],
@@ -174,7 +175,7 @@ pub fn grow_size<L: Ledger>(
     requires none { found.old.items ≡ [] }
     ensures answer { IfOk result (λ goes_on. MatchBool goes_on
         (IsLevel (serves growth.now) (costs growth.now) level found.new.items × (length found.new.items ≤ growth.now.room))
-        (HasMoreThan (serves growth.now) (costs growth.now) level growth.now.room)) }
+        (HasMoreOfLevel (serves growth.now) (costs growth.now) level growth.now.room)) }
     ensures steps { steps.new ≤ steps.old + length rows.now * rider_count growth.now }
 {
     if level == 1 {

@@ -1,12 +1,11 @@
 ghost use Rattle.std.specs.Prelude.{◌≡◌, ◌↔◌, IsTrue, All, Contains, length};
-ghost use Rattle.trip_growth.specs.Trip.{IsRising};
-ghost use Rattle.trip_growth.specs.Level.{trips_of};
+ghost use Rattle.trip_growth.specs.Trip.{IsRising, trips_of};
 
 use crate::trip_of::TripOf;
 use std::cmp::Ordering;
 
 /// Whether one of the rows, all of this trip's size and in order, has exactly these riders. A binary search.
-pub fn has_trip(rows: &[TripOf], trip: &[usize]) -> bool
+pub(crate) fn has_trip(rows: &[TripOf], trip: &[usize]) -> bool
     requires sized { All (λ row. length row.riders.items ≡ length trip.now) rows.now }
     requires rising { IsRising (trips_of rows.now) }
     ensures { IsTrue result ↔ Contains (trips_of rows.now) trip.now }

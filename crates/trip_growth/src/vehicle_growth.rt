@@ -1,6 +1,7 @@
 ghost use Rattle.std.specs.Prelude.{◌≡◌, ℕ, ◌+◌, ◌-◌, ◌*◌, ◌<◌, ◌≤◌, IfOk, Contains, MatchOption, IsOkAnd, length, vec_len};
 ghost use Rattle.pool_base.specs.Times.{point_count, travel_time};
-ghost use Rattle.stop_orders.specs.Settled.{IsSound, IsRrEdge};
+ghost use Rattle.stop_orders.specs.Settled.{IsRrEdge};
+ghost use Rattle.stop_orders.specs.Sound.{IsSound};
 ghost use Rattle.trip_growth.specs.Rows.{IsGrownOf, TakesSteps};
 
 use crate::grown::Grown;

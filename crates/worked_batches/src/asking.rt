@@ -11,15 +11,15 @@ use std::alloc::Global;
 const LINE: &[u8] =
     b"from,to,seconds\n1,2,60\n2,1,60\n2,3,60\n3,2,60\n3,4,60\n4,3,60\n4,5,60\n5,4,60\n";
 
-pub fn rider_id(name: u64) -> RiderId {
+fn rider_id(name: u64) -> RiderId {
     RiderId::new(name).unwrap_or(RiderId::default())
 }
 
-pub fn vehicle_id(name: u64) -> VehicleId {
+fn vehicle_id(name: u64) -> VehicleId {
     VehicleId::new(name).unwrap_or(VehicleId::default())
 }
 
-pub fn node(name: u64) -> NodeId {
+fn node(name: u64) -> NodeId {
     NodeId::new(name).unwrap_or(NodeId::default())
 }
 
@@ -27,8 +27,8 @@ pub fn second(number: u64) -> Second {
     Second::new(number).unwrap_or(Second::default())
 }
 
-fn network(alloc: Global, arcs: &[u8]) -> Result<Network, OutOfMemory> {
-    match rows(alloc, arcs, b"from,to,seconds") {
+fn network(alloc: Global) -> Result<Network, OutOfMemory> {
+    match rows(alloc, LINE, b"from,to,seconds") {
         Ok(rows) => match read_network(alloc, &rows) {
             Ok(network) => Ok(network),
             Err(_) => Err(OutOfMemory),
@@ -39,15 +39,10 @@ fn network(alloc: Global, arcs: &[u8]) -> Result<Network, OutOfMemory> {
 
 /// The book of a good fleet on the line, where a rider waits for 120 seconds at most.
 pub fn book(alloc: Global, fleet: &[u8]) -> Result<Book, OutOfMemory> {
-    book_on(alloc, LINE, fleet, 120)
-}
-
-/// The book of a good fleet on a good network.
-pub fn book_on(alloc: Global, arcs: &[u8], fleet: &[u8], wait: u32) -> Result<Book, OutOfMemory> {
-    let network = network(alloc, arcs)?;
+    let network = network(alloc)?;
     match rows(alloc, fleet, b"vehicle,seats,node,second") {
         Ok(rows) => match read_fleet(alloc, &rows, &network) {
-            Ok(fleet) => Book::new(alloc, &network, fleet, wait),
+            Ok(fleet) => Book::new(alloc, &network, fleet, 120),
             Err(_) => Err(OutOfMemory),
         },
         Err(_) => Err(OutOfMemory),
@@ -128,7 +123,7 @@ fn promise(alloc: Global, vehicle: u64, rider: u64, pickup: u64) -> Result<Comma
 }
 
 /// A plan of these trips and nothing else.
-pub fn planned(alloc: Global, chosen: Vec<ChosenTrip>) -> Answer {
+fn planned(alloc: Global, chosen: Vec<ChosenTrip>) -> Answer {
     Answer::Planned(Planned {
         lapsed: Sequence::empty(alloc),
         late: Sequence::empty(alloc),

@@ -101,7 +101,56 @@ fn a_promise_bounds_the_trips_of_its_vehicle(rt: HostRuntime) {
 }
 
 #[test]
+fn trips_of_one_rider_come_from_the_empty_trip(rt: HostRuntime) {
+    let alloc = rt.alloc();
+    let limits = settings(120, 180, 200_000);
+    let both = Asked::Singles { room: 2 };
+    assert!(rt; tells(alloc, Scene::Sharing, &limits, both, "[0] 60\n[1] 120\n"));
+    let one = Asked::Singles { room: 1 };
+    assert!(rt; tells(alloc, Scene::Sharing, &limits, one, "too many"));
+    let none = Asked::Singles { room: 0 };
+    assert!(rt; tells(alloc, Scene::Late, &limits, none, ""));
+    assert!(rt; tells(alloc, Scene::NoVehicle, &limits, none, "no vehicle"));
+}
+
+/// Each public call that takes memory, on a batch for which it does: `settle`, `rider_vehicle`,
+/// `rider_rider`, `grow`, `empty_level`, `grow_level` and `grow_graph`.
+#[test]
 fn answers_with_memory(rt: HostRuntime) {
+    let alloc = rt.alloc();
+    let limits = settings(120, 180, 200_000);
+    let text =
+        "vehicle 1 held [] late false\nrider 1 by 120 lapsed false\nrider 2 by 120 lapsed false\n";
+    assert!(rt; tells(alloc, Scene::Sharing, &limits, Asked::Limits, text));
+    let text = "rv 0 0\nrv 0 1\nrr 0 1\n";
+    assert!(rt; tells(alloc, Scene::Sharing, &limits, Asked::Edges, text));
+    let text = "[] 0\n[0] 60\n[1] 120\n[0, 1] 180\n";
+    assert!(rt;
+        tells(
+            alloc,
+            Scene::Sharing,
+            &limits,
+            Asked::Trips { room: 9 },
+            text
+        )
+    );
+    let text = "[0] 60\n[1] 120\n";
+    assert!(rt;
+        tells(
+            alloc,
+            Scene::Sharing,
+            &limits,
+            Asked::Singles { room: 9 },
+            text
+        )
+    );
+    let text = "[] 0\n[0] 60\n[1] 120\n[0, 1] 180\n";
+    assert!(rt; tells(alloc, Scene::Sharing, &limits, Asked::Rows, text));
+}
+
+/// Where there is nothing, nothing is answered.
+#[test]
+fn a_batch_without_vehicles_has_no_rows(rt: HostRuntime) {
     let alloc = rt.alloc();
     let limits = settings(120, 180, 200_000);
     let text = "rider 1 by 120 lapsed false\n";

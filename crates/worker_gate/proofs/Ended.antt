@@ -2,8 +2,8 @@
 use Rattle.std.proofs.Common.{◌≡◌, ℕ, zero, suc, ◌<◌, ◌≤◌, List, [], ◌∷◌, ◌++◌, All, sum_by, refl, ap, subst, arith}
 use Rattle.std.proofs.lemmas.List.Sums.{sum_by-cons}
 use Rattle.worker_gate.specs.declared.worker.Done.{Done}
-use Rattle.worker_gate.specs.Claims.{at, past}
-use Rattle.worker_gate.specs.Workers.{AreDoneRight, pieces_of}
+use Rattle.worker_gate.specs.work.Claims.{at, past}
+use Rattle.worker_gate.specs.work.Workers.{AreDoneRight, pieces_of}
 use Rattle.worker_gate.proofs.Sums.{sum-append, sum-push, at-other, past-over, past-within}
 
 module _ {O : Type 0} where

@@ -7,7 +7,7 @@ use lib.ListN.{get_elem?}
 use Rattle.atomic_table.specs.Table.{State, Me, step, keeps, Allows, Splits, Joins, opening, Final, Seen}
 use Rattle.atomic_table.proofs.Lists.{at_set, at_snoc, set_else}
 use Rattle.worker_gate.specs.declared.claims.Drawn.{Drawn}
-use Rattle.worker_gate.specs.Claims.{below, at, past, draws, others_kept, one_given, joined, Agrees, Kept, drew}
+use Rattle.worker_gate.specs.work.Claims.{below, at, past, draws, others_kept, one_given, joined, Agrees, Kept, drew}
 use Rattle.worker_gate.proofs.Sums.{sum-set, sum-append, sum-push, term-le, terms-le, sum-only, sum-le, sum-count, below-hit, below-count, below-over, below-none}
 
 module _ (pieces workers : ℕ) where

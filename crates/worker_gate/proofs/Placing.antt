@@ -6,9 +6,9 @@ use Rattle.std.specs.List.Sorted.{IsPermutation, IsNonDecreasingBy}
 use Rattle.std.proofs.lemmas.List.Sums.{sum_by-cons}
 use Rattle.std.proofs.lemmas.List.Sorted.{All-permutation, sum_by-IsPermutation}
 use Rattle.worker_gate.specs.declared.worker.Done.{Done}
-use Rattle.worker_gate.specs.Claims.{at}
+use Rattle.worker_gate.specs.work.Claims.{at}
 use Rattle.worker_gate.specs.Outs.{AreRight}
-use Rattle.worker_gate.specs.Workers.{AreDoneRight, EachDoneOnce, AreOutsOf}
+use Rattle.worker_gate.specs.work.Workers.{AreDoneRight, EachDoneOnce, AreOutsOf}
 use Rattle.worker_gate.proofs.Sums.{at-same, at-other}
 
 module _ {A : Type 0} where

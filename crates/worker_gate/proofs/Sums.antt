@@ -5,7 +5,7 @@ use mathlib.Core.Logic.{dite}
 use native.Mathlib.Decide.{ℕ_discrete, dec_lt}
 use lib.ListN.{get_elem?}
 use Rattle.std.proofs.lemmas.List.Sums.{sum_by-cons}
-use Rattle.worker_gate.specs.Claims.{below, at, past}
+use Rattle.worker_gate.specs.work.Claims.{below, at, past}
 
 module _ {A : Type 0} (f : A → ℕ) where
   pub sum-set : (l : List A) (j : ℕ) (v w : A) → get_elem? l j ≡ some v → sum_by f (set l j w) + f v ≡ sum_by f l + f w

@@ -1,3 +1,2 @@
-pub mod Claims
 pub mod Outs
-pub mod Workers
+pub mod work

@@ -1,6 +1,6 @@
 //! The claim word, from which workers draw the numbers of pieces.
 ghost use Rattle.std.specs.Prelude.{◌≡◌, ℕ, ◌+◌, ◌<◌, ◌≤◌, [], ◌∷◌, ◌++◌, length, sum_by};
-ghost use Rattle.worker_gate.specs.Claims.{draws, past};
+ghost use Rattle.worker_gate.specs.work.Claims.{draws, past};
 
 use atomic_table::{Join, Play, Seat, Split, Table, TableRule};
 use std::alloc::Global;
@@ -24,7 +24,7 @@ pub(crate) struct EachOnce;
 
 impl TableRule<(), Drawn, Quota> for EachOnce {
     ghost use Rattle.std.specs.Prelude.{[]};
-    ghost use Rattle.worker_gate.specs.Claims.{Kept, draws};
+    ghost use Rattle.worker_gate.specs.work.Claims.{Kept, draws};
 
     ghost holds = { λ quota. Kept quota.pieces quota.workers };
 
@@ -38,7 +38,7 @@ pub(crate) type Hand = Seat<(), Drawn>;
 pub(crate) struct Claiming;
 
 impl Play<(), Drawn> for Claiming {
-    ghost use Rattle.worker_gate.specs.Claims.{drew};
+    ghost use Rattle.worker_gate.specs.work.Claims.{drew};
 
     ghost then = { drew };
 }
@@ -46,7 +46,7 @@ impl Play<(), Drawn> for Claiming {
 pub(crate) struct Parts;
 
 impl Split<Drawn> for Parts {
-    ghost use Rattle.worker_gate.specs.Claims.{others_kept, one_given};
+    ghost use Rattle.worker_gate.specs.work.Claims.{others_kept, one_given};
 
     ghost left = { others_kept };
 
@@ -55,7 +55,7 @@ impl Split<Drawn> for Parts {
 
 impl Join<Drawn> for Parts {
     ghost use Rattle.std.specs.Prelude.{[]};
-    ghost use Rattle.worker_gate.specs.Claims.{draws, joined};
+    ghost use Rattle.worker_gate.specs.work.Claims.{draws, joined};
 
     ghost both = { joined };
 

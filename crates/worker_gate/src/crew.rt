@@ -1,7 +1,7 @@
 //! All workers together.
 ghost use Rattle.std.specs.Prelude.{◌≡◌, ◌<◌, ◌≤◌, [], All, IfOk, length, vec_len};
-ghost use Rattle.worker_gate.specs.Claims.{draws};
-ghost use Rattle.worker_gate.specs.Workers.{IsReady, HasWorked, HaveEnded, EachDoneOnce, AreDoneRight};
+ghost use Rattle.worker_gate.specs.work.Claims.{draws};
+ghost use Rattle.worker_gate.specs.work.Workers.{IsReady, HasWorked, HaveEnded, EachDoneOnce, AreDoneRight};
 
 use crate::claims::{Claims, Hand, Parts};
 use crate::gate::Gate;

@@ -1,6 +1,6 @@
 //! Outs in the order of their pieces.
 ghost use Rattle.std.specs.Prelude.{◌≡◌, ℕ, ◌<◌, All, IfOk, map, vec_len};
-ghost use Rattle.worker_gate.specs.Workers.{EachDoneOnce, AreOutsOf};
+ghost use Rattle.worker_gate.specs.work.Workers.{EachDoneOnce, AreOutsOf};
 
 use crate::worker::Done;
 use pool_base::OutOfMemory;

@@ -1,6 +1,6 @@
 //! One worker.
 ghost use Rattle.std.specs.Prelude.{◌≡◌};
-ghost use Rattle.worker_gate.specs.Workers.{IsReady, HasWorked, AreDoneRight};
+ghost use Rattle.worker_gate.specs.work.Workers.{IsReady, HasWorked, AreDoneRight};
 
 use crate::claims::{Claims, Hand, draw};
 use crate::gate::Gate;

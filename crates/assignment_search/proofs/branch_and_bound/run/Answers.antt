@@ -5,7 +5,7 @@ use Rattle.plan_rules.specs.Plan.{IsLawful, cost_of}
 use Rattle.plan_rules.specs.Tree.{every_row, rounded_up}
 use Rattle.plan_rules.specs.declared.node.Node.{Node}
 use Rattle.plan_rules.specs.declared.node.Node.TheVariants.{Branch, Leaf}
-use Rattle.dual_bound.specs.Size.{IsSmallSum}
+use Rattle.plan_rules.specs.Size.{IsSmallSum}
 use Rattle.assignment_search.specs.Found.{IsRightPlan}
 use Rattle.assignment_search.specs.Growth.{IsGrown, IsLowest, HasLeaf}
 use Rattle.assignment_search.specs.Next.{IsNext}

@@ -1,6 +1,6 @@
 use Rattle.std.proofs.Common.{◌≡◌, ◌==◌, ℕ, Bool, true, get_or, sym, subst, eqb-true}
 use Rattle.std.specs.List.{list_any}
-use Rattle.plan_rules.proofs.GraphLemmas.{has_at}
+use Rattle.plan_rules.proofs.lemmas.GraphLemmas.{has_at}
 use Rattle.assignment_search.proofs.exchange.meet.Goals as goal
 
 pub loop-rider-init : goal.loop-rider-init

@@ -1,6 +1,7 @@
 use Rattle.std.proofs.Common.{◌≡◌, ◌<◌, ℕ, true, List, ◌∷◌, sym, ap, ◌∙◌, subst}
 use Rattle.plan_rules.specs.Multipliers.{Usable}
-use Rattle.plan_rules.specs.Tree.{only_row, without_row, coming_after}
+use Rattle.plan_rules.specs.Tree.{only_row, without_row}
+use Rattle.plan_rules.specs.Reading.{coming_after}
 use Rattle.plan_rules.specs.Path.{standing_of, IsPathOf}
 use Rattle.plan_rules.specs.declared.node.Node.TheVariants.{Branch}
 use Rattle.assignment_search.specs.Growth.{IsNewEnd}

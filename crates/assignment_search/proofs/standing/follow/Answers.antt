@@ -1,7 +1,8 @@
 use Rattle.std.proofs.Common.{◌≡◌, ◌<◌, ℕ, List, true, refl, sym, ap, ◌∙◌, subst}
 use Rattle.plan_rules.specs.Graph.{Graph, IsGoodGraph}
 use Rattle.plan_rules.specs.Multipliers.{Usable}
-use Rattle.plan_rules.specs.Tree.{CanBranch, IsSoundNode, coming_after}
+use Rattle.plan_rules.specs.Tree.{CanBranch}
+use Rattle.plan_rules.specs.Reading.{IsSoundNode, coming_after}
 use Rattle.plan_rules.specs.Path.{standing_of, IsPathOf}
 use Rattle.plan_rules.specs.declared.node.Node.{Node}
 use Rattle.assignment_search.proofs.StandingLemmas.{coming_entered, path_push, left_next}

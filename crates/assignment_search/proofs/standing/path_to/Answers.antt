@@ -2,7 +2,8 @@ use Rattle.std.proofs.Common.{◌≡◌, ◌<◌, ℕ, suc, length, get_or, take
 use Rattle.std.proofs.lemmas.List.{get_or_read}
 use Rattle.plan_rules.specs.Graph.{Graph}
 use Rattle.plan_rules.specs.Multipliers.{Usable}
-use Rattle.plan_rules.specs.Tree.{every_row, Reads, IsSoundNode, coming_after}
+use Rattle.plan_rules.specs.Tree.{every_row}
+use Rattle.plan_rules.specs.Reading.{ReadsTo, IsSoundNode, coming_after}
 use Rattle.plan_rules.specs.Path.{standing_of, IsPathOf}
 use Rattle.plan_rules.specs.declared.node.Node.{Node}
 use Rattle.plan_rules.specs.declared.node.Node.TheVariants.{Dead}
@@ -29,7 +30,7 @@ loop-k-preserved c =
     let w = next_of g nodes (every_row ∷ []) [] ((standing_of g old).usable ∷ (standing_of g old).coming) k c.requires.sound low c.loop-k.invariant.reads in
     let u_is : (standing_of g old).usable ≡ w.usable = head_is (standing_of g old).usable w.usable (standing_of g old).coming w.later w.here in
     let l_is : (standing_of g old).coming ≡ w.later = tail_is (standing_of g old).usable w.usable (standing_of g old).coming w.later w.here in
-    let after : Reads g (every_row ∷ []) (take (suc k) nodes) (coming_after g w.usable (get_or nodes k Dead) w.later) = w.after in
+    let after : ReadsTo g (every_row ∷ []) (take (suc k) nodes) (coming_after g w.usable (get_or nodes k Dead) w.later) = w.after in
     let next = next_of g nodes (every_row ∷ []) [] (coming_after g w.usable (get_or nodes k Dead) w.later) (suc k) c.requires.sound below after in
     let same : coming_after g (standing_of g old).usable node (standing_of g old).coming ≡ coming_after g w.usable (get_or nodes k Dead) w.later =
     λ i. coming_after g (u_is i) (here i) (l_is i) in
@@ -37,7 +38,7 @@ loop-k-preserved c =
     let sound : IsSoundNode g (standing_of g old).usable node =
     subst (λ (u : Usable). IsSoundNode g u node) (sym u_is) (subst (λ (n : Node). IsSoundNode g w.usable n) (sym here) w.sound) in
     record {
-      reads = subst (λ (us : List Usable). Reads g (every_row ∷ []) (take (k + 1) nodes) us) (next.here ∙ sym stands)
-          (subst (λ (n : ℕ). Reads g (every_row ∷ []) (take n nodes) (coming_after g w.usable (get_or nodes k Dead) w.later)) (sym (add-one k)) after);
+      reads = subst (λ (us : List Usable). ReadsTo g (every_row ∷ []) (take (k + 1) nodes) us) (next.here ∙ sym stands)
+          (subst (λ (n : ℕ). ReadsTo g (every_row ∷ []) (take n nodes) (coming_after g w.usable (get_or nodes k Dead) w.later)) (sym (add-one k)) after);
       path = c.in_ok-follow.ensures.path g c.vehicle_count-count.ensures.good sound c.loop-k.invariant.path;
     }

@@ -1,10 +1,11 @@
 use Rattle.std.proofs.Common.{◌∷◌, [], take}
-use Rattle.plan_rules.specs.Tree.{every_row, Reads}
+use Rattle.plan_rules.specs.Tree.{every_row}
+use Rattle.plan_rules.specs.Reading.{ReadsTo}
 use Rattle.plan_rules.specs.Path.{standing_of, IsPathOf}
 use Rattle.assignment_search.proofs.standing.path_to.Given as goal
 
 abbrev pub invariant-loop-k : goal.invariant-loop-k
 invariant-loop-k l = record {
-  reads : Reads l.graph (every_row ∷ []) (take l.k l.nodes) ((standing_of l.graph l.path).usable ∷ (standing_of l.graph l.path).coming);
+  reads : ReadsTo l.graph (every_row ∷ []) (take l.k l.nodes) ((standing_of l.graph l.path).usable ∷ (standing_of l.graph l.path).coming);
   path : IsPathOf l.graph l.path;
 }

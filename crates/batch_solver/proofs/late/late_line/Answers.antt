@@ -4,7 +4,8 @@ use Rattle.stop_orders.specs.declared.settled_vehicle.SettledVehicle.{SettledVeh
 use Rattle.stop_orders.specs.declared.stop.Stop.{Stop}
 use Rattle.stop_orders.specs.declared.task.Task.{Task}
 use Rattle.stop_orders.specs.declared.settled.Settled.{Settled}
-use Rattle.stop_orders.specs.Settled.{IsSound, trip_task}
+use Rattle.stop_orders.specs.Settled.{trip_task}
+use Rattle.stop_orders.specs.Sound.{IsSound}
 use Rattle.stop_orders.specs.Task.{IsTask, IsOrderOf, ReachesAll}
 use Rattle.batch_solver.proofs.TripLemmas.{no_trip, vehicle_read, passengers_few, late_order}
 use Rattle.batch_solver.proofs.late.late_line.Goals as goal

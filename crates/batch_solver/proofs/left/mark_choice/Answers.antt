@@ -3,7 +3,7 @@ use Rattle.std.specs.List.{list_any}
 use Rattle.std.specs.Prelude.{MatchOption}
 use Rattle.plan_rules.specs.Graph.{row_at, riders_at, choice_at, is_in, HasNoRow, IsRowOf}
 use Rattle.plan_rules.specs.declared.row.TripRow.{TripRow}
-use Rattle.plan_rules.proofs.GraphLemmas.{row_read}
+use Rattle.plan_rules.proofs.lemmas.GraphLemmas.{row_read}
 use Rattle.batch_solver.proofs.LeftLemmas.{marks_more, marks_kept}
 use Rattle.batch_solver.proofs.left.mark_choice.Goals as goal
 

@@ -1,4 +1,4 @@
-use Rattle.std.proofs.Common.{◌≡◌, ◌<◌, ◌≤◌, ℕ, List, Option, length, map, All, sym, ap, ◌∙◌, subst, to_z, of_z}
+use Rattle.std.proofs.Common.{◌≡◌, ◌<◌, ◌≤◌, ℕ, List, Option, length, map, All, sym, ap, ◌∙◌, subst, arith, to_z, of_z}
 use mir.Syntax.{w128}
 use Rattle.std.proofs.lemmas.Int.{to_z-of_z}
 use Rattle.plan_rules.specs.declared.row.TripRow.{TripRow}
@@ -11,6 +11,9 @@ use Rattle.batch_solver.specs.Trips.{AreTrips, AreLate}
 use Rattle.batch_solver.specs.Moves.{AreMoves, idle_vehicles}
 use Rattle.batch_solver.proofs.GraphLemmas.{rows_of_riders, rows_are_few}
 use Rattle.batch_solver.proofs.solving.planned_of.Goals as goal
+
+pub rv_lines-requires-clause-riders : goal.rv_lines-requires-clause-riders
+rv_lines-requires-clause-riders c = λ k d l. (c.requires.rv.right k d l).riders.within 0 0 (omega arith)
 
 pub row_lines-requires-clause-riders : goal.row_lines-requires-clause-riders
 row_lines-requires-clause-riders c =
@@ -41,12 +44,12 @@ returns c =
       bound = c.in_ok-found.ensures.bound;
       lapsed = c.of.ensures ∙ c.in_ok-lapsed_ids.ensures;
       late = subst (λ (late : List LateVehicle). AreLate points tau settled late) (sym c.of-2.ensures) c.in_ok-late_lines.ensures;
-      rv = record { edges = c.args.rv.now; exact = c.requires.rv; told = c.of-3.ensures ∙ c.in_ok-rv_lines.ensures };
-      rr = record {
-        pairs = c.args.rr.now;
-        exact = c.requires.rr;
-        told = c.of-4.ensures ∙ c.in_ok-rr_lines.ensures ∙ ap (λ (pairs : List (ℕ × ℕ)). map (rr_line settled) pairs) c.all.ensures;
-      };
+      edges = c.args.rv.now;
+      edges_exact = c.requires.rv;
+      rv = c.of-3.ensures ∙ c.in_ok-rv_lines.ensures;
+      pairs = c.args.rr.now;
+      pairs_exact = c.requires.rr;
+      rr = c.of-4.ensures ∙ c.in_ok-rr_lines.ensures ∙ ap (λ (pairs : List (ℕ × ℕ)). map (rr_line settled) pairs) c.all.ensures;
       rows = c.of-5.ensures ∙ c.in_ok-row_lines.ensures ∙ ap (λ (rows : List TripRow). map (row_line settled) rows) c.rows.ensures.value;
       trips = subst (λ (trips : List ChosenTrip). AreTrips points tau settled graph found.plan trips) (sym c.of-6.ensures)
           (subst (λ (chosen : List (Option ℕ)). AreTrips points tau settled graph chosen c.in_ok-chosen_trips.field-0.items) plan c.in_ok-chosen_trips.ensures);

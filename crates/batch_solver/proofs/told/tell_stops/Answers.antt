@@ -5,7 +5,7 @@ use Rattle.request_book.specs.declared.outcome.PlannedStop.{PlannedStop}
 use Rattle.stop_orders.specs.declared.stop.Stop.TheVariants.{Pick}
 use Rattle.stop_orders.specs.Visit.{place_of}
 use Rattle.stop_orders.specs.Task.{visit_at}
-use Rattle.stop_orders.proofs.VisitLemmas.{visit_place}
+use Rattle.stop_orders.proofs.lemmas.VisitLemmas.{visit_place}
 use Rattle.batch_solver.proofs.ToldLemmas.{ToldScan, told_first, told_next}
 use Rattle.batch_solver.proofs.told.tell_stops.Goals as goal
 

@@ -7,10 +7,12 @@ use Rattle.std.proofs.lemmas.Option.{slice_get-get_or}
 use Rattle.plan_rules.specs.Multipliers.{Usable}
 use Rattle.plan_rules.specs.Path.{standing_of}
 use Rattle.plan_rules.specs.Plan.{IsBound}
-use Rattle.plan_rules.specs.Tree.{every_row, Reads, places, least_leaf, tree_value, IsSoundTree, coming_after}
+use Rattle.plan_rules.specs.Tree.{every_row, least_leaf, IsTreeOfValue}
+use Rattle.plan_rules.specs.Reading.{ReadsTo, places_read, value_read, IsWholeTree, coming_after}
 use Rattle.plan_rules.specs.declared.node.Node.{Node}
-use Rattle.plan_rules.proofs.ReadLemmas.{reads_push}
-use Rattle.plan_rules.proofs.TreeLemmas.{tree_value_bounds}
+use Rattle.plan_rules.proofs.lemmas.ReadLemmas.{reads_push}
+use Rattle.plan_rules.proofs.lemmas.TreeLemmas.{tree_value_bounds}
+use Rattle.plan_rules.proofs.lemmas.SearchTreeLemmas.{tree_of_value}
 use Rattle.bound_checker.specs.Visit.{coming_of}
 use Rattle.bound_checker.proofs.WalkLemmas.{coming_start, path_none, fault_here, least_more}
 use Rattle.bound_checker.proofs.checker.check.Goals as goal
@@ -37,14 +39,14 @@ loop-place-preserved c =
     let later : List Usable = (standing_of g path).coming in
     let low : i < length nodes = omega (arith, ap length c.nodes-node-items.ensures) in
     let here : node ≡ get_or nodes i node = c.node-item.is ∙ ap (λ (xs : List Node). get_or xs i node) c.nodes-node-items.ensures in
-    let reads : Reads g (every_row ∷ []) (take i nodes) (u ∷ later) = subst (λ (b : Bool). Reads g (every_row ∷ []) (take i nodes) (coming_of g b path)) c.if-walk.false c.loop-place.invariant.reads in
+    let reads : ReadsTo g (every_row ∷ []) (take i nodes) (u ∷ later) = subst (λ (b : Bool). ReadsTo g (every_row ∷ []) (take i nodes) (coming_of g b path)) c.if-walk.false c.loop-place.invariant.reads in
     let more : take (i + 1) nodes ≡ take i nodes ++ node ∷ [] = take_more nodes i node low ∙ ap (λ (n : Node). take i nodes ++ n ∷ []) (sym here) in
     let visit = c.in-Ok.ensures.ok in
     let new = c.visit.new.self in
     let pushed = reads_push g (take i nodes) node (every_row ∷ []) u later reads visit.sound in
     record {
-      reads = subst (λ (xs : List Node). Reads g (every_row ∷ []) xs (coming_of g new.ended new.path)) (sym more)
-          (subst (λ (us : List Usable). Reads g (every_row ∷ []) (take i nodes ++ node ∷ []) us) (sym visit.coming) pushed);
+      reads = subst (λ (xs : List Node). ReadsTo g (every_row ∷ []) xs (coming_of g new.ended new.path)) (sym more)
+          (subst (λ (us : List Usable). ReadsTo g (every_row ∷ []) (take i nodes ++ node ∷ []) us) (sym visit.coming) pushed);
       least = least_more g nodes i node u later c.loop-place.walk.least new.least more reads c.loop-place.invariant.least visit.least;
       ready = visit.ready;
     }
@@ -60,17 +62,20 @@ returns-in-Err-clause-fault c =
     let later : List Usable = (standing_of g path).coming in
     let low : i < length nodes = omega (arith, ap length c.nodes-node-items.ensures) in
     let here : node ≡ get_or nodes i node = c.node-item.is ∙ ap (λ (xs : List Node). get_or xs i node) c.nodes-node-items.ensures in
-    let reads : Reads g (every_row ∷ []) (take i nodes) (u ∷ later) = subst (λ (b : Bool). Reads g (every_row ∷ []) (take i nodes) (coming_of g b path)) c.if-walk.false c.loop-place.invariant.reads in
+    let reads : ReadsTo g (every_row ∷ []) (take i nodes) (u ∷ later) = subst (λ (b : Bool). ReadsTo g (every_row ∷ []) (take i nodes) (coming_of g b path)) c.if-walk.false c.loop-place.invariant.reads in
     fault_here g nodes i u later node c.in-Err.fault reads low (slice_get-get_or nodes i node low ∙ ap Some (sym here)) c.in-Err.ensures.err
 
-pub returns-clause-value : goal.returns-clause-value
-returns-clause-value c =
+pub returns-clause-tree : goal.returns-clause-tree
+returns-clause-tree c =
     let g = c.args.graph.now in
     let nodes : List Node = c.args.tree.now in
     let i = c.loop-place.place in
     let whole : take i nodes ≡ nodes = take_all i nodes (omega (arith, ap length c.nodes-node-items.ensures)) in
     let back : to_z w128 (of_z w128 c.unwrap_or.result) ≡ c.unwrap_or.result = to_z-of_z w128 c.unwrap_or.result (record { sfits = c.unwrap_or.type_inv }) in
-    back ∙ c.unwrap_or.ensures ∙ ap (λ (o : Option ℤ). unwrap_or o (pos 0)) (c.loop-place.invariant.least ∙ ap (λ (xs : List Node). least_leaf g (places g xs)) whole)
+    let value : to_z w128 (of_z w128 c.unwrap_or.result) ≡ value_read g nodes = back ∙ c.unwrap_or.ensures ∙ ap (λ (o : Option ℤ). unwrap_or o (pos 0)) (c.loop-place.invariant.least ∙ ap (λ (xs : List Node). least_leaf g (places_read g xs)) whole) in
+    let ended : ReadsTo g (every_row ∷ []) (take i nodes) [] = subst (λ (b : Bool). ReadsTo g (every_row ∷ []) (take i nodes) (coming_of g b c.loop-place.walk.path)) c.if-not-walk.false c.loop-place.invariant.reads in
+    let sound : IsWholeTree g nodes = subst (λ (xs : List Node). ReadsTo g (every_row ∷ []) xs []) whole ended in
+    subst (IsTreeOfValue g nodes) (sym value) (tree_of_value g nodes sound)
 
 pub returns-clause-bound : goal.returns-clause-bound
 returns-clause-bound c =
@@ -79,7 +84,7 @@ returns-clause-bound c =
     let i = c.loop-place.place in
     let whole : take i nodes ≡ nodes = take_all i nodes (omega (arith, ap length c.nodes-node-items.ensures)) in
     let back : to_z w128 (of_z w128 c.unwrap_or.result) ≡ c.unwrap_or.result = to_z-of_z w128 c.unwrap_or.result (record { sfits = c.unwrap_or.type_inv }) in
-    let value : to_z w128 (of_z w128 c.unwrap_or.result) ≡ tree_value g nodes = back ∙ c.unwrap_or.ensures ∙ ap (λ (o : Option ℤ). unwrap_or o (pos 0)) (c.loop-place.invariant.least ∙ ap (λ (xs : List Node). least_leaf g (places g xs)) whole) in
-    let ended : Reads g (every_row ∷ []) (take i nodes) [] = subst (λ (b : Bool). Reads g (every_row ∷ []) (take i nodes) (coming_of g b c.loop-place.walk.path)) c.if-not-walk.false c.loop-place.invariant.reads in
-    let sound : IsSoundTree g nodes = subst (λ (xs : List Node). Reads g (every_row ∷ []) xs []) whole ended in
+    let value : to_z w128 (of_z w128 c.unwrap_or.result) ≡ value_read g nodes = back ∙ c.unwrap_or.ensures ∙ ap (λ (o : Option ℤ). unwrap_or o (pos 0)) (c.loop-place.invariant.least ∙ ap (λ (xs : List Node). least_leaf g (places_read g xs)) whole) in
+    let ended : ReadsTo g (every_row ∷ []) (take i nodes) [] = subst (λ (b : Bool). ReadsTo g (every_row ∷ []) (take i nodes) (coming_of g b c.loop-place.walk.path)) c.if-not-walk.false c.loop-place.invariant.reads in
+    let sound : IsWholeTree g nodes = subst (λ (xs : List Node). ReadsTo g (every_row ∷ []) xs []) whole ended in
     subst (IsBound g) (sym value) (tree_value_bounds g nodes c.rows.ensures.good sound)

@@ -1,13 +1,11 @@
 use Rattle.std.proofs.Common.{◌≡◌, ℕ, true, ap, subst, sym, ◌∙◌}
-use Rattle.batch_solver.specs.Outcome.{IsGoodOutcome}
 use Rattle.script_rows.specs.Round.{lane_at}
-use Rattle.shared_book.specs.Lanes.{HasRun}
+use Rattle.dispatch_engine.specs.Lane.{HasRun}
 use Rattle.dispatch_engine.proofs.CrewLemmas.{lane-run, when-ok}
 use Rattle.dispatch_engine.proofs.crew.work.Goals as goal
 
 pub returns-clause-worked : goal.returns-clause-worked
 returns-clause-worked g c =
-    let good = IsGoodOutcome c.args.settings.now c.args.network.now in
     let new = c.run_lane-ran.new.pass in
     let mine : c.from.result ≡ new.lane = (let a = c.lane.ensures in let b = c.from.ensures in let d = c.run_lane-ran.ensures.pass.1 in cc) in
     let commands = c.lane-commands.ensures.commands ∙ ap (lane_at c.args.round.now) mine in
@@ -15,5 +13,5 @@ returns-clause-worked g c =
       own = c.run_lane-ran.ensures.pass.0;
       ran = λ done.
           lane-run c.args.settings.now c.args.network.now (lane_at c.args.round.now new.lane) c.args.lane.now.pass new c.requires.fresh.fresh
-          (subst (λ cs. HasRun good cs c.args.lane.now.pass new) commands (when-ok c.run_lane-ran.result _ (sym c.is_ok-lane.ensures.value ∙ done) c.run_lane-ran.ensures.run));
+          (subst (λ cs. HasRun c.args.settings.now c.args.network.now cs c.args.lane.now.pass new) commands (when-ok c.run_lane-ran.result _ (sym c.is_ok-lane.ensures.value ∙ done) c.run_lane-ran.ensures.run));
     }

@@ -1,18 +1,17 @@
-use Rattle.std.proofs.Common.{◌≡◌, Some, None, sym, ap, subst}
-use Rattle.std.proofs.lemmas.Result.{on_ok_weaker}
-use Rattle.batch_solver.specs.Outcome.{IsGoodOutcome}
+use Rattle.std.proofs.Common.{◌≡◌, ◌∷◌, [], Some, None, refl, sym, ap, subst}
+use Rattle.std.proofs.lemmas.Result.{on_ok_weaker, on_err_weaker}
 use Rattle.request_book.specs.declared.command.Command.TheVariants.{Seal, Close}
 use Rattle.shared_book.specs.Shared.{HasCalled, with_snapshot}
-use Rattle.shared_book.proofs.PassLemmas.{runs-refused, runs-sealed}
-use Rattle.dispatch_engine.specs.Crew.{HasTaken}
-use Rattle.dispatch_engine.proofs.RoundLemmas.{snapshot-known}
+use Rattle.dispatch_engine.specs.work.Crew.{HasTaken}
+use Rattle.dispatch_engine.proofs.PassLemmas.{runs-refused, runs-sealed, begun-none, begun-sealed}
+use Rattle.dispatch_engine.proofs.RoundLemmas.{on-err, snapshot-known}
 use Rattle.dispatch_engine.proofs.lane.run_seal.Goals as goal
 
 pub returns-in_default-clause-run : goal.returns-in_default-clause-run
 returns-in_default-clause-run g c =
     let r = c.in_ok-snapshot.field-0.receipt in
     let none : c.in_ok-snapshot.field-0.snapshot ≡ None = (let a = c.in_default.is in let b = c.in_ok-snapshot.snapshot-is in cc) in
-    runs-refused (IsGoodOutcome c.args.settings.now c.args.network.now) c.args.book.now.start.nodes c.args.pass.now c.seal.new.pass c.args.now r.position r.reply
+    runs-refused c.args.settings.now c.args.network.now c.args.book.now.start.nodes c.args.pass.now c.seal.new.pass c.args.now r.position r.reply
     (subst (λ o. HasCalled c.args.book.now.start.nodes c.args.pass.now (Seal c.args.now) r.position (with_snapshot r.reply o) c.seal.new.pass) none c.in_ok-snapshot.ensures.call)
 
 pub solve_batch-requires-after_bounds : goal.solve_batch-requires-after_bounds
@@ -34,6 +33,32 @@ returns-clause-run g c =
     on_ok_weaker c.take.result
     (λ taken.
     let closed = subst (λ n. HasTaken nodes c.seal.new.pass (Close n outcome) c.take.new.pass) (ap (λ b. b.number) c.snapshot.view_is) taken in
-    runs-sealed (IsGoodOutcome c.args.settings.now c.args.network.now) nodes c.args.pass.now c.seal.new.pass c.take.new.pass c.args.now r.position r.reply b outcome closed.receipt
+    runs-sealed c.args.settings.now c.args.network.now nodes c.args.pass.now c.seal.new.pass c.take.new.pass c.args.now r.position r.reply b outcome closed.receipt
     called closed.called c.in_ok-outcome.ensures)
     c.take.ensures.taken
+
+pub returns-in_err-snapshot-clause-begun : goal.returns-in_err-snapshot-clause-begun
+returns-in_err-snapshot-clause-begun g c =
+    on-err c.from_residual.result _
+    (begun-none c.args.settings.now c.args.network.now (Seal c.args.now ∷ []) c.args.pass.now c.seal.new.pass c.in_err-snapshot.ensures.refused.0)
+
+pub returns-in_err-outcome-clause-begun : goal.returns-in_err-outcome-clause-begun
+returns-in_err-outcome-clause-begun g c =
+    let r = c.in_ok-snapshot.field-0.receipt in
+    let b = c.in-Some.snapshot in
+    let nodes = c.args.book.now.start.nodes in
+    let some : c.in_ok-snapshot.field-0.snapshot ≡ Some b = (let a = c.in-Some.is in let b = c.in_ok-snapshot.snapshot-is in cc) in
+    let called = subst (λ o. HasCalled nodes c.args.pass.now (Seal c.args.now) r.position (with_snapshot r.reply o) c.seal.new.pass) some c.in_ok-snapshot.ensures.call in
+    on-err c.from_residual-in_err-outcome.result _
+    (begun-sealed c.args.settings.now c.args.network.now nodes c.args.pass.now c.seal.new.pass c.seal.new.pass c.args.now r.position r.reply b called refl)
+
+pub returns-clause-begun : goal.returns-clause-begun
+returns-clause-begun g c =
+    let r = c.in_ok-snapshot.field-0.receipt in
+    let b = c.in-Some.snapshot in
+    let nodes = c.args.book.now.start.nodes in
+    let some : c.in_ok-snapshot.field-0.snapshot ≡ Some b = (let a = c.in-Some.is in let b = c.in_ok-snapshot.snapshot-is in cc) in
+    let called = subst (λ o. HasCalled nodes c.args.pass.now (Seal c.args.now) r.position (with_snapshot r.reply o) c.seal.new.pass) some c.in_ok-snapshot.ensures.call in
+    on_err_weaker c.take.result
+    (begun-sealed c.args.settings.now c.args.network.now nodes c.args.pass.now c.seal.new.pass c.take.new.pass c.args.now r.position r.reply b called)
+    c.take.ensures.refused

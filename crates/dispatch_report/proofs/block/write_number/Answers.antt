@@ -1,10 +1,12 @@
-use Rattle.std.proofs.Common.{◌++◌}
-use Rattle.dispatch_report.specs.Words.{spaced}
+use Rattle.dispatch_report.specs.Words.{numbered}
 use Rattle.std.proofs.lemmas.Result.{err_from_is_err_and}
-use Rattle.dispatch_report.proofs.LineLemmas.{nothing_yet}
+use Rattle.dispatch_report.proofs.LineLemmas.{no_memory, line_is}
 use Rattle.dispatch_report.proofs.block.write_number.Goals as goal
 
-pub returns-in_err-put_number_line-clause-lines : goal.returns-in_err-put_number_line-clause-lines
-returns-in_err-put_number_line-clause-lines g c =
+pub returns-in_err-put_numbered : goal.returns-in_err-put_numbered
+returns-in_err-put_numbered g c =
     let p = err_from_is_err_and c.from_residual.result c.from_residual.ensures.1 in
-    rw p.1 (nothing_yet (g.K.Sink.written c.args.sink.now) (c.args.word.now ++ spaced c.args.number))
+    rw (p.1, p.2) (no_memory _ (numbered c.args.words.now c.args.number))
+
+pub returns : goal.returns
+returns g c = line_is _ (numbered c.args.words.now c.args.number) (rw c.clear.ensures.items at c.in_ok-put_numbered.ensures) c.write_line.ensures

@@ -1,10 +1,12 @@
-use Rattle.std.proofs.Common.{◌++◌}
-use Rattle.dispatch_report.specs.Words.{spaced_signed}
+use Rattle.dispatch_report.specs.Words.{signed}
 use Rattle.std.proofs.lemmas.Result.{err_from_is_err_and}
-use Rattle.dispatch_report.proofs.LineLemmas.{nothing_yet}
+use Rattle.dispatch_report.proofs.LineLemmas.{no_memory, line_is}
 use Rattle.dispatch_report.proofs.block.write_signed.Goals as goal
 
-pub returns-in_err-put_signed_line-clause-lines : goal.returns-in_err-put_signed_line-clause-lines
-returns-in_err-put_signed_line-clause-lines g c =
+pub returns-in_err-put_signed : goal.returns-in_err-put_signed
+returns-in_err-put_signed g c =
     let p = err_from_is_err_and c.from_residual.result c.from_residual.ensures.1 in
-    rw p.1 (nothing_yet (g.K.Sink.written c.args.sink.now) (c.args.word.now ++ spaced_signed c.args.number.now))
+    rw (p.1, p.2) (no_memory _ (signed c.args.words.now c.args.number.now))
+
+pub returns : goal.returns
+returns g c = line_is _ (signed c.args.words.now c.args.number.now) (rw c.clear.ensures.items at c.in_ok-put_signed.ensures) c.write_line.ensures

@@ -1,16 +1,16 @@
 use Rattle.std.proofs.Common.{◌≡◌, ◌++◌, List, ℕ, length, ap, ◌∙◌, append_assoc, codes}
 use Rattle.std.proofs.lemmas.Result.{IfOk-equal}
-use Rattle.dispatch_report.specs.Head.{named, network_line}
+use Rattle.dispatch_report.specs.Words.{numbered}
 use Rattle.dispatch_report.proofs.head.put_network.Goals as goal
 
 pub returns : goal.returns
 returns c =
     let old = c.args.line.now.items in
-    let nodes = named (codes "network nodes=") c.node_count.result in
-    let arcs = named (codes " arcs=") c.arc_count.result in
-    let whole : c.put_named.new.line.items ++ arcs ≡ old ++ (nodes ++ arcs) =
-    ap (λ (l : List ℕ). l ++ arcs) c.in_ok-put_named.ensures ∙ append_assoc old nodes arcs in
-    let counts : old ++ (nodes ++ arcs) ≡ old ++ network_line c.args.network.now =
-    ap (λ n. old ++ (named (codes "network nodes=") n ++ arcs)) c.node_count.ensures
-    ∙ ap (λ n. old ++ (named (codes "network nodes=") (length c.args.network.now.nodes) ++ named (codes " arcs=") n)) c.arc_count.ensures in
-    IfOk-equal c.put_named-2.result c.put_named-2.new.line.items (c.put_named.new.line.items ++ arcs) (old ++ network_line c.args.network.now) c.put_named-2.ensures (whole ∙ counts)
+    let nodes = numbered (codes "network nodes=") c.node_count.result in
+    let arcs = numbered (codes " arcs=") c.arc_count.result in
+    let whole : c.put_numbered.new.line.items ++ arcs ≡ old ++ (nodes ++ arcs) =
+    ap (λ (l : List ℕ). l ++ arcs) c.in_ok-put_numbered.ensures ∙ append_assoc old nodes arcs in
+    let counts : old ++ (nodes ++ arcs) ≡ old ++ (numbered (codes "network nodes=") (length c.args.network.now.nodes) ++ numbered (codes " arcs=") (length c.args.network.now.arcs)) =
+    ap (λ n. old ++ (numbered (codes "network nodes=") n ++ arcs)) c.node_count.ensures
+    ∙ ap (λ n. old ++ (numbered (codes "network nodes=") (length c.args.network.now.nodes) ++ numbered (codes " arcs=") n)) c.arc_count.ensures in
+    IfOk-equal c.put_numbered-2.result c.put_numbered-2.new.line.items (c.put_numbered.new.line.items ++ arcs) (old ++ (numbered (codes "network nodes=") (length c.args.network.now.nodes) ++ numbered (codes " arcs=") (length c.args.network.now.arcs))) c.put_numbered-2.ensures (whole ∙ counts)

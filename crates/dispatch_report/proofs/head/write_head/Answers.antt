@@ -1,28 +1,34 @@
-use Rattle.std.proofs.Common.{◌++◌, ◌∷◌, [], codes}
+use Rattle.std.proofs.Common.{◌∷◌, ◌++◌, [], length, codes}
+use Rattle.dispatch_report.specs.Words.{numbered}
+use Rattle.dispatch_report.specs.Head.{head_text, settings_line}
 use Rattle.std.proofs.lemmas.Result.{err_from_is_err_and}
-use Rattle.dispatch_report.specs.Head.{settings_line, network_line, fleet_line}
-use Rattle.dispatch_report.proofs.LineLemmas.{took_more, part_after, part_before}
+use Rattle.dispatch_report.proofs.LineLemmas.{as_text, fails, then}
 use Rattle.dispatch_report.proofs.head.write_head.Goals as goal
 
-pub returns-in_err-write_words-clause-part : goal.returns-in_err-write_words-clause-part
-returns-in_err-write_words-clause-part g c =
+pub returns-in_err-write_words : goal.returns-in_err-write_words
+unfolding head_text
+returns-in_err-write_words g c =
     let p = err_from_is_err_and c.from_residual.result c.from_residual.ensures.1 in
-    rw p.1 ((part_before (g.K.Sink.written c.args.sink.now) (g.K.Sink.written c.write_words.new.sink) (((codes "ridepool report 1" ∷ []) ++ (settings_line c.args.settings.now ∷ [])) ++ (network_line c.args.network.now ∷ [])) (fleet_line c.args.fleet.now ∷ []) (part_before (g.K.Sink.written c.args.sink.now) (g.K.Sink.written c.write_words.new.sink) ((codes "ridepool report 1" ∷ []) ++ (settings_line c.args.settings.now ∷ [])) (network_line c.args.network.now ∷ []) (part_before (g.K.Sink.written c.args.sink.now) (g.K.Sink.written c.write_words.new.sink) (codes "ridepool report 1" ∷ []) (settings_line c.args.settings.now ∷ []) c.in_err-write_words.ensures.lines))))
+    rw (p.1, p.2) (as_text (fails (numbered (codes "fleet vehicles=") (length c.args.fleet.now) ∷ []) (fails ((numbered (codes "network nodes=") (length c.args.network.now.nodes) ++ numbered (codes " arcs=") (length c.args.network.now.arcs)) ∷ []) (fails (settings_line c.args.settings.now ∷ []) c.in_err-write_words.ensures))))
 
-pub returns-in_err-write_settings-clause-part : goal.returns-in_err-write_settings-clause-part
-returns-in_err-write_settings-clause-part g c =
+pub returns-in_err-write_settings : goal.returns-in_err-write_settings
+unfolding head_text
+returns-in_err-write_settings g c =
     let p = err_from_is_err_and c.from_residual-in_err-write_settings.result c.from_residual-in_err-write_settings.ensures.1 in
-    rw p.1 ((part_before (g.K.Sink.written c.args.sink.now) (g.K.Sink.written c.write_settings.new.sink) (((codes "ridepool report 1" ∷ []) ++ (settings_line c.args.settings.now ∷ [])) ++ (network_line c.args.network.now ∷ [])) (fleet_line c.args.fleet.now ∷ []) (part_before (g.K.Sink.written c.args.sink.now) (g.K.Sink.written c.write_settings.new.sink) ((codes "ridepool report 1" ∷ []) ++ (settings_line c.args.settings.now ∷ [])) (network_line c.args.network.now ∷ []) (part_after (g.K.Sink.written c.args.sink.now) (g.K.Sink.written c.write_words.new.sink) (g.K.Sink.written c.write_settings.new.sink) (codes "ridepool report 1" ∷ []) (settings_line c.args.settings.now ∷ []) c.in_ok-write_words.ensures.lines c.in_err-write_settings.ensures.lines))))
+    rw (p.1, p.2) (as_text (fails (numbered (codes "fleet vehicles=") (length c.args.fleet.now) ∷ []) (fails ((numbered (codes "network nodes=") (length c.args.network.now.nodes) ++ numbered (codes " arcs=") (length c.args.network.now.arcs)) ∷ []) (then c.in_ok-write_words.ensures c.in_err-write_settings.ensures))))
 
-pub returns-in_err-write_network-clause-part : goal.returns-in_err-write_network-clause-part
-returns-in_err-write_network-clause-part g c =
+pub returns-in_err-write_network : goal.returns-in_err-write_network
+unfolding head_text
+returns-in_err-write_network g c =
     let p = err_from_is_err_and c.from_residual-in_err-write_network.result c.from_residual-in_err-write_network.ensures.1 in
-    rw p.1 ((part_before (g.K.Sink.written c.args.sink.now) (g.K.Sink.written c.write_network.new.sink) (((codes "ridepool report 1" ∷ []) ++ (settings_line c.args.settings.now ∷ [])) ++ (network_line c.args.network.now ∷ [])) (fleet_line c.args.fleet.now ∷ []) (part_after (g.K.Sink.written c.args.sink.now) (g.K.Sink.written c.write_settings.new.sink) (g.K.Sink.written c.write_network.new.sink) ((codes "ridepool report 1" ∷ []) ++ (settings_line c.args.settings.now ∷ [])) (network_line c.args.network.now ∷ []) (took_more (g.K.Sink.written c.args.sink.now) (g.K.Sink.written c.write_words.new.sink) (g.K.Sink.written c.write_settings.new.sink) (codes "ridepool report 1" ∷ []) (settings_line c.args.settings.now ∷ []) c.in_ok-write_words.ensures.lines c.in_ok-write_settings.ensures.lines) c.in_err-write_network.ensures.lines)))
+    rw (p.1, p.2) (as_text (fails (numbered (codes "fleet vehicles=") (length c.args.fleet.now) ∷ []) (then (then c.in_ok-write_words.ensures c.in_ok-write_settings.ensures) c.in_err-write_network.ensures)))
 
-pub returns-in_err-write_fleet-clause-part : goal.returns-in_err-write_fleet-clause-part
-returns-in_err-write_fleet-clause-part g c =
+pub returns-in_err-write_fleet : goal.returns-in_err-write_fleet
+unfolding head_text
+returns-in_err-write_fleet g c =
     let p = err_from_is_err_and c.from_residual-in_err-write_fleet.result c.from_residual-in_err-write_fleet.ensures.1 in
-    rw p.1 ((part_after (g.K.Sink.written c.args.sink.now) (g.K.Sink.written c.write_network.new.sink) (g.K.Sink.written c.write_fleet.new.sink) (((codes "ridepool report 1" ∷ []) ++ (settings_line c.args.settings.now ∷ [])) ++ (network_line c.args.network.now ∷ [])) (fleet_line c.args.fleet.now ∷ []) (took_more (g.K.Sink.written c.args.sink.now) (g.K.Sink.written c.write_settings.new.sink) (g.K.Sink.written c.write_network.new.sink) ((codes "ridepool report 1" ∷ []) ++ (settings_line c.args.settings.now ∷ [])) (network_line c.args.network.now ∷ []) (took_more (g.K.Sink.written c.args.sink.now) (g.K.Sink.written c.write_words.new.sink) (g.K.Sink.written c.write_settings.new.sink) (codes "ridepool report 1" ∷ []) (settings_line c.args.settings.now ∷ []) c.in_ok-write_words.ensures.lines c.in_ok-write_settings.ensures.lines) c.in_ok-write_network.ensures.lines) c.in_err-write_fleet.ensures.lines))
+    rw (p.1, p.2) (as_text (then (then (then c.in_ok-write_words.ensures c.in_ok-write_settings.ensures) c.in_ok-write_network.ensures) c.in_err-write_fleet.ensures))
 
-pub returns-clause-whole : goal.returns-clause-whole
-returns-clause-whole g c = (took_more (g.K.Sink.written c.args.sink.now) (g.K.Sink.written c.write_network.new.sink) (g.K.Sink.written c.write_fleet.new.sink) (((codes "ridepool report 1" ∷ []) ++ (settings_line c.args.settings.now ∷ [])) ++ (network_line c.args.network.now ∷ [])) (fleet_line c.args.fleet.now ∷ []) (took_more (g.K.Sink.written c.args.sink.now) (g.K.Sink.written c.write_settings.new.sink) (g.K.Sink.written c.write_network.new.sink) ((codes "ridepool report 1" ∷ []) ++ (settings_line c.args.settings.now ∷ [])) (network_line c.args.network.now ∷ []) (took_more (g.K.Sink.written c.args.sink.now) (g.K.Sink.written c.write_words.new.sink) (g.K.Sink.written c.write_settings.new.sink) (codes "ridepool report 1" ∷ []) (settings_line c.args.settings.now ∷ []) c.in_ok-write_words.ensures.lines c.in_ok-write_settings.ensures.lines) c.in_ok-write_network.ensures.lines) c.in_ok-write_fleet.ensures.lines)
+pub returns : goal.returns
+unfolding head_text
+returns g c = as_text (then (then (then c.in_ok-write_words.ensures c.in_ok-write_settings.ensures) c.in_ok-write_network.ensures) c.in_ok-write_fleet.ensures)

@@ -1,9 +1,12 @@
-use Rattle.std.proofs.lemmas.Result.{err_from_is_err_and}
 use Rattle.dispatch_report.specs.Head.{settings_line}
-use Rattle.dispatch_report.proofs.LineLemmas.{nothing_yet}
+use Rattle.std.proofs.lemmas.Result.{err_from_is_err_and}
+use Rattle.dispatch_report.proofs.LineLemmas.{no_memory, line_is}
 use Rattle.dispatch_report.proofs.head.write_settings.Goals as goal
 
-pub returns-in_err-put_settings-clause-lines : goal.returns-in_err-put_settings-clause-lines
-returns-in_err-put_settings-clause-lines g c =
+pub returns-in_err-put_settings : goal.returns-in_err-put_settings
+returns-in_err-put_settings g c =
     let p = err_from_is_err_and c.from_residual.result c.from_residual.ensures.1 in
-    rw p.1 (nothing_yet (g.K.Sink.written c.args.sink.now) (settings_line c.args.settings.now))
+    rw (p.1, p.2) (no_memory _ (settings_line c.args.settings.now))
+
+pub returns : goal.returns
+returns g c = line_is _ (settings_line c.args.settings.now) (rw c.clear.ensures.items at c.in_ok-put_settings.ensures) c.write_line.ensures

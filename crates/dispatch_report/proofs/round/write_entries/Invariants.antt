@@ -1,12 +1,10 @@
-use Rattle.std.proofs.Common.{◌≡◌, ◌≤◌, ◌++◌, [], drop, ℕ, List}
-use Rattle.std.specs.Io.KnownBytes.{Appends}
-use Rattle.dispatch_report.specs.Lines.{lines_text}
+use Rattle.std.proofs.Common.{◌≡◌, ◌++◌, drop, ℕ, List, Ok}
 use Rattle.dispatch_report.specs.Round.{entries_lines}
+use Rattle.dispatch_report.specs.Written.{sink_seen}
+use Rattle.dispatch_report.specs.work.Lines.{WritesLines}
 use Rattle.dispatch_report.proofs.round.write_entries.Given as goal
 
 abbrev pub invariant-loop-entry : goal.invariant-loop-entry
 invariant-loop-entry g l =
-    ((done : List (List ℕ)) × Appends (g.K.Sink.written l.initial.sink) (g.K.Sink.written l.sink) (lines_text done)
-    × (done ++ entries_lines l.proof l.position (drop l.entry-index l.entries) ≡ entries_lines l.proof l.first l.entries))
-    × (l.line.items ≡ [])
-    × (g.K.Sink.faults l.initial.sink ≤ g.K.Sink.faults l.sink)
+    (done : List (List ℕ)) × WritesLines (sink_seen g.K.Sink.written g.K.Sink.faults l.initial.sink l.sink) done (Ok tt)
+    × (done ++ entries_lines l.proof l.position (drop l.entry-index l.entries) ≡ entries_lines l.proof l.first l.entries)

@@ -1,9 +1,12 @@
-use Rattle.std.proofs.lemmas.Result.{err_from_is_err_and}
 use Rattle.dispatch_report.specs.Entry.{entry_line}
-use Rattle.dispatch_report.proofs.LineLemmas.{nothing_yet}
+use Rattle.std.proofs.lemmas.Result.{err_from_is_err_and}
+use Rattle.dispatch_report.proofs.LineLemmas.{no_memory, line_is}
 use Rattle.dispatch_report.proofs.round.write_entry_line.Goals as goal
 
-pub returns-in_err-put_entry-clause-lines : goal.returns-in_err-put_entry-clause-lines
-returns-in_err-put_entry-clause-lines g c =
+pub returns-in_err-put_entry : goal.returns-in_err-put_entry
+returns-in_err-put_entry g c =
     let p = err_from_is_err_and c.from_residual.result c.from_residual.ensures.1 in
-    rw p.1 (nothing_yet (g.K.Sink.written c.args.sink.now) (entry_line c.args.position c.args.entry.now))
+    rw (p.1, p.2) (no_memory _ (entry_line c.args.position c.args.entry.now))
+
+pub returns : goal.returns
+returns g c = line_is _ (entry_line c.args.position c.args.entry.now) (rw c.clear.ensures.items at c.in_ok-put_entry.ensures) c.write_line.ensures

@@ -1,19 +1,20 @@
-use Rattle.std.proofs.Common.{◌++◌, ◌∷◌, [], codes}
+use Rattle.dispatch_report.specs.Round.{round_text, entries_lines}
 use Rattle.std.proofs.lemmas.Result.{err_from_is_err_and}
-use Rattle.dispatch_report.specs.Round.{entries_lines}
-use Rattle.dispatch_report.specs.Words.{spaced}
-use Rattle.dispatch_report.proofs.LineLemmas.{took_more, part_after, part_before}
+use Rattle.dispatch_report.proofs.LineLemmas.{as_text, fails, then}
 use Rattle.dispatch_report.proofs.round.write_round.Goals as goal
 
-pub returns-in_err-write_round_line-clause-part : goal.returns-in_err-write_round_line-clause-part
-returns-in_err-write_round_line-clause-part g c =
+pub returns-in_err-write_round_line : goal.returns-in_err-write_round_line
+unfolding round_text
+returns-in_err-write_round_line g c =
     let p = err_from_is_err_and c.from_residual.result c.from_residual.ensures.1 in
-    rw p.1 ((part_before (g.K.Sink.written c.args.sink.now) (g.K.Sink.written c.write_round_line.new.sink) ((codes "round" ++ spaced c.args.number) ∷ []) (entries_lines c.args.proof c.args.journal.now.first c.args.journal.now.entries) c.in_err-write_round_line.ensures.lines))
+    rw (p.1, p.2) (as_text (fails (entries_lines c.args.proof c.args.journal.now.first c.args.journal.now.entries) c.in_err-write_round_line.ensures))
 
-pub returns-in_err-write_journal-clause-part : goal.returns-in_err-write_journal-clause-part
-returns-in_err-write_journal-clause-part g c =
+pub returns-in_err-write_journal : goal.returns-in_err-write_journal
+unfolding round_text
+returns-in_err-write_journal g c =
     let p = err_from_is_err_and c.from_residual-in_err-write_journal.result c.from_residual-in_err-write_journal.ensures.1 in
-    rw p.1 ((part_after (g.K.Sink.written c.args.sink.now) (g.K.Sink.written c.write_round_line.new.sink) (g.K.Sink.written c.write_journal.new.sink) ((codes "round" ++ spaced c.args.number) ∷ []) (entries_lines c.args.proof c.args.journal.now.first c.args.journal.now.entries) c.in_ok-write_round_line.ensures.lines c.in_err-write_journal.ensures.lines))
+    rw (p.1, p.2) (as_text (then c.in_ok-write_round_line.ensures c.in_err-write_journal.ensures))
 
-pub returns-clause-whole : goal.returns-clause-whole
-returns-clause-whole g c = (took_more (g.K.Sink.written c.args.sink.now) (g.K.Sink.written c.write_round_line.new.sink) (g.K.Sink.written c.write_journal.new.sink) ((codes "round" ++ spaced c.args.number) ∷ []) (entries_lines c.args.proof c.args.journal.now.first c.args.journal.now.entries) c.in_ok-write_round_line.ensures.lines c.in_ok-write_journal.ensures.lines)
+pub returns : goal.returns
+unfolding round_text
+returns g c = as_text (then c.in_ok-write_round_line.ensures c.in_ok-write_journal.ensures)

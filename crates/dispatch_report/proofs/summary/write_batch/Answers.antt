@@ -1,9 +1,14 @@
+use Rattle.std.proofs.Common.{◌++◌, codes}
+use Rattle.dispatch_report.specs.Summary.{answer_text}
+use Rattle.dispatch_report.specs.Words.{numbered}
 use Rattle.std.proofs.lemmas.Result.{err_from_is_err_and}
-use Rattle.dispatch_report.specs.Summary.{batch_line}
-use Rattle.dispatch_report.proofs.LineLemmas.{nothing_yet}
+use Rattle.dispatch_report.proofs.LineLemmas.{no_memory, line_is}
 use Rattle.dispatch_report.proofs.summary.write_batch.Goals as goal
 
-pub returns-in_err-put_batch-clause-lines : goal.returns-in_err-put_batch-clause-lines
-returns-in_err-put_batch-clause-lines g c =
+pub returns-in_err-put_batch : goal.returns-in_err-put_batch
+returns-in_err-put_batch g c =
     let p = err_from_is_err_and c.from_residual.result c.from_residual.ensures.1 in
-    rw p.1 (nothing_yet (g.K.Sink.written c.args.sink.now) (batch_line c.args.batch c.args.outcome.now))
+    rw (p.1, p.2) (no_memory _ (numbered (codes "batch ") c.args.batch ++ answer_text c.args.outcome.now.answer))
+
+pub returns : goal.returns
+returns g c = line_is _ (numbered (codes "batch ") c.args.batch ++ answer_text c.args.outcome.now.answer) (rw c.clear.ensures.items at c.in_ok-put_batch.ensures) c.write_line.ensures

@@ -1,11 +1,10 @@
-use Rattle.std.proofs.Common.{◌≡◌, ◌≤◌, [], take}
-use Rattle.std.specs.Io.KnownBytes.{Appends}
-use Rattle.dispatch_report.specs.Lines.{lines_text}
-use Rattle.dispatch_report.specs.Summary.{summary_lines}
+use Rattle.std.proofs.Common.{Ok, take}
+use Rattle.std.specs.List.{flat_map}
+use Rattle.dispatch_report.specs.Written.{sink_seen}
+use Rattle.dispatch_report.specs.work.Lines.{WritesLines}
+use Rattle.dispatch_report.proofs.SummaryLemmas.{entry_summary}
 use Rattle.dispatch_report.proofs.summary.write_batches.Given as goal
 
 abbrev pub invariant-loop-entry : goal.invariant-loop-entry
 invariant-loop-entry g l =
-    Appends (g.K.Sink.written l.initial.sink) (g.K.Sink.written l.sink) (lines_text (summary_lines (take l.entry-index l.entries)))
-    × (l.line.items ≡ [])
-    × (g.K.Sink.faults l.initial.sink ≤ g.K.Sink.faults l.sink)
+    WritesLines (sink_seen g.K.Sink.written g.K.Sink.faults l.initial.sink l.sink) (flat_map entry_summary (take l.entry-index l.entries)) (Ok tt)

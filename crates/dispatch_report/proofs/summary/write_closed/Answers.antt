@@ -1,7 +1,6 @@
-use Rattle.dispatch_report.proofs.SummaryLemmas.{closed_line-other}
-use Rattle.dispatch_report.proofs.LineLemmas.{took_none}
+use Rattle.dispatch_report.proofs.SummaryLemmas.{closed_lines-other}
+use Rattle.dispatch_report.proofs.LineLemmas.{no_lines}
 use Rattle.dispatch_report.proofs.summary.write_closed.Goals as goal
 
-pub returns-in_default-clause-lines : goal.returns-in_default-clause-lines
-returns-in_default-clause-lines g c =
-    rw (closed_line-other c.args.batch c.args.outcome.now c.args.reply c.in_default.not-Closed) (took_none (g.K.Sink.written c.args.sink.now))
+pub returns-in_default : goal.returns-in_default
+returns-in_default g c = rw (closed_lines-other c.args.batch c.args.outcome.now c.args.reply c.in_default.not-Closed) (no_lines _)

@@ -1,7 +1,6 @@
-use Rattle.dispatch_report.proofs.SummaryLemmas.{command_summary-other}
-use Rattle.dispatch_report.proofs.LineLemmas.{took_none}
+use Rattle.dispatch_report.proofs.SummaryLemmas.{batch_lines-other}
+use Rattle.dispatch_report.proofs.LineLemmas.{no_lines}
 use Rattle.dispatch_report.proofs.summary.write_entry_summary.Goals as goal
 
-pub returns-in_default-clause-lines : goal.returns-in_default-clause-lines
-returns-in_default-clause-lines g c =
-    rw (command_summary-other c.args.entry.now.command c.args.entry.now.reply c.in_default.not-Close) (took_none (g.K.Sink.written c.args.sink.now))
+pub returns-in_default : goal.returns-in_default
+returns-in_default g c = rw (batch_lines-other c.args.entry.now.command c.args.entry.now.reply c.in_default.not-Close) (no_lines _)

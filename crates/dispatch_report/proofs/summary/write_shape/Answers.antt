@@ -1,9 +1,13 @@
+use Rattle.std.proofs.Common.{◌++◌, codes}
+use Rattle.dispatch_report.specs.Words.{numbered}
 use Rattle.std.proofs.lemmas.Result.{err_from_is_err_and}
-use Rattle.dispatch_report.specs.Summary.{load_line}
-use Rattle.dispatch_report.proofs.LineLemmas.{nothing_yet}
+use Rattle.dispatch_report.proofs.LineLemmas.{no_memory, line_is}
 use Rattle.dispatch_report.proofs.summary.write_shape.Goals as goal
 
-pub returns-in_err-put_shape-clause-lines : goal.returns-in_err-put_shape-clause-lines
-returns-in_err-put_shape-clause-lines g c =
+pub returns-in_err-put_shape : goal.returns-in_err-put_shape
+returns-in_err-put_shape g c =
     let p = err_from_is_err_and c.from_residual.result c.from_residual.ensures.1 in
-    rw p.1 (nothing_yet (g.K.Sink.written c.args.sink.now) (load_line c.args.shape.now))
+    rw (p.1, p.2) (no_memory _ ((numbered (codes "load seed=") c.args.shape.now.seed ++ numbered (codes " side=") c.args.shape.now.side) ++ (numbered (codes " vehicles=") c.args.shape.now.vehicles ++ numbered (codes " riders=") c.args.shape.now.riders ++ numbered (codes " rounds=") c.args.shape.now.rounds)))
+
+pub returns : goal.returns
+returns g c = line_is _ ((numbered (codes "load seed=") c.args.shape.now.seed ++ numbered (codes " side=") c.args.shape.now.side) ++ (numbered (codes " vehicles=") c.args.shape.now.vehicles ++ numbered (codes " riders=") c.args.shape.now.riders ++ numbered (codes " rounds=") c.args.shape.now.rounds)) (rw c.clear.ensures.items at c.in_ok-put_shape.ensures) c.write_line.ensures

@@ -1,7 +1,7 @@
-use Rattle.std.proofs.Common.{◌≡◌, ◌++◌, take}
+use Rattle.std.proofs.Common.{◌≡◌, ◌++◌, take, codes}
 use Rattle.std.specs.List.{flat_map}
-use Rattle.dispatch_report.specs.Words.{spaced_signed}
+use Rattle.dispatch_report.specs.Words.{signed}
 use Rattle.dispatch_report.proofs.words.put_multipliers.Given as goal
 
 abbrev pub invariant-loop-multiplier : goal.invariant-loop-multiplier
-invariant-loop-multiplier l = l.line.items ≡ l.initial.line.items ++ flat_map spaced_signed (take l.multiplier-index l.multipliers)
+invariant-loop-multiplier l = l.line.items ≡ l.initial.line.items ++ flat_map (signed (codes " ")) (take l.multiplier-index l.multipliers)

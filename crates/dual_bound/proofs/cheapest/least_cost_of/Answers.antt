@@ -2,12 +2,12 @@ use Rattle.std.proofs.Common.{◌≡◌, ℕ, ◌+◌, ◌<◌, Option, Some, No
 use Rattle.std.specs.Prelude.{unwrap_or}
 use Rattle.std.proofs.lemmas.Int.{ints, to_z-of_z}
 use Rattle.plan_rules.specs.Sums.{least_below, lesser}
-use Rattle.plan_rules.specs.Graph.{row_at, vehicle_at, cost_at}
+use Rattle.plan_rules.specs.Graph.{row_at, row_vehicle, cost_at}
 use Rattle.plan_rules.specs.Multipliers.{usable_of, is_usable_by}
 use Rattle.plan_rules.specs.declared.row.TripRow.{TripRow}
-use Rattle.plan_rules.proofs.GraphLemmas.{row_read, row_between}
+use Rattle.plan_rules.proofs.lemmas.GraphLemmas.{row_read, row_between}
 use Rattle.dual_bound.specs.Size.{IsCost}
-use Rattle.dual_bound.proofs.ValueLemmas.{starts_rise, none_before, none_after, least_taken, least_passed}
+use Rattle.plan_rules.proofs.lemmas.ValueLemmas.{starts_rise, none_before, none_after, least_taken, least_passed}
 use Rattle.dual_bound.proofs.cheapest.least_cost_of.Goals as goal
 use Rattle.dual_bound.proofs.cheapest.least_cost_of.Goals.{then-allowed-row, else-allowed-row}
 

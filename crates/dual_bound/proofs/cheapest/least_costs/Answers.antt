@@ -2,7 +2,7 @@ use Rattle.std.proofs.Common.{◌≡◌, ℕ, ◌+◌, ◌<◌, List, length, ge
 use Rattle.std.proofs.lemmas.Int.{to_z-of_z}
 use Rattle.plan_rules.specs.Multipliers.{usable_of, least_cost}
 use Rattle.dual_bound.specs.Size.{IsCost}
-use Rattle.dual_bound.proofs.FirstFitLemmas.{push_all}
+use Rattle.dual_bound.proofs.lemmas.FirstFitLemmas.{push_all}
 use Rattle.dual_bound.proofs.cheapest.least_costs.Goals as goal
 
 pub loop-vehicle-preserved : goal.loop-vehicle-preserved

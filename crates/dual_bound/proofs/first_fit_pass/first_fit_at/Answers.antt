@@ -6,8 +6,8 @@ use Rattle.plan_rules.specs.Sums.{lesser}
 use Rattle.plan_rules.specs.Graph.{row_at, has_rider}
 use Rattle.plan_rules.specs.Multipliers.{usable_of, room_at}
 use Rattle.plan_rules.specs.declared.row.TripRow.{TripRow}
-use Rattle.plan_rules.proofs.GraphLemmas.{row_read}
-use Rattle.dual_bound.proofs.FirstFitLemmas.{least_take, least_pass}
+use Rattle.plan_rules.proofs.lemmas.GraphLemmas.{row_read}
+use Rattle.dual_bound.proofs.lemmas.FirstFitLemmas.{least_take, least_pass}
 use Rattle.dual_bound.proofs.first_fit_pass.first_fit_at.Goals as goal
 use Rattle.dual_bound.proofs.first_fit_pass.first_fit_at.Goals.{then-allowed-row+then-contains, else-allowed-row, else-allowed-row-via-then-allowed-row+else-contains, else-allowed-row-via-else-allowed-row}
 

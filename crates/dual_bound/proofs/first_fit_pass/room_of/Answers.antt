@@ -3,8 +3,8 @@ use Rattle.std.proofs.lemmas.Int.{to_z-of_z}
 use Rattle.plan_rules.specs.Graph.{row_at}
 use Rattle.plan_rules.specs.Multipliers.{usable_of, least_cost, multiplier_sum}
 use Rattle.plan_rules.specs.declared.row.TripRow.{TripRow}
-use Rattle.plan_rules.proofs.GraphLemmas.{row_read}
-use Rattle.dual_bound.proofs.FirstFitLemmas.{room_from}
+use Rattle.plan_rules.proofs.lemmas.GraphLemmas.{row_read}
+use Rattle.dual_bound.proofs.lemmas.FirstFitLemmas.{room_from}
 use Rattle.dual_bound.proofs.first_fit_pass.room_of.Goals as goal
 
 pub returns-clause-value : goal.returns-clause-value

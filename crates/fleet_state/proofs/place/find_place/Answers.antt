@@ -1,10 +1,10 @@
 use Rattle.std.proofs.Common.{nat_lt, sym, ◌∙◌, rules}
 use Rattle.std.proofs.lemmas.List.Sorted.{IsPartitionedBy-ltb, IsPartitionPoint-from_clause}
-use Rattle.fleet_state.proofs.PlaceLemmas.{stands_at-found, stands_at-other, IsNonDecreasingBy-ids, place_between}
+use Rattle.fleet_state.proofs.PlaceLemmas.{has_id_at-found, has_id_at-other, IsNonDecreasingBy-ids, place_between}
 use Rattle.fleet_state.proofs.place.find_place.Goals as goal
 
-pub returns-then-stands_at : goal.returns-then-stands_at
-returns-then-stands_at c = stands_at-found c.args.vehicles.now c.partition_point-place.result c.args.id (sym c.stands_at.ensures ∙ c.if-stands_at.true)
+pub returns-then-has_id_at : goal.returns-then-has_id_at
+returns-then-has_id_at c = has_id_at-found c.args.vehicles.now c.partition_point-place.result c.args.id (sym c.has_id_at.ensures ∙ c.if-has_id_at.true)
 
 pub returns : goal.returns
 returns c =
@@ -14,4 +14,4 @@ returns c =
     (IsPartitionPoint-from_clause (λ v. nat_lt v.id c.args.id) vehicles place c.partition_point-place.ensures.partitioned
     (IsPartitionedBy-ltb (λ v. v.id) vehicles c.args.id (IsNonDecreasingBy-ids vehicles c.requires))
     (λ a r g called. search rules))
-    (stands_at-other vehicles place c.args.id (sym c.stands_at.ensures ∙ c.if-stands_at.false))
+    (has_id_at-other vehicles place c.args.id (sym c.has_id_at.ensures ∙ c.if-has_id_at.false))

@@ -1,15 +1,17 @@
-use Rattle.std.proofs.Common.{◌≡◌, ◌+◌, ◌<◌, ◌≤◌, true, length, drop, Ok, sym, ap, subst, ◌∙◌, arith}
+use Rattle.std.proofs.Common.{◌≡◌, ◌↔◌, ◌+◌, ◌<◌, ◌≤◌, [], ◌∷◌, ◌++◌, Contains, true, length, sym, ap, subst, ◌∙◌, arith}
 use Rattle.std.specs.List.{insert}
 use Rattle.std.proofs.lemmas.List.Edits.{length-insert}
 use Rattle.std.proofs.lemmas.List.Elements.{All-same}
 use Rattle.std.proofs.lemmas.Result.{err_from_is_err_and}
 use Rattle.pool_io.specs.Table.{record_at}
+use Rattle.pool_base.proofs.lemmas.InOrderLemmas.{all_or_first-ok}
 use Rattle.batch_snapshot.specs.Kept.{IsFleet}
-use Rattle.fleet_state.specs.Vehicle.{has_node}
-use Rattle.fleet_state.specs.Place.{has_vehicle, IsPlaceOf}
+use Rattle.road_network.specs.Roads.{has_node}
+use Rattle.fleet_state.specs.Fleet.{IsFleetOf, vehicle_of_row}
+use Rattle.fleet_state.specs.work.Place.{has_vehicle, IsPlaceOf}
 use Rattle.fleet_state.proofs.PlaceLemmas.{All-insert, IsFleet-insert}
 use Rattle.fleet_state.proofs.RowLemmas.{IsNewVehicle-vehicle_in}
-use Rattle.fleet_state.proofs.FleetLemmas.{fleet_from, fleet_of-few, fleet_from-step, fleet_from-duplicate, fleet_from-fault, fleet_from-end}
+use Rattle.fleet_state.proofs.FleetLemmas.{known_more, same_members-insert, vehicle_of_row-new, vehicle_of_row-duplicate, vehicle_of_row-fault, vehicles_of-refused, vehicles_of-all}
 use Rattle.fleet_state.proofs.reading.read_fleet.Goals as goal
 
 pub returns-in_err-vehicle-clause-refused : goal.returns-in_err-vehicle-clause-refused
@@ -17,24 +19,30 @@ returns-in_err-vehicle-clause-refused c =
     let p = err_from_is_err_and c.from_residual.result c.from_residual.ensures.1 in
     let nodes = c.args.network.now.nodes in
     let records = c.args.rows.now.records in
+    let row = c.loop-row.row in
+    let fault = c.in_err-vehicle.field-0.0 in
     let few : length records ≤ 500 = omega arith in
-    let within : c.loop-row.row < length records = omega arith in
+    let within : row < length records = omega arith in
     rw (p.1, p.2) (λ _.
-    fleet_of-few nodes records few ∙ sym c.loop-row.invariant.same
-    ∙ fleet_from-fault nodes c.loop-row.row c.loop-row.vehicles.items records c.in_err-vehicle.field-0.0 within (sym c.in_err-vehicle.ensures))
+    vehicles_of-refused nodes records row c.loop-row.invariant.vehicles fault few within c.loop-row.invariant.read
+    (vehicle_of_row-fault nodes records row fault (sym c.in_err-vehicle.ensures)))
 
 pub returns-in_default-clause-refused : goal.returns-in_default-clause-refused
 returns-in_default-clause-refused c =
     let nodes = c.args.network.now.nodes in
     let records = c.args.rows.now.records in
+    let row = c.loop-row.row in
     let vehicle = c.in_ok-vehicle.vehicle in
+    let kept = c.loop-row.invariant in
     let few : length records ≤ 500 = omega arith in
-    let within : c.loop-row.row < length records = omega arith in
+    let within : row < length records = omega arith in
+    let is = sym c.in_ok-vehicle.ensures in
+    let new = IsNewVehicle-vehicle_in nodes (row + 1) (record_at c.args.rows.now row) vehicle is in
     let there : has_vehicle c.loop-row.vehicles.items vehicle.id ≡ true =
     ap (λ vs. has_vehicle vs vehicle.id) (sym c.deref.ensures.value) ∙ c.in_default.ensures in
     λ _.
-    fleet_of-few nodes records few ∙ sym c.loop-row.invariant.same
-    ∙ fleet_from-duplicate nodes c.loop-row.row c.loop-row.vehicles.items records vehicle within (sym c.in_ok-vehicle.ensures) there
+    vehicles_of-refused nodes records row kept.vehicles _ few within kept.read
+    (vehicle_of_row-duplicate nodes records row c.loop-row.vehicles.items vehicle is new.id kept.known there)
 
 pub loop-row-preserved : goal.loop-row-preserved
 loop-row-preserved c =
@@ -52,9 +60,10 @@ loop-row-preserved c =
     let is = sym c.in_ok-vehicle.ensures in
     let new = IsNewVehicle-vehicle_in nodes (row + 1) (record_at c.args.rows.now row) vehicle is in
     record {
-      same =
-          ap (λ vs. fleet_from nodes (row + 1 + 1) vs (drop (row + 1) records)) (items ∙ ap (λ k. insert old k vehicle) at.place_is)
-          ∙ sym (fleet_from-step nodes row old records vehicle within is at.new) ∙ kept.same;
+      vehicles = kept.vehicles ++ vehicle ∷ [];
+      read = all_or_first-ok (vehicle_of_row nodes records) row kept.vehicles vehicle kept.read (vehicle_of_row-new nodes records row old vehicle is new.id kept.known at.new);
+      members = λ v. subst (λ vs. Contains vs v ↔ Contains (kept.vehicles ++ vehicle ∷ []) v) (sym items) (same_members-insert kept.vehicles old place vehicle kept.members v);
+      known = λ id. ap (λ vs. has_vehicle vs id) items ∙ known_more records row old place vehicle within new.id kept.known id;
       fleet = subst IsFleet (sym items) (IsFleet-insert old vehicle place kept.fleet (omega (arith, kept.count)) at new.seats new.empty);
       count = ap length items ∙ length-insert old place vehicle at.inside ∙ ap (λ n. n + 1) kept.count;
       named =
@@ -66,8 +75,11 @@ pub returns-clause-accepted : goal.returns-clause-accepted
 returns-clause-accepted c =
     let nodes = c.args.network.now.nodes in
     let records = c.args.rows.now.records in
+    let kept = c.loop-row.invariant in
     let few : length records ≤ 500 = omega arith in
-    let past : length records ≤ c.loop-row.row = omega arith in
-    fleet_of-few nodes records few ∙ sym c.loop-row.invariant.same
-    ∙ fleet_from-end nodes c.loop-row.row (c.loop-row.row + 1) c.loop-row.vehicles.items records past
-    ∙ ap (λ fleet. Ok fleet) (sym c.of.ensures)
+    let all : c.loop-row.row ≡ length records = omega arith in
+    subst (IsFleetOf nodes records) (sym c.of.ensures) (record {
+      vehicles = kept.vehicles;
+      read = vehicles_of-all nodes records c.loop-row.row kept.vehicles few all kept.read;
+      sorted = record { rising = kept.fleet.rise; members = kept.members };
+    })

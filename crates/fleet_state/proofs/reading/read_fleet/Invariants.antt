@@ -1,17 +1,23 @@
-use Rattle.std.proofs.Common.{◌≡◌, ℕ, ◌+◌, List, [], true, drop, length}
+use Rattle.std.proofs.Common.{◌≡◌, ◌↔◌, ℕ, List, true, Contains, Ok, length}
 use Rattle.std.specs.List.{All}
+use Rattle.pool_base.specs.InOrder.{all_or_first}
 use Rattle.batch_snapshot.specs.declared.vehicle.Vehicle.{Vehicle}
 use Rattle.batch_snapshot.specs.Kept.{IsFleet}
-use Rattle.fleet_state.specs.Vehicle.{has_node}
-use Rattle.fleet_state.proofs.FleetLemmas.{fleet_from}
+use Rattle.road_network.specs.Roads.{has_node}
+use Rattle.fleet_state.specs.Fleet.{vehicle_of_row}
+use Rattle.fleet_state.specs.work.Place.{has_vehicle}
+use Rattle.fleet_state.proofs.FleetLemmas.{is_known}
 use Rattle.fleet_state.proofs.reading.read_fleet.Given as goal
 
 -- what stands after so many rows
-pub record HasReadRows (nodes : List ℕ) (row : ℕ) (records : List (List (List ℕ))) (vehicles : List Vehicle) : Type 0 where
-  pub same : fleet_from nodes (row + 1) vehicles (drop row records) ≡ fleet_from nodes 1 [] records
-  pub fleet : IsFleet vehicles
-  pub count : length vehicles ≡ row
-  pub named : All (λ v. has_node nodes v.node ≡ true) vehicles
+pub record HasReadRows (nodes : List ℕ) (row : ℕ) (records : List (List (List ℕ))) (sorted : List Vehicle) : Type 0 where
+  pub vehicles : List Vehicle
+  pub read : all_or_first (vehicle_of_row nodes records) row ≡ Ok vehicles
+  pub members : (v : Vehicle) → Contains sorted v ↔ Contains vehicles v
+  pub known : (id : ℕ) → has_vehicle sorted id ≡ is_known records row id
+  pub fleet : IsFleet sorted
+  pub count : length sorted ≡ row
+  pub named : All (λ v. has_node nodes v.node ≡ true) sorted
 
 abbrev pub invariant-loop-row : goal.invariant-loop-row
 invariant-loop-row l = HasReadRows l.network.nodes l.row l.rows.records l.vehicles.items

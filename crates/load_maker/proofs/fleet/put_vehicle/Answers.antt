@@ -2,7 +2,7 @@ use Rattle.std.proofs.Common.{◌≡◌, ℕ, ◌++◌, ◌∷◌, [], ap, ◌�
 use Rattle.std.proofs.lemmas.Result.{on_ok_weaker}
 use Rattle.rand_core.specs.Stream.{Stream}
 use Rattle.load_maker.specs.declared.row.Field.TheVariants.{Number}
-use Rattle.load_maker.specs.Row.{row_text}
+use Rattle.load_maker.specs.Row.{csv_line}
 use Rattle.load_maker.specs.Part.{draws_of}
 use Rattle.load_maker.proofs.PartLemmas.{one_row}
 use Rattle.load_maker.specs.Texts.{drawn_node, vehicle_row}
@@ -14,7 +14,7 @@ returns c =
     let side : c.from.result ≡ c.args.shape.now.side = search rules in
     let drawn = c.draw_node-node.ensures.drawn ∙ ap (λ n. drawn_node n (draws_of c.args.rng.now)) side in
     on_ok_weaker c.put_row.result (λ written. record {
-      text = written ∙ ap (λ (p : ℕ × Stream). c.args.text.now.items ++ row_text (Number c.args.v ∷ Number 4 ∷ Number p.0 ∷ Number 0 ∷ [])) drawn
+      text = written ∙ ap (λ (p : ℕ × Stream). c.args.text.now.items ++ csv_line (Number c.args.v ∷ Number 4 ∷ Number p.0 ∷ Number 0 ∷ [])) drawn
           ∙ ap (λ t. c.args.text.now.items ++ t) (one_row (Number c.args.v ∷ Number 4 ∷ Number (drawn_node c.args.shape.now.side (draws_of c.args.rng.now)).0 ∷ Number 0 ∷ []));
       left = ap (λ (p : ℕ × Stream). p.1) drawn;
     }) c.put_row.ensures

@@ -4,7 +4,7 @@ use Rattle.std.proofs.lemmas.Result.{on_ok_weaker}
 use Rattle.rand_core.specs.Stream.{Stream}
 use Rattle.load_maker.specs.declared.row.Field.TheVariants.{Number}
 use Rattle.load_maker.specs.declared.row.Field.{Field}
-use Rattle.load_maker.specs.Row.{row_text, rows_text}
+use Rattle.load_maker.specs.Row.{csv_lines, csv_line}
 use Rattle.load_maker.proofs.PartLemmas.{one_row}
 use Rattle.load_maker.specs.Texts.{arcs_between}
 use Rattle.load_maker.proofs.network.put_arcs.Goals as goal
@@ -22,8 +22,8 @@ returns c =
     let drawn = c.draw-seconds.ensures.drawn in
     on_ok_weaker c.put_row-2.result (λ written. record {
       text =
-          written ∙ ap (λ t. t ++ row_text (arc b a n)) c.in_ok-put_row.ensures ∙ append_assoc text (row_text (arc a b n)) (row_text (arc b a n))
-          ∙ ap (λ t. text ++ (row_text (arc a b n) ++ t)) (one_row (arc b a n))
-          ∙ ap (λ (p : ℕ × Stream). text ++ rows_text (arc a b p.0 ∷ arc b a p.0 ∷ [])) drawn;
+          written ∙ ap (λ t. t ++ csv_line (arc b a n)) c.in_ok-put_row.ensures ∙ append_assoc text (csv_line (arc a b n)) (csv_line (arc b a n))
+          ∙ ap (λ t. text ++ (csv_line (arc a b n) ++ t)) (one_row (arc b a n))
+          ∙ ap (λ (p : ℕ × Stream). text ++ csv_lines (arc a b p.0 ∷ arc b a p.0 ∷ [])) drawn;
       left = ap (λ (p : ℕ × Stream). p.1) drawn;
     }) c.put_row-2.ensures

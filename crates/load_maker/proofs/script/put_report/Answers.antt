@@ -2,7 +2,7 @@ use Rattle.std.proofs.Common.{◌≡◌, ℕ, ◌*◌, ◌++◌, ◌∷◌, [], 
 use Rattle.std.proofs.lemmas.Result.{on_ok_weaker}
 use Rattle.rand_core.specs.Stream.{Stream}
 use Rattle.load_maker.specs.declared.row.Field.TheVariants.{Number, Report, Empty}
-use Rattle.load_maker.specs.Row.{row_text}
+use Rattle.load_maker.specs.Row.{csv_line}
 use Rattle.load_maker.specs.Part.{draws_of}
 use Rattle.load_maker.proofs.PartLemmas.{one_row}
 use Rattle.load_maker.specs.Texts.{drawn_node, report_row}
@@ -15,7 +15,7 @@ returns c =
     let side : c.from.result ≡ c.args.shape.now.side = search rules in
     let drawn = c.draw_node-node.ensures.drawn ∙ ap (λ n. drawn_node n (draws_of c.args.rng.now)) side in
     on_ok_weaker c.put_row.result (λ written. record {
-      text = written ∙ ap (λ (p : ℕ × Stream). c.args.text.now.items ++ row_text (Number (2 * k) ∷ Number 0 ∷ Report ∷ Number c.args.v ∷ Number p.0 ∷ Number (60 * k) ∷ Empty ∷ [])) drawn
+      text = written ∙ ap (λ (p : ℕ × Stream). c.args.text.now.items ++ csv_line (Number (2 * k) ∷ Number 0 ∷ Report ∷ Number c.args.v ∷ Number p.0 ∷ Number (60 * k) ∷ Empty ∷ [])) drawn
           ∙ ap (λ t. c.args.text.now.items ++ t) (one_row (Number (2 * k) ∷ Number 0 ∷ Report ∷ Number c.args.v ∷ Number (drawn_node c.args.shape.now.side (draws_of c.args.rng.now)).0 ∷ Number (60 * k) ∷ Empty ∷ []));
       left = ap (λ (p : ℕ × Stream). p.1) drawn;
     }) c.put_row.ensures

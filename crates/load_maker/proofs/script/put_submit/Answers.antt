@@ -2,7 +2,7 @@ use Rattle.std.proofs.Common.{◌≡◌, ℕ, ◌+◌, ◌-◌, ◌*◌, ◌%◌
 use Rattle.std.proofs.lemmas.Result.{on_ok_weaker}
 use Rattle.rand_core.specs.Stream.{Stream}
 use Rattle.load_maker.specs.declared.row.Field.TheVariants.{Number, Submit}
-use Rattle.load_maker.specs.Row.{row_text}
+use Rattle.load_maker.specs.Row.{csv_line}
 use Rattle.load_maker.specs.Part.{draws_of, draw}
 use Rattle.load_maker.proofs.PartLemmas.{one_row}
 use Rattle.load_maker.specs.Texts.{drawn_node, other_than, submit_row}
@@ -24,11 +24,11 @@ returns c =
     on_ok_weaker c.put_row.result (λ written. record {
       text =
           written
-          ∙ ap (λ n. c.args.text.now.items ++ row_text (Number (2 * k) ∷ Number (1 + m % 3) ∷ Submit ∷ Number (k * c.from.result + m) ∷ Number c.draw_node-origin.result ∷ Number n ∷ Number (60 * k + c.draw-second.result) ∷ [])) c.other_than-destination.ensures
-          ∙ ap (λ n. c.args.text.now.items ++ row_text (Number (2 * k) ∷ Number (1 + m % 3) ∷ Submit ∷ Number (k * n + m) ∷ Number c.draw_node-origin.result ∷ Number (other_than c.draw_node-origin.result (1 + c.draw-other.result)) ∷ Number (60 * k + c.draw-second.result) ∷ [])) riders
-          ∙ ap (λ (p : ℕ × Stream). c.args.text.now.items ++ row_text (Number (2 * k) ∷ Number (1 + m % 3) ∷ Submit ∷ Number (k * shape.riders + m) ∷ Number p.0 ∷ Number (other_than p.0 (1 + c.draw-other.result)) ∷ Number (60 * k + c.draw-second.result) ∷ [])) origin
-          ∙ ap (λ (p : ℕ × Stream). c.args.text.now.items ++ row_text (Number (2 * k) ∷ Number (1 + m % 3) ∷ Submit ∷ Number (k * shape.riders + m) ∷ Number (drawn_node shape.side (draws_of c.args.rng.now)).0 ∷ Number (other_than (drawn_node shape.side (draws_of c.args.rng.now)).0 (1 + p.0)) ∷ Number (60 * k + c.draw-second.result) ∷ [])) other
-          ∙ ap (λ (p : ℕ × Stream). c.args.text.now.items ++ row_text (Number (2 * k) ∷ Number (1 + m % 3) ∷ Submit ∷ Number (k * shape.riders + m) ∷ Number (drawn_node shape.side (draws_of c.args.rng.now)).0 ∷ Number (other_than (drawn_node shape.side (draws_of c.args.rng.now)).0 (1 + (draw (shape.side * shape.side - 1) (drawn_node shape.side (draws_of c.args.rng.now)).1).0)) ∷ Number (60 * k + p.0) ∷ [])) second
+          ∙ ap (λ n. c.args.text.now.items ++ csv_line (Number (2 * k) ∷ Number (1 + m % 3) ∷ Submit ∷ Number (k * c.from.result + m) ∷ Number c.draw_node-origin.result ∷ Number n ∷ Number (60 * k + c.draw-second.result) ∷ [])) c.other_than-destination.ensures
+          ∙ ap (λ n. c.args.text.now.items ++ csv_line (Number (2 * k) ∷ Number (1 + m % 3) ∷ Submit ∷ Number (k * n + m) ∷ Number c.draw_node-origin.result ∷ Number (other_than c.draw_node-origin.result (1 + c.draw-other.result)) ∷ Number (60 * k + c.draw-second.result) ∷ [])) riders
+          ∙ ap (λ (p : ℕ × Stream). c.args.text.now.items ++ csv_line (Number (2 * k) ∷ Number (1 + m % 3) ∷ Submit ∷ Number (k * shape.riders + m) ∷ Number p.0 ∷ Number (other_than p.0 (1 + c.draw-other.result)) ∷ Number (60 * k + c.draw-second.result) ∷ [])) origin
+          ∙ ap (λ (p : ℕ × Stream). c.args.text.now.items ++ csv_line (Number (2 * k) ∷ Number (1 + m % 3) ∷ Submit ∷ Number (k * shape.riders + m) ∷ Number (drawn_node shape.side (draws_of c.args.rng.now)).0 ∷ Number (other_than (drawn_node shape.side (draws_of c.args.rng.now)).0 (1 + p.0)) ∷ Number (60 * k + c.draw-second.result) ∷ [])) other
+          ∙ ap (λ (p : ℕ × Stream). c.args.text.now.items ++ csv_line (Number (2 * k) ∷ Number (1 + m % 3) ∷ Submit ∷ Number (k * shape.riders + m) ∷ Number (drawn_node shape.side (draws_of c.args.rng.now)).0 ∷ Number (other_than (drawn_node shape.side (draws_of c.args.rng.now)).0 (1 + (draw (shape.side * shape.side - 1) (drawn_node shape.side (draws_of c.args.rng.now)).1).0)) ∷ Number (60 * k + p.0) ∷ [])) second
           ∙ ap (λ t. c.args.text.now.items ++ t) (one_row (Number (2 * k) ∷ Number (1 + m % 3) ∷ Submit ∷ Number (k * shape.riders + m) ∷ Number (drawn_node shape.side (draws_of c.args.rng.now)).0 ∷ Number (other_than (drawn_node shape.side (draws_of c.args.rng.now)).0 (1 + (draw (shape.side * shape.side - 1) (drawn_node shape.side (draws_of c.args.rng.now)).1).0)) ∷ Number (60 * k + (draw 60 (draw (shape.side * shape.side - 1) (drawn_node shape.side (draws_of c.args.rng.now)).1).1).0) ∷ []));
       left = ap (λ (p : ℕ × Stream). p.1) second;
     }) c.put_row.ensures

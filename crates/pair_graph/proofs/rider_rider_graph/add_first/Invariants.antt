@@ -1,5 +1,5 @@
 use Rattle.pool_base.specs.Times.{travel_time}
-use Rattle.pair_graph.specs.RrGraph.{IsRrGraphUpTo}
+use Rattle.pair_graph.specs.work.RrGraph.{IsRrGraphUpTo}
 use Rattle.pair_graph.proofs.rider_rider_graph.add_first.Given as goal
 
 abbrev pub invariant-loop-second : goal.invariant-loop-second

@@ -4,8 +4,8 @@ use Rattle.stop_orders.specs.Task.{IsTask}
 use Rattle.pair_graph.proofs.PairTasks.{found_serves}
 use Rattle.pair_graph.proofs.rider_rider_graph.starts_at.Goals as goal
 
-pub least_delay-requires : goal.least_delay-requires
-least_delay-requires g c = record { valid = subst (IsTask (point_count c.args.times.now)) (sym c.task_of_pair-task.ensures) c.requires.valid }
+pub least_delay_with-requires : goal.least_delay_with-requires
+least_delay_with-requires g c = record { valid = subst (IsTask (point_count c.args.times.now)) (sym c.task_of_pair-task.ensures) c.requires.valid }
 
 pub returns : goal.returns
 returns g c =

@@ -13,4 +13,4 @@ returns g c =
     let all = ap length c.as_slice-rider-end.ensures in
     rv_upto tau settled _ 0 c.loop-rider.edges.items
     (lists_next RvEdge pair_of (λ v r. record { vehicle = v; rider = r }) no_edge (IsRvEdge tau settled) c.args.vehicle c.loop-rider.rider c.loop-rider.edges.items
-    (λ d e. let under = e.rider in omega arith) (rv_lists tau settled c.args.vehicle c.loop-rider.rider c.loop-rider.edges.items c.loop-rider.invariant))
+    (λ d e. let under = e.riders.within 0 0 (omega arith) in omega arith) (rv_lists tau settled c.args.vehicle c.loop-rider.rider c.loop-rider.edges.items c.loop-rider.invariant))

@@ -1,5 +1,5 @@
 use Rattle.pool_base.specs.Times.{travel_time}
-use Rattle.pair_graph.specs.RvGraph.{IsRvGraphUpTo}
+use Rattle.pair_graph.specs.work.RvGraph.{IsRvGraphUpTo}
 use Rattle.pair_graph.proofs.rider_vehicle_graph.all_edges.Given as goal
 
 abbrev pub invariant-loop-vehicle : goal.invariant-loop-vehicle

@@ -7,8 +7,8 @@ use Rattle.pair_graph.proofs.rider_vehicle_graph.can_serve.Goals as goal
 pub task_of-task-requires-clause-trip : goal.task_of-task-requires-clause-trip
 task_of-task-requires-clause-trip g c = one_trip _ c.args.rider c.requires.rider
 
-pub least_delay-requires : goal.least_delay-requires
-least_delay-requires g c =
+pub least_delay_with-requires : goal.least_delay_with-requires
+least_delay_with-requires g c =
     record {
       valid = subst (IsTask (point_count c.args.times.now)) (sym c.task_of-task.ensures)
           ((c.requires.sound.each c.args.vehicle c.requires.vehicle).tasks (c.args.rider ∷ []) (one_trip _ c.args.rider c.requires.rider) (omega arith));

@@ -2,7 +2,7 @@ use Rattle.std.proofs.Common.{◌≡◌, ℕ, List, Option, Bool, None, false, l
 use Rattle.std.proofs.lemmas.List.{take_at}
 use Rattle.plan_rules.specs.Greedy.{IsGreedy, IsTaken}
 use Rattle.plan_rules.specs.Rank.{IsSelection}
-use Rattle.plan_rules.proofs.GreedyLemmas.{selection_none, none_taken}
+use Rattle.plan_rules.proofs.lemmas.GreedyLemmas.{selection_none, none_taken}
 use Rattle.plan_rules.proofs.greedy_plan.greedy.Goals as goal
 
 pub take_rows-requires-clause-good : goal.take_rows-requires-clause-good

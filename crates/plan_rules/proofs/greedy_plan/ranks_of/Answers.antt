@@ -1,7 +1,7 @@
 use Rattle.std.proofs.Common.{◌≡◌, ◌<◌, length, get_or, subst, sym, ap, ◌∙◌, arith}
 use Rattle.std.proofs.lemmas.List.{get_or_default}
 use Rattle.plan_rules.specs.Rank.{rank_of, IsRankOfRow}
-use Rattle.plan_rules.proofs.GreedyLemmas.{row_ranked}
+use Rattle.plan_rules.proofs.lemmas.GreedyLemmas.{row_ranked}
 use Rattle.plan_rules.proofs.greedy_plan.ranks_of.Goals as goal
 
 pub returns-clause-ranks : goal.returns-clause-ranks

@@ -1,11 +1,11 @@
 use Rattle.std.proofs.Common.{◌≡◌, ◌==◌, ◌||◌, ℕ, ◌<◌, Bool, true, false, List, length, get_or, set, Option, Some, None, sym, ap, ◌∙◌, subst, inl, inr, arith}
 use Rattle.std.specs.List.{list_any}
 use Rattle.std.proofs.lemmas.Bool.{both_ways}
-use Rattle.plan_rules.specs.Graph.{row_at, riders_at, vehicle_at, choice_at}
+use Rattle.plan_rules.specs.Graph.{row_at, riders_at, row_vehicle, choice_at}
 use Rattle.plan_rules.specs.Rank.{IsSelection}
 use Rattle.plan_rules.specs.declared.row.TripRow.{TripRow}
-use Rattle.plan_rules.proofs.GraphLemmas.{row_read, some_choice}
-use Rattle.plan_rules.proofs.GreedyLemmas.{selection_more, way_by_vehicle, way_by_rider}
+use Rattle.plan_rules.proofs.lemmas.GraphLemmas.{row_read, some_choice}
+use Rattle.plan_rules.proofs.lemmas.GreedyLemmas.{selection_more, way_by_vehicle, way_by_rider}
 use Rattle.plan_rules.proofs.greedy_plan.take_row.Goals as goal
 use Rattle.plan_rules.proofs.greedy_plan.take_row.Goals.{else-is_free-via-then-is_free+else-not-is_any_marked, else-is_free-via-else-is_free}
 
@@ -15,9 +15,9 @@ returns-then-not-is_any_marked-clause-selection c =
     let row = c.args.row in
     let x = c.index-rows-row.result in
     let read : x ≡ row_at g row = row_read g c.rows.result.now row x c.rows.ensures.value c.requires.row c.index-rows-row.is in
-    let v : x.vehicle ≡ vehicle_at g row = ap (λ (r : TripRow). r.vehicle) read in
+    let v : x.vehicle ≡ row_vehicle g row = ap (λ (r : TripRow). r.vehicle) read in
     let riders : c.as_slice-riders.result.now ≡ riders_at g row = c.as_slice-riders.ensures.value ∙ ap (λ (r : TripRow). r.riders.items) read in
-    let free : choice_at c.args.chosen.now (vehicle_at g row) ≡ None = ap (choice_at c.args.chosen.now) (sym v) ∙ c.is_free.ensures.0 c.if-is_free.true in
+    let free : choice_at c.args.chosen.now (row_vehicle g row) ≡ None = ap (choice_at c.args.chosen.now) (sym v) ∙ c.is_free.ensures.0 c.if-is_free.true in
     let unmarked : list_any (λ r. get_or c.args.served.now r false) (riders_at g row) ≡ false = ap (list_any (λ r. get_or c.args.served.now r false)) (sym riders) ∙ sym c.is_any_marked.ensures ∙ c.if-not-is_any_marked.true in
     subst (λ (w : ℕ). IsSelection g (set c.args.chosen.now w (Some row)) c.mark_riders.new.marks) (sym v)
     (selection_more g c.args.chosen.now c.args.served.now row c.rows.ensures.good c.requires.row c.requires.selection free unmarked c.mark_riders.new.marks c.mark_riders.ensures.len
@@ -29,7 +29,7 @@ returns-else-is_free-clause-settled c =
     let row = c.args.row in
     let x = c.index-rows-row.result in
     let read : x ≡ row_at g row = row_read g c.rows.result.now row x c.rows.ensures.value c.requires.row c.index-rows-row.is in
-    let v : x.vehicle ≡ vehicle_at g row = ap (λ (r : TripRow). r.vehicle) read in
+    let v : x.vehicle ≡ row_vehicle g row = ap (λ (r : TripRow). r.vehicle) read in
     let riders : c.as_slice-riders.result.now ≡ riders_at g row = c.as_slice-riders.ensures.value ∙ ap (λ (r : TripRow). r.riders.items) read in
     elim c.else-is_free.branch [
       | else-is_free-via-then-is_free+else-not-is_any_marked w ↦

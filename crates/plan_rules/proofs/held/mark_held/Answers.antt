@@ -2,7 +2,7 @@ use Rattle.std.proofs.Common.{◌≡◌, ℕ, ◌<◌, Bool, List, length, sym, 
 use Rattle.std.proofs.lemmas.List.{take_at}
 use Rattle.plan_rules.specs.Graph.{MarksHeld, HoldsRightly}
 use Rattle.plan_rules.specs.Parts.{graph_of}
-use Rattle.plan_rules.proofs.HeldLemmas.{marks_none, holds_more}
+use Rattle.plan_rules.proofs.lemmas.HeldLemmas.{marks_none, holds_more}
 use Rattle.plan_rules.proofs.held.mark_held.Goals as goal
 
 pub loop-vehicle-init : goal.loop-vehicle-init

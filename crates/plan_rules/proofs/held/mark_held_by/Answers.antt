@@ -2,11 +2,11 @@ use Rattle.std.proofs.Common.{◌≡◌, ◌==◌, ◌||◌, ℕ, ◌<◌, Bool,
 use Rattle.std.specs.List.{list_any}
 use Rattle.std.proofs.lemmas.Bool.{false≢true}
 use Rattle.std.proofs.lemmas.List.{get_or_read}
-use Rattle.plan_rules.specs.Graph.{row_at, riders_at, choice_at, vehicle_at, is_in}
+use Rattle.plan_rules.specs.Graph.{row_at, riders_at, choice_at, row_vehicle, is_in}
 use Rattle.plan_rules.specs.Parts.{graph_of}
 use Rattle.plan_rules.specs.declared.row.TripRow.{TripRow}
-use Rattle.plan_rules.proofs.GraphLemmas.{row_read}
-use Rattle.plan_rules.proofs.HeldLemmas.{marks_more, marks_kept, unmarked_apart, marked_held, holds_at, held_at}
+use Rattle.plan_rules.proofs.lemmas.GraphLemmas.{row_read}
+use Rattle.plan_rules.proofs.lemmas.HeldLemmas.{marks_more, marks_kept, unmarked_apart, marked_held, holds_at, held_at}
 use Rattle.plan_rules.proofs.held.mark_held_by.Goals as goal
 
 pub returns-then-is_any_marked-clause-variant : goal.returns-then-is_any_marked-clause-variant
@@ -38,7 +38,7 @@ returns-else-is_any_marked-clause-variant c =
     let within : k < length g.rows = omega arith in
     let read : c.index-in-Some.result.now ≡ row_at g k = row_read g g.rows k c.index-in-Some.result.now refl within c.index-in-Some.ensures in
     let first : c.index-else-row-len.result.now ≡ row_at g k = row_read g g.rows k c.index-else-row-len.result.now refl within c.index-else-row-len.ensures in
-    let own : vehicle_at g k ≡ v = ap (λ (r : TripRow). r.vehicle) (sym first) ∙ c.if-index-vehicle.false in
+    let own : row_vehicle g k ≡ v = ap (λ (r : TripRow). r.vehicle) (sym first) ∙ c.if-index-vehicle.false in
     let riders : c.as_slice-riders.result.now ≡ riders_at g k = c.as_slice-riders.ensures.value ∙ ap (λ (r : TripRow). r.riders.items) read in
     let none : list_any (λ q. get_or c.args.marks.now q false) (riders_at g k) ≡ false = ap (list_any (λ q. get_or c.args.marks.now q false)) (sym riders) ∙ sym c.is_any_marked.ensures ∙ c.if-is_any_marked.false in (
       λ _. holds_at g v (Some k) choice (record { within = within; own = own }, unmarked_apart g v k c.args.marks.now c.requires.marked (c.requires.rows k within) none),

@@ -1,5 +1,5 @@
-use Rattle.plan_rules.proofs.TreeLemmas.{each_plan_at_one_end}
+use Rattle.plan_rules.proofs.lemmas.SearchTreeLemmas.{plan_at_one_end}
 use Rattle.plan_rules.proofs.laws.ends_part_the_plans.Goals as goal
 
 pub returns : goal.returns
-returns c = each_plan_at_one_end
+returns c = plan_at_one_end

@@ -2,7 +2,7 @@ use Rattle.std.proofs.Common.{◌≡◌, ℕ, ◌<◌, List, Bool, false, length
 use Rattle.std.proofs.Math.ListN.{length-set}
 use Rattle.plan_rules.specs.Path.{Standing}
 use Rattle.plan_rules.specs.declared.path.Decision.{Decision}
-use Rattle.plan_rules.proofs.PathLemmas.{standing_start, along_alone, along_without}
+use Rattle.plan_rules.proofs.lemmas.PathLemmas.{standing_start, along_alone, along_without}
 use Rattle.plan_rules.proofs.path.mark_along.Goals as goal
 use Rattle.plan_rules.proofs.path.mark_along.Goals.{then-decision, else-decision}
 

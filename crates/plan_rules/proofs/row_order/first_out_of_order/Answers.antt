@@ -1,7 +1,7 @@
 use Rattle.std.proofs.Common.{◌≡◌, ℕ, ◌+◌, ◌-◌, ◌<◌, Ordering, Less, sym, ap, ap₂, ◌∙◌, refl, arith}
 use Rattle.plan_rules.specs.Graph.{row_at, row_cmp}
 use Rattle.plan_rules.specs.Parts.{graph_of}
-use Rattle.plan_rules.proofs.GraphLemmas.{row_read}
+use Rattle.plan_rules.proofs.lemmas.GraphLemmas.{row_read}
 use Rattle.plan_rules.proofs.RowLemmas.{first_unordered, not_less_index}
 use Rattle.plan_rules.proofs.row_order.first_out_of_order.Goals as goal
 

@@ -1,7 +1,7 @@
 use Rattle.std.proofs.Common.{ℕ, ◌<◌}
-use Rattle.plan_rules.specs.Graph.{IsRow, row_at}
+use Rattle.plan_rules.specs.Graph.{IsGraphRow, row_at}
 use Rattle.plan_rules.specs.Parts.{graph_of}
 use Rattle.plan_rules.proofs.row_order.first_out_of_range.Given as goal
 
 abbrev pub invariant-loop-k : goal.invariant-loop-k
-invariant-loop-k l = (j : ℕ) → j < l.k → IsRow l.parts.vehicles l.parts.riders (row_at (graph_of l.parts) j)
+invariant-loop-k l = (j : ℕ) → j < l.k → IsGraphRow l.parts.vehicles l.parts.riders (row_at (graph_of l.parts) j)

@@ -1,6 +1,6 @@
 use Rattle.std.proofs.Common.{◌∙◌, subst, sym}
 use Rattle.plan_rules.specs.Plan.{IsLawful}
-use Rattle.plan_rules.proofs.PlanLemmas.{held_is_lawful}
+use Rattle.plan_rules.proofs.lemmas.PlanLemmas.{held_is_lawful}
 use Rattle.plan_rules.proofs.rules.held_plan.Goals as goal
 
 pub returns-clause-lawful : goal.returns-clause-lawful

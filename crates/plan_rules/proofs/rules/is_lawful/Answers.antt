@@ -1,6 +1,6 @@
 use Rattle.std.proofs.Common.{refl, subst, arith}
 use Rattle.plan_rules.specs.Plan.{IsLawful}
-use Rattle.plan_rules.proofs.PlanLemmas.{lawful_from}
+use Rattle.plan_rules.proofs.lemmas.PlanLemmas.{lawful_from}
 use Rattle.plan_rules.proofs.rules.is_lawful.Goals as goal
 
 pub returns : goal.returns

@@ -1,7 +1,7 @@
 use Rattle.std.proofs.Common.{◌≡◌, ◌+◌, ◌≤◌, sym, ◌∙◌, arith, rules}
 use Rattle.plan_rules.specs.Graph.{times_served, is_in, choice_at}
-use Rattle.plan_rules.proofs.SumLemmas.{flag, flag-true, flag-false}
-use Rattle.plan_rules.proofs.GraphLemmas.{times_served_none, times_served_more, times_served-le}
+use Rattle.plan_rules.proofs.lemmas.SumLemmas.{flag, flag-true, flag-false}
+use Rattle.plan_rules.proofs.lemmas.GraphLemmas.{times_served_none, times_served_more, times_served-le}
 use Rattle.plan_rules.proofs.rules.times_in.Goals as goal
 use Rattle.plan_rules.proofs.rules.times_in.Goals.{then-has_choice_rider, else-has_choice_rider}
 

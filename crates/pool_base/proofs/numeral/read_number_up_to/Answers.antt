@@ -1,5 +1,5 @@
 use Rattle.std.proofs.Common.{refl, sym, ap, ◌∙◌, Some, arith}
-use Rattle.pool_base.proofs.NumeralLemmas.{is_numeral-digits, number_up_to-given, number_up_to-large, number_up_to-refused}
+use Rattle.pool_base.proofs.lemmas.NumeralLemmas.{is_numeral-digits, number_up_to-given, number_up_to-large, number_up_to-refused}
 use Rattle.pool_base.proofs.numeral.read_number_up_to.Goals as goal
 
 pub returns-in_default-clause-value : goal.returns-in_default-clause-value

@@ -1,4 +1,4 @@
-use Rattle.pool_base.proofs.TravelTimeLemmas.{cell_of-place}
+use Rattle.pool_base.proofs.lemmas.TravelTimeLemmas.{cell_of-place}
 use Rattle.pool_base.proofs.times_check.cell.Goals as goal
 
 pub returns : goal.returns

@@ -4,8 +4,8 @@ use Rattle.batch_snapshot.specs.declared.rider.Rider.{Rider}
 use Rattle.stop_orders.specs.declared.settled_rider.SettledRider.{SettledRider}
 use Rattle.stop_orders.specs.Settled.{no_rider}
 use Rattle.promise_check.specs.Requests.{request_at}
-use Rattle.promise_check.specs.Promised.{kept_rider, AreKept}
-use Rattle.promise_check.proofs.Promises.{kept_more, request_read, rider_read}
+use Rattle.promise_check.specs.work.Promised.{kept_rider, AreKept}
+use Rattle.promise_check.proofs.lemmas.Promises.{kept_more, request_read, rider_read}
 use Rattle.promise_check.proofs.kept_riders.keep_promises.Goals as goal
 
 pub loop-number-preserved : goal.loop-number-preserved

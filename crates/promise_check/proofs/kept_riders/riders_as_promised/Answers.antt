@@ -1,7 +1,7 @@
 use Rattle.std.proofs.Common.{◌≡◌, ℕ, List, subst}
 use Rattle.std.specs.List.{Contains}
-use Rattle.promise_check.specs.Promised.{AreKept}
-use Rattle.promise_check.proofs.Promises.{kept_by_more}
+use Rattle.promise_check.specs.work.Promised.{AreKept}
+use Rattle.promise_check.proofs.lemmas.Promises.{kept_by_more}
 use Rattle.promise_check.proofs.kept_riders.riders_as_promised.Goals as goal
 
 pub loop-vehicle-preserved : goal.loop-vehicle-preserved

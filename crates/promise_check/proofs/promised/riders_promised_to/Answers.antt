@@ -4,7 +4,7 @@ use Rattle.std.proofs.lemmas.List.{length_push}
 use Rattle.batch_snapshot.specs.declared.rider.Rider.{Rider}
 use Rattle.promise_check.specs.Requests.{request_at}
 use Rattle.promise_check.specs.Promised.{is_promised_to}
-use Rattle.promise_check.proofs.Promises.{filter_range_skips, filter_range_takes, filter_range_all, request_read}
+use Rattle.promise_check.proofs.lemmas.Promises.{filter_range_skips, filter_range_takes, filter_range_all, request_read}
 use Rattle.promise_check.proofs.promised.riders_promised_to.Goals as goal
 
 pub loop-number-preserved-then-not-names : goal.loop-number-preserved-then-not-names

@@ -3,13 +3,13 @@ use Rattle.pool_base.specs.Times.{travel_time}
 use Rattle.std.proofs.lemmas.List.{length_push}
 use Rattle.batch_snapshot.specs.declared.rider.Rider.{Rider}
 use Rattle.stop_orders.specs.Settled.{no_rider}
-use Rattle.promise_check.specs.Requests.{IsPlain, HasPlaces}
+use Rattle.promise_check.specs.work.Requests.{IsPlain, IsBetweenPlaces}
 use Rattle.promise_check.proofs.Pairing.{pairs_more, pairs_all}
 use Rattle.promise_check.proofs.requests.plain_riders.Goals as goal
 
 pub plain_rider-requires-clause-places : goal.plain_rider-requires-clause-places
 plain_rider-requires-clause-places c =
-    subst (λ (x : Rider). HasPlaces c.args.points.now x.origin x.destination) (sym c.request-item.is)
+    subst (λ (x : Rider). IsBetweenPlaces c.args.points.now x.origin x.destination) (sym c.request-item.is)
     (c.requires.places c.loop-request.request-index c.request-item.result c.loop-request-test.true)
 
 pub loop-request-preserved : goal.loop-request-preserved

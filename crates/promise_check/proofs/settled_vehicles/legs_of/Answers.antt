@@ -6,15 +6,16 @@ use Rattle.std.proofs.lemmas.List.Elements.{All-push}
 use Rattle.batch_snapshot.specs.declared.passenger.Passenger.{Passenger}
 use Rattle.stop_orders.specs.declared.leg.Leg.{Leg}
 use Rattle.stop_orders.specs.Task.{IsLeg, no_leg}
-use Rattle.stop_orders.specs.Settled.{IsShort}
-use Rattle.promise_check.specs.Requests.{IsLegOf, HasPlaces}
+use Rattle.stop_orders.specs.Sound.{IsShort}
+use Rattle.promise_check.specs.Requests.{IsLegOf}
+use Rattle.promise_check.specs.work.Requests.{IsBetweenPlaces}
 use Rattle.promise_check.proofs.Pairing.{pairs_more, pairs_all}
 use Rattle.promise_check.proofs.Seats.{sum_by_push}
 use Rattle.promise_check.proofs.settled_vehicles.legs_of.Goals as goal
 
 pub leg_of-leg-requires-clause-places : goal.leg_of-leg-requires-clause-places
 leg_of-leg-requires-clause-places c =
-    subst (λ (p : Passenger). HasPlaces c.args.points.now p.origin p.destination) (sym c.passenger-item.is)
+    subst (λ (p : Passenger). IsBetweenPlaces c.args.points.now p.origin p.destination) (sym c.passenger-item.is)
     (c.requires.places c.loop-passenger.passenger-index c.passenger-item.result c.loop-passenger-test.true)
 
 pub loop-passenger-preserved : goal.loop-passenger-preserved

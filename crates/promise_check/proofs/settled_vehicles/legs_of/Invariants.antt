@@ -3,7 +3,7 @@ use Rattle.std.specs.List.{All, slice_get, sum_by}
 use Rattle.pool_base.specs.Times.{travel_time}
 use Rattle.batch_snapshot.specs.declared.passenger.Passenger.{Passenger}
 use Rattle.stop_orders.specs.Task.{IsLeg, leg_at, persons}
-use Rattle.stop_orders.specs.Settled.{IsShort}
+use Rattle.stop_orders.specs.Sound.{IsShort}
 use Rattle.promise_check.specs.Requests.{IsLegOf}
 use Rattle.promise_check.proofs.settled_vehicles.legs_of.Given as goal
 

@@ -1,8 +1,8 @@
-use Rattle.std.proofs.Common.{◌<◌, ℕ, length, sym, subst}
+use Rattle.std.proofs.Common.{◌<◌, ℕ, length, sym, subst, slice_index_or}
 use Rattle.pool_base.specs.Times.{travel_time}
 use Rattle.stop_orders.specs.Settled.{no_rider}
-use Rattle.std.proofs.Common.{slice_index_or}
-use Rattle.promise_check.specs.Requests.{CanBeKept, request_at}
+use Rattle.promise_check.specs.Requests.{request_at}
+use Rattle.promise_check.specs.work.Requests.{CanBeKept}
 use Rattle.promise_check.proofs.Seats.{plain_can_be_kept}
 use Rattle.promise_check.proofs.settled_vehicles.settled_vehicle.Goals as goal
 

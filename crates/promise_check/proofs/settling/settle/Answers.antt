@@ -6,9 +6,10 @@ use Rattle.batch_snapshot.specs.declared.vehicle.Vehicle.{Vehicle}
 use Rattle.batch_snapshot.specs.Batch.{Batch}
 use Rattle.batch_snapshot.specs.Points.{ArePoints}
 use Rattle.batch_snapshot.specs.Vehicle.{HasSeats}
-use Rattle.stop_orders.specs.Settled.{IsSound}
-use Rattle.promise_check.specs.Requests.{HasPlaces, ArePlain}
-use Rattle.promise_check.specs.Settling.{IsSettled, HasVehiclePlaces, AreSettledVehicles}
+use Rattle.stop_orders.specs.Sound.{IsSound}
+use Rattle.promise_check.specs.work.Requests.{IsBetweenPlaces, ArePlain}
+use Rattle.promise_check.specs.Settling.{IsSettled}
+use Rattle.promise_check.specs.work.Settling.{HasVehiclePlaces, AreSettledVehicles}
 use Rattle.promise_check.proofs.Places.{rider_places, vehicle_places}
 use Rattle.promise_check.proofs.Assembly.{held_numbers, assembled, settled_right, settled_sound}
 use Rattle.promise_check.proofs.settling.settle.Goals as goal
@@ -18,7 +19,7 @@ plain_riders-requires-clause-places c =
     let i = c.snapshot.inside in
     let batch : Batch = record { number = i.batch; sealed_at = i.now; vehicles = i.vehicles; riders = i.riders; expired = i.expired } in
     let named = subst (λ (b : Batch). ArePoints b c.args.points.now) (sym c.snapshot.view_is) c.requires.points in
-    subst (λ (rs : List Rider). All (λ (r : Rider). HasPlaces c.args.points.now r.origin r.destination) rs) (sym c.as_slice-requests.ensures) (rider_places batch c.args.points.now named)
+    subst (λ (rs : List Rider). All (λ (r : Rider). IsBetweenPlaces c.args.points.now r.origin r.destination) rs) (sym c.as_slice-requests.ensures) (rider_places batch c.args.points.now named)
 
 pub settled_vehicles-requires-clause-plain : goal.settled_vehicles-requires-clause-plain
 settled_vehicles-requires-clause-plain c = rw c.deref.ensures.value c.in_ok-plain.ensures

@@ -1,7 +1,7 @@
 use Rattle.std.proofs.Common.{◌≡◌, ℕ, ◌<◌, ◌≤◌, length, slice_index, map, pos, neg_ℤ, ◌∙◌, arith}
 use Rattle.pool_base.specs.Times.{travel_time}
-use Rattle.rebalancing.specs.Weights.{weight_of}
-use Rattle.rebalancing.specs.Prices.{IsPricedMatching, weight_in}
+use Rattle.rebalancing.specs.work.Weights.{weight_of}
+use Rattle.rebalancing.specs.work.Prices.{IsPricedMatching, weight_in}
 use Rattle.rebalancing.specs.Matching.{IsMatching}
 use Rattle.rebalancing.proofs.Choosing.{IsMatching-chosen, total-chosen, ArePotentials-chosen}
 use Rattle.rebalancing.proofs.MatchingLaw.{IsMatching-short, best_by_prices, ArePrices-from_potentials}

@@ -1,5 +1,5 @@
 use Rattle.std.proofs.Common.{◌≡◌, ◌*◌, ◌≤◌, take, sum_by}
-use Rattle.rebalancing.specs.Chosen.{seconds_in}
+use Rattle.rebalancing.specs.work.Chosen.{seconds_in}
 use Rattle.rebalancing.specs.Potentials.{pair_worth}
 use Rattle.rebalancing.proofs.best_moves.seconds_of_pairs.Given as goal
 

@@ -1,8 +1,10 @@
 use Rattle.std.proofs.Common.{Bool, cond, ◌&&◌, set, Some, None, sym, ap, ◌∙◌}
 use Rattle.request_book.specs.declared.rider.BookRider.{BookRider}
 use Rattle.request_book.specs.declared.rider.Status.TheVariants.{Promised}
-use Rattle.request_book.specs.Closing.{Pick, takes_promise}
-use Rattle.request_book.specs.Rider.{is_waiting, with_status}
+use Rattle.request_book.specs.Closing.{Pick}
+use Rattle.request_book.specs.work.Closing.{takes_promise}
+use Rattle.request_book.specs.Rider.{with_status}
+use Rattle.request_book.specs.work.Closing.{is_waiting}
 use Rattle.request_book.proofs.KeyedLemmas.{set-changed_at, changed_at-absent}
 use Rattle.request_book.proofs.RegisterLemmas.{found_by_keys, named_by_keys, eqb_comm}
 use Rattle.request_book.proofs.closing.promise_one.Goals as goal

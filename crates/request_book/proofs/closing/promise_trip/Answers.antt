@@ -1,7 +1,8 @@
 use Rattle.std.proofs.Common.{◌+◌, drop, map, Vec, Global, vec_len, vec_capacity, sym, ap, subst, ◌∙◌, arith}
 use Rattle.request_book.specs.declared.rider.BookRider.{BookRider}
 use Rattle.request_book.specs.declared.outcome.PlannedStop.{PlannedStop}
-use Rattle.request_book.specs.Closing.{Pick, promised_in_turn, trip_picks, takes_promise}
+use Rattle.request_book.specs.Closing.{Pick, trip_picks}
+use Rattle.request_book.specs.work.Closing.{promised_in_turn, takes_promise}
 use Rattle.request_book.specs.Keyed.{changed_at, KeysDiffer}
 use Rattle.request_book.proofs.CloseLemmas.{stops-pick, stops-drop, stops-all, takes_promise-id}
 use Rattle.request_book.proofs.KeyedLemmas.{KeysDiffer-changed_at, map-changed_at}

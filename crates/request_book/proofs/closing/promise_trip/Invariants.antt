@@ -1,6 +1,7 @@
 use Rattle.std.proofs.Common.{◌≡◌, drop, map}
 use Rattle.std.specs.Prelude.{vec_len, vec_capacity}
-use Rattle.request_book.specs.Closing.{promised_in_turn, trip_picks}
+use Rattle.request_book.specs.Closing.{trip_picks}
+use Rattle.request_book.specs.work.Closing.{promised_in_turn}
 use Rattle.request_book.specs.Keyed.{KeysDiffer}
 use Rattle.request_book.proofs.closing.promise_trip.Given as goal
 

@@ -1,5 +1,6 @@
 use Rattle.std.proofs.Common.{[], sym, ap, ◌∙◌}
-use Rattle.request_book.specs.Closing.{picks, after_answer, promised_in_turn}
+use Rattle.request_book.specs.Closing.{picks, after_answer}
+use Rattle.request_book.specs.work.Closing.{promised_in_turn}
 use Rattle.request_book.proofs.CloseLemmas.{released, promised-all}
 use Rattle.request_book.proofs.closing.settle.Goals as goal
 

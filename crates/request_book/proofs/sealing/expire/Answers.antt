@@ -1,5 +1,6 @@
 use Rattle.std.proofs.Common.{◌+◌, drop, map, refl, sym, ap, subst, ◌∙◌, arith}
-use Rattle.request_book.specs.Keyed.{changed_at, changed_in_turn, KeysDiffer}
+use Rattle.request_book.specs.Keyed.{changed_at, KeysDiffer}
+use Rattle.request_book.specs.work.Keyed.{changed_in_turn}
 use Rattle.request_book.specs.Rider.{with_status}
 use Rattle.request_book.specs.declared.rider.Status.TheVariants.{Expired}
 use Rattle.request_book.proofs.KeyedLemmas.{KeysDiffer-changed_at, map-changed_at}

@@ -1,6 +1,7 @@
 use Rattle.std.proofs.Common.{◌≡◌, drop, map}
 use Rattle.std.specs.Prelude.{vec_len, vec_capacity}
-use Rattle.request_book.specs.Keyed.{changed_in_turn, KeysDiffer}
+use Rattle.request_book.specs.Keyed.{KeysDiffer}
+use Rattle.request_book.specs.work.Keyed.{changed_in_turn}
 use Rattle.request_book.specs.Rider.{with_status}
 use Rattle.request_book.specs.declared.rider.Status.TheVariants.{Expired}
 use Rattle.request_book.proofs.sealing.expire.Given as goal

@@ -1,18 +1,14 @@
-use Rattle.std.proofs.Common.{◌≡◌, IfSome}
 use Rattle.std.proofs.lemmas.Result.{err_from_is_err_and}
-use Rattle.ridepool.specs.Reading.{SeenSource}
-use Rattle.ridepool.proofs.ReadingLemmas.{network_unread, network_refused, IfErr-weaker}
+use Rattle.ridepool.specs.work.Reading.{StopsAt}
+use Rattle.ridepool.proofs.ReadingLemmas.{network_read}
 use Rattle.ridepool.proofs.reading.network_from.Goals as goal
 
-pub returns-in_err-bytes-clause-cause : goal.returns-in_err-bytes-clause-cause
-returns-in_err-bytes-clause-cause g c =
-    let seen : SeenSource = record { told = g.S.Source.left c.args.source.now; taken_before = g.S.Source.taken c.args.source.now; taken_after = g.S.Source.taken c.read_input.new.source; faults_before = g.S.Source.faults c.args.source.now; faults_after = g.S.Source.faults c.read_input.new.source } in
+pub returns-in_err-bytes : goal.returns-in_err-bytes
+returns-in_err-bytes g c =
     let p = err_from_is_err_and c.from_residual.result c.from_residual.ensures.1 in
-    rw (p.1, p.2) (network_unread seen _ c.in_err-bytes.ensures.cause)
+    rw (p.1, p.2) (StopsAt.unread _ c.in_err-bytes.ensures)
 
-pub returns-clause-cause : goal.returns-clause-cause
-returns-clause-cause g c =
-    let seen : SeenSource = record { told = g.S.Source.left c.args.source.now; taken_before = g.S.Source.taken c.args.source.now; taken_after = g.S.Source.taken c.read_input.new.source; faults_before = g.S.Source.faults c.args.source.now; faults_after = g.S.Source.faults c.read_input.new.source } in
-    let bytes = c.deref.result.now in
-    let told : IfSome seen.told (λ told. bytes ≡ told) = rw c.deref.ensures.value c.in_ok-bytes.ensures.bytes in
-    IfErr-weaker c.accept_network.result _ _ (network_refused seen bytes told) c.accept_network.ensures.refused
+pub returns : goal.returns
+returns g c =
+    network_read _ _ c.deref.result.now c.accept_network.result c.in_ok-bytes.ensures c.deref.ensures.value
+    c.accept_network.ensures.network c.accept_network.ensures.refused c.accept_network.ensures.no_memory

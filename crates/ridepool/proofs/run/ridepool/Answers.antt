@@ -1,8 +1,15 @@
-use Rattle.ridepool.proofs.CompleteLemmas.{complete}
+use Rattle.std.proofs.Common.{refl}
+use Rattle.ridepool.proofs.ExitLemmas.{words_answer, input_answer, done_answer, written_answer}
 use Rattle.ridepool.proofs.run.ridepool.Goals as goal
 
-pub returns-in-Ok-clause-complete : goal.returns-in-Ok-clause-complete
-returns-in-Ok-clause-complete g c = λ faultless. tt
+pub returns-in-Err : goal.returns-in-Err
+returns-in-Err g c = words_answer _ c.in-Err.fault c.in-Err.ensures.refused (record { network = refl; fleet = refl; script = refl }) refl
 
-pub returns-in-Err-clause-complete : goal.returns-in-Err-clause-complete
-returns-in-Err-clause-complete g c = λ faultless. complete _ c.in-Err.status faultless c.in-Err.ensures.explained
+pub returns-in-Err-inputs_from : goal.returns-in-Err-inputs_from
+returns-in-Err-inputs_from g c = input_answer _ c.in-Ok.settings c.in-Err-inputs_from.status (record { faultless = c.in-Ok.ensures.accepted.0; given = c.in-Ok.ensures.accepted.1 }) c.in-Err-inputs_from.ensures.got refl
+
+pub returns-in-Ok-write_report : goal.returns-in-Ok-write_report
+returns-in-Ok-write_report g c = done_answer _ c.in-Ok.settings c.in-Ok-inputs_from.inputs (record { faultless = c.in-Ok.ensures.accepted.0; given = c.in-Ok.ensures.accepted.1 }) c.in-Ok-inputs_from.ensures.got c.in-Ok-write_report.ensures.report
+
+pub returns-in-Err-write_report : goal.returns-in-Err-write_report
+returns-in-Err-write_report g c = written_answer _ c.in-Ok.settings c.in-Ok-inputs_from.inputs c.in-Err-write_report.status (record { faultless = c.in-Ok.ensures.accepted.0; given = c.in-Ok.ensures.accepted.1 }) c.in-Ok-inputs_from.ensures.got c.in-Err-write_report.ensures.report

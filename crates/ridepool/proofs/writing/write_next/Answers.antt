@@ -20,7 +20,7 @@ returns-in-Ok-write_added-clause-round g c =
     let P : ℕ → Type 0 = λ n. Appends before after (added_text c.args.settings.now.mode c.args.settings.now.proof n journal) in
     wrote_round c.args.settings.now c.args.network.now c.args.book c.in-Ok.book c.take_round.new.self c.args.round.now before after journal
     c.in-Ok.ensures.run c.in-Ok.ensures.same c.in-Ok.ensures.kept c.in-Ok.ensures.ready c.in-Ok-take_round.ensures.journal c.in-Ok-take_round.ensures.next
-    (subst P c.number.ensures c.in-Ok-write_added.ensures.whole)
+    (subst P c.number.ensures.value c.in-Ok-write_added.ensures.bytes)
 
 pub returns-in-Err-clause-round : goal.returns-in-Err-clause-round
 returns-in-Err-clause-round g c =
@@ -33,6 +33,6 @@ returns-in-Err-clause-round g c =
     (record {
       journal = journal;
       is = next_journal c.args.settings.now c.args.network.now c.args.book c.in-Ok.book c.args.round.now journal c.in-Ok.ensures.run c.in-Ok.ensures.same c.in-Ok-take_round.ensures.journal;
-      part = subst P c.number.ensures c.in-Err.ensures.part;
+      part = subst P c.number.ensures.value c.in-Err.ensures.bytes;
     })
     (λ is. c.in-Err.ensures.fault (ap Err is))

@@ -1,33 +1,33 @@
 use Rattle.std.proofs.Common.{List, Err, MatchResult, ap, subst}
 use Rattle.request_book.specs.Book.{BookView}
 use Rattle.script_rows.specs.Round.{NumberedLanes}
-use Rattle.ridepool.specs.Report.{Inputs}
-use Rattle.ridepool.specs.Writing.{WritesRounds, IsRoundsFault}
+use Rattle.ridepool.specs.Inputs.{Inputs}
+use Rattle.ridepool.specs.work.Writing.{WritesRounds, IsRoundsFault}
 use Rattle.ridepool.proofs.WriteLemmas.{head_unwritten, head_alone, opened, report_from}
 use Rattle.ridepool.proofs.writing.write_report.Goals as goal
 
 pub returns-in-Err-clause-report : goal.returns-in-Err-clause-report
 returns-in-Err-clause-report g c =
-    let i : Inputs = record { settings = c.args.settings.now; roads = c.args.network.now; vehicles = c.args.fleet; rounds = c.args.script.now } in
+    let i : Inputs = record { settings = c.args.settings.now; roads = c.args.inputs.network; vehicles = c.args.inputs.fleet; rounds = c.args.inputs.script } in
     head_unwritten i (g.K.Sink.written c.args.out.now) (g.K.Sink.written c.write_first.new.out) (g.K.Sink.faults c.args.out.now) (g.K.Sink.faults c.write_first.new.out)
-    c.in-Err.fault c.status_of.result c.status_of.ensures c.in-Err.ensures.part (λ is. c.in-Err.ensures.fault (ap Err is))
+    c.in-Err.fault c.status_of.result c.status_of.ensures c.in-Err.ensures.bytes (λ is. c.in-Err.ensures.fault (ap Err is))
 
 pub returns-in_default-new-clause-report : goal.returns-in_default-new-clause-report
 returns-in_default-new-clause-report g c =
-    let i : Inputs = record { settings = c.args.settings.now; roads = c.args.network.now; vehicles = c.args.fleet; rounds = c.args.script.now } in
-    head_alone i (g.K.Sink.written c.args.out.now) (g.K.Sink.written c.write_first.new.out) c.in_default.ensures.whole
+    let i : Inputs = record { settings = c.args.settings.now; roads = c.args.inputs.network; vehicles = c.args.inputs.fleet; rounds = c.args.inputs.script } in
+    head_alone i (g.K.Sink.written c.args.out.now) (g.K.Sink.written c.write_first.new.out) c.in_default.ensures.bytes
 
 pub returns-clause-report : goal.returns-clause-report
 returns-clause-report g c =
-    let i : Inputs = record { settings = c.args.settings.now; roads = c.args.network.now; vehicles = c.args.fleet; rounds = c.args.script.now } in
+    let i : Inputs = record { settings = c.args.settings.now; roads = c.args.inputs.network; vehicles = c.args.inputs.fleet; rounds = c.args.inputs.script } in
     let before = g.K.Sink.written c.args.out.now in
     let here = g.K.Sink.written c.write_first.new.out in
     let after = g.K.Sink.written c.write_rounds.new.out in
     let middle = g.K.Sink.faults c.write_first.new.out in
     let high = g.K.Sink.faults c.write_rounds.new.out in
     let P : BookView → List NumberedLanes → Type 0 =
-    λ book rounds. MatchResult c.write_rounds.result (λ _. WritesRounds c.args.settings.now c.args.network.now book rounds here after)
-    (IsRoundsFault c.args.settings.now c.args.network.now book rounds here after middle high) in
-    report_from i before here after (g.K.Sink.faults c.args.out.now) middle high c.write_rounds.result c.in_default.ensures.whole c.write_first.ensures.never_falls
+    λ book rounds. MatchResult c.write_rounds.result (λ _. WritesRounds c.args.settings.now c.args.inputs.network book rounds here after)
+    (IsRoundsFault c.args.settings.now c.args.inputs.network book rounds here after middle high) in
+    report_from i before here after (g.K.Sink.faults c.args.out.now) middle high c.write_rounds.result c.in_default.ensures.bytes c.write_first.ensures.never_falls
     (subst (λ rounds. P (opened i) rounds) c.rounds.ensures
     (subst (λ book. P book c.rounds.result.now) c.in-Ok.ensures c.write_rounds.ensures.rounds))

@@ -40,7 +40,7 @@ returns-in-Ok-clause-rounds g c =
     let whole : take i rounds ≡ rounds = ap (λ n. take n rounds) end ∙ take-length rounds in
     let all : HasWritten c.args.settings.now c.args.network.now c.args.book rounds before here c.loop-round.current =
     subst (λ rs. HasWritten c.args.settings.now c.args.network.now c.args.book rs before here c.loop-round.current) whole c.loop-round.invariant.0 in
-    written_all c.args.settings.now c.args.network.now c.args.book c.loop-round.current rounds before here (g.K.Sink.written c.write_end.new.sink) c.next_position.result all c.next_position.ensures c.in-Ok.ensures.whole
+    written_all c.args.settings.now c.args.network.now c.args.book c.loop-round.current rounds before here (g.K.Sink.written c.write_end.new.sink) c.next_position.result all c.next_position.ensures c.in-Ok.ensures.bytes
 
 pub returns-clause-rounds : goal.returns-clause-rounds
 returns-clause-rounds g c =
@@ -55,5 +55,5 @@ returns-clause-rounds g c =
     subst (λ rs. HasWritten c.args.settings.now c.args.network.now c.args.book rs before here c.loop-round.current) whole c.loop-round.invariant.0 in
     end_unwritten c.args.settings.now c.args.network.now c.args.book rounds before after (g.K.Sink.faults c.args.out.now) (g.K.Sink.faults c.loop-round.out) (g.K.Sink.faults c.write_end.new.sink)
     c.in-Err.fault c.status_of.result c.status_of.ensures
-    (lacks_end c.args.settings.now c.args.network.now c.args.book c.loop-round.current rounds before here after c.next_position.result all c.next_position.ensures c.in-Err.ensures.part)
+    (lacks_end c.args.settings.now c.args.network.now c.args.book c.loop-round.current rounds before here after c.next_position.result all c.next_position.ensures c.in-Err.ensures.bytes)
     c.loop-round.invariant.1 (λ is. c.in-Err.ensures.fault (ap Err is))

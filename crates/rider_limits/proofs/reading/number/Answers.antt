@@ -3,14 +3,14 @@ use Rattle.std.specs.String.{string_bytes}
 use Rattle.std.specs.Option.{option_map_or}
 use Rattle.pool_base.specs.Number.{value_of}
 use Rattle.pool_base.specs.Numeral.{number_up_to}
-use Rattle.pool_base.proofs.NumeralLemmas.{number_up_to-given}
-use Rattle.rider_limits.specs.Key.{name_of, default_of}
+use Rattle.pool_base.proofs.lemmas.NumeralLemmas.{number_up_to-given}
+use Rattle.rider_limits.specs.Key.{key_name, default_of}
 use Rattle.rider_limits.specs.Words.{text_given}
 use Rattle.rider_limits.proofs.GivenLemmas.{IsTakenText, given_is_taken}
 use Rattle.rider_limits.proofs.reading.number.Goals as goal
 use Rattle.rider_limits.proofs.reading.number.Goals.{After-read_number_up_to}
 
-given : (c : After-read_number_up_to) → text_given (name_of c.args.key) (map string_bytes c.args.options.now) ≡ Some c.in-Some.text.now
+given : (c : After-read_number_up_to) → text_given (key_name c.args.key) (map string_bytes c.args.options.now) ≡ Some c.in-Some.text.now
 given c = ap (λ name. text_given name (map string_bytes c.args.options.now)) (sym c.name.ensures) ∙ sym c.in-Some.ensures
 
 taken : (c : After-read_number_up_to) → IsTakenText c.args.key c.in-Some.text.now

@@ -5,7 +5,8 @@ use Rattle.std.proofs.lemmas.List.Elements.{All-more, All-same}
 use Rattle.std.proofs.lemmas.Result.{err_from_is_err_and}
 use Rattle.pool_io.specs.Table.{record_at}
 use Rattle.road_network.specs.Roads.{IsArcAmong, most_nodes, most_arcs, greatest_name, longest_arc}
-use Rattle.road_network.specs.Reading.{arc_in, seconds_in, with_row}
+use Rattle.road_network.specs.Reading.{arc_in, arc_seconds}
+use Rattle.road_network.specs.work.Numbering.{with_row}
 use Rattle.road_network.specs.declared.fault.NetworkFault.TheVariants.{TooManyNodes}
 use Rattle.road_network.proofs.Names.{All-with_node}
 use Rattle.road_network.proofs.Refusals.{first_refusal-next, first_refusal-field, first_refusal-nodes, first_refusal-end, network_of-refused, network_of-accepted, network_of-too_many}
@@ -21,7 +22,7 @@ returns-in_err-named-clause-refused c =
     let few : length c.args.rows.now.records ≤ most_arcs = omega (arith, c.len.ensures, c.if-len-gt-MOST_ARCS.false) in
     let within : c.rows.row < length c.args.rows.now.records = omega (arith, c.len-row-end.ensures) in
     let p = err_from_is_err_and c.from_residual.result c.from_residual.ensures.1 in
-    rw (p.1, p.2) (λ known. network_of-refused c.args.rows.now.records c.in_err-named.field-0.0 few (c.rows.invariant.0 ∙ first_refusal-field c.args.rows.now.records c.rows.row c.rows.nodes.keys c.in_err-named.field-0.0 within c.in_err-named.ensures.refused))
+    rw (p.1, p.2) (λ known. network_of-refused c.args.rows.now.records c.in_err-named.field-0.0 few (first_refusal-field c.args.rows.now.records c.rows.row c.in_err-named.field-0.0 within c.in_err-named.ensures.refused c.rows.invariant.0))
 
 pub returns-then-len-gt-MOST_NODES-clause-refused : goal.returns-then-len-gt-MOST_NODES-clause-refused
 returns-then-len-gt-MOST_NODES-clause-refused c known =
@@ -30,7 +31,7 @@ returns-then-len-gt-MOST_NODES-clause-refused c known =
     let accepted = c.in_ok-named.ensures.accepted in
     let nodes = rw (c.in_ok-from.ensures.nodes, accepted.1, accepted.2) at c.in_ok-to.ensures.nodes in
     let many : most_nodes < length (with_row c.rows.nodes.keys (record_at c.args.rows.now c.rows.row)) = omega (arith, ap length nodes, c.len-in-rows.ensures.len, c.if-len-gt-MOST_NODES.true) in
-    network_of-refused c.args.rows.now.records (TooManyNodes (c.rows.row + 1)) few (c.rows.invariant.0 ∙ first_refusal-nodes c.args.rows.now.records c.rows.row c.rows.nodes.keys within accepted.0 many)
+    network_of-refused c.args.rows.now.records (TooManyNodes (c.rows.row + 1)) few (first_refusal-nodes c.args.rows.now.records c.rows.row c.rows.nodes.keys within c.rows.invariant.1 accepted.0 many c.rows.invariant.0)
 
 pub rows-preserved : goal.rows-preserved
 rows-preserved c =
@@ -45,12 +46,12 @@ rows-preserved c =
     let arc = arc_in-numbered c.rows.nodes.keys (record_at c.args.rows.now c.rows.row) c.in_ok-from.from c.in_ok-to.to c.in_ok-named.named.seconds (rw (c.in_ok-from.ensures.nodes, accepted.1) at c.in_ok-from.ensures.index)
     (rw (nodes, accepted.2) at c.in_ok-to.ensures.index) accepted.3 in
     rw nodes (
-      inv.0 ∙ first_refusal-next c.args.rows.now.records c.rows.row c.rows.nodes.keys within accepted.0 few,
+      first_refusal-next c.args.rows.now.records c.rows.row c.rows.nodes.keys within inv.1 accepted.0 few inv.0,
       nodes_of-more c.args.rows.now.records c.rows.row c.rows.nodes.keys within inv.1,
       few,
       pushed ∙ arcs-more c.args.rows.now.records c.rows.row c.rows.nodes.keys c.rows.arcs.items (record { from = c.in_ok-from.from; to = c.in_ok-to.to; seconds = c.in_ok-named.named.seconds }) within inv.4 inv.3 arc,
       All-numbered-more c.args.rows.now.records c.rows.row c.rows.nodes.keys within inv.4,
-      All-more (λ fields. seconds_in fields ≤ longest_arc) c.args.rows.now.records c.rows.row [] within inv.5 (rw (← accepted.3) small.2),
+      All-more (λ fields. arc_seconds fields ≤ longest_arc) c.args.rows.now.records c.rows.row [] within inv.5 (rw (← accepted.3) small.2),
       All-with_node (λ name. name ≤ greatest_name) _ _ (All-with_node (λ name. name ≤ greatest_name) c.rows.nodes.keys _ inv.6 (rw (← accepted.1) small.0)) (rw (← accepted.2) small.1),
     )
 
@@ -67,7 +68,7 @@ returns-in-Ok-clause-network c =
     let whole = take_all c.rows.row c.args.rows.now.records all in
     let nodes = rw whole at inv.1 in
     let arcs = rw (whole, nodes) at (c.as_slice.ensures.value ∙ inv.3) in
-    let accepted = network_of-accepted c.args.rows.now.records few (inv.0 ∙ first_refusal-end c.args.rows.now.records c.rows.row c.rows.nodes.keys all) in
+    let accepted = network_of-accepted c.args.rows.now.records few (first_refusal-end c.args.rows.now.records c.rows.row all inv.0) in
     let network = rw (arcs, nodes) at c.in-Ok.ensures in
     accepted ∙ ap Ok (sym network)
 

@@ -1,5 +1,5 @@
 use Rattle.std.proofs.Common.{◌∙◌}
-use Rattle.pool_io.proofs.TableLemmas.{columns-table_of}
+use Rattle.pool_io.proofs.lemmas.TableLemmas.{columns-table_of}
 use Rattle.script_rows.proofs.tests.read.Goals as goal
 
 pub read_script-requires : goal.read_script-requires

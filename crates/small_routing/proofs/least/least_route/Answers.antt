@@ -1,11 +1,11 @@
-use Rattle.std.proofs.Common.{ap, ℕ, ◌≤◌, List, Option, None, Some}
+use Rattle.std.proofs.Common.{ℕ, ◌≤◌, List, Option, None, Some}
 use Rattle.std.specs.Prelude.{IfSome, IfNone}
 use Rattle.pool_base.specs.Times.{point_count, travel_time}
 use Rattle.stop_orders.specs.declared.route.Route.{Route}
 use Rattle.stop_orders.specs.declared.stop.Stop.{Stop}
 use Rattle.stop_orders.specs.declared.task.Task.{Task}
 use Rattle.stop_orders.specs.Task.{Serves, order_delay}
-use Rattle.stop_orders.specs.Plain.{NoneBetter}
+use Rattle.stop_orders.specs.work.Plain.{NoneBetter}
 use Rattle.small_routing.proofs.LabelLemmas.{small_first, left_first, leads_first}
 use Rattle.small_routing.proofs.SearchLemmas.{least_none}
 use Rattle.small_routing.proofs.least.least_route.Goals as goal
@@ -21,16 +21,16 @@ none_of tau task None h = h
 none_of tau task (Some route) h = tt
 
 pub search-requires-clause-leads : goal.search-requires-clause-leads
-search-requires-clause-leads c = leads_first (point_count c.args.times.now) (travel_time c.args.times.now) c.args.times.now.table.times c.args.task.now c.requires.valid c.none.result c.first_position_of-first.result.room c.new-path.result.items c.none.ensures (ap (λ p. p.room) c.first_position_of-first.ensures) c.new-path.ensures
+search-requires-clause-leads c = leads_first (point_count c.args.times.now) (travel_time c.args.times.now) c.args.times.now.table.times c.args.task.now c.requires.valid c.none.result c.free_seats_of.result c.new-path.result.items c.none.ensures c.free_seats_of.ensures c.new-path.ensures
 
 pub search-requires-clause-small : goal.search-requires-clause-small
-search-requires-clause-small c = small_first (point_count c.args.times.now) (travel_time c.args.times.now) c.args.times.now.table.times c.args.task.now c.requires.valid c.none.result c.first_position_of-first.result.room c.none.ensures (ap (λ p. p.room) c.first_position_of-first.ensures)
+search-requires-clause-small c = small_first (point_count c.args.times.now) (travel_time c.args.times.now) c.args.times.now.table.times c.args.task.now c.requires.valid c.none.result c.free_seats_of.result c.none.ensures c.free_seats_of.ensures
 
 pub search-requires-clause-room : goal.search-requires-clause-room
 search-requires-clause-room c = left_first (point_count c.args.times.now) (travel_time c.args.times.now) c.args.times.now.table.times c.args.task.now c.requires.valid c.none.result c.new-path.result.items c.new-path.ensures
 
 pub returns-clause-least : goal.returns-clause-least
-returns-clause-least c = least_of _ _ _ (least_none (point_count c.args.times.now) (travel_time c.args.times.now) c.args.task.now c.none.result c.first_position_of-first.result.room c.search.new.best c.none.ensures (ap (λ p. p.room) c.first_position_of-first.ensures) c.in_ok-search.ensures.searched.exhausted)
+returns-clause-least c = least_of _ _ _ (least_none (point_count c.args.times.now) (travel_time c.args.times.now) c.args.task.now c.none.result c.free_seats_of.result c.search.new.best c.none.ensures c.free_seats_of.ensures c.in_ok-search.ensures.searched.exhausted)
 
 pub returns-clause-none : goal.returns-clause-none
-returns-clause-none c = none_of _ _ _ (least_none (point_count c.args.times.now) (travel_time c.args.times.now) c.args.task.now c.none.result c.first_position_of-first.result.room c.search.new.best c.none.ensures (ap (λ p. p.room) c.first_position_of-first.ensures) c.in_ok-search.ensures.searched.exhausted)
+returns-clause-none c = none_of _ _ _ (least_none (point_count c.args.times.now) (travel_time c.args.times.now) c.args.task.now c.none.result c.free_seats_of.result c.search.new.best c.none.ensures c.free_seats_of.ensures c.in_ok-search.ensures.searched.exhausted)

@@ -5,13 +5,14 @@ use Rattle.std.proofs.lemmas.List.{take_all, get_or_default}
 use Rattle.std.proofs.lemmas.List.Elements.{All-push}
 use Rattle.pool_base.specs.Times.{point_count, travel_time}
 use Rattle.stop_orders.specs.declared.stop.Stop.TheVariants.{Pick}
-use Rattle.stop_orders.specs.Done.{with_stop, left_count}
-use Rattle.stop_orders.proofs.DoneLemmas.{left_count-falls}
-use Rattle.stop_orders.proofs.PlainLemmas.{IsAllDone-at, IsAllDone-not_at, path_back}
+use Rattle.stop_orders.specs.Done.{with_stop}
+use Rattle.stop_orders.specs.work.Rest.{left_count}
+use Rattle.stop_orders.proofs.lemmas.DoneLemmas.{left_count-falls}
+use Rattle.stop_orders.proofs.lemmas.PlainLemmas.{IsAllDone-at, IsAllDone-not_at, path_back}
 use Rattle.small_routing.specs.declared.candidate.Candidate.{Candidate}
-use Rattle.small_routing.specs.Label.{rider_count, passenger_count, IsSmall}
-use Rattle.small_routing.specs.Kept.{labels_of, IsPlaced}
-use Rattle.small_routing.specs.Search.{LeadsTo, IsCandidate, IsTried, IsSettled, Searched}
+use Rattle.small_routing.specs.work.Label.{task_riders, task_passengers, IsSmallLabel}
+use Rattle.small_routing.specs.work.Kept.{labels_of, IsLabelPlaced}
+use Rattle.small_routing.specs.work.Search.{LeadsTo, IsCandidate, IsTried, IsLabelDone, Searched}
 use Rattle.small_routing.proofs.LabelLemmas.{known_next, small_next, leads_next}
 use Rattle.small_routing.proofs.SearchLemmas.{searched_better, searched_no_better, exhausted_tried, tried_searched, tries_more}
 use Rattle.small_routing.proofs.search.+try_all.Goals as goal
@@ -35,7 +36,7 @@ pub returns-then-is_better-clause-searched : goal.returns-then-is_better-clause-
 returns-then-is_better-clause-searched t c =
     let task = c.args.task.now in
     let label = c.args.label.now in
-    let all = IsAllDone-at _ _ (rider_count task) (passenger_count task) label.done c.len.ensures.value c.len-2.ensures.value (c.is_all.ensures.0 c.if-is_all.true) in
+    let all = IsAllDone-at _ _ (task_riders task) (task_passengers task) label.done c.len.ensures.value c.len-2.ensures.value (c.is_all.ensures.0 c.if-is_all.true) in
     let same : c.copy_of.result.items ≡ c.args.path.now.items = c.copy_of.ensures ∙ c.deref.ensures.0 in
     searched_better (point_count c.args.times.now) (travel_time c.args.times.now) c.args.times.now.table.times task c.requires.valid c.args.path.now.items c.args.path.now.items label c.args.best.now
     (record { stops = c.copy_of.result; delay = label.delay }) (labels_of c.args.kept.now) c.requires.leads all same refl (λ n. true≢false (sym c.if-is_better.true ∙ c.is_better.ensures.1 n)) c.requires.settled
@@ -46,7 +47,7 @@ label_after-requires-clause-known t c =
     let label = c.args.label.now in
     let is = candidate_at (IsCandidate (travel_time c.args.times.now) task label) c.candidates_after-candidates.result.items c.as_slice-candidate-items.result.now c.loop-candidate.candidate-index (get_or c.as_slice-candidate-items.result.now c.loop-candidate.candidate-index no_candidate)
     c.as_slice-candidate-items.ensures.value c.loop-candidate-test.true (read_again c.as_slice-candidate-items.result.now c.loop-candidate.candidate-index c.loop-candidate-test.true) c.candidates_after-candidates.ensures.each in
-    known_next (rider_count task) (passenger_count task) label.done (get_or c.as_slice-candidate-items.result.now c.loop-candidate.candidate-index no_candidate).stop is.next
+    known_next (task_riders task) (task_passengers task) label.done (get_or c.as_slice-candidate-items.result.now c.loop-candidate.candidate-index no_candidate).stop is.next
 
 pub loop-candidate-preserved-in_default : goal.loop-candidate-preserved-in_default
 loop-candidate-preserved-in_default t c =
@@ -65,9 +66,9 @@ is_hopeless-requires-clause-small t c =
     let s = (get_or c.as_slice-candidate-items.result.now c.loop-candidate.candidate-index no_candidate).stop in
     let is = candidate_at (IsCandidate tau task label) c.candidates_after-candidates.result.items c.as_slice-candidate-items.result.now c.loop-candidate.candidate-index (get_or c.as_slice-candidate-items.result.now c.loop-candidate.candidate-index no_candidate)
     c.as_slice-candidate-items.ensures.value c.loop-candidate-test.true (read_again c.as_slice-candidate-items.result.now c.loop-candidate.candidate-index c.loop-candidate-test.true) c.candidates_after-candidates.ensures.each in
-    let fall = left_count-falls (rider_count task) (passenger_count task) label.done c.requires.valid.rider_count s is.next in
-    subst (λ l. IsSmall points (left_count (rider_count task) (passenger_count task) l.done) l) (sym c.in-Some.ensures.1)
-    (small_next points tau c.args.times.now.table.times task c.requires.valid label s (left_count (rider_count task) (passenger_count task) label.done) (left_count (rider_count task) (passenger_count task) (with_stop label.done s)) c.requires.small fall is.next is.can)
+    let fall = left_count-falls (task_riders task) (task_passengers task) label.done c.requires.valid.rider_count s is.next in
+    subst (λ l. IsSmallLabel points (left_count (task_riders task) (task_passengers task) l.done) l) (sym c.in-Some.ensures.1)
+    (small_next points tau c.args.times.now.table.times task c.requires.valid label s (left_count (task_riders task) (task_passengers task) label.done) (left_count (task_riders task) (task_passengers task) (with_stop label.done s)) c.requires.small fall is.next is.can)
 
 pub loop-candidate-preserved-then-is_hopeless : goal.loop-candidate-preserved-then-is_hopeless
 loop-candidate-preserved-then-is_hopeless t c =
@@ -93,7 +94,7 @@ push-requires t c =
     let label = c.args.label.now in
     let is = candidate_at (IsCandidate (travel_time c.args.times.now) task label) c.candidates_after-candidates.result.items c.as_slice-candidate-items.result.now c.loop-candidate.candidate-index (get_or c.as_slice-candidate-items.result.now c.loop-candidate.candidate-index no_candidate)
     c.as_slice-candidate-items.ensures.value c.loop-candidate-test.true (read_again c.as_slice-candidate-items.result.now c.loop-candidate.candidate-index c.loop-candidate-test.true) c.candidates_after-candidates.ensures.each in
-    let fall = left_count-falls (rider_count task) (passenger_count task) label.done c.requires.valid.rider_count (get_or c.as_slice-candidate-items.result.now c.loop-candidate.candidate-index no_candidate).stop is.next in
+    let fall = left_count-falls (task_riders task) (task_passengers task) label.done c.requires.valid.rider_count (get_or c.as_slice-candidate-items.result.now c.loop-candidate.candidate-index no_candidate).stop is.next in
     let same : length c.loop-candidate.path.items ≡ length c.args.path.now.items = ap length c.loop-candidate.invariant.same in
     let room : length c.loop-candidate.path.items < 22 = omega (arith, c.requires.room, fall, same) in
     (omega arith, room)
@@ -109,22 +110,22 @@ try_all-requires t c =
     let s = candidate.stop in
     let is = candidate_at (IsCandidate tau task label) c.candidates_after-candidates.result.items c.as_slice-candidate-items.result.now c.loop-candidate.candidate-index (get_or c.as_slice-candidate-items.result.now c.loop-candidate.candidate-index no_candidate)
     c.as_slice-candidate-items.ensures.value c.loop-candidate-test.true (read_again c.as_slice-candidate-items.result.now c.loop-candidate.candidate-index c.loop-candidate-test.true) c.candidates_after-candidates.ensures.each in
-    let fall = left_count-falls (rider_count task) (passenger_count task) label.done c.requires.valid.rider_count s is.next in
+    let fall = left_count-falls (task_riders task) (task_passengers task) label.done c.requires.valid.rider_count s is.next in
     let pushed : c.push.new.self.items ≡ c.args.path.now.items ++ s ∷ [] = c.push.ensures.items ∙ ap (λ xs. xs ++ s ∷ []) c.loop-candidate.invariant.same in
     let longer : length c.push.new.self.items ≡ length c.args.path.now.items + 1 = ap length pushed ∙ length-append c.args.path.now.items (s ∷ []) in
-    let left : left_count (rider_count task) (passenger_count task) c.in-Some.next.done + 1 ≤ left_count (rider_count task) (passenger_count task) label.done =
-    subst (λ l. left_count (rider_count task) (passenger_count task) l.done + 1 ≤ left_count (rider_count task) (passenger_count task) label.done) (sym c.in-Some.ensures.1) fall in
+    let left : left_count (task_riders task) (task_passengers task) c.in-Some.next.done + 1 ≤ left_count (task_riders task) (task_passengers task) label.done =
+    subst (λ l. left_count (task_riders task) (task_passengers task) l.done + 1 ≤ left_count (task_riders task) (task_passengers task) label.done) (sym c.in-Some.ensures.1) fall in
     let measure = c.decreases in
-    let less : left_count (rider_count task) (passenger_count task) c.in-Some.next.done < t = omega (arith, left, measure) in
+    let less : left_count (task_riders task) (task_passengers task) c.in-Some.next.done < t = omega (arith, left, measure) in
     let leads = leads_next points tau time task c.requires.valid label c.args.path.now.items s c.requires.leads is.next is.can in
-    let small = small_next points tau time task c.requires.valid label s (left_count (rider_count task) (passenger_count task) label.done) (left_count (rider_count task) (passenger_count task) (with_stop label.done s)) c.requires.small fall is.next is.can in (
+    let small = small_next points tau time task c.requires.valid label s (left_count (task_riders task) (task_passengers task) label.done) (left_count (task_riders task) (task_passengers task) (with_stop label.done s)) c.requires.small fall is.next is.can in (
       less,
       (
         c.requires.valid,
         (
           subst (λ p. LeadsTo tau task p c.in-Some.next) (sym pushed) (subst (λ l. LeadsTo tau task (c.args.path.now.items ++ s ∷ []) l) (sym c.in-Some.ensures.1) leads),
           (
-            subst (λ l. IsSmall points (left_count (rider_count task) (passenger_count task) l.done) l) (sym c.in-Some.ensures.1) small,
+            subst (λ l. IsSmallLabel points (left_count (task_riders task) (task_passengers task) l.done) l) (sym c.in-Some.ensures.1) small,
             (
               omega (arith, left, longer, c.requires.room),
               (c.loop-candidate.invariant.found, c.loop-candidate.invariant.settled),
@@ -153,6 +154,24 @@ loop-candidate-preserved t c =
     tries_more points tau task label c.in-Some.next path c.loop-candidate.path.items c.pop.new.self.items c.args.best.now c.loop-candidate.best c.try_all.new.best (labels_of c.loop-candidate.kept) (labels_of c.try_all.new.kept)
     c.as_slice-candidate-items.result.now c.loop-candidate.candidate-index candidate c.loop-candidate-test.true (read_again c.as_slice-candidate-items.result.now c.loop-candidate.candidate-index c.loop-candidate-test.true) back searched tried c.loop-candidate.invariant
 
+pub returns-then-not-is_of_use-clause-searched : goal.returns-then-not-is_of_use-clause-searched
+returns-then-not-is_of_use-clause-searched t c =
+    let task = c.args.task.now in
+    let label = c.args.label.now in
+    let tau = travel_time c.args.times.now in
+    let points = point_count c.args.times.now in
+    let time = c.args.times.now.table.times in
+    let more = IsAllDone-not_at _ _ _ (task_riders task) (task_passengers task) label.done c.len.ensures.value c.len-2.ensures.value c.is_all.ensures c.if-is_all.false in
+    let inv = c.loop-candidate.invariant in
+    let best = c.loop-candidate.best in
+    let tried = subst (λ xs. All (λ c. IsTried tau task best label c.stop) xs) (take_all c.loop-candidate.candidate-index c.as_slice-candidate-items.result.now c.loop-candidate-test.false ∙ c.as_slice-candidate-items.ensures.value) inv.tried in
+    record {
+      found = inv.found;
+      good = inv.good;
+      exhausted = exhausted_tried points tau time task c.requires.valid label best c.candidates_after-candidates.result.items more c.candidates_after-candidates.ensures tried;
+      settled = inv.settled;
+    }
+
 pub returns-clause-searched : goal.returns-clause-searched
 returns-clause-searched t c =
     let task = c.args.task.now in
@@ -160,17 +179,17 @@ returns-clause-searched t c =
     let tau = travel_time c.args.times.now in
     let points = point_count c.args.times.now in
     let time = c.args.times.now.table.times in
-    let more = IsAllDone-not_at _ _ _ (rider_count task) (passenger_count task) label.done c.len.ensures.value c.len-2.ensures.value c.is_all.ensures c.if-is_all.false in
+    let more = IsAllDone-not_at _ _ _ (task_riders task) (task_passengers task) label.done c.len.ensures.value c.len-2.ensures.value c.is_all.ensures c.if-is_all.false in
     let inv = c.loop-candidate.invariant in
     let best = c.loop-candidate.best in
     let tried = subst (λ xs. All (λ c. IsTried tau task best label c.stop) xs) (take_all c.loop-candidate.candidate-index c.as_slice-candidate-items.result.now c.loop-candidate-test.false ∙ c.as_slice-candidate-items.ensures.value) inv.tried in
     let exhausted = exhausted_tried points tau time task c.requires.valid label best c.candidates_after-candidates.result.items more c.candidates_after-candidates.ensures tried in
     let free : label.free ≤ 30000000000 = omega (arith, c.requires.small.free) in
-    let placed : IsPlaced points label = record { place = c.requires.small.place; free = free } in
-    let settled : IsSettled points tau task best label = record { placed = placed; exhausted = exhausted } in
+    let placed : IsLabelPlaced points label = record { place = c.requires.small.place; free = free } in
+    let settled : IsLabelDone points tau task best label = record { placed = placed; exhausted = exhausted } in
     on_ok c.keep.result (labels_of c.keep.new.self ≡ labels_of c.loop-candidate.kept ++ label ∷ []) (Searched points tau task label c.args.best.now best (labels_of c.keep.new.self)) (λ e. record {
       found = inv.found;
       good = inv.good;
       exhausted = exhausted;
-      settled = subst (λ ls. All (IsSettled points tau task best) ls) (sym e) (All-push (IsSettled points tau task best) (labels_of c.loop-candidate.kept) label inv.settled settled);
+      settled = subst (λ ls. All (IsLabelDone points tau task best) ls) (sym e) (All-push (IsLabelDone points tau task best) (labels_of c.loop-candidate.kept) label inv.settled settled);
     }) c.keep.ensures

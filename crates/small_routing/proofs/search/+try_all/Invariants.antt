@@ -1,8 +1,8 @@
 use Rattle.std.proofs.Common.{take}
 use Rattle.pool_base.specs.Times.{point_count, travel_time}
-use Rattle.stop_orders.specs.Done.{left_count}
-use Rattle.small_routing.specs.Label.{rider_count, passenger_count}
-use Rattle.small_routing.specs.Kept.{labels_of}
+use Rattle.stop_orders.specs.work.Rest.{left_count}
+use Rattle.small_routing.specs.work.Label.{task_riders, task_passengers}
+use Rattle.small_routing.specs.work.Kept.{labels_of}
 use Rattle.small_routing.proofs.SearchLemmas.{TriesAll}
 use Rattle.small_routing.proofs.search.+try_all.Given as goal
 
@@ -10,4 +10,4 @@ abbrev pub invariant-loop-candidate : goal.invariant-loop-candidate
 invariant-loop-candidate l = TriesAll (point_count l.times) (travel_time l.times) l.task l.label l.fn.path.items l.path.items l.fn.best l.best (labels_of l.kept) (take l.candidate-index l.candidate-items)
 
 abbrev pub decreases-try_all : goal.decreases-try_all
-decreases-try_all l = left_count (rider_count l.task.now) (passenger_count l.task.now) l.label.now.done
+decreases-try_all l = left_count (task_riders l.task.now) (task_passengers l.task.now) l.label.now.done

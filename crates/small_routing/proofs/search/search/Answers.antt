@@ -1,5 +1,5 @@
 use Rattle.pool_base.specs.Times.{point_count, travel_time}
-use Rattle.small_routing.specs.Kept.{labels_of}
+use Rattle.small_routing.specs.work.Kept.{labels_of}
 use Rattle.small_routing.proofs.SearchLemmas.{searched_no_better}
 use Rattle.small_routing.proofs.search.search.Goals as goal
 

@@ -5,8 +5,8 @@ use Rattle.pool_base.specs.Times.{point_count, travel_time}
 use Rattle.stop_orders.specs.declared.route.Route.{Route}
 use Rattle.stop_orders.specs.declared.stop.Stop.{Stop}
 use Rattle.stop_orders.specs.Task.{Serves, ReachesAll, IsOrderOf, order_delay}
-use Rattle.small_routing.specs.Label.{IsRoutable}
-use Rattle.small_routing.specs.Unlimited.{without_limits}
+use Rattle.small_routing.specs.work.Label.{IsRoutable}
+use Rattle.small_routing.specs.work.Unlimited.{without_limits}
 use Rattle.small_routing.proofs.UnlimitedLemmas.{routable_unlimited, unlimited_order, unlimited_reaches, unlimited_delay, unlimited_least, unlimited_none}
 use Rattle.small_routing.proofs.unlimited.least_delay_unlimited.Goals as goal
 

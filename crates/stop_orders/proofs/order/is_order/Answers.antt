@@ -3,8 +3,9 @@ use Rattle.std.proofs.lemmas.List.{drop_more}
 use Rattle.stop_orders.specs.declared.stop.Stop.{Stop}
 use Rattle.stop_orders.specs.declared.stop.Stop.TheVariants.{Pick}
 use Rattle.stop_orders.specs.Order.{IsOrder}
-use Rattle.stop_orders.specs.Done.{Completes, IsNext, with_stop}
-use Rattle.stop_orders.proofs.DoneLemmas.{Completes-none, IsOrder-from_none, Completes-front, Completes-back}
+use Rattle.stop_orders.specs.Done.{IsNextStop, with_stop}
+use Rattle.stop_orders.specs.work.Rest.{Completes}
+use Rattle.stop_orders.proofs.lemmas.DoneLemmas.{Completes-none, IsOrder-from_none, Completes-front, Completes-back}
 use Rattle.stop_orders.proofs.order.is_order.Invariants.{Scans}
 use Rattle.stop_orders.proofs.order.is_order.Goals as goal
 
@@ -16,7 +17,7 @@ scan_none riders passengers done stops few seated e = record {
   from = λ c. IsOrder-from_none riders passengers stops (subst (λ d. Completes riders passengers d stops) e c);
 }
 
-scan_more : (riders passengers done after i : ℕ) (stops : List Stop) → i < length stops → IsNext riders passengers done (get_or stops i (Pick 0)) → after ≡ with_stop done (get_or stops i (Pick 0))
+scan_more : (riders passengers done after i : ℕ) (stops : List Stop) → i < length stops → IsNextStop riders passengers done (get_or stops i (Pick 0)) → after ≡ with_stop done (get_or stops i (Pick 0))
     → Scans riders passengers done stops (drop i stops) → Scans riders passengers after stops (drop (i + 1) stops)
 scan_more riders passengers done after i stops h next e s =
     let split : drop i stops ≡ get_or stops i (Pick 0) ∷ drop (i + 1) stops = drop_more stops i (Pick 0) h in
@@ -31,14 +32,14 @@ scan_more riders passengers done after i stops h next e s =
           s.from (subst (λ xs. Completes riders passengers done xs) (sym split) (Completes-back riders passengers done s.few (get_or stops i (Pick 0)) (drop (i + 1) stops) next there));
     }
 
-scan_next : (riders passengers done i : ℕ) (stops : List Stop) → i < length stops → Scans riders passengers done stops (drop i stops) → IsOrder riders passengers stops → IsNext riders passengers done (get_or stops i (Pick 0))
+scan_next : (riders passengers done i : ℕ) (stops : List Stop) → i < length stops → Scans riders passengers done stops (drop i stops) → IsOrder riders passengers stops → IsNextStop riders passengers done (get_or stops i (Pick 0))
 scan_next riders passengers done i stops h s o =
     let split : drop i stops ≡ get_or stops i (Pick 0) ∷ drop (i + 1) stops = drop_more stops i (Pick 0) h in
     (Completes-front riders passengers done s.few (get_or stops i (Pick 0)) (drop (i + 1) stops) (subst (λ xs. Completes riders passengers done xs) split (s.to o))).0
 
 -- what the test says of the stop, at the true numbers
-next_from : (b : Bool) (riders passengers done n m : ℕ) (stop : Stop) → n ≡ riders → m ≡ passengers → (IsTrue b ↔ IsNext n m done stop) → (IsTrue b ↔ IsNext riders passengers done stop)
-next_from b riders passengers done n m stop e f h = subst (λ k. IsTrue b ↔ IsNext riders k done stop) f (subst (λ k. IsTrue b ↔ IsNext k m done stop) e h)
+next_from : (b : Bool) (riders passengers done n m : ℕ) (stop : Stop) → n ≡ riders → m ≡ passengers → (IsTrue b ↔ IsNextStop n m done stop) → (IsTrue b ↔ IsNextStop riders passengers done stop)
+next_from b riders passengers done n m stop e f h = subst (λ k. IsTrue b ↔ IsNextStop riders k done stop) f (subst (λ k. IsTrue b ↔ IsNextStop k m done stop) e h)
 
 pub loop-stop-init : goal.loop-stop-init
 loop-stop-init c = scan_none _ _ _ _ (omega arith) (omega arith) c.none-done.ensures

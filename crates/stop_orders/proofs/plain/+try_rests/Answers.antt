@@ -5,10 +5,11 @@ use Rattle.stop_orders.specs.declared.stop.Stop.{Stop}
 use Rattle.stop_orders.specs.declared.route.Route.{Route}
 use Rattle.stop_orders.specs.declared.task.Task.{Task}
 use Rattle.stop_orders.specs.Task.{IsOrderOf, Serves, order_delay}
-use Rattle.stop_orders.specs.Done.{stop_with, bit_of, IsNext, with_stop, left_count}
-use Rattle.stop_orders.specs.Plain.{NoneBetter, MakesOrders, AllTried, StaysGood, IsFound}
-use Rattle.stop_orders.proofs.DoneLemmas.{left_count-falls}
-use Rattle.stop_orders.proofs.PlainLemmas.{MakesOrders-all, MakesOrders-next, AllTried-all, AllTried-next, AllTried-kept, IsNext-at, IsNext-not_at, IsAllDone-at, IsAllDone-not_at, stop_with-bit_of, path_back}
+use Rattle.stop_orders.specs.Done.{bit_of, IsNextStop, with_stop}
+use Rattle.stop_orders.specs.work.Rest.{stop_with, left_count}
+use Rattle.stop_orders.specs.work.Plain.{NoneBetter, MakesOrders, AllTried, StaysGood, IsFound}
+use Rattle.stop_orders.proofs.lemmas.DoneLemmas.{left_count-falls}
+use Rattle.stop_orders.proofs.lemmas.PlainLemmas.{MakesOrders-all, MakesOrders-next, AllTried-all, AllTried-next, AllTried-kept, IsNextStop-at, IsNextStop-not_at, IsAllDone-at, IsAllDone-not_at, stop_with-bit_of, path_back}
 use Rattle.stop_orders.proofs.plain.+try_rests.Invariants.{NextTried}
 use Rattle.stop_orders.proofs.plain.+try_rests.Goals as goal
 use Rattle.stop_orders.proofs.plain.+try_rests.Goals.{then-is_next, else-is_next}
@@ -28,7 +29,7 @@ returns-then-is_all-clause-tried t c =
 pub push-requires : goal.push-requires
 push-requires t c =
     let task = c.args.task.now in
-    let next = IsNext-at _ _ (length task.riders.items) (length task.aboard.items) c.args.done c.stop_of-stop.result c.len-riders.ensures.value c.len-passengers.ensures.value (c.is_next.ensures.0 c.if-is_next.true) in
+    let next = IsNextStop-at _ _ (length task.riders.items) (length task.aboard.items) c.args.done c.stop_of-stop.result c.len-riders.ensures.value c.len-passengers.ensures.value (c.is_next.ensures.0 c.if-is_next.true) in
     let fall = left_count-falls (length task.riders.items) (length task.aboard.items) c.args.done c.requires.valid.rider_count c.stop_of-stop.result next in
     let same : length c.loop-k.path.items ≡ length c.args.path.now.items = ap length c.loop-k.invariant.same in
     let room : length c.loop-k.path.items < 22 = omega (arith, c.requires.room, fall, same) in
@@ -38,7 +39,7 @@ pub try_rests-requires : goal.try_rests-requires
 try_rests-requires t c =
     let task = c.args.task.now in
     let s = c.stop_of-stop.result in
-    let next = IsNext-at _ _ (length task.riders.items) (length task.aboard.items) c.args.done s c.len-riders.ensures.value c.len-passengers.ensures.value (c.is_next.ensures.0 c.if-is_next.true) in
+    let next = IsNextStop-at _ _ (length task.riders.items) (length task.aboard.items) c.args.done s c.len-riders.ensures.value c.len-passengers.ensures.value (c.is_next.ensures.0 c.if-is_next.true) in
     let fall = left_count-falls (length task.riders.items) (length task.aboard.items) c.args.done c.requires.valid.rider_count s next in
     let same : c.push.new.self.items ≡ c.args.path.now.items ++ s ∷ [] = c.push.ensures.items ∙ ap (λ xs. xs ++ s ∷ []) c.loop-k.invariant.same in
     let here = MakesOrders-next task c.requires.valid.rider_count c.args.done c.args.path.now.items s next c.requires.orders in
@@ -60,7 +61,7 @@ try_rests-requires t c =
 -- one more stop is tried
 next_tried : (tau : ℕ → ℕ → ℕ) (task : Task) (done k : ℕ) (path before after : List Stop) (first old new : Option Route) → length task.riders.items ≤ 6 → length task.aboard.items ≤ 10 → after ≡ path → IsFound tau task new → StaysGood old new
     → NextTried tau task done path before first old k
-    → (IsNext (length task.riders.items) (length task.aboard.items) done (stop_with k) → AllTried tau task (with_stop done (stop_with k)) (path ++ stop_with k ∷ []) new)
+    → (IsNextStop (length task.riders.items) (length task.aboard.items) done (stop_with k) → AllTried tau task (with_stop done (stop_with k)) (path ++ stop_with k ∷ []) new)
     → NextTried tau task done path after first new (k + 1)
 next_tried tau task done k path before after first old new few seated same found kept so_far here = record {
   same = same;
@@ -69,7 +70,7 @@ next_tried tau task done k path before after first old new few seated same found
   tried = λ s next below. elim (cases_eq (bit_of s) k) [
     | inl e ↦
         let is : stop_with k ≡ s = subst (λ b. stop_with b ≡ s) e (stop_with-bit_of (length task.riders.items) (length task.aboard.items) done few seated s next).0 in
-        subst (λ r. IsNext (length task.riders.items) (length task.aboard.items) done r → AllTried tau task (with_stop done r) (path ++ r ∷ []) new) is here next
+        subst (λ r. IsNextStop (length task.riders.items) (length task.aboard.items) done r → AllTried tau task (with_stop done r) (path ++ r ∷ []) new) is here next
     | inr ne ↦ AllTried-kept task few tau (with_stop done s) (path ++ s ∷ []) old new kept (so_far.tried s next (omega arith))
   ];
 }
@@ -98,8 +99,8 @@ loop-k-preserved t c =
           let best : c.loop-k.best ≡ c.if-is_next.best = sym w.best-is in
           next_tried tau task done c.loop-k.k path c.loop-k.path.items c.if-is_next.path.items c.args.best.now c.loop-k.best c.if-is_next.best few seated (ap (λ v. v.items) w.path-is ∙ c.loop-k.invariant.same)
           (subst (λ b. IsFound tau task b) best c.loop-k.invariant.found) (subst (λ b. StaysGood c.loop-k.best b) best (λ _ g. g)) c.loop-k.invariant
-          (λ next. absurd (IsNext-not_at _ _ _ _ _ done s c.len-riders.ensures.value c.len-passengers.ensures.value c.is_next.ensures w.if-is_next.false
-          (subst (λ r. IsNext (length task.riders.items) (length task.aboard.items) done r) (sym c.stop_of-stop.ensures) next)))
+          (λ next. absurd (IsNextStop-not_at _ _ _ _ _ done s c.len-riders.ensures.value c.len-passengers.ensures.value c.is_next.ensures w.if-is_next.false
+          (subst (λ r. IsNextStop (length task.riders.items) (length task.aboard.items) done r) (sym c.stop_of-stop.ensures) next)))
     ]
 
 pub returns-clause-tried : goal.returns-clause-tried

@@ -3,8 +3,9 @@ use Rattle.pool_base.specs.Times.{travel_time}
 use Rattle.stop_orders.specs.declared.route.Route.{Route}
 use Rattle.stop_orders.specs.declared.stop.Stop.{Stop}
 use Rattle.stop_orders.specs.declared.task.Task.{Task}
-use Rattle.stop_orders.specs.Done.{bit_of, left_count, IsNext, with_stop}
-use Rattle.stop_orders.specs.Plain.{IsFound, StaysGood, AllTried}
+use Rattle.stop_orders.specs.Done.{bit_of, IsNextStop, with_stop}
+use Rattle.stop_orders.specs.work.Rest.{left_count}
+use Rattle.stop_orders.specs.work.Plain.{IsFound, StaysGood, AllTried}
 use Rattle.stop_orders.proofs.plain.+try_rests.Given as goal
 
 -- all next stops with a lower bit were tried
@@ -12,7 +13,7 @@ pub record NextTried (tau : ℕ → ℕ → ℕ) (task : Task) (done : ℕ) (pat
   pub same : now ≡ path
   pub found : IsFound tau task best
   pub kept : StaysGood first best
-  pub tried : (s : Stop) → IsNext (length task.riders.items) (length task.aboard.items) done s → bit_of s < k → AllTried tau task (with_stop done s) (path ++ s ∷ []) best
+  pub tried : (s : Stop) → IsNextStop (length task.riders.items) (length task.aboard.items) done s → bit_of s < k → AllTried tau task (with_stop done s) (path ++ s ∷ []) best
 
 abbrev pub invariant-loop-k : goal.invariant-loop-k
 invariant-loop-k l = NextTried (travel_time l.times) l.task l.done l.fn.path.items l.path.items l.fn.best l.best l.k

@@ -1,4 +1,4 @@
-use Rattle.stop_orders.proofs.PlainLemmas.{ReachesAll-from_serves}
+use Rattle.stop_orders.proofs.lemmas.PlainLemmas.{ReachesAll-from_serves}
 use Rattle.stop_orders.proofs.plain.keep_better.Goals as goal
 
 pub returns-in_default-clause-tried : goal.returns-in_default-clause-tried

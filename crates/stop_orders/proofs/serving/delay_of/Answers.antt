@@ -1,4 +1,4 @@
-use Rattle.stop_orders.proofs.ScanLemmas.{delay_first}
+use Rattle.stop_orders.proofs.lemmas.ScanLemmas.{delay_first}
 use Rattle.stop_orders.proofs.serving.delay_of.Goals as goal
 
 pub loop-stop-init : goal.loop-stop-init

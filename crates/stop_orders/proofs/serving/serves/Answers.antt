@@ -2,8 +2,8 @@ use Rattle.std.proofs.Common.{◌≡◌, ◌+◌, get_or, drop, subst}
 use Rattle.std.proofs.lemmas.List.{drop_more}
 use Rattle.pool_base.specs.Times.{point_count, travel_time}
 use Rattle.stop_orders.specs.declared.stop.Stop.TheVariants.{Pick}
-use Rattle.stop_orders.specs.Position.{CanServe, position_after}
-use Rattle.stop_orders.proofs.ScanLemmas.{ServingScan, serving_first, serving_next}
+use Rattle.stop_orders.specs.work.Position.{CanVisitFrom, position_after}
+use Rattle.stop_orders.proofs.lemmas.ScanLemmas.{ServingScan, serving_first, serving_next}
 use Rattle.stop_orders.proofs.serving.serves.Goals as goal
 
 pub loop-stop-init : goal.loop-stop-init
@@ -17,5 +17,5 @@ loop-stop-preserved c =
     let i = c.loop-stop.stop-index in
     let here = c.loop-stop.position in
     let scan = subst (λ rest. ServingScan (point_count c.args.times.now) tau task stops rest here) (drop_more stops i (Pick 0) c.loop-stop-test.true) c.loop-stop.invariant in
-    let served = subst (λ v. CanServe tau here v × (c.in-Some.next ≡ position_after tau task.dwell here v)) c.visit_of-visit.ensures c.in-Some.ensures in
+    let served = subst (λ v. CanVisitFrom tau here v × (c.in-Some.next ≡ position_after tau task.dwell here v)) c.visit_of-visit.ensures c.in-Some.ensures in
     serving_next _ tau task stops c.requires.valid (get_or stops i (Pick 0)) (drop (i + 1) stops) here c.in-Some.next scan served.0 served.1

@@ -11,8 +11,8 @@ use Rattle.stop_orders.specs.declared.stop.Stop.TheVariants.{Pick}
 use Rattle.stop_orders.specs.Order.{IsKnown}
 use Rattle.stop_orders.specs.Visit.{place_of}
 use Rattle.stop_orders.specs.Task.{IsTask, visit_at, ReachesAll, seconds_of}
-use Rattle.stop_orders.proofs.VisitLemmas.{visit_place}
-use Rattle.stop_orders.proofs.ScanLemmas.{SecondScan, second_first, second_next, second_stuck, second_last}
+use Rattle.stop_orders.proofs.lemmas.VisitLemmas.{visit_place}
+use Rattle.stop_orders.proofs.lemmas.ScanLemmas.{SecondScan, second_first, second_next, second_stuck, second_last}
 use Rattle.stop_orders.proofs.serving.stop_second.Goals as goal
 
 within_both : (k i : ℕ) (stops : List Stop) → i < length (take k stops) → (i < k) × (i < length stops)

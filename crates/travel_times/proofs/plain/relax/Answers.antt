@@ -1,7 +1,7 @@
 use Rattle.std.proofs.Common.{◌≡◌, ◌<◌, length, get_or, inl, inr, refl, arith}
 use Rattle.std.proofs.lemmas.List.{get_or_default}
 use Rattle.road_network.specs.declared.hop.Hop.{Hop}
-use Rattle.travel_times.proofs.SearchLemmas.{Relaxes-take, Relaxes-skip}
+use Rattle.travel_times.proofs.SearchLemmas.{RelaxesHops-take, RelaxesHops-skip}
 use Rattle.travel_times.proofs.plain.relax.Goals as goal
 use Rattle.travel_times.proofs.plain.relax.Goals.{then-through-seconds+then-through-le-LONGEST, else-through-seconds, else-through-seconds-via-then-through-seconds+else-through-le-LONGEST, else-through-seconds-via-else-through-seconds}
 
@@ -21,10 +21,10 @@ loop-hop-preserved c =
     elim c.if-through-seconds.branch [
       | then-through-seconds+then-through-le-LONGEST w ↦
           rw (w.seconds-is, w.waiting-is)
-          (Relaxes-take inv {hop = get_or hops i none} inside read refl w.if-through-le-LONGEST.true w.if-through-seconds.true within (omega arith))
+          (RelaxesHops-take inv {hop = get_or hops i none} inside read refl w.if-through-le-LONGEST.true w.if-through-seconds.true within (omega arith))
       | else-through-seconds w ↦
           rw (w.seconds-is, w.waiting-is)
-          (Relaxes-skip inv {hop = get_or hops i none} inside read (elim w.else-through-seconds.branch [
+          (RelaxesHops-skip inv {hop = get_or hops i none} inside read (elim w.else-through-seconds.branch [
             | else-through-seconds-via-then-through-seconds+else-through-le-LONGEST v ↦ inr (omega (arith, v.if-through-le-LONGEST.false))
             | else-through-seconds-via-else-through-seconds v ↦ inl (omega (arith, v.if-through-seconds.false))
           ]))

@@ -1,5 +1,5 @@
-use Rattle.travel_times.specs.Search.{Relaxes}
+use Rattle.travel_times.specs.work.Search.{RelaxesHops}
 use Rattle.travel_times.proofs.plain.relax.Given as goal
 
 abbrev pub invariant-loop-hop : goal.invariant-loop-hop
-invariant-loop-hop l = Relaxes l.hops l.hop-index l.here l.initial.seconds l.initial.waiting l.seconds l.waiting
+invariant-loop-hop l = RelaxesHops l.hops l.hop-index l.here l.initial.seconds l.initial.waiting l.seconds l.waiting

@@ -3,8 +3,8 @@ use Rattle.std.specs.Vec.{with_item}
 use Rattle.std.proofs.lemmas.List.{with_items_is, get_or_read, get_or-replicate, length-replicate}
 use Rattle.pool_base.specs.TravelTime.{never}
 use Rattle.road_network.specs.Roads.{hop_of, leaving}
-use Rattle.travel_times.specs.Search.{IsTaken, Relaxes}
-use Rattle.travel_times.proofs.SearchLemmas.{IsSearching-start, IsSearching-step, IsTimeBetween-settled, IsTaken-set, hops_among, none_waits}
+use Rattle.travel_times.specs.work.Search.{IsNextTaken, RelaxesHops}
+use Rattle.travel_times.proofs.SearchLemmas.{IsSearching-start, IsSearching-step, IsTimeBetween-settled, IsNextTaken-set, hops_among, none_waits}
 use Rattle.travel_times.proofs.plain.seconds_from.Goals as goal
 
 pub loop-node-init : goal.loop-node-init
@@ -31,14 +31,14 @@ loop-node-preserved c =
     let inv = c.loop-node.invariant.0 in
     let node = c.in-Some.node in
     let some = rw c.deref.ensures.value at c.in-Some.ensures.some in
-    let taken : IsTaken w.items (set w.items node false) node = IsTaken-set w.items node some.0 some.1 in
+    let taken : IsNextTaken w.items (set w.items node false) node = IsNextTaken-set w.items node some.0 some.1 in
     let within : c.in-Some.node < length c.loop-node.seconds.items =
     let a : length c.loop-node.seconds.items ≡ length c.args.network.now.nodes = inv.seconds_length in
     let b : length c.loop-node.waiting.items ≡ length c.args.network.now.nodes = inv.waiting_length in
     let d : c.in-Some.node < length c.loop-node.waiting.items = taken.within in
     omega arith in
     let here : c.index-here.result.now ≡ slice_index s.items node = get_or_read s.items node c.index-here.result.now within c.index-here.ensures 0 in
-    let relaxes : Relaxes (map hop_of (leaving node roads.arcs)) (length (map hop_of (leaving node roads.arcs))) (slice_index s.items node) s.items (set w.items node false) c.relax.new.seconds c.relax.new.waiting =
+    let relaxes : RelaxesHops (map hop_of (leaving node roads.arcs)) (length (map hop_of (leaving node roads.arcs))) (slice_index s.items node) s.items (set w.items node false) c.relax.new.seconds c.relax.new.waiting =
     rw (c.arcs_from.ensures, here, c.deref_mut.ensures.value, c.deref_mut-in-Some.ensures.value) at c.relax.ensures in
     let seconds_length : length c.relax.new.seconds ≡ s.len = omega (arith, relaxes.seconds_length, s.ok.0) in
     let waiting_length : length c.relax.new.waiting ≡ w.len = omega (arith, relaxes.waiting_length, taken.same_length, w.ok.0) in (

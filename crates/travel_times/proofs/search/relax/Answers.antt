@@ -1,6 +1,6 @@
 use Rattle.std.proofs.Common.{◌≡◌, ◌+◌, ◌<◌, length, get_or, inl, inr, arith}
 use Rattle.road_network.specs.declared.hop.Hop.{Hop}
-use Rattle.travel_times.proofs.SearchLemmas.{Relaxes-take, Relaxes-skip}
+use Rattle.travel_times.proofs.SearchLemmas.{RelaxesHops-take, RelaxesHops-skip}
 use Rattle.travel_times.proofs.search.relax.Goals as goal
 use Rattle.travel_times.proofs.search.relax.Goals.{then-through-seconds+then-through-le-LONGEST+in_ok-push, else-through-seconds, else-through-seconds-via-then-through-seconds+else-through-le-LONGEST, else-through-seconds-via-else-through-seconds}
 
@@ -21,10 +21,10 @@ loop-hop-preserved c =
     elim c.if-through-seconds.branch [
       | then-through-seconds+then-through-le-LONGEST+in_ok-push w ↦
           rw (w.seconds-is, w.waiting-is, c.to-to.ensures)
-          (Relaxes-take inv {hop = hop} inside read through w.if-through-le-LONGEST.true (rw c.to-to.ensures at w.if-through-seconds.true) within (omega arith))
+          (RelaxesHops-take inv {hop = hop} inside read through w.if-through-le-LONGEST.true (rw c.to-to.ensures at w.if-through-seconds.true) within (omega arith))
       | else-through-seconds w ↦
           rw (w.seconds-is, w.waiting-is)
-          (Relaxes-skip inv {hop = hop} inside read (elim w.else-through-seconds.branch [
+          (RelaxesHops-skip inv {hop = hop} inside read (elim w.else-through-seconds.branch [
             | else-through-seconds-via-then-through-seconds+else-through-le-LONGEST v ↦ inr (omega (arith, through, v.if-through-le-LONGEST.false))
             | else-through-seconds-via-else-through-seconds v ↦ inl (let far = rw c.to-to.ensures at v.if-through-seconds.false in omega (arith, through, far))
           ]))

@@ -3,27 +3,27 @@ use Rattle.pool_base.specs.Times.{travel_time}
 use Rattle.std.proofs.lemmas.List.{get_or_default}
 use Rattle.stop_orders.specs.declared.settled.Settled.{Settled}
 use Rattle.trip_growth.specs.declared.trip_of.TripOf.{TripOf}
-use Rattle.trip_graph.specs.Levels.{IsLevelUpTo, AreLevels}
+use Rattle.trip_graph.specs.work.Levels.{AreLevelsUpTo, AreLevels}
 use Rattle.trip_graph.proofs.LevelSteps as step
 use Rattle.trip_graph.proofs.all_levels.all_levels.Goals as goal
 
 read_level : (tau : ℕ → ℕ → ℕ) (settled : Settled) (sizes k at : ℕ) (levels : List (List (List TripOf))) (lists : List (List TripOf)) → AreLevels tau settled sizes levels → k < sizes → at ≡ k
-    → lists ≡ get_or levels at lists → IsLevelUpTo tau settled k (length settled.vehicles) lists
+    → lists ≡ get_or levels at lists → AreLevelsUpTo tau settled k (length settled.vehicles) lists
 read_level tau settled sizes k at levels lists all lt same is =
     let e : get_or levels k [] ≡ lists = get_or_default levels k [] lists (let t = all.count in omega arith) ∙ ap (λ (n : ℕ). get_or levels n lists) (sym same) ∙ sym is in
-    subst (λ (l : List (List TripOf)). IsLevelUpTo tau settled k (length settled.vehicles) l) e (all.each k lt)
+    subst (λ (l : List (List TripOf)). AreLevelsUpTo tau settled k (length settled.vehicles) l) e (all.each k lt)
 
 pub returns-then-first-room : goal.returns-then-first-room
 returns-then-first-room c =
-    let tau = travel_time c.args.times.now in
-    let settled = c.args.settled.now in
+    let tau = travel_time c.args.growth.now.times.now in
+    let settled = c.args.growth.now.settled.now in
     let first = c.in_ok-first.ensures in
-    step.more_of_first tau settled c.args.most c.args.room c.in_ok-first.first.lists.items first.level (let a = c.if-first-room.true in let b = first.total in omega arith)
+    step.more_of_first tau settled c.args.most c.args.room c.in_ok-first.first.lists.items c.requires.most first.level (let a = c.if-first-room.true in let b = first.total in omega arith)
 
 pub loop-size-init : goal.loop-size-init
 loop-size-init c =
-    let tau = travel_time c.args.times.now in
-    let settled = c.args.settled.now in
+    let tau = travel_time c.args.growth.now.times.now in
+    let settled = c.args.growth.now.settled.now in
     let lists = c.in_ok-first.first.lists.items in
     let first = c.in_ok-first.ensures in
     let fits = c.if-first-room.false in
@@ -36,22 +36,22 @@ loop-size-init c =
 
 pub next_level-requires-clause-below : goal.next_level-requires-clause-below
 next_level-requires-clause-below c =
-    rw c.as_slice-below.ensures (read_level (travel_time c.args.times.now) c.args.settled.now (c.loop-size.size + 1) c.loop-size.size c.from-in-loop-size.result c.loop-size.levels.items c.index.result.now
+    rw c.as_slice-below.ensures (read_level (travel_time c.args.growth.now.times.now) c.args.growth.now.settled.now (c.loop-size.size + 1) c.loop-size.size c.from-in-loop-size.result c.loop-size.levels.items c.index.result.now
     c.loop-size.invariant.levels (omega arith) c.from-in-loop-size.ensures c.index.ensures)
 
 pub returns-in_default : goal.returns-in_default
 returns-in_default c =
-    let tau = travel_time c.args.times.now in
-    let settled = c.args.settled.now in
+    let tau = travel_time c.args.growth.now.times.now in
+    let settled = c.args.growth.now.settled.now in
     let inv = c.loop-size.invariant in
     let more = rw c.in_default.is at c.in_ok-next.ensures in
-    step.more_of_next tau settled c.args.most c.args.room (c.args.room - c.loop-size.total) (c.loop-size.size + 1) c.loop-size.levels.items inv.levels more
+    step.more_of_next tau settled c.args.most c.args.room (c.args.room - c.loop-size.total) (c.loop-size.size + 1) c.loop-size.levels.items c.requires.most inv.levels more
     (let t = c.loop-size-test.true in omega arith) (let h = inv.counted in let f = inv.fits in omega arith)
 
 pub loop-size-preserved : goal.loop-size-preserved
 loop-size-preserved c =
-    let tau = travel_time c.args.times.now in
-    let settled = c.args.settled.now in
+    let tau = travel_time c.args.growth.now.times.now in
+    let settled = c.args.growth.now.settled.now in
     let inv = c.loop-size.invariant in
     let levels = c.loop-size.levels.items in
     let lists = c.in-Some.next.lists.items in

@@ -3,8 +3,9 @@ use Rattle.std.proofs.lemmas.List.{get_or_default}
 use Rattle.pool_base.specs.Times.{point_count, travel_time}
 use Rattle.stop_orders.specs.declared.settled_vehicle.SettledVehicle.{SettledVehicle}
 use Rattle.stop_orders.specs.Settled.{vehicle_at, no_vehicle}
-use Rattle.trip_graph.specs.Answer.{AreRowsOf, HoldRows}
-use Rattle.trip_graph.specs.Rows.{vehicle_rows}
+use Rattle.trip_graph.specs.work.Levels.{AreRowsUpTo}
+use Rattle.trip_graph.specs.Answer.{HoldRows}
+use Rattle.trip_graph.specs.work.Rows.{vehicle_rows}
 use Rattle.trip_graph.proofs.GraphSteps as step
 use Rattle.trip_graph.proofs.RowOrder.{none_in_order, more_in_order}
 use Rattle.trip_graph.proofs.GraphFaults as faults
@@ -43,7 +44,7 @@ loop-vehicle-preserved c =
     vehicle (c.deref.ensures.value ∙ items) from c.held_row.ensures in
     record {
       exact = rw items (step.rows_more most tau settled v levels rows c.requires.levels few less inv.exact);
-      order = rw items (more_in_order most tau settled v levels rows c.requires.levels less inv.exact.below inv.order);
+      order = rw items (more_in_order tau settled v levels rows (step.some_of_levels most tau settled v levels c.requires.levels less) inv.exact.below inv.order);
       hold = rw (c.in_ok-push.ensures.items, items)
           (step.hold_more most tau settled (point_count c.args.times.now) v levels rows held c.held_row.result c.requires.levels few less (c.requires.sound.each v less) inv.exact inv.hold found);
       total = rw items (step.total_more most tau settled v levels rows c.requires.levels less inv.total);
@@ -78,9 +79,9 @@ memory_of-requires c =
     let end = c.loop-vehicle.auto.vehicle-end in
     let stop = c.loop-vehicle-test.false in
     let e : c.loop-vehicle.vehicle ≡ length settled.vehicles = omega arith in
-    faults.memory_only most (point_count c.args.times.now) tau settled (let r = c.args.settings.now.in_range.trip_most in omega arith) c.args.times.now.table.times c.requires.sound
+    faults.memory_only most (point_count c.args.times.now) tau settled c.sub_trips_are_servable.ensures.servable c.delays_are_small.ensures (let r = c.args.settings.now.in_range.trip_most in omega arith) c.args.times.now.table.times c.requires.sound
     (record { vehicles = vehicles; riders = riders; penalty = c.args.settings.now.penalty; rows = rows; held = held }) count (ap length c.as_slice-riders.ensures)
-    (subst (λ (n : ℕ). AreRowsOf most tau settled n rows) e inv.exact)
+    (subst (λ (n : ℕ). AreRowsUpTo most tau settled n rows) e inv.exact)
     (subst (λ (n : ℕ). HoldRows settled n rows held) e inv.hold)
     inv.order c.in-Err.fault c.in-Err.ensures.fault
 
@@ -113,6 +114,6 @@ returns-in-Ok c =
     let bound = c.requires.few in
     step.graph_right settings tau settled c.in-Ok.graph (length c.as_slice-vehicles.result.now) (length c.as_slice-riders.result.now) rows c.loop-vehicle.held.items
     c.in-Ok.ensures.value c.in-Ok.ensures.good count (ap length c.as_slice-riders.ensures)
-    (subst (λ (n : ℕ). AreRowsOf settings.trip tau settled n rows) e inv.exact)
+    (subst (λ (n : ℕ). AreRowsUpTo settings.trip tau settled n rows) e inv.exact)
     (subst (λ (n : ℕ). HoldRows settled n rows c.loop-vehicle.held.items) e inv.hold)
     (omega arith)

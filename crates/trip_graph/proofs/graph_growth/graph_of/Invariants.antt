@@ -1,12 +1,13 @@
 use Rattle.std.proofs.Common.{◌≡◌, length}
 use Rattle.pool_base.specs.Times.{travel_time}
-use Rattle.trip_graph.specs.Answer.{AreRowsOf, HoldRows, total_upto}
+use Rattle.trip_graph.specs.work.Levels.{AreRowsUpTo, total_upto}
+use Rattle.trip_graph.specs.Answer.{HoldRows}
 use Rattle.trip_graph.proofs.RowOrder.{AreInOrder}
 use Rattle.trip_graph.proofs.graph_growth.graph_of.Given as goal
 
 abbrev pub invariant-loop-vehicle : goal.invariant-loop-vehicle
 invariant-loop-vehicle l = record {
-  exact : AreRowsOf l.settings.trip (travel_time l.times) l.settled l.vehicle l.rows.items;
+  exact : AreRowsUpTo l.settings.trip (travel_time l.times) l.settled l.vehicle l.rows.items;
   order : AreInOrder l.rows.items;
   hold : HoldRows l.settled l.vehicle l.rows.items l.held.items;
   total : length l.rows.items ≡ total_upto l.levels l.vehicle;

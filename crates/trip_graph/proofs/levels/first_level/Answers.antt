@@ -1,13 +1,13 @@
 use Rattle.std.proofs.Common.{◌≡◌, ℕ, ◌+◌, length, sym, ap, ◌∙◌, subst, arith}
 use Rattle.pool_base.specs.Times.{travel_time}
-use Rattle.trip_graph.specs.Levels.{IsLevelUpTo}
+use Rattle.trip_graph.specs.work.Levels.{AreLevelsUpTo}
 use Rattle.trip_graph.proofs.LevelSteps as step
 use Rattle.trip_graph.proofs.levels.first_level.Goals as goal
 
 pub loop-vehicle-preserved : goal.loop-vehicle-preserved
 loop-vehicle-preserved c =
-    let tau = travel_time c.args.times.now in
-    let settled = c.args.settled.now in
+    let tau = travel_time c.args.growth.now.times.now in
+    let settled = c.args.growth.now.settled.now in
     let inv = c.loop-vehicle.invariant in
     let lists = c.loop-vehicle.lists.items in
     let trips = c.in_ok-trips.trips in
@@ -22,10 +22,10 @@ loop-vehicle-preserved c =
 
 pub returns-clause-level : goal.returns-clause-level
 returns-clause-level c =
-    let tau = travel_time c.args.times.now in
-    let settled = c.args.settled.now in
+    let tau = travel_time c.args.growth.now.times.now in
+    let settled = c.args.growth.now.settled.now in
     let count = ap length c.as_slice-count.ensures in
     let end = c.loop-vehicle.auto.vehicle-end in
     let stop = c.loop-vehicle-test.false in
     let e : c.loop-vehicle.vehicle ≡ length settled.vehicles = omega arith in
-    subst (λ (n : ℕ). IsLevelUpTo tau settled 0 n c.loop-vehicle.lists.items) e c.loop-vehicle.invariant.level
+    subst (λ (n : ℕ). AreLevelsUpTo tau settled 0 n c.loop-vehicle.lists.items) e c.loop-vehicle.invariant.level

@@ -1,11 +1,11 @@
 use Rattle.std.proofs.Common.{◌≡◌, ◌≤◌}
 use Rattle.pool_base.specs.Times.{travel_time}
-use Rattle.trip_graph.specs.Levels.{IsLevelUpTo, row_total}
+use Rattle.trip_graph.specs.work.Levels.{AreLevelsUpTo, row_total}
 use Rattle.trip_graph.proofs.levels.first_level.Given as goal
 
 abbrev pub invariant-loop-vehicle : goal.invariant-loop-vehicle
 invariant-loop-vehicle l = record {
-  level : IsLevelUpTo (travel_time l.times) l.settled 0 l.vehicle l.lists.items;
+  level : AreLevelsUpTo (travel_time l.growth.times.now) l.growth.settled.now 0 l.vehicle l.lists.items;
   counted : l.total ≡ row_total l.lists.items;
   few : l.total ≤ l.vehicle;
 }

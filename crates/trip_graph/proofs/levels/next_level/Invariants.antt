@@ -1,11 +1,11 @@
 use Rattle.std.proofs.Common.{◌≡◌, ◌+◌, ◌-◌, ◌≤◌, length}
 use Rattle.pool_base.specs.Times.{travel_time}
-use Rattle.trip_graph.specs.Levels.{IsLevelUpTo, row_total}
+use Rattle.trip_graph.specs.work.Levels.{AreLevelsUpTo, row_total}
 use Rattle.trip_graph.proofs.levels.next_level.Given as goal
 
 abbrev pub invariant-runs : goal.invariant-runs
 invariant-runs l = record {
-  level : IsLevelUpTo (travel_time l.times) l.settled (l.size + 1) (length l.lists.items) l.lists.items;
+  level : AreLevelsUpTo (travel_time l.growth.times.now) l.growth.settled.now (l.size + 1) (length l.lists.items) l.lists.items;
   counted : l.total ≡ row_total l.lists.items;
   fits : l.total ≤ l.room;
   within : length l.lists.items ≤ length l.below;

@@ -1,6 +1,6 @@
 use Rattle.std.proofs.Common.{subst, arith}
-use Rattle.trip_growth.specs.Growth.{serves}
-use Rattle.trip_growth.proofs.TripSearch.{two_riders}
+use Rattle.trip_growth.specs.work.Growth.{serves}
+use Rattle.trip_growth.proofs.lemmas.TripSearch.{two_riders}
 use Rattle.trip_growth.proofs.candidate.is_possible.Goals as goal
 
 pub returns-then-not-has : goal.returns-then-not-has

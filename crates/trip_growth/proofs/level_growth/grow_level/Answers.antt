@@ -1,4 +1,6 @@
+use Rattle.std.proofs.Common.{◌-◌}
 use Rattle.pool_base.specs.Times.{point_count, travel_time}
+use Rattle.trip_growth.proofs.AllRows.{below_of_rows}
 use Rattle.trip_growth.proofs.Rule.{rule_of, edge_of}
 use Rattle.trip_growth.proofs.level_growth.grow_level.Goals as goal
 
@@ -8,11 +10,10 @@ grow_size-requires-clause-can g c =
     record {
       sound = c.requires.sound;
       vehicle = c.requires.vehicle;
-      rule = rule_of points tau settled c.args.vehicle c.args.times.now.table.times c.requires.sound c.requires.vehicle;
-      edges = λ a b s. c.requires.pairs a b (edge_of points tau settled c.args.vehicle c.args.times.now.table.times c.requires.sound c.requires.vehicle a b s);
+      rule = rule_of c.sub_trips_are_servable.ensures.servable points tau settled c.args.vehicle c.args.times.now.table.times c.requires.sound c.requires.vehicle;
+      edges = λ a b s. c.requires.pairs a b (edge_of c.pairs_are_edges.ensures points tau settled c.args.vehicle c.args.times.now.table.times c.requires.sound c.requires.vehicle a b s);
     }
 
 pub grow_size-requires-clause-below : goal.grow_size-requires-clause-below
 grow_size-requires-clause-below g c =
-    let below = c.requires.below in
-    rw c.rows.ensures (record { served = λ k d h. (below.right k d h).served; sized = below.sized; rising = below.rising; whole = below.whole })
+    rw c.rows.ensures (below_of_rows (travel_time c.args.times.now) c.args.settled.now c.args.vehicle (c.args.level - 1) c.args.below.now c.requires.below)

@@ -2,7 +2,7 @@ use Rattle.std.proofs.Common.{[], ◌∷◌, ◌++◌, sym, ◌∙◌, subst, ar
 use Rattle.std.proofs.lemmas.List.{length_push}
 use Rattle.pool_base.specs.Times.{point_count, travel_time}
 use Rattle.stop_orders.specs.Task.{IsTask, IsServable, IsLeastDelay}
-use Rattle.trip_growth.specs.Growth.{serves, costs, rider_count}
+use Rattle.trip_growth.specs.work.Growth.{serves, costs, rider_count}
 use Rattle.trip_growth.proofs.Levels.{taken, passed}
 use Rattle.trip_growth.proofs.RowGrowth.{row_of, one_too_many, longer_task}
 use Rattle.trip_growth.proofs.row_growth.add_trip.Goals as goal
@@ -32,7 +32,7 @@ returns-then-len-growth-clause-answer g c =
     let same = longer_task growth.settled.now growth.vehicle c.args.task.now c.args.riders.now c.args.rider c.as_slice.result.now c.index-as_slice-rider.result c.requires.task c.as_slice.ensures c.requires.trip in
     let least = subst (λ t. IsLeastDelay (travel_time growth.times.now) t c.in-Some.cost) same (rw c.in-Some.is at c.in_ok-cost.ensures.least) in
     let good = row_of (serves growth) (costs growth) (c.args.riders.now ++ c.args.rider ∷ []) (record { riders = c.with_rider-longer.result; cost = c.in-Some.cost }) c.with_rider-longer.ensures
-    (record { riders = c.requires.trip; size = omega (arith, length_push c.args.riders.now c.args.rider); servable = (least.stops, least.serves) }) least in
+    (record { vehicle = c.requires.can.vehicle; riders = c.requires.trip; size = omega (arith, length_push c.args.riders.now c.args.rider); servable = (least.stops, least.serves) }) least in
     one_too_many (serves growth) (costs growth) _ growth.room _ c.args.found.now.items _
     (taken (rider_count growth) (serves growth) (costs growth) c.requires.can.rule c.args.riders.now c.args.rider c.args.found.now.items _ c.with_rider-longer.ensures good c.requires.upto) (omega arith)
 
@@ -42,7 +42,7 @@ returns-clause-answer g c =
     let same = longer_task growth.settled.now growth.vehicle c.args.task.now c.args.riders.now c.args.rider c.as_slice.result.now c.index-as_slice-rider.result c.requires.task c.as_slice.ensures c.requires.trip in
     let least = subst (λ t. IsLeastDelay (travel_time growth.times.now) t c.in-Some.cost) same (rw c.in-Some.is at c.in_ok-cost.ensures.least) in
     let good = row_of (serves growth) (costs growth) (c.args.riders.now ++ c.args.rider ∷ []) (record { riders = c.with_rider-longer.result; cost = c.in-Some.cost }) c.with_rider-longer.ensures
-    (record { riders = c.requires.trip; size = omega (arith, length_push c.args.riders.now c.args.rider); servable = (least.stops, least.serves) }) least in
+    (record { vehicle = c.requires.can.vehicle; riders = c.requires.trip; size = omega (arith, length_push c.args.riders.now c.args.rider); servable = (least.stops, least.serves) }) least in
     rw c.in_ok-push.ensures.items (
       taken (rider_count growth) (serves growth) (costs growth) c.requires.can.rule c.args.riders.now c.args.rider c.args.found.now.items _ c.with_rider-longer.ensures good c.requires.upto,
       omega (arith, length_push c.args.found.now.items (record { riders = c.with_rider-longer.result; cost = c.in-Some.cost })),

@@ -1,5 +1,5 @@
 use Rattle.std.proofs.Common.{arith, refl}
-use Rattle.trip_growth.proofs.TripSearch.{compared_at, lower_upto, higher_from, found_at, found_nowhere}
+use Rattle.trip_growth.proofs.lemmas.TripSearch.{compared_at, lower_upto, higher_from, found_at, found_nowhere}
 use Rattle.std.specs.declared.cmp.Ordering.TheVariants.{Less, Equal, Greater}
 use Rattle.trip_growth.proofs.trip_search.has_trip.Goals as goal
 

@@ -1,14 +1,17 @@
 use Rattle.std.proofs.Common.{◌≡◌, ℕ, ◌+◌, ◌-◌, List, ◌++◌, length, ap, ◌∙◌, subst, arith}
 use Rattle.std.proofs.lemmas.List.{length-append}
 use Rattle.pool_base.specs.Times.{travel_time}
-use Rattle.trip_growth.specs.Rows.{CanServe, CostsLeast, AreRowsOfSize}
+use Rattle.stop_orders.specs.Settled.{CanServe}
+use Rattle.trip_growth.specs.work.Growth.{CostsLeast}
+use Rattle.trip_growth.specs.Rows.{AreRowsOfSize}
+use Rattle.trip_growth.proofs.AllRows.{level_of_rows, level_of_more, more_within}
 use Rattle.trip_growth.proofs.Joined.{smaller_none, smaller_joined, more_joined}
 use Rattle.trip_growth.proofs.StepBound.{steps_so_far, more_steps, rows_of_all}
 use Rattle.trip_growth.proofs.vehicle_growth.grow.Goals as goal
 
 pub loop-size-init : goal.loop-size-init
 loop-size-init g c =
-    let Serves = CanServe (travel_time c.args.times.now) c.args.settled.now c.args.vehicle in
+    let Serves = CanServe 6 (travel_time c.args.times.now) c.args.settled.now c.args.vehicle in
     let Costs = CostsLeast (travel_time c.args.times.now) c.args.settled.now c.args.vehicle in
     record {
       below = c.in_ok-below.ensures.rows;
@@ -30,7 +33,7 @@ loop-size-preserved g c =
     let done : c.append.new.self.items ≡ xs ++ ys = c.in_ok-append.ensures.items ∙ ap (λ (t : List _). xs ++ t) c.into_rows-done.ensures in
     record {
       below = went.0;
-      smaller = rw done (smaller_joined (CanServe tau settled v) (CostsLeast tau settled v) c.loop-size.size xs ys c.loop-size.invariant.smaller c.loop-size.invariant.below);
+      smaller = rw done (smaller_joined (CanServe 6 tau settled v) (CostsLeast tau settled v) c.loop-size.size xs ys c.loop-size.invariant.smaller (level_of_rows tau settled v c.loop-size.size ys c.loop-size.invariant.below));
       room = rw done (
           let n = length-append xs ys in let same = ap length c.rows-in-loop-size.ensures in let counted = c.len.ensures in let whole = c.loop-size.smaller.ok.0 in
           let left = went.1 in let fits = c.loop-size.invariant.room in omega arith);
@@ -45,12 +48,13 @@ returns-in_err-next-clause-steps g c =
 
 pub returns-in-TooMany-clause-grown : goal.returns-in-TooMany-clause-grown
 returns-in-TooMany-clause-grown g c =
-    let Serves = CanServe (travel_time c.args.times.now) c.args.settled.now c.args.vehicle in
-    let Costs = CostsLeast (travel_time c.args.times.now) c.args.settled.now c.args.vehicle in
+    let tau = travel_time c.args.times.now in let settled = c.args.settled.now in let v = c.args.vehicle in
     let more = rw c.in-TooMany.is at c.in_ok-next.ensures.level in
-    more_joined Serves Costs c.loop-size.size _ c.args.room c.args.trip c.loop-size.smaller.items c.loop-size.below c.loop-size.invariant.smaller c.loop-size.invariant.below
-    more (omega arith)
-    (let same = ap length c.rows-in-loop-size.ensures in let counted = c.len.ensures in let whole = c.loop-size.smaller.ok.0 in omega arith)
+    more_within tau settled v c.args.trip c.args.room
+    (more_joined (CanServe 6 tau settled v) (CostsLeast tau settled v) c.loop-size.size _ c.args.room c.args.trip c.loop-size.smaller.items c.loop-size.below c.loop-size.invariant.smaller
+    (level_of_rows tau settled v c.loop-size.size c.loop-size.below c.loop-size.invariant.below)
+    (level_of_more tau settled v (c.loop-size.size + 1) _ more) (omega arith)
+    (let same = ap length c.rows-in-loop-size.ensures in let counted = c.len.ensures in let whole = c.loop-size.smaller.ok.0 in omega arith))
 
 pub returns-in-TooMany-clause-steps : goal.returns-in-TooMany-clause-steps
 returns-in-TooMany-clause-steps g c =

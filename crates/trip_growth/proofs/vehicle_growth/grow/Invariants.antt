@@ -1,13 +1,15 @@
 use Rattle.std.proofs.Common.{◌+◌, ◌*◌, ◌≤◌, length}
 use Rattle.pool_base.specs.Times.{travel_time}
-use Rattle.trip_growth.specs.Rows.{CanServe, CostsLeast, AreRowsOfSize}
+use Rattle.stop_orders.specs.Settled.{CanServe}
+use Rattle.trip_growth.specs.work.Growth.{CostsLeast}
+use Rattle.trip_growth.specs.Rows.{AreRowsOfSize}
 use Rattle.trip_growth.proofs.Joined.{AreSmaller}
 use Rattle.trip_growth.proofs.vehicle_growth.grow.Given as goal
 
 abbrev pub invariant-loop-size : goal.invariant-loop-size
 invariant-loop-size g l = record {
   below : AreRowsOfSize (travel_time l.times) l.settled l.vehicle l.size l.below;
-  smaller : AreSmaller (CanServe (travel_time l.times) l.settled l.vehicle) (CostsLeast (travel_time l.times) l.settled l.vehicle) l.size l.smaller.items;
+  smaller : AreSmaller (CanServe 6 (travel_time l.times) l.settled l.vehicle) (CostsLeast (travel_time l.times) l.settled l.vehicle) l.size l.smaller.items;
   room : length l.smaller.items + length l.below ≤ l.room;
   cost : l.steps ≤ l.fn.steps + (length l.smaller.items * length l.settled.riders + 1);
 }

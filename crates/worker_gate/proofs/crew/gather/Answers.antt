@@ -1,7 +1,7 @@
 use Rattle.std.proofs.Common.{rules, ℕ, ◌<◌, List, sym, ap, ◌∙◌, subst, arith}
 use Rattle.std.proofs.lemmas.List.Elements.{All-append}
 use Rattle.worker_gate.specs.declared.worker.Done.{Done}
-use Rattle.worker_gate.specs.Workers.{HasWorked, AreDoneRight}
+use Rattle.worker_gate.specs.work.Workers.{HasWorked, AreDoneRight}
 use Rattle.worker_gate.proofs.Keeps.{glues}
 use Rattle.worker_gate.proofs.Ended.{Matches, Matches-one, Matches-both, popped}
 use Rattle.worker_gate.proofs.crew.gather.Goals as goal

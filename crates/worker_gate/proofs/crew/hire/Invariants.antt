@@ -1,6 +1,6 @@
 use Rattle.std.proofs.Common.{◌≡◌, ◌-◌, [], All, vec_len, vec_capacity}
-use Rattle.worker_gate.specs.Claims.{draws}
-use Rattle.worker_gate.specs.Workers.{IsReady}
+use Rattle.worker_gate.specs.work.Claims.{draws}
+use Rattle.worker_gate.specs.work.Workers.{IsReady}
 use Rattle.worker_gate.proofs.crew.hire.Given as goal
 
 abbrev pub invariant-loop : goal.invariant-loop

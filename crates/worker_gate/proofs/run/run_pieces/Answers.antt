@@ -1,5 +1,5 @@
 use Rattle.std.proofs.Common.{ℕ, All, sym, ap, subst}
-use Rattle.worker_gate.specs.Workers.{AreDoneRight}
+use Rattle.worker_gate.specs.work.Workers.{AreDoneRight}
 use Rattle.worker_gate.proofs.Placing.{given_pieces, right_placed}
 use Rattle.worker_gate.proofs.run.run_pieces.Goals as goal
 

@@ -1,5 +1,5 @@
 use Rattle.std.proofs.Common.{sum_by, ap, ◌∙◌}
-use Rattle.worker_gate.specs.Claims.{past}
+use Rattle.worker_gate.specs.work.Claims.{past}
 use Rattle.worker_gate.proofs.Ended.{none_past}
 use Rattle.worker_gate.proofs.worker.work.Goals as goal
 

@@ -1,6 +1,6 @@
 use Rattle.std.proofs.Common.{◌≡◌, ◌-◌, [], false, length}
-use Rattle.worker_gate.specs.Claims.{draws}
-use Rattle.worker_gate.specs.Workers.{AreDoneRight, pieces_of}
+use Rattle.worker_gate.specs.work.Claims.{draws}
+use Rattle.worker_gate.specs.work.Workers.{AreDoneRight, pieces_of}
 use Rattle.worker_gate.proofs.worker.work.Given as goal
 
 abbrev pub invariant-loop-alloc : goal.invariant-loop-alloc

@@ -4,11 +4,11 @@ use Rattle.std.proofs.lemmas.Int.{to_z-of_z}
 use Rattle.std.proofs.lemmas.Bool.{both_ways}
 use Rattle.std.proofs.lemmas.List.{with_items_is}
 use Rattle.plan_rules.specs.Sums.{lesser}
-use Rattle.plan_rules.specs.Graph.{vehicle_at}
+use Rattle.plan_rules.specs.Graph.{row_vehicle}
 use Rattle.plan_rules.specs.Multipliers.{Usable, usable_of, leaf_value}
 use Rattle.plan_rules.specs.Tree.{rounded_up}
 use Rattle.plan_rules.specs.Path.{standing_of, IsPathOf}
-use Rattle.plan_rules.proofs.UsableLemmas.{Agree, agree_back, can_branch_agrees, dead_end_agrees, leaf_value_agrees}
+use Rattle.plan_rules.proofs.lemmas.UsableLemmas.{Agree, agree_back, can_branch_agrees, dead_end_agrees, leaf_value_agrees}
 use Rattle.bound_checker.specs.Visit.{coming_of}
 use Rattle.bound_checker.proofs.WalkLemmas.{coming_entered, coming_left, path_push}
 use Rattle.bound_checker.proofs.walk.Walk.visit_dead.Goals as goal

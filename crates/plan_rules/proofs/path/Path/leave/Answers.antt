@@ -3,7 +3,7 @@ use Rattle.plan_rules.specs.Graph.{Graph}
 use Rattle.plan_rules.specs.Multipliers.{Usable}
 use Rattle.plan_rules.specs.Path.{Standing, standing_of}
 use Rattle.plan_rules.specs.declared.path.Decision.{Decision}
-use Rattle.plan_rules.proofs.PathLemmas.{standing_start, coming_left, leave_next}
+use Rattle.plan_rules.proofs.lemmas.PathLemmas.{standing_start, coming_left, leave_next}
 use Rattle.plan_rules.proofs.path.Path.leave.Goals as goal
 use Rattle.plan_rules.proofs.path.Path.leave.Goals.{then-loop-depth-test+else-not-index, else-loop-depth-test}
 

@@ -1,4 +1,4 @@
-use Rattle.pool_base.proofs.TravelTimeLemmas.{cell_of-read}
+use Rattle.pool_base.proofs.lemmas.TravelTimeLemmas.{cell_of-read}
 use Rattle.pool_base.proofs.times.Times.seconds.Goals as goal
 
 pub returns : goal.returns

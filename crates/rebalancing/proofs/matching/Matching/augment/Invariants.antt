@@ -1,5 +1,5 @@
-use Rattle.rebalancing.specs.Prices.{IsSameProblem}
-use Rattle.rebalancing.specs.SearchTree.{IsOpenMatching}
+use Rattle.rebalancing.specs.work.Prices.{IsSameProblem}
+use Rattle.rebalancing.specs.work.SearchTree.{IsOpenMatching}
 use Rattle.rebalancing.proofs.matching.Matching.augment.Given as goal
 
 abbrev pub invariant-loop-position : goal.invariant-loop-position

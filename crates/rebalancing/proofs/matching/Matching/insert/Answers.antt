@@ -3,7 +3,7 @@ use Rattle.std.proofs.lemmas.Bool.{cases_lt, ne_eqb}
 use Rattle.std.proofs.lemmas.List.{get_or_read}
 use Rattle.std.proofs.lemmas.List.Sums.{sum_by-set}
 use Rattle.rebalancing.specs.Potentials.{pair_worth}
-use Rattle.rebalancing.specs.SearchTree.{root_of}
+use Rattle.rebalancing.specs.work.SearchTree.{root_of}
 use Rattle.rebalancing.proofs.Augmenting.{IsOpen-free}
 use Rattle.rebalancing.proofs.matching.Matching.insert.Goals as goal
 

@@ -1,6 +1,6 @@
 use Rattle.std.proofs.Common.{◌≡◌, ℕ, [], ◌∷◌, length, slice_index, replicate, arith}
 use Rattle.std.proofs.lemmas.List.{with_items_is, get_or_read, get_or-replicate, length-replicate}
-use Rattle.rebalancing.specs.Relaxation.{Relaxes}
+use Rattle.rebalancing.specs.work.Relaxation.{Relaxes}
 use Rattle.rebalancing.proofs.Growing.{IsGrown-root, IsReached-root, IsCheapest-root}
 use Rattle.rebalancing.proofs.matching.Matching.plant.Goals as goal
 

@@ -4,7 +4,7 @@ use Rattle.request_book.specs.declared.journal.Entry.{Entry}
 use Rattle.request_book.specs.declared.state.State.{State}
 use Rattle.request_book.specs.Book.{BookView, IsBook, opening}
 use Rattle.request_book.specs.Keyed.{KeysRise}
-use Rattle.request_book.specs.Register.{state_of}
+use Rattle.request_book.specs.work.Register.{state_of}
 use Rattle.request_book.proofs.BookLemmas.{opening-book, fleet-rise}
 use Rattle.request_book.proofs.IndexLemmas.{no-room}
 use Rattle.request_book.proofs.book.Book.over.Goals as goal

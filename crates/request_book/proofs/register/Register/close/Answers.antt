@@ -9,7 +9,7 @@ use Rattle.request_book.specs.declared.state.State.{State}
 use Rattle.request_book.specs.Closing.{after_answer}
 use Rattle.request_book.specs.Keyed.{KeysDiffer, KeysRise}
 use Rattle.request_book.specs.Refusals.{not_this_batch}
-use Rattle.request_book.specs.Register.{state_of, IsIndexed}
+use Rattle.request_book.specs.work.Register.{state_of, IsIndexed}
 use Rattle.request_book.proofs.CloseLemmas.{answer-settled}
 use Rattle.request_book.proofs.IndexLemmas.{IsPool-same}
 use Rattle.request_book.proofs.KeyedLemmas.{rise_from_increasing}

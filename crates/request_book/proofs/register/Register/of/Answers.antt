@@ -3,7 +3,7 @@ use Rattle.std.specs.Prelude.{option_and_then}
 use Rattle.batch_snapshot.specs.declared.vehicle.Vehicle.{Vehicle}
 use Rattle.request_book.specs.declared.rider.BookRider.{BookRider}
 use Rattle.request_book.specs.Keyed.{look_up, KeysRise, KeysDiffer}
-use Rattle.request_book.specs.Register.{pool_id}
+use Rattle.request_book.specs.work.Register.{pool_id}
 use Rattle.request_book.specs.State.{find_rider}
 use Rattle.request_book.proofs.KeyedLemmas.{look_up-nil, KeysDiffer-from_rise}
 use Rattle.request_book.proofs.register.Register.of.Goals as goal

@@ -3,7 +3,7 @@ use Rattle.std.specs.Prelude.{IfOk}
 use Rattle.pool_base.specs.declared.memory.OutOfMemory.{OutOfMemory}
 use Rattle.request_book.specs.declared.command.Command.TheVariants.{Seal}
 use Rattle.request_book.specs.declared.reply.Reply.{Reply}
-use Rattle.request_book.specs.Register.{state_of}
+use Rattle.request_book.specs.work.Register.{state_of}
 use Rattle.request_book.specs.Step.{step}
 use Rattle.request_book.proofs.IndexLemmas.{less-room}
 use Rattle.request_book.proofs.register.Register.run.Goals as goal

@@ -5,10 +5,12 @@ use Rattle.request_book.specs.declared.reply.Reply.TheVariants.{Sealed}
 use Rattle.request_book.specs.declared.rider.BookRider.{BookRider}
 use Rattle.request_book.specs.declared.rider.Status.TheVariants.{Expired}
 use Rattle.request_book.specs.declared.state.State.{State}
-use Rattle.request_book.specs.Keyed.{changed_in_turn, KeysDiffer, KeysRise}
-use Rattle.request_book.specs.Register.{state_of}
+use Rattle.request_book.specs.Keyed.{KeysDiffer, KeysRise}
+use Rattle.request_book.specs.work.Keyed.{changed_in_turn}
+use Rattle.request_book.specs.work.Register.{state_of}
 use Rattle.request_book.specs.Rider.{with_status}
-use Rattle.request_book.specs.Sealing.{one_more, after_seal, batch_of, sealed_state}
+use Rattle.request_book.specs.Sealing.{after_seal, batch_of, sealed_state}
+use Rattle.pool_io.specs.Faults.{one_more}
 use Rattle.request_book.proofs.BatchLemmas.{expired-map, after_seal-id, staying-rise, staying-pool}
 use Rattle.request_book.proofs.IndexLemmas.{IsPool-same}
 use Rattle.request_book.proofs.KeyedLemmas.{KeysDiffer-map, map-keys}

@@ -3,10 +3,11 @@ use Rattle.batch_snapshot.specs.Batch.{Batch}
 use Rattle.batch_snapshot.specs.Kept.{IsKept}
 use Rattle.batch_snapshot.specs.declared.rider.Rider.{Rider}
 use Rattle.batch_snapshot.specs.declared.vehicle.Vehicle.{Vehicle}
-use Rattle.request_book.specs.Register.{state_of}
+use Rattle.request_book.specs.work.Register.{state_of}
 use Rattle.std.specs.List.{filter_map}
 use Rattle.request_book.specs.Keyed.{by_key}
-use Rattle.request_book.specs.Sealing.{one_more, batch_of, asking, after_seal}
+use Rattle.request_book.specs.Sealing.{batch_of, asking, after_seal}
+use Rattle.pool_io.specs.Faults.{one_more}
 use Rattle.request_book.proofs.BatchLemmas.{batch-riders, batch-expired, batch-kept}
 use Rattle.request_book.proofs.register.Register.snapshot.Goals as goal
 use Rattle.request_book.proofs.register.Register.snapshot.Goals.{After-of-3}

@@ -3,7 +3,7 @@ use Rattle.std.specs.Prelude.{option_and_then}
 use Rattle.std.specs.List.{filter_map}
 use Rattle.std.specs.Option.{option_to_list}
 use Rattle.std.proofs.lemmas.List.{take_all}
-use Rattle.request_book.specs.Register.{pool_id}
+use Rattle.request_book.specs.work.Register.{pool_id}
 use Rattle.request_book.specs.Sealing.{after_seal}
 use Rattle.request_book.specs.State.{find_rider}
 use Rattle.request_book.proofs.SealLemmas.{filter_map-more}

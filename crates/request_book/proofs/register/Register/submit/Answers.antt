@@ -7,7 +7,7 @@ use Rattle.request_book.specs.declared.reply.Reply.TheVariants.{Accepted}
 use Rattle.request_book.specs.declared.rider.BookRider.{BookRider}
 use Rattle.request_book.specs.declared.state.State.{State}
 use Rattle.request_book.specs.Keyed.{KeysDiffer, KeysRise}
-use Rattle.request_book.specs.Register.{state_of, pool_id}
+use Rattle.request_book.specs.work.Register.{state_of, pool_id}
 use Rattle.request_book.specs.Rider.{is_active}
 use Rattle.request_book.proofs.KeyedLemmas.{look_up-list_any, KeysDiffer-push, KeysRise-placed}
 use Rattle.request_book.proofs.IndexLemmas.{IsPool-placed, IsPool-same, length-pool}

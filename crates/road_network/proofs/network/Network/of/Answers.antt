@@ -1,12 +1,12 @@
 use Rattle.std.proofs.Common.{List, length, ap, arith}
 use Rattle.road_network.specs.Walk.{Arc}
 use Rattle.road_network.specs.Roads.{Roads}
-use Rattle.road_network.proofs.Sorted.{IsStored-sorted, stored_arcs-sorted}
+use Rattle.road_network.proofs.Sorted.{ArePacked-sorted, stored_arcs-sorted}
 use Rattle.road_network.proofs.network.Network.of.Goals as goal
 
 pub invariant_of-result : goal.invariant_of-result
 invariant_of-result c =
-    IsStored-sorted c.args.names.keys c.args.arcs.now c.in_ok-ends.ends.items c.in_ok-ends.hops.items c.requires.few_nodes c.requires.few_arcs c.requires.names c.requires.among (omega (arith, c.in_ok-ends.ensures.length, c.len.ensures.len)) (omega (arith, c.in_ok-ends.ensures.hops))
+    ArePacked-sorted c.args.names.keys c.args.arcs.now c.in_ok-ends.ends.items c.in_ok-ends.hops.items c.requires.few_nodes c.requires.few_arcs c.requires.names c.requires.among (omega (arith, c.in_ok-ends.ensures.length, c.len.ensures.len)) (omega (arith, c.in_ok-ends.ensures.hops))
     (rw c.len.ensures.len at c.in_ok-ends.ensures.ends) (rw c.len.ensures.len at c.in_ok-ends.ensures.among)
 
 pub returns : goal.returns

@@ -1,7 +1,6 @@
-use Rattle.std.proofs.Common.{◌≡◌, List, ◌++◌, ap, sym, subst, ◌∙◌}
-use Rattle.request_book.specs.Book.{BookView, IsBook}
-use Rattle.seat_lock.specs.Values.{GainsCalls, LockValue}
-use Rattle.shared_book.specs.Locked.{log_of, root_of}
+use Rattle.std.proofs.Common.{◌≡◌, List, sym, subst}
+use Rattle.request_book.specs.Book.{BookView}
+use Rattle.seat_lock.specs.Values.{LockValue}
 use Rattle.shared_book.specs.Shared.{BookPass, IsFinished}
 use Rattle.shared_book.proofs.FinishLemmas.{finished}
 use Rattle.shared_book.proofs.shared.SharedBook.finish.Goals as goal
@@ -11,5 +10,5 @@ returns-in-Ok-clause-calls c =
     let passes : List BookPass = c.args.passes.items in
     let after : BookView = c.in-Ok.locked in
     let done : (v : LockValue BookView) → c.self.inside.lock ≡ v → IsFinished v.start passes after = λ v is.
-    subst (λ (u : LockValue BookView). IsFinished u.start passes after) is (finished c.self.inside.lock.start after passes c.self.invariant c.into_book.ensures.kept c.in-Ok.ensures.root c.in-Ok.ensures.log) in
+    subst (λ (u : LockValue BookView). IsFinished u.start passes after) is (finished c.rounds_join.ensures c.self.inside.lock.start after passes c.self.invariant c.into_book.ensures.kept c.in-Ok.ensures.root c.in-Ok.ensures.log) in
     subst (IsFinished c.args.self.start passes) (sym c.into_book.ensures.book) (done c.args.self c.self.view_is)

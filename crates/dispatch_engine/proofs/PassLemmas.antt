@@ -1,0 +1,183 @@
+-- How a pass runs its lane's commands, piece by piece.
+use Rattle.std.proofs.Common.{◌≡◌, ℕ, true, List, [], ◌∷◌, ◌++◌, map, Option, Some, None, refl, sym, ap, subst, ◌∙◌, append_assoc, append-nil, true≢false}
+use Rattle.std.proofs.lemmas.List.{map-append}
+use Rattle.batch_snapshot.specs.Batch.{Batch}
+use Rattle.batch_solver.specs.Outcome.{IsGoodOutcome}
+use Rattle.request_book.specs.declared.command.Command.{Command}
+use Rattle.request_book.specs.declared.command.Command.TheVariants.{Submit, Cancel, Report, Pickup, Dropoff, Seal, Close}
+use Rattle.request_book.specs.declared.journal.Entry.{Entry}
+use Rattle.request_book.specs.declared.outcome.Answer.TheVariants.{Overflow}
+use Rattle.request_book.specs.declared.outcome.Outcome.{Outcome}
+use Rattle.request_book.specs.declared.reply.Reply.{Reply}
+use Rattle.request_book.specs.declared.reply.Reply.TheVariants.{Accepted}
+use Rattle.rider_limits.specs.declared.settings.Settings.{Settings}
+use Rattle.road_network.specs.Roads.{Roads}
+use Rattle.seat_lock.specs.Values.{entry}
+use Rattle.seat_lock.specs.declared.logged.Entry.{Entry as Logged}
+use Rattle.shared_book.specs.declared.locked.LockedReply.{LockedReply}
+use Rattle.shared_book.specs.declared.shared.Receipt.{Receipt}
+use Rattle.shared_book.specs.Locked.{entry_of, is_light, sealed_by, Fits}
+use Rattle.shared_book.specs.Shared.{BookPass, with_snapshot, HasCalled, HasCalledSome}
+use Rattle.dispatch_engine.specs.Lane.{IsCloseOf, IsLaneRunFrom, IsLaneRun, IsLaneBeginning, last_sealed, IsGoodFor, LaneClosesAreGood, HasRun, HasBegun}
+use Rattle.dispatch_engine.specs.work.Lanes.{calls_of_pass, IsPlain}
+
+-- a run, and one more
+run-append : (pending : Option ℕ) (cs ds : List Command) (es fs : List Entry) → IsLaneRunFrom pending cs es → IsLaneRun ds fs → IsLaneRunFrom pending (cs ++ ds) (es ++ fs)
+run-append None [] ds [] fs p q = q
+run-append None [] ds (e ∷ es) fs p q = absurd p
+run-append None (c ∷ cs) ds [] fs p q = absurd p
+run-append None (c ∷ cs) ds (e ∷ es) fs p q = (p.0, run-append (sealed_by e.reply) cs ds es fs p.1 q)
+run-append (Some batch) cs ds [] fs p q = absurd p
+run-append (Some batch) cs ds (e ∷ es) fs p q = (p.0, run-append None cs ds es fs p.1 q)
+
+-- there are runs of any commands
+some-run : (cs : List Command) → (es : List Entry) × IsLaneRun cs es
+some-run [] = ([], tt)
+some-run (c ∷ cs) = let rest = some-run cs in ((record { lane = 0; command = c; reply = Accepted }) ∷ rest.0, (refl, rest.1))
+
+-- a beginning of a run of some commands is one of a run of more
+begun-more : (cs ds : List Command) (es : List Entry) → IsLaneBeginning cs es → IsLaneBeginning (cs ++ ds) es
+begun-more cs ds es p =
+    let rest = some-run ds in
+    (p.0 ++ rest.0, subst (IsLaneRun (cs ++ ds)) (append_assoc es p.0 rest.0) (run-append None cs ds (es ++ p.0) rest.0 p.1 rest.1))
+
+-- after a run of some commands a beginning of a run of others
+begun-next : (cs ds : List Command) (es fs : List Entry) → IsLaneRun cs es → IsLaneBeginning ds fs → IsLaneBeginning (cs ++ ds) (es ++ fs)
+begun-next cs ds es fs p q = (q.0, subst (IsLaneRun (cs ++ ds)) (sym (append_assoc es fs q.0)) (run-append None cs ds es (fs ++ q.0) p q.1))
+
+plain-light : (command : Command) → IsPlain command → is_light command ≡ true
+plain-light (Submit rider origin destination time party) plain = refl
+plain-light (Cancel rider) plain = refl
+plain-light (Report vehicle node time) plain = refl
+plain-light (Pickup vehicle rider time) plain = refl
+plain-light (Dropoff vehicle rider time) plain = refl
+plain-light (Seal now) plain = absurd plain
+plain-light (Close batch outcome) plain = absurd plain
+
+-- a command that is no seal is answered without a batch
+light-unsealed : (nodes : List ℕ) (command : Command) (reply : Reply) (snapshot : Option Batch) → is_light command ≡ true → Fits nodes command (with_snapshot reply snapshot) → sealed_by reply ≡ None
+light-unsealed nodes command reply None light fits = sym fits.sealed
+light-unsealed nodes command reply (Some b) light fits = absurd (true≢false (sym light ∙ fits.seals b refl))
+
+nothing-left : (p : Option ℕ) → p ≡ None → IsLaneRunFrom p [] []
+nothing-left None e = tt
+nothing-left (Some batch) e = absurd cc
+
+module _ (settings : Settings) (roads : Roads) where
+  -- what is good though nothing was sealed before is good after any batch
+  later : (last : Option Batch) (calls : List (Logged Command LockedReply)) → LaneClosesAreGood settings roads None calls → LaneClosesAreGood settings roads last calls
+  later last [] good = tt
+  later last (c ∷ cs) good = (here c.call good.0, by c.reply.snapshot (later last cs) good.1)
+    where
+      here : (command : Command) → IsGoodFor settings roads None command → IsGoodFor settings roads last command
+      here (Submit rider origin destination time party) g = tt
+      here (Cancel rider) g = tt
+      here (Report vehicle node time) g = tt
+      here (Pickup vehicle rider time) g = tt
+      here (Dropoff vehicle rider time) g = tt
+      here (Seal now) g = tt
+      here (Close batch outcome) g = let none : None ≡ Some g.0 = g.1 in absurd cc
+
+      by : (snapshot : Option Batch) → (LaneClosesAreGood settings roads None cs → LaneClosesAreGood settings roads last cs) → LaneClosesAreGood settings roads (last_sealed None snapshot) cs → LaneClosesAreGood settings roads (last_sealed last snapshot) cs
+      by None rest g = rest g
+      by (Some b) rest g = g
+
+  closes-append : (last : Option Batch) (xs ys : List (Logged Command LockedReply)) → LaneClosesAreGood settings roads last xs → LaneClosesAreGood settings roads None ys → LaneClosesAreGood settings roads last (xs ++ ys)
+  closes-append last [] ys p q = later last ys q
+  closes-append last (x ∷ xs) ys p q = (p.0, closes-append (last_sealed last x.reply.snapshot) xs ys p.1 q)
+
+  pub runs-none : (p : BookPass) → HasRun settings roads [] p p
+  runs-none p = record { more = []; calls = sym (append-nil p.calls); run = tt; closes = tt }
+
+  pub runs-more : (a b c : BookPass) (cs ds : List Command) → HasRun settings roads cs a b → HasRun settings roads ds b c → HasRun settings roads (cs ++ ds) a c
+  runs-more a b c cs ds p q = record {
+    more = p.more ++ q.more;
+    calls = q.calls ∙ ap (λ l. l ++ q.more) p.calls ∙ append_assoc a.calls p.more q.more;
+    run = subst (IsLaneRun (cs ++ ds)) (sym (map-append (λ c. entry_of c.1) p.more q.more)) (run-append None cs ds _ _ p.run q.run);
+    closes = subst (LaneClosesAreGood settings roads None) (sym (map-append (λ c. c.1) p.more q.more)) (closes-append None _ _ p.closes q.closes);
+  }
+
+  -- a plain command
+  pub runs-plain : (nodes : List ℕ) (old new : BookPass) (command : Command) (receipt : Receipt) → IsPlain command → HasCalledSome nodes old command receipt new → HasRun settings roads (command ∷ []) old new
+  runs-plain nodes old new command receipt plain called = record {
+    more = (receipt.position, entry old.lane command (with_snapshot receipt.reply called.snapshot)) ∷ [];
+    calls = called.called.calls;
+    run = (refl, nothing-left (sealed_by receipt.reply) (light-unsealed nodes command receipt.reply called.snapshot (plain-light command plain) called.called.fits));
+    closes = (here command plain, tt);
+  }
+    where
+      here : (command : Command) → IsPlain command → IsGoodFor settings roads None command
+      here (Submit rider origin destination time party) p = tt
+      here (Cancel rider) p = tt
+      here (Report vehicle node time) p = tt
+      here (Pickup vehicle rider time) p = tt
+      here (Dropoff vehicle rider time) p = tt
+      here (Seal now) p = absurd p
+      here (Close batch outcome) p = absurd p
+
+  -- a seal that is refused
+  pub runs-refused : (nodes : List ℕ) (old new : BookPass) (now position : ℕ) (reply : Reply) → HasCalled nodes old (Seal now) position (with_snapshot reply None) new → HasRun settings roads (Seal now ∷ []) old new
+  runs-refused nodes old new now position reply called = record {
+    more = (position, entry old.lane (Seal now) (with_snapshot reply None)) ∷ [];
+    calls = called.calls;
+    run = (refl, nothing-left (sealed_by reply) (sym called.fits.sealed));
+    closes = (tt, tt);
+  }
+
+  -- a seal, and the close of its batch
+  pub runs-sealed : (nodes : List ℕ) (old between new : BookPass) (now position : ℕ) (reply : Reply) (b : Batch) (outcome : Outcome) (receipt : Receipt)
+      → HasCalled nodes old (Seal now) position (with_snapshot reply (Some b)) between → HasCalledSome nodes between (Close b.number outcome) receipt new → IsGoodOutcome settings roads b outcome → HasRun settings roads (Seal now ∷ []) old new
+  runs-sealed nodes old between new now position reply b outcome receipt sealed closed good =
+      let first : ℕ × Logged Command LockedReply = (position, entry old.lane (Seal now) (with_snapshot reply (Some b))) in
+      let second : ℕ × Logged Command LockedReply = (receipt.position, entry between.lane (Close b.number outcome) (with_snapshot receipt.reply closed.snapshot)) in
+      let second_entry : Entry = entry_of second.1 in
+      record {
+        more = first ∷ second ∷ [];
+        calls = closed.called.calls ∙ ap (λ l. l ++ second ∷ []) sealed.calls ∙ append_assoc old.calls (first ∷ []) (second ∷ []);
+        run = (refl, subst (λ (o : Option ℕ). IsLaneRunFrom o [] (second_entry ∷ [])) sealed.fits.sealed (refl, tt));
+        closes = (tt, ((b, refl, good), tt));
+      }
+
+  -- no call more
+  pub begun-none : (commands : List Command) (old new : BookPass) → new.calls ≡ old.calls → HasBegun settings roads commands old new
+  begun-none commands old new same = let run = some-run commands in record {
+    more = [];
+    calls = same ∙ sym (append-nil old.calls);
+    begun = (run.0, run.1);
+    closes = tt;
+  }
+
+  -- a seal whose batch isn't closed yet
+  pub begun-sealed : (nodes : List ℕ) (old between new : BookPass) (now position : ℕ) (reply : Reply) (b : Batch)
+      → HasCalled nodes old (Seal now) position (with_snapshot reply (Some b)) between → new.calls ≡ between.calls → HasBegun settings roads (Seal now ∷ []) old new
+  begun-sealed nodes old between new now position reply b sealed same =
+      let first : ℕ × Logged Command LockedReply = (position, entry old.lane (Seal now) (with_snapshot reply (Some b))) in
+      let outcome : Outcome = record { expired = []; answer = Overflow } in
+      let close : Entry = record { lane = 0; command = Close b.number outcome; reply = Accepted } in
+      record {
+        more = first ∷ [];
+        calls = same ∙ sealed.calls;
+        begun = (close ∷ [], (refl, subst (λ (o : Option ℕ). IsLaneRunFrom o [] (close ∷ [])) sealed.fits.sealed (refl, tt)));
+        closes = (tt, tt);
+      }
+
+  -- a run of some commands, and a beginning of a run of more
+  pub begun-after : (a b c : BookPass) (cs ds rest : List Command) → HasRun settings roads cs a b → HasBegun settings roads ds b c → HasBegun settings roads ((cs ++ ds) ++ rest) a c
+  begun-after a b c cs ds rest p q = record {
+    more = p.more ++ q.more;
+    calls = q.calls ∙ ap (λ l. l ++ q.more) p.calls ∙ append_assoc a.calls p.more q.more;
+    begun = subst (IsLaneBeginning ((cs ++ ds) ++ rest)) (sym (map-append (λ c. entry_of c.1) p.more q.more)) (begun-more (cs ++ ds) rest _ (begun-next cs ds _ _ p.run q.begun));
+    closes = subst (LaneClosesAreGood settings roads None) (sym (map-append (λ c. c.1) p.more q.more)) (closes-append None _ _ p.closes q.closes);
+  }
+
+  -- a pass that had made no call
+  pub ran-fresh : (old new : BookPass) (commands : List Command) → HasRun settings roads commands old new → old.calls ≡ [] → IsLaneRun commands (map entry_of (calls_of_pass new)) × LaneClosesAreGood settings roads None (calls_of_pass new)
+  ran-fresh old new commands p fresh =
+      let calls : new.calls ≡ p.more = p.calls ∙ ap (λ l. l ++ p.more) fresh in (
+        subst (IsLaneRun commands) (twice p.more ∙ ap (λ l. map entry_of (map (λ c. c.1) l)) (sym calls)) p.run,
+        subst (LaneClosesAreGood settings roads None) (ap (map (λ c. c.1)) (sym calls)) p.closes,
+      )
+    where
+      twice : (l : List (ℕ × Logged Command LockedReply)) → map (λ c. entry_of c.1) l ≡ map entry_of (map (λ c. c.1) l)
+      twice [] = refl
+      twice (c ∷ cs) = ap (λ t. entry_of c.1 ∷ t) (twice cs)

@@ -1,0 +1,54 @@
+-- From what each lane did to the one history in which all of them stand.
+use Rattle.std.specs.Prelude.{◌≡◌, ◌≢◌, ℕ, ◌==◌, ◌<◌, ◌≤◌, List, [], ◌∷◌, None, filter, map, length, slice_index_or}
+use Rattle.request_book.specs.Replay.{state_after}
+use Rattle.request_book.specs.declared.command.Command.{Command}
+use Rattle.request_book.specs.declared.command.Command.TheVariants.{Report, Pickup, Dropoff, Seal, Close}
+use Rattle.request_book.specs.declared.journal.Entry.{Entry}
+use Rattle.request_book.specs.declared.state.State.{State}
+use Rattle.rider_limits.specs.declared.settings.Settings.{Settings}
+use Rattle.road_network.specs.Roads.{Roads}
+use Rattle.seat_lock.specs.declared.logged.Entry.{Entry as Logged}
+use Rattle.shared_book.specs.declared.locked.LockedReply.{LockedReply}
+use Rattle.shared_book.specs.Locked.{entry_of}
+use Rattle.shared_book.specs.Shared.{BookPass}
+use Rattle.dispatch_engine.specs.Lane.{of_lane, IsLaneRun, LaneClosesAreGood, ClosesAreGood}
+
+-- the calls of a lane in a log
+abbrev pub calls_of_lane : ℕ → List (Logged Command LockedReply) → List (Logged Command LockedReply)
+calls_of_lane lane calls = filter (λ c. c.lane == lane) calls
+
+-- the calls of a pass, without their positions
+abbrev pub calls_of_pass : BookPass → List (Logged Command LockedReply)
+calls_of_pass p = map (λ c. c.1) p.calls
+
+-- the command is no seal and no close
+abbrev pub IsPlain : Command → Type 0
+IsPlain (Seal now) = ⊥
+IsPlain (Close batch outcome) = ⊥
+IsPlain _ = Unit {0}
+
+-- the command is a vehicle's: a report, a pickup or a drop-off
+abbrev pub IsOfVehicle : Command → Type 0
+IsOfVehicle (Report vehicle node time) = Unit {0}
+IsOfVehicle (Pickup vehicle rider time) = Unit {0}
+IsOfVehicle (Dropoff vehicle rider time) = Unit {0}
+IsOfVehicle _ = ⊥
+
+-- each command is plain
+abbrev pub ArePlain : List Command → Type 0
+ArePlain [] = Unit {0}
+ArePlain (c ∷ cs) = IsPlain c × ArePlain cs
+
+-- each pass ran its lane's commands; lane 0 alone seals, and its closes are good; where there is no pass there is no command
+pub record HaveRun (settings : Settings) (roads : Roads) (lanes : ℕ → List Command) (passes : List BookPass) : Type 0 where
+  pub some : 0 < length passes
+  pub runs : (k : ℕ) (d : BookPass) → k < length passes → IsLaneRun (lanes k) (map entry_of (calls_of_pass (slice_index_or passes k d)))
+  pub closes : (d : BookPass) → LaneClosesAreGood settings roads None (calls_of_pass (slice_index_or passes 0 d))
+  pub plain : (k : ℕ) → k ≢ 0 → ArePlain (lanes k)
+  pub beyond : (k : ℕ) → length passes ≤ k → lanes k ≡ []
+
+-- the entries are a run of each lane's commands, every close is good, and no batch waits for its close
+pub record IsJointRun (settings : Settings) (roads : Roads) (s : State) (commands : ℕ → List Command) (entries : List Entry) : Type 0 where
+  pub lanes : (k : ℕ) → IsLaneRun (commands k) (of_lane k entries)
+  pub closes : ClosesAreGood settings roads s entries
+  pub closed : (state_after roads.nodes settings.wait s entries).sealed ≡ None

@@ -1,0 +1,7 @@
+use Rattle.dispatch_report.specs.Round.{end_text}
+use Rattle.dispatch_report.proofs.LineLemmas.{as_text}
+use Rattle.dispatch_report.proofs.round.write_end.Goals as goal
+
+pub returns : goal.returns
+unfolding end_text
+returns g c = as_text c.write_number.ensures

@@ -1,0 +1,11 @@
+use Rattle.std.proofs.Common.{List, ap, subst}
+use Rattle.std.specs.List.{flat_map}
+use Rattle.dispatch_report.specs.Summary.{summary_text}
+use Rattle.dispatch_report.proofs.SummaryLemmas.{entry_summary}
+use Rattle.dispatch_report.proofs.LineLemmas.{as_text, same_lines}
+use Rattle.dispatch_report.proofs.summary.write_summary.Goals as goal
+
+pub returns : goal.returns
+unfolding summary_text
+returns g c =
+    as_text (same_lines (flat_map entry_summary c.as_slice.result.now) (flat_map entry_summary c.args.journal.now.entries) (ap (λ es. flat_map entry_summary es) c.as_slice.ensures) c.write_batches.ensures)

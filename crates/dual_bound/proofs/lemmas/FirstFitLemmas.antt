@@ -1,0 +1,104 @@
+-- The first-fit pass.
+use Rattle.std.proofs.Common.{◌≡◌, ◌≢◌, ◌==◌, ◌⊎◌, ◌&&◌, ℕ, zero, suc, ◌+◌, ◌*◌, ◌<◌, ◌≤◌, Bool, true, false, List, [], ◌∷◌, ◌++◌, length, get_or, set, Option, Some, None, ℤ, pos, ◌+ℤ◌, ◌-ℤ◌, ◌*ℤ◌, ◌≤ℤ◌, refl, sym, ap, ◌∙◌, subst, ⊎_elim, arith, add-one}
+use Rattle.std.proofs.lemmas.Int.{ints}
+use Rattle.std.proofs.lemmas.Bool.{cases_eq, cases_lt, cond-true, cond-false}
+use Rattle.std.proofs.lemmas.List.{get_or_push, get_or_append_left, get_or_past, get_or-set_same, get_or-set_other, length_push, ext_get_or}
+use Rattle.plan_rules.specs.Sums.{least_below, lesser}
+use Rattle.plan_rules.specs.Graph.{Graph, row_at, has_rider}
+use Rattle.plan_rules.specs.Multipliers.{Usable, multiplier_at, multiplier_sum, least_cost, room_at, first_fit_of, first_fit_below}
+use Rattle.plan_rules.specs.declared.row.TripRow.{TripRow}
+use Rattle.plan_rules.proofs.lemmas.SumLemmas.{least_below_more}
+use Rattle.dual_bound.specs.Size.{IsModest}
+
+-- one more number
+pub least_take : (n : ℕ) (p : ℕ → Bool) (f : ℕ → ℤ) (o : Option ℤ) (z : ℤ) → p n ≡ true → o ≡ least_below n p f → z ≡ f n → Some (lesser o z) ≡ least_below (n + 1) p f
+least_take n p f o z passes e value =
+    ap (λ (q : Option ℤ). Some (lesser q z)) e ∙ ap (λ (w : ℤ). Some (lesser (least_below n p f) w)) value
+    ∙ sym (least_below_more n p f ∙ cond-true (p n) (Some (lesser (least_below n p f) (f n))) (least_below n p f) passes)
+
+pub least_pass : (n : ℕ) (p : ℕ → Bool) (f : ℕ → ℤ) (o : Option ℤ) → p n ≡ false → o ≡ least_below n p f → o ≡ least_below (n + 1) p f
+least_pass n p f o fails e =
+    e ∙ sym (least_below_more n p f ∙ cond-false (p n) (Some (lesser (least_below n p f) (f n))) (least_below n p f) fails)
+
+-- what holds of each number at its place holds with one more at the end
+pub push_all : (P : ℕ → ℤ → Type 0) (xs : List ℤ) (n : ℕ) (z : ℤ) → length xs ≡ n → ((v : ℕ) → v < n → P v (get_or xs v (pos 0))) → P n z → (v : ℕ) → v < n + 1 → P v (get_or (xs ++ z ∷ []) v (pos 0))
+push_all P xs n z long before here v l =
+    ⊎_elim
+    (λ (last : v ≡ n).
+    subst (P v) (sym (get_or_push xs z (pos 0) v (long ∙ sym last))) (subst (λ (w : ℕ). P w z) (sym last) here))
+    (λ (other : v ≡ n → ⊥). subst (P v) (sym (get_or_append_left xs (z ∷ []) (pos 0) v (omega (arith, l, long)))) (before v (omega (arith, l))))
+    (cases_eq v n)
+
+pub room_from : (g : Graph) (usable : Usable) (ms : List ℤ) (k : ℕ) (x : TripRow) (least value : ℤ) → x ≡ row_at g k → least ≡ least_cost g usable x.vehicle → value ≡ (pos 1024 *ℤ (pos x.cost -ℤ least) -ℤ multiplier_sum ms x.riders.items) → value ≡ room_at g usable ms k
+room_from g usable ms k x least value read cheapest is =
+    is
+    ∙ ap (λ (l : ℤ). pos 1024 *ℤ (pos x.cost -ℤ l) -ℤ multiplier_sum ms x.riders.items) cheapest
+    ∙ ap (λ (r : TripRow). pos 1024 *ℤ (pos r.cost -ℤ least_cost g usable r.vehicle) -ℤ multiplier_sum ms r.riders.items) read
+
+-- ---- the multipliers so far
+
+pub multiplier_sum_same : (aa bb : List ℤ) → ((r : ℕ) → multiplier_at aa r ≡ multiplier_at bb r) → (xs : List ℕ) → multiplier_sum aa xs ≡ multiplier_sum bb xs
+multiplier_sum_same aa bb e [] = refl
+multiplier_sum_same aa bb e (x ∷ xs) =
+    let first : multiplier_at aa x ≡ multiplier_at bb x = e x in
+    let rest : multiplier_sum aa xs ≡ multiplier_sum bb xs = multiplier_sum_same aa bb e xs in
+    cc
+
+pub first_fit_of_same : (g : Graph) (usable : Usable) (aa bb : List ℤ) (r : ℕ) → ((q : ℕ) → multiplier_at aa q ≡ multiplier_at bb q) → first_fit_of g usable aa r ≡ first_fit_of g usable bb r
+first_fit_of_same g usable aa bb r e =
+    let room : (k : ℕ) → room_at g usable aa k ≡ room_at g usable bb k = λ k. ap (λ (s : ℤ). pos 1024 *ℤ (pos (row_at g k).cost -ℤ least_cost g usable (row_at g k).vehicle) -ℤ s) (multiplier_sum_same aa bb e (row_at g k).riders.items) in
+    λ i. lesser (least_below (length g.rows) (λ k. usable k && has_rider g k r) (λ k. room k i)) (pos (1024 * g.penalty))
+
+pub first_fit_none : (g : Graph) (usable : Usable) (r : ℕ) → multiplier_at (first_fit_below g usable 0) r ≡ pos 0
+unfolding first_fit_below
+first_fit_none g usable r = refl
+
+pub length-first_fit : (g : Graph) (usable : Usable) (n : ℕ) → length (first_fit_below g usable n) ≡ n
+unfolding first_fit_below
+length-first_fit g usable zero = refl
+length-first_fit g usable (suc n) =
+    let more = length_push (first_fit_below g usable n) (first_fit_of g usable (first_fit_below g usable n) n) in
+    let before = length-first_fit g usable n in
+    omega (arith, more, before)
+
+first_fit_suc : (g : Graph) (usable : Usable) (n : ℕ) → first_fit_below g usable (n + 1) ≡ first_fit_below g usable n ++ first_fit_of g usable (first_fit_below g usable n) n ∷ []
+unfolding first_fit_below
+first_fit_suc g usable n = rw add-one refl
+
+-- one more rider's multiplier
+pub first_fit_more : (g : Graph) (usable : Usable) (n : ℕ) (ms : List ℤ) (m : ℤ) → n < length ms → ((r : ℕ) → multiplier_at ms r ≡ multiplier_at (first_fit_below g usable n) r) → m ≡ first_fit_of g usable ms n
+    → (r : ℕ) → multiplier_at (set ms n m) r ≡ multiplier_at (first_fit_below g usable (n + 1)) r
+first_fit_more g usable n ms m l same value r =
+    let before = first_fit_below g usable n in
+    let next = first_fit_of g usable before n in
+    let long : length before ≡ n = length-first_fit g usable n in
+    let found : m ≡ next = value ∙ first_fit_of_same g usable ms before n same in
+    let suc_is = sym (ap (λ (xs : List ℤ). multiplier_at xs r) (first_fit_suc g usable n)) in
+    ⊎_elim
+    (λ (here : r ≡ n).
+    ap (λ (q : ℕ). get_or (set ms n m) q (pos 0)) here ∙ get_or-set_same ms n m (pos 0) l ∙ found
+    ∙ sym (get_or_push before next (pos 0) r (long ∙ sym here)) ∙ suc_is)
+    (λ (other : r ≡ n → ⊥).
+    get_or-set_other ms n r m (pos 0) other ∙ same r
+    ∙ ⊎_elim
+    (λ (low : r < n). sym (get_or_append_left before (next ∷ []) (pos 0) r (omega (arith, low, long))))
+    (λ (high : n ≤ r).
+    get_or_past before r (pos 0) (omega (arith, high, long))
+    ∙ sym (get_or_past (before ++ next ∷ []) r (pos 0) (omega (arith, high, other, long, length_push before next))))
+    (cases_lt r n)
+    ∙ suc_is)
+    (cases_eq r n)
+
+pub first_fit_done : (g : Graph) (usable : Usable) (n : ℕ) (ms : List ℤ) → length ms ≡ n → ((r : ℕ) → multiplier_at ms r ≡ multiplier_at (first_fit_below g usable n) r) → ms ≡ first_fit_below g usable n
+first_fit_done g usable n ms long same =
+    ext_get_or (pos 0) ms (first_fit_below g usable n) (long ∙ sym (length-first_fit g usable n)) (λ r l. same r)
+
+pub modest_zero : (z : ℤ) → z ≡ pos 0 → IsModest z
+modest_zero z e = record { low = omega (arith, ints, e); high = omega (arith, ints, e) }
+
+pub modest_set : (ms : List ℤ) (n : ℕ) (m : ℤ) → IsModest m → ((r : ℕ) → IsModest (multiplier_at ms r)) → n < length ms → (r : ℕ) → IsModest (multiplier_at (set ms n m) r)
+modest_set ms n m here others l r =
+    ⊎_elim
+    (λ (same : r ≡ n). subst IsModest (sym (ap (λ (q : ℕ). get_or (set ms n m) q (pos 0)) same ∙ get_or-set_same ms n m (pos 0) l)) here)
+    (λ (other : r ≡ n → ⊥). subst IsModest (sym (get_or-set_other ms n r m (pos 0) other)) (others r))
+    (cases_eq r n)

@@ -1,8 +1,0 @@
-use Rattle.std.proofs.Common.{arith}
-use Rattle.std.proofs.lemmas.Int.{ints}
-use Rattle.plan_rules.specs.Multipliers.{leaf_value}
-use Rattle.dual_bound.proofs.value.leaf_value.Goals as goal
-
-pub returns-clause-value : goal.returns-clause-value
-unfolding leaf_value
-returns-clause-value c = omega (arith, ints, c.vehicle_terms.ensures.value, c.rider_terms.ensures.value)

@@ -1,0 +1,172 @@
+-- Marks on riders of usable and of sole rows.
+use Rattle.std.proofs.Common.{◌≡◌, ◌≢◌, ◌==◌, ◌⊎◌, ◌||◌, ℕ, ◌+◌, ◌<◌, ◌≤◌, Bool, true, false, IsTrue, List, length, get_or, Option, Some, None, refl, sym, ap, ◌∙◌, subst, inl, inr, ⊎_elim, arith}
+use Rattle.std.specs.List.{list_any}
+use Rattle.std.proofs.lemmas.Bool.{cases_eq, cases_lt, or_cases, or_left, or_right, both_ways}
+use Rattle.std.proofs.lemmas.List.{get_or_past}
+use Rattle.plan_rules.specs.Graph.{Graph, row_at, riders_at, row_vehicle, has_rider, choice_at, must_be_served, times_served, IsGraphRow, IsRowOf, IsGoodGraph}
+use Rattle.plan_rules.specs.Multipliers.{Usable}
+use Rattle.plan_rules.specs.Tree.{MayUse, IsSoleRow, IsClash, IsStranded, IsDeadEnd}
+use Rattle.plan_rules.proofs.lemmas.GraphLemmas.{has, rider_below, in_choice, times_served_found}
+use Rattle.plan_rules.proofs.lemmas.PlanLemmas.{own_row, held_own}
+use Rattle.plan_rules.proofs.lemmas.MarkLemmas.{any_marked, marked_one}
+use Rattle.std.proofs.lemmas.Bool.{ltb-true}
+use Rattle.plan_rules.specs.work.DeadEnd.{MarksUsable, MarksSole}
+
+-- the marks with those of a row's riders added
+pub record AddsRow (g : Graph) (k : ℕ) (old new : List Bool) : Type 0 where
+  pub sized : length new ≡ length old
+  pub marked : (r : ℕ) → r < length old → get_or new r false ≡ (get_or old r false || has_rider g k r)
+
+pub marks_from : (g : Graph) (k : ℕ) (old new : List Bool) (r : ℕ) → AddsRow g k old new → get_or new r false ≡ true → (get_or old r false ≡ true) ⊎ (has_rider g k r ≡ true)
+marks_from g k old new r adds e =
+    ⊎_elim
+    (λ (low : r < length old). or_cases (get_or old r false) (has_rider g k r) (sym (adds.marked r low) ∙ e))
+    (λ (high : length old ≤ r). absurd (both_ways false refl (sym (get_or_past new r false (omega (arith, adds.sized, high))) ∙ e)))
+    (cases_lt r (length old))
+
+pub marks_old : (g : Graph) (k : ℕ) (old new : List Bool) (r : ℕ) → AddsRow g k old new → get_or old r false ≡ true → get_or new r false ≡ true
+marks_old g k old new r adds e =
+    ⊎_elim
+    (λ (low : r < length old). adds.marked r low ∙ or_left (get_or old r false) (has_rider g k r) e)
+    (λ (high : length old ≤ r). absurd (both_ways false refl (sym (get_or_past old r false high) ∙ e)))
+    (cases_lt r (length old))
+
+pub marks_new : (g : Graph) (k : ℕ) (old new : List Bool) (r : ℕ) → AddsRow g k old new → length old ≡ g.riders → IsGraphRow g.vehicles g.riders (row_at g k) → has_rider g k r ≡ true → get_or new r false ≡ true
+marks_new g k old new r adds sized row e =
+    let low : r < g.riders = rider_below g k r row e in
+    adds.marked r (omega (arith, low, sized)) ∙ or_right (get_or old r false) (has_rider g k r) e
+
+-- ---- usable rows
+
+pub usable_none : (g : Graph) (usable : Usable) (marks : List Bool) → ((r : ℕ) → get_or marks r false ≡ false) → MarksUsable g usable 0 marks
+usable_none g usable marks clear = record {
+  from_row = λ r e. absurd (both_ways _ (clear r) e);
+  of_row = λ k r l may e. absurd (omega (arith, l));
+}
+
+pub usable_more : (g : Graph) (usable : Usable) (n : ℕ) (old new : List Bool) → AddsRow g n old new → length old ≡ g.riders → IsGraphRow g.vehicles g.riders (row_at g n) → usable n ≡ true → MarksUsable g usable n old → MarksUsable g usable (n + 1) new
+usable_more g usable n old new adds sized row may before = record {
+  from_row = λ r e.
+      ⊎_elim
+      (λ (was : get_or old r false ≡ true). let w = before.from_row r was in (w.0, omega (arith, w.1), w.2, w.3))
+      (λ (new_one : has_rider g n r ≡ true). (n, omega arith, may, new_one))
+      (marks_from g n old new r adds e);
+  of_row = λ k r l use_it e.
+      ⊎_elim
+      (λ (here : k ≡ n). marks_new g n old new r adds sized row (subst (λ (j : ℕ). has_rider g j r ≡ true) here e))
+      (λ (other : k ≡ n → ⊥). marks_old g n old new r adds (before.of_row k r (omega (arith, l)) use_it e))
+      (cases_eq k n);
+}
+
+pub usable_kept : (g : Graph) (usable : Usable) (n : ℕ) (marks : List Bool) → usable n ≡ false → MarksUsable g usable n marks → MarksUsable g usable (n + 1) marks
+usable_kept g usable n marks out before = record {
+  from_row = λ r e. let w = before.from_row r e in (w.0, omega (arith, w.1), w.2, w.3);
+  of_row = λ k r l use_it e.
+      ⊎_elim
+      (λ (here : k ≡ n). absurd (both_ways _ out (subst (λ (j : ℕ). usable j ≡ true) here use_it)))
+      (λ (other : k ≡ n → ⊥). before.of_row k r (omega (arith, l)) use_it e)
+      (cases_eq k n);
+}
+
+-- a rider who must be served is one of the graph's
+pub must_below : (g : Graph) (r : ℕ) → IsGoodGraph g → must_be_served g r ≡ true → r < g.riders
+must_below g r good must =
+    let some : 0 < times_served g g.held g.vehicles r = ltb-true 0 (times_served g g.held g.vehicles r) must in
+    let v = times_served_found g g.held g.vehicles r some in
+    let k = in_choice g (choice_at g.held (v.0)) r (v.2) in
+    let own = own_row g (v.0) (k.0) (choice_at g.held (v.0)) (held_own g (v.0) (choice_at g.held (v.0)) (good.holds (v.0) (v.1))) (k.1) in
+    rider_below g (k.0) r (good.rows (k.0) own.within) (k.2)
+
+pub not_stranded : (g : Graph) (usable : Usable) (marks : List Bool) → IsGoodGraph g → MarksUsable g usable (length g.rows) marks → ((r : ℕ) → r < g.riders → must_be_served g r ≡ true → get_or marks r false ≡ true) → IsStranded g usable → ⊥
+not_stranded g usable marks good marked all s =
+    let w = marked.from_row s.rider (all s.rider (must_below g s.rider good s.must) s.must) in
+    both_ways _ (s.nowhere (w.0) (w.1) (w.2)) (w.3)
+
+-- ---- sole rows
+
+pub sole_none : (g : Graph) (usable : Usable) (marks : List Bool) → ((r : ℕ) → get_or marks r false ≡ false) → MarksSole g usable 0 marks
+sole_none g usable marks clear = record {
+  from_sole = λ r e. absurd (both_ways _ (clear r) e);
+  of_sole = λ v k r l sole e. absurd (omega (arith, l));
+  apart = λ v w j k r l m differ a b d e. absurd (omega (arith, l));
+}
+
+pub sole_kept : (g : Graph) (usable : Usable) (n : ℕ) (marks : List Bool) → ((k : ℕ) → IsSoleRow g usable n k → ⊥) → MarksSole g usable n marks → MarksSole g usable (n + 1) marks
+sole_kept g usable n marks none before = record {
+  from_sole = λ r e. let w = before.from_sole r e in (w.0, w.1, omega (arith, w.2), w.3, w.4);
+  of_sole = λ v k r l sole e.
+      ⊎_elim
+      (λ (here : v ≡ n). absurd (none k (subst (λ (q : ℕ). IsSoleRow g usable q k) here sole)))
+      (λ (other : v ≡ n → ⊥). before.of_sole v k r (omega (arith, l)) sole e)
+      (cases_eq v n);
+  apart = λ v w j k r l m differ a b d e.
+      ⊎_elim
+      (λ (here : v ≡ n). absurd (none j (subst (λ (q : ℕ). IsSoleRow g usable q j) here a)))
+      (λ (other : v ≡ n → ⊥).
+      ⊎_elim
+      (λ (there : w ≡ n). absurd (none k (subst (λ (q : ℕ). IsSoleRow g usable q k) there b)))
+      (λ (apart : w ≡ n → ⊥). before.apart v w j k r (omega (arith, l)) (omega (arith, m)) differ a b d e)
+      (cases_eq w n))
+      (cases_eq v n);
+}
+
+pub sole_more : (g : Graph) (usable : Usable) (n k : ℕ) (old new : List Bool) → AddsRow g k old new → length old ≡ g.riders → IsGraphRow g.vehicles g.riders (row_at g k) → IsSoleRow g usable n k → (list_any (λ q. get_or old q false) (riders_at g k) ≡ false) → MarksSole g usable n old → MarksSole g usable (n + 1) new
+sole_more g usable n k old new adds sized row here unmarked before = record {
+  from_sole = λ r e.
+      ⊎_elim
+      (λ (was : get_or old r false ≡ true). let w = before.from_sole r was in (w.0, w.1, omega (arith, w.2), w.3, w.4))
+      (λ (new_one : has_rider g k r ≡ true). (n, k, omega arith, here, new_one))
+      (marks_from g k old new r adds e);
+  of_sole = λ v j r l sole e.
+      ⊎_elim
+      (λ (last : v ≡ n). marks_new g k old new r adds sized row (subst (λ (q : ℕ). has_rider g q r ≡ true) (is_it v j last sole) e))
+      (λ (other : v ≡ n → ⊥). marks_old g k old new r adds (before.of_sole v j r (omega (arith, l)) sole e))
+      (cases_eq v n);
+  apart = λ v w i j r l m differ a b d e.
+      ⊎_elim
+      (λ (first : v ≡ n).
+      ⊎_elim
+      (λ (second : w ≡ n). absurd (differ (first ∙ sym second)))
+      (λ (other : w ≡ n → ⊥). clash w j r (omega (arith, m)) b e (subst (λ (q : ℕ). has_rider g q r ≡ true) (is_it v i first a) d))
+      (cases_eq w n))
+      (λ (other : v ≡ n → ⊥).
+      ⊎_elim
+      (λ (second : w ≡ n). clash v i r (omega (arith, l)) a d (subst (λ (q : ℕ). has_rider g q r ≡ true) (is_it w j second b) e))
+      (λ (apart : w ≡ n → ⊥). before.apart v w i j r (omega (arith, l)) (omega (arith, m)) differ a b d e)
+      (cases_eq w n))
+      (cases_eq v n);
+}
+  where
+    is_it : (v j : ℕ) → v ≡ n → IsSoleRow g usable v j → j ≡ k
+    is_it v j last sole = here.sole j (subst (λ (q : ℕ). IsSoleRow g usable q j) last sole).row
+
+    clash : (w j r : ℕ) → w < n → IsSoleRow g usable w j → has_rider g j r ≡ true → has_rider g k r ≡ true → ⊥
+    clash w j r l sole d e = both_ways _ unmarked (any_marked old (riders_at g k) r e (before.of_sole w j r l sole d))
+
+-- a marked rider of the vehicle's sole row stands in another one, too
+pub clash_from : (g : Graph) (usable : Usable) (n k : ℕ) (marks : List Bool) → IsSoleRow g usable n k → (list_any (λ q. get_or marks q false) (riders_at g k) ≡ true) → MarksSole g usable n marks → IsClash g usable
+clash_from g usable n k marks here some before =
+    let r = marked_one marks (riders_at g k) some in
+    let w = before.from_sole (r.0) (r.2) in
+    record {
+      first = w.0;
+      second = n;
+      first_row = w.1;
+      second_row = k;
+      rider = r.0;
+      differ = λ (e : w.0 ≡ n). let l = w.2 in omega (arith, l, e);
+      first_sole = w.3;
+      second_sole = here;
+      in_first = w.4;
+      in_second = r.1;
+    }
+
+pub no_clash : (g : Graph) (usable : Usable) (marks : List Bool) → IsGoodGraph g → MarksSole g usable g.vehicles marks → IsClash g usable → ⊥
+no_clash g usable marks good marked c =
+    marked.apart c.first c.second c.first_row c.second_row c.rider (low c.first c.first_row c.first_sole.row.row) (low c.second c.second_row c.second_sole.row.row) c.differ c.first_sole c.second_sole c.in_first c.in_second
+  where
+    low : (v k : ℕ) → IsRowOf g v k → v < g.vehicles
+    low v k row =
+        let below : row_vehicle g k < g.vehicles = (good.rows k row.within).vehicle in
+        let own : row_vehicle g k ≡ v = row.own in
+        omega arith

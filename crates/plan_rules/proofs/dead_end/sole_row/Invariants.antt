@@ -1,0 +1,7 @@
+use Rattle.std.proofs.Common.{◌≡◌, ℕ, ◌<◌, ◌≤◌, MatchOption, IsTrue}
+use Rattle.plan_rules.specs.Multipliers.{usable_of}
+use Rattle.plan_rules.specs.work.DeadEnd.{IsOnlyOf}
+use Rattle.plan_rules.proofs.dead_end.sole_row.Given as goal
+
+abbrev pub invariant-loop-row : goal.invariant-loop-row
+invariant-loop-row l = IsOnlyOf l.graph (usable_of l.allowed) l.vehicle l.row l.sole

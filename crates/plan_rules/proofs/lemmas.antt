@@ -1,0 +1,13 @@
+pub mod DualityLemmas
+pub mod GraphLemmas
+pub mod GreedyLemmas
+pub mod HeldLemmas
+pub mod MarkLemmas
+pub mod PathLemmas
+pub mod PlanLemmas
+pub mod ReadLemmas
+pub mod SearchTreeLemmas
+pub mod SumLemmas
+pub mod TreeLemmas
+pub mod UsableLemmas
+pub mod ValueLemmas

@@ -1,0 +1,174 @@
+-- Riders of rows, and how often riders are served.
+use Rattle.std.proofs.Common.{◌≡◌, ◌≢◌, ◌==◌, ◌⊎◌, ℕ, zero, suc, ◌+◌, ◌*◌, ◌<◌, ◌≤◌, Bool, true, false, cond, not, ◌&&◌, ◌||◌, if◌then◌else◌, nat_lt, IsTrue, List, [], ◌∷◌, length, get_or, take, set, slice_index, Option, Some, None, MatchOption, refl, sym, ap, ◌∙◌, subst, inl, inr, ⊎_elim, arith, add-one, eqb-true, eq-eqb, ne_eqb, lt-ltb, le-ltb, ltb-true, ltb-false}
+use Rattle.std.specs.List.{list_any}
+use Rattle.std.specs.List.Sorted.{IsStrictlyIncreasing}
+use Rattle.std.proofs.lemmas.Bool.{cases_eq, cases_lt, cases_Bool, or_cases, or_left, or_right, both_ways, cond-true, cond-false}
+use Rattle.std.proofs.lemmas.List.Folds.{list_any_more, list_any_at}
+use Rattle.std.proofs.lemmas.List.{get_or-set_same, get_or-set_other, get_or_past, get_or_default, get_or_read}
+use Rattle.plan_rules.specs.Sums.{count_below}
+use Rattle.plan_rules.specs.declared.row.TripRow.{TripRow}
+use Rattle.plan_rules.specs.Graph.{Graph, no_row, row_at, riders_at, row_vehicle, has_rider, IsRowOf, HasNoRow, choice_at, is_in, times_served, must_be_served, IsGraphRow, AreRisingBelow, IsGoodGraph, HoldsRightly, IsStartOf, ChoosesRows, MarksHeld}
+use Rattle.plan_rules.proofs.lemmas.SumLemmas.{flag, flag-le, flag-true, flag-false, count_below_more, count_below_yes, count_below_no, count_below-le, count_below_none, count_below_some, count_below_found}
+
+-- ---- lists of riders
+
+-- the list has this number
+abbrev pub has : List ℕ → ℕ → Bool
+has xs r = list_any (λ x. x == r) xs
+
+-- x is below each number of the list
+abbrev IsBelow : ℕ → List ℕ → Type 0
+IsBelow x xs = (r : ℕ) → has xs r ≡ true → x < r
+
+pub tail_rises : (x : ℕ) (xs : List ℕ) → IsStrictlyIncreasing (x ∷ xs) → IsStrictlyIncreasing xs
+tail_rises x xs h k l =
+    let e : suc k + 1 ≡ suc (k + 1) = omega arith in
+    subst (λ (j : ℕ). get_or xs k 0 < get_or (x ∷ xs) j 0) e (h (suc k) (omega arith))
+
+below_tail : (x : ℕ) (xs : List ℕ) → IsStrictlyIncreasing (x ∷ xs) → IsBelow x xs
+below_tail x [] h r e = absurd (both_ways false refl e)
+below_tail x (y ∷ ys) h r e =
+    let first : x < y = h 0 (omega arith) in
+    ⊎_elim
+    (λ (here : (y == r) ≡ true). let same : y ≡ r = eqb-true y r here in omega arith)
+    (λ (later : has ys r ≡ true). let above : y < r = below_tail y ys (tail_rises x (y ∷ ys) h) r later in omega arith)
+    (or_cases (y == r) (has ys r) e)
+
+-- the first of rising riders stands nowhere else
+pub head_apart : (x : ℕ) (xs : List ℕ) (r : ℕ) → IsStrictlyIncreasing (x ∷ xs) → (x == r) ≡ true → has xs r ≡ true → ⊥
+head_apart x xs r h here later =
+    let same : x ≡ r = eqb-true x r here in
+    let above : x < r = below_tail x xs h r later in
+    omega arith
+
+-- what holds of each number at its place holds of each in the list
+pub has_below : (n : ℕ) (xs : List ℕ) (r : ℕ) → ((i : ℕ) → i < length xs → get_or xs i 0 < n) → has xs r ≡ true → r < n
+has_below n [] r h e = absurd (both_ways false refl e)
+has_below n (x ∷ xs) r h e =
+    ⊎_elim
+    (λ (here : (x == r) ≡ true). let same : x ≡ r = eqb-true x r here in let low : x < n = h 0 (omega arith) in omega arith)
+    (λ (later : has xs r ≡ true). has_below n xs r (λ i l. h (suc i) (omega arith)) later)
+    (or_cases (x == r) (has xs r) e)
+
+pub has_at : (xs : List ℕ) (i : ℕ) → i < length xs → has xs (get_or xs i 0) ≡ true
+has_at xs i l = list_any_at (λ x. x == get_or xs i 0) xs i 0 l (eq-eqb (get_or xs i 0) (get_or xs i 0) refl)
+
+-- a rider of a row is one of the graph's
+pub rider_below : (g : Graph) (k r : ℕ) → IsGraphRow g.vehicles g.riders (row_at g k) → has_rider g k r ≡ true → r < g.riders
+rider_below g k r row e = has_below g.riders (riders_at g k) r row.members.below e
+
+-- ---- how often a rider is served
+
+pub times_served_more : (g : Graph) (chosen : List (Option ℕ)) (n r : ℕ) → times_served g chosen (n + 1) r ≡ times_served g chosen n r + flag (is_in g (choice_at chosen n) r)
+unfolding times_served
+times_served_more g chosen n r = count_below_more n (λ v. is_in g (choice_at chosen v) r)
+
+pub times_served_none : (g : Graph) (chosen : List (Option ℕ)) (r : ℕ) → times_served g chosen 0 r ≡ 0
+unfolding times_served
+times_served_none g chosen r = refl
+
+pub times_served-le : (g : Graph) (chosen : List (Option ℕ)) (n r : ℕ) → times_served g chosen n r ≤ n
+unfolding times_served
+times_served-le g chosen n r = count_below-le n (λ v. is_in g (choice_at chosen v) r)
+
+pub times_served_found : (g : Graph) (chosen : List (Option ℕ)) (n r : ℕ) → 1 ≤ times_served g chosen n r → (v : ℕ) × (v < n) × (is_in g (choice_at chosen v) r ≡ true)
+unfolding times_served
+times_served_found g chosen n r h = count_below_found n (λ v. is_in g (choice_at chosen v) r) h
+
+pub times_served_some : (g : Graph) (chosen : List (Option ℕ)) (n r v : ℕ) → v < n → is_in g (choice_at chosen v) r ≡ true → 1 ≤ times_served g chosen n r
+unfolding times_served
+times_served_some g chosen n r v l e = count_below_some n (λ v. is_in g (choice_at chosen v) r) v l e
+
+pub times_served_as_count : (g : Graph) (chosen : List (Option ℕ)) (n r : ℕ) → times_served g chosen n r ≡ count_below n (λ v. is_in g (choice_at chosen v) r)
+unfolding times_served
+times_served_as_count g chosen n r = refl
+
+-- who is in a choice is in the trip of its row
+pub in_choice : (g : Graph) (c : Option ℕ) (r : ℕ) → is_in g c r ≡ true → (k : ℕ) × (c ≡ Some k) × (has_rider g k r ≡ true)
+in_choice g None r e = absurd (both_ways false refl e)
+in_choice g (Some k) r e = (k, refl, e)
+
+-- no trip has a rider whom the graph hasn't
+pub times_served_outside : (g : Graph) (chosen : List (Option ℕ)) (n r : ℕ) → ((k : ℕ) → k < length g.rows → IsGraphRow g.vehicles g.riders (row_at g k)) → ((v k : ℕ) → v < n → choice_at chosen v ≡ Some k → k < length g.rows) → g.riders ≤ r → times_served g chosen n r ≡ 0
+unfolding times_served
+times_served_outside g chosen n r rows fits out =
+    count_below_none n (λ v. is_in g (choice_at chosen v) r)
+    (λ v l. nobody v l (is_in g (choice_at chosen v) r) refl)
+  where
+    nobody : (v : ℕ) → v < n → (b : Bool) → is_in g (choice_at chosen v) r ≡ b → is_in g (choice_at chosen v) r ≡ false
+    nobody v l false e = e
+    nobody v l true e =
+        let w = in_choice g (choice_at chosen v) r e in
+        let low : r < g.riders = rider_below g (w.0) r (rows (w.0) (fits v (w.0) l (w.1))) (w.2) in
+        absurd (omega arith)
+
+-- ---- rows of vehicles
+
+-- between two starts stand the rows of one vehicle
+pub row_between : (g : Graph) (v k start next : ℕ) → IsStartOf g v start → IsStartOf g (v + 1) next → start ≤ k → k < next → IsRowOf g v k
+row_between g v k start next first second low high =
+    let above : v ≤ row_vehicle g k = first.above k low (omega (arith, second.within)) in
+    let below : row_vehicle g k < v + 1 = second.below k high in
+    record { within = omega (arith, second.within); own = omega arith }
+
+pub between_row : (g : Graph) (v k start next : ℕ) → IsStartOf g v start → IsStartOf g (v + 1) next → IsRowOf g v k → (start ≤ k) × (k < next)
+between_row g v k start next first second row =
+    let within : k < length g.rows = row.within in
+    let own : row_vehicle g k ≡ v = row.own in (
+      ⊎_elim (λ (low : k < start). let wrong : row_vehicle g k < v = first.below k low in absurd (omega arith)) (λ (yes : start ≤ k). yes) (cases_lt k start),
+      ⊎_elim (λ (yes : k < next). yes) (λ (high : next ≤ k). let wrong : v + 1 ≤ row_vehicle g k = second.above k high within in absurd (omega arith)) (cases_lt k next),
+    )
+
+pub no_row_between : (g : Graph) (v start : ℕ) → IsStartOf g v start → IsStartOf g (v + 1) start → HasNoRow g v
+no_row_between g v start first second k row =
+    let w = between_row g v k start start first second row in
+    omega (arith, w.0, w.1)
+
+-- where a vehicle has no row, its rows start where they end
+pub starts_meet : (g : Graph) (v start next : ℕ) → IsStartOf g v start → IsStartOf g (v + 1) next → HasNoRow g v → start ≡ next
+starts_meet g v start next first second none =
+    ⊎_elim
+    (λ (some : start < next). absurd (none start (row_between g v start start next first second (omega arith) some)))
+    (λ (high : next ≤ start).
+    ⊎_elim
+    (λ (cross : next < start).
+    let below : row_vehicle g next < v = first.below next cross in
+    let above : v + 1 ≤ row_vehicle g next = second.above next (omega arith) (omega (arith, first.within)) in
+    absurd (omega arith))
+    (λ (low : start ≤ next). omega arith)
+    (cases_lt next start))
+    (cases_lt start next)
+
+-- ---- held rows
+
+-- the first n vehicles hold a rider at most once
+pub held_once : (g : Graph) (n r : ℕ) → n ≤ g.vehicles → ((v : ℕ) → v < n → HoldsRightly g v) → times_served g g.held n r ≤ 1
+held_once g zero r low holds = omega (arith, times_served_none g g.held r)
+held_once g (suc n) r low holds =
+    let more : times_served g g.held (n + 1) r ≡ times_served g g.held n r + flag (is_in g (choice_at g.held n) r) = times_served_more g g.held n r in
+    let same : times_served g g.held (suc n) r ≡ times_served g g.held (n + 1) r = ap (λ (m : ℕ). times_served g g.held m r) (sym (add-one n)) in
+    let before : times_served g g.held n r ≤ 1 = held_once g n r (omega arith) (λ v l. holds v (omega arith)) in
+    ⊎_elim
+    (λ (yes : is_in g (choice_at g.held n) r ≡ true).
+    let counted : flag (is_in g (choice_at g.held n) r) ≡ 1 = flag-true _ yes in
+    let alone : times_served g g.held n r ≡ 0 = alone_at (choice_at g.held n) (holds n (omega arith)) yes in
+    omega arith)
+    (λ (no : is_in g (choice_at g.held n) r ≡ false).
+    let counted : flag (is_in g (choice_at g.held n) r) ≡ 0 = flag-false _ no in
+    omega arith)
+    (cases_Bool (is_in g (choice_at g.held n) r))
+  where
+    alone_at : (c : Option ℕ) → MatchOption c (HasNoRow g n) (λ k. IsRowOf g n k × ((r : ℕ) → IsTrue (has_rider g k r) → times_served g g.held n r ≡ 0)) → is_in g c r ≡ true → times_served g g.held n r ≡ 0
+    alone_at None h e = absurd (both_ways false refl e)
+    alone_at (Some k) h e = h.1 r e
+
+-- ---- reads
+
+-- a row that was read is the graph's
+pub row_read : (g : Graph) (rows : List TripRow) (k : ℕ) (x : TripRow) → rows ≡ g.rows → k < length g.rows → x ≡ get_or rows k x → x ≡ row_at g k
+row_read g rows k x e l is = get_or_read g.rows k x l (is ∙ ap (λ (r : List TripRow). get_or r k x) e) no_row
+
+-- what is not none is some
+pub some_choice : (o : Option ℕ) → (o ≡ None → ⊥) → (k : ℕ) × (o ≡ Some k)
+some_choice None h = absurd (h refl)
+some_choice (Some k) h = (k, refl)

@@ -1,0 +1,228 @@
+-- Greedy plans: ranks, and what taking a row keeps.
+use Rattle.std.proofs.Common.{◌≡◌, ◌≢◌, ◌==◌, ◌⊎◌, ◌||◌, ℕ, ◌+◌, ◌-◌, ◌*◌, ◌%◌, ◌<◌, ◌≤◌, Bool, true, false, IsTrue, List, length, get_or, set, replicate, Option, Some, None, refl, sym, ap, ◌∙◌, subst, inl, inr, ⊎_elim, arith, Any}
+use Rattle.std.specs.List.{list_any}
+use Rattle.std.proofs.lemmas.Bool.{cases_eq, cases_lt, cases_Bool, or_cases, or_left, or_right, both_ways}
+use Rattle.std.proofs.lemmas.List.{get_or-replicate, length-replicate, get_or-set_same, get_or-set_other, get_or_past, get_or_default, length-set}
+use Rattle.std.proofs.lemmas.List.Folds.{list_any_at}
+use Rattle.plan_rules.specs.Graph.{Graph, row_at, riders_at, cost_at, row_vehicle, has_rider, choice_at, IsRowOf, IsGraphRow, IsGoodGraph}
+use Rattle.plan_rules.specs.Greedy.{IsTaken, IsApart, IsTriedBefore, IsGreedy}
+use Rattle.plan_rules.specs.Rank.{rank_value, rank_of, IsRankOfRow, IsSelection, IsInTheWay}
+use Rattle.plan_rules.proofs.lemmas.GraphLemmas.{has, rider_below}
+use Rattle.plan_rules.proofs.lemmas.MarkLemmas.{any_marked, marked_one}
+
+pub rank_value-mod : (size cost k : ℕ) → k < 2000000 → rank_value size cost k % 2000000 ≡ k
+unfolding rank_value
+rank_value-mod size cost k l = omega (arith, l)
+
+-- a rank that is no greater, of another row, is that of a row that is tried before
+rank_order : (a b x y j k : ℕ) → a ≤ 6 → b ≤ 6 → x ≤ 1000000000 → y ≤ 1000000000 → j < 2000000 → k < 2000000 → (j ≡ k → ⊥) → rank_value a x j ≤ rank_value b y k
+    → (b < a) ⊎ ((a ≡ b) × ((x < y) ⊎ ((x ≡ y) × (j < k))))
+unfolding rank_value
+rank_order a b x y j k la lb lx ly lj lk ne low =
+    ⊎_elim
+    (λ (larger : b < a). inl larger)
+    (λ (smaller : a ≤ b).
+    ⊎_elim
+    (λ (same : a ≡ b).
+    inr (
+      same,
+      ⊎_elim
+          (λ (cheaper : x < y). inl cheaper)
+          (λ (dearer : y ≤ x).
+          ⊎_elim
+          (λ (alike : x ≡ y). inr (alike, omega arith))
+          (λ (differs : x ≡ y → ⊥). absurd (omega arith))
+          (cases_eq x y))
+          (cases_lt x y),
+    ))
+    (λ (differs : a ≡ b → ⊥). absurd (omega arith))
+    (cases_eq a b))
+    (cases_lt b a)
+
+pub rank_before : (g : Graph) (j k : ℕ) → IsGoodGraph g → j < length g.rows → k < length g.rows → (j ≡ k → ⊥) → rank_of g j ≤ rank_of g k → IsTriedBefore g j k
+rank_before g j k good lj lk ne low =
+    let few = good.limits.rows in
+    rank_order (length (riders_at g j)) (length (riders_at g k)) (cost_at g j) (cost_at g k) j k
+    (good.rows j lj).few (good.rows k lk).few (good.rows j lj).cheap (good.rows k lk).cheap
+    (omega (arith, few, lj)) (omega (arith, few, lk)) ne low
+
+pub row_ranked : (g : Graph) (k : ℕ) → IsGoodGraph g → k < length g.rows → IsRankOfRow g (rank_of g k)
+row_ranked g k good l =
+    let few = good.limits.rows in
+    let number : rank_of g k % 2000000 ≡ k = rank_value-mod (length (riders_at g k)) (cost_at g k) k (omega (arith, few, l)) in
+    record { within = omega arith; ranked = ap (rank_of g) number }
+
+same_some : (j k : ℕ) → Some j ≡ Some k → j ≡ k
+same_some j k e = cc
+
+none_some : (k : ℕ) → ◌≡◌ {A = Option ℕ} None (Some k) → ⊥
+none_some k e = cc
+
+-- ---- taking a row
+
+module _ (g : Graph) (chosen : List (Option ℕ)) (served : List Bool) (row : ℕ) (good : IsGoodGraph g) (within : row < length g.rows) (selection : IsSelection g chosen served) (free : choice_at chosen (row_vehicle g row) ≡ None) where
+  inside : row_vehicle g row < length chosen
+  inside =
+      let low : row_vehicle g row < g.vehicles = (good.rows row within).vehicle in
+      let sized : length chosen ≡ g.vehicles = selection.sized in
+      omega arith
+
+  -- who is taken has another vehicle
+  other_vehicle : (j : ℕ) → IsTaken g chosen j → row_vehicle g j ≡ row_vehicle g row → ⊥
+  other_vehicle j taken e = none_some j (sym free ∙ ap (choice_at chosen) (sym e) ∙ taken)
+
+  pub taken_stays : (j : ℕ) → IsTaken g chosen j → IsTaken g (set chosen (row_vehicle g row) (Some row)) j
+  taken_stays j taken = get_or-set_other chosen (row_vehicle g row) (row_vehicle g j) (Some row) None (other_vehicle j taken) ∙ taken
+
+  pub row_taken : IsTaken g (set chosen (row_vehicle g row) (Some row)) row
+  row_taken = get_or-set_same chosen (row_vehicle g row) (Some row) None inside
+
+  pub taken_before : (j : ℕ) → IsTaken g (set chosen (row_vehicle g row) (Some row)) j → IsTaken g chosen j ⊎ (j ≡ row)
+  taken_before j taken =
+      ⊎_elim
+      (λ (here : row_vehicle g j ≡ row_vehicle g row).
+      inr (same_some j row (sym taken ∙ ap (choice_at (set chosen (row_vehicle g row) (Some row))) here ∙ row_taken)))
+      (λ (other : row_vehicle g j ≡ row_vehicle g row → ⊥).
+      inl (sym (get_or-set_other chosen (row_vehicle g row) (row_vehicle g j) (Some row) None other) ∙ taken))
+      (cases_eq (row_vehicle g j) (row_vehicle g row))
+
+  -- a row that is taken is apart from one with no marked rider
+  pub new_apart : (list_any (λ r. get_or served r false) (riders_at g row) ≡ false) → (j : ℕ) → j < length g.rows → IsTaken g chosen j → IsApart g j row
+  new_apart unmarked j low taken = record {
+    vehicles = other_vehicle j taken;
+    riders = λ r a b.
+        let marked : get_or served r false ≡ true = selection.serves j r low taken a in
+        both_ways _ unmarked (any_marked served (riders_at g row) r b marked);
+  }
+
+  flip : (j : ℕ) → IsApart g j row → IsApart g row j
+  flip j apart = record { vehicles = λ e. apart.vehicles (sym e); riders = λ r a b. apart.riders r b a }
+
+  pub selection_more : (list_any (λ r. get_or served r false) (riders_at g row) ≡ false) → (marks : List Bool) → length marks ≡ length served
+      → ((r : ℕ) → r < length served → get_or marks r false ≡ (get_or served r false || has_rider g row r))
+      → IsSelection g (set chosen (row_vehicle g row) (Some row)) marks
+  selection_more unmarked marks len marked = record {
+    sized = length-set chosen (row_vehicle g row) (Some row) ∙ selection.sized;
+    marked = len ∙ selection.marked;
+    own = λ v k low e.
+        ⊎_elim
+        (λ (here : v ≡ row_vehicle g row).
+        let same : k ≡ row = same_some k row (sym e ∙ ap (choice_at (set chosen (row_vehicle g row) (Some row))) here ∙ row_taken) in
+        record { within = subst (λ (q : ℕ). q < length g.rows) (sym same) within; own = ap (row_vehicle g) same ∙ sym here })
+        (λ (other : v ≡ row_vehicle g row → ⊥).
+        selection.own v k low (sym (get_or-set_other chosen (row_vehicle g row) v (Some row) None other) ∙ e))
+        (cases_eq v (row_vehicle g row));
+    apart = λ j k lj lk ne a b.
+        ⊎_elim
+        (λ (old_j : IsTaken g chosen j).
+        ⊎_elim
+        (λ (old_k : IsTaken g chosen k). selection.apart j k lj lk ne old_j old_k)
+        (λ (new_k : k ≡ row). subst (IsApart g j) (sym new_k) (new_apart unmarked j lj old_j))
+        (taken_before k b))
+        (λ (new_j : j ≡ row).
+        ⊎_elim
+        (λ (old_k : IsTaken g chosen k). subst (λ (q : ℕ). IsApart g q k) (sym new_j) (flip k (new_apart unmarked k lk old_k)))
+        (λ (new_k : k ≡ row). absurd (ne (new_j ∙ sym new_k)))
+        (taken_before k b))
+        (taken_before j a);
+    serves = λ j r lj a e.
+        let low : r < g.riders = rider_below g j r (good.rows j lj) e in
+        let sized : length served ≡ g.riders = selection.marked in
+        let now : get_or marks r false ≡ (get_or served r false || has_rider g row r) = marked r (omega arith) in
+        ⊎_elim
+        (λ (old : IsTaken g chosen j). now ∙ or_left (get_or served r false) (has_rider g row r) (selection.serves j r lj old e))
+        (λ (new : j ≡ row). now ∙ or_right (get_or served r false) (has_rider g row r) (subst (λ (q : ℕ). has_rider g q r ≡ true) new e))
+        (taken_before j a);
+    served_by = λ r e.
+        ⊎_elim
+        (λ (low : r < length served).
+        ⊎_elim
+        (λ (old : get_or served r false ≡ true).
+        let w = selection.served_by r old in
+        (w.0, w.1, taken_stays (w.0) (w.2), w.3))
+        (λ (new : has_rider g row r ≡ true). (row, within, row_taken, new))
+        (or_cases (get_or served r false) (has_rider g row r) (sym (marked r low) ∙ e)))
+        (λ (high : length served ≤ r).
+        absurd (both_ways false refl (sym (get_or_past marks r false (omega (arith, len, high))) ∙ e)))
+        (cases_lt r (length served));
+  }
+
+-- a vehicle that has a row already, or a rider of the row who is served already, is in the way
+pub way_by_vehicle : (g : Graph) (chosen : List (Option ℕ)) (served : List Bool) (row k : ℕ) → IsGoodGraph g → row < length g.rows → IsSelection g chosen served → choice_at chosen (row_vehicle g row) ≡ Some k → IsInTheWay g chosen row
+way_by_vehicle g chosen served row k good within selection e =
+    let low : row_vehicle g row < g.vehicles = (good.rows row within).vehicle in
+    let own = selection.own (row_vehicle g row) k low e in
+    record {
+      other = k;
+      within = own.within;
+      taken = ap (choice_at chosen) own.own ∙ e;
+      conflict = λ apart. apart.vehicles own.own;
+    }
+
+pub way_by_rider : (g : Graph) (chosen : List (Option ℕ)) (served : List Bool) (row : ℕ) → IsSelection g chosen served → list_any (λ r. get_or served r false) (riders_at g row) ≡ true → IsInTheWay g chosen row
+way_by_rider g chosen served row selection e =
+    let r = marked_one served (riders_at g row) e in
+    let j = selection.served_by (r.0) (r.2) in
+    record { other = j.0; within = j.1; taken = j.2; conflict = λ apart. apart.riders (r.0) (j.3) (r.1) }
+
+-- ---- the whole ranking
+
+-- the rows taken along a ranking are the greedy plan
+pub greedy_from : (g : Graph) (chosen : List (Option ℕ)) (served : List Bool) → IsGoodGraph g → IsSelection g chosen served
+    → ((k : ℕ) → k < length g.rows → ((j : ℕ) → j < length g.rows → IsTriedBefore g j k → IsTaken g chosen j → IsApart g j k) → IsTaken g chosen k) → IsGreedy g chosen
+greedy_from g chosen served good selection settled = record {
+  sized = selection.sized;
+  own = selection.own;
+  apart = λ j k lj lk before a b. selection.apart j k lj lk (λ (e : j ≡ k). not_before_itself g j k e before) a b;
+  taken = settled;
+}
+  where
+    not_before_itself : (g : Graph) (j k : ℕ) → j ≡ k → IsTriedBefore g j k → ⊥
+    not_before_itself g j k e before =
+        let sizes : length (riders_at g j) ≡ length (riders_at g k) = ap (λ (q : ℕ). length (riders_at g q)) e in
+        let costs : cost_at g j ≡ cost_at g k = ap (cost_at g) e in
+        omega (arith, before)
+
+-- one more row of the ranking is settled
+pub settled_more : (g : Graph) (old new : List (Option ℕ)) (row : ℕ) → IsGoodGraph g → row < length g.rows
+    → ((j : ℕ) → j < length g.rows → IsTaken g old j → rank_of g j ≤ rank_of g row)
+    → ((j : ℕ) → IsTaken g old j → IsTaken g new j)
+    → IsTaken g new row ⊎ IsInTheWay g old row
+    → ((j : ℕ) → j < length g.rows → IsTriedBefore g j row → IsTaken g new j → IsApart g j row) → IsTaken g new row
+settled_more g old new row good within earlier keeps (inl taken) apart = taken
+settled_more g old new row good within earlier keeps (inr way) apart =
+    ⊎_elim
+    (λ (same : way.other ≡ row). subst (IsTaken g new) same (keeps way.other way.taken))
+    (λ (differs : way.other ≡ row → ⊥).
+    let before : IsTriedBefore g way.other row = rank_before g way.other row good way.within within differs (earlier way.other way.within way.taken) in
+    absurd (way.conflict (apart way.other way.within before (keeps way.other way.taken))))
+    (cases_eq way.other row)
+
+-- ---- before the first row
+
+nothing : (n v : ℕ) → choice_at (replicate n None) v ≡ None
+nothing n v =
+    ⊎_elim
+    (λ (low : v < n). get_or-replicate n v None None low)
+    (λ (high : n ≤ v). get_or_past (replicate n None) v None (omega (arith, high, length-replicate {A = Option ℕ} n None)))
+    (cases_lt v n)
+
+unmarked : (n r : ℕ) → get_or (replicate n false) r false ≡ false
+unmarked n r =
+    ⊎_elim
+    (λ (low : r < n). get_or-replicate n r false false low)
+    (λ (high : n ≤ r). get_or_past (replicate n false) r false (omega (arith, high, length-replicate n false)))
+    (cases_lt r n)
+
+pub none_taken : (g : Graph) (n k : ℕ) → IsTaken g (replicate n None) k → ⊥
+none_taken g n k taken = none_some k (sym (nothing n (row_vehicle g k)) ∙ taken)
+
+pub selection_none : (g : Graph) → IsSelection g (replicate g.vehicles None) (replicate g.riders false)
+selection_none g = record {
+  sized = length-replicate g.vehicles None;
+  marked = length-replicate g.riders false;
+  own = λ v k l e. absurd (none_some k (sym (nothing g.vehicles v) ∙ e));
+  apart = λ j k lj lk ne a b. absurd (none_taken g g.vehicles j a);
+  serves = λ j r l a e. absurd (none_taken g g.vehicles j a);
+  served_by = λ r e. absurd (both_ways false refl (sym (unmarked g.riders r) ∙ e));
+}

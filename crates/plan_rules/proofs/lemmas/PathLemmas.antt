@@ -1,0 +1,132 @@
+-- Decisions along a tree.
+use Rattle.std.proofs.Common.{◌≡◌, ◌≢◌, ◌==◌, ◌⊎◌, ◌&&◌, ◌||◌, not, ℕ, zero, suc, ◌+◌, ◌-◌, ◌<◌, ◌≤◌, Bool, true, false, cond, List, [], ◌∷◌, ◌++◌, length, get_or, take, drop, set, fold, refl, sym, ap, ◌∙◌, subst, ⊎_elim, eq-eqb, ne_eqb, arith}
+use Rattle.std.proofs.lemmas.Bool.{cases_eq, and_right, cond-true, cond-false}
+use Rattle.std.proofs.lemmas.List.{take_more, take_all, set_at, length-take-le, get_or-take, get_or_default, get_or-set_same, get_or-set_other}
+use Rattle.std.proofs.lemmas.List.Sums.{fold_more, fold_push}
+use Rattle.plan_rules.specs.Graph.{Graph, row_vehicle}
+use Rattle.plan_rules.specs.Multipliers.{Usable}
+use Rattle.plan_rules.specs.Tree.{every_row, only_row, without_row}
+use Rattle.plan_rules.specs.Path.{Standing, root, decided, standing_of}
+use Rattle.plan_rules.specs.declared.path.Decision.{Decision}
+
+pub standing_start : (g : Graph) → standing_of g [] ≡ root
+unfolding standing_of
+standing_start g = refl
+
+pub standing_push : (g : Graph) (path : List Decision) (d : Decision) → standing_of g (path ++ d ∷ []) ≡ decided g (standing_of g path) d
+unfolding standing_of
+standing_push g path d = fold_push (decided g) root path d
+
+pub standing_more : (g : Graph) (path : List Decision) (i : ℕ) (d : Decision) → i < length path → standing_of g (take (i + 1) path) ≡ decided g (standing_of g (take i path)) (get_or path i d)
+unfolding standing_of
+standing_more g path i d l = fold_more (decided g) root path i d l
+
+coming_without : (g : Graph) (s : Standing) (d : Decision) → d.alone ≡ false → (decided g s d).coming ≡ s.coming
+coming_without g s d e =
+    let first : Standing = record { usable = only_row g s.usable d.vehicle d.row; coming = without_row s.usable d.row ∷ s.coming } in
+    let second : Standing = record { usable = without_row s.usable d.row; coming = s.coming } in
+    ap (λ (t : Standing). t.coming) (cond-false d.alone first second e)
+
+-- to leave decisions that aren't alone leaves the same subtrees to come
+pub coming_kept : (g : Graph) (path : List Decision) (low n : ℕ) → low + n ≤ length path → ((k : ℕ) (d : Decision) → low ≤ k → k < length path → (get_or path k d).alone ≡ false) → (standing_of g (take (low + n) path)).coming ≡ (standing_of g (take low path)).coming
+coming_kept g path low zero l h = ap (λ (m : ℕ). (standing_of g (take m path)).coming) (plus_zero low)
+  where
+    plus_zero : (m : ℕ) → m + 0 ≡ m
+    plus_zero m = omega arith
+coming_kept g path low (suc n) l h =
+    let d : Decision = record { vehicle = 0; row = 0; alone = false } in
+    let e : low + suc n ≡ (low + n) + 1 = omega arith in
+    let more : standing_of g (take ((low + n) + 1) path) ≡ decided g (standing_of g (take (low + n) path)) (get_or path (low + n) d) = standing_more g path (low + n) d (omega arith) in
+    let kept : (decided g (standing_of g (take (low + n) path)) (get_or path (low + n) d)).coming ≡ (standing_of g (take (low + n) path)).coming = coming_without g (standing_of g (take (low + n) path)) (get_or path (low + n) d) (h (low + n) d (omega arith) (omega arith)) in
+    let before : (standing_of g (take (low + n) path)).coming ≡ (standing_of g (take low path)).coming = coming_kept g path low n (omega arith) h in
+    ap (λ (m : ℕ). (standing_of g (take m path)).coming) e ∙ ap (λ (s : Standing). s.coming) more ∙ kept ∙ before
+
+-- what a decision leaves usable
+pub usable_alone : (g : Graph) (s : Standing) (d : Decision) (k : ℕ) → d.alone ≡ true → (decided g s d).usable k ≡ (s.usable k && (not (row_vehicle g k == d.vehicle) || k == d.row))
+usable_alone g s d k e =
+    let first : Standing = record { usable = only_row g s.usable d.vehicle d.row; coming = without_row s.usable d.row ∷ s.coming } in
+    let second : Standing = record { usable = without_row s.usable d.row; coming = s.coming } in
+    ap (λ (t : Standing). t.usable k) (cond-true d.alone first second e)
+
+pub usable_without : (g : Graph) (s : Standing) (d : Decision) (k : ℕ) → d.alone ≡ false → (decided g s d).usable k ≡ (s.usable k && not (k == d.row))
+usable_without g s d k e =
+    let first : Standing = record { usable = only_row g s.usable d.vehicle d.row; coming = without_row s.usable d.row ∷ s.coming } in
+    let second : Standing = record { usable = without_row s.usable d.row; coming = s.coming } in
+    ap (λ (t : Standing). t.usable k) (cond-false d.alone first second e)
+
+pub coming_left : (g : Graph) (path : List Decision) (depth : ℕ) → depth ≤ length path → ((k : ℕ) (d : Decision) → depth ≤ k → k < length path → (get_or path k d).alone ≡ false) → (standing_of g path).coming ≡ (standing_of g (take depth path)).coming
+coming_left g path depth l h =
+    let n : depth + (length path - depth) ≡ length path = omega (arith, l) in
+    ap (λ (p : List Decision). (standing_of g p).coming) (sym (take_all (length path) path (omega arith)))
+    ∙ ap (λ (m : ℕ). (standing_of g (take m path)).coming) (sym n)
+    ∙ coming_kept g path depth (length path - depth) (omega (arith, n)) h
+
+-- the last decision turns from the row alone to all but the row
+pub coming_next : (g : Graph) (path : List Decision) (d : Decision) → d.alone ≡ true
+    → (standing_of g (path ++ d ∷ [])).coming ≡ (standing_of g (path ++ record { vehicle = d.vehicle; row = d.row; alone = false } ∷ [])).usable ∷ (standing_of g (path ++ record { vehicle = d.vehicle; row = d.row; alone = false } ∷ [])).coming
+coming_next g path d e =
+    let s = standing_of g path in
+    let first : Standing = record { usable = only_row g s.usable d.vehicle d.row; coming = without_row s.usable d.row ∷ s.coming } in
+    let second : Standing = record { usable = without_row s.usable d.row; coming = s.coming } in
+    ap (λ (t : Standing). t.coming) (standing_push g path d ∙ cond-true d.alone first second e)
+    ∙ sym (ap (λ (t : Standing). t.usable ∷ t.coming) (standing_push g path (record { vehicle = d.vehicle; row = d.row; alone = false })))
+
+-- what the marks say one decision on
+pub along_alone : (g : Graph) (path : List Decision) (i n : ℕ) (d : Decision) (old new : List Bool) → i < length path → (get_or path i d).alone ≡ true
+    → ((k : ℕ) → k < n → get_or old k false ≡ (standing_of g (take i path)).usable k)
+    → ((k : ℕ) → k < n → get_or new k false ≡ (get_or old k false && (not (row_vehicle g k == (get_or path i d).vehicle) || k == (get_or path i d).row)))
+    → (k : ℕ) → k < n → get_or new k false ≡ (standing_of g (take (i + 1) path)).usable k
+along_alone g path i n d old new l e before now k low =
+    now k low
+    ∙ ap (λ (b : Bool). b && (not (row_vehicle g k == (get_or path i d).vehicle) || k == (get_or path i d).row)) (before k low)
+    ∙ sym (usable_alone g (standing_of g (take i path)) (get_or path i d) k e)
+    ∙ sym (ap (λ (s : Standing). s.usable k) (standing_more g path i d l))
+
+pub along_without : (g : Graph) (path : List Decision) (i n : ℕ) (d : Decision) (old : List Bool) → i < length path → (get_or path i d).alone ≡ false → (get_or path i d).row < length old
+    → ((k : ℕ) → k < n → get_or old k false ≡ (standing_of g (take i path)).usable k)
+    → (k : ℕ) → k < n → get_or (set old (get_or path i d).row false) k false ≡ (standing_of g (take (i + 1) path)).usable k
+along_without g path i n d old l e inside before k low =
+    written
+    ∙ sym (usable_without g (standing_of g (take i path)) (get_or path i d) k e)
+    ∙ sym (ap (λ (s : Standing). s.usable k) (standing_more g path i d l))
+  where
+    written : get_or (set old (get_or path i d).row false) k false ≡ ((standing_of g (take i path)).usable k && not (k == (get_or path i d).row))
+    written =
+        ⊎_elim
+        (λ (here : k ≡ (get_or path i d).row).
+        ap (λ (q : ℕ). get_or (set old (get_or path i d).row false) q false) here
+        ∙ get_or-set_same old (get_or path i d).row false false inside
+        ∙ sym (and_right ((standing_of g (take i path)).usable k) (not (k == (get_or path i d).row)) (ap not (eq-eqb k (get_or path i d).row here))))
+        (λ (other : k ≡ (get_or path i d).row → ⊥).
+        get_or-set_other old (get_or path i d).row k false false other
+        ∙ before k low
+        ∙ whole ((standing_of g (take i path)).usable k) (k == (get_or path i d).row) (ne_eqb k (get_or path i d).row other))
+        (cases_eq k (get_or path i d).row)
+      where
+        whole : (a b : Bool) → b ≡ false → a ≡ (a && not b)
+        whole true b q = sym (ap not q)
+        whole false b q = refl
+
+-- the next subtree after an end, where the last decision is one for a row alone
+pub leave_next : (g : Graph) (path : List Decision) (depth : ℕ) (x last : Decision) → 1 ≤ depth → depth ≤ length path → x ≡ get_or path (depth - 1) x → x.alone ≡ true
+    → last ≡ get_or (take depth path) (depth - 1) last
+    → ((k : ℕ) (d : Decision) → depth ≤ k → k < length path → (get_or path k d).alone ≡ false)
+    → (standing_of g path).coming ≡ (standing_of g (set (take depth path) (depth - 1) (record { vehicle = last.vehicle; row = last.row; alone = false }))).usable ∷ (standing_of g (set (take depth path) (depth - 1) (record { vehicle = last.vehicle; row = last.row; alone = false }))).coming
+leave_next g path zero x last low high at alone is dropped = absurd (omega (arith, low))
+leave_next g path (suc n) x last low high at alone is dropped =
+    let e : suc n - 1 ≡ n = omega arith in
+    let front : length (take n path) ≡ n = length-take-le n path (omega (arith, high)) in
+    let off : Decision = record { vehicle = last.vehicle; row = last.row; alone = false } in
+    let read : last ≡ get_or path n last = is ∙ ap (λ (j : ℕ). get_or (take (suc n) path) j last) e ∙ get_or-take (suc n) path n last (omega arith) in
+    let first : x ≡ get_or path n x = at ∙ ap (λ (j : ℕ). get_or path j x) e in
+    let same : last ≡ x = read ∙ get_or_default path n last x (omega (arith, high)) ∙ sym first in
+    let yes : last.alone ≡ true = ap (λ (d : Decision). d.alone) same ∙ alone in
+    let plus : suc n ≡ n + 1 = omega arith in
+    let more : take (suc n) path ≡ take n path ++ last ∷ [] =
+    ap (λ (m : ℕ). take m path) plus ∙ take_more path n last (omega (arith, high)) ∙ ap (λ (d : Decision). take n path ++ d ∷ []) (sym read) in
+    let turned : set (take (suc n) path) (suc n - 1) off ≡ take n path ++ off ∷ [] =
+    ap (λ (p : List Decision). set p (suc n - 1) off) more ∙ ap (λ (j : ℕ). set (take n path ++ last ∷ []) j off) e ∙ set_at (take n path) last [] off n front in
+    coming_left g path (suc n) high dropped
+    ∙ ap (λ (p : List Decision). (standing_of g p).coming) more
+    ∙ coming_next g (take n path) last yes
+    ∙ sym (ap (λ (p : List Decision). (standing_of g p).usable ∷ (standing_of g p).coming) turned)

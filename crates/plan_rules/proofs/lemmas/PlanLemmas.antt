@@ -1,0 +1,71 @@
+-- Plans: the held one is lawful; choices name rows.
+use Rattle.std.proofs.Common.{◌≡◌, ◌≢◌, ◌==◌, ◌⊎◌, ℕ, zero, suc, ◌+◌, ◌*◌, ◌<◌, ◌≤◌, Bool, true, false, IsTrue, List, length, get_or, Option, Some, None, MatchOption, refl, sym, ap, ◌∙◌, subst, inl, inr, arith, ltb-true, lt-ltb, ltb, nat_lt}
+use Rattle.std.proofs.lemmas.Bool.{cases_lt, both_ways}
+use Rattle.std.proofs.lemmas.List.{get_or_past}
+use Rattle.plan_rules.specs.Graph.{Graph, row_at, has_rider, IsRowOf, HasNoRow, choice_at, is_in, times_served, must_be_served, IsGraphRow, IsGoodGraph, HoldsRightly, ChoosesRows}
+use Rattle.plan_rules.specs.Plan.{IsPlan, IsLawful, times_chosen}
+use Rattle.plan_rules.proofs.lemmas.GraphLemmas.{held_once, times_served_outside}
+
+-- a choice of a plan is a row of its vehicle
+pub own_row : (g : Graph) (v k : ℕ) (c : Option ℕ) → MatchOption c (HasNoRow g v) (IsRowOf g v) → c ≡ Some k → IsRowOf g v k
+own_row g v k None h e = absurd (differ e)
+  where
+    differ : ◌≡◌ {A = Option ℕ} None (Some k) → ⊥
+    differ e = cc
+own_row g v k (Some j) h e = subst (IsRowOf g v) (same e) h
+  where
+    same : Some j ≡ Some k → j ≡ k
+    same e = cc
+
+-- a vehicle that has a row is given one
+pub has_choice : (g : Graph) (v k : ℕ) (c : Option ℕ) → MatchOption c (HasNoRow g v) (IsRowOf g v) → IsRowOf g v k → (j : ℕ) × (c ≡ Some j) × IsRowOf g v j
+has_choice g v k None h row = absurd (h k row)
+has_choice g v k (Some j) h row = (j, refl, h)
+
+pub plan_choice : (g : Graph) (chosen : List (Option ℕ)) (v k : ℕ) → IsPlan g chosen → v < g.vehicles → choice_at chosen v ≡ Some k → IsRowOf g v k
+plan_choice g chosen v k plan l e = own_row g v k (choice_at chosen v) (plan.own v l) e
+
+pub plan_rows : (g : Graph) (chosen : List (Option ℕ)) → IsPlan g chosen → ChoosesRows g chosen
+plan_rows g chosen plan v k e = by_cases (cases_lt v (length chosen))
+  where
+    differ : ◌≡◌ {A = Option ℕ} None (Some k) → ⊥
+    differ e = cc
+
+    by_cases : (v < length chosen) ⊎ (length chosen ≤ v) → k < length g.rows
+    by_cases s = elim s [
+      | inl low ↦ (plan_choice g chosen v k plan (subst (λ (n : ℕ). v < n) (plan.sized) low) e).within
+      | inr high ↦ absurd (differ (sym (get_or_past chosen v None high) ∙ e))
+    ]
+
+-- the held plan gives each vehicle one of its rows
+pub held_own : (g : Graph) (v : ℕ) (c : Option ℕ) → MatchOption c (HasNoRow g v) (λ k. IsRowOf g v k × ((r : ℕ) → IsTrue (has_rider g k r) → times_served g g.held v r ≡ 0)) → MatchOption c (HasNoRow g v) (IsRowOf g v)
+held_own g v None h = h
+held_own g v (Some k) h = h.0
+
+-- the held plan is lawful
+pub held_is_lawful : (g : Graph) → IsGoodGraph g → IsLawful g g.held
+held_is_lawful g good = record {
+  plan = record { sized = good.sized; own = λ v l. held_own g v (choice_at g.held v) (good.holds v l) };
+  once = λ r. held_once g g.vehicles r (omega arith) good.holds;
+  kept = λ r must.
+      let some : 0 < times_served g g.held g.vehicles r = ltb-true 0 (times_served g g.held g.vehicles r) must in
+      let once : times_served g g.held g.vehicles r ≤ 1 = held_once g g.vehicles r (omega arith) good.holds in
+      omega arith;
+}
+
+-- a plan is lawful where it serves each of the graph's riders as it must
+pub lawful_from : (g : Graph) (chosen : List (Option ℕ)) → IsGoodGraph g → IsPlan g chosen → ((r : ℕ) → r < g.riders → times_chosen g chosen r ≤ 1) → ((r : ℕ) → r < g.riders → IsTrue (must_be_served g r) → times_chosen g chosen r ≡ 1) → IsLawful g chosen
+lawful_from g chosen good plan once kept = record {
+  plan = plan;
+  once = λ r. elim (cases_lt r g.riders) [ inl low ↦ once r low | inr high ↦ let none = outside r high in omega (arith, none) ];
+  kept = λ r must. elim (cases_lt r g.riders) [ inl low ↦ kept r low must | inr high ↦ absurd (nobody r high must) ];
+}
+  where
+    outside : (r : ℕ) → g.riders ≤ r → times_chosen g chosen r ≡ 0
+    outside r high = times_served_outside g chosen g.vehicles r good.rows (λ v k l e. (plan_choice g chosen v k plan l e).within) high
+
+    nobody : (r : ℕ) → g.riders ≤ r → IsTrue (must_be_served g r) → ⊥
+    nobody r high must =
+        let none : times_served g g.held g.vehicles r ≡ 0 = times_served_outside g g.held g.vehicles r good.rows (λ v k l e. (own_row g v k (choice_at g.held v) (held_own g v (choice_at g.held v) (good.holds v l)) e).within) high in
+        let some : 0 < times_served g g.held g.vehicles r = ltb-true 0 (times_served g g.held g.vehicles r) must in
+        omega arith

@@ -1,0 +1,291 @@
+-- The leaves and dead ends of a sound tree part the plans, and its value is a bound.
+use Rattle.std.proofs.Common.{◌≡◌, ◌≢◌, ◌==◌, ◌⊎◌, ◌&&◌, ◌||◌, not, ℕ, zero, suc, ◌+◌, ◌*◌, ◌/◌, ◌<◌, ◌≤◌, Bool, true, false, cond, IsTrue, List, [], ◌∷◌, length, Option, Some, None, MatchOption, count_by, sum_by, ℤ, pos, negsuc, neg_ℤ, ◌≤ℤ◌, refl, sym, ap, ◌∙◌, subst, inl, inr, ⊎_elim, arith, eq-eqb, eqb-true, ne_eqb}
+use Rattle.std.specs.Prelude.{unwrap_or}
+use Rattle.std.proofs.lemmas.Int.{ints}
+use Rattle.std.proofs.lemmas.List.Sums.{sum_by-cons}
+use Rattle.std.proofs.lemmas.Bool.{cases_eq, cases_Bool, and_from, and_parts, and_left, and_right, or_right, or_left, both_ways, cond-true, cond-false, false_from_ne_true}
+use Rattle.plan_rules.specs.Sums.{all_below, lesser, count_below}
+use Rattle.plan_rules.specs.Graph.{Graph, row_at, row_vehicle, has_rider, IsRowOf, HasNoRow, choice_at, is_in, times_served, must_be_served, IsGraphRow, IsGoodGraph}
+use Rattle.plan_rules.specs.Plan.{IsPlan, IsLawful, times_chosen, cost_of, IsBound}
+use Rattle.plan_rules.specs.Multipliers.{Usable, leaf_value}
+use Rattle.plan_rules.specs.Tree.{every_row, only_row, without_row, MayUse, CanBranch, IsSoleRow, IsClash, IsStranded, IsDeadEnd, Place, rounded_up, least_leaf, is_choice_usable, is_within, is_leaf, is_dead, belongs_to_end, belongs_to_dead_end}
+use Rattle.plan_rules.specs.Reading.{IsSoundNode, coming_after, ReadsTo, IsWholeTree, places_from, places_read, value_read}
+use Rattle.plan_rules.specs.declared.node.Node.{Node}
+use Rattle.plan_rules.specs.declared.node.Node.TheVariants.{Branch, Leaf, Dead}
+use Rattle.plan_rules.proofs.lemmas.SumLemmas.{flag, flag-true, flag-false, all_below_at, all_below_from, all_below_fails, all_below_same, count_below_two, lesser-le_left, lesser-le_right}
+use Rattle.plan_rules.proofs.lemmas.GraphLemmas.{times_served_as_count, times_served_found, in_choice}
+use Rattle.plan_rules.proofs.lemmas.PlanLemmas.{own_row, has_choice, plan_choice}
+use Rattle.plan_rules.proofs.lemmas.DualityLemmas.{leaf_value_le}
+
+same_some : (j k : ℕ) → Some j ≡ Some k → j ≡ k
+same_some j k e = cc
+
+none_some : (k : ℕ) → ◌≡◌ {A = Option ℕ} None (Some k) → ⊥
+none_some k e = cc
+
+-- a plan within the usable rows chooses usable rows
+pub within_at : (g : Graph) (usable : Usable) (chosen : List (Option ℕ)) (v k : ℕ) → is_within g usable chosen ≡ true → v < g.vehicles → choice_at chosen v ≡ Some k → usable k ≡ true
+unfolding is_within
+within_at g usable chosen v k within l e =
+    sym (ap (is_choice_usable usable) e) ∙ all_below_at g.vehicles (λ v. is_choice_usable usable (choice_at chosen v)) v within l
+
+pub within_every_row : (g : Graph) (chosen : List (Option ℕ)) → is_within g every_row chosen ≡ true
+unfolding is_within
+within_every_row g chosen = all_below_from g.vehicles (λ v. is_choice_usable every_row (choice_at chosen v)) (λ v l. usable (choice_at chosen v))
+  where
+    usable : (c : Option ℕ) → is_choice_usable every_row c ≡ true
+    usable None = refl
+    usable (Some k) = refl
+
+-- ---- a branch parts the plans that were within its usable rows
+
+module _ (g : Graph) (usable : Usable) (chosen : List (Option ℕ)) (plan : IsPlan g chosen) (v k : ℕ) (low : v < g.vehicles) (row : IsRowOf g v k) where
+  -- the choice of each vehicle stays as usable as it was, where the vehicle chooses the row
+  only_same : choice_at chosen v ≡ Some k → (w : ℕ) → w < g.vehicles → (c : Option ℕ) → choice_at chosen w ≡ c → is_choice_usable (only_row g usable v k) c ≡ is_choice_usable usable c
+  only_same e w l None is = refl
+  only_same e w l (Some j) is =
+      let own : IsRowOf g w j = plan_choice g chosen w j plan l is in
+      ⊎_elim
+      (λ (here : w ≡ v).
+      let same : j ≡ k = same_some j k (sym is ∙ ap (choice_at chosen) here ∙ e) in
+      whole (usable j) (not (row_vehicle g j == v)) (j == k) (or_right (not (row_vehicle g j == v)) (j == k) (eq-eqb j k same)))
+      (λ (other : w ≡ v → ⊥).
+      let apart : (row_vehicle g j == v) ≡ false = ne_eqb (row_vehicle g j) v (λ (q : row_vehicle g j ≡ v). other (sym own.own ∙ q)) in
+      whole (usable j) (not (row_vehicle g j == v)) (j == k) (or_left (not (row_vehicle g j == v)) (j == k) (ap not apart)))
+      (cases_eq w v)
+    where
+      whole : (a b d : Bool) → (b || d) ≡ true → (a && (b || d)) ≡ a
+      whole true b d e = e
+      whole false b d e = refl
+
+  -- the same without the row, where the vehicle chooses another
+  without_same : (j : ℕ) → choice_at chosen v ≡ Some j → (j ≡ k → ⊥) → (w : ℕ) → w < g.vehicles → (c : Option ℕ) → choice_at chosen w ≡ c → is_choice_usable (without_row usable k) c ≡ is_choice_usable usable c
+  without_same j e differs w l None is = refl
+  without_same j e differs w l (Some i) is =
+      let own : IsRowOf g w i = plan_choice g chosen w i plan l is in
+      let apart : (i == k) ≡ false =
+      ne_eqb i k (λ (q : i ≡ k).
+      let here : w ≡ v = sym own.own ∙ ap (row_vehicle g) q ∙ row.own in
+      differs (sym (same_some i j (sym is ∙ ap (choice_at chosen) here ∙ e)) ∙ q)) in
+      whole (usable i) (i == k) apart
+    where
+      whole : (a b : Bool) → b ≡ false → (a && not b) ≡ a
+      whole true b e = ap not e
+      whole false b e = refl
+
+  only_fails : (j : ℕ) → IsRowOf g v j → (j ≡ k → ⊥) → only_row g usable v k j ≡ false
+  only_fails j own differs =
+      let here : (row_vehicle g j == v) ≡ true = eq-eqb (row_vehicle g j) v own.own in
+      let apart : (j == k) ≡ false = ne_eqb j k differs in
+      none (usable j) (row_vehicle g j == v) (j == k) here apart
+    where
+      none : (a b d : Bool) → b ≡ true → d ≡ false → (a && (not b || d)) ≡ false
+      none true true false p q = refl
+      none true true true p q = q
+      none true false d p q = absurd (both_ways false refl p)
+      none false b d p q = refl
+
+  without_fails : without_row usable k k ≡ false
+  without_fails = none (usable k) (k == k) (eq-eqb k k refl)
+    where
+      none : (a b : Bool) → b ≡ true → (a && not b) ≡ false
+      none true b e = ap not e
+      none false b e = refl
+
+-- how a plan stands to the two sides of a branch
+record IsParted (g : Graph) (usable : Usable) (v k : ℕ) (chosen : List (Option ℕ)) : Type 0 where
+  together : flag (is_within g (only_row g usable v k) chosen) + flag (is_within g (without_row usable k) chosen) ≡ flag (is_within g usable chosen)
+
+parts : (g : Graph) (usable : Usable) (v k : ℕ) (chosen : List (Option ℕ)) → IsPlan g chosen → v < g.vehicles → CanBranch g usable v k → IsParted g usable v k chosen
+unfolding is_within
+parts g usable v k chosen plan low can =
+    let row = can.row.row in
+    let w = has_choice g v k (choice_at chosen v) (plan.own v low) row in
+    ⊎_elim
+    (λ (same : w.0 ≡ k).
+    let e : choice_at chosen v ≡ Some k = w.1 ∙ ap Some same in
+    let yes : all_below g.vehicles (λ v'. is_choice_usable (only_row g usable v k) (choice_at chosen v')) ≡ all_below g.vehicles (λ v'. is_choice_usable usable (choice_at chosen v')) =
+    all_below_same g.vehicles (λ v'. is_choice_usable (only_row g usable v k) (choice_at chosen v')) (λ v'. is_choice_usable usable (choice_at chosen v'))
+    (λ u l. only_same g usable chosen plan v k low row e u l (choice_at chosen u) refl) in
+    let no : all_below g.vehicles (λ v'. is_choice_usable (without_row usable k) (choice_at chosen v')) ≡ false =
+    all_below_fails g.vehicles (λ v'. is_choice_usable (without_row usable k) (choice_at chosen v')) v low
+    (ap (is_choice_usable (without_row usable k)) e ∙ without_fails g usable chosen plan v k low row) in
+    let a = ap flag yes in
+    let b : flag (all_below g.vehicles (λ v'. is_choice_usable (without_row usable k) (choice_at chosen v'))) ≡ 0 = flag-false _ no in
+    record { together = omega (arith, a, b) })
+    (λ (differs : w.0 ≡ k → ⊥).
+    let e : choice_at chosen v ≡ Some (w.0) = w.1 in
+    let yes : all_below g.vehicles (λ v'. is_choice_usable (without_row usable k) (choice_at chosen v')) ≡ all_below g.vehicles (λ v'. is_choice_usable usable (choice_at chosen v')) =
+    all_below_same g.vehicles (λ v'. is_choice_usable (without_row usable k) (choice_at chosen v')) (λ v'. is_choice_usable usable (choice_at chosen v'))
+    (λ u l. without_same g usable chosen plan v k low row (w.0) e differs u l (choice_at chosen u) refl) in
+    let no : all_below g.vehicles (λ v'. is_choice_usable (only_row g usable v k) (choice_at chosen v')) ≡ false =
+    all_below_fails g.vehicles (λ v'. is_choice_usable (only_row g usable v k) (choice_at chosen v')) v low
+    (ap (is_choice_usable (only_row g usable v k)) e ∙ only_fails g usable chosen plan v k low row (w.0) (w.2) differs) in
+    let a = ap flag yes in
+    let b : flag (all_below g.vehicles (λ v'. is_choice_usable (only_row g usable v k) (choice_at chosen v'))) ≡ 0 = flag-false _ no in
+    record { together = omega (arith, a, b) })
+    (cases_eq (w.0) k)
+
+-- the vehicle of a branch is one of the graph's
+branch_vehicle : (g : Graph) (usable : Usable) (v k : ℕ) → ((k : ℕ) → k < length g.rows → IsGraphRow g.vehicles g.riders (row_at g k)) → CanBranch g usable v k → v < g.vehicles
+branch_vehicle g usable v k rows can =
+    let row = can.row.row in
+    let low : row_vehicle g k < g.vehicles = (rows k row.within).vehicle in
+    let own : row_vehicle g k ≡ v = row.own in
+    omega arith
+
+-- where a vehicle isn't the graph's, no plan says anything of its rows
+-- ---- each plan belongs to one end
+
+count-cons : {X : Type 0} (p : X → Bool) (x : X) (xs : List X) → count_by p (x ∷ xs) ≡ flag (p x) + count_by p xs
+count-cons p x xs = sum_by-cons (λ y. cond (p y) 1 0) x xs
+
+-- the ends that a plan belongs to, and the subtrees still to come that it belongs to, are as many as those at first
+ends_count : (g : Graph) (chosen : List (Option ℕ)) → ((k : ℕ) → k < length g.rows → IsGraphRow g.vehicles g.riders (row_at g k)) → IsPlan g chosen → (nodes : List Node) (coming rest : List Usable) → ReadsTo g coming nodes rest
+    → count_by (belongs_to_end g chosen) (places_from g coming nodes) + count_by (λ u. is_within g u chosen) rest ≡ count_by (λ u. is_within g u chosen) coming
+ends_count g chosen rows plan [] coming rest e =
+    let same = ap (count_by (λ u. is_within g u chosen)) (sym e) in
+    omega (arith, same)
+ends_count g chosen rows plan (n ∷ nodes) [] rest e = absurd e
+ends_count g chosen rows plan (Leaf ms ∷ nodes) (u ∷ us) rest e =
+    let first = count-cons (belongs_to_end g chosen) (record { node = Leaf ms; usable = u }) (places_from g us nodes) in
+    let second = count-cons (λ w. is_within g w chosen) u us in
+    let later = ends_count g chosen rows plan nodes us rest (e.1) in
+    omega (arith, first, second, later)
+ends_count g chosen rows plan (Dead ∷ nodes) (u ∷ us) rest e =
+    let first = count-cons (belongs_to_end g chosen) (record { node = Dead; usable = u }) (places_from g us nodes) in
+    let second = count-cons (λ w. is_within g w chosen) u us in
+    let later = ends_count g chosen rows plan nodes us rest (e.1) in
+    omega (arith, first, second, later)
+ends_count g chosen rows plan (Branch v k ∷ nodes) (u ∷ us) rest e =
+    let after = only_row g u v k ∷ without_row u k ∷ us in
+    let first = count-cons (belongs_to_end g chosen) (record { node = Branch v k; usable = u }) (places_from g after nodes) in
+    let second = count-cons (λ w. is_within g w chosen) u us in
+    let third = count-cons (λ w. is_within g w chosen) (only_row g u v k) (without_row u k ∷ us) in
+    let fourth = count-cons (λ w. is_within g w chosen) (without_row u k) us in
+    let parted = (parts g u v k chosen plan (branch_vehicle g u v k rows (e.0)) (e.0)).together in
+    let later = ends_count g chosen rows plan nodes after rest (e.1) in
+    omega (arith, first, second, third, fourth, parted, later)
+
+pub each_plan_at_one_end : (g : Graph) (nodes : List Node) (chosen : List (Option ℕ)) → IsGoodGraph g → IsWholeTree g nodes → IsPlan g chosen → count_by (belongs_to_end g chosen) (places_read g nodes) ≡ 1
+each_plan_at_one_end g nodes chosen good sound plan =
+    let all = ends_count g chosen good.rows plan nodes (every_row ∷ []) [] sound in
+    let root = count-cons (λ u. is_within g u chosen) every_row [] in
+    let yes : flag (is_within g every_row chosen) ≡ 1 = flag-true _ (within_every_row g chosen) in
+    omega (arith, all, root, yes)
+
+-- ---- no lawful plan at a dead end
+
+clash_holds_none : (g : Graph) (usable : Usable) (chosen : List (Option ℕ)) → IsGoodGraph g → IsLawful g chosen → IsClash g usable → is_within g usable chosen ≡ true → ⊥
+clash_holds_none g usable chosen good lawful c within =
+    let a = has_choice g c.first c.first_row (choice_at chosen c.first) (lawful.plan.own c.first first_low) c.first_sole.row.row in
+    let b = has_choice g c.second c.second_row (choice_at chosen c.second) (lawful.plan.own c.second second_low) c.second_sole.row.row in
+    let a_is : a.0 ≡ c.first_row = c.first_sole.sole (a.0) (record { row = a.2; usable_row = within_at g usable chosen c.first (a.0) within first_low (a.1) }) in
+    let b_is : b.0 ≡ c.second_row = c.second_sole.sole (b.0) (record { row = b.2; usable_row = within_at g usable chosen c.second (b.0) within second_low (b.1) }) in
+    let a_in : is_in g (choice_at chosen c.first) c.rider ≡ true = ap (λ (o : Option ℕ). is_in g o c.rider) (a.1 ∙ ap Some a_is) ∙ c.in_first in
+    let b_in : is_in g (choice_at chosen c.second) c.rider ≡ true = ap (λ (o : Option ℕ). is_in g o c.rider) (b.1 ∙ ap Some b_is) ∙ c.in_second in
+    let two : 2 ≤ count_below g.vehicles (λ v. is_in g (choice_at chosen v) c.rider) =
+    count_below_two g.vehicles (λ v. is_in g (choice_at chosen v) c.rider) c.first c.second first_low second_low c.differ a_in b_in in
+    let count = times_served_as_count g chosen g.vehicles c.rider in
+    let once = lawful.once c.rider in
+    omega (arith, two, count, once)
+  where
+    row_low : (v k : ℕ) → IsRowOf g v k → v < g.vehicles
+    row_low v k row =
+        let low : row_vehicle g k < g.vehicles = (good.rows k row.within).vehicle in
+        let own : row_vehicle g k ≡ v = row.own in
+        omega arith
+
+    first_low : c.first < g.vehicles
+    first_low = row_low c.first c.first_row c.first_sole.row.row
+
+    second_low : c.second < g.vehicles
+    second_low = row_low c.second c.second_row c.second_sole.row.row
+
+stranded_holds_none : (g : Graph) (usable : Usable) (chosen : List (Option ℕ)) → IsLawful g chosen → IsStranded g usable → is_within g usable chosen ≡ true → ⊥
+stranded_holds_none g usable chosen lawful s within =
+    let times = lawful.kept s.rider s.must in
+    let v = times_served_found g chosen g.vehicles s.rider (omega (arith, times)) in
+    let k = in_choice g (choice_at chosen (v.0)) s.rider (v.2) in
+    let own = plan_choice g chosen (v.0) (k.0) lawful.plan (v.1) (k.1) in
+    let nobody : has_rider g (k.0) s.rider ≡ false = s.nowhere (k.0) own.within (within_at g usable chosen (v.0) (k.0) within (v.1) (k.1)) in
+    both_ways (has_rider g (k.0) s.rider) nobody (k.2)
+
+pub dead_end_holds_none : (g : Graph) (usable : Usable) (chosen : List (Option ℕ)) → IsGoodGraph g → IsLawful g chosen → IsDeadEnd g usable → is_within g usable chosen ≡ false
+dead_end_holds_none g usable chosen good lawful (inl c) = false_from_ne_true (is_within g usable chosen) (clash_holds_none g usable chosen good lawful c)
+dead_end_holds_none g usable chosen good lawful (inr s) = false_from_ne_true (is_within g usable chosen) (stranded_holds_none g usable chosen lawful s)
+
+dead_count : (g : Graph) (chosen : List (Option ℕ)) → IsGoodGraph g → IsLawful g chosen → (nodes : List Node) (coming rest : List Usable) → ReadsTo g coming nodes rest → count_by (belongs_to_dead_end g chosen) (places_from g coming nodes) ≡ 0
+dead_count g chosen good lawful [] coming rest e = refl
+dead_count g chosen good lawful (n ∷ nodes) [] rest e = absurd e
+dead_count g chosen good lawful (Leaf ms ∷ nodes) (u ∷ us) rest e =
+    let first = count-cons (belongs_to_dead_end g chosen) (record { node = Leaf ms; usable = u }) (places_from g us nodes) in
+    omega (arith, first, dead_count g chosen good lawful nodes us rest (e.1))
+dead_count g chosen good lawful (Dead ∷ nodes) (u ∷ us) rest e =
+    let first = count-cons (belongs_to_dead_end g chosen) (record { node = Dead; usable = u }) (places_from g us nodes) in
+    let none : flag (is_within g u chosen) ≡ 0 = flag-false _ (dead_end_holds_none g u chosen good lawful (e.0)) in
+    omega (arith, first, none, dead_count g chosen good lawful nodes us rest (e.1))
+dead_count g chosen good lawful (Branch v k ∷ nodes) (u ∷ us) rest e =
+    let after = only_row g u v k ∷ without_row u k ∷ us in
+    let first = count-cons (belongs_to_dead_end g chosen) (record { node = Branch v k; usable = u }) (places_from g after nodes) in
+    omega (arith, first, dead_count g chosen good lawful nodes after rest (e.1))
+
+pub no_plan_at_dead_ends : (g : Graph) (nodes : List Node) (chosen : List (Option ℕ)) → IsGoodGraph g → IsWholeTree g nodes → IsLawful g chosen → count_by (belongs_to_dead_end g chosen) (places_read g nodes) ≡ 0
+no_plan_at_dead_ends g nodes chosen good sound lawful = dead_count g chosen good lawful nodes (every_row ∷ []) [] sound
+
+-- ---- the value is a bound
+
+pub rounded_up_le : (z : ℤ) (c : ℕ) → z ≤ℤ pos (1024 * c) → rounded_up z ≤ℤ pos c
+rounded_up_le (pos n) c h =
+    let low : n ≤ 1024 * c = omega (arith, ints, h) in
+    let fits : (n + 1023) / 1024 ≤ c = omega arith in
+    omega (arith, ints)
+rounded_up_le (negsuc n) c h = omega (arith, ints)
+
+-- some leaf shows at most what the plan costs
+abbrev HasLeafBelow : Graph → List (Option ℕ) → List Place → Type 0
+HasLeafBelow g chosen ps = (z : ℤ) × (least_leaf g ps ≡ Some z) × (z ≤ℤ pos (cost_of g chosen))
+
+least_leaf_step : (g : Graph) (chosen : List (Option ℕ)) → IsGoodGraph g → IsLawful g chosen → (n : Node) (u : Usable) (ps : List Place)
+    → (1 ≤ count_by (belongs_to_end g chosen) ps → count_by (belongs_to_dead_end g chosen) ps ≡ 0 → HasLeafBelow g chosen ps)
+    → 1 ≤ count_by (belongs_to_end g chosen) (record { node = n; usable = u } ∷ ps) → count_by (belongs_to_dead_end g chosen) (record { node = n; usable = u } ∷ ps) ≡ 0
+    → HasLeafBelow g chosen (record { node = n; usable = u } ∷ ps)
+least_leaf_step g chosen good lawful (Leaf ms) u ps later some none =
+    let ends = count-cons (belongs_to_end g chosen) (record { node = Leaf ms; usable = u }) ps in
+    let dead = count-cons (belongs_to_dead_end g chosen) (record { node = Leaf ms; usable = u }) ps in
+    ⊎_elim
+    (λ (yes : is_within g u chosen ≡ true).
+    let below : rounded_up (leaf_value g u ms) ≤ℤ pos (cost_of g chosen) = rounded_up_le (leaf_value g u ms) (cost_of g chosen) (leaf_value_le g u ms chosen good lawful yes) in
+    let right : lesser (least_leaf g ps) (rounded_up (leaf_value g u ms)) ≤ℤ rounded_up (leaf_value g u ms) = lesser-le_right (least_leaf g ps) (rounded_up (leaf_value g u ms)) in
+    let all : lesser (least_leaf g ps) (rounded_up (leaf_value g u ms)) ≤ℤ pos (cost_of g chosen) = omega (arith, ints) in
+    (lesser (least_leaf g ps) (rounded_up (leaf_value g u ms)), refl, all))
+    (λ (no : is_within g u chosen ≡ false).
+    let zero : flag (is_within g u chosen) ≡ 0 = flag-false _ no in
+    let w = later (omega (arith, ends, some, zero)) (omega (arith, dead, none)) in
+    let same : lesser (least_leaf g ps) (rounded_up (leaf_value g u ms)) ≡ lesser (Some (w.0)) (rounded_up (leaf_value g u ms)) = ap (λ (o : Option ℤ). lesser o (rounded_up (leaf_value g u ms))) (w.1) in
+    let left : lesser (Some (w.0)) (rounded_up (leaf_value g u ms)) ≤ℤ w.0 = lesser-le_left (w.0) (rounded_up (leaf_value g u ms)) in
+    let below : w.0 ≤ℤ pos (cost_of g chosen) = w.2 in
+    let all : lesser (least_leaf g ps) (rounded_up (leaf_value g u ms)) ≤ℤ pos (cost_of g chosen) = omega (arith, ints) in
+    (lesser (least_leaf g ps) (rounded_up (leaf_value g u ms)), refl, all))
+    (cases_Bool (is_within g u chosen))
+least_leaf_step g chosen good lawful Dead u ps later some none =
+    let ends = count-cons (belongs_to_end g chosen) (record { node = Dead; usable = u }) ps in
+    let dead = count-cons (belongs_to_dead_end g chosen) (record { node = Dead; usable = u }) ps in
+    later (omega (arith, ends, dead, some, none)) (omega (arith, dead, none))
+least_leaf_step g chosen good lawful (Branch v k) u ps later some none =
+    let ends = count-cons (belongs_to_end g chosen) (record { node = Branch v k; usable = u }) ps in
+    let dead = count-cons (belongs_to_dead_end g chosen) (record { node = Branch v k; usable = u }) ps in
+    later (omega (arith, ends, some)) (omega (arith, dead, none))
+
+least_leaf_le : (g : Graph) (chosen : List (Option ℕ)) → IsGoodGraph g → IsLawful g chosen → (ps : List Place) → 1 ≤ count_by (belongs_to_end g chosen) ps → count_by (belongs_to_dead_end g chosen) ps ≡ 0 → HasLeafBelow g chosen ps
+least_leaf_le g chosen good lawful [] some none = absurd (omega (arith, some))
+least_leaf_le g chosen good lawful (p ∷ ps) some none = least_leaf_step g chosen good lawful p.node p.usable ps (least_leaf_le g chosen good lawful ps) some none
+
+pub tree_value_bounds : (g : Graph) (nodes : List Node) → IsGoodGraph g → IsWholeTree g nodes → IsBound g (value_read g nodes)
+tree_value_bounds g nodes good sound chosen lawful =
+    let one = each_plan_at_one_end g nodes chosen good sound lawful.plan in
+    let none = no_plan_at_dead_ends g nodes chosen good sound lawful in
+    let w = least_leaf_le g chosen good lawful (places_read g nodes) (omega (arith, one)) none in
+    let value : value_read g nodes ≡ w.0 = ap (λ (o : Option ℤ). unwrap_or o (pos 0)) (w.1) in
+    let below : w.0 ≤ℤ pos (cost_of g chosen) = w.2 in
+    omega (arith, ints)

@@ -1,0 +1,70 @@
+-- Leaf values, term by term.
+use Rattle.std.proofs.Common.{◌≡◌, ◌≢◌, ◌==◌, ◌⊎◌, ◌&&◌, ℕ, zero, suc, ◌+◌, ◌-◌, ◌*◌, ◌<◌, ◌≤◌, Bool, true, false, cond, List, [], ◌∷◌, length, get_or, drop, Option, Some, None, ℤ, pos, neg_ℤ, ◌+ℤ◌, ◌-ℤ◌, ◌≤ℤ◌, refl, sym, ap, ◌∙◌, subst, ⊎_elim, arith, ne_eqb, eq-eqb}
+use Rattle.std.proofs.lemmas.Int.{ints}
+use Rattle.std.proofs.lemmas.Bool.{cases_lt, and_left, and_right, and_from, cond-true, cond-false}
+use Rattle.std.proofs.lemmas.List.{at_drop_more, at_drop_all}
+use Rattle.plan_rules.specs.Sums.{least_below, lesser, int_sum_below}
+use Rattle.plan_rules.specs.Graph.{Graph, row_at, row_vehicle, IsStartOf}
+use Rattle.plan_rules.specs.Multipliers.{Usable, multiplier_at, multiplier_sum, reduced_cost, is_usable_by}
+use Rattle.plan_rules.proofs.lemmas.SumLemmas.{least_below_none, least_below_more}
+use Rattle.plan_rules.specs.Size.{IsSmallSum}
+
+-- the sum so far and that of the riders to come is that of all
+pub sum_more : (ms : List ℤ) (xs : List ℕ) (i : ℕ) (sum whole : ℤ) → i < length xs → sum +ℤ multiplier_sum ms (drop i xs) ≡ whole → (sum +ℤ multiplier_at ms (get_or xs i 0)) +ℤ multiplier_sum ms (drop (i + 1) xs) ≡ whole
+sum_more ms xs i sum whole l e =
+    let more : multiplier_sum ms (drop i xs) ≡ multiplier_at ms (get_or xs i 0) +ℤ multiplier_sum ms (drop (i + 1) xs) = at_drop_more (multiplier_sum ms) xs i 0 l in
+    omega (arith, ints)
+
+pub sum_all : (ms : List ℤ) (xs : List ℕ) (i : ℕ) (sum whole : ℤ) → length xs ≤ i → sum +ℤ multiplier_sum ms (drop i xs) ≡ whole → sum ≡ whole
+sum_all ms xs i sum whole l e =
+    let none : multiplier_sum ms (drop i xs) ≡ pos 0 = at_drop_all (multiplier_sum ms) xs i l in
+    omega (arith, ints)
+
+-- rows before the vehicle's first one aren't its own, nor are those from its end on
+pub none_before : (g : Graph) (usable : Usable) (f : ℕ → ℤ) (v start : ℕ) → IsStartOf g v start → least_below start (is_usable_by g usable v) f ≡ None
+none_before g usable f v start first =
+    least_below_none start (is_usable_by g usable v) f
+    (λ k l. and_left (row_vehicle g k == v) (usable k) (ne_eqb (row_vehicle g k) v (λ (e : row_vehicle g k ≡ v). let low : row_vehicle g k < v = first.below k l in omega arith)))
+
+least_below_plus : (n m : ℕ) (p : ℕ → Bool) (f : ℕ → ℤ) → ((k : ℕ) → n ≤ k → k < n + m → p k ≡ false) → least_below (n + m) p f ≡ least_below n p f
+least_below_plus n zero p f h = ap (λ (j : ℕ). least_below j p f) (plus n)
+  where
+    plus : (n : ℕ) → n + 0 ≡ n
+    plus n = omega arith
+least_below_plus n (suc m) p f h =
+    let e : n + suc m ≡ (n + m) + 1 = omega arith in
+    ap (λ (j : ℕ). least_below j p f) e
+    ∙ least_below_more (n + m) p f
+    ∙ cond-false (p (n + m)) (Some (lesser (least_below (n + m) p f) (f (n + m)))) (least_below (n + m) p f) (h (n + m) (omega arith) (omega arith))
+    ∙ least_below_plus n m p f (λ k a b. h k a (omega arith))
+
+pub none_after : (g : Graph) (usable : Usable) (f : ℕ → ℤ) (v end : ℕ) → IsStartOf g (v + 1) end → least_below (length g.rows) (is_usable_by g usable v) f ≡ least_below end (is_usable_by g usable v) f
+none_after g usable f v end next =
+    let whole : end + (length g.rows - end) ≡ length g.rows = omega (arith, next.within) in
+    ap (λ (j : ℕ). least_below j (is_usable_by g usable v) f) (sym whole)
+    ∙ least_below_plus end (length g.rows - end) (is_usable_by g usable v) f
+    (λ k a b. and_left (row_vehicle g k == v) (usable k) (ne_eqb (row_vehicle g k) v (λ (e : row_vehicle g k ≡ v). let high : v + 1 ≤ row_vehicle g k = next.above k a (omega (arith, b)) in omega arith)))
+
+-- one more row of the vehicle
+pub least_taken : (g : Graph) (usable : Usable) (f : ℕ → ℤ) (v k : ℕ) (o : Option ℤ) (z : ℤ) → row_vehicle g k ≡ v → usable k ≡ true → o ≡ least_below k (is_usable_by g usable v) f → z ≡ f k → Some (lesser o z) ≡ least_below (k + 1) (is_usable_by g usable v) f
+least_taken g usable f v k o z own may e value =
+    ap (λ (p : Option ℤ). Some (lesser p z)) e ∙ ap (λ (w : ℤ). Some (lesser (least_below k (is_usable_by g usable v) f) w)) value
+    ∙ sym (least_below_more k (is_usable_by g usable v) f
+    ∙ cond-true (is_usable_by g usable v k) (Some (lesser (least_below k (is_usable_by g usable v) f) (f k))) (least_below k (is_usable_by g usable v) f)
+    (and_from (row_vehicle g k == v) (usable k) (eq-eqb (row_vehicle g k) v own) may))
+
+pub least_passed : (g : Graph) (usable : Usable) (f : ℕ → ℤ) (v k : ℕ) (o : Option ℤ) → usable k ≡ false → o ≡ least_below k (is_usable_by g usable v) f → o ≡ least_below (k + 1) (is_usable_by g usable v) f
+least_passed g usable f v k o out e =
+    e ∙ sym (least_below_more k (is_usable_by g usable v) f
+    ∙ cond-false (is_usable_by g usable v k) (Some (lesser (least_below k (is_usable_by g usable v) f) (f k))) (least_below k (is_usable_by g usable v) f) (and_right (row_vehicle g k == v) (usable k) out))
+
+-- a vehicle's rows don't end before they start
+pub starts_rise : (g : Graph) (v start end : ℕ) → IsStartOf g v start → IsStartOf g (v + 1) end → start ≤ end
+starts_rise g v start end first second =
+    ⊎_elim
+    (λ (cross : end < start).
+    let below : row_vehicle g end < v = first.below end cross in
+    let above : v + 1 ≤ row_vehicle g end = second.above end (omega arith) (omega (arith, first.within)) in
+    absurd (omega arith))
+    (λ (low : start ≤ end). low)
+    (cases_lt end start)

@@ -1,0 +1,131 @@
+//! Whether no lawful plan is left at a place in a tree, as is seen at once.
+ghost use Rattle.std.specs.Prelude.{◌≡◌, ◌+◌, ◌<◌, ◌≤◌, ◌↔◌, ℕ, IsTrue, IfSome, IfNone, All, length, slice_index_or, false, true, ◌||◌, ◌==◌};
+ghost use Rattle.std.specs.List.{list_any};
+ghost use Rattle.plan_rules.specs.Graph.{has_rider};
+ghost use Rattle.plan_rules.specs.Multipliers.{usable_of};
+ghost use Rattle.plan_rules.specs.Tree.{IsSoleRow, IsClash, IsStranded, IsDeadEnd};
+ghost use Rattle.plan_rules.specs.work.DeadEnd.{MarksUsable, MarksSole};
+
+use crate::graph::TripGraph;
+
+/// Whether some rider stands in the sole allowed rows of two vehicles, or some rider who must be served
+/// in no allowed row. The marks are work space.
+pub fn is_dead_end(graph: &TripGraph, allowed: &[bool], marks: &mut [bool]) -> bool
+    requires allowed { length allowed.now ≡ length graph.now.rows }
+    requires marks { length marks.old ≡ graph.now.riders }
+    ensures value { IsTrue result ↔ IsDeadEnd graph.now (usable_of allowed.now) }
+    ensures marks { length marks.new ≡ length marks.old }
+{
+    clear(marks);
+    if has_clash(graph, allowed, marks) {
+        return true;
+    }
+    clear(marks);
+    mark_usable(graph, allowed, marks);
+    has_stranded(graph, allowed, marks)
+}
+
+fn clear(marks: &mut [bool])
+    ensures len { length marks.new ≡ length marks.old }
+    ensures clear { (r : ℕ) → slice_index_or marks.new r false ≡ false }
+{
+    for mark in marks.iter_mut() {
+        *mark = false;
+    }
+}
+
+/// Whether a rider stands in the sole allowed rows of two vehicles.
+fn has_clash(graph: &TripGraph, allowed: &[bool], marks: &mut [bool]) -> bool
+    requires allowed { length allowed.now ≡ length graph.now.rows }
+    requires marks { length marks.old ≡ graph.now.riders }
+    requires clear { (r : ℕ) → slice_index_or marks.old r false ≡ false }
+    ensures value { IsTrue result ↔ IsClash graph.now (usable_of allowed.now) }
+    ensures marks { length marks.new ≡ length marks.old }
+{
+    let rows = graph.rows();
+    for vehicle in 0..graph.vehicle_count() {
+        match sole_row(graph, allowed, vehicle) {
+            None => {}
+            Some(row) => {
+                let riders = rows[row].riders.as_slice();
+                if is_any_marked(riders, marks) {
+                    return true;
+                }
+                mark_riders(riders, marks);
+            }
+        }
+    }
+    false
+}
+
+/// The vehicle's only allowed row.
+fn sole_row(graph: &TripGraph, allowed: &[bool], vehicle: usize) -> Option<usize>
+    requires allowed { length allowed.now ≡ length graph.now.rows }
+    requires vehicle { vehicle < graph.now.vehicles }
+    ensures found { IfSome result (IsSoleRow graph.now (usable_of allowed.now) vehicle) }
+    ensures none { IfNone result ((k : ℕ) → IsSoleRow graph.now (usable_of allowed.now) vehicle k → ⊥) }
+{
+    let count = graph.vehicle_count();
+    prove!(vehicle < count);
+    let mut sole = None;
+    for row in graph.first_row(vehicle)..graph.first_row(vehicle + 1) {
+        if allowed[row] {
+            if sole.is_some() {
+                return None;
+            }
+            sole = Some(row);
+        }
+    }
+    sole
+}
+
+fn mark_usable(graph: &TripGraph, allowed: &[bool], marks: &mut [bool])
+    requires allowed { length allowed.now ≡ length graph.now.rows }
+    requires marks { length marks.old ≡ graph.now.riders }
+    requires clear { (r : ℕ) → slice_index_or marks.old r false ≡ false }
+    ensures marked { MarksUsable graph.now (usable_of allowed.now) (length graph.now.rows) marks.new }
+    ensures marks { length marks.new ≡ length marks.old }
+{
+    let rows = graph.rows();
+    for row in 0..rows.len() {
+        if allowed[row] {
+            mark_riders(rows[row].riders.as_slice(), marks);
+        }
+    }
+}
+
+/// Whether a rider who must be served isn't marked.
+fn has_stranded(graph: &TripGraph, allowed: &[bool], marks: &[bool]) -> bool
+    requires marks { length marks.now ≡ graph.now.riders }
+    requires marked { MarksUsable graph.now (usable_of allowed.now) (length graph.now.rows) marks.now }
+    ensures { IsTrue result ↔ IsStranded graph.now (usable_of allowed.now) }
+{
+    for rider in 0..graph.rider_count() {
+        if graph.must(rider) && !marks[rider] {
+            return true;
+        }
+    }
+    false
+}
+
+fn is_any_marked(riders: &[usize], marks: &[bool]) -> bool
+    requires { All (λ r. r < length marks.now) riders.now }
+    ensures { result ≡ list_any (λ r. slice_index_or marks.now r false) riders.now }
+{
+    for rider in riders {
+        if marks[*rider] {
+            return true;
+        }
+    }
+    false
+}
+
+fn mark_riders(riders: &[usize], marks: &mut [bool])
+    requires { All (λ r. r < length marks.old) riders.now }
+    ensures len { length marks.new ≡ length marks.old }
+    ensures marked { (r : ℕ) → r < length marks.old → slice_index_or marks.new r false ≡ (slice_index_or marks.old r false || list_any (λ x. x == r) riders.now) }
+{
+    for rider in riders {
+        marks[*rider] = true;
+    }
+}

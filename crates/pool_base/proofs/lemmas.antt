@@ -1,0 +1,4 @@
+pub mod DistinctLemmas
+pub mod InOrderLemmas
+pub mod NumeralLemmas
+pub mod TravelTimeLemmas

@@ -1,0 +1,26 @@
+use Rattle.std.proofs.Common.{◌≡◌, ℕ, not, eqb, cond, List, [], ◌∷◌, Option, Some, None, Ok, Err, length, sym, ap, ◌∙◌, inl, inr}
+use Rattle.std.specs.List.{position_from}
+use Rattle.std.specs.Option.{option_map_or}
+use Rattle.std.proofs.lemmas.Bool.{cases_Bool}
+use Rattle.pool_io.specs.declared.records.RowFault.TheVariants.{Header, UnequalLength}
+use Rattle.pool_io.specs.Table.{Table, header_fields, is_record, even_rows, rows_under, table_of, records_of}
+
+even_columns : (columns : ℕ) (rows : List (List (List ℕ))) (o : Option ℕ) (table : Table) → option_map_or (λ row. Err (UnequalLength row)) o (Ok (record { columns = columns; records = rows })) ≡ Ok table → table.columns ≡ columns
+even_columns columns rows None table is = let same : record { columns = columns; records = rows } ≡ table = cc in sym (ap (λ (t : Table). t.columns) same)
+even_columns columns rows (Some row) table is = absurd cc
+
+columns_under : (names : List (List ℕ)) (records : List (List (List ℕ))) (table : Table) → rows_under names records ≡ Ok table → table.columns ≡ length names
+columns_under names [] table is = absurd cc
+columns_under names (first ∷ rows) table is =
+    elim (cases_Bool (is_record first names)) [
+      | inl same ↦
+          even_columns (length names) rows (position_from (λ fields. not (eqb (length fields) (length names))) 1 rows) table
+          (sym (ap (λ b. cond b (even_rows (length names) rows) (Err (Header (length first)))) same) ∙ is)
+      | inr other ↦
+          (let refused : Err (Header (length first)) ≡ Ok table = sym (ap (λ b. cond b (even_rows (length names) rows) (Err (Header (length first)))) other) ∙ is in
+          absurd cc)
+    ]
+
+-- rows have as many columns as their header
+pub columns-table_of : (header bytes : List ℕ) (table : Table) → table_of header bytes ≡ Ok table → table.columns ≡ length (header_fields header)
+columns-table_of header bytes table is = columns_under (header_fields header) (records_of bytes) table is

@@ -1,0 +1,154 @@
+use Rattle.std.proofs.Common.{◌≡◌, ℕ, zero, suc, ◌+◌, ◌-◌, ◌<◌, ◌≤◌, ◌⊎◌, inl, inr, List, [], ◌∷◌, ◌++◌, length, take, get_or, set, refl, sym, ap, ◌∙◌, subst, arith, Bool, true, false, cond, ⊎_elim}
+use Rattle.std.specs.List.{Contains, filter, range_with_len}
+use Rattle.std.specs.List.Sorted.{IsStrictlyIncreasing}
+use Rattle.std.proofs.lemmas.Bool.{cases_lt, cases_eq}
+use Rattle.std.proofs.lemmas.List.{length_push, length-append, length-set, get_or_append_left, get_or_push, get_or-set_same, get_or-set_other, take_more, take_all, map-id, append-nil, get_or_default}
+use Rattle.std.proofs.lemmas.List.Elements.{Contains-append_left, Contains-push, Contains-push_cases, filter-append, All-filter, All-from_get_or}
+use Rattle.std.proofs.lemmas.List.FromFn.{map-range_with_len_more, length-range_with_len, get_or-range_with_len}
+use Rattle.std.proofs.lemmas.List.Kept.{IsStrictlyIncreasing-filter}
+use Rattle.batch_snapshot.specs.declared.rider.Rider.{Rider}
+use Rattle.stop_orders.specs.declared.settled_rider.SettledRider.{SettledRider}
+use Rattle.stop_orders.specs.declared.settled_vehicle.SettledVehicle.{SettledVehicle}
+use Rattle.stop_orders.specs.Settled.{no_rider, no_vehicle, IsTrip}
+use Rattle.promise_check.specs.Requests.{request_at, no_request}
+use Rattle.promise_check.specs.Promised.{is_promised_to, promised_to}
+use Rattle.promise_check.specs.work.Promised.{kept_rider, AreKept, IsHeld}
+
+range_more : (n : ℕ) → range_with_len 0 (n + 1) ≡ range_with_len 0 n ++ n ∷ []
+range_more n =
+    sym (map-id (range_with_len 0 (n + 1))) ∙ map-range_with_len_more (λ (x : ℕ). x) 0 n n (omega arith) ∙ ap (λ (v : List ℕ). v ++ n ∷ []) (map-id (range_with_len 0 n))
+
+-- one more number that passes, or not
+pub filter_range_more : (p : ℕ → Bool) (n : ℕ) → filter p (range_with_len 0 (n + 1)) ≡ filter p (range_with_len 0 n) ++ cond (p n) (n ∷ []) []
+filter_range_more p n = ap (filter p) (range_more n) ∙ filter-append p (range_with_len 0 n) (n ∷ [])
+
+-- the numbers that pass don't become fewer
+pub filter_range_grows : (p : ℕ → Bool) (k m : ℕ) → length (filter p (range_with_len 0 k)) ≤ length (filter p (range_with_len 0 (k + m)))
+filter_range_grows p k zero = let e : k ≡ k + 0 = omega arith in subst (λ (v : ℕ). length (filter p (range_with_len 0 k)) ≤ length (filter p (range_with_len 0 v))) e (omega arith)
+filter_range_grows p k (suc m) =
+    let rest = filter_range_grows p k m in
+    let e : k + m + 1 ≡ k + suc m = omega arith in
+    let last : filter p (range_with_len 0 (k + m + 1)) ≡ filter p (range_with_len 0 (k + m)) ++ cond (p (k + m)) ((k + m) ∷ []) [] = filter_range_more p (k + m) in
+    let n = length-append (filter p (range_with_len 0 (k + m))) (cond (p (k + m)) ((k + m) ∷ []) []) in
+    subst (λ (v : ℕ). length (filter p (range_with_len 0 k)) ≤ length (filter p (range_with_len 0 v))) e (rw last (omega arith))
+
+-- a number that passes stands among them
+pub filter_range_has : (p : ℕ → Bool) (n r : ℕ) → r < n → p r ≡ true → Contains (filter p (range_with_len 0 n)) r
+filter_range_has p zero r h passed = absurd (omega arith)
+filter_range_has p (suc n) r h passed =
+    let e : n + 1 ≡ suc n = omega arith in
+    subst (λ (v : ℕ). Contains (filter p (range_with_len 0 v)) r) e (rw (filter_range_more p n) (elim (cases_lt r n) as (λ _. Contains (filter p (range_with_len 0 n) ++ cond (p n) (n ∷ []) []) r) [
+      | inl lt ↦ Contains-append_left (filter p (range_with_len 0 n)) (cond (p n) (n ∷ []) []) r (filter_range_has p n r lt passed)
+      | inr ge ↦
+          let here : r ≡ n = omega arith in
+          let passes : p n ≡ true = ap p (sym here) ∙ passed in
+          rw passes (subst (λ (v : ℕ). Contains (filter p (range_with_len 0 n) ++ n ∷ []) v) (sym here) (Contains-push (filter p (range_with_len 0 n)) n))
+    ]))
+
+range_increases : (n : ℕ) → IsStrictlyIncreasing (range_with_len 0 n)
+range_increases n k h =
+    let e = length-range_with_len 0 n in
+    let a = get_or-range_with_len 0 n k 0 (omega arith) in let b = get_or-range_with_len 0 n (k + 1) 0 (omega arith) in omega arith
+
+-- the riders promised to a vehicle are a trip
+pub promised_trip : (id : ℕ) (requests : List Rider) → IsTrip (length requests) (promised_to id requests)
+promised_trip id requests =
+    let n = length requests in
+    record {
+      rising = IsStrictlyIncreasing-filter (λ k. is_promised_to id (request_at requests k)) (range_with_len 0 n) (range_increases n);
+      within = All-filter (λ k. is_promised_to id (request_at requests k)) (λ r. r < n) (range_with_len 0 n)
+          (All-from_get_or (λ r. r < n) (range_with_len 0 n) 0 (λ i h. let e = length-range_with_len 0 n in let at = get_or-range_with_len 0 n i 0 (omega arith) in omega arith));
+    }
+
+pub filter_range_skips : (p : ℕ → Bool) (n : ℕ) → p n ≡ false → filter p (range_with_len 0 (n + 1)) ≡ filter p (range_with_len 0 n)
+filter_range_skips p n e = filter_range_more p n ∙ ap (λ (b : Bool). filter p (range_with_len 0 n) ++ cond b (n ∷ []) []) e ∙ append-nil (filter p (range_with_len 0 n))
+
+pub filter_range_takes : (p : ℕ → Bool) (n : ℕ) → p n ≡ true → filter p (range_with_len 0 (n + 1)) ≡ filter p (range_with_len 0 n) ++ n ∷ []
+filter_range_takes p n e = filter_range_more p n ∙ ap (λ (b : Bool). filter p (range_with_len 0 n) ++ cond b (n ∷ []) []) e
+
+pub filter_range_all : (p : ℕ → Bool) (k n : ℕ) → k ≤ n → length (filter p (range_with_len 0 k)) ≤ length (filter p (range_with_len 0 n))
+filter_range_all p k n h = let e : k + (n - k) ≡ n = omega arith in subst (λ (v : ℕ). length (filter p (range_with_len 0 k)) ≤ length (filter p (range_with_len 0 v))) e (filter_range_grows p k (n - k))
+
+-- what is read is what stands at its number
+pub request_read : (requests : List Rider) (k : ℕ) (x : Rider) → k < length requests → x ≡ get_or requests k x → x ≡ request_at requests k
+request_read requests k x h is = is ∙ get_or_default requests k x no_request h
+
+pub rider_read : (riders : List SettledRider) (k : ℕ) (x : SettledRider) → k < length riders → x ≡ get_or riders k x → x ≡ get_or riders k no_rider
+rider_read riders k x h is = is ∙ get_or_default riders k x no_rider h
+
+module _ (wait : ℕ) (requests : List Rider) (plain : List SettledRider) where
+  pub kept_none : (xs : List ℕ) (before : List SettledRider) → AreKept wait requests plain (Contains (take 0 xs)) before before
+  kept_none xs before = record { count = refl; each = λ r h. inr (λ w. let lt = w.1 in omega arith, refl) }
+
+  -- one more rider is given the pickup that was promised
+  pub kept_more : (i h : ℕ) (held : List ℕ) (before after : List SettledRider) → i < length held → get_or held i 0 ≡ h → h < length before
+      → AreKept wait requests plain (Contains (take i held)) before after
+      → AreKept wait requests plain (Contains (take (i + 1) held)) before (set after h (kept_rider wait (request_at requests h) (get_or plain h no_rider)))
+  kept_more i h held before after lt is within k =
+      let new = kept_rider wait (request_at requests h) (get_or plain h no_rider) in
+      let more : take (i + 1) held ≡ take i held ++ h ∷ [] = take_more held i 0 lt ∙ ap (λ (v : ℕ). take i held ++ v ∷ []) is in
+      record {
+        count = length-set after h new ∙ k.count;
+        each = λ r lr. elim (cases_eq r h) as (λ _. (Contains (take (i + 1) held) r × (get_or (set after h new) r no_rider ≡ kept_rider wait (request_at requests r) (get_or plain r no_rider)))
+            ⊎ ((Contains (take (i + 1) held) r → ⊥) × (get_or (set after h new) r no_rider ≡ get_or before r no_rider))) [
+              | inl same ↦
+                  let room : h < length after = (let e = k.count in omega arith) in
+                  inl (
+                    rw more (subst (λ (v : ℕ). Contains (take i held ++ h ∷ []) v) (sym same) (Contains-push (take i held) h)),
+                    subst (λ (v : ℕ). get_or (set after h new) v no_rider ≡ kept_rider wait (request_at requests v) (get_or plain v no_rider)) (sym same) (get_or-set_same after h new no_rider room),
+                  )
+              | inr other ↦
+                  let stays : get_or (set after h new) r no_rider ≡ get_or after r no_rider = get_or-set_other after h r new no_rider other in
+                  ⊎_elim (λ w. inl (rw more (Contains-append_left (take i held) (h ∷ []) r w.0), stays ∙ w.1))
+                  (λ w. inr (λ c. ⊎_elim w.0 (λ e. other (sym e)) (Contains-push_cases (take i held) h r (rw more at c)), stays ∙ w.1)) (k.each r lr)
+            ];
+      }
+
+  -- all riders of a list are kept
+  pub kept_all : (i : ℕ) (held : List ℕ) (before after : List SettledRider) → length held ≤ i
+      → AreKept wait requests plain (Contains (take i held)) before after → AreKept wait requests plain (Contains held) before after
+  kept_all i held before after h k = subst (λ (v : List ℕ). AreKept wait requests plain (Contains v) before after) (take_all i held h) k
+
+  -- one more vehicle keeps its promises
+  pub kept_by_more : (i : ℕ) (v : SettledVehicle) (vehicles : List SettledVehicle) (before after : List SettledRider) → i < length vehicles → v ≡ get_or vehicles i v
+      → AreKept wait requests plain (IsHeld (take i vehicles)) plain before → AreKept wait requests plain (Contains v.held.items) before after
+      → AreKept wait requests plain (IsHeld (take (i + 1) vehicles)) plain after
+  kept_by_more i v vehicles before after h is upto own =
+      let more : take (i + 1) vehicles ≡ take i vehicles ++ v ∷ [] = take_more vehicles i v h ∙ ap (λ (w : SettledVehicle). take i vehicles ++ w ∷ []) (sym is) in
+      rw more (record {
+        count = own.count ∙ upto.count;
+        each = λ r lr. ⊎_elim
+            (λ w. inl (held_last (take i vehicles) v r w.0, w.1))
+            (λ w. ⊎_elim
+            (λ u. inl (held_before (take i vehicles) v r u.0, w.1 ∙ u.1))
+            (λ u. inr (λ t. ⊎_elim u.0 w.0 (held_cases (take i vehicles) v r t), w.1 ∙ u.1))
+            (upto.each r lr))
+            (own.each r (let e = upto.count in omega arith));
+      })
+    where
+      held_last : (vs : List SettledVehicle) (v : SettledVehicle) (r : ℕ) → Contains v.held.items r → IsHeld (vs ++ v ∷ []) r
+      held_last vs v r c =
+          let n = length_push vs v in
+          (length vs, omega arith, subst (λ (w : SettledVehicle). Contains w.held.items r) (sym (get_or_push vs v no_vehicle (length vs) refl)) c)
+
+      held_before : (vs : List SettledVehicle) (v : SettledVehicle) (r : ℕ) → IsHeld vs r → IsHeld (vs ++ v ∷ []) r
+      held_before vs v r t =
+          let n = length_push vs v in let lt = t.1 in
+          (t.0, omega arith, subst (λ (w : SettledVehicle). Contains w.held.items r) (sym (get_or_append_left vs (v ∷ []) no_vehicle t.0 lt)) t.2)
+
+      held_cases : (vs : List SettledVehicle) (v : SettledVehicle) (r : ℕ) → IsHeld (vs ++ v ∷ []) r → IsHeld vs r ⊎ Contains v.held.items r
+      held_cases vs v r t =
+          let n = length_push vs v in let k = t.0 in
+          elim (cases_lt k (length vs)) as (λ _. IsHeld vs r ⊎ Contains v.held.items r) [
+            | inl lt ↦ inl (k, lt, subst (λ (w : SettledVehicle). Contains w.held.items r) (get_or_append_left vs (v ∷ []) no_vehicle k lt) t.2)
+            | inr ge ↦
+                let last : length vs ≡ k = (let lt = t.1 in omega arith) in
+                inr (subst (λ (w : SettledVehicle). Contains w.held.items r) (get_or_push vs v no_vehicle k last) t.2)
+          ]
+
+  pub held_by_none : (vehicles : List SettledVehicle) → AreKept wait requests plain (IsHeld (take 0 vehicles)) plain plain
+  held_by_none vehicles = record { count = refl; each = λ r h. inr (λ w. let lt = w.1 in omega arith, refl) }
+
+  pub held_by_all : (i : ℕ) (vehicles : List SettledVehicle) (after : List SettledRider) → length vehicles ≤ i
+      → AreKept wait requests plain (IsHeld (take i vehicles)) plain after → AreKept wait requests plain (IsHeld vehicles) plain after
+  held_by_all i vehicles after h k = subst (λ (v : List SettledVehicle). AreKept wait requests plain (IsHeld v) plain after) (take_all i vehicles h) k

@@ -1,0 +1,4 @@
+pub mod Register
+pub mod Stored
+pub mod Closing
+pub mod Keyed

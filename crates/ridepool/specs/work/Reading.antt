@@ -1,0 +1,57 @@
+-- What the readers of sources and of bytes say.
+use Rattle.std.specs.Prelude.{◌≡◌, ℕ, List, Result, Err, IfErr, MatchResult}
+use Rattle.pool_base.specs.declared.which.Which.{Which}
+use Rattle.pool_io.specs.Faults.{Rose}
+use Rattle.pool_io.specs.declared.input.Input.{Input}
+use Rattle.rider_limits.specs.declared.settings.Mode.{Mode}
+use Rattle.rider_limits.specs.declared.settings.Mode.TheVariants.{Run, Load}
+use Rattle.rider_limits.specs.declared.settings.Settings.{Settings}
+use Rattle.script_rows.specs.Round.{NumberedLanes}
+use Rattle.script_rows.specs.declared.fault.ScriptFault.{ScriptFault}
+use Rattle.ridepool.specs.Explained.{HidesNoMemory}
+use Rattle.ridepool.specs.Inputs.{IsWithin, IsSourceTooLong, Reads, AreInputs, AreUntouched, IsStop}
+use Rattle.ridepool.specs.Reading.{network_in, vehicles_in}
+use Rattle.dispatch_report.specs.Written.{Change}
+use Rattle.ridepool.specs.Seen.{SourceView, Sources}
+use Rattle.ridepool.specs.declared.inputs.ReadInputs.{ReadInputs}
+use Rattle.ridepool.specs.declared.status.RunStatus.{RunStatus}
+use Rattle.ridepool.specs.declared.status.RunStatus.TheVariants.{Network, Fleet, Script, TooLong, ReadFault, OutOfMemory}
+
+-- why a source wasn't read to its end
+pub data IsUnread (s : Change SourceView) (which : Which) : RunStatus → Type 0 where
+  long : IsSourceTooLong s → IsUnread s which (TooLong which)
+  failed : IsWithin s → Rose s.before.faults s.after.faults → IsUnread s which (ReadFault which)
+  memory : IsWithin s → IsUnread s which OutOfMemory
+
+-- why a source stopped a run: it wasn't read to its end, or what was read is refused
+pub data StopsAt {A F : Type 0} (s : Change SourceView) (which : Which) (refusal : Input F → RunStatus) (read : List ℕ → Result A (Input F)) : RunStatus → Type 0 where
+  unread : (status : RunStatus) → IsUnread s which status → StopsAt s which refusal read status
+  refused : (fault : Input F) → Reads s (λ bytes. read bytes ≡ Err fault) → HidesNoMemory (refusal fault) → StopsAt s which refusal read (refusal fault)
+
+-- why bytes are no network, no fleet, no script
+abbrev pub RefusesNetwork : List ℕ → RunStatus → Type 0
+RefusesNetwork bytes (Network fault) = network_in bytes ≡ Err fault
+RefusesNetwork bytes OutOfMemory = Unit {0}
+RefusesNetwork bytes _ = ⊥
+
+abbrev pub RefusesFleet : List ℕ → List ℕ → RunStatus → Type 0
+RefusesFleet nodes bytes (Fleet fault) = vehicles_in nodes bytes ≡ Err fault
+RefusesFleet nodes bytes OutOfMemory = Unit {0}
+RefusesFleet nodes bytes _ = ⊥
+
+abbrev pub RefusesRounds : Result (List NumberedLanes) (Input ScriptFault) → RunStatus → Type 0
+RefusesRounds read (Script fault) = read ≡ Err fault
+RefusesRounds read OutOfMemory = Unit {0}
+RefusesRounds read _ = ⊥
+
+-- why there are no inputs, by the command
+abbrev pub IsNoInput : Mode → Sources → RunStatus → Type 0
+IsNoInput Run s status = IsStop s status
+IsNoInput (Load shape) s status = AreUntouched s × (status ≡ OutOfMemory)
+
+-- what came of the inputs
+pub record GotInputs (settings : Settings) (s : Sources) (result : Result ReadInputs RunStatus) : Type 0 where
+  pub inputs : MatchResult result
+      (λ got. AreInputs settings.mode s (record { settings = settings; roads = got.network; vehicles = got.fleet; rounds = got.script }))
+      (IsNoInput settings.mode s)
+  pub refused : IfErr result HidesNoMemory

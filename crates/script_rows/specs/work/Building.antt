@@ -1,0 +1,34 @@
+use Rattle.std.specs.Prelude.{ℕ, ◌-◌, ◌<◌, ◌≤◌, Bool, ◌&&◌, List, [], ◌∷◌, ◌++◌, length, replicate, nat_lt, ◌==◌, slice_index_or, slice_set, if◌then◌else◌}
+use Rattle.request_book.specs.declared.command.Command.{Command}
+use Rattle.script_rows.specs.declared.line.Line.{Line}
+use Rattle.script_rows.specs.Round.{NumberedLanes, lane_at, MayStand}
+
+-- what a row keeps that stands behind a row of a round
+pub record IsBehind (last : ℕ) (line : Line) : Type 0 where
+  pub round : last ≤ line.round
+  pub number : line.round ≤ 1000000000
+  pub lane : line.lane < 16
+  pub stands : MayStand line.lane line.command
+
+-- a round with one more command at the end of a lane
+abbrev pub with_command : NumberedLanes → ℕ → Command → NumberedLanes
+with_command round lane command = record round { lanes = slice_set round.lanes lane (lane_at round lane ++ command ∷ []) }
+
+-- the round of a number, without commands
+abbrev pub empty_round : ℕ → NumberedLanes
+empty_round number = record { number = number; lanes = replicate 16 [] }
+
+-- the last round, or one without commands
+abbrev pub last_round : List NumberedLanes → NumberedLanes
+last_round rounds = slice_index_or rounds (length rounds - 1) (empty_round 0)
+
+-- the last round has this number
+abbrev pub joins : List NumberedLanes → ℕ → Bool
+joins rounds number = nat_lt 0 (length rounds) && (last_round rounds).number == number
+
+-- rounds with one more row: in the last round where it has the row's number, else in a new one
+unfoldable pub with_line : List NumberedLanes → Line → List NumberedLanes
+with_line rounds line =
+    if joins rounds line.round
+    then slice_set rounds (length rounds - 1) (with_command (last_round rounds) line.lane line.command)
+    else rounds ++ with_command (empty_round line.round) line.lane line.command ∷ []

@@ -1,0 +1,6 @@
+pub mod Counted
+pub mod Moves
+pub mod Passes
+pub mod Rule
+pub mod Turns
+pub mod Views

@@ -1,0 +1,5 @@
+pub mod Label
+pub mod Ahead
+pub mod Kept
+pub mod Search
+pub mod Unlimited

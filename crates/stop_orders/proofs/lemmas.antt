@@ -1,0 +1,5 @@
+pub mod ClockLemmas
+pub mod DoneLemmas
+pub mod PlainLemmas
+pub mod ScanLemmas
+pub mod VisitLemmas

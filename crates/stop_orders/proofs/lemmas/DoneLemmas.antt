@@ -1,0 +1,281 @@
+use Rattle.std.proofs.Common.{◌≡◌, ℕ, zero, suc, ◌+◌, ◌*◌, ◌^◌, ◌<◌, ◌≤◌, max, Bool, true, false, eqb, List, [], ◌∷◌, length, filter, refl, sym, ap, ◌∙◌, subst, arith, inl, inr}
+use Rattle.std.proofs.lemmas.Bool.{eq-eqb, ne_eqb, cases_eq, cond-true, cond-false}
+use Rattle.std.proofs.lemmas.Nat.Bits.{bit_at-zero, bit_at_or, bit_at-pow_same, bit_at-pow_other, bit_at-lt}
+use Rattle.std.specs.Prelude.{bit_or}
+use Rattle.std.specs.Int.{bit_at}
+use Rattle.stop_orders.specs.declared.stop.Stop.{Stop}
+use Rattle.stop_orders.specs.declared.stop.Stop.TheVariants.{Pick, Drop, Alight}
+use Rattle.stop_orders.specs.Order.{is_of_rider, is_of_passenger, IsOrder}
+use Rattle.stop_orders.specs.Done.{has, with_bit, with_stop, IsNextStop, IsAllDone}
+use Rattle.stop_orders.specs.work.Rest.{left_of_rider, left_of_passenger, Completes, sum_below, left_count}
+
+-- nothing is in the empty set
+pub has-none : (k : ℕ) → has 0 k ≡ false
+unfolding has
+has-none k = rw (bit_at-zero k) refl
+
+-- a stop is in a set with it
+pub has-with_same : (done k : ℕ) → has (with_bit done k) k ≡ true
+unfolding has with_bit
+has-with_same done k =
+    let low : bit_at done k < 2 = bit_at-lt done k in
+    let is : bit_at (bit_or done (2 ^ k)) k ≡ max (bit_at done k) (bit_at (2 ^ k) k) = bit_at_or done (2 ^ k) k in
+    let one : bit_at (2 ^ k) k ≡ 1 = bit_at-pow_same k in
+    eq-eqb _ _ (is ∙ (rw one (omega arith)))
+
+-- the others stay as they are
+pub has-with_other : (done k l : ℕ) → (l ≡ k → ⊥) → has (with_bit done k) l ≡ has done l
+unfolding has with_bit
+has-with_other done k l ne =
+    let is : bit_at (bit_or done (2 ^ k)) l ≡ max (bit_at done l) (bit_at (2 ^ k) l) = bit_at_or done (2 ^ k) l in
+    let none : bit_at (2 ^ k) l ≡ 0 = bit_at-pow_other k l ne in
+    ap (λ n. eqb n 1) (is ∙ (rw none (omega arith)))
+
+-- a test of a number against itself
+same : (i : ℕ) → eqb i i ≡ true
+same i = eq-eqb i i refl
+
+-- what a filter does at the front of a list
+filter_takes : {X : Type 0} (p : X → Bool) (x : X) (xs : List X) → p x ≡ true → filter p (x ∷ xs) ≡ x ∷ filter p xs
+filter_takes p x xs e = cond-true (p x) (x ∷ filter p xs) (filter p xs) e
+
+filter_skips : {X : Type 0} (p : X → Bool) (x : X) (xs : List X) → p x ≡ false → filter p (x ∷ xs) ≡ filter p xs
+filter_skips p x xs e = cond-false (p x) (x ∷ filter p xs) (filter p xs) e
+
+-- who has a pickup in front was not picked up yet
+pick_left : (picked dropped : Bool) (i : ℕ) (rest : List Stop) → Pick i ∷ rest ≡ left_of_rider picked dropped i → (picked ≡ false) × (dropped ≡ false) × (rest ≡ Drop i ∷ [])
+pick_left picked true i rest e = absurd cc
+pick_left true false i rest e = absurd cc
+pick_left false false i rest e = (refl, refl, cc)
+
+-- who has a drop-off in front was picked up
+drop_left : (picked dropped : Bool) (i : ℕ) (rest : List Stop) → Drop i ∷ rest ≡ left_of_rider picked dropped i → (picked ≡ true) × (dropped ≡ false) × (rest ≡ [])
+drop_left picked true i rest e = absurd cc
+drop_left true false i rest e = (refl, refl, cc)
+drop_left false false i rest e = absurd cc
+
+alight_left : (out : Bool) (j : ℕ) (rest : List Stop) → Alight j ∷ rest ≡ left_of_passenger out j → (out ≡ false) × (rest ≡ [])
+alight_left true j rest e = absurd cc
+alight_left false j rest e = (refl, cc)
+
+module _ (riders passengers done : ℕ) (few : riders ≤ 6) where
+  -- what may stand in front of a rest, and what the rest then completes
+  pub Completes-front : (s : Stop) (rest : List Stop) → Completes riders passengers done (s ∷ rest) → IsNextStop riders passengers done s × Completes riders passengers (with_stop done s) rest
+  Completes-front (Pick i) rest c =
+      let own = pick_left (has done i) (has done (6 + i)) i (filter (is_of_rider i) rest) (sym (filter_takes (is_of_rider i) (Pick i) rest (same i)) ∙ c.rides i c.known.0) in
+      let below : i < riders = c.known.0 in (
+        (below, own.0, own.1),
+        record {
+          rides = λ k h. elim (cases_eq i k) [
+            | inl e ↦ subst (λ n. filter (is_of_rider n) rest ≡ left_of_rider (has (with_bit done i) n) (has (with_bit done i) (6 + n)) n) e
+                (own.2 ∙ sym (rw (has-with_same done i, has-with_other done i (6 + i) (λ q. omega arith), own.1) refl))
+            | inr ne ↦ sym (filter_skips (is_of_rider k) (Pick i) rest (ne_eqb i k ne)) ∙ c.rides k h
+                ∙ sym (rw (has-with_other done i k (λ q. ne (sym q)), has-with_other done i (6 + k) (λ q. omega arith)) refl)
+          ];
+          alights = λ j h. c.alights j h ∙ sym (rw (has-with_other done i (12 + j) (λ q. omega arith)) refl);
+          known = c.known.1;
+        },
+      )
+  Completes-front (Drop i) rest c =
+      let own = drop_left (has done i) (has done (6 + i)) i (filter (is_of_rider i) rest) (sym (filter_takes (is_of_rider i) (Drop i) rest (same i)) ∙ c.rides i c.known.0) in
+      let below : i < riders = c.known.0 in (
+        (below, own.0, own.1),
+        record {
+          rides = λ k h. elim (cases_eq i k) [
+            | inl e ↦ subst (λ n. filter (is_of_rider n) rest ≡ left_of_rider (has (with_bit done (6 + i)) n) (has (with_bit done (6 + i)) (6 + n)) n) e
+                (own.2 ∙ sym (rw (has-with_same done (6 + i)) refl))
+            | inr ne ↦ sym (filter_skips (is_of_rider k) (Drop i) rest (ne_eqb i k ne)) ∙ c.rides k h
+                ∙ sym (rw (has-with_other done (6 + i) k (λ q. omega arith), has-with_other done (6 + i) (6 + k) (λ q. ne (omega arith))) refl)
+          ];
+          alights = λ j h. c.alights j h ∙ sym (rw (has-with_other done (6 + i) (12 + j) (λ q. omega arith)) refl);
+          known = c.known.1;
+        },
+      )
+  Completes-front (Alight j) rest c =
+      let own = alight_left (has done (12 + j)) j (filter (is_of_passenger j) rest) (sym (filter_takes (is_of_passenger j) (Alight j) rest (same j)) ∙ c.alights j c.known.0) in
+      let below : j < passengers = c.known.0 in (
+        (below, own.0),
+        record {
+          rides = λ k h. c.rides k h ∙ sym (rw (has-with_other done (12 + j) k (λ q. omega arith), has-with_other done (12 + j) (6 + k) (λ q. omega arith)) refl);
+          alights = λ k h. elim (cases_eq j k) [
+            | inl e ↦ subst (λ n. filter (is_of_passenger n) rest ≡ left_of_passenger (has (with_bit done (12 + j)) (12 + n)) n) e
+                (own.1 ∙ sym (rw (has-with_same done (12 + j)) refl))
+            | inr ne ↦ sym (filter_skips (is_of_passenger k) (Alight j) rest (ne_eqb j k ne)) ∙ c.alights k h
+                ∙ sym (rw (has-with_other done (12 + j) (12 + k) (λ q. ne (omega arith))) refl)
+          ];
+          known = c.known.1;
+        },
+      )
+
+  -- a stop that may come next in front of a rest that completes what is done with it
+  pub Completes-back : (s : Stop) (rest : List Stop) → IsNextStop riders passengers done s → Completes riders passengers (with_stop done s) rest → Completes riders passengers done (s ∷ rest)
+  Completes-back (Pick i) rest next c = record {
+    rides = λ k h. elim (cases_eq i k) [
+      | inl e ↦ subst (λ n. filter (is_of_rider n) (Pick i ∷ rest) ≡ left_of_rider (has done n) (has done (6 + n)) n) e
+          (filter_takes (is_of_rider i) (Pick i) rest (same i) ∙ ap (λ xs. Pick i ∷ xs) (c.rides i next.0)
+          ∙ rw (has-with_same done i, has-with_other done i (6 + i) (λ q. omega arith), next.1, next.2) refl)
+      | inr ne ↦ filter_skips (is_of_rider k) (Pick i) rest (ne_eqb i k ne) ∙ c.rides k h
+          ∙ rw (has-with_other done i k (λ q. ne (sym q)), has-with_other done i (6 + k) (λ q. omega arith)) refl
+    ];
+    alights = λ j h. c.alights j h ∙ rw (has-with_other done i (12 + j) (λ q. omega arith)) refl;
+    known = (next.0, c.known);
+  }
+  Completes-back (Drop i) rest next c = record {
+    rides = λ k h. elim (cases_eq i k) [
+      | inl e ↦ subst (λ n. filter (is_of_rider n) (Drop i ∷ rest) ≡ left_of_rider (has done n) (has done (6 + n)) n) e
+          (filter_takes (is_of_rider i) (Drop i) rest (same i) ∙ ap (λ xs. Drop i ∷ xs) (c.rides i next.0)
+          ∙ rw (has-with_same done (6 + i), next.1, next.2) refl)
+      | inr ne ↦ filter_skips (is_of_rider k) (Drop i) rest (ne_eqb i k ne) ∙ c.rides k h
+          ∙ rw (has-with_other done (6 + i) k (λ q. omega arith), has-with_other done (6 + i) (6 + k) (λ q. ne (omega arith))) refl
+    ];
+    alights = λ j h. c.alights j h ∙ rw (has-with_other done (6 + i) (12 + j) (λ q. omega arith)) refl;
+    known = (next.0, c.known);
+  }
+  Completes-back (Alight j) rest next c = record {
+    rides = λ k h. c.rides k h ∙ rw (has-with_other done (12 + j) k (λ q. omega arith), has-with_other done (12 + j) (6 + k) (λ q. omega arith)) refl;
+    alights = λ k h. elim (cases_eq j k) [
+      | inl e ↦ subst (λ n. filter (is_of_passenger n) (Alight j ∷ rest) ≡ left_of_passenger (has done (12 + n)) n) e
+          (filter_takes (is_of_passenger j) (Alight j) rest (same j) ∙ ap (λ xs. Alight j ∷ xs) (c.alights j next.0)
+          ∙ rw (has-with_same done (12 + j), next.1) refl)
+      | inr ne ↦ filter_skips (is_of_passenger k) (Alight j) rest (ne_eqb j k ne) ∙ c.alights k h
+          ∙ rw (has-with_other done (12 + j) (12 + k) (λ q. ne (omega arith))) refl
+    ];
+    known = (next.0, c.known);
+  }
+
+-- who has nothing left was dropped
+rider_out : (picked dropped : Bool) (i : ℕ) → [] ≡ left_of_rider picked dropped i → dropped ≡ true
+rider_out picked true i e = refl
+rider_out true false i e = absurd cc
+rider_out false false i e = absurd cc
+
+passenger_out : (out : Bool) (j : ℕ) → [] ≡ left_of_passenger out j → out ≡ true
+passenger_out true j e = refl
+passenger_out false j e = absurd cc
+
+-- nothing is left exactly where all were dropped
+pub IsAllDone-from_nil : (riders passengers done : ℕ) → Completes riders passengers done [] → IsAllDone riders passengers done
+IsAllDone-from_nil riders passengers done c = record {
+  riders_out = λ i h. rider_out (has done i) (has done (6 + i)) i (c.rides i h);
+  passengers_out = λ j h. passenger_out (has done (12 + j)) j (c.alights j h);
+}
+
+pub Completes-nil : (riders passengers done : ℕ) → IsAllDone riders passengers done → Completes riders passengers done []
+Completes-nil riders passengers done a = record {
+  rides = λ i h. sym (rw (a.riders_out i h) refl);
+  alights = λ j h. sym (rw (a.passengers_out j h) refl);
+  known = tt;
+}
+
+-- where nothing is done, what completes it is an order
+pub Completes-none : (riders passengers : ℕ) (stops : List Stop) → IsOrder riders passengers stops → Completes riders passengers 0 stops
+Completes-none riders passengers stops o = record {
+  rides = λ i h. o.rides i h ∙ sym (rw (has-none i, has-none (6 + i)) refl);
+  alights = λ j h. o.alights j h ∙ sym (rw (has-none (12 + j)) refl);
+  known = o.known;
+}
+
+pub IsOrder-from_none : (riders passengers : ℕ) (stops : List Stop) → Completes riders passengers 0 stops → IsOrder riders passengers stops
+IsOrder-from_none riders passengers stops c = record {
+  rides = λ i h. c.rides i h ∙ rw (has-none i, has-none (6 + i)) refl;
+  alights = λ j h. c.alights j h ∙ rw (has-none (12 + j)) refl;
+  known = c.known;
+}
+
+pub sum_below-le : (f g : ℕ → ℕ) (n : ℕ) → ((k : ℕ) → k < n → g k ≤ f k) → sum_below g n ≤ sum_below f n
+sum_below-le f g zero h = omega arith
+sum_below-le f g (suc n) h =
+    let rest = sum_below-le f g n (λ k b. h k (omega arith)) in
+    let last : g n ≤ f n = h n (omega arith) in
+    omega (arith, rest, last)
+
+-- where one term falls by one and no other rises, the sum falls
+sum_below-falls : (f g : ℕ → ℕ) (n i : ℕ) → i < n → ((k : ℕ) → k < n → g k ≤ f k) → g i + 1 ≤ f i → sum_below g n + 1 ≤ sum_below f n
+sum_below-falls f g zero i b h fall = absurd (omega arith)
+sum_below-falls f g (suc n) i b h fall = elim (cases_eq i n) [
+  | inl e ↦
+      let rest : sum_below g n ≤ sum_below f n = sum_below-le f g n (λ k q. h k (omega arith)) in
+      let last : g n + 1 ≤ f n = subst (λ k. g k + 1 ≤ f k) e fall in
+      omega arith
+  | inr ne ↦
+      let rest : sum_below g n + 1 ≤ sum_below f n = sum_below-falls f g n i (omega arith) (λ k q. h k (omega arith)) fall in
+      let last : g n ≤ f n = h n (omega arith) in
+      omega arith
+]
+
+sum_below-most : (f : ℕ → ℕ) (most n : ℕ) → ((k : ℕ) → f k ≤ most) → sum_below f n ≤ n * most
+sum_below-most f most zero h = omega arith
+sum_below-most f most (suc n) h =
+    let rest = sum_below-most f most n h in
+    let last : f n ≤ most = h n in
+    omega (arith, rest, last)
+
+-- a stop that is done is one less to do
+pub left_count-falls : (riders passengers done : ℕ) → riders ≤ 6 → (s : Stop) → IsNextStop riders passengers done s → left_count riders passengers (with_stop done s) + 1 ≤ left_count riders passengers done
+unfolding left_count
+left_count-falls riders passengers done few (Pick i) next =
+    let here : length (left_of_rider (has (with_bit done i) i) (has (with_bit done i) (6 + i)) i) + 1 ≤ length (left_of_rider (has done i) (has done (6 + i)) i) =
+    rw (has-with_same done i, has-with_other done i (6 + i) (λ q. omega arith), next.1, next.2) (omega arith) in
+    let fall = sum_below-falls (λ k. length (left_of_rider (has done k) (has done (6 + k)) k)) (λ k. length (left_of_rider (has (with_bit done i) k) (has (with_bit done i) (6 + k)) k)) riders i next.0
+    (λ k h. elim (cases_eq k i) [
+      | inl e ↦ subst (λ n. length (left_of_rider (has (with_bit done i) n) (has (with_bit done i) (6 + n)) n) ≤ length (left_of_rider (has done n) (has done (6 + n)) n)) (sym e) (omega (arith, here))
+      | inr ne ↦ rw (has-with_other done i k ne, has-with_other done i (6 + k) (λ q. omega arith)) (omega arith)
+    ]) here in
+    let keep = sum_below-le (λ j. length (left_of_passenger (has done (12 + j)) j)) (λ j. length (left_of_passenger (has (with_bit done i) (12 + j)) j)) passengers
+    (λ j h. rw (has-with_other done i (12 + j) (λ q. omega arith)) (omega arith)) in
+    omega (arith, fall, keep)
+left_count-falls riders passengers done few (Drop i) next =
+    let here : length (left_of_rider (has (with_bit done (6 + i)) i) (has (with_bit done (6 + i)) (6 + i)) i) + 1 ≤ length (left_of_rider (has done i) (has done (6 + i)) i) =
+    rw (has-with_same done (6 + i), next.1, next.2) (omega arith) in
+    let fall = sum_below-falls (λ k. length (left_of_rider (has done k) (has done (6 + k)) k)) (λ k. length (left_of_rider (has (with_bit done (6 + i)) k) (has (with_bit done (6 + i)) (6 + k)) k)) riders i next.0
+    (λ k h. elim (cases_eq k i) [
+      | inl e ↦ subst (λ n. length (left_of_rider (has (with_bit done (6 + i)) n) (has (with_bit done (6 + i)) (6 + n)) n) ≤ length (left_of_rider (has done n) (has done (6 + n)) n)) (sym e) (omega (arith, here))
+      | inr ne ↦ rw (has-with_other done (6 + i) k (λ q. omega arith), has-with_other done (6 + i) (6 + k) (λ q. ne (omega arith))) (omega arith)
+    ]) here in
+    let keep = sum_below-le (λ j. length (left_of_passenger (has done (12 + j)) j)) (λ j. length (left_of_passenger (has (with_bit done (6 + i)) (12 + j)) j)) passengers
+    (λ j h. rw (has-with_other done (6 + i) (12 + j) (λ q. omega arith)) (omega arith)) in
+    omega (arith, fall, keep)
+left_count-falls riders passengers done few (Alight j) next =
+    let here : length (left_of_passenger (has (with_bit done (12 + j)) (12 + j)) j) + 1 ≤ length (left_of_passenger (has done (12 + j)) j) =
+    rw (has-with_same done (12 + j), next.1) (omega arith) in
+    let fall = sum_below-falls (λ k. length (left_of_passenger (has done (12 + k)) k)) (λ k. length (left_of_passenger (has (with_bit done (12 + j)) (12 + k)) k)) passengers j next.0
+    (λ k h. elim (cases_eq k j) [
+      | inl e ↦ subst (λ n. length (left_of_passenger (has (with_bit done (12 + j)) (12 + n)) n) ≤ length (left_of_passenger (has done (12 + n)) n)) (sym e) (omega (arith, here))
+      | inr ne ↦ rw (has-with_other done (12 + j) (12 + k) (λ q. ne (omega arith))) (omega arith)
+    ]) here in
+    let keep = sum_below-le (λ k. length (left_of_rider (has done k) (has done (6 + k)) k)) (λ k. length (left_of_rider (has (with_bit done (12 + j)) k) (has (with_bit done (12 + j)) (6 + k)) k)) riders
+    (λ k h. rw (has-with_other done (12 + j) k (λ q. omega arith), has-with_other done (12 + j) (6 + k) (λ q. omega arith)) (omega arith)) in
+    omega (arith, fall, keep)
+
+-- a rest is no longer than what is left to do
+pub length-Completes : (riders passengers done : ℕ) → riders ≤ 6 → (rest : List Stop) → Completes riders passengers done rest → length rest ≤ left_count riders passengers done
+length-Completes riders passengers done few [] c = omega arith
+length-Completes riders passengers done few (s ∷ rest) c =
+    let front = Completes-front riders passengers done few s rest c in
+    let less : length rest ≤ left_count riders passengers (with_stop done s) = length-Completes riders passengers (with_stop done s) few rest front.1 in
+    let fall : left_count riders passengers (with_stop done s) + 1 ≤ left_count riders passengers done = left_count-falls riders passengers done few s front.0 in
+    omega arith
+
+rider_stops-most : (picked dropped : Bool) (i : ℕ) → length (left_of_rider picked dropped i) ≤ 2
+rider_stops-most picked true i = omega arith
+rider_stops-most true false i = omega arith
+rider_stops-most false false i = omega arith
+
+passenger_stops-most : (out : Bool) (j : ℕ) → length (left_of_passenger out j) ≤ 1
+passenger_stops-most true j = omega arith
+passenger_stops-most false j = omega arith
+
+-- twice the riders and the passengers are all stops
+pub left_count-most : (riders passengers done : ℕ) → left_count riders passengers done ≤ riders * 2 + passengers
+unfolding left_count
+left_count-most riders passengers done =
+    let both = sum_below-most (λ i. length (left_of_rider (has done i) (has done (6 + i)) i)) 2 riders (λ i. rider_stops-most (has done i) (has done (6 + i)) i) in
+    let once = sum_below-most (λ j. length (left_of_passenger (has done (12 + j)) j)) 1 passengers (λ j. passenger_stops-most (has done (12 + j)) j) in
+    omega (arith, both, once)
+
+-- an order has at most twice as many stops as riders, and one for each passenger
+pub length-IsOrder : (riders passengers : ℕ) (stops : List Stop) → riders ≤ 6 → IsOrder riders passengers stops → length stops ≤ riders * 2 + passengers
+length-IsOrder riders passengers stops few o =
+    let most = left_count-most riders passengers 0 in
+    let here = length-Completes riders passengers 0 few stops (Completes-none riders passengers stops o) in
+    omega (arith, most, here)

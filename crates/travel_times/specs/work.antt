@@ -1,0 +1,3 @@
+pub mod Search
+pub mod Table
+pub mod Arcs

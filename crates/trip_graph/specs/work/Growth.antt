@@ -1,0 +1,19 @@
+use Rattle.std.specs.Prelude.{ℕ, Contains}
+use Rattle.pool_base.specs.Times.{point_count, travel_time}
+use Rattle.stop_orders.specs.declared.settled.Settled.{Settled}
+use Rattle.stop_orders.specs.Settled.{IsRrEdge}
+use Rattle.stop_orders.specs.Sound.{IsSound}
+use Rattle.trip_graph.specs.declared.batch_growth.BatchGrowth.{BatchGrowth}
+
+-- the travel times of the growth
+abbrev pub tau_of : BatchGrowth → ℕ → ℕ → ℕ
+tau_of growth = travel_time growth.times.now
+
+-- the batch of the growth
+abbrev pub batch_of : BatchGrowth → Settled
+batch_of growth = growth.settled.now
+
+-- what growth works on goes together: the batch is sound, and every edge between its riders is one of the pairs
+pub record CanGrowBatch (growth : BatchGrowth) : Type 0 where
+  pub sound : IsSound 6 (point_count growth.times.now) (tau_of growth) (batch_of growth)
+  pub pairs : (a b : ℕ) → IsRrEdge (tau_of growth) (batch_of growth) a b → Contains growth.pairs.now (a, b)
