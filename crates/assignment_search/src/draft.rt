@@ -130,7 +130,7 @@ impl Drafting {
         Ok(Drafting {
             alloc,
             plans: Plans::new(alloc, table)?,
-            multipliers: Vec::from_slice(alloc, relaxation.multipliers())?,
+            multipliers: relaxation.multipliers(alloc, table.rider_count())?,
             value: relaxation.value(),
             basis: Vec::from_slice(alloc, relaxation.columns())?,
             shares: by_falling_part(alloc, &shares)?,

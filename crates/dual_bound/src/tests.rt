@@ -63,11 +63,8 @@ fn relaxed(alloc: Global, graph: &TripGraph) -> Result<(i128, usize), OutOfMemor
     relaxation.solve(&table, i64::MAX, 20, 10)?;
     let mut shares: Vec<Share> = Vec::new(alloc);
     relaxation.find_shares(&table, &mut shares)?;
-    let multipliers = relaxation.multipliers();
-    if multipliers.len() != graph.rider_count() {
-        return Err(OutOfMemory);
-    }
-    Ok((leaf_value(graph, &allowed, multipliers), shares.len()))
+    let multipliers = relaxation.multipliers(alloc, graph.rider_count())?;
+    Ok((leaf_value(graph, &allowed, &multipliers), shares.len()))
 }
 
 #[test]

@@ -361,7 +361,7 @@ fn node_of(
     Ok(DraftNode {
         decision,
         branch: None,
-        multipliers: Vec::from_slice(alloc, relaxation.multipliers())?,
+        multipliers: relaxation.multipliers(alloc, table.rider_count())?,
         value: relaxation.value(),
         basis: Vec::from_slice(alloc, relaxation.columns())?,
         shares: parts,
