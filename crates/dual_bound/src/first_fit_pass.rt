@@ -7,7 +7,7 @@ ghost use Rattle.dual_bound.specs.Size.{IsCost, IsModest, HasLeastCosts};
 ghost use Rattle.dual_bound.specs.Index.{IsIndexOf, ListsAll, IsRowListed};
 
 use crate::cheapest::least_costs;
-use crate::relaxation::RowTable;
+use linear_relaxation::RowTable;
 use crate::rider_index::RiderIndex;
 use plan_rules::{Multipliers, TripGraph, TripRow};
 use pool_base::OutOfMemory;
