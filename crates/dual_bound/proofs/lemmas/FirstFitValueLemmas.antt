@@ -214,7 +214,7 @@ vehicle_term_is g u ms v roomy = by_least (least_below (length g.rows) (is_usabl
         let term : vehicle_term g u ms v ≡ w.0 = ap (λ (o : Option ℤ). unwrap_or o (pos 0)) (w.1) in
         omega (arith, ints, cost, paid, low, top, above, same, reached, term)
 
-rider_term_is : (g : Graph) (ms : List ℤ) (r : ℕ) → multiplier_at ms r ≤ℤ pos (1024 * g.penalty) → rider_term g ms r ≡ multiplier_at ms r
+pub rider_term_is : (g : Graph) (ms : List ℤ) (r : ℕ) → multiplier_at ms r ≤ℤ pos (1024 * g.penalty) → rider_term g ms r ≡ multiplier_at ms r
 rider_term_is g ms r most =
     let least = int_min_is (multiplier_at ms r) (pos (1024 * g.penalty)) in
     ⊎_elim
