@@ -6,7 +6,7 @@
 
 mod bans;
 mod branching;
-mod dive;
+mod diving;
 mod draws;
 mod part;
 mod ranks;
@@ -16,7 +16,7 @@ mod tree;
 mod whole;
 
 pub use branching::Effort;
-pub use dive::dive;
+pub use diving::dive;
 pub use draws::Draws;
 pub use part::solve_part;
 pub use ranks::by_falling_part;

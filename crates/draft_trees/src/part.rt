@@ -1,6 +1,6 @@
 //! The best plan of a part of a graph, by a small search of its own.
 use crate::branching::Effort;
-use crate::dive::dive;
+use crate::diving::dive;
 use crate::tree::{DraftTree, Growth, seconds_of};
 use crate::whole::plan_cost;
 use crate::draws::Draws;
