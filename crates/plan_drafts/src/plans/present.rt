@@ -2,7 +2,7 @@
 
 use crate::plans::flat::{NONE, at, narrow, put};
 use crate::plans::regrets::Regrets;
-use dual_bound::RowTable;
+use linear_relaxation::RowTable;
 use pool_base::OutOfMemory;
 use std::alloc::Global;
 

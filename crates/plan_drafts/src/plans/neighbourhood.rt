@@ -4,7 +4,7 @@
 //! rows. It begins at a rider who is left out, or at a vehicle with regret.
 
 use crate::plans::choices::Choices;
-use crate::plans::draws::Draws;
+use draft_trees::Draws;
 use crate::plans::flat::{at, narrow, put};
 use crate::plans::present::Present;
 use crate::plans::regrets::Regrets;

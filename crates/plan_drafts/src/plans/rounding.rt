@@ -3,7 +3,7 @@
 
 use crate::plans::present::Present;
 use crate::plans::regrets::Regrets;
-use dual_bound::{RowTable, Share};
+use linear_relaxation::{RowTable, Share};
 
 /// Makes this the present plan.
 pub fn round(table: &RowTable, regrets: &Regrets, shares: &[Share], present: &mut Present) {

@@ -1,10 +1,10 @@
 //! The best plan of a part of a graph, by a small search of its own.
-use crate::draft::branching::Effort;
-use crate::draft::dive::dive;
-use crate::draft::tree::{DraftTree, Growth, seconds_of};
-use crate::draft::whole::plan_cost;
-use crate::plans::draws::Draws;
-use dual_bound::{Relaxation, RowTable};
+use crate::branching::Effort;
+use crate::diving::dive;
+use crate::tree::{DraftTree, Growth, seconds_of};
+use crate::whole::plan_cost;
+use crate::draws::Draws;
+use linear_relaxation::{Relaxation, RowTable};
 use pool_base::OutOfMemory;
 use std::alloc::Global;
 

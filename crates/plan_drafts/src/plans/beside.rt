@@ -1,7 +1,7 @@
 //! Which rows of a vehicle have one rider less than a row, or one more.
 
 use crate::plans::flat::{Groups, NONE, at, narrow, put};
-use dual_bound::RowTable;
+use linear_relaxation::RowTable;
 use pool_base::OutOfMemory;
 use std::alloc::Global;
 

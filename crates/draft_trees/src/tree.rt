@@ -1,9 +1,9 @@
 //! A tree of decisions, best bound first, without proofs: what comes out is a plan, and for each node a row
 //! to branch on and multipliers, which are judged where they are used.
-use crate::draft::bans::Bans;
-use crate::draft::branching::{Branching, Effort};
-use crate::draft::whole::{plan_cost, whole_plan};
-use dual_bound::{Relaxation, RowTable, Share};
+use crate::bans::Bans;
+use crate::branching::{Branching, Effort};
+use crate::whole::{plan_cost, whole_plan};
+use linear_relaxation::{Relaxation, RowTable, Share};
 use pool_base::OutOfMemory;
 use std::alloc::Global;
 use std::collections::BinaryHeap;
@@ -361,7 +361,7 @@ fn node_of(
     Ok(DraftNode {
         decision,
         branch: None,
-        multipliers: Vec::from_slice(alloc, relaxation.multipliers())?,
+        multipliers: relaxation.multipliers(alloc, table.rider_count())?,
         value: relaxation.value(),
         basis: Vec::from_slice(alloc, relaxation.columns())?,
         shares: parts,

@@ -1,9 +1,9 @@
 //! A plan from the relaxation: rows that it chooses nearly whole are taken, and it is solved again.
-use crate::draft::bans::{Bans, has_choice};
-use crate::draft::ranks::{place_of, rank_of};
-use crate::draft::whole::whole_plan;
-use crate::plans::draws::Draws;
-use dual_bound::{Relaxation, RowTable, Share};
+use crate::bans::{Bans, has_choice};
+use crate::ranks::{place_of, rank_of};
+use crate::whole::whole_plan;
+use crate::draws::Draws;
+use linear_relaxation::{Relaxation, RowTable, Share};
 use pool_base::OutOfMemory;
 use std::alloc::Global;
 

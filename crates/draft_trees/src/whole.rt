@@ -1,5 +1,5 @@
 //! The plan of a solution that chooses rows whole, and what plans cost.
-use dual_bound::{RowTable, Share};
+use linear_relaxation::{RowTable, Share};
 use pool_base::OutOfMemory;
 use std::alloc::Global;
 

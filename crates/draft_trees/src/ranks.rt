@@ -1,5 +1,5 @@
 //! Shares by falling part, as numbers that are sorted.
-use dual_bound::Share;
+use linear_relaxation::Share;
 use pool_base::OutOfMemory;
 use std::alloc::Global;
 

@@ -1,6 +1,6 @@
 //! How warm an annealing is, and which losses it takes.
 
-use crate::plans::draws::Draws;
+use draft_trees::Draws;
 use crate::plans::flat::at;
 use pool_base::OutOfMemory;
 use std::alloc::Global;

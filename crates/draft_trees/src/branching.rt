@@ -3,8 +3,8 @@
 //! Of the rows that the relaxation chooses most nearly by half each is tried: the relaxation is solved with
 //! the row taken and with the row forbidden, over the rows at hand, and the greatest product of the two
 //! rises wins.
-use crate::draft::bans::{Bans, has_choice};
-use dual_bound::{Relaxation, RowTable, Saved, Share};
+use crate::bans::{Bans, has_choice};
+use linear_relaxation::{Relaxation, RowTable, Saved, Share};
 use pool_base::OutOfMemory;
 use std::alloc::Global;
 

@@ -4,6 +4,8 @@
 //! which a pass over all rows adds those that better the solution (column generation; Gilmore and Gomory,
 //! 1961). There is a condition for each vehicle, then one for each rider. Nothing is proved of how good a
 //! solution is: a leaf value judges any multipliers.
+ghost use Rattle.std.specs.Prelude.{◌≡◌, IfOk, length};
+
 mod basis;
 mod climb;
 mod elimination;
@@ -215,9 +217,14 @@ impl Relaxation {
         self.value = value;
     }
 
-    /// The best multipliers of the last solution, in 1/1024 second.
-    pub fn multipliers(&self) -> &[i64] {
-        &self.multipliers
+    /// The best multipliers of the last solution for so many riders, in 1/1024 second; 0 for one whom it
+    /// doesn't know.
+    pub fn multipliers(&self, alloc: Global, riders: usize) -> Result<Vec<i64>, OutOfMemory>
+        ensures { IfOk result (λ ms. length ms.items ≡ riders) }
+    {
+        let mut multipliers = vec![in alloc; 0; riders]?;
+        copy(&self.multipliers, &mut multipliers);
+        Ok(multipliers)
     }
 
     /// Their value over the rows that aren't forbidden, in 1/1024 second.

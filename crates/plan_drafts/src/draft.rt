@@ -1,25 +1,9 @@
-//! A search without proofs: it finds a plan, and a tree that shows how good the plan is, both of which are
-//! judged where they are used. All decisions are by counts and by numbers drawn from fixed seeds, so that
-//! the same rows give the same draft.
-mod bans;
-mod branching;
-mod dive;
-mod part;
-mod ranks;
-mod tree;
-mod whole;
-
-use crate::draft::branching::Effort;
-use crate::draft::dive::dive;
-use crate::draft::ranks::by_falling_part;
-use crate::draft::tree::{Growth, seconds_of};
+//! A draft: the relaxation of all rows, plans made from it, and a tree where they leave a gap.
 use crate::plans::Plans;
-use crate::plans::draws::Draws;
-use dual_bound::{Relaxation, RowTable, Share, first_multipliers};
-pub use part::solve_part;
+use draft_trees::{DraftTree, Draws, Effort, Growth, by_falling_part, dive, seconds_of};
+use linear_relaxation::{Relaxation, RowTable, Share, first_multipliers};
 use pool_base::OutOfMemory;
 use std::alloc::Global;
-pub use tree::DraftTree;
 
 /// Beyond so many rows the first multipliers take more turns.
 const MANY_ROWS: usize = 20_000;
@@ -130,7 +114,7 @@ impl Drafting {
         Ok(Drafting {
             alloc,
             plans: Plans::new(alloc, table)?,
-            multipliers: Vec::from_slice(alloc, relaxation.multipliers())?,
+            multipliers: relaxation.multipliers(alloc, table.rider_count())?,
             value: relaxation.value(),
             basis: Vec::from_slice(alloc, relaxation.columns())?,
             shares: by_falling_part(alloc, &shares)?,

@@ -5,7 +5,7 @@
 //! her multiplier. Of each vehicle's rows only those of least regret are looked at.
 
 use crate::plans::flat::{Groups, NONE, at, narrow, put};
-use dual_bound::RowTable;
+use linear_relaxation::RowTable;
 use pool_base::OutOfMemory;
 use std::alloc::Global;
 

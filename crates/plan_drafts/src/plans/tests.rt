@@ -1,5 +1,5 @@
 use crate::plans::Plans;
-use dual_bound::{RowTable, Share};
+use linear_relaxation::{RowTable, Share};
 use pool_base::OutOfMemory;
 use std::alloc::Global;
 use std::test::Fail;

@@ -8,7 +8,6 @@ mod annealing;
 mod beside;
 mod choices;
 mod cooling;
-pub mod draws;
 mod flat;
 mod merge;
 mod neighbourhood;
@@ -19,14 +18,14 @@ mod rounding;
 mod tests;
 
 use crate::plans::annealing::Annealing;
-use crate::plans::draws::Draws;
+use draft_trees::Draws;
 use crate::plans::flat::{at, narrow, put};
 use crate::plans::merge::{Wanted, solve};
 use crate::plans::neighbourhood::Neighbourhood;
 use crate::plans::present::Present;
 use crate::plans::regrets::Regrets;
 use crate::plans::rounding::round;
-use dual_bound::{RowTable, Share};
+use linear_relaxation::{RowTable, Share};
 use pool_base::OutOfMemory;
 use std::alloc::Global;
 

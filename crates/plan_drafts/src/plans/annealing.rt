@@ -6,10 +6,10 @@
 
 use crate::plans::beside::Beside;
 use crate::plans::cooling::{Chances, Cooling};
-use crate::plans::draws::Draws;
+use draft_trees::Draws;
 use crate::plans::flat::{Groups, NONE, at, narrow, put};
 use crate::plans::regrets::Regrets;
-use dual_bound::RowTable;
+use linear_relaxation::RowTable;
 use pool_base::OutOfMemory;
 use std::alloc::Global;
 

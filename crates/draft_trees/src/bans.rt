@@ -1,5 +1,5 @@
 //! Rows that a decision forbids.
-use dual_bound::{Relaxation, RowTable};
+use linear_relaxation::{Relaxation, RowTable};
 use pool_base::OutOfMemory;
 use std::alloc::Global;
 
