@@ -6,6 +6,7 @@
 #![tactic(auto)]
 
 mod ascent;
+mod ceiling;
 mod cheapest;
 mod climbing;
 mod first_fit_pass;
@@ -14,6 +15,7 @@ mod rider_index;
 #[cfg(test)]
 mod tests;
 
+pub use ceiling::first_fit_ceiling;
 pub use climbing::{ascend, climb};
 pub use first_fit_pass::{first_fit, first_fit_by};
 pub use laws::{first_fit_is_between_zero_and_the_penalty, first_fit_value_is_a_sum};

@@ -160,7 +160,7 @@ first_fit_leaves_room g u good = room_below g u g.riders good (omega arith)
 
 -- ---- the value
 
-positive_sum : (ms : List ℤ) (xs : List ℕ) → ((r : ℕ) → pos 0 ≤ℤ multiplier_at ms r) → pos 0 ≤ℤ multiplier_sum ms xs
+pub positive_sum : (ms : List ℤ) (xs : List ℕ) → ((r : ℕ) → pos 0 ≤ℤ multiplier_at ms r) → pos 0 ≤ℤ multiplier_sum ms xs
 positive_sum ms [] h = omega (arith, ints)
 positive_sum ms (x ∷ xs) h =
     let first = h x in
