@@ -71,12 +71,7 @@ pub fn best_of(
     ensures first_fit { IfOk result (λ best. first_fit_value graph.now (usable_of allowed.now) ≤ℤ best.value) }
     ensures inherited { IfOk result (λ best. leaf_value graph.now (usable_of allowed.now) parent.now ≤ℤ best.value) }
 {
-    let inherited = judged(graph, allowed, Multipliers::of(Vec::from_slice(alloc, parent)?));
-    let best = if suggested.len() == graph.rider_count() {
-        better_of(graph, allowed, inherited, Multipliers::of(suggested))
-    } else {
-        inherited
-    };
+    let best = best_told(alloc, graph, allowed, parent, suggested)?;
     if first_fit_ceiling(alloc, graph, allowed)? <= best.value {
         return Ok(best);
     }
@@ -84,11 +79,33 @@ pub fn best_of(
     Ok(better_of(graph, allowed, best, fitted))
 }
 
-fn judged(graph: &TripGraph, allowed: &[bool], multipliers: Multipliers) -> Judged
+/// The better of the parent's multipliers and those that are suggested, if there are as many of those as
+/// riders.
+fn best_told(
+    alloc: Global,
+    graph: &TripGraph,
+    allowed: &[bool],
+    parent: &[i64],
+    suggested: Vec<i64>,
+) -> Result<Judged, OutOfMemory>
+    requires allowed { length allowed.now ≡ length graph.now.rows }
+    requires parent { length parent.now ≡ graph.now.riders }
+    ensures judged { IfOk result (λ best. IsJudged graph.now (usable_of allowed.now) best.multipliers best.value) }
+    ensures inherited { IfOk result (λ best. leaf_value graph.now (usable_of allowed.now) parent.now ≤ℤ best.value) }
+{
+    let inherited = Multipliers::of(Vec::from_slice(alloc, parent)?);
+    let told = judge(graph, allowed, inherited);
+    if suggested.len() != graph.rider_count() {
+        return Ok(told);
+    }
+    Ok(better_of(graph, allowed, told, Multipliers::of(suggested)))
+}
+
+fn judge(graph: &TripGraph, allowed: &[bool], multipliers: Multipliers) -> Judged
     requires allowed { length allowed.now ≡ length graph.now.rows }
     requires multipliers { length multipliers ≡ graph.now.riders }
     ensures judged { IsJudged graph.now (usable_of allowed.now) result.multipliers result.value }
-    ensures kept { result.multipliers ≡ multipliers }
+    ensures value { leaf_value graph.now (usable_of allowed.now) multipliers ≤ℤ result.value }
 {
     let value = leaf_value(graph, allowed, multipliers.as_slice());
     Judged { multipliers, value }
