@@ -13,6 +13,8 @@ mod short_hop;
 mod table;
 #[cfg(test)]
 mod tests;
+mod ways;
 
 pub use plain::times_by_repeated_relaxation;
 pub use table::{are_known, times_between};
+pub use ways::{NetworkWays, Ways};
