@@ -1,7 +1,7 @@
-use Rattle.std.proofs.Common.{◌≡◌, ℕ, suc, ◌+◌, ◌<◌, ◌≤◌, inl, inr, List, [], ◌∷◌, ◌++◌, length, get_or, Contains, refl, subst, arith}
+use Rattle.std.proofs.Common.{◌≡◌, ℕ, suc, ◌+◌, ◌-◌, ◌<◌, ◌≤◌, inl, inr, List, [], ◌∷◌, ◌++◌, length, get_or, Contains, add-one, refl, sym, ap, ◌∙◌, subst, arith}
 use native.Mathlib.Numerals.{unary_clauses}
 use Rattle.std.proofs.lemmas.Bool.{cases_lt}
-use Rattle.std.proofs.lemmas.List.{length-map, length-append, get_or_append_left, get_or_push, get_or-map}
+use Rattle.std.proofs.lemmas.List.{length-map, length-append, get_or_append_left, get_or_push, get_or-map, get_or_default}
 use Rattle.std.proofs.lemmas.List.Elements.{All-nil}
 use Rattle.std.proofs.lemmas.List.Sums.{sum_by_push}
 use Rattle.pool_base.specs.TravelTime.{IsTravelTime}
@@ -11,8 +11,10 @@ use Rattle.stop_orders.specs.Settled.{CanServe, IsTrip}
 use Rattle.stop_orders.specs.Sound.{IsSound}
 use Rattle.trip_growth.specs.declared.trip_of.TripOf.{TripOf}
 use Rattle.trip_growth.specs.Trip.{ComesBefore, trips_of}
-use Rattle.trip_growth.specs.Rows.{AreSomeRows, AreRowsOfSize, HasMoreThan}
+use Rattle.trip_growth.specs.Rows.{AreSomeRows, AreRowsOfSize, HasMoreThan, IsLevelOf}
+use Rattle.trip_growth.specs.declared.level.Level.{Level}
 use Rattle.trip_graph.specs.work.Levels.{AreLevelsUpTo, HasMoreOfSize, AreLevels, row_total, level_total}
+use Rattle.trip_graph.specs.work.Runs.{AreLevelsOf}
 use Rattle.trip_graph.specs.Answer.{HasMoreRows}
 use Rattle.trip_graph.proofs.MoreRows.{more_rows}
 
@@ -30,7 +32,7 @@ total_level levels lists = sum_by_push row_total levels lists
 -- a trip without its first rider
 trip_rest : (riders x : ℕ) (xs : List ℕ) → IsTrip riders (x ∷ xs) → IsTrip riders xs
 trip_rest riders x xs trip = record {
-  rising = λ k lt. let up = trip.rising (suc k) (omega (arith, lt)) in simp unary_clauses at up;
+  rising = λ k lt. let up = simp unary_clauses at (trip.rising (suc k) (omega (arith, lt))) in rw add-one up;
   within = λ k d lt. trip.within (suc k) d (omega (arith, lt));
 }
 
@@ -50,6 +52,23 @@ module _ (tau : ℕ → ℕ → ℕ) (settled : Settled) where
             absurd (none_before (get_or (trips_of rows) 0 []) (get_or (trips_of rows) 1 []) first second (own.some.rising 0 1 (omega arith) (omega arith)))
         | inr ge ↦ omega arith
       ]
+
+  -- the rows from which those of one more rider grow
+  pub read_below : (size count v : ℕ) (lists : List (List TripOf)) (rows : List TripOf) → AreLevelsUpTo tau settled size count lists → v < count
+      → rows ≡ get_or lists v rows → AreRowsOfSize tau settled v (size + 1 - 1) rows
+  read_below size count v lists rows level lt is =
+      let within : v < length lists = (let t = level.total in omega arith) in
+      let e : get_or lists v [] ≡ rows = get_or_default lists v [] rows within ∙ sym is in
+      let s : size ≡ size + 1 - 1 = omega arith in
+      subst (λ (n : ℕ). AreRowsOfSize tau settled v n rows) s (subst (λ (r : List TripOf). AreRowsOfSize tau settled v size r) e (level.each v lt))
+
+  -- what the vehicle of one number gave
+  pub own_level : (size room number at : ℕ) (vehicles : List ℕ) (levels : List Level) (level : Level) → AreLevelsOf tau settled size room vehicles levels → number ≡ at
+      → (at < length levels) × (level ≡ get_or levels at level) → IsLevelOf tau settled (get_or vehicles number 0) size room level
+  own_level size room number at vehicles levels level all same found =
+      let here : number < length levels = (let lt = found.0 in omega arith) in
+      let is : get_or levels number level ≡ level = ap (λ (n : ℕ). get_or levels n level) same ∙ sym found.1 in
+      subst (λ (l : Level). IsLevelOf tau settled (get_or vehicles number 0) size room l) is (all.each number level here)
 
   pub level_none : (size : ℕ) → AreLevelsUpTo tau settled size 0 []
   level_none size = record { total = refl; each = λ v lt. absurd (omega arith) }

@@ -3,7 +3,7 @@ use Rattle.std.proofs.Common.{◌≡◌, ℕ, suc, ◌+◌, ◌<◌, ◌≤◌, 
 use Rattle.std.proofs.lemmas.Bool.{cases_lt}
 use Rattle.std.proofs.lemmas.List.{drop_all}
 use Rattle.trip_growth.specs.declared.trip_of.TripOf.{TripOf}
-use Rattle.trip_graph.specs.work.Runs.{AreEmpty, AreNext, AreWithin}
+use Rattle.trip_graph.specs.work.Runs.{AreEmpty, AreNext}
 
 module _ (lists : List (List TripOf)) where
   empty_none : (from : ℕ) → AreEmpty lists from from

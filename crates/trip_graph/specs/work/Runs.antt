@@ -1,5 +1,5 @@
 -- Runs of vehicles that are grown together.
-use Rattle.std.specs.Prelude.{◌≡◌, ℕ, ◌+◌, ◌<◌, ◌≤◌, List, [], ◌∷◌, length, All, slice_index, slice_index_or}
+use Rattle.std.specs.Prelude.{◌≡◌, ℕ, ◌+◌, ◌<◌, ◌≤◌, List, [], ◌∷◌, length, slice_index, slice_index_or}
 use Rattle.stop_orders.specs.declared.settled.Settled.{Settled}
 use Rattle.trip_growth.specs.declared.level.Level.{Level}
 use Rattle.trip_growth.specs.declared.trip_of.TripOf.{TripOf}

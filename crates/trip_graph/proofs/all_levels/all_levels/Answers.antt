@@ -35,7 +35,7 @@ loop-size-init g c =
     }
 
 pub next_level-requires-clause-below : goal.next_level-requires-clause-below
-next_level-requires-clause-below g c =
+next_level-requires-clause-below g c κs within =
     rw c.as_slice-below.ensures (read_level (travel_time c.args.growth.now.times.now) c.args.growth.now.settled.now (c.loop-size.size + 1) c.loop-size.size c.from-in-loop-size.result c.loop-size.levels.items c.index.result.now
     c.loop-size.invariant.levels (omega arith) c.from-in-loop-size.ensures c.index.ensures)
 

@@ -5,7 +5,7 @@ use Rattle.trip_graph.proofs.levels.skip_to.Given as goal
 
 abbrev pub invariant-loop-vehicle : goal.invariant-loop-vehicle
 invariant-loop-vehicle l = record {
-  level : AreLevelsUpTo (tau_of l.run.growth.now) (batch_of l.run.growth.now) (l.run.size + 1) l.vehicle l.lists.items;
+  level : AreLevelsUpTo (tau_of l.run.growth.now) (batch_of l.run.growth.now) (l.run.size + 1) l._vehicle l.lists.items;
   total : row_total l.lists.items ≡ row_total l.initial.lists.items;
-  end : l.vehicle ≤ l.end;
+  end : l._vehicle ≤ l.end;
 }
