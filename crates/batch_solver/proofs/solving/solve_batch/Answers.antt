@@ -6,7 +6,7 @@ use Rattle.batch_solver.proofs.PointLemmas.{points_known}
 use Rattle.batch_solver.proofs.solving.solve_batch.Goals as goal
 
 pub table-requires-clause-known : goal.table-requires-clause-known
-table-requires-clause-known g c κs within =
+table-requires-clause-known g c =
     let nodes = c.args.network.now.nodes in
     subst (λ (roads : Roads). All (λ node. Contains roads.nodes node) c.nodes.result.now) (sym c.requires.ways)
     (subst (λ (points : List ℕ). All (λ node. Contains nodes node) points) (sym c.nodes.ensures.nodes)
