@@ -14,8 +14,8 @@ returns-in_default-clause-run g c =
     runs-refused c.args.setup.now.settings.now c.args.setup.now.network.now c.args.book.now.start.nodes c.args.pass.now c.seal.new.pass c.args.now r.position r.reply
     (subst (λ o. HasCalled c.args.book.now.start.nodes c.args.pass.now (Seal c.args.now) r.position (with_snapshot r.reply o) c.seal.new.pass) none c.in_ok-snapshot.ensures.call)
 
-pub solve_batch-requires-after_bounds : goal.solve_batch-requires-after_bounds
-solve_batch-requires-after_bounds g c κs within =
+pub solve_batch-requires-clause-nodes : goal.solve_batch-requires-clause-nodes
+solve_batch-requires-clause-nodes g c κs within =
     let r = c.in_ok-snapshot.field-0.receipt in
     let b = c.in-Some.snapshot in
     let some : c.in_ok-snapshot.field-0.snapshot ≡ Some b = (let a = c.in-Some.is in let b = c.in_ok-snapshot.snapshot-is in cc) in
