@@ -27,29 +27,34 @@ use road_network::Network;
 use std::alloc::Global;
 use std::thread::Threads;
 use stop_orders::{PairList, Settled};
-use travel_times::times_between;
+use travel_times::Ways;
 use trip_graph::{GraphAnswer, grow_graph};
+use worker_gate::Gate;
 
 /// Solves a batch, after Alonso-Mora, Samaranayake, Wallar, Frazzoli and Rus (2017): travel times between its
 /// nodes, limits, the graphs, an assignment with its bound, and moves of idle vehicles.
 ///
-/// The answer is an overflow exactly where the trip graph has more rows than `settings.pairs`. It fails only
-/// for want of memory.
-pub fn solve_batch(
+/// `ways` tells the travel times of this network. The graph is grown by `settings.workers` workers, and the
+/// gate hears of each piece of that. The answer is an overflow exactly where the trip graph has more rows than
+/// `settings.pairs`. It fails only for want of memory.
+pub fn solve_batch<W: Ways, G: Gate>(
     rt: &(impl Threads + Sync),
     alloc: Global,
     snapshot: &Snapshot,
     network: &Network,
+    ways: &W,
     settings: &Settings,
+    gate: &G,
 ) -> Result<Outcome, OutOfMemory>
-    requires { All (λ node. Contains network.now.nodes node) (named_nodes snapshot.now) }
+    requires nodes { All (λ node. Contains network.now.nodes node) (named_nodes snapshot.now) }
+    requires ways { W.roads ways.now ≡ network.now }
     ensures { IfOk result (IsGoodOutcome settings.entry.now network.entry.now snapshot.entry.now) }
 {
     let points = snapshot.points(alloc)?;
-    let times = times_between(rt, alloc, network, points.nodes())?;
+    let times = ways.table(rt, alloc, points.nodes())?;
     let settled = settle(alloc, snapshot, settings, &points, &times)?;
     let expired = Vec::from_slice(alloc, snapshot.expired.as_slice())?;
-    let answer = answer_of(alloc, settings, &points, &times, &settled)?;
+    let answer = answer_of(rt, alloc, settings, &points, &times, &settled, gate)?;
     Ok(Outcome {
         expired: Sequence::of(expired),
         answer,
@@ -57,18 +62,20 @@ pub fn solve_batch(
 }
 
 /// The plan of the batch, or an overflow.
-fn answer_of(
+fn answer_of<G: Gate>(
+    rt: &(impl Threads + Sync),
     alloc: Global,
     settings: &Settings,
     points: &Points,
     times: &Times,
     settled: &Settled,
+    gate: &G,
 ) -> Result<Answer, OutOfMemory>
     requires table { point_count times.now ≡ length points.now }
     requires sound { IsSound settings.now.trip (point_count times.now) (travel_time times.now) settled.now }
     ensures { IfOk result (IsGoodAnswer settings.now points.now (travel_time times.now) settled.entry.now) }
 {
-    match grow_graph(alloc, settled, times, settings)? {
+    match grow_graph(rt, alloc, settled, times, settings, gate)? {
         GraphAnswer::Overflow => Ok(Answer::Overflow),
         GraphAnswer::Graph { graph, rv, rr } => {
             let planned = planned_of(

@@ -2,17 +2,17 @@
 ghost use Rattle.std.specs.Prelude.{◌≡◌, ◌<◌, true, All, IfOk, IsTrue, map, vec_len};
 ghost use Rattle.dispatch_engine.specs.work.Crew.{AreInOrder, HasWorked, IsToWork, at_rest};
 
-use crate::lane::run_lane;
+use crate::lane::run_commands;
+use crate::setup::Setup;
 use pool_base::OutOfMemory;
-use request_book::Command;
-use rider_limits::Settings;
-use road_network::Network;
 use script_rows::Round;
 use shared_book::{Pass, SharedBook};
 use std::alloc::Global;
 use std::sync::Wait;
 use std::thread;
 use std::thread::Threads;
+use travel_times::Ways;
+use worker_gate::Gate;
 
 /// A lane at work: its pass, and whether all its commands are taken.
 #[derive(Drop)]
@@ -31,69 +31,49 @@ pub(crate) fn crew_of(alloc: Global, passes: Vec<Pass>) -> Result<Vec<LaneWork>,
     Ok(crew)
 }
 
-/// Each lane runs its commands: in a round with a seal on a thread of its own, or on the caller's where no
-/// thread can be made.
-pub(crate) fn work_all(
+/// Each lane runs its commands on a thread of its own, or on the caller's where no thread can be made.
+pub(crate) fn work_all<W: Ways, G: Gate>(
     rt: &(impl Threads + Wait + Sync),
     alloc: Global,
     book: &SharedBook,
     round: &Round,
     crew: &mut Vec<LaneWork>,
-    network: &Network,
-    settings: &Settings,
+    setup: &Setup<'_, W, G>,
 )
-    requires nodes { book.now.start.nodes ≡ network.now.nodes }
+    requires nodes { book.now.start.nodes ≡ setup.now.network.now.nodes }
     requires some { 0 < vec_len crew.old }
     requires fresh { All (IsToWork book.now) crew.old.items }
     requires order { AreInOrder crew.old.items }
     ensures len { vec_len crew.new ≡ vec_len crew.old }
     ensures order { AreInOrder crew.new.items }
-    ensures worked { All (HasWorked settings.now network.now round.now book.now) crew.new.items }
+    ensures worked { All (HasWorked setup.now.settings.now setup.now.network.now round.now book.now) crew.new.items }
 {
-    let threads = threads_for(round, crew.len());
+    let threads = crew.len();
     thread::for_each_mut(
         rt,
         crew.as_mut_slice(),
         threads,
         &|_: usize, lane: &mut LaneWork|
-            requires { (book.now.start.nodes ≡ network.now.nodes) × IsToWork book.now lane.now }
-        { work(rt, alloc, book, round, lane, network, settings) },
+            requires { (book.now.start.nodes ≡ setup.now.network.now.nodes) × IsToWork book.now lane.now }
+        { work(rt, alloc, book, round, lane, setup) },
     );
 }
 
-/// How many threads the lanes are worth. Without a seal nothing takes time outside the lock, and threads
-/// would only wait for one another.
-fn threads_for(round: &Round, lanes: usize) -> usize
-    requires { 0 < lanes }
-    ensures { 0 < result }
-{
-    if round.lane(0).iter().any(is_seal) {
-        lanes
-    } else {
-        1
-    }
-}
-
-fn is_seal(command: &Command) -> bool {
-    matches!(command, Command::Seal { .. })
-}
-
-fn work(
+fn work<W: Ways, G: Gate>(
     rt: &(impl Threads + Wait + Sync),
     alloc: Global,
     book: &SharedBook,
     round: &Round,
     lane: &mut LaneWork,
-    network: &Network,
-    settings: &Settings,
+    setup: &Setup<'_, W, G>,
 )
-    requires nodes { book.now.start.nodes ≡ network.now.nodes }
+    requires nodes { book.now.start.nodes ≡ setup.now.network.now.nodes }
     requires fresh { IsToWork book.now lane.old }
-    ensures worked { HasWorked settings.now network.now round.now book.now lane.new }
+    ensures worked { HasWorked setup.now.settings.now setup.now.network.now round.now book.now lane.new }
     ensures lane { lane.new.pass.lane ≡ lane.old.pass.lane }
 {
     let commands = round.lane(usize::from(lane.pass.lane()));
-    let ran = run_lane(rt, alloc, book, &mut lane.pass, commands, network, settings);
+    let ran = run_commands(rt, alloc, book, &mut lane.pass, commands, setup);
     lane.done = ran.is_ok();
 }
 

@@ -6,6 +6,7 @@ ghost use Rattle.dispatch_engine.specs.Lane.{HasBegun, HasRun};
 ghost use Rattle.dispatch_engine.specs.work.Crew.{HasTaken};
 ghost use Rattle.dispatch_engine.specs.work.Lanes.{IsOfVehicle, IsPlain};
 
+use crate::setup::Setup;
 use batch_solver::solve_batch;
 use pool_base::{OutOfMemory, Second};
 use request_book::Command;
@@ -15,94 +16,135 @@ use shared_book::{Pass, SealReceipt, SharedBook};
 use std::alloc::Global;
 use std::sync::Wait;
 use std::thread::Threads;
+use travel_times::Ways;
+use worker_gate::Gate;
 
 /// Calls the book with a lane's commands, in their order, and closes each batch that a seal put up before
 /// the next command, with an outcome that is good for it. The batch is solved while other lanes go on.
 ///
+/// `ways` tells the travel times of this network, and the gate hears of each receipt.
+///
 /// A seal stands in lane 0 alone, and no command is a close. After `OutOfMemory` the commands were taken
 /// up to some place: the pass's new calls are a beginning of such a run.
-pub fn run_lane(
+pub fn run_lane<W: Ways, G: Gate>(
     rt: &(impl Threads + Wait + Sync),
     alloc: Global,
     book: &SharedBook,
     pass: &mut Pass,
     commands: &[Command],
     network: &Network,
+    ways: &W,
     settings: &Settings,
+    gate: &G,
 ) -> Result<(), OutOfMemory>
     requires own { IsPassOf book.now pass.old }
     requires stand { All (MayStand pass.old.lane) commands.now }
     requires nodes { book.now.start.nodes ≡ network.now.nodes }
+    requires ways { W.roads ways.now ≡ network.now }
     ensures pass { IsPassOf book.now pass.new × (pass.new.lane ≡ pass.old.lane) }
     ensures run { OnOk result (HasRun settings.now network.now commands.now pass.old pass.new) }
     ensures begun { OnErr result (HasBegun settings.now network.now commands.now pass.old pass.new) }
 {
+    let setup = Setup {
+        network,
+        ways,
+        settings,
+        gate,
+    };
+    run_commands(rt, alloc, book, pass, commands, &setup)
+}
+
+/// The same, with what a round needs together.
+pub(crate) fn run_commands<W: Ways, G: Gate>(
+    rt: &(impl Threads + Wait + Sync),
+    alloc: Global,
+    book: &SharedBook,
+    pass: &mut Pass,
+    commands: &[Command],
+    setup: &Setup<'_, W, G>,
+) -> Result<(), OutOfMemory>
+    requires own { IsPassOf book.now pass.old }
+    requires stand { All (MayStand pass.old.lane) commands.now }
+    requires nodes { book.now.start.nodes ≡ setup.now.network.now.nodes }
+    ensures pass { IsPassOf book.now pass.new × (pass.new.lane ≡ pass.old.lane) }
+    ensures run { OnOk result (HasRun setup.now.settings.now setup.now.network.now commands.now pass.old pass.new) }
+    ensures begun { OnErr result (HasBegun setup.now.settings.now setup.now.network.now commands.now pass.old pass.new) }
+{
     for command in commands {
-        run_command(rt, alloc, book, pass, command, network, settings)?;
+        run_command(rt, alloc, book, pass, command, setup)?;
     }
     Ok(())
 }
 
-fn run_command(
+fn run_command<W: Ways, G: Gate>(
     rt: &(impl Threads + Wait + Sync),
     alloc: Global,
     book: &SharedBook,
     pass: &mut Pass,
     command: &Command,
-    network: &Network,
-    settings: &Settings,
+    setup: &Setup<'_, W, G>,
 ) -> Result<(), OutOfMemory>
     requires own { IsPassOf book.now pass.old }
     requires stands { MayStand pass.old.lane command.now }
-    requires nodes { book.now.start.nodes ≡ network.now.nodes }
+    requires nodes { book.now.start.nodes ≡ setup.now.network.now.nodes }
     ensures pass { IsPassOf book.now pass.new × (pass.new.lane ≡ pass.old.lane) }
-    ensures run { OnOk result (HasRun settings.now network.now (command.now ∷ []) pass.old pass.new) }
-    ensures begun { OnErr result (HasBegun settings.now network.now (command.now ∷ []) pass.old pass.new) }
+    ensures run { OnOk result (HasRun setup.now.settings.now setup.now.network.now (command.now ∷ []) pass.old pass.new) }
+    ensures begun { OnErr result (HasBegun setup.now.settings.now setup.now.network.now (command.now ∷ []) pass.old pass.new) }
 {
     match command {
-        Command::Seal { now } => run_seal(rt, alloc, book, pass, *now, network, settings),
-        _ => take(rt, alloc, book, pass, copied(command)),
+        Command::Seal { now } => run_seal(rt, alloc, book, pass, *now, setup),
+        _ => take(rt, alloc, book, pass, copied(command), setup.gate),
     }
 }
 
 /// Seals a batch and, where one was put up, solves it outside the lock and closes it.
-fn run_seal(
+fn run_seal<W: Ways, G: Gate>(
     rt: &(impl Threads + Wait + Sync),
     alloc: Global,
     book: &SharedBook,
     pass: &mut Pass,
     now: Second,
-    network: &Network,
-    settings: &Settings,
+    setup: &Setup<'_, W, G>,
 ) -> Result<(), OutOfMemory>
     requires own { IsPassOf book.now pass.old }
-    requires nodes { book.now.start.nodes ≡ network.now.nodes }
+    requires nodes { book.now.start.nodes ≡ setup.now.network.now.nodes }
     ensures pass { IsPassOf book.now pass.new × (pass.new.lane ≡ pass.old.lane) }
-    ensures run { OnOk result (HasRun settings.now network.now (Command.Seal now ∷ []) pass.old pass.new) }
-    ensures begun { OnErr result (HasBegun settings.now network.now (Command.Seal now ∷ []) pass.old pass.new) }
+    ensures run { OnOk result (HasRun setup.now.settings.now setup.now.network.now (Command.Seal now ∷ []) pass.old pass.new) }
+    ensures begun { OnErr result (HasBegun setup.now.settings.now setup.now.network.now (Command.Seal now ∷ []) pass.old pass.new) }
 {
     let SealReceipt {
         receipt: _,
         snapshot,
     } = book.seal(rt, alloc, pass, now)?;
+    setup.gate.answered(pass.lane());
     let Some(snapshot) = snapshot else {
         return Ok(());
     };
-    let outcome = solve_batch(rt, alloc, &snapshot, network, settings)?;
+    let outcome = solve_batch(
+        rt,
+        alloc,
+        &snapshot,
+        setup.network,
+        setup.ways,
+        setup.settings,
+        setup.gate,
+    )?;
     let close = Command::Close {
         batch: snapshot.batch,
         outcome,
     };
-    take(rt, alloc, book, pass, close)
+    take(rt, alloc, book, pass, close, setup.gate)
 }
 
-/// Calls the book with a command; what it replies stands in the pass.
-fn take(
+/// Calls the book with a command; what it replies stands in the pass. The gate hears of the receipt when the
+/// lock's turn is given back.
+fn take<G: Gate>(
     rt: &impl Wait,
     alloc: Global,
     book: &SharedBook,
     pass: &mut Pass,
     command: Command,
+    gate: &G,
 ) -> Result<(), OutOfMemory>
     requires { IsPassOf book.now pass.old }
     ensures pass { IsPassOf book.now pass.new × (pass.new.lane ≡ pass.old.lane) }
@@ -110,7 +152,10 @@ fn take(
     ensures refused { OnErr result (pass.new.calls ≡ pass.old.calls) }
 {
     match book.call(rt, alloc, pass, command) {
-        Ok(_receipt) => Ok(()),
+        Ok(_receipt) => {
+            gate.answered(pass.lane());
+            Ok(())
+        }
         Err(fault) => Err(fault),
     }
 }

@@ -10,6 +10,7 @@ mod crew;
 mod lane;
 mod laws;
 mod round;
+mod setup;
 #[cfg(test)]
 mod tests;
 

@@ -6,6 +6,7 @@ ghost use Rattle.dispatch_engine.specs.work.Crew.{HaveRunLanes, IsSharedBy};
 ghost use Rattle.dispatch_engine.specs.Run.{IsReady, IsRoundRun, IsSameRun, journal_of};
 
 use crate::crew::{are_done, crew_of, passes_of, work_all};
+use crate::setup::Setup;
 use pool_base::OutOfMemory;
 use request_book::Book;
 use rider_limits::Settings;
@@ -15,59 +16,71 @@ use shared_book::{Pass, SharedBook};
 use std::alloc::Global;
 use std::sync::Wait;
 use std::thread::Threads;
+use travel_times::Ways;
+use worker_gate::Gate;
 
-/// Runs the lanes of a round at the same time, each lane's commands in their order. After each seal that
+/// Runs the lanes of a round at the same time, each on a thread of its own where one can be made, each lane's
+/// commands in their order. `ways` tells the travel times of this network, and the gate hears of each receipt
+/// and of each piece of growth. After each seal that
 /// puts a batch up, its lane solves the batch while the others go on, and closes it before its next
 /// command, with an outcome that is good for it.
 ///
 /// The book handed back has the nodes, the longest wait, and the journal's first position and base of the
 /// one taken in. For want of memory the book is given up.
-pub fn run_round(
+pub fn run_round<W: Ways, G: Gate>(
     rt: &(impl Threads + Wait + Sync),
     alloc: Global,
     book: Book,
     round: &Round,
     network: &Network,
+    ways: &W,
     settings: &Settings,
+    gate: &G,
 ) -> Result<Book, OutOfMemory>
     requires empty { book.entries ≡ [] }
     requires ready { IsReady settings.now network.now book }
+    requires ways { W.roads ways.now ≡ network.now }
     ensures run { IfOk result (λ after. IsRoundRun settings.now network.now round.now (journal_of after)) }
     ensures same { IfOk result (λ after. IsSameRun book after) }
     ensures kept { IfOk result IsBook }
     ensures ready { IfOk result (IsReady settings.now network.now) }
 {
+    let setup = Setup {
+        network,
+        ways,
+        settings,
+        gate,
+    };
     let mut book = book;
     book.reserve(most_entries(round))?;
     let _entries = book.entries();
     match SharedBook::start(alloc, book, lanes_in_use(round)) {
-        Ok((shared, passes)) => run_shared(rt, alloc, shared, passes, round, network, settings),
+        Ok((shared, passes)) => run_shared(rt, alloc, shared, passes, round, &setup),
         Err(_refused) => Err(OutOfMemory),
     }
 }
 
 /// Lets the passes of a shared book run the lanes, and takes the book back.
-fn run_shared(
+fn run_shared<W: Ways, G: Gate>(
     rt: &(impl Threads + Wait + Sync),
     alloc: Global,
     shared: SharedBook,
     passes: Vec<Pass>,
     round: &Round,
-    network: &Network,
-    settings: &Settings,
+    setup: &Setup<'_, W, G>,
 ) -> Result<Book, OutOfMemory>
     requires empty { shared.start.entries ≡ [] }
     requires kept { IsBook shared.start }
-    requires ready { IsReady settings.now network.now shared.start }
+    requires ready { IsReady setup.now.settings.now setup.now.network.now shared.start }
     requires lanes { IsSharedBy round.now shared.lanes }
     requires passes { AreAllPasses shared passes.items }
     requires fresh { All IsNew passes.items }
-    ensures run { IfOk result (λ after. IsRoundRun settings.now network.now round.now (journal_of after)) }
+    ensures run { IfOk result (λ after. IsRoundRun setup.now.settings.now setup.now.network.now round.now (journal_of after)) }
     ensures same { IfOk result (λ after. IsSameRun shared.start after) }
     ensures kept { IfOk result IsBook }
-    ensures ready { IfOk result (IsReady settings.now network.now) }
+    ensures ready { IfOk result (IsReady setup.now.settings.now setup.now.network.now) }
 {
-    let passes = run_passes(rt, alloc, &shared, passes, round, network, settings)?;
+    let passes = run_passes(rt, alloc, &shared, passes, round, setup)?;
     match shared.finish(passes) {
         Ok(book) => Ok(book),
         Err(_unfinished) => Err(OutOfMemory),
@@ -75,24 +88,23 @@ fn run_shared(
 }
 
 /// Lets each pass run its lane's commands.
-fn run_passes(
+fn run_passes<W: Ways, G: Gate>(
     rt: &(impl Threads + Wait + Sync),
     alloc: Global,
     book: &SharedBook,
     passes: Vec<Pass>,
     round: &Round,
-    network: &Network,
-    settings: &Settings,
+    setup: &Setup<'_, W, G>,
 ) -> Result<Vec<Pass>, OutOfMemory>
-    requires nodes { book.now.start.nodes ≡ network.now.nodes }
+    requires nodes { book.now.start.nodes ≡ setup.now.network.now.nodes }
     requires lanes { (0 < book.now.lanes) × (book.now.lanes ≤ 16) }
     requires passes { AreAllPasses book.now passes.items }
     requires fresh { All IsNew passes.items }
     ensures passes { IfOk result (λ passes. AreAllPasses book.now passes.items) }
-    ensures run { IfOk result (λ passes. HaveRunLanes settings.now network.now round.now passes.items) }
+    ensures run { IfOk result (λ passes. HaveRunLanes setup.now.settings.now setup.now.network.now round.now passes.items) }
 {
     let mut crew = crew_of(alloc, passes)?;
-    work_all(rt, alloc, book, round, &mut crew, network, settings);
+    work_all(rt, alloc, book, round, &mut crew, setup);
     if are_done(crew.as_slice()) {
         passes_of(alloc, crew)
     } else {

@@ -1,5 +1,4 @@
-pub mod WalkLemmas
-pub mod SearchLemmas
+pub mod lemmas
 pub mod Tables
 pub mod ArcLemmas
 pub mod Pieces

@@ -11,7 +11,7 @@ use Rattle.road_network.specs.declared.arc.Arc.{Arc}
 use Rattle.road_network.specs.Walk.{walk_seconds, IsTimeBetween}
 use Rattle.road_network.specs.Roads.{IsArcAmong}
 use Rattle.travel_times.specs.work.Table.{AreRows}
-use Rattle.travel_times.proofs.WalkLemmas.{IsWalk-append, walk_seconds-append, short_walk}
+use Rattle.travel_times.proofs.lemmas.WalkLemmas.{IsWalk-append, walk_seconds-append, short_walk}
 
 -- rows, and the rows after them
 pub AreRows-append : (arcs : List Arc) (points : List ℕ) (from count more : ℕ) (cells rows : List ℕ) → AreRows arcs points from count cells → AreRows arcs points (from + count) more rows → AreRows arcs points from (count + more) (cells ++ rows)

@@ -13,6 +13,10 @@ mod short_hop;
 mod table;
 #[cfg(test)]
 mod tests;
+mod ways;
 
 pub use plain::times_by_repeated_relaxation;
-pub use table::{are_known, times_between};
+pub use ring::Ring;
+pub use short_hop::ShortHop;
+pub use table::{are_known, indexes_of, table_of_times, times_between};
+pub use ways::{NetworkWays, Ways};

@@ -25,7 +25,8 @@ pub struct Ring {
 }
 
 impl Ring {
-    pub(crate) fn new(alloc: Global) -> Result<Ring, OutOfMemory> {
+    /// An empty ring.
+    pub fn new(alloc: Global) -> Result<Ring, OutOfMemory> {
         let buckets = empty_buckets(alloc)?;
         let filled = vec![in alloc; 0; WORDS]?;
         Ok(Ring {
@@ -38,7 +39,7 @@ impl Ring {
 
     /// Puts a node in by its seconds.
     #[inline]
-    pub(crate) fn push(&mut self, node: u32, seconds: u32) -> Result<(), OutOfMemory> {
+    pub fn push(&mut self, node: u32, seconds: u32) -> Result<(), OutOfMemory> {
         let bucket = seconds as usize % BUCKETS;
         self.buckets[bucket].push(node)?;
         self.filled[bucket / 64] |= 1 << (bucket % 64);
@@ -48,7 +49,7 @@ impl Ring {
 
     /// Takes out the next node.
     #[inline]
-    pub(crate) fn pop(&mut self) -> Option<u32>
+    pub fn pop(&mut self) -> Option<u32>
         ensures { OnSome result (self.new.len < self.old.len) }
     {
         if self.len == 0 {

@@ -21,7 +21,8 @@ impl Model for ShortHop {
 }
 
 impl ShortHop {
-    pub(crate) fn of(hop: Hop) -> ShortHop
+    /// A hop to one of at most 100,000 nodes.
+    pub fn of(hop: Hop) -> ShortHop
         requires { hop.to < 100000 }
         ensures { result ≡ hop }
     {
@@ -33,14 +34,15 @@ impl ShortHop {
 
     /// The index of the node where it ends.
     #[inline]
-    pub(crate) fn to(self) -> usize
+    pub fn to(self) -> usize
         ensures { result ≡ self.to }
     {
         self.to as usize
     }
 
+    /// The seconds that the hop takes.
     #[inline]
-    pub(crate) fn seconds(self) -> u32
+    pub fn seconds(self) -> u32
         ensures { result ≡ self.seconds }
     {
         self.seconds

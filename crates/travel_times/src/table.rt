@@ -1,6 +1,7 @@
-ghost use Rattle.std.specs.Prelude.{◌≡◌, ◌<◌, ◌≤◌, ◌↔◌, All, IsTrue, Contains, IfOk, length, map, replicate};
+ghost use Rattle.std.specs.Prelude.{◌≡◌, ℕ, ◌+◌, ◌*◌, ◌<◌, ◌≤◌, ◌↔◌, All, IsTrue, Contains, IfOk, length, map, replicate, slice_index};
 ghost use Rattle.pool_base.specs.TravelTime.{never};
 ghost use Rattle.road_network.specs.Roads.{index_in};
+ghost use Rattle.road_network.specs.Walk.{IsTimeBetween};
 ghost use Rattle.travel_times.specs.Table.{AreTravelTimes};
 ghost use Rattle.travel_times.specs.work.Table.{AreRows};
 
@@ -43,6 +44,17 @@ pub(crate) fn table_of(network: &Network, points: &[usize], cells: Vec<u32>) -> 
     Times::of(points.len(), cells)
 }
 
+/// The table of these cells, which are travel times between nodes of the network by index, row by row. Nothing is looked
+/// at: what follows from least times over walks is what a table keeps.
+pub fn table_of_times(network: &Network, points: &[usize], cells: Vec<u32>) -> Times
+    requires known { All (λ point. point < length network.now.nodes) points.now }
+    requires size { length cells.items ≡ length points.now * length points.now }
+    requires times { (i j : ℕ) → i < length points.now → j < length points.now → IsTimeBetween network.now.arcs (slice_index points.now i) (slice_index points.now j) (slice_index cells.items (i * length points.now + j)) }
+    ensures { AreTravelTimes network.now.arcs points.now result }
+{
+    table_of(network, points, cells)
+}
+
 /// Whether every node is one of the network's.
 pub fn are_known(network: &Network, nodes: &[NodeId]) -> bool
     ensures { IsTrue result ↔ All (λ node. Contains network.now.nodes node) nodes.now }
@@ -55,8 +67,8 @@ pub fn are_known(network: &Network, nodes: &[NodeId]) -> bool
     true
 }
 
-/// The indexes of nodes.
-pub(crate) fn indexes_of(
+/// The indexes of nodes of the network.
+pub fn indexes_of(
     alloc: Global,
     network: &Network,
     nodes: &[NodeId],

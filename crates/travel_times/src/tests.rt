@@ -1,6 +1,6 @@
-ghost use Rattle.std.specs.Prelude.{◌<◌};
+ghost use Rattle.std.specs.Prelude.{◌<◌, ◌≤◌, All, Contains, length};
 
-use crate::{are_known, times_between, times_by_repeated_relaxation};
+use crate::{NetworkWays, Ways, are_known, times_between, times_by_repeated_relaxation};
 use pool_base::{NodeId, OutOfMemory, Times, put_number};
 use pool_io::rows;
 use rand_xoshiro::SplitMix64;
@@ -39,6 +39,33 @@ fn fast(
 ) -> Option<Result<Times, OutOfMemory>> {
     if nodes.len() <= 12_500 && are_known(network, nodes) {
         Some(times_between(rt, alloc, network, nodes))
+    } else {
+        None
+    }
+}
+
+// The table, by whatever tells the times.
+fn told<W: Ways>(
+    rt: &(impl Threads + Sync),
+    alloc: Global,
+    ways: &W,
+    nodes: &[NodeId],
+) -> Result<Times, OutOfMemory>
+    requires known { All (λ node. Contains (W.roads ways.now).nodes node) nodes.now }
+    requires few { length nodes.now ≤ 12500 }
+{
+    ways.table(rt, alloc, nodes)
+}
+
+// The table by the ways of the network, where all nodes are known.
+fn by_ways(
+    rt: &(impl Threads + Sync),
+    alloc: Global,
+    network: &Network,
+    nodes: &[NodeId],
+) -> Option<Result<Times, OutOfMemory>> {
+    if nodes.len() <= 12_500 && are_known(network, nodes) {
+        Some(told(rt, alloc, &NetworkWays { network }, nodes))
     } else {
         None
     }
@@ -122,7 +149,12 @@ fn versions_agree(rt: &(impl Threads + Sync), alloc: Global, text: &[u8]) -> Opt
     let nodes = nodes_of(alloc, &network).ok()?;
     let fast = fast(rt, alloc, &network, &nodes)?.ok()?;
     let plain = plain(alloc, &network, &nodes)?.ok()?;
-    Some(fast.len() == nodes.len() && have_same_cells(&fast, &plain))
+    let told = by_ways(rt, alloc, &network, &nodes)?.ok()?;
+    Some(
+        fast.len() == nodes.len()
+            && have_same_cells(&fast, &plain)
+            && have_same_cells(&fast, &told),
+    )
 }
 
 fn nodes_of(alloc: Global, network: &Network) -> Result<Vec<NodeId>, OutOfMemory> {

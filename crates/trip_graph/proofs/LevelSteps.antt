@@ -1,12 +1,20 @@
-use Rattle.std.proofs.Common.{◌≡◌, ℕ, ◌+◌, ◌<◌, ◌≤◌, inl, inr, List, [], ◌∷◌, ◌++◌, length, get_or, refl, subst, arith}
+use Rattle.std.proofs.Common.{◌≡◌, ℕ, suc, ◌+◌, ◌-◌, ◌<◌, ◌≤◌, inl, inr, List, [], ◌∷◌, ◌++◌, length, get_or, Contains, add-one, refl, sym, ap, ◌∙◌, subst, arith}
+use native.Mathlib.Numerals.{unary_clauses}
 use Rattle.std.proofs.lemmas.Bool.{cases_lt}
-use Rattle.std.proofs.lemmas.List.{length-map, length-append, get_or_append_left, get_or_push, get_or-map}
+use Rattle.std.proofs.lemmas.List.{length-map, length-append, get_or_append_left, get_or_push, get_or-map, get_or_default}
+use Rattle.std.proofs.lemmas.List.Elements.{All-nil}
 use Rattle.std.proofs.lemmas.List.Sums.{sum_by_push}
+use Rattle.pool_base.specs.TravelTime.{IsTravelTime}
 use Rattle.stop_orders.specs.declared.settled.Settled.{Settled}
+use Rattle.stop_orders.specs.Laws.{SubTripsAreServable}
+use Rattle.stop_orders.specs.Settled.{CanServe, IsTrip}
+use Rattle.stop_orders.specs.Sound.{IsSound}
 use Rattle.trip_growth.specs.declared.trip_of.TripOf.{TripOf}
 use Rattle.trip_growth.specs.Trip.{ComesBefore, trips_of}
-use Rattle.trip_growth.specs.Rows.{AreSomeRows, AreRowsOfSize, HasMoreThan}
+use Rattle.trip_growth.specs.Rows.{AreSomeRows, AreRowsOfSize, HasMoreThan, IsLevelOf}
+use Rattle.trip_growth.specs.declared.level.Level.{Level}
 use Rattle.trip_graph.specs.work.Levels.{AreLevelsUpTo, HasMoreOfSize, AreLevels, row_total, level_total}
+use Rattle.trip_graph.specs.work.Runs.{AreLevelsOf}
 use Rattle.trip_graph.specs.Answer.{HasMoreRows}
 use Rattle.trip_graph.proofs.MoreRows.{more_rows}
 
@@ -21,6 +29,16 @@ total_more lists rows = sum_by_push (λ (r : List TripOf). length r) lists rows
 pub total_level : (levels : List (List (List TripOf))) (lists : List (List TripOf)) → level_total (levels ++ lists ∷ []) ≡ level_total levels + row_total lists
 total_level levels lists = sum_by_push row_total levels lists
 
+-- a trip without its first rider
+trip_rest : (riders x : ℕ) (xs : List ℕ) → IsTrip riders (x ∷ xs) → IsTrip riders xs
+trip_rest riders x xs trip = record {
+  rising = λ k lt. let up = simp unary_clauses at (trip.rising (suc k) (omega (arith, lt))) in rw add-one up;
+  within = λ k d lt. trip.within (suc k) d (omega (arith, lt));
+}
+
+contains_none : (trip : List ℕ) → Contains (trips_of []) trip → ⊥
+contains_none trip found = let within = found.1 in absurd (omega arith)
+
 module _ (tau : ℕ → ℕ → ℕ) (settled : Settled) where
   pub few_empty : (v : ℕ) (rows : List TripOf) → AreRowsOfSize tau settled v 0 rows → length rows ≤ 1
   few_empty v rows own =
@@ -34,6 +52,23 @@ module _ (tau : ℕ → ℕ → ℕ) (settled : Settled) where
             absurd (none_before (get_or (trips_of rows) 0 []) (get_or (trips_of rows) 1 []) first second (own.some.rising 0 1 (omega arith) (omega arith)))
         | inr ge ↦ omega arith
       ]
+
+  -- the rows from which those of one more rider grow
+  pub read_below : (size count v : ℕ) (lists : List (List TripOf)) (rows : List TripOf) → AreLevelsUpTo tau settled size count lists → v < count
+      → rows ≡ get_or lists v rows → AreRowsOfSize tau settled v (size + 1 - 1) rows
+  read_below size count v lists rows level lt is =
+      let within : v < length lists = (let t = level.total in omega arith) in
+      let e : get_or lists v [] ≡ rows = get_or_default lists v [] rows within ∙ sym is in
+      let s : size ≡ size + 1 - 1 = omega arith in
+      subst (λ (n : ℕ). AreRowsOfSize tau settled v n rows) s (subst (λ (r : List TripOf). AreRowsOfSize tau settled v size r) e (level.each v lt))
+
+  -- what the vehicle of one number gave
+  pub own_level : (size room number at : ℕ) (vehicles : List ℕ) (levels : List Level) (level : Level) → AreLevelsOf tau settled size room vehicles levels → number ≡ at
+      → (at < length levels) × (level ≡ get_or levels at level) → IsLevelOf tau settled (get_or vehicles number 0) size room level
+  own_level size room number at vehicles levels level all same found =
+      let here : number < length levels = (let lt = found.0 in omega arith) in
+      let is : get_or levels number level ≡ level = ap (λ (n : ℕ). get_or levels n level) same ∙ sym found.1 in
+      subst (λ (l : Level). IsLevelOf tau settled (get_or vehicles number 0) size room l) is (all.each number level here)
 
   pub level_none : (size : ℕ) → AreLevelsUpTo tau settled size 0 []
   level_none size = record { total = refl; each = λ v lt. absurd (omega arith) }
@@ -50,6 +85,38 @@ module _ (tau : ℕ → ℕ → ℕ) (settled : Settled) where
               subst (λ (w : ℕ). AreRowsOfSize tau settled w size (get_or (lists ++ rows ∷ []) w [])) e (rw (get_or_push lists rows [] n level.total) own)
         ];
       }
+
+  -- a vehicle without rows of a size has none of one rider more
+  pub none_next : SubTripsAreServable → (points v size : ℕ) → IsTravelTime points tau → IsSound 6 points tau settled → v < length settled.vehicles
+      → AreRowsOfSize tau settled v size [] → AreRowsOfSize tau settled v (size + 1) []
+  none_next law points v size travel sound lt own = record {
+    some = record {
+      right = All-nil _;
+      sized = All-nil _;
+      rising = λ i j less within. absurd (omega arith);
+    };
+    whole = λ trip long served. absurd (by trip long served);
+  }
+    where
+      by : (trip : List ℕ) → length trip ≡ size + 1 → CanServe 6 tau settled v trip → ⊥
+      by [] long served = omega arith
+      by (x ∷ xs) long served =
+          let rest : CanServe 6 tau settled v xs = record {
+            vehicle = lt;
+            riders = trip_rest (length settled.riders) x xs served.riders;
+            size = (let few = served.size in omega arith);
+            servable = law 6 points tau settled v (x ∷ xs) 0 travel sound lt served.riders served.size (omega arith) served.servable;
+          }
+          in
+          contains_none xs (own.whole xs (omega arith) rest)
+
+  -- one vehicle more, which has no rows of one rider fewer
+  pub level_skip : SubTripsAreServable → (points size n : ℕ) (below lists : List (List TripOf)) → IsTravelTime points tau → IsSound 6 points tau settled
+      → AreLevelsUpTo tau settled size (length settled.vehicles) below → n < length settled.vehicles → get_or below n [] ≡ []
+      → AreLevelsUpTo tau settled (size + 1) n lists → AreLevelsUpTo tau settled (size + 1) (n + 1) (lists ++ [] ∷ [])
+  level_skip law points size n below lists travel sound level lt none before =
+      level_more (size + 1) n lists [] before
+      (none_next law points n size travel sound lt (subst (λ (rows : List TripOf). AreRowsOfSize tau settled n size rows) none (level.each n lt)))
 
   -- some rows of one vehicle more, which together with those before are more than the room
   pub more_than_room : (size room n : ℕ) (lists : List (List TripOf)) (rows : List TripOf) → AreLevelsUpTo tau settled size n lists → AreSomeRows tau settled n (λ m. m ≡ size) rows

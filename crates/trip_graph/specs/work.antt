@@ -1,3 +1,4 @@
 pub mod Rows
 pub mod Levels
 pub mod Growth
+pub mod Runs

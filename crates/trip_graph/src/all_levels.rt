@@ -5,13 +5,17 @@ ghost use Rattle.trip_graph.specs.Answer.{HasMoreRows};
 
 use crate::batch_growth::BatchGrowth;
 use crate::levels::{first_level, next_level};
+use crate::workers::Workers;
 use pool_base::{OutOfMemory, Sequence};
 use std::alloc::Global;
+use std::thread::Threads;
 use trip_growth::VehicleTrips;
+use worker_gate::Gate;
 
 /// The rows of all vehicles of each size from 0 to `most`; `None` exactly where they are more than `room`.
-pub(crate) fn all_levels(
+pub(crate) fn all_levels<R: Threads + Sync, G: Gate>(
     alloc: Global,
+    workers: &Workers<'_, R, G>,
     growth: &BatchGrowth<'_>,
     most: u8,
     room: u64,
@@ -30,7 +34,7 @@ pub(crate) fn all_levels(
     levels.push(Sequence::of(first.lists))?;
     for size in 0..most {
         let below = levels[usize::from(size)].as_slice();
-        let Some(next) = next_level(alloc, growth, size, below, room - total)? else {
+        let Some(next) = next_level(alloc, workers, growth, size, below, room - total)? else {
             return Ok(None);
         };
         total += next.total;

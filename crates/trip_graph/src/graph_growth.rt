@@ -9,22 +9,31 @@ use crate::all_levels::all_levels;
 use crate::answer::GraphAnswer;
 use crate::batch_growth::BatchGrowth;
 use crate::rows::{add_vehicle, held_row};
+use crate::workers::Workers;
 use pair_graph::{rider_rider, rider_vehicle};
 use plan_rules::{GraphFault, TripGraph, TripRow};
 use pool_base::{OutOfMemory, Sequence, Times};
 use rider_limits::Settings;
 use std::alloc::Global;
+use std::thread::Threads;
 use stop_orders::{Settled, laws};
 use trip_growth::VehicleTrips;
+use worker_gate::Gate;
 
 /// The three graphs of a batch: which vehicle can serve which rider, which two riders could share an empty
 /// vehicle, and which vehicle can serve which trips of at most `settings.trip` riders, at which least
 /// delays; `Overflow` exactly where there are more rows than `settings.pairs`.
-pub fn grow_graph(
+///
+/// The trips are grown size by size, by `settings.workers` workers. For each size the vehicles that have
+/// rows of one rider fewer are taken in runs of at most 32. Each vehicle of a run is a piece of work, and
+/// the gate hears of it as a worker begins it. What comes out is the same for every number of workers.
+pub fn grow_graph<G: Gate>(
+    rt: &(impl Threads + Sync),
     alloc: Global,
     settled: &Settled,
     times: &Times,
     settings: &Settings,
+    gate: &G,
 ) -> Result<GraphAnswer, OutOfMemory>
     requires { IsSound settings.now.trip (point_count times.now) (travel_time times.now) settled.now }
     ensures { IfOk result (IsAnswer settings.entry.now (travel_time times.entry.now) settled.entry.now) }
@@ -35,8 +44,13 @@ pub fn grow_graph(
         times,
         pairs: &rr,
     };
+    let workers = Workers {
+        rt,
+        count: settings.workers,
+        gate,
+    };
     let room = u64::from(settings.pairs);
-    let Some(levels) = all_levels(alloc, &growth, settings.trip, room)? else {
+    let Some(levels) = all_levels(alloc, &workers, &growth, settings.trip, room)? else {
         return Ok(GraphAnswer::Overflow);
     };
     let rv = rider_vehicle(alloc, settled, times)?;

@@ -1,16 +1,20 @@
-ghost use Rattle.std.specs.Prelude.{◌≡◌, ℕ, ◌+◌, ◌-◌, ◌<◌, ◌≤◌, [], IfOk, MatchOption, Contains, length};
-ghost use Rattle.trip_graph.specs.work.Growth.{CanGrowBatch, batch_of, tau_of};
+ghost use Rattle.std.specs.Prelude.{◌≡◌, ℕ, ◌+◌, ◌-◌, ◌<◌, ◌≤◌, [], IfOk, MatchOption, OnOk, length};
+ghost use Rattle.trip_graph.specs.work.Growth.{CanGrowBatch, CanGrowLevel, batch_of, tau_of};
 ghost use Rattle.trip_graph.specs.work.Levels.{AreLevelsUpTo, HasMoreOfSize, row_total};
+ghost use Rattle.trip_graph.specs.work.Runs.{AreEmpty, AreLevelsOf, AreNext, AreWithin};
 
 use crate::batch_growth::BatchGrowth;
 use crate::level_rows::LevelRows;
-use crate::pieces::{empty_piece, level_piece};
+use crate::level_run::LevelRun;
+use crate::pieces::empty_piece;
+use crate::run::next_run;
+use crate::workers::Workers;
 use pool_base::OutOfMemory;
 use std::alloc::Global;
+use std::thread::Threads;
+use stop_orders::laws;
 use trip_growth::{Level, VehicleTrips};
-
-/// How many vehicles are grown in one run, with the room that stands at its start.
-const RUN: usize = 32;
+use worker_gate::Gate;
 
 /// The rows of all vehicles without riders.
 pub(crate) fn first_level(alloc: Global, growth: &BatchGrowth<'_>) -> Result<LevelRows, OutOfMemory>
@@ -31,9 +35,10 @@ pub(crate) fn first_level(alloc: Global, growth: &BatchGrowth<'_>) -> Result<Lev
 }
 
 /// The rows of all vehicles of `size + 1` riders, from those of `size` riders; `None` exactly where they are
-/// more than `room`.
-pub(crate) fn next_level(
+/// more than `room`. The vehicles that have rows of `size` riders are grown in runs, each by all workers.
+pub(crate) fn next_level<R: Threads + Sync, G: Gate>(
     alloc: Global,
+    workers: &Workers<'_, R, G>,
     growth: &BatchGrowth<'_>,
     size: u8,
     below: &[VehicleTrips],
@@ -49,7 +54,17 @@ pub(crate) fn next_level(
     let mut lists = Vec::with_capacity(alloc, below.len())?;
     let mut total = 0;
     'runs: while lists.len() < below.len() {
-        let Some(found) = grow_run(alloc, growth, size, below, &mut lists, total, room)? else {
+        let next = next_run(below, lists.len());
+        let run = LevelRun {
+            growth,
+            size,
+            below,
+            vehicles: next.vehicles.as_slice(),
+            room,
+            found: total,
+        };
+        let levels = grow_run(alloc, workers, &run)?;
+        let Some(found) = add_run(alloc, &run, levels, next.end, &mut lists)? else {
             return Ok(None);
         };
         total = found;
@@ -57,46 +72,80 @@ pub(crate) fn next_level(
     Ok(Some(LevelRows { lists, total }))
 }
 
-/// Puts the rows of the next vehicles, at most 32, behind those of the vehicles before, and gives the new
-/// total. Each vehicle is a piece of work that needs nothing of the others: the room that it is given is
-/// that at the start of the run. `None` where there is no room for all.
-fn grow_run(
+/// Grows the vehicles of a run, by all workers.
+fn grow_run<R: Threads + Sync, G: Gate>(
     alloc: Global,
-    growth: &BatchGrowth<'_>,
-    size: u8,
-    below: &[VehicleTrips],
-    lists: &mut Vec<VehicleTrips>,
-    total: u64,
-    room: u64,
-) -> Result<Option<u64>, OutOfMemory>
-    requires can { CanGrowBatch growth.now }
-    requires size { size < 6 }
-    requires below { AreLevelsUpTo (tau_of growth.now) (batch_of growth.now) size (length (batch_of growth.now).vehicles) below.now }
-    requires next { length lists.old.items < length below.now }
-    requires level { AreLevelsUpTo (tau_of growth.now) (batch_of growth.now) (size + 1) (length lists.old.items) lists.old.items }
-    requires total { total ≡ row_total lists.old.items }
-    requires fits { total ≤ room }
-    ensures { IfOk result (λ answer. MatchOption answer (HasMoreOfSize (tau_of growth.now) (batch_of growth.now) (size + 1) room)
-        (λ found. AreLevelsUpTo (tau_of growth.now) (batch_of growth.now) (size + 1) (length lists.new.items) lists.new.items
-        × (found ≡ row_total lists.new.items) × (found ≤ room)
-        × (length lists.old.items < length lists.new.items) × (length lists.new.items ≤ length below.entry.now))) }
+    workers: &Workers<'_, R, G>,
+    run: &LevelRun<'_, '_>,
+) -> Result<Vec<Level>, OutOfMemory>
+    requires can { CanGrowLevel run.now.growth.now run.now.size run.now.below.now }
+    requires vehicles { AreWithin (length run.now.below.now) run.now.vehicles.now }
+    requires few { length run.now.vehicles.now ≤ 32 }
+    requires fits { run.now.found ≤ run.now.room }
+    ensures { IfOk result (λ levels. AreLevelsOf (tau_of run.now.growth.now) (batch_of run.now.growth.now) (run.now.size + 1) (run.now.room - run.now.found) run.now.vehicles.now levels.items) }
 {
-    let from = lists.len();
-    let end = from + RUN.min(below.len() - from);
-    let left = room - total;
-    let mut found = total;
-    for vehicle in from..end {
-        let trips = &below[vehicle];
-        let level = level_piece(alloc, growth, vehicle, size + 1, trips, left)?;
+    workers.run(alloc, run.vehicles.len() as u32, run)
+}
+
+/// Puts the rows of a run's vehicles behind those of the vehicles before, without a copy, and gives the new
+/// total; vehicles that had no rows get none. `None` where there is no room for all.
+fn add_run(
+    alloc: Global,
+    run: &LevelRun<'_, '_>,
+    levels: Vec<Level>,
+    end: usize,
+    lists: &mut Vec<VehicleTrips>,
+) -> Result<Option<u64>, OutOfMemory>
+    requires can { CanGrowLevel run.now.growth.now run.now.size run.now.below.now }
+    requires vehicles { AreWithin (length run.now.below.now) run.now.vehicles.now }
+    requires fits { run.now.found ≤ run.now.room }
+    requires levels { AreLevelsOf (tau_of run.now.growth.now) (batch_of run.now.growth.now) (run.now.size + 1) (run.now.room - run.now.found) run.now.vehicles.now levels.items }
+    requires next { AreNext run.now.below.now (length lists.old.items) run.now.vehicles.now end }
+    requires end { end ≤ length run.now.below.now }
+    requires before { AreLevelsUpTo (tau_of run.now.growth.now) (batch_of run.now.growth.now) (run.now.size + 1) (length lists.old.items) lists.old.items }
+    requires total { run.now.found ≡ row_total lists.old.items }
+    ensures { IfOk result (λ answer. MatchOption answer (HasMoreOfSize (tau_of run.now.growth.now) (batch_of run.now.growth.now) (run.now.size + 1) run.now.room)
+        (λ found. AreLevelsUpTo (tau_of run.now.growth.now) (batch_of run.now.growth.now) (run.now.size + 1) end lists.new.items
+        × (found ≡ row_total lists.new.items) × (found ≤ run.now.room))) }
+{
+    let mut found = run.found;
+    let mut number = 0;
+    for level in levels {
+        skip_to(alloc, run, run.vehicles[number], lists)?;
         let Level::All(trips) = level else {
             return Ok(None);
         };
         let more = trips.rows().len() as u64;
-        if more > room - found {
+        if more > run.room - found {
             return Ok(None);
         }
         found += more;
         lists.push(trips)?;
+        number += 1;
     }
+    skip_to(alloc, run, end, lists)?;
     Ok(Some(found))
+}
+
+/// Gives no rows to the vehicles up to this one: they have none of one rider fewer.
+fn skip_to(
+    alloc: Global,
+    run: &LevelRun<'_, '_>,
+    end: usize,
+    lists: &mut Vec<VehicleTrips>,
+) -> Result<(), OutOfMemory>
+    requires can { CanGrowLevel run.now.growth.now run.now.size run.now.below.now }
+    requires on { length lists.old.items ≤ end }
+    requires within { end ≤ length run.now.below.now }
+    requires empty { AreEmpty run.now.below.now (length lists.old.items) end }
+    requires before { AreLevelsUpTo (tau_of run.now.growth.now) (batch_of run.now.growth.now) (run.now.size + 1) (length lists.old.items) lists.old.items }
+    ensures level { OnOk result (AreLevelsUpTo (tau_of run.now.growth.now) (batch_of run.now.growth.now) (run.now.size + 1) end lists.new.items) }
+    ensures total { OnOk result (row_total lists.new.items ≡ row_total lists.old.items) }
+{
+    // A trip can be served only where its smaller trips can.
+    laws::sub_trips_are_servable();
+    for _vehicle in lists.len()..end {
+        lists.push(VehicleTrips::new(alloc))?;
+    }
+    Ok(())
 }

@@ -15,9 +15,11 @@ use rider_limits::{Mode, Settings};
 use std::alloc::Global;
 use std::marker::Brand;
 use std::sync::ledger::{Blank, Ledger};
+use std::thread::Threads;
 use stop_orders::{PairList, Settled, SettledRider, SettledVehicle};
 use trip_graph::{GraphAnswer, grow_graph};
 use trip_growth::{Grown, Level, TripOf, empty_level, grow, grow_level};
+use worker_gate::FreeGate;
 
 /// What is asked of a scene.
 #[derive(Clone, Copy, Debug)]
@@ -34,12 +36,23 @@ pub enum Asked {
     Rows,
 }
 
-/// The settings but for the numbers that a scene is tried with.
+/// The settings but for the numbers that a scene is tried with, for one worker.
 pub fn settings(wait: u32, delay: u32, pairs: u32) -> Settings
     requires wait { wait ≤ 7200 }
     requires delay { delay ≤ 7200 }
     requires some { 1 ≤ pairs }
     requires most { pairs ≤ 2000000 }
+{
+    settings_of(wait, delay, pairs, 1)
+}
+
+/// The same for so many workers.
+pub fn settings_of(wait: u32, delay: u32, pairs: u32, workers: u8) -> Settings
+    requires wait { wait ≤ 7200 }
+    requires delay { delay ≤ 7200 }
+    requires some { 1 ≤ pairs }
+    requires most { pairs ≤ 2000000 }
+    requires workers { (1 ≤ workers) × (workers ≤ 64) }
 {
     Settings {
         mode: Mode::Run,
@@ -49,7 +62,7 @@ pub fn settings(wait: u32, delay: u32, pairs: u32) -> Settings
         penalty: 10_000,
         budget: 200,
         pairs,
-        workers: 1,
+        workers,
         proof: false,
         dwell: 0,
     }
@@ -79,26 +92,29 @@ fn line_times(alloc: Global, points: &Points) -> Result<Times, OutOfMemory>
 
 /// The answer to what is asked of a scene; vehicles and riders stand by their numbers, limits by their ids.
 pub fn told(
+    rt: &(impl Threads + Sync),
     alloc: Global,
     scene: Scene,
     settings: &Settings,
     asked: Asked,
 ) -> Result<String, OutOfMemory> {
     let snapshot = batch(alloc, scene)?;
-    told_of_batch(alloc, &snapshot, settings, asked)
+    told_of_batch(rt, alloc, &snapshot, settings, asked)
 }
 
 fn told_of_batch(
+    rt: &(impl Threads + Sync),
     alloc: Global,
     snapshot: &Snapshot,
     settings: &Settings,
     asked: Asked,
 ) -> Result<String, OutOfMemory> {
     let points = snapshot.points(alloc)?;
-    told_between(alloc, snapshot, &points, settings, asked)
+    told_between(rt, alloc, snapshot, &points, settings, asked)
 }
 
 fn told_between(
+    rt: &(impl Threads + Sync),
     alloc: Global,
     snapshot: &Snapshot,
     points: &Points,
@@ -108,10 +124,11 @@ fn told_between(
     requires { ArePoints snapshot.now points.now }
 {
     let times = line_times(alloc, points)?;
-    told_over(alloc, snapshot, points, &times, settings, asked)
+    told_over(rt, alloc, snapshot, points, &times, settings, asked)
 }
 
 fn told_over(
+    rt: &(impl Threads + Sync),
     alloc: Global,
     snapshot: &Snapshot,
     points: &Points,
@@ -123,10 +140,11 @@ fn told_over(
     requires table { point_count times.now ≡ length points.now }
 {
     let settled = settle(alloc, snapshot, settings, points, times)?;
-    told_of_settled(alloc, &settled, times, settings, asked)
+    told_of_settled(rt, alloc, &settled, times, settings, asked)
 }
 
 fn told_of_settled(
+    rt: &(impl Threads + Sync),
     alloc: Global,
     settled: &Settled,
     times: &Times,
@@ -140,7 +158,7 @@ fn told_of_settled(
         Asked::Edges => text_of_edges(alloc, settled, times),
         Asked::Trips { room } => text_of_trips(alloc, settled, times, room),
         Asked::Singles { room } => text_of_singles(alloc, settled, times, room),
-        Asked::Rows => text_of_rows(alloc, settled, times, settings),
+        Asked::Rows => text_of_rows(rt, alloc, settled, times, settings),
     }
 }
 
@@ -327,6 +345,7 @@ fn put_trip(
 }
 
 fn text_of_rows(
+    rt: &(impl Threads + Sync),
     alloc: Global,
     settled: &Settled,
     times: &Times,
@@ -334,7 +353,7 @@ fn text_of_rows(
 ) -> Result<String, OutOfMemory>
     requires { IsSound settings.now.trip (point_count times.now) (travel_time times.now) settled.now }
 {
-    match grow_graph(alloc, settled, times, settings)? {
+    match grow_graph(rt, alloc, settled, times, settings, &FreeGate)? {
         GraphAnswer::Graph { graph, .. } => text_of_graph(alloc, graph.rows()),
         GraphAnswer::Overflow => text_of(alloc, "overflow"),
     }

@@ -1,5 +1,5 @@
 //! All workers together.
-ghost use Rattle.std.specs.Prelude.{◌≡◌, ◌<◌, ◌≤◌, [], All, IfOk, length, vec_len};
+ghost use Rattle.std.specs.Prelude.{◌≡◌, ℕ, ◌<◌, ◌≤◌, [], All, IfOk, length, vec_len};
 ghost use Rattle.worker_gate.specs.work.Claims.{draws};
 ghost use Rattle.worker_gate.specs.work.Workers.{IsReady, HasWorked, HaveEnded, EachDoneOnce, AreDoneRight};
 
@@ -49,6 +49,7 @@ pub(crate) fn work_all<J: Job, G: Gate, R: Threads + Sync>(
     requires claims { (claims.now.shared.table_id.words ≡ 1) × (claims.now.shared.key.pieces ≡ pieces) }
     requires crew { 0 < vec_len crew.old }
     requires ready { All (IsReady claims.now.shared.table_id) crew.old.items }
+    requires can { (k : ℕ) → k < pieces → J.can job.now k }
     ensures len { vec_len crew.new ≡ vec_len crew.old }
     ensures worked { All (HasWorked claims.now.shared.table_id pieces) crew.new.items }
     ensures right { All (λ w. AreDoneRight pieces (J.right job.now) w.done.items) crew.new.items }
@@ -59,7 +60,7 @@ pub(crate) fn work_all<J: Job, G: Gate, R: Threads + Sync>(
         crew.as_mut_slice(),
         threads,
         &|_: usize, worker: &mut Worker<J::Out>|
-            requires { (claims.now.shared.table_id.words ≡ 1) × (claims.now.shared.key.pieces ≡ pieces) × IsReady claims.now.shared.table_id worker.now }
+            requires { (claims.now.shared.table_id.words ≡ 1) × (claims.now.shared.key.pieces ≡ pieces) × IsReady claims.now.shared.table_id worker.now × ((k : ℕ) → k < pieces → J.can job.now k) }
         { work(alloc, claims, pieces, job, gate, worker) },
     );
 }

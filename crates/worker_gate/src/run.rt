@@ -1,5 +1,5 @@
 //! Pieces of a job, done by workers.
-ghost use Rattle.std.specs.Prelude.{◌≡◌, ◌≤◌, IfOk, vec_len};
+ghost use Rattle.std.specs.Prelude.{◌≡◌, ℕ, ◌<◌, ◌≤◌, IfOk, vec_len};
 ghost use Rattle.worker_gate.specs.Outs.{AreRight};
 
 use crate::claims::{Claims, Quota};
@@ -25,7 +25,8 @@ pub fn run_pieces<J: Job, G: Gate, R: Threads + Sync>(
     job: &J,
     gate: &G,
 ) -> Result<Vec<J::Out>, OutOfMemory>
-    requires { (1 ≤ workers) × (workers ≤ 64) }
+    requires workers { (1 ≤ workers) × (workers ≤ 64) }
+    requires can { (k : ℕ) → k < pieces → J.can job.now k }
     ensures count { IfOk result (λ outs. vec_len outs ≡ pieces) }
     ensures right { IfOk result (λ outs. AreRight (J.right job.now) outs.items) }
 {

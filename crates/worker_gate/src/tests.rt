@@ -20,6 +20,8 @@ impl Job for Squares {
 
     type Out = u64;
 
+    ghost can = { λ _ _. Unit {0} };
+
     ghost right = { λ _ piece out. out ≡ piece * piece };
 
     fn run(&self, _alloc: Global, piece: u32) -> Result<u64, OutOfMemory> {

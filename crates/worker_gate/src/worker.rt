@@ -1,5 +1,5 @@
 //! One worker.
-ghost use Rattle.std.specs.Prelude.{◌≡◌};
+ghost use Rattle.std.specs.Prelude.{◌≡◌, ℕ, ◌<◌};
 ghost use Rattle.worker_gate.specs.work.Workers.{IsReady, HasWorked, AreDoneRight};
 
 use crate::claims::{Claims, Hand, draw};
@@ -34,6 +34,7 @@ pub(crate) fn work<J: Job, G: Gate>(
 )
     requires claims { (claims.now.shared.table_id.words ≡ 1) × (claims.now.shared.key.pieces ≡ pieces) }
     requires ready { IsReady claims.now.shared.table_id worker.old }
+    requires can { (k : ℕ) → k < pieces → J.can job.now k }
     ensures worked { HasWorked claims.now.shared.table_id pieces worker.new }
     ensures right { AreDoneRight pieces (J.right job.now) worker.new.done.items }
 {

@@ -1,9 +1,11 @@
-use Rattle.std.specs.Prelude.{ℕ, Contains}
+use Rattle.std.specs.Prelude.{ℕ, ◌<◌, List, Contains, length}
 use Rattle.pool_base.specs.Times.{point_count, travel_time}
 use Rattle.stop_orders.specs.declared.settled.Settled.{Settled}
 use Rattle.stop_orders.specs.Settled.{IsRrEdge}
 use Rattle.stop_orders.specs.Sound.{IsSound}
+use Rattle.trip_growth.specs.declared.trip_of.TripOf.{TripOf}
 use Rattle.trip_graph.specs.declared.batch_growth.BatchGrowth.{BatchGrowth}
+use Rattle.trip_graph.specs.work.Levels.{AreLevelsUpTo}
 
 -- the travel times of the growth
 abbrev pub tau_of : BatchGrowth → ℕ → ℕ → ℕ
@@ -17,3 +19,9 @@ batch_of growth = growth.settled.now
 pub record CanGrowBatch (growth : BatchGrowth) : Type 0 where
   pub sound : IsSound 6 (point_count growth.times.now) (tau_of growth) (batch_of growth)
   pub pairs : (a b : ℕ) → IsRrEdge (tau_of growth) (batch_of growth) a b → Contains growth.pairs.now (a, b)
+
+-- .. and the lists are all rows of this size, a list for each vehicle, from which the next size grows
+pub record CanGrowLevel (growth : BatchGrowth) (size : ℕ) (below : List (List TripOf)) : Type 0 where
+  pub can : CanGrowBatch growth
+  pub small : size < 6
+  pub rows : AreLevelsUpTo (tau_of growth) (batch_of growth) size (length (batch_of growth).vehicles) below

@@ -11,16 +11,16 @@ pub returns-in_default-clause-run : goal.returns-in_default-clause-run
 returns-in_default-clause-run g c =
     let r = c.in_ok-snapshot.field-0.receipt in
     let none : c.in_ok-snapshot.field-0.snapshot ≡ None = (let a = c.in_default.is in let b = c.in_ok-snapshot.snapshot-is in cc) in
-    runs-refused c.args.settings.now c.args.network.now c.args.book.now.start.nodes c.args.pass.now c.seal.new.pass c.args.now r.position r.reply
+    runs-refused c.args.setup.now.settings.now c.args.setup.now.network.now c.args.book.now.start.nodes c.args.pass.now c.seal.new.pass c.args.now r.position r.reply
     (subst (λ o. HasCalled c.args.book.now.start.nodes c.args.pass.now (Seal c.args.now) r.position (with_snapshot r.reply o) c.seal.new.pass) none c.in_ok-snapshot.ensures.call)
 
-pub solve_batch-requires-after_bounds : goal.solve_batch-requires-after_bounds
-solve_batch-requires-after_bounds g c κs within =
+pub solve_batch-requires-clause-nodes : goal.solve_batch-requires-clause-nodes
+solve_batch-requires-clause-nodes g c κs within =
     let r = c.in_ok-snapshot.field-0.receipt in
     let b = c.in-Some.snapshot in
     let some : c.in_ok-snapshot.field-0.snapshot ≡ Some b = (let a = c.in-Some.is in let b = c.in_ok-snapshot.snapshot-is in cc) in
     let called = subst (λ o. HasCalled c.args.book.now.start.nodes c.args.pass.now (Seal c.args.now) r.position (with_snapshot r.reply o) c.seal.new.pass) some c.in_ok-snapshot.ensures.call in
-    snapshot-known c.args.book.now.start.nodes c.args.network.now.nodes (Seal c.args.now) r.reply b c.requires.nodes called.fits
+    snapshot-known c.args.book.now.start.nodes c.args.setup.now.network.now.nodes (Seal c.args.now) r.reply b c.requires.nodes called.fits
 
 pub returns-clause-run : goal.returns-clause-run
 returns-clause-run g c =
@@ -33,14 +33,14 @@ returns-clause-run g c =
     on_ok_weaker c.take.result
     (λ taken.
     let closed = subst (λ n. HasTaken nodes c.seal.new.pass (Close n outcome) c.take.new.pass) (ap (λ b. b.number) c.snapshot.view_is) taken in
-    runs-sealed c.args.settings.now c.args.network.now nodes c.args.pass.now c.seal.new.pass c.take.new.pass c.args.now r.position r.reply b outcome closed.receipt
+    runs-sealed c.args.setup.now.settings.now c.args.setup.now.network.now nodes c.args.pass.now c.seal.new.pass c.take.new.pass c.args.now r.position r.reply b outcome closed.receipt
     called closed.called c.in_ok-outcome.ensures)
     c.take.ensures.taken
 
 pub returns-in_err-snapshot-clause-begun : goal.returns-in_err-snapshot-clause-begun
 returns-in_err-snapshot-clause-begun g c =
     on-err c.from_residual.result _
-    (begun-none c.args.settings.now c.args.network.now (Seal c.args.now ∷ []) c.args.pass.now c.seal.new.pass c.in_err-snapshot.ensures.refused.0)
+    (begun-none c.args.setup.now.settings.now c.args.setup.now.network.now (Seal c.args.now ∷ []) c.args.pass.now c.seal.new.pass c.in_err-snapshot.ensures.refused.0)
 
 pub returns-in_err-outcome-clause-begun : goal.returns-in_err-outcome-clause-begun
 returns-in_err-outcome-clause-begun g c =
@@ -50,7 +50,7 @@ returns-in_err-outcome-clause-begun g c =
     let some : c.in_ok-snapshot.field-0.snapshot ≡ Some b = (let a = c.in-Some.is in let b = c.in_ok-snapshot.snapshot-is in cc) in
     let called = subst (λ o. HasCalled nodes c.args.pass.now (Seal c.args.now) r.position (with_snapshot r.reply o) c.seal.new.pass) some c.in_ok-snapshot.ensures.call in
     on-err c.from_residual-in_err-outcome.result _
-    (begun-sealed c.args.settings.now c.args.network.now nodes c.args.pass.now c.seal.new.pass c.seal.new.pass c.args.now r.position r.reply b called refl)
+    (begun-sealed c.args.setup.now.settings.now c.args.setup.now.network.now nodes c.args.pass.now c.seal.new.pass c.seal.new.pass c.args.now r.position r.reply b called refl)
 
 pub returns-clause-begun : goal.returns-clause-begun
 returns-clause-begun g c =
@@ -60,5 +60,5 @@ returns-clause-begun g c =
     let some : c.in_ok-snapshot.field-0.snapshot ≡ Some b = (let a = c.in-Some.is in let b = c.in_ok-snapshot.snapshot-is in cc) in
     let called = subst (λ o. HasCalled nodes c.args.pass.now (Seal c.args.now) r.position (with_snapshot r.reply o) c.seal.new.pass) some c.in_ok-snapshot.ensures.call in
     on_err_weaker c.take.result
-    (begun-sealed c.args.settings.now c.args.network.now nodes c.args.pass.now c.seal.new.pass c.take.new.pass c.args.now r.position r.reply b called)
+    (begun-sealed c.args.setup.now.settings.now c.args.setup.now.network.now nodes c.args.pass.now c.seal.new.pass c.take.new.pass c.args.now r.position r.reply b called)
     c.take.ensures.refused

@@ -26,7 +26,7 @@ returns-then-are_done-clause-passes g c =
     let f = rest-len book c.args.passes.items c.requires.passes in
     omega (arith, a, b, d, e, f)) in
     IfOk-weaker c.passes_of.result (λ passes. passes.items ≡ map (λ w. w.pass) crew) _
-    (λ passes is. subst (AreAllPasses book) (sym is) (passes-all c.args.settings.now c.args.network.now c.args.round.now book crew c.work_all.ensures.worked c.work_all.ensures.order len))
+    (λ passes is. subst (AreAllPasses book) (sym is) (passes-all c.args.setup.now.settings.now c.args.setup.now.network.now c.args.round.now book crew c.work_all.ensures.worked c.work_all.ensures.order len))
     c.passes_of.ensures
 
 pub returns-then-are_done-clause-run : goal.returns-then-are_done-clause-run
@@ -34,5 +34,5 @@ returns-then-are_done-clause-run g c =
     let crew = c.work_all.new.crew.items in
     let done : All (λ w. w.done ≡ true) crew = subst (λ (ws : List LaneWork). All (λ w. w.done ≡ true) ws) c.as_slice.ensures.value (c.are_done.ensures c.if-are_done.true) in
     IfOk-weaker c.passes_of.result (λ passes. passes.items ≡ map (λ w. w.pass) crew) _
-    (λ passes is. subst (HaveRunLanes c.args.settings.now c.args.network.now c.args.round.now) (sym is) (passes-run c.args.settings.now c.args.network.now c.args.round.now c.args.book.now crew c.work_all.ensures.worked c.work_all.ensures.order done))
+    (λ passes is. subst (HaveRunLanes c.args.setup.now.settings.now c.args.setup.now.network.now c.args.round.now) (sym is) (passes-run c.args.setup.now.settings.now c.args.setup.now.network.now c.args.round.now c.args.book.now crew c.work_all.ensures.worked c.work_all.ensures.order done))
     c.passes_of.ensures

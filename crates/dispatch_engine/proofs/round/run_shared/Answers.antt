@@ -8,7 +8,7 @@ returns-in-Ok-clause-run g c =
     let len = c.in_ok-passes.ensures.passes.len in
     let one = c.requires.lanes.some in
     let some : 0 < length passes = omega (arith, len, one) in
-    round-run c.args.settings.now c.args.network.now c.args.round.now c.args.shared.start c.in-Ok.book passes c.in-Ok.ensures.calls
+    round-run c.args.setup.now.settings.now c.args.setup.now.network.now c.args.round.now c.args.shared.start c.in-Ok.book passes c.in-Ok.ensures.calls
     c.requires.empty c.requires.kept c.in-Ok.ensures.kept c.requires.ready c.requires.lanes.kept some
     (λ lane from. c.requires.lanes.rest lane (omega (arith, from, len)))
     c.in_ok-passes.ensures.run
@@ -19,7 +19,7 @@ returns-in-Ok-clause-ready g c =
     let len = c.in_ok-passes.ensures.passes.len in
     let one = c.requires.lanes.some in
     let some : 0 < length passes = omega (arith, len, one) in
-    round-ready c.args.settings.now c.args.network.now c.args.round.now c.args.shared.start c.in-Ok.book passes c.in-Ok.ensures.calls
+    round-ready c.args.setup.now.settings.now c.args.setup.now.network.now c.args.round.now c.args.shared.start c.in-Ok.book passes c.in-Ok.ensures.calls
     c.requires.ready c.requires.lanes.kept some
     (λ lane from. c.requires.lanes.rest lane (omega (arith, from, len)))
     c.in_ok-passes.ensures.run

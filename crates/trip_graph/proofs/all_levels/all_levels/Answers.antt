@@ -14,14 +14,14 @@ read_level tau settled sizes k at levels lists all lt same is =
     subst (λ (l : List (List TripOf)). AreLevelsUpTo tau settled k (length settled.vehicles) l) e (all.each k lt)
 
 pub returns-then-first-room : goal.returns-then-first-room
-returns-then-first-room c =
+returns-then-first-room g c =
     let tau = travel_time c.args.growth.now.times.now in
     let settled = c.args.growth.now.settled.now in
     let first = c.in_ok-first.ensures in
     step.more_of_first tau settled c.args.most c.args.room c.in_ok-first.first.lists.items c.requires.most first.level (let a = c.if-first-room.true in let b = first.total in omega arith)
 
 pub loop-size-init : goal.loop-size-init
-loop-size-init c =
+loop-size-init g c =
     let tau = travel_time c.args.growth.now.times.now in
     let settled = c.args.growth.now.settled.now in
     let lists = c.in_ok-first.first.lists.items in
@@ -35,12 +35,12 @@ loop-size-init c =
     }
 
 pub next_level-requires-clause-below : goal.next_level-requires-clause-below
-next_level-requires-clause-below c =
+next_level-requires-clause-below g c κs within =
     rw c.as_slice-below.ensures (read_level (travel_time c.args.growth.now.times.now) c.args.growth.now.settled.now (c.loop-size.size + 1) c.loop-size.size c.from-in-loop-size.result c.loop-size.levels.items c.index.result.now
     c.loop-size.invariant.levels (omega arith) c.from-in-loop-size.ensures c.index.ensures)
 
 pub returns-in_default : goal.returns-in_default
-returns-in_default c =
+returns-in_default g c =
     let tau = travel_time c.args.growth.now.times.now in
     let settled = c.args.growth.now.settled.now in
     let inv = c.loop-size.invariant in
@@ -49,7 +49,7 @@ returns-in_default c =
     (let t = c.loop-size-test.true in omega arith) (let h = inv.counted in let f = inv.fits in omega arith)
 
 pub loop-size-preserved : goal.loop-size-preserved
-loop-size-preserved c =
+loop-size-preserved g c =
     let tau = travel_time c.args.growth.now.times.now in
     let settled = c.args.growth.now.settled.now in
     let inv = c.loop-size.invariant in

@@ -4,7 +4,7 @@ use Rattle.trip_graph.specs.work.Levels.{AreLevels, level_total}
 use Rattle.trip_graph.proofs.all_levels.all_levels.Given as goal
 
 abbrev pub invariant-loop-size : goal.invariant-loop-size
-invariant-loop-size l = record {
+invariant-loop-size g l = record {
   levels : AreLevels (travel_time l.growth.times.now) l.growth.settled.now (l.size + 1) l.levels.items;
   counted : l.total ≡ level_total l.levels.items;
   fits : l.total ≤ l.room;

@@ -1,6 +1,6 @@
 use Rattle.std.proofs.Common.{◌≤◌, length, arith}
 use Rattle.travel_times.proofs.ArcLemmas.{AreCopied-push}
-use Rattle.travel_times.proofs.SearchLemmas.{hops_among}
+use Rattle.travel_times.proofs.lemmas.SearchLemmas.{hops_among}
 use Rattle.travel_times.proofs.arcs.Arcs.of.Goals as goal
 
 pub push_hops-requires : goal.push_hops-requires

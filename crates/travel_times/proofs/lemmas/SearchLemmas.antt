@@ -9,7 +9,7 @@ use Rattle.road_network.specs.declared.hop.Hop.{Hop}
 use Rattle.road_network.specs.Walk.{IsWalk, walk_seconds, IsTimeBetween}
 use Rattle.road_network.specs.Roads.{IsArcAmong, hop_of, leaving}
 use Rattle.travel_times.specs.work.Search.{waits, HasWalkOf, IsSearching, IsNextTaken, IsHopRelaxed, RelaxesHops}
-use Rattle.travel_times.proofs.WalkLemmas.{IsWalk-push, walk_seconds-push, short_walk}
+use Rattle.travel_times.proofs.lemmas.WalkLemmas.{IsWalk-push, walk_seconds-push, short_walk}
 
 -- what a filter keeps passes its test, and what passes is kept
 filter_passes : {X : Type 0} (p : X → Bool) (xs : List X) → All (λ x. p x ≡ true) (filter p xs)

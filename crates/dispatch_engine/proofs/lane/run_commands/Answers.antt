@@ -3,19 +3,19 @@ use Rattle.std.proofs.lemmas.List.{take-append-drop}
 use Rattle.dispatch_engine.specs.Lane.{HasRun, HasBegun}
 use Rattle.dispatch_engine.proofs.PassLemmas.{runs-none, runs-more, begun-after}
 use Rattle.dispatch_engine.proofs.RoundLemmas.{on-err, take_next}
-use Rattle.dispatch_engine.proofs.lane.run_lane.Goals as goal
+use Rattle.dispatch_engine.proofs.lane.run_commands.Goals as goal
 
 pub loop-command-init : goal.loop-command-init
 loop-command-init g c = record {
   own = c.requires.own;
   lane = refl;
-  ran = runs-none c.args.settings.now c.args.network.now c.args.pass.now;
+  ran = runs-none c.args.setup.now.settings.now c.args.setup.now.network.now c.args.pass.now;
 }
 
 pub loop-command-preserved : goal.loop-command-preserved
 loop-command-preserved g c =
-    let settings = c.args.settings.now in
-    let roads = c.args.network.now in
+    let settings = c.args.setup.now.settings.now in
+    let roads = c.args.setup.now.network.now in
     let commands = c.args.commands.now in
     let i = c.loop-command.command-index in
     let command = c.command-item.result in
@@ -29,8 +29,8 @@ loop-command-preserved g c =
 
 pub returns-in_err-run_command-clause-begun : goal.returns-in_err-run_command-clause-begun
 returns-in_err-run_command-clause-begun g c =
-    let settings = c.args.settings.now in
-    let roads = c.args.network.now in
+    let settings = c.args.setup.now.settings.now in
+    let roads = c.args.setup.now.network.now in
     let commands = c.args.commands.now in
     let i = c.loop-command.command-index in
     let command = c.command-item.result in
