@@ -1,0 +1,6 @@
+//! Hub labels.
+#![tactic(auto)]
+
+mod hub;
+
+pub use hub::Hub;
