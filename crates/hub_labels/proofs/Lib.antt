@@ -6,3 +6,8 @@ pub mod Added
 pub mod Keys
 pub mod Query
 pub mod Final
+pub mod Degrees
+pub mod Order
+pub mod Merging
+pub mod HopLemmas
+pub mod Searching

@@ -33,3 +33,9 @@ pub record TurnsHops (node : ℕ) (leaving : List Hop) (count : ℕ) (before aft
       → Contains (slice_index_or before end []) hop ⊎ ((hop.to ≡ node) × ((k : ℕ) × (k < count) × (k < length leaving) × (slice_index_or leaving k (record { to = end; seconds = hop.seconds }) ≡ record { to = end; seconds = hop.seconds })))
   pub keeps : (end : ℕ) (hop : Hop) → Contains (slice_index_or before end []) hop → Contains (slice_index_or after end []) hop
   pub adds : (k : ℕ) (d : Hop) → k < count → k < length leaving → Contains (slice_index_or after (slice_index_or leaving k d).to []) (record { to = node; seconds = (slice_index_or leaving k d).seconds })
+
+-- the arcs from the first k of n nodes, as hops from where they end back to where they begin
+pub record AreTurnedBefore (arcs : List Arc) (n k : ℕ) (hops : List (List Hop)) : Type 0 where
+  pub each : length hops ≡ n
+  pub among : (end : ℕ) (hop : Hop) → end < n → Contains (slice_index_or hops end []) hop → Contains arcs (record { from = hop.to; to = end; seconds = hop.seconds })
+  pub all : (arc : Arc) → Contains arcs arc → arc.from < k → Contains (slice_index_or hops arc.to []) (record { to = arc.from; seconds = arc.seconds })

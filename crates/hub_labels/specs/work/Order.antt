@@ -1,4 +1,4 @@
-use Rattle.std.specs.Prelude.{◌≡◌, ℕ, ◌+◌, ◌-◌, ◌*◌, ◌<◌, List, length, slice_index}
+use Rattle.std.specs.Prelude.{◌≡◌, ℕ, ◌+◌, ◌-◌, ◌*◌, ◌<◌, ◌==◌, ◌&&◌, nat_lt, List, count_by, length, slice_index}
 use Rattle.road_network.specs.declared.arc.Arc.{Arc}
 use Rattle.hub_labels.specs.Rank.{degree}
 
@@ -11,3 +11,7 @@ pub record IsNodeOrder (arcs : List Arc) (n : ℕ) (order : List ℕ) : Type 0 w
   pub within : (r : ℕ) → r < length order → slice_index order r < n
   pub rising : (r s : ℕ) → r < s → s < length order → key_of arcs (slice_index order r) < key_of arcs (slice_index order s)
   pub all : (node : ℕ) → node < n → (r : ℕ) × (r < length order) × (slice_index order r ≡ node)
+
+-- how many arcs from the first k nodes reach a node
+abbrev pub reaching_before : List Arc → ℕ → ℕ → ℕ
+reaching_before arcs k node = count_by (λ arc. arc.to == node && nat_lt arc.from k) arcs
