@@ -11,3 +11,4 @@ pub mod Order
 pub mod Merging
 pub mod HopLemmas
 pub mod Searching
+pub mod Adding

@@ -4,3 +4,4 @@ pub mod Pruned
 pub mod Drafts
 pub mod Common
 pub mod Order
+pub mod Adding

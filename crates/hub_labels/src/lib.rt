@@ -6,9 +6,12 @@ mod draft;
 mod hops;
 mod hub;
 mod label;
+mod labels;
 mod rank;
 mod search;
+mod space;
 mod take;
 mod via;
 
 pub use hub::Hub;
+pub use labels::Labels;

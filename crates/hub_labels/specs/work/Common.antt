@@ -14,3 +14,9 @@ pub record IsLeastInCommon (forward backward : List Hub) (seconds : ℕ) : Type 
       × ((slice_index_or forward i (record { node = 0; seconds = 0 })).seconds + (slice_index_or backward j (record { node = 0; seconds = 0 })).seconds ≡ seconds))
   pub least : (i j : ℕ) (d : Hub) → i < length forward → j < length backward → (slice_index_or forward i d).node ≡ (slice_index_or backward j d).node
       → seconds ≤ (slice_index_or forward i d).seconds + (slice_index_or backward j d).seconds
+
+-- two nodes' ranks differ, and each label rises by rank
+pub record RiseByRank (rank : List ℕ) (forward backward : List (List Hub)) : Type 0 where
+  pub apart : (a b : ℕ) → a < length rank → b < length rank → slice_index rank a ≡ slice_index rank b → a ≡ b
+  pub forward_rising : All (IsRising rank) forward
+  pub backward_rising : All (IsRising rank) backward
