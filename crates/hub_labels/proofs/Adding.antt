@@ -64,7 +64,7 @@ found_range arcs n start labels via seconds pruned node h = ⊎_elim (λ (far : 
 pub adds_hub : (hops : List (List Hop)) (own : List (List Hub)) (start : ℕ) (before after : List (List Hub)) (via taken seconds seconds' : List ℕ) → length hops ≤ 100000 → start < length hops → length via ≡ length hops
     → HasSpread (get_or own start []) (length (get_or own start [])) via
     → ((arcs : List Arc) → All (IsArcAmong (length hops)) arcs → AreNodeHops arcs (length hops) hops → IsPruned arcs (length hops) start before via seconds)
-    → ((node : ℕ) → node < length seconds → slice_index seconds node < never → Contains taken node) → HandsOver start via taken (length taken) seconds before seconds' after → AddsHub hops own start before after
+    → ((node : ℕ) → node < length seconds → slice_index seconds node < never → Contains taken node) → HandsOver start via taken (length taken) seconds before seconds' after → AddsHub (length hops) hops own start before after
 adds_hub hops own start before after via taken seconds seconds' few hs via_each spread found noted hands arcs others rank bound both apart le below labels =
     let n : ℕ = length hops in
     let pruned = found arcs both.among both.placed in

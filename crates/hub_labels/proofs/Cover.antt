@@ -42,7 +42,7 @@ pub cover : (n : ℕ) (time : ℕ → ℕ → ℕ) (rank : ℕ → ℕ) → IsMe
 cover n time rank metric zero a b w ha hb hw short from to = absurd (omega arith)
 cover n time rank metric (suc fuel) a b w ha hb hw short from to =
     let again : (v : ℕ) → v < n → rank v < rank w → time a v ≤ longest → time v b ≤ longest → time a v + time v b ≤ time a w + time w b
-        → (u : ℕ) × (rank u ≤ rank w) × IsCover n time rank a b u (time a w + time w b) = λ v hv low av vb less.
+    → (u : ℕ) × (rank u ≤ rank w) × IsCover n time rank a b u (time a w + time w b) = λ v hv low av vb less.
     let found = cover n time rank metric fuel a b v ha hb hv (omega arith) av vb in
     let lower : rank found.0 ≤ rank v = found.1 in
     let least : time a found.0 + time found.0 b ≤ time a v + time v b = found.2.least in

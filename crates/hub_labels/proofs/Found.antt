@@ -33,11 +33,15 @@ module _ {arcs : List Arc} {n : ℕ} {time : ℕ → ℕ → ℕ} {rank : List �
       let hh : h < n = start_within arcs hub.time.walk n h b among hub.time.walks hb in
       let is = time_is among few are h b s hh hb hub.time in
       let same : s ≡ time h b = is.0 in
-      let finite : time h b ≤ longest = is.1 in
-      (hh, is.0, is.1, λ w hw low e.
-      let from : time h w ≤ longest = omega arith in
-      let to : time w b ≤ longest = omega arith in
-      hub.first w (time h w) (time w b) low (least_is among few are h w hh hw from) (least_is among few are w b hw hb to) (e ∙ sym same))
+      let finite : time h b ≤ longest = is.1 in (
+        hh,
+        is.0,
+        is.1,
+        λ w hw low e.
+            let from : time h w ≤ longest = omega arith in
+            let to : time w b ≤ longest = omega arith in
+            hub.first w (time h w) (time w b) low (least_is among few are h w hh hw from) (least_is among few are w b hw hb to) (e ∙ sym same),
+      )
 
   pub hub_from : (b h : ℕ) → b < n → h < n → time h b ≤ longest → IsClear n time (slice_index rank) h b (slice_index rank h) → IsRankedHub arcs rank b h (time h b)
   hub_from b h hb hh finite clear = record {

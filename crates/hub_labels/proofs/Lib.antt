@@ -12,3 +12,4 @@ pub mod Merging
 pub mod HopLemmas
 pub mod Searching
 pub mod Adding
+pub mod Building

@@ -47,6 +47,7 @@ node_order arcs n keys sorted few each are moved rise =
     get_or-map (λ (key : ℕ). key % 100000) sorted r 0 0 h ∙ ap (λ (k : ℕ). k % 100000) ((from r h).2) ∙ node_of_key arcs (from r h).0 (let l : (from r h).0 < n = (from r h).1 in omega arith) in
     let key_at : (r : ℕ) (h : r < length sorted) → key_of arcs (slice_index (map (λ (key : ℕ). key % 100000) sorted) r) ≡ slice_index sorted r = λ r h. ap (key_of arcs) (node_at r h) ∙ sym ((from r h).2) in
     record {
+      each = long ∙ length_permutation keys sorted moved ∙ each;
       within = λ r h. let inside : r < length sorted = omega (arith, h, long) in rw (node_at r inside) ((from r inside).1);
       rising = λ r s lt h.
           let hs : s < length sorted = omega (arith, h, long) in

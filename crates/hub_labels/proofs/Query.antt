@@ -6,7 +6,7 @@ use Rattle.pool_base.specs.TravelTime.{never, longest}
 use Rattle.road_network.specs.declared.arc.Arc.{Arc}
 use Rattle.road_network.specs.Walk.{IsWalk, walk_seconds, IsLeastTime, IsTimeBetween, HasNoWalk}
 use Rattle.road_network.specs.Roads.{Roads, IsNetwork, IsArcAmong}
-use Rattle.travel_times.proofs.lemmas.WalkLemmas.{IsWalk-append, walk_seconds-append, goal_within}
+use Rattle.travel_times.proofs.lemmas.WalkLemmas.{IsWalk-append, walk_seconds-append, short_walk, goal_within}
 use Rattle.hub_labels.specs.declared.hub.Hub.{Hub}
 use Rattle.hub_labels.specs.Label.{IsForwardHub, IsBackwardHub, IsLabel}
 use Rattle.hub_labels.specs.Labels.{NodeLabels, AreLabelsOf, label_at}
@@ -108,3 +108,14 @@ pub time_by_labels : (roads : Roads) (labels : NodeLabels) (a b s : ℕ) → Are
 time_by_labels roads labels a b s of ha hb common =
     let times = times_of roads.arcs (length roads.nodes) of.network.arcs of.network.few_nodes in
     time_in_common of.network.arcs of.network.few_nodes of.network.few_arcs times.1 ha hb (of.forward a ha) (of.backward b hb) common
+
+-- no walk takes the time that stands for none
+pub no_walk_at_never : (roads : Roads) (a b s : ℕ) → IsNetwork roads → a < length roads.nodes → IsTimeBetween roads.arcs a b s → s ≡ never → HasNoWalk roads.arcs a b
+no_walk_at_never roads a b s network ha time far = ⊎_elim
+    (λ (least : IsLeastTime roads.arcs a b s).
+    let short = short_walk roads.arcs least.walk (length roads.nodes) a b network.arcs network.few_nodes ha least.walks in
+    let le : s ≤ walk_seconds short.0 = least.least short.0 short.1 in
+    let most : walk_seconds short.0 ≤ 999990000 = short.3 in
+    absurd (omega arith))
+    (λ none. none.0)
+    time

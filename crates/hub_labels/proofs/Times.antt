@@ -25,14 +25,18 @@ first_waiting (false ∷ rest) =
 -- hops can be relaxed
 relax_exists : (hops : List Hop) (count here : ℕ) (s : List ℕ) (w : List Bool) → length w ≡ length s → All (λ hop. (hop.to < length s) × (hop.seconds ≤ 10000)) hops → count ≤ length hops
     → (s' : List ℕ) × (w' : List Bool) × RelaxesHops hops count here s w s' w'
-relax_exists hops zero here s w lengths among within = (s, w, record {
-  seconds_length = refl;
-  waiting_length = refl;
-  no_later = λ node. omega arith;
-  from = λ node. inl (refl, refl);
-  relaxed = λ k d lt h. absurd (omega arith);
-  less = omega arith;
-})
+relax_exists hops zero here s w lengths among within = (
+  s,
+  w,
+  record {
+    seconds_length = refl;
+    waiting_length = refl;
+    no_later = λ node. omega arith;
+    from = λ node. inl (refl, refl);
+    relaxed = λ k d lt h. absurd (omega arith);
+    less = omega arith;
+  },
+)
 relax_exists hops (suc count) here s w lengths among within =
     let before = relax_exists hops count here s w lengths among (omega arith) in
     let inv : RelaxesHops hops count here s w before.0 before.1 = before.2 in
@@ -132,11 +136,14 @@ module _ {arcs : List Arc} {n : ℕ} {time : ℕ → ℕ → ℕ} (among : All (
   -- a walk takes at least the travel time
   pub time_least : (a b : ℕ) (walk : List Arc) → a < n → b < n → IsWalk arcs a walk b → (time a b ≤ walk_seconds walk) × (time a b ≤ longest)
   time_least a b walk ha hb walks = ⊎_elim
-      (λ (least : IsLeastTime arcs a b (time a b)). (least.least walk walks, ⊎_elim (λ (h : time a b ≤ longest). h) (λ (e : time a b ≡ never).
-      let short = short_walk arcs least.walk n a b among few ha least.walks in
-      let le : time a b ≤ walk_seconds short.0 = least.least short.0 short.1 in
-      let most : walk_seconds short.0 ≤ 999990000 = short.3 in
-      absurd (omega arith)) (time_range a b ha hb)))
+      (λ (least : IsLeastTime arcs a b (time a b)). (
+        least.least walk walks,
+        ⊎_elim (λ (h : time a b ≤ longest). h) (λ (e : time a b ≡ never).
+            let short = short_walk arcs least.walk n a b among few ha least.walks in
+            let le : time a b ≤ walk_seconds short.0 = least.least short.0 short.1 in
+            let most : walk_seconds short.0 ≤ 999990000 = short.3 in
+            absurd (omega arith)) (time_range a b ha hb),
+      ))
       (λ none. absurd (none.0 walk walks))
       (are a b ha hb)
 

@@ -1,4 +1,4 @@
-ghost use Rattle.std.specs.Prelude.{◌≡◌, ℕ, ◌<◌, [], IfOk, MatchOption, length, replicate};
+ghost use Rattle.std.specs.Prelude.{◌≡◌, ◌==◌, ℕ, ◌<◌, [], IfOk, MatchOption, length, replicate};
 ghost use Rattle.road_network.specs.Roads.{Roads};
 ghost use Rattle.road_network.specs.Walk.{HasNoWalk, IsLeastTime, IsTimeBetween};
 ghost use Rattle.hub_labels.specs.Labels.{AreLabelsOf, label_at};
@@ -58,6 +58,21 @@ impl Labels {
             forward,
             backward,
         })
+    }
+
+    /// How many nodes have labels.
+    pub fn len(&self) -> usize
+        ensures forward { result ≡ length self.now.forward }
+        ensures backward { result ≡ length self.now.backward }
+    {
+        self.forward.len()
+    }
+
+    /// Whether there is no node.
+    pub fn is_empty(&self) -> bool
+        ensures { result ≡ (length self.now.forward == 0) }
+    {
+        self.forward.is_empty()
     }
 
     /// The hubs that a node reaches, by rank, with the seconds to them.

@@ -11,6 +11,8 @@ mod rank;
 mod search;
 mod space;
 mod take;
+#[cfg(test)]
+mod tests;
 mod via;
 
 pub use hub::Hub;

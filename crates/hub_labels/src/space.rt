@@ -58,7 +58,7 @@ pub(crate) fn add_hub(
     requires labels { (length labels.old ≡ length hops.now) × All (λ label. All (λ hub. hub.node < length hops.now) label) labels.old }
     requires start { start < length hops.now }
     ensures clean { OnOk result (IsClean (length hops.entry.now) space.new.seconds.items space.new.waiting.items space.new.taken.items space.new.via.items) }
-    ensures added { OnOk result (AddsHub hops.entry.now own.entry.now start labels.old labels.new) }
+    ensures added { OnOk result (AddsHub (length hops.entry.now) hops.entry.now own.entry.now start labels.old labels.new) }
 {
     spread(own[start].as_slice(), &mut space.via);
     search(

@@ -26,9 +26,9 @@ pub record AreHopsBothWays (n : ℕ) (arcs others : List Arc) (hops : List (List
   pub back : (arc : Arc) → Contains others arc → Contains arcs (turned arc)
   pub placed : AreNodeHops arcs n hops
 
--- labels that have the hubs of lower rank than the start come to have the start, too
-abbrev pub AddsHub : List (List Hop) → List (List Hub) → ℕ → List (List Hub) → List (List Hub) → Type 0
-AddsHub hops own start before after = (arcs others : List Arc) (rank : List ℕ) (bound : ℕ) → AreHopsBothWays (length hops) arcs others hops
-    → ((a b : ℕ) → a < length hops → b < length hops → slice_index rank a ≡ slice_index rank b → a ≡ b)
-    → slice_index rank start ≤ bound → AreLabelsBelow others rank (length hops) bound own
-    → AreLabelsBelow arcs rank (length hops) (slice_index rank start) before → AreLabelsBelow arcs rank (length hops) (slice_index rank start + 1) after
+-- labels of n nodes that have the hubs of lower rank than the start come to have the start, too
+abbrev pub AddsHub : ℕ → List (List Hop) → List (List Hub) → ℕ → List (List Hub) → List (List Hub) → Type 0
+AddsHub n hops own start before after = (arcs others : List Arc) (rank : List ℕ) (bound : ℕ) → AreHopsBothWays n arcs others hops
+    → ((a b : ℕ) → a < n → b < n → slice_index rank a ≡ slice_index rank b → a ≡ b)
+    → slice_index rank start ≤ bound → AreLabelsBelow others rank n bound own
+    → AreLabelsBelow arcs rank n (slice_index rank start) before → AreLabelsBelow arcs rank n (slice_index rank start + 1) after

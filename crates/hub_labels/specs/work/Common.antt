@@ -17,6 +17,7 @@ pub record IsLeastInCommon (forward backward : List Hub) (seconds : ℕ) : Type 
 
 -- two nodes' ranks differ, and each label rises by rank
 pub record RiseByRank (rank : List ℕ) (forward backward : List (List Hub)) : Type 0 where
+  pub backward_each : length backward ≡ length forward
   pub apart : (a b : ℕ) → a < length rank → b < length rank → slice_index rank a ≡ slice_index rank b → a ≡ b
   pub forward_rising : All (IsRising rank) forward
   pub backward_rising : All (IsRising rank) backward

@@ -8,6 +8,7 @@ key_of arcs node = (1000000 - degree arcs node) * 100000 + node
 
 -- the first n nodes, by rank
 pub record IsNodeOrder (arcs : List Arc) (n : ℕ) (order : List ℕ) : Type 0 where
+  pub each : length order ≡ n
   pub within : (r : ℕ) → r < length order → slice_index order r < n
   pub rising : (r s : ℕ) → r < s → s < length order → key_of arcs (slice_index order r) < key_of arcs (slice_index order s)
   pub all : (node : ℕ) → node < n → (r : ℕ) × (r < length order) × (slice_index order r ≡ node)

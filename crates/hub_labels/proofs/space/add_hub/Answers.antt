@@ -30,9 +30,11 @@ returns-clause-clean c =
     let seconds_each' : length c.hand_over.new.seconds ≡ c.args.space.now.seconds.len = hands.seconds_length ∙ seconds_each in
     let waiting_each : length c.search.new.waiting ≡ c.args.space.now.waiting.len = omega (arith, c.search.auto.waiting, ap length c.deref_mut-3.ensures.value, s.waiting.ok.0) in
     let via_each' : length c.clear.new.via ≡ c.args.space.now.via.len = c.clear.auto.via ∙ ap length (c.deref_mut-5.ensures.value ∙ held s.via.len c.spread.new.via s.via.items via_each) ∙ via_each in
-    rw (held s.seconds.len c.hand_over.new.seconds (take s.seconds.len (c.search.new.seconds ++ drop (length c.search.new.seconds) s.seconds.items)) seconds_each',
-    held s.waiting.len c.search.new.waiting s.waiting.items waiting_each,
-    held s.via.len c.clear.new.via (take s.via.len (c.spread.new.via ++ drop (length c.spread.new.via) s.via.items)) via_each')
+    rw (
+      held s.seconds.len c.hand_over.new.seconds (take s.seconds.len (c.search.new.seconds ++ drop (length c.search.new.seconds) s.seconds.items)) seconds_each',
+      held s.waiting.len c.search.new.waiting s.waiting.items waiting_each,
+      held s.via.len c.clear.new.via (take s.via.len (c.spread.new.via ++ drop (length c.spread.new.via) s.via.items)) via_each',
+    )
     (record {
       seconds_each = omega (arith, seconds_each', s.seconds.ok.0, clean.seconds_each);
       seconds_none = All-from_get_or (λ (x : ℕ). x ≡ never) c.hand_over.new.seconds 0 (λ node h. (handed n c.args.start c.spread.new.via c.search.new.taken.items c.search.new.seconds c.args.labels.now c.hand_over.new.seconds c.hand_over.new.labels pruned.each (found_range c.requires.hops.0 n c.args.start c.args.labels.now c.spread.new.via c.search.new.seconds pruned) c.in_ok-search.ensures.noted hands node (omega (arith, h, hands.seconds_length, pruned.each))).0);
