@@ -1,5 +1,5 @@
 -- The first-fit pass over a list of the rider's rows.
-use Rattle.std.proofs.Common.{◌≡◌, ◌==◌, ◌⊎◌, ◌&&◌, ◌||◌, ℕ, zero, suc, ◌+◌, ◌<◌, ◌≤◌, Bool, true, false, List, [], ◌∷◌, length, get_or, Option, Some, None, ℤ, pos, ◌≤ℤ◌, refl, sym, ap, ◌∙◌, subst, ⊎_elim, inl, inr, arith, eqb-true, eq-eqb}
+use Rattle.std.proofs.Common.{◌≡◌, ◌==◌, ◌⊎◌, ◌&&◌, ◌||◌, ℕ, suc, ◌+◌, ◌<◌, ◌≤◌, Bool, true, false, List, [], ◌∷◌, length, get_or, Option, Some, None, ℤ, ◌≤ℤ◌, refl, sym, ap, ◌∙◌, subst, ⊎_elim, inl, inr, arith, eqb-true}
 use Rattle.std.specs.List.{list_any}
 use Rattle.std.specs.Int.{int_min}
 use Rattle.std.specs.Prelude.{int_lt}

@@ -7,8 +7,8 @@ ghost use Rattle.dual_bound.specs.Size.{IsCost, IsModest, HasLeastCosts};
 ghost use Rattle.dual_bound.specs.Index.{IsIndexOf, ListsAll, IsRowListed};
 
 use crate::cheapest::least_costs;
-use linear_relaxation::RowTable;
 use crate::rider_index::RiderIndex;
+use linear_relaxation::RowTable;
 use plan_rules::{Multipliers, TripGraph, TripRow};
 use pool_base::OutOfMemory;
 use std::alloc::Global;

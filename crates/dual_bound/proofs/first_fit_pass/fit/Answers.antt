@@ -1,4 +1,4 @@
-use Rattle.std.proofs.Common.{◌≡◌, ℕ, ◌<◌, List, length, get_or, set, pos, ℤ, sym, ap, ◌∙◌, subst, arith, w64, to_z, of_z}
+use Rattle.std.proofs.Common.{◌≡◌, ℕ, ◌<◌, length, set, ℤ, sym, ap, ◌∙◌, subst, arith, w64, to_z, of_z}
 use Rattle.std.proofs.lemmas.Int.{to_z-of_z}
 use Rattle.plan_rules.specs.Multipliers.{usable_of, multiplier_at, first_fit_below}
 use Rattle.dual_bound.specs.Size.{IsModest}

@@ -1,4 +1,4 @@
-use Rattle.std.proofs.Common.{◌≡◌, ℕ, length}
+use Rattle.std.proofs.Common.{◌≡◌, ℕ}
 use Rattle.plan_rules.specs.Multipliers.{usable_of, multiplier_at, first_fit_below}
 use Rattle.dual_bound.specs.Size.{IsModest}
 use Rattle.dual_bound.proofs.first_fit_pass.fit.Given as goal

@@ -1,6 +1,6 @@
-use Rattle.std.proofs.Common.{◌≡◌, ◌&&◌, ℕ, suc, ◌+◌, ◌<◌, Bool, true, false, List, length, get_or, Option, Some, ℤ, IfSome, neg_ℤ, pos, ◌≤ℤ◌, sym, ap, ◌∙◌, subst, arith, w64, to_z, of_z}
-use Rattle.std.proofs.lemmas.Int.{ints, to_z-of_z}
-use Rattle.plan_rules.specs.Sums.{least_below, lesser}
+use Rattle.std.proofs.Common.{◌≡◌, ◌&&◌, ℕ, ◌+◌, Bool, List, length, get_or, Option, Some, ℤ, IfSome, neg_ℤ, pos, ◌≤ℤ◌, sym, ap, ◌∙◌, subst, arith, w64, to_z, of_z}
+use Rattle.std.proofs.lemmas.Int.{to_z-of_z}
+use Rattle.plan_rules.specs.Sums.{lesser}
 use Rattle.plan_rules.specs.Graph.{has_rider}
 use Rattle.plan_rules.specs.Multipliers.{usable_of, room_at}
 use Rattle.dual_bound.proofs.ListedLemmas.{IsLeastListed, listed_take, listed_pass, listed_done}

@@ -1,4 +1,4 @@
-use Rattle.std.proofs.Common.{◌≡◌, ◌&&◌, ℕ, suc, length, get_or, IfSome, neg_ℤ, pos, ◌≤ℤ◌}
+use Rattle.std.proofs.Common.{◌&&◌, length, get_or, IfSome, neg_ℤ, pos, ◌≤ℤ◌}
 use Rattle.plan_rules.specs.Graph.{has_rider}
 use Rattle.plan_rules.specs.Multipliers.{usable_of, room_at}
 use Rattle.dual_bound.proofs.ListedLemmas.{IsLeastListed}

@@ -1,4 +1,4 @@
-use Rattle.std.proofs.Common.{◌≡◌, ℕ, ◌<◌, ℤ, get_or, pos, ◌-ℤ◌, ◌*ℤ◌, sym, ap, ◌∙◌, arith, w64, to_z, of_z}
+use Rattle.std.proofs.Common.{◌≡◌, ◌<◌, ℤ, pos, ◌-ℤ◌, ◌*ℤ◌, ap, ◌∙◌, arith, w64, to_z, of_z}
 use Rattle.std.proofs.lemmas.Int.{to_z-of_z}
 use Rattle.plan_rules.specs.Graph.{row_at}
 use Rattle.plan_rules.specs.Multipliers.{usable_of, least_cost, multiplier_sum}

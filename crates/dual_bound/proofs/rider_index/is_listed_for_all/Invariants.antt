@@ -1,4 +1,4 @@
-use Rattle.std.proofs.Common.{◌≡◌, ℕ, ◌<◌, length, get_or}
+use Rattle.std.proofs.Common.{ℕ, ◌<◌, get_or}
 use Rattle.dual_bound.specs.Index.{IsListed}
 use Rattle.dual_bound.proofs.rider_index.is_listed_for_all.Given as goal
 

@@ -1,4 +1,4 @@
-use Rattle.std.proofs.Common.{◌≡◌, ℕ, ◌<◌, length, get_or}
+use Rattle.std.proofs.Common.{ℕ, ◌<◌, length, get_or}
 use Rattle.plan_rules.specs.Graph.{riders_at}
 use Rattle.dual_bound.specs.Index.{IsListed}
 use Rattle.dual_bound.proofs.rider_index.lists_all.Given as goal
