@@ -1,8 +1,8 @@
 //! A plan from the relaxation: rows that it chooses nearly whole are taken, and it is solved again.
 use crate::bans::{Bans, has_choice};
+use crate::draws::Draws;
 use crate::ranks::{place_of, rank_of};
 use crate::whole::whole_plan;
-use crate::draws::Draws;
 use linear_relaxation::{Relaxation, RowTable, Share};
 use pool_base::OutOfMemory;
 use std::alloc::Global;

@@ -1,9 +1,9 @@
 //! The best plan of a part of a graph, by a small search of its own.
 use crate::branching::Effort;
 use crate::diving::dive;
+use crate::draws::Draws;
 use crate::tree::{DraftTree, Growth, seconds_of};
 use crate::whole::plan_cost;
-use crate::draws::Draws;
 use linear_relaxation::{Relaxation, RowTable};
 use pool_base::OutOfMemory;
 use std::alloc::Global;

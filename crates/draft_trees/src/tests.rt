@@ -42,7 +42,14 @@ fn dived(alloc: Global) -> Result<usize, OutOfMemory> {
     let mut relaxation = Relaxation::new(alloc, &table, &[Some(0), Some(3), Some(5)])?;
     relaxation.fill_pool_whole(&table)?;
     let basis = Vec::from_slice(alloc, relaxation.columns())?;
-    let plan = dive(alloc, &table, &mut relaxation, &basis, &mut Draws::new(1), true)?;
+    let plan = dive(
+        alloc,
+        &table,
+        &mut relaxation,
+        &basis,
+        &mut Draws::new(1),
+        true,
+    )?;
     match plan {
         None => Ok(0),
         Some(plan) => Ok(plan.len()),

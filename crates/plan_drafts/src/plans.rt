@@ -18,13 +18,13 @@ mod rounding;
 mod tests;
 
 use crate::plans::annealing::Annealing;
-use draft_trees::Draws;
 use crate::plans::flat::{at, narrow, put};
 use crate::plans::merge::{Wanted, solve};
 use crate::plans::neighbourhood::Neighbourhood;
 use crate::plans::present::Present;
 use crate::plans::regrets::Regrets;
 use crate::plans::rounding::round;
+use draft_trees::Draws;
 use linear_relaxation::{RowTable, Share};
 use pool_base::OutOfMemory;
 use std::alloc::Global;

@@ -6,9 +6,9 @@
 
 use crate::plans::beside::Beside;
 use crate::plans::cooling::{Chances, Cooling};
-use draft_trees::Draws;
 use crate::plans::flat::{Groups, NONE, at, narrow, put};
 use crate::plans::regrets::Regrets;
+use draft_trees::Draws;
 use linear_relaxation::RowTable;
 use pool_base::OutOfMemory;
 use std::alloc::Global;

@@ -1,7 +1,7 @@
 //! How warm an annealing is, and which losses it takes.
 
-use draft_trees::Draws;
 use crate::plans::flat::at;
+use draft_trees::Draws;
 use pool_base::OutOfMemory;
 use std::alloc::Global;
 

@@ -1,9 +1,9 @@
 //! Some vehicles and some of their rows as a small table of their own.
 
-use draft_trees::solve_part;
 use crate::plans::flat::{NONE, at, narrow, put};
 use crate::plans::present::Present;
 use crate::plans::regrets::Regrets;
+use draft_trees::solve_part;
 use linear_relaxation::RowTable;
 use pool_base::OutOfMemory;
 use std::alloc::Global;

@@ -4,10 +4,10 @@
 //! rows. It begins at a rider who is left out, or at a vehicle with regret.
 
 use crate::plans::choices::Choices;
-use draft_trees::Draws;
 use crate::plans::flat::{at, narrow, put};
 use crate::plans::present::Present;
 use crate::plans::regrets::Regrets;
+use draft_trees::Draws;
 use pool_base::OutOfMemory;
 use std::alloc::Global;
 
