@@ -15,6 +15,7 @@ use Rattle.plan_rules.proofs.lemmas.GraphLemmas.{times_served_as_count, times_se
 use Rattle.plan_rules.proofs.lemmas.PlanLemmas.{has_choice}
 use Rattle.plan_rules.proofs.lemmas.DualityLemmas.{multiplier_sum_is}
 use Rattle.dual_bound.proofs.lemmas.FirstFitLemmas.{length-first_fit}
+use Rattle.dual_bound.proofs.lemmas.FirstFitValueLemmas.{first_fit_leaves_room, rider_term_is}
 use Rattle.assignment_search.specs.Growth.{HasUsable, IsFixed, IsSolePlan}
 
 same_some : (j k : ℕ) → Some j ≡ Some k → j ≡ k
@@ -171,14 +172,7 @@ module _ (g : Graph) (u : Usable) (chosen : List (Option ℕ)) (good : IsGoodGra
 -- a rider's term is at least her multiplier where she is served, and the penalty where she is left out
 rider_term_ge : (g : Graph) (ms : List ℤ) (r t : ℕ) → multiplier_at ms r ≤ℤ pos (1024 * g.penalty) → (t ≡ 0 → multiplier_at ms r ≡ pos (1024 * g.penalty)) → (part (ltb 0 t) (multiplier_at ms r) +ℤ pos (1024 * (g.penalty * flag (t == 0)))) ≤ℤ rider_term g ms r
 rider_term_ge g ms r t most all =
-    let least = int_min_is (multiplier_at ms r) (pos (1024 * g.penalty)) in
-    let term : rider_term g ms r ≡ multiplier_at ms r =
-    ⊎_elim
-    (λ (must : must_be_served g r ≡ true). cond-true (must_be_served g r) (multiplier_at ms r) (int_min (multiplier_at ms r) (pos (1024 * g.penalty))) must)
-    (λ (may : must_be_served g r ≡ false).
-    let is : rider_term g ms r ≡ int_min (multiplier_at ms r) (pos (1024 * g.penalty)) = cond-false (must_be_served g r) (multiplier_at ms r) (int_min (multiplier_at ms r) (pos (1024 * g.penalty))) may in
-    omega (arith, ints))
-    (cases_Bool (must_be_served g r)) in
+    let term : rider_term g ms r ≡ multiplier_at ms r = rider_term_is g ms r most in
     ⊎_elim
     (λ (left : t ≡ 0).
     let served : part (ltb 0 t) (multiplier_at ms r) ≡ pos 0 = cond-false (ltb 0 t) (multiplier_at ms r) (pos 0) (le-ltb 0 t (omega arith)) in
@@ -225,13 +219,6 @@ first_fit_read g u (suc n) r l =
     (λ (other : r ≡ n → ⊥). get_or_append_left before (next ∷ []) (pos 0) r (omega (arith, l, other, long)) ∙ first_fit_read g u n r (omega (arith, l, other)))
     (cases_eq r n)
 
-first_fit_most : (g : Graph) (u : Usable) (r : ℕ) → r < g.riders → multiplier_at (first_fit g u) r ≤ℤ pos (1024 * g.penalty)
-first_fit_most g u r l =
-    let is = first_fit_read g u g.riders r l in
-    let most : first_fit_of g u (first_fit_below g u r) r ≤ℤ pos (1024 * g.penalty) =
-    lesser-le_right (least_below (length g.rows) (λ k. u k && has_rider g k r) (room_at g u (first_fit_below g u r))) (pos (1024 * g.penalty)) in
-    subst (λ (z : ℤ). z ≤ℤ pos (1024 * g.penalty)) (sym is) most
-
 first_fit_left : (g : Graph) (u : Usable) (r : ℕ) → r < g.riders → ((k : ℕ) → k < length g.rows → u k ≡ true → has_rider g k r ≡ true → ⊥) → multiplier_at (first_fit g u) r ≡ pos (1024 * g.penalty)
 first_fit_left g u r l nowhere =
     first_fit_read g u g.riders r l
@@ -256,7 +243,7 @@ module _ (g : Graph) (u : Usable) (chosen : List (Option ℕ)) (good : IsGoodGra
   unfolding leaf_value cost_of
   value_reaches =
       let vehicles = vehicles_are g u chosen good sized sole fixed has alive (first_fit g u) in
-      let riders = riders_ge g (first_fit g u) chosen (first_fit_most g u)
+      let riders = riders_ge g (first_fit g u) chosen (λ r l. (first_fit_leaves_room g u good).most r)
       (λ r l none. first_fit_left g u r l (λ k low may e. omega (arith, none, sole_serves g u chosen good sized sole fixed has alive r k low may e))) in
       omega (arith, ints)
 

@@ -5,7 +5,7 @@ ghost use Rattle.plan_rules.specs.Tree.{IsDeadEnd};
 ghost use Rattle.dual_bound.specs.Index.{IsIndexOf};
 ghost use Rattle.assignment_search.specs.Growth.{IsJudged, IsNewEnd, IsNewLeaf};
 
-use dual_bound::{RiderIndex, first_fit_by, leaf_value};
+use dual_bound::{RiderIndex, first_fit_by, first_fit_ceiling, leaf_value};
 use plan_rules::{Multipliers, Node, TripGraph, is_dead_end};
 use pool_base::OutOfMemory;
 use std::alloc::Global;
@@ -55,7 +55,7 @@ pub fn new_end(
 }
 
 /// The best of the first-fit multipliers, the parent's and those that are suggested, if there are as many
-/// of those as riders.
+/// of those as riders. The first-fit ones are made only where they could be the best.
 pub fn best_of(
     alloc: Global,
     graph: &TripGraph,
@@ -71,15 +71,44 @@ pub fn best_of(
     ensures first_fit { IfOk result (λ best. first_fit_value graph.now (usable_of allowed.now) ≤ℤ best.value) }
     ensures inherited { IfOk result (λ best. leaf_value graph.now (usable_of allowed.now) parent.now ≤ℤ best.value) }
 {
-    let multipliers = first_fit_by(alloc, graph, index, allowed)?;
-    let value = leaf_value(graph, allowed, multipliers.as_slice());
-    let fitted = Judged { multipliers, value };
-    let inherited = Multipliers::of(Vec::from_slice(alloc, parent)?);
-    let better = better_of(graph, allowed, fitted, inherited);
-    if suggested.len() != graph.rider_count() {
-        return Ok(better);
+    let best = best_told(alloc, graph, allowed, parent, suggested)?;
+    if first_fit_ceiling(alloc, graph, allowed)? <= best.value {
+        return Ok(best);
     }
-    Ok(better_of(graph, allowed, better, Multipliers::of(suggested)))
+    let fitted = first_fit_by(alloc, graph, index, allowed)?;
+    Ok(better_of(graph, allowed, best, fitted))
+}
+
+/// The better of the parent's multipliers and those that are suggested, if there are as many of those as
+/// riders.
+fn best_told(
+    alloc: Global,
+    graph: &TripGraph,
+    allowed: &[bool],
+    parent: &[i64],
+    suggested: Vec<i64>,
+) -> Result<Judged, OutOfMemory>
+    requires allowed { length allowed.now ≡ length graph.now.rows }
+    requires parent { length parent.now ≡ graph.now.riders }
+    ensures judged { IfOk result (λ best. IsJudged graph.now (usable_of allowed.now) best.multipliers best.value) }
+    ensures inherited { IfOk result (λ best. leaf_value graph.now (usable_of allowed.now) parent.now ≤ℤ best.value) }
+{
+    let inherited = Multipliers::of(Vec::from_slice(alloc, parent)?);
+    let told = judge(graph, allowed, inherited);
+    if suggested.len() != graph.rider_count() {
+        return Ok(told);
+    }
+    Ok(better_of(graph, allowed, told, Multipliers::of(suggested)))
+}
+
+fn judge(graph: &TripGraph, allowed: &[bool], multipliers: Multipliers) -> Judged
+    requires allowed { length allowed.now ≡ length graph.now.rows }
+    requires multipliers { length multipliers ≡ graph.now.riders }
+    ensures judged { IsJudged graph.now (usable_of allowed.now) result.multipliers result.value }
+    ensures value { leaf_value graph.now (usable_of allowed.now) multipliers ≤ℤ result.value }
+{
+    let value = leaf_value(graph, allowed, multipliers.as_slice());
+    Judged { multipliers, value }
 }
 
 /// The multipliers of greater leaf value.

@@ -2,8 +2,9 @@
 ghost use Rattle.std.specs.Prelude.{◌<◌, IfOk, IfSome};
 ghost use Rattle.plan_rules.specs.Plan.{IsLawful, cost_of};
 
-use crate::draft::{DraftTree, make_draft};
-use dual_bound::RowTable;
+use draft_trees::DraftTree;
+use linear_relaxation::RowTable;
+use plan_drafts::make_draft;
 use plan_rules::{Plan, TripGraph, cost_of, is_lawful};
 use pool_base::OutOfMemory;
 use std::alloc::Global;

@@ -7,7 +7,6 @@
 mod branch_and_bound;
 mod branching;
 mod child;
-mod draft;
 mod exchange;
 mod first_plan;
 mod found;
@@ -15,7 +14,6 @@ mod growth;
 mod guide;
 mod lowest_leaf;
 mod parting;
-mod plans;
 mod root;
 mod sole_plan;
 mod standing;

@@ -1,6 +1,9 @@
-use crate::{Passenger, Snapshot, Vehicle};
+ghost use Rattle.std.specs.Prelude.{◌≡◌, ◌≢◌, []};
+ghost use Rattle.batch_snapshot.specs.Vehicle.{HasSeats};
+
+use crate::{Passenger, Rider, Snapshot, Vehicle, copied_vehicles};
 use arrayvec::ArrayVec;
-use pool_base::{NodeId, Party, RiderId, Second, Sequence, VehicleId};
+use pool_base::{NodeId, OutOfMemory, Party, RiderId, Second, Sequence, VehicleId};
 use std::alloc::Global;
 use std::test::Fail;
 
@@ -52,13 +55,82 @@ fn names_each_node_once(rt: HostRuntime) -> Result<(), Fail> {
     Ok(())
 }
 
+/// A batch of this vehicle with nobody aboard, this rider, and one whose wait ended.
+fn one_of_each(
+    alloc: Global,
+    vehicle: Vehicle,
+    rider: Rider,
+    expired: RiderId,
+) -> Result<Snapshot, OutOfMemory>
+    requires seats { HasSeats vehicle }
+    requires alone { vehicle.aboard.items ≡ [] }
+    requires apart { rider.id ≢ expired }
+{
+    Ok(Snapshot {
+        batch: 3,
+        now: rider.time,
+        vehicles: Sequence::of(vec![in alloc; vehicle]?),
+        riders: Sequence::of(vec![in alloc; rider]?),
+        expired: Sequence::of(vec![in alloc; expired]?),
+    })
+}
+
+fn asking(id: RiderId) -> Rider
+    ensures { result.id ≡ id }
+{
+    Rider {
+        id,
+        origin: node(9),
+        destination: node(7),
+        time: Second::default(),
+        party: Party::ONE,
+        promise: None,
+    }
+}
+
+fn empty_vehicle() -> Vehicle
+    ensures seats { HasSeats result }
+    ensures alone { result.aboard.items ≡ [] }
+{
+    Vehicle {
+        id: VehicleId::default(),
+        seats: 4,
+        node: node(8),
+        time: Second::default(),
+        aboard: ArrayVec::new(),
+    }
+}
+
+/// A batch with a vehicle, a rider and one whose wait ended.
+fn small_batch(alloc: Global) -> Result<Snapshot, OutOfMemory> {
+    let asks = rider_id(1);
+    let expired = rider_id(2);
+    if asks == expired {
+        return Err(OutOfMemory);
+    }
+    one_of_each(alloc, empty_vehicle(), asking(asks), expired)
+}
+
+/// Whether a copy tells the same, and how many nodes are named.
+fn copied(alloc: Global, snapshot: &Snapshot) -> Result<(bool, usize), OutOfMemory> {
+    let copy = snapshot.copy(alloc)?;
+    let points = snapshot.points(alloc)?;
+    Ok((copy.same(snapshot), points.nodes().len()))
+}
+
 #[test]
 fn answers_with_memory(rt: HostRuntime) -> Result<(), Fail> {
-    let snapshot = empty_snapshot(rt.alloc(), 3);
-    let copy = snapshot.copy(rt.alloc())?;
-    assert!(rt; copy.same(&snapshot));
-    assert!(rt; !copy.same(&empty_snapshot(rt.alloc(), 4)));
-    let points = snapshot.points(rt.alloc())?;
-    assert_eq!(rt; points.place(node(1)), None);
+    let batch = small_batch(rt.alloc())?;
+    assert_eq!(rt; copied(rt.alloc(), &batch)?, (true, 3));
+    let vehicles = copied_vehicles(rt.alloc(), batch.vehicles.as_slice())?;
+    assert_eq!(rt; vehicles.len(), 1);
+    Ok(())
+}
+
+#[test]
+fn batches_of_other_numbers_differ(rt: HostRuntime) -> Result<(), Fail> {
+    let third = empty_snapshot(rt.alloc(), 3);
+    assert!(rt; third.same(&empty_snapshot(rt.alloc(), 3)));
+    assert!(rt; !third.same(&empty_snapshot(rt.alloc(), 4)));
     Ok(())
 }

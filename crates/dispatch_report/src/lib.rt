@@ -13,6 +13,8 @@ mod lines;
 mod reply;
 mod round;
 mod summary;
+#[cfg(test)]
+mod tests;
 mod words;
 
 pub use fault::ReportFault;

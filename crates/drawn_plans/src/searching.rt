@@ -3,7 +3,8 @@ use crate::wide::wide_graph;
 use crate::worked::{one_held, three_pairs};
 use assignment_search::search;
 use bound_checker::check;
-use dual_bound::{Relaxation, RowTable, leaf_value};
+use dual_bound::leaf_value;
+use linear_relaxation::{Relaxation, RowTable};
 use plan_rules::TripGraph;
 use pool_base::OutOfMemory;
 use rand_xoshiro::Xoshiro256PlusPlus;
@@ -68,11 +69,8 @@ fn value_after(alloc: Global, graph: &TripGraph, most: u64) -> Result<i128, OutO
     relaxation.set_most_pivots(most);
     relaxation.solve(&table, i64::MAX, 20, u32::MAX)?;
     let allowed = vec![in alloc; true; graph.rows().len()]?;
-    let multipliers = relaxation.multipliers();
-    if multipliers.len() != graph.rider_count() {
-        return Err(OutOfMemory);
-    }
-    Ok(leaf_value(graph, &allowed, multipliers))
+    let multipliers = relaxation.multipliers(alloc, graph.rider_count())?;
+    Ok(leaf_value(graph, &allowed, &multipliers))
 }
 
 /// Whether values that were broken off are no more than the whole one, which is above this.

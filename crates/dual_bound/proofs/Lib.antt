@@ -1,3 +1,4 @@
 pub mod lemmas
 pub mod ClimbLemmas
 pub mod ListedLemmas
+pub mod CeilingLemmas

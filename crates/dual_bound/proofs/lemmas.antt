@@ -1,1 +1,2 @@
 pub mod FirstFitLemmas
+pub mod FirstFitValueLemmas

@@ -1,13 +1,13 @@
 //! The first-fit multipliers: one pass over the riders.
-ghost use Rattle.std.specs.Prelude.{◌≡◌, ◌*◌, ◌<◌, ◌≤◌, ◌&&◌, ℕ, suc, false, All, IfOk, IfSome, IfNone, length, slice_index_or, ℤ, pos, neg_ℤ, ◌≤ℤ◌, ◌-ℤ◌, ◌*ℤ◌};
-ghost use Rattle.plan_rules.specs.Sums.{lesser, least_below};
-ghost use Rattle.plan_rules.specs.Multipliers.{usable_of, first_fit, first_fit_of, room_at, multiplier_at, multiplier_sum};
+ghost use Rattle.std.specs.Prelude.{◌≡◌, ◌*◌, ◌<◌, ◌≤◌, ◌&&◌, ℕ, suc, false, All, IfOk, IfSome, IfNone, length, slice_index_or, ℤ, pos, neg_ℤ, ◌≤ℤ◌, ◌+ℤ◌, ◌-ℤ◌, ◌*ℤ◌};
+ghost use Rattle.plan_rules.specs.Sums.{lesser, least_below, int_sum_below};
+ghost use Rattle.plan_rules.specs.Multipliers.{usable_of, leaf_value, least_cost, first_fit, first_fit_of, room_at, multiplier_at, multiplier_sum};
 ghost use Rattle.plan_rules.specs.Graph.{has_rider};
 ghost use Rattle.dual_bound.specs.Size.{IsCost, IsModest, HasLeastCosts};
 ghost use Rattle.dual_bound.specs.Index.{IsIndexOf, ListsAll, IsRowListed};
 
 use crate::cheapest::least_costs;
-use crate::relaxation::RowTable;
+use linear_relaxation::RowTable;
 use crate::rider_index::RiderIndex;
 use plan_rules::{Multipliers, TripGraph, TripRow};
 use pool_base::OutOfMemory;
@@ -15,7 +15,8 @@ use std::alloc::Global;
 
 /// For each rider by rising index the least of the penalty and, over the allowed rows that have her, of
 /// what the row costs above its vehicle's cheapest allowed one, less the multipliers of its earlier
-/// riders, in 1/1024 second.
+/// riders, in 1/1024 second. None is negative, and they are worth what they and the vehicles' cheapest
+/// allowed rows come to.
 pub fn first_fit(
     alloc: Global,
     graph: &TripGraph,
@@ -24,6 +25,8 @@ pub fn first_fit(
     requires { length allowed.now ≡ length graph.now.rows }
     ensures value { IfOk result (λ ms. ms ≡ first_fit graph.now (usable_of allowed.now)) }
     ensures len { IfOk result (λ ms. length ms ≡ graph.now.riders) }
+    ensures never_negative { IfOk result (λ ms. (r : ℕ) → pos 0 ≤ℤ multiplier_at ms r) }
+    ensures worth { IfOk result (λ ms. leaf_value graph.now (usable_of allowed.now) ms ≡ pos 1024 *ℤ int_sum_below graph.now.vehicles (least_cost graph.now (usable_of allowed.now)) +ℤ int_sum_below graph.now.riders (multiplier_at ms)) }
 {
     let table = RowTable::of_graph(alloc, graph)?;
     let index = RiderIndex::new(alloc, graph, &table)?;
@@ -41,6 +44,8 @@ pub fn first_fit_by(
     requires allowed { length allowed.now ≡ length graph.now.rows }
     ensures value { IfOk result (λ ms. ms ≡ first_fit graph.now (usable_of allowed.now)) }
     ensures len { IfOk result (λ ms. length ms ≡ graph.now.riders) }
+    ensures never_negative { IfOk result (λ ms. (r : ℕ) → pos 0 ≤ℤ multiplier_at ms r) }
+    ensures worth { IfOk result (λ ms. leaf_value graph.now (usable_of allowed.now) ms ≡ pos 1024 *ℤ int_sum_below graph.now.vehicles (least_cost graph.now (usable_of allowed.now)) +ℤ int_sum_below graph.now.riders (multiplier_at ms)) }
 {
     let costs = least_costs(alloc, graph, allowed)?;
     let mut multipliers: Vec<i64> = vec![in alloc; 0; graph.rider_count()]?;

@@ -6,17 +6,18 @@
 #![tactic(auto)]
 
 mod ascent;
+mod ceiling;
 mod cheapest;
 mod climbing;
 mod first_fit_pass;
-mod fixed_point;
-mod relaxation;
+mod laws;
 mod rider_index;
 #[cfg(test)]
 mod tests;
 
+pub use ceiling::first_fit_ceiling;
 pub use climbing::{ascend, climb};
 pub use first_fit_pass::{first_fit, first_fit_by};
+pub use laws::{first_fit_is_between_zero_and_the_penalty, first_fit_value_is_a_sum};
 pub use plan_rules::leaf_value;
-pub use relaxation::{Relaxation, RowTable, Saved, Share, first_multipliers};
 pub use rider_index::RiderIndex;

@@ -3,8 +3,8 @@ ghost use Rattle.std.specs.Prelude.{◌≡◌, ◌<◌, ℕ, true, IfOk, length,
 ghost use Rattle.plan_rules.specs.Graph.{riders_at};
 ghost use Rattle.dual_bound.specs.Index.{IsIndexOf, IsListed, ListsAll};
 
-use crate::fixed_point::item;
-use crate::relaxation::RowTable;
+use linear_relaxation::fixed_point::item;
+use linear_relaxation::RowTable;
 use plan_rules::TripGraph;
 use pool_base::OutOfMemory;
 use std::alloc::Global;

@@ -1,8 +1,6 @@
-use crate::{
-    Relaxation, RiderIndex, RowTable, Share, ascend, first_fit, first_fit_by, first_multipliers,
-    leaf_value,
-};
+use crate::{RiderIndex, ascend, climb, first_fit, first_fit_by};
 use arrayvec::ArrayVec;
+use linear_relaxation::RowTable;
 use plan_rules::{Multipliers, TripGraph, TripRow};
 use pool_base::OutOfMemory;
 use std::alloc::Global;
@@ -45,29 +43,16 @@ fn fitted(alloc: Global, graph: &TripGraph) -> Result<(Multipliers, Multipliers)
     Ok((first_fit(alloc, graph, &allowed)?, listed))
 }
 
-/// How many multipliers an ascent and the first turns give, and whether an index is whole.
+/// How many multipliers two ascents give, and whether an index is whole.
 fn counts(alloc: Global, graph: &TripGraph) -> Result<(usize, usize, bool), OutOfMemory> {
     let allowed = vec![in alloc; true; graph.rows().len()]?;
-    let climbed = ascend(alloc, graph, &allowed, 20)?;
+    let ascended = ascend(alloc, graph, &allowed, 20)?;
+    let count = ascended.as_slice().len();
+    let zeros = Multipliers::of(vec![in alloc; 0; graph.rider_count()]?);
+    let climbed = climb(alloc, graph, &allowed, zeros, i64::MAX, 20)?;
     let table = RowTable::of_graph(alloc, graph)?;
-    let first = first_multipliers(alloc, &table, 20)?;
     let index = RiderIndex::new(alloc, graph, &table)?;
-    Ok((climbed.as_slice().len(), first.len(), index.is_whole))
-}
-
-/// The value of the relaxation's multipliers over all rows, and how many rows it chooses in part.
-fn relaxed(alloc: Global, graph: &TripGraph) -> Result<(i128, usize), OutOfMemory> {
-    let allowed = vec![in alloc; true; graph.rows().len()]?;
-    let table = RowTable::of_graph(alloc, graph)?;
-    let mut relaxation = Relaxation::new(alloc, &table, graph.held())?;
-    relaxation.solve(&table, i64::MAX, 20, 10)?;
-    let mut shares: Vec<Share> = Vec::new(alloc);
-    relaxation.find_shares(&table, &mut shares)?;
-    let multipliers = relaxation.multipliers();
-    if multipliers.len() != graph.rider_count() {
-        return Err(OutOfMemory);
-    }
-    Ok((leaf_value(graph, &allowed, multipliers), shares.len()))
+    Ok((count, climbed.as_slice().len(), index.is_whole))
 }
 
 #[test]
@@ -78,14 +63,5 @@ fn answers_with_memory(rt: HostRuntime) -> Result<(), Fail> {
     assert_eq!(rt; plain.as_slice(), [10_240, 0, 0].as_slice());
     assert_eq!(rt; listed.as_slice(), [10_240, 0, 0].as_slice());
     assert_eq!(rt; counts(alloc, &graph)?, (3, 3, true));
-    Ok(())
-}
-
-/// Half of each pair is chosen, and half of each empty row: three riders for 15 seconds.
-#[test]
-fn halves_of_pairs(rt: HostRuntime) -> Result<(), Fail> {
-    let alloc = rt.alloc();
-    let graph = three_pairs(alloc)?;
-    assert_eq!(rt; relaxed(alloc, &graph)?, (15 * 1024, 6));
     Ok(())
 }

@@ -12,7 +12,7 @@ use Rattle.request_book.specs.declared.command.Command.TheVariants as command
 use Rattle.script_rows.specs.declared.fault.ScriptFault.TheVariants.{TooManyRows}
 use Rattle.script_rows.specs.declared.version.ScriptVersion.TheVariants.{One}
 use Rattle.script_rows.specs.Word.{word_of}
-use Rattle.script_rows.specs.Line.{party_in, submit_in, report_in, command_in, leaves_empty, line_in}
+use Rattle.script_rows.specs.Line.{party_in, submit_in, three_in, command_in, leaves_empty, line_in}
 use Rattle.script_rows.specs.Round.{NumberedLanes}
 use Rattle.script_rows.specs.Script.{round_before, line_at, lines_of, rounds_of, script_of}
 use Rattle.rider_limits.specs.declared.load_shape.LoadShape.{LoadShape}
@@ -94,7 +94,7 @@ named_first n fields small = ap (λ o. unwrap_or o 0) (number_up_to-decimal 1000
 report_given : (round vehicle node time number last : ℕ) → round ≤ 1000000000 → vehicle ≤ 1000000000 → node ≤ 1000000000 → time ≤ 1000000000 → last ≤ round
     → line_in One number last (fields_of (field.Number round ∷ field.Number 0 ∷ field.Report ∷ field.Number vehicle ∷ field.Number node ∷ field.Number time ∷ field.Empty ∷ []))
     ≡ Ok (record { round = round; lane = 0; command = command.Report vehicle node time })
-unfolding line_in command_in report_in leaves_empty word_of
+unfolding line_in command_in three_in leaves_empty word_of
 report_given round vehicle node time number last round_small vehicle_small node_small time_small behind =
     let one : number_up_to 1000000000 (decimal round) ≡ Some round = number_up_to-decimal 1000000000 round round_small (omega arith) in
     let two : number_up_to 1000000000 (decimal 0) ≡ Some 0 = number_up_to-decimal 1000000000 0 (omega arith) (omega arith) in

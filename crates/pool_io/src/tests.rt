@@ -66,6 +66,18 @@ fn writes_all_in_short_writes_and_a_part_before_a_failure(rt: HostRuntime) -> Re
 }
 
 #[test]
+fn a_planned_flush_fails_and_keeps_the_bytes(rt: HostRuntime) -> Result<(), Fail> {
+    let mut fail = Vec::new(rt.alloc());
+    fail.push(1)?;
+    let mut sink = MemorySink::new(rt.alloc(), 8, fail);
+    write_all(&mut sink, b"abc")?;
+    assert!(rt; sink.flush().is_err());
+    assert!(rt; sink.flush().is_ok());
+    assert_eq!(rt; sink.written(), b"abc".as_slice());
+    Ok(())
+}
+
+#[test]
 fn rows_follow_csv(rt: HostRuntime) -> Result<(), Fail> {
     let text = b"\xEF\xBB\xBF\"from\",to\r\n1,\"2,\"\"3\"\"\"\r\r\n\n , x ";
     let table = rows(rt.alloc(), text, b"from,to")?;
@@ -98,6 +110,7 @@ fn std_readers_and_writers_are_edges(rt: HostRuntime) -> Result<(), Fail> {
     let mut written = Vec::new(rt.alloc());
     let mut sink = StdSink::over(&mut written);
     write_all(&mut sink, b"bytes")?;
+    assert!(rt; sink.flush().is_ok());
     assert_eq!(rt; written.as_slice(), b"bytes".as_slice());
     let mut room = [0u8; 2];
     let mut full = StdSink::over(room.as_mut_slice());

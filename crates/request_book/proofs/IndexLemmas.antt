@@ -11,7 +11,7 @@ use Rattle.request_book.specs.work.Register.{pool_id, HasRoom}
 use Rattle.request_book.specs.Rider.{is_active, with_status}
 use Rattle.request_book.specs.State.{find_rider, find_vehicle, pool_count}
 use Rattle.batch_snapshot.specs.declared.vehicle.Vehicle.{Vehicle}
-use Rattle.request_book.proofs.KeyedLemmas.{set-changed_at, look_up-changed_here, look_up-changed_there, look_up-without_here, look_up-without_there, look_up-placed_here, look_up-placed_there, look_up-push_here, look_up-push_there, look_up-map, look_up-key, look_up-filter_map, KeysDiffer-filter_map, KeysDiffer-from_rise, by_key-order, same_from_look_up, length-by_key, length-filter_map}
+use Rattle.request_book.proofs.KeyedLemmas.{set-changed_at, look_up-changed_here, look_up-changed_there, look_up-without_here, look_up-without_there, look_up-placed_here, look_up-placed_there, look_up-push_here, look_up-push_there, look_up-map, look_up-key, look_up-filter_map, KeysDiffer-filter_map, KeysDiffer-from_rise, KeysRise-placed, by_key-order, same_from_look_up, length-by_key, length-filter_map}
 
 -- the pool is the ids of the active riders
 abbrev pub IsPool : List ℕ → List BookRider → Type 0
@@ -67,6 +67,27 @@ IsPool-placed pool riders new on none is id =
       | inr other ↦
           look_up-placed_there (λ n. n) id new.id pool other ∙ is id ∙ ap (option_and_then pool_id) (sym (look_up-push_there (λ r. r.id) id new riders other))
     ]
+
+-- a new rider of any status
+pub IsPool-entered : (pool : List ℕ) (riders : List BookRider) (new : BookRider) → find_rider new.id riders ≡ None → IsPool pool riders → IsPool (cond (is_active new.status) (placed (λ id. id) new.id pool) pool) (riders ++ new ∷ [])
+IsPool-entered pool riders new none is = by (is_active new.status) refl
+  where
+    outside : is_active new.status ≡ false → IsPool pool (riders ++ new ∷ [])
+    outside off id =
+        elim (cases_eq new.id id) [
+          | inl same ↦
+              let absent : find_rider id riders ≡ None = subst (λ j. find_rider j riders ≡ None) same none in
+              is id ∙ ap (option_and_then pool_id) absent ∙ sym (ap (option_and_then pool_id) (look_up-push_here (λ r. r.id) id new riders same absent) ∙ pool_id-inactive new off)
+          | inr other ↦ is id ∙ ap (option_and_then pool_id) (sym (look_up-push_there (λ r. r.id) id new riders other))
+        ]
+
+    by : (b : Bool) → is_active new.status ≡ b → IsPool (cond b (placed (λ id. id) new.id pool) pool) (riders ++ new ∷ [])
+    by true on = IsPool-placed pool riders new on none is
+    by false off = outside off
+
+pub rise-entered : (b : Bool) (pool : List ℕ) (id : ℕ) → KeysRise (λ id. id) pool → look_up (λ id. id) id pool ≡ None → KeysRise (λ id. id) (cond b (placed (λ id. id) id pool) pool)
+rise-entered true pool id rise none = KeysRise-placed (λ id. id) id pool rise none
+rise-entered false pool id rise none = rise
 
 pub pool_id-keeps : (r : BookRider) (id : ℕ) → pool_id r ≡ Some id → id ≡ r.id
 pool_id-keeps r id e = by (is_active r.status) refl e

@@ -242,7 +242,10 @@ fn opening(alloc: Global, vehicles: Vec<Vehicle>) -> State
 }
 
 /// The network's nodes, in its order.
-fn listed_nodes(alloc: Global, network: &Network) -> Result<IndexSet<NodeId>, OutOfMemory>
+pub(crate) fn listed_nodes(
+    alloc: Global,
+    network: &Network,
+) -> Result<IndexSet<NodeId>, OutOfMemory>
     ensures { IfOk result (λ nodes. nodes.keys ≡ network.now.nodes) }
 {
     let count = network.node_count();

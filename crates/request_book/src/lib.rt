@@ -14,6 +14,7 @@ mod laws;
 mod outcome;
 mod refusals;
 mod register;
+mod replay;
 mod reply;
 mod rider;
 mod riding;
@@ -33,6 +34,7 @@ pub use laws::{
 pub use outcome::{
     Answer, ChosenTrip, LateVehicle, MoveLine, Outcome, Planned, PlannedStop, RowLine,
 };
+pub use replay::Replay;
 pub use reply::{BookRefusal, Reply};
 pub use rider::{BookRider, Status};
 pub use state::State;

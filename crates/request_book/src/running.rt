@@ -1,11 +1,13 @@
 //! The register at work: how it begins, and one command of any kind.
 
-ghost use Rattle.std.specs.Prelude.{◌≡◌, ◌==◌, ◌+◌, ◌++◌, ◌∷◌, [], ℕ, false, map, IfOk, OnOk, OnErr, IsOk};
+ghost use Rattle.std.specs.Prelude.{◌≡◌, ◌==◌, ◌+◌, ◌≤◌, ◌++◌, ◌∷◌, [], ℕ, None, false, map, IfOk, OnOk, OnErr, IsOk, vec_capacity, option_and_then, if◌then◌else◌};
 ghost use Rattle.std.specs.List.{list_any};
 ghost use Rattle.request_book.specs.Book.{opening, IsLight};
 ghost use Rattle.request_book.specs.Consistent.{IsConsistent};
-ghost use Rattle.request_book.specs.Keyed.{KeysRise, KeysDiffer};
-ghost use Rattle.request_book.specs.work.Register.{state_of, IsIndexed, HasRoom};
+ghost use Rattle.request_book.specs.Keyed.{look_up, placed, KeysRise, KeysDiffer};
+ghost use Rattle.request_book.specs.Rider.{is_active};
+ghost use Rattle.request_book.specs.State.{find_rider};
+ghost use Rattle.request_book.specs.work.Register.{state_of, pool_id, IsIndexed, HasRoom};
 ghost use Rattle.request_book.specs.Step.{step};
 
 use crate::command::Command;
@@ -16,7 +18,7 @@ use crate::rider::{BookRider, Status};
 use crate::state::State;
 use batch_snapshot::{Snapshot, Vehicle, copied_vehicles};
 use indexmap::IndexSet;
-use pool_base::{NodeId, OutOfMemory, Sequence, VehicleId};
+use pool_base::{NodeId, OutOfMemory, RiderId, Sequence, VehicleId};
 use std::alloc::Global;
 
 impl Register {
@@ -38,6 +40,30 @@ impl Register {
             last_seal: None,
             sealed: None,
             batches: 0,
+        })
+    }
+
+    /// The register of a state of a book.
+    pub(crate) fn holding(alloc: Global, state: &State) -> Result<Register, OutOfMemory>
+        requires { IsConsistent state.now }
+        ensures state { IfOk result (λ register. state_of register ≡ state.now) }
+        ensures indexed { IfOk result IsIndexed }
+    {
+        let riders = Vec::from_slice(alloc, state.riders.as_slice())?;
+        let ids = listed_riders(alloc, &riders)?;
+        let pool = listed_pool(alloc, &riders)?;
+        let vehicles = copied_vehicles(alloc, state.vehicles.as_slice())?;
+        let vehicle_ids = listed_vehicles(alloc, &vehicles)?;
+        let sealed = copied_snapshot(alloc, &state.sealed)?;
+        Ok(Register {
+            riders,
+            ids,
+            pool,
+            vehicles,
+            vehicle_ids,
+            last_seal: state.last_seal,
+            sealed,
+            batches: state.batches,
         })
     }
 
@@ -146,6 +172,68 @@ fn list_vehicle(ids: &mut IndexSet<VehicleId>, vehicle: VehicleId) -> Result<(),
     ensures { OnOk result (ids.new.keys ≡ ids.old.keys ++ vehicle ∷ []) }
 {
     ids.insert(vehicle)?;
+    Ok(())
+}
+
+/// The riders' ids, in their order.
+fn listed_riders(alloc: Global, riders: &[BookRider]) -> Result<IndexSet<RiderId>, OutOfMemory>
+    requires { KeysDiffer (λ r. r.id) riders.now }
+    ensures { IfOk result (λ ids. ids.keys ≡ map (λ r. r.id) riders.now) }
+{
+    let mut ids = IndexSet::with_capacity(alloc, riders.len())?;
+    for rider in riders {
+        list_rider(&mut ids, rider.id)?;
+    }
+    Ok(ids)
+}
+
+fn list_rider(ids: &mut IndexSet<RiderId>, rider: RiderId) -> Result<(), OutOfMemory>
+    requires { list_any (λ id. id == rider) ids.old.keys ≡ false }
+    ensures { OnOk result (ids.new.keys ≡ ids.old.keys ++ rider ∷ []) }
+{
+    ids.insert(rider)?;
+    Ok(())
+}
+
+/// The ids of the riders who wait or have a promise, by rising id, with room for all that may.
+fn listed_pool(alloc: Global, riders: &[BookRider]) -> Result<Vec<RiderId>, OutOfMemory>
+    requires { KeysDiffer (λ r. r.id) riders.now }
+    ensures rise { IfOk result (λ pool. KeysRise (λ id. id) pool.items) }
+    ensures listed { IfOk result (λ pool. (id : ℕ) → look_up (λ id. id) id pool.items ≡ option_and_then pool_id (find_rider id riders.now)) }
+    ensures room { IfOk result (λ pool. 1000 ≤ vec_capacity pool) }
+{
+    let mut pool = Vec::with_capacity(alloc, POOL)?;
+    for rider in riders {
+        join_if_active(&mut pool, rider)?;
+    }
+    Ok(pool)
+}
+
+/// Puts the id of a rider who waits or has a promise into the pool.
+fn join_if_active(pool: &mut Vec<RiderId>, rider: &BookRider) -> Result<(), OutOfMemory>
+    requires rise { KeysRise (λ id. id) pool.old.items }
+    requires new { look_up (λ id. id) rider.now.id pool.old.items ≡ None }
+    ensures items { OnOk result (pool.new.items ≡ (if is_active rider.now.status then placed (λ id. id) rider.now.id pool.old.items else pool.old.items)) }
+    ensures room { vec_capacity pool.old ≤ vec_capacity pool.new }
+{
+    match rider.status {
+        Status::Waiting | Status::Promised(_) => join_pool(pool, rider.id),
+        _ => Ok(()),
+    }
+}
+
+/// Puts an id into the pool, in its place.
+fn join_pool(pool: &mut Vec<RiderId>, rider: RiderId) -> Result<(), OutOfMemory>
+    requires rise { KeysRise (λ id. id) pool.old.items }
+    requires new { look_up (λ id. id) rider pool.old.items ≡ None }
+    ensures items { OnOk result (pool.new.items ≡ placed (λ id. id) rider pool.old.items) }
+    ensures room { vec_capacity pool.old ≤ vec_capacity pool.new }
+{
+    let place = match pool.binary_search(&rider) {
+        Ok(place) => place,
+        Err(place) => place,
+    };
+    pool.insert(place, rider)?;
     Ok(())
 }
 

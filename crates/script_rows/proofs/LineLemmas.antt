@@ -15,7 +15,7 @@ use Rattle.script_rows.specs.declared.version.ScriptVersion.{ScriptVersion}
 use Rattle.script_rows.specs.declared.word.Word.{Word}
 use Rattle.script_rows.specs.declared.word.Word.TheVariants.{Submit, Cancel, Report, Pickup, Dropoff, Seal}
 use Rattle.script_rows.specs.Word.{word_of}
-use Rattle.script_rows.specs.Line.{party_in, submit_in, report_in, pickup_in, dropoff_in, command_in, leaves_empty, is_seal, line_in}
+use Rattle.script_rows.specs.Line.{party_in, submit_in, three_in, command_in, leaves_empty, is_seal, line_in}
 use Rattle.script_rows.specs.Round.{MayStand}
 use Rattle.script_rows.specs.work.Building.{IsBehind}
 
@@ -25,7 +25,7 @@ stands_as lane made command is stands = let same : made ≡ command = cc in subs
 
 -- a command by its word stands where its word may
 MayStand-command_in : (version : ScriptVersion) (row : ℕ) (fields : List (List ℕ)) (word : Word) (command : Command) (lane : ℕ) → command_in version row fields word ≡ Ok command → (is_seal word && not (eqb lane 0)) ≡ false → MayStand lane command
-unfolding command_in submit_in report_in pickup_in dropoff_in
+unfolding command_in submit_in three_in
 MayStand-command_in version row fields Submit command lane is stands =
     then_ok (number_in Number row fields 3) _ command (MayStand lane command) is (λ rider _ is.
     then_ok (number_in Number row fields 4) _ command (MayStand lane command) is (λ origin _ is.

@@ -32,37 +32,21 @@ submit_in version row fields = do
   party ← party_in version row fields
   Ok (submit rider origin destination time party)
 
--- a report of a vehicle at a node, at a second
-unfoldable pub report_in : ℕ → List (List ℕ) → Result Command ScriptFault
-report_in row fields = do
+-- a command of the numbers in the three columns behind its word
+unfoldable pub three_in : (ℕ → ℕ → ℕ → Command) → ℕ → List (List ℕ) → Result Command ScriptFault
+three_in command row fields = do
   vehicle ← number_in Number row fields 3
-  node ← number_in Number row fields 4
+  other ← number_in Number row fields 4
   time ← number_in Number row fields 5
-  Ok (report vehicle node time)
-
--- a pickup by a vehicle of a rider, at a second
-unfoldable pub pickup_in : ℕ → List (List ℕ) → Result Command ScriptFault
-pickup_in row fields = do
-  vehicle ← number_in Number row fields 3
-  rider ← number_in Number row fields 4
-  time ← number_in Number row fields 5
-  Ok (pickup vehicle rider time)
-
--- a dropoff by a vehicle of a rider, at a second
-unfoldable pub dropoff_in : ℕ → List (List ℕ) → Result Command ScriptFault
-dropoff_in row fields = do
-  vehicle ← number_in Number row fields 3
-  rider ← number_in Number row fields 4
-  time ← number_in Number row fields 5
-  Ok (dropoff vehicle rider time)
+  Ok (command vehicle other time)
 
 -- the command of a row, by its word
 unfoldable pub command_in : ScriptVersion → ℕ → List (List ℕ) → Word → Result Command ScriptFault
 command_in version row fields Submit = submit_in version row fields
 command_in version row fields Cancel = number_in Number row fields 3 >>= λ rider. Ok (cancel rider)
-command_in version row fields Report = report_in row fields
-command_in version row fields Pickup = pickup_in row fields
-command_in version row fields Dropoff = dropoff_in row fields
+command_in version row fields Report = three_in report row fields
+command_in version row fields Pickup = three_in pickup row fields
+command_in version row fields Dropoff = three_in dropoff row fields
 command_in version row fields Seal = number_in Number row fields 3 >>= λ now. Ok (seal now)
 
 -- a column is empty

@@ -3,7 +3,7 @@ ghost use Rattle.std.specs.List.{list_all, range_with_len};
 ghost use Rattle.pool_io.specs.Table.{record_at};
 ghost use Rattle.pool_base.specs.Numeral.{number_in};
 ghost use Rattle.script_rows.specs.work.Row.{IsScriptRow, IsScriptField};
-ghost use Rattle.script_rows.specs.Line.{party_in, submit_in, report_in, pickup_in, dropoff_in, command_in, is_empty_in, leaves_empty};
+ghost use Rattle.script_rows.specs.Line.{party_in, submit_in, three_in, command_in, is_empty_in, leaves_empty};
 
 use crate::fault::ScriptFault;
 use crate::version::ScriptVersion;
@@ -94,10 +94,10 @@ fn submit(rows: &Rows, row: usize, version: ScriptVersion) -> Result<Command, Sc
     })
 }
 
-#[tactic(auto, unfolding(crate::specs::Line::report_in))]
+#[tactic(auto, unfolding(crate::specs::Line::three_in))]
 fn report(rows: &Rows, row: usize, version: ScriptVersion) -> Result<Command, ScriptFault>
     requires { IsScriptRow rows.now row version }
-    ensures { result ≡ report_in (row + 1) (record_at rows.now row) }
+    ensures { result ≡ three_in Command.Report (row + 1) (record_at rows.now row) }
 {
     Ok(Command::Report {
         vehicle: vehicle(rows, row, 3)?,
@@ -106,10 +106,10 @@ fn report(rows: &Rows, row: usize, version: ScriptVersion) -> Result<Command, Sc
     })
 }
 
-#[tactic(auto, unfolding(crate::specs::Line::pickup_in))]
+#[tactic(auto, unfolding(crate::specs::Line::three_in))]
 fn pickup(rows: &Rows, row: usize, version: ScriptVersion) -> Result<Command, ScriptFault>
     requires { IsScriptRow rows.now row version }
-    ensures { result ≡ pickup_in (row + 1) (record_at rows.now row) }
+    ensures { result ≡ three_in Command.Pickup (row + 1) (record_at rows.now row) }
 {
     Ok(Command::Pickup {
         vehicle: vehicle(rows, row, 3)?,
@@ -118,10 +118,10 @@ fn pickup(rows: &Rows, row: usize, version: ScriptVersion) -> Result<Command, Sc
     })
 }
 
-#[tactic(auto, unfolding(crate::specs::Line::dropoff_in))]
+#[tactic(auto, unfolding(crate::specs::Line::three_in))]
 fn dropoff(rows: &Rows, row: usize, version: ScriptVersion) -> Result<Command, ScriptFault>
     requires { IsScriptRow rows.now row version }
-    ensures { result ≡ dropoff_in (row + 1) (record_at rows.now row) }
+    ensures { result ≡ three_in Command.Dropoff (row + 1) (record_at rows.now row) }
 {
     Ok(Command::Dropoff {
         vehicle: vehicle(rows, row, 3)?,

@@ -1,0 +1,57 @@
+//! The best plan of a part of a graph, by a small search of its own.
+use crate::branching::Effort;
+use crate::diving::dive;
+use crate::tree::{DraftTree, Growth, seconds_of};
+use crate::whole::plan_cost;
+use crate::draws::Draws;
+use linear_relaxation::{Relaxation, RowTable};
+use pool_base::OutOfMemory;
+use std::alloc::Global;
+
+/// How much a branch is tried for.
+const EFFORT: Effort = Effort {
+    candidates: 6,
+    pivots: 100,
+    most_pivots: u64::MAX,
+};
+
+/// How far above its multiplier it costs to leave out a rider at first, in seconds.
+const BOX: i64 = 5;
+
+/// How many rows of a vehicle a pass puts into the pool.
+const MOST_ROWS: usize = 5;
+
+/// This plan or a cheaper one, by a tree of so many nodes at most. The start is lawful; the multipliers are
+/// in 1/1024 second.
+pub fn solve_part(
+    alloc: Global,
+    part: &RowTable,
+    start: &[Option<u32>],
+    multipliers: &[i64],
+    most_nodes: u32,
+) -> Result<Vec<Option<u32>>, OutOfMemory> {
+    let Some(cost) = plan_cost(alloc, part, start)? else {
+        return Vec::from_slice(alloc, start).map_err(OutOfMemory::from);
+    };
+    let mut relaxation = Relaxation::new(alloc, part, start)?;
+    relaxation.fill_pool_whole(part)?;
+    relaxation.set_boxed_costs(part, multipliers, BOX);
+    relaxation.pivot_on(part, u64::MAX)?;
+    relaxation.set_true_costs(part);
+    relaxation.solve(part, i64::MAX, MOST_ROWS, u32::MAX)?;
+    let mut tree = DraftTree::new(alloc, part, &mut relaxation, start, cost)?;
+    if seconds_of(relaxation.value()) < cost {
+        let mut draws = Draws::new(0);
+        let basis = Vec::from_slice(alloc, relaxation.columns())?;
+        if let Some(plan) = dive(alloc, part, &mut relaxation, &basis, &mut draws, false)? {
+            tree.offer(alloc, part, plan)?;
+        }
+        let growth = Growth {
+            budget: most_nodes as usize,
+            effort: EFFORT,
+            probe: usize::MAX,
+        };
+        tree.grow(alloc, part, &mut relaxation, growth)?;
+    }
+    Ok(tree.plan)
+}

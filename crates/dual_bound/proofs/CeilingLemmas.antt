@@ -1,0 +1,92 @@
+-- What lowers a ceiling of the first-fit multipliers keeps it one.
+use Rattle.std.proofs.Common.{◌≡◌, ◌⊎◌, ℕ, zero, suc, ◌+◌, ◌*◌, ◌<◌, ◌≤◌, Bool, true, List, [], ◌∷◌, length, get_or, set, ℤ, pos, ◌+ℤ◌, ◌-ℤ◌, ◌*ℤ◌, ◌≤ℤ◌, All, refl, sym, ap, ◌∙◌, subst, ⊎_elim, arith}
+use Rattle.std.proofs.lemmas.Int.{ints}
+use Rattle.std.proofs.lemmas.Bool.{cases_eq, cases_lt}
+use Rattle.std.proofs.lemmas.List.{get_or-set_same, get_or-set_other, get_or_past, length-set}
+use Rattle.plan_rules.specs.Sums.{int_sum_below}
+use Rattle.plan_rules.specs.Graph.{Graph, riders_at, row_vehicle, cost_at, IsGoodGraph}
+use Rattle.plan_rules.specs.Multipliers.{Usable, multiplier_at, multiplier_sum, least_cost, room_at, first_fit, first_fit_value}
+use Rattle.plan_rules.proofs.lemmas.SumLemmas.{int_sum_same, int_sum_le}
+use Rattle.dual_bound.specs.Size.{IsModest, IsCost, HasLeastCosts}
+use Rattle.dual_bound.specs.work.Ceiling.{AreCeilings}
+use Rattle.dual_bound.proofs.lemmas.FirstFitValueLemmas.{positive_sum, first_fit_leaves_room, first_fit_value_is}
+
+-- where multipliers aren't negative, each is at most what they come to
+each_fits : (ms : List ℤ) (xs : List ℕ) (z : ℤ) → ((r : ℕ) → pos 0 ≤ℤ multiplier_at ms r) → multiplier_sum ms xs ≤ℤ z → (k d : ℕ) → k < length xs → multiplier_at ms (get_or xs k d) ≤ℤ z
+each_fits ms [] z p l k d low = absurd (omega (arith, low))
+each_fits ms (x ∷ xs) z p l zero d low = let rest = positive_sum ms xs p in omega (arith, ints, rest, l)
+each_fits ms (x ∷ xs) z p l (suc k) d low = let here = p x in each_fits ms xs z p (omega (arith, ints, l, here)) k d (omega (arith, low))
+
+same_default : (xs : List ℕ) (k d : ℕ) → k < length xs → get_or xs k 0 ≡ get_or xs k d
+same_default [] k d low = absurd (omega (arith, low))
+same_default (x ∷ xs) zero d low = refl
+same_default (x ∷ xs) (suc k) d low = same_default xs k d (omega (arith, low))
+
+pub room_fits : (g : Graph) (u : Usable) (k : ℕ) (z : ℤ) → IsGoodGraph g → k < length g.rows → u k ≡ true → z ≡ (pos 1024 *ℤ (pos (cost_at g k) -ℤ least_cost g u (row_vehicle g k)))
+    → (i d : ℕ) → i < length (riders_at g k) → (get_or (riders_at g k) i d < g.riders) × (multiplier_at (first_fit g u) (get_or (riders_at g k) i d) ≤ℤ z)
+room_fits g u k z good l may is i d low =
+    let roomy = first_fit_leaves_room g u good in
+    let room : pos 0 ≤ℤ room_at g u (first_fit g u) k = roomy.room k l may in
+    let row = good.rows k l in (
+      subst (λ (r : ℕ). r < g.riders) (same_default (riders_at g k) i d low) (row.members.below i low),
+      each_fits (first_fit g u) (riders_at g k) z roomy.positive (omega (arith, ints, room, is)) i d low,
+    )
+
+-- at first each number is the penalty
+pub ceilings_first : (g : Graph) (u : Usable) (rooms : List ℤ) → IsGoodGraph g → length rooms ≡ g.riders → All (λ z. z ≡ pos (1024 * g.penalty)) rooms → AreCeilings g u rooms
+ceilings_first g u rooms good sized all =
+    let roomy = first_fit_leaves_room g u good in
+    let limit = good.limits.penalty in
+    record {
+      sized = sized;
+      above = λ r. let most = roomy.most r in
+          ⊎_elim
+          (λ (low : r < length rooms). let at = all r (pos (1024 * g.penalty)) low in omega (arith, ints, at, most))
+          (λ (high : length rooms ≤ r). let at = get_or_past rooms r (pos (1024 * g.penalty)) high in omega (arith, ints, at, most))
+          (cases_lt r (length rooms));
+      modest = λ r.
+          ⊎_elim
+          (λ (low : r < length rooms). let at = all r (pos 0) low in record { low = omega (arith, ints, at, limit); high = omega (arith, ints, at, limit) })
+          (λ (high : length rooms ≤ r). let at = get_or_past rooms r (pos 0) high in record { low = omega (arith, ints, at); high = omega (arith, ints, at) })
+          (cases_lt r (length rooms));
+    }
+
+-- one number lowered
+pub ceilings_lower : (g : Graph) (u : Usable) (rooms : List ℤ) (r : ℕ) (z : ℤ) → AreCeilings g u rooms → r < g.riders → multiplier_at (first_fit g u) r ≤ℤ z → IsModest z → AreCeilings g u (set rooms r z)
+ceilings_lower g u rooms r z before low above modest = record {
+  sized = length-set rooms r z ∙ before.sized;
+  above = λ q. ⊎_elim
+      (λ (here : q ≡ r). subst (λ (p : ℕ). multiplier_at (first_fit g u) p ≤ℤ get_or (set rooms r z) p (pos (1024 * g.penalty))) (sym here)
+      (subst (λ (w : ℤ). multiplier_at (first_fit g u) r ≤ℤ w) (sym (get_or-set_same rooms r z (pos (1024 * g.penalty)) (omega (arith, low, before.sized)))) above))
+      (λ (other : q ≡ r → ⊥). subst (λ (w : ℤ). multiplier_at (first_fit g u) q ≤ℤ w) (sym (get_or-set_other rooms r q z (pos (1024 * g.penalty)) other)) (before.above q))
+      (cases_eq q r);
+  modest = λ q. ⊎_elim
+      (λ (here : q ≡ r). subst IsModest (sym (ap (λ (p : ℕ). get_or (set rooms r z) p (pos 0)) here ∙ get_or-set_same rooms r z (pos 0) (omega (arith, low, before.sized)))) modest)
+      (λ (other : q ≡ r → ⊥). subst IsModest (sym (get_or-set_other rooms r q z (pos 0) other)) (before.modest q))
+      (cases_eq q r);
+}
+
+-- a list of costs has no large number
+pub costs_modest : (g : Graph) (u : Usable) (costs : List ℤ) → HasLeastCosts g u costs → (r : ℕ) → IsModest (get_or costs r (pos 0))
+costs_modest g u costs least r = ⊎_elim
+    (λ (low : r < g.vehicles). let cost = least.costs_of_rows r low in record { low = omega (arith, ints, cost.low); high = omega (arith, ints, cost.high) })
+    (λ (high : g.vehicles ≤ r). let at = get_or_past costs r (pos 0) (omega (arith, high, least.sized)) in record { low = omega (arith, ints, at); high = omega (arith, ints, at) })
+    (cases_lt r g.vehicles)
+
+-- what all come to is a ceiling of the value
+pub ceiling_of_value : (g : Graph) (u : Usable) (costs rooms : List ℤ) (x y : ℤ) → IsGoodGraph g → HasLeastCosts g u costs → AreCeilings g u rooms
+    → x ≡ int_sum_below (length costs) (λ r. get_or costs r (pos 0)) → y ≡ int_sum_below (length rooms) (λ r. get_or rooms r (pos 0)) → first_fit_value g u ≤ℤ (pos 1024 *ℤ x +ℤ y)
+ceiling_of_value g u costs rooms x y good least ceilings is_x is_y =
+    let value = first_fit_value_is g u good in
+    let many : x ≡ int_sum_below g.vehicles (λ r. get_or costs r (pos 0)) = is_x ∙ ap (λ (n : ℕ). int_sum_below n (λ r. get_or costs r (pos 0))) least.sized in
+    let cheapest : int_sum_below g.vehicles (λ r. get_or costs r (pos 0)) ≡ int_sum_below g.vehicles (least_cost g u) = int_sum_same g.vehicles (λ r. get_or costs r (pos 0)) (least_cost g u) least.value in
+    let all : y ≡ int_sum_below g.riders (λ r. get_or rooms r (pos 0)) = is_y ∙ ap (λ (n : ℕ). int_sum_below n (λ r. get_or rooms r (pos 0))) ceilings.sized in
+    let over : int_sum_below g.riders (multiplier_at (first_fit g u)) ≤ℤ int_sum_below g.riders (λ r. get_or rooms r (pos 0)) =
+    int_sum_le g.riders (multiplier_at (first_fit g u)) (λ r. get_or rooms r (pos 0))
+    (λ r low. subst (λ (w : ℤ). multiplier_at (first_fit g u) r ≤ℤ w) (any_default rooms r (pos (1024 * g.penalty)) (omega (arith, low, ceilings.sized))) (ceilings.above r)) in
+    omega (arith, ints, value, many, cheapest, all, over)
+  where
+    any_default : (xs : List ℤ) (k : ℕ) (d : ℤ) → k < length xs → get_or xs k d ≡ get_or xs k (pos 0)
+    any_default [] k d low = absurd (omega (arith, low))
+    any_default (x ∷ xs) zero d low = refl
+    any_default (x ∷ xs) (suc k) d low = any_default xs k d (omega (arith, low))

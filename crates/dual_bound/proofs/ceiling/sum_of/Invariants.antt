@@ -1,0 +1,10 @@
+use Rattle.std.proofs.Common.{◌≡◌, ◌*◌, get_or, pos, neg_ℤ, ◌≤ℤ◌}
+use Rattle.plan_rules.specs.Sums.{int_sum_below}
+use Rattle.dual_bound.proofs.ceiling.sum_of.Given as goal
+
+abbrev pub invariant-loop-number : goal.invariant-loop-number
+invariant-loop-number l = record {
+  value : l.sum ≡ int_sum_below l.number-index (λ r. get_or l.numbers r (pos 0));
+  low : neg_ℤ (pos (l.number-index * 8000000000000)) ≤ℤ l.sum;
+  high : l.sum ≤ℤ pos (l.number-index * 1024000000000);
+}

@@ -1,0 +1,71 @@
+-- Degrees, counted node by node.
+use Rattle.std.proofs.Common.{◌≡◌, ◌≢◌, ℕ, suc, ◌+◌, ◌-◌, ◌*◌, ◌%◌, ◌<◌, ◌≤◌, ◌⊎◌, ◌&&◌, Bool, true, false, cond, eqb, ltb, List, [], ◌∷◌, length, get_or, slice_index, map, filter, count_by, All, refl, sym, ap, ◌∙◌, inl, inr, ⊎_elim, arith}
+use Rattle.std.proofs.lemmas.Bool.{cases_eq, cases_lt, cond_both, eqb-true, lt-ltb, le-ltb}
+use Rattle.std.proofs.lemmas.Bool.Decides.{nat_tests}
+use Rattle.std.proofs.lemmas.List.Elements.{All-head, All-tail}
+use Rattle.std.proofs.lemmas.List.Sums.{sum_by-cons, length-filter, count_by-le-length}
+use Rattle.road_network.specs.declared.arc.Arc.{Arc}
+use Rattle.road_network.specs.declared.hop.Hop.{Hop}
+use Rattle.road_network.specs.Roads.{IsArcAmong, hop_of, leaving}
+use Rattle.hub_labels.specs.Rank.{degree}
+use Rattle.hub_labels.specs.work.Order.{reaching_before}
+
+-- 1 where a test passes
+abbrev one_if : Bool → ℕ
+one_if b = cond b 1 0
+
+-- a test of one arc, at one node more
+one_more : (f k : ℕ) → cond (ltb f (k + 1)) 1 0 ≡ cond (ltb f k) 1 0 + cond (eqb f k) 1 0
+one_more f k = grind (arith, nat_tests)
+
+none_below : (f : ℕ) → one_if (ltb f 0) ≡ 0
+none_below f = rw (le-ltb f 0 (omega arith)) refl
+
+step : (t : Bool) (f k : ℕ) → cond (t && ltb f (k + 1)) 1 0 ≡ cond (t && ltb f k) 1 0 + cond (eqb f k) (cond t 1 0) 0
+step true f k = one_more f k
+step false f k = elim (eqb f k) as (λ b. 0 ≡ 0 + cond b 0 0) [ true ↦ refl | false ↦ refl ]
+
+-- the hops of an arc, where it is kept
+kept : (b : Bool) (node : ℕ) (arc : Arc) (rest : List Arc) → count_by (λ (hop : Hop). eqb hop.to node) (map hop_of (cond b (arc ∷ rest) rest)) ≡ cond b (cond (eqb arc.to node) 1 0) 0 + count_by (λ (hop : Hop). eqb hop.to node) (map hop_of rest)
+kept true node arc rest = sum_by-cons (λ (hop : Hop). cond (eqb hop.to node) 1 0) (hop_of arc) (map hop_of rest)
+kept false node arc rest = omega arith
+
+pub reaching_none : (arcs : List Arc) (node : ℕ) → reaching_before arcs 0 node ≡ 0
+reaching_none [] node = refl
+reaching_none (arc ∷ rest) node =
+    let onward : reaching_before rest 0 node ≡ 0 = reaching_none rest node in
+    let more : reaching_before (arc ∷ rest) 0 node ≡ cond (eqb arc.to node && ltb arc.from 0) 1 0 + reaching_before rest 0 node = sum_by-cons (λ (a : Arc). cond (eqb a.to node && ltb a.from 0) 1 0) arc rest in
+    let zero_here : one_if (eqb arc.to node && ltb arc.from 0) ≡ 0 = elim (eqb arc.to node) as (λ b. one_if (b && ltb arc.from 0) ≡ 0) [ true ↦ none_below arc.from | false ↦ refl ] in
+    omega (arith, more, onward, zero_here)
+
+pub reaching_more : (arcs : List Arc) (k node : ℕ) → reaching_before arcs (k + 1) node ≡ reaching_before arcs k node + count_by (λ (hop : Hop). eqb hop.to node) (map hop_of (leaving k arcs))
+reaching_more [] k node = refl
+reaching_more (arc ∷ rest) k node =
+    let onward = reaching_more rest k node in
+    let more = sum_by-cons (λ (a : Arc). cond (eqb a.to node && ltb a.from (k + 1)) 1 0) arc rest in
+    let before = sum_by-cons (λ (a : Arc). cond (eqb a.to node && ltb a.from k) 1 0) arc rest in
+    let hops = kept (eqb arc.from k) node arc (leaving k rest) in
+    let here = step (eqb arc.to node) arc.from k in
+    omega (arith, onward, more, before, hops, here)
+
+pub reaching_all : (arcs : List Arc) (n node : ℕ) → All (IsArcAmong n) arcs → reaching_before arcs n node ≡ count_by (λ (arc : Arc). eqb arc.to node) arcs
+reaching_all [] n node among = refl
+reaching_all (arc ∷ rest) n node among =
+    let onward = reaching_all rest n node (All-tail (IsArcAmong n) arc rest among) in
+    let within : arc.from < n = (All-head (IsArcAmong n) arc rest among).0 in
+    let first = sum_by-cons (λ (a : Arc). cond (eqb a.to node && ltb a.from n) 1 0) arc rest in
+    let second = sum_by-cons (λ (a : Arc). cond (eqb a.to node) 1 0) arc rest in
+    let here : one_if (eqb arc.to node && ltb arc.from n) ≡ one_if (eqb arc.to node) = rw (lt-ltb arc.from n within) (elim (eqb arc.to node) as (λ b. one_if (b && true) ≡ one_if b) [ true ↦ refl | false ↦ refl ]) in
+    omega (arith, onward, first, second, here)
+
+pub leaving_few : (arcs : List Arc) (node : ℕ) → length (leaving node arcs) ≤ length arcs
+leaving_few arcs node = rw (length-filter (λ (a : Arc). eqb a.from node) arcs) (count_by-le-length (λ (a : Arc). eqb a.from node) arcs)
+
+pub reaching_few : (arcs : List Arc) (k node : ℕ) → reaching_before arcs k node ≤ length arcs
+reaching_few arcs k node = count_by-le-length (λ (a : Arc). eqb a.to node && ltb a.from k) arcs
+
+pub degree_is : (arcs : List Arc) (n node : ℕ) → All (IsArcAmong n) arcs → length (leaving node arcs) + reaching_before arcs n node ≡ degree arcs node
+degree_is arcs n node among =
+    let a = length-filter (λ (a : Arc). eqb a.from node) arcs in
+    let b = reaching_all arcs n node among in
+    omega (arith, a, b)

@@ -1,0 +1,108 @@
+-- When every node had its searches, the labels are those of the network.
+use Rattle.std.proofs.Common.{◌≡◌, ◌≢◌, ℕ, ◌+◌, ◌<◌, ◌≤◌, ◌⊎◌, ◌↔◌, true, List, [], length, get_or, slice_index, map, All, Contains, refl, sym, ap, ◌∙◌, subst, inl, inr, ⊎_elim, arith}
+use Rattle.std.proofs.lemmas.List.{get_or_default}
+use Rattle.pool_base.specs.TravelTime.{longest}
+use Rattle.road_network.specs.declared.arc.Arc.{Arc}
+use Rattle.road_network.specs.Walk.{IsLeastTime}
+use Rattle.road_network.specs.Roads.{Roads, IsNetwork, IsArcAmong}
+use Rattle.travel_times.proofs.lemmas.WalkLemmas.{goal_within}
+use Rattle.hub_labels.specs.declared.hub.Hub.{Hub}
+use Rattle.hub_labels.specs.Label.{IsForwardHub, IsBackwardHub, IsLabel}
+use Rattle.hub_labels.specs.Labels.{NodeLabels, AreLabelsOf}
+use Rattle.hub_labels.specs.work.Hops.{turned}
+use Rattle.hub_labels.specs.work.Ranked.{IsRanking, IsRankedHub, IsLabelBelow, AreLabelsBelow}
+use Rattle.hub_labels.specs.work.Common.{IsRising}
+use Rattle.hub_labels.proofs.Times.{AreTimes, times_of, start_within, time_is}
+use Rattle.hub_labels.proofs.Turned.{turn_there, turn_back, IsLeastTime-turned, among_directed}
+
+-- a list of hubs by numbers that rank them is one by rank
+is_label : (arcs : List Arc) (n : ℕ) (rank : List ℕ) (bound : ℕ) (IsHub IsRanked : ℕ → ℕ → Type 0) (label : List Hub) → IsRanking arcs n rank → ((v : ℕ) → v < n → slice_index rank v < bound)
+    → ((v s : ℕ) → IsRanked v s → v < n) → ((v s : ℕ) → IsRanked v s → IsHub v s) → ((v s : ℕ) → IsHub v s → IsRanked v s) → IsLabelBelow rank IsRanked bound label → IsLabel arcs IsHub label
+is_label arcs n rank bound IsHub IsRanked label ranking past inside to from below = record {
+  by_rank = λ i j d lt h.
+      let one = below.sound i d (omega arith) in
+      let two = below.sound j d h in
+      (ranking.lower (get_or label i d).node (get_or label j d).node (inside _ _ one.0) (inside _ _ two.0)).1 (below.rising i j d lt h);
+  hubs = λ hub. (
+    (λ (k, h, is). to hub.node hub.seconds ((rw is at (below.sound k hub h)).0)),
+    (λ of. let ranked = from hub.node hub.seconds of in below.complete hub ranked (past hub.node (inside hub.node hub.seconds ranked))),
+  );
+}
+
+module _ {arcs : List Arc} {n : ℕ} {rank : List ℕ} (among : All (IsArcAmong n) arcs) (ranking : IsRanking arcs n rank) where
+  backward_to : (b h s : ℕ) → b < n → IsRankedHub arcs rank b h s → IsBackwardHub arcs b h s
+  backward_to b h s hb hub =
+      let hh : h < n = start_within arcs hub.time.walk n h b among hub.time.walks hb in
+      record {
+        time = hub.time;
+        first = λ w before after low from to. hub.first w before after ((ranking.lower w h (start_within arcs to.walk n w b among to.walks hb) hh).0 low) from to;
+      }
+
+  backward_from : (b h s : ℕ) → b < n → IsBackwardHub arcs b h s → IsRankedHub arcs rank b h s
+  backward_from b h s hb hub =
+      let hh : h < n = start_within arcs hub.time.walk n h b among hub.time.walks hb in
+      record {
+        time = hub.time;
+        first = λ w before after low from to. hub.first w before after ((ranking.lower w h (start_within arcs to.walk n w b among to.walks hb) hh).1 low) from to;
+      }
+
+  forward_to : (a h s : ℕ) → a < n → IsRankedHub (map turned arcs) rank a h s → IsForwardHub arcs a h s
+  forward_to a h s ha hub =
+      let there : (v w t : ℕ) → IsLeastTime arcs v w t → IsLeastTime (map turned arcs) w v t = λ v w t least. IsLeastTime-turned arcs (map turned arcs) v w t (turn_there arcs) (turn_back arcs) least in
+      let time : IsLeastTime arcs a h s = IsLeastTime-turned (map turned arcs) arcs h a s (turn_back arcs) (turn_there arcs) hub.time in
+      let hh : h < n = goal_within arcs time.walk n a h among time.walks ha in
+      record {
+        time = time;
+        first = λ w before after low from to e.
+            hub.first w after before ((ranking.lower w h (goal_within arcs from.walk n a w among from.walks ha) hh).0 low) (there w h after to) (there a w before from)
+            (let x : after + before ≡ s = omega arith in x);
+      }
+
+  forward_from : (a h s : ℕ) → a < n → IsForwardHub arcs a h s → IsRankedHub (map turned arcs) rank a h s
+  forward_from a h s ha hub =
+      let back : (v w t : ℕ) → IsLeastTime (map turned arcs) v w t → IsLeastTime arcs w v t = λ v w t least. IsLeastTime-turned (map turned arcs) arcs v w t (turn_back arcs) (turn_there arcs) least in
+      let hh : h < n = goal_within arcs hub.time.walk n a h among hub.time.walks ha in
+      record {
+        time = IsLeastTime-turned arcs (map turned arcs) a h s (turn_there arcs) (turn_back arcs) hub.time;
+        first = λ w before after low from to e.
+            let onward : IsLeastTime arcs a w after = back w a after to in
+            hub.first w after before ((ranking.lower w h (goal_within arcs onward.walk n a w among onward.walks ha) hh).1 low) onward (back h w before from)
+            (let x : after + before ≡ s = omega arith in x);
+      }
+
+  forward_inside : (a h s : ℕ) → a < n → IsRankedHub (map turned arcs) rank a h s → h < n
+  forward_inside a h s ha hub = start_within (map turned arcs) hub.time.walk n h a (among_directed true arcs n among) hub.time.walks ha
+
+  backward_inside : (b h s : ℕ) → b < n → IsRankedHub arcs rank b h s → h < n
+  backward_inside b h s hb hub = start_within arcs hub.time.walk n h b among hub.time.walks hb
+
+pub labels_of_network : (roads : Roads) (rank : List ℕ) (bound : ℕ) (forward backward : List (List Hub)) → IsNetwork roads → IsRanking roads.arcs (length roads.nodes) rank → ((v : ℕ) → v < length roads.nodes → slice_index rank v < bound)
+    → AreLabelsBelow (map turned roads.arcs) rank (length roads.nodes) bound forward → AreLabelsBelow roads.arcs rank (length roads.nodes) bound backward → AreLabelsOf roads (record { forward = forward; backward = backward })
+labels_of_network roads rank bound forward backward network ranking past ahead back =
+    let arcs : List Arc = roads.arcs in
+    let n : ℕ = length roads.nodes in
+    record {
+      network = network;
+      forward_each = ahead.each;
+      backward_each = back.each;
+      forward = λ a ha. is_label arcs n rank bound (IsForwardHub arcs a) (IsRankedHub (map turned arcs) rank a) (get_or forward a []) ranking past (λ v s. forward_inside network.arcs ranking a v s ha) (λ v s. forward_to network.arcs ranking a v s ha) (λ v s. forward_from network.arcs ranking a v s ha) (ahead.labelled a ha);
+      backward = λ b hb. is_label arcs n rank bound (IsBackwardHub arcs b) (IsRankedHub arcs rank b) (get_or backward b []) ranking past (λ v s. backward_inside network.arcs ranking b v s hb) (λ v s. backward_to network.arcs ranking b v s hb) (λ v s. backward_from network.arcs ranking b v s hb) (back.labelled b hb);
+    }
+
+-- labels so far rise by rank
+pub labels_rise : (arcs : List Arc) (n : ℕ) (rank : List ℕ) (bound : ℕ) (labels : List (List Hub)) → All (IsArcAmong n) arcs → n ≤ 100000 → length rank ≡ n → AreLabelsBelow arcs rank n bound labels → All (IsRising rank) labels
+labels_rise arcs n rank bound labels among few each below b d inside =
+    let times = times_of arcs n among few in
+    let hb : b < n = let e : length labels ≡ n = below.each in omega arith in
+    let lab = below.labelled b hb in
+    subst (λ (label : List Hub). IsRising rank label) (get_or_default labels b [] d inside) (record {
+      within = λ k e h.
+          let ranked = (lab.sound k e h).0 in
+          let hub : Hub = get_or (get_or labels b []) k e in
+          let hv : (get_or (get_or labels b []) k e).node < n = start_within arcs ranked.time.walk n hub.node b among ranked.time.walks hb in
+          let is = time_is among few times.1 hub.node b hub.seconds hv hb ranked.time in
+          let same : (get_or (get_or labels b []) k e).seconds ≡ times.0 (get_or (get_or labels b []) k e).node b = is.0 in
+          let finite : times.0 (get_or (get_or labels b []) k e).node b ≤ longest = is.1 in
+          (omega arith, omega arith);
+      rising = lab.rising;
+    })

@@ -1,0 +1,15 @@
+pub mod Times
+pub mod Cover
+pub mod Found
+pub mod Turned
+pub mod Added
+pub mod Keys
+pub mod Query
+pub mod Final
+pub mod Degrees
+pub mod Order
+pub mod Merging
+pub mod HopLemmas
+pub mod Searching
+pub mod Adding
+pub mod Building

@@ -1,0 +1,99 @@
+-- Arcs the other way round: walks lead back, in the same time.
+use Rattle.std.proofs.Common.{◌≡◌, ◌≢◌, ℕ, ◌+◌, ◌<◌, ◌≤◌, Bool, true, false, List, [], ◌∷◌, ◌++◌, length, get_or, slice_index, map, All, Contains, refl, sym, ap, ◌∙◌, subst, inl, inr, ⊎_elim, arith}
+use Rattle.std.proofs.lemmas.List.{length-map, get_or-map}
+use Rattle.std.proofs.lemmas.List.Elements.{All-map, All-weaker}
+use Rattle.std.proofs.lemmas.List.Sums.{sum_by-cons}
+use Rattle.pool_base.specs.TravelTime.{never, longest}
+use Rattle.road_network.specs.declared.arc.Arc.{Arc}
+use Rattle.road_network.specs.Walk.{IsWalk, walk_seconds, IsLeastTime}
+use Rattle.road_network.specs.Roads.{IsArcAmong}
+use Rattle.travel_times.proofs.lemmas.WalkLemmas.{IsWalk-push, walk_seconds-push}
+use Rattle.hub_labels.specs.declared.hub.Hub.{Hub}
+use Rattle.hub_labels.specs.work.Hops.{turned, directed}
+use Rattle.hub_labels.specs.work.Ranked.{IsRankedHub, IsLabelBelow, AreLabelsBelow}
+use Rattle.hub_labels.proofs.Times.{AreTimes, start_within, time_is, least_is}
+use Rattle.hub_labels.proofs.Cover.{IsClear}
+use Rattle.hub_labels.proofs.Found.{IsOwnLabel, hub_is}
+
+-- each arc of the first list is in the second, the other way round
+abbrev pub IsTurnOf : List Arc → List Arc → Type 0
+IsTurnOf arcs others = (arc : Arc) → Contains arcs arc → Contains others (turned arc)
+
+pub turn_there : (arcs : List Arc) → IsTurnOf arcs (map turned arcs)
+turn_there arcs arc (k, inside, is) = (k, rw length-map inside, get_or-map turned arcs k arc (turned arc) inside ∙ ap turned is)
+
+pub turn_back : (arcs : List Arc) → IsTurnOf (map turned arcs) arcs
+turn_back arcs arc (k, inside, is) =
+    let within : k < length arcs = rw length-map at inside in
+    let e : turned (get_or arcs k (turned arc)) ≡ arc = sym (get_or-map turned arcs k (turned arc) arc within) ∙ is in
+    (k, within, ap turned e)
+
+-- the arcs of a direction, and those of the other
+pub other_way : Bool → Bool
+other_way true = false
+other_way false = true
+
+pub turn_directed : (reversed : Bool) (arcs : List Arc) → IsTurnOf (directed reversed arcs) (directed (other_way reversed) arcs)
+unfolding other_way
+turn_directed true arcs = turn_back arcs
+turn_directed false arcs = turn_there arcs
+
+-- arcs of the network are so in both directions
+pub among_directed : (reversed : Bool) (arcs : List Arc) (n : ℕ) → All (IsArcAmong n) arcs → All (IsArcAmong n) (directed reversed arcs)
+among_directed false arcs n among = among
+among_directed true arcs n among = All-map (IsArcAmong n) turned arcs (λ k d h. let a = among k d h in (a.1, a.0, a.2))
+
+-- a walk the other way round
+abbrev turned_walk : List Arc → List Arc
+turned_walk [] = []
+turned_walk (arc ∷ rest) = turned_walk rest ++ turned arc ∷ []
+
+IsWalk-turned : (arcs others walk : List Arc) (start goal : ℕ) → IsTurnOf arcs others → IsWalk arcs start walk goal → IsWalk others goal (turned_walk walk) start
+IsWalk-turned arcs others [] start goal turn walks = sym walks
+IsWalk-turned arcs others (arc ∷ rest) start goal turn walks =
+    subst (λ (s : ℕ). IsWalk others goal (turned_walk rest ++ turned arc ∷ []) s) walks.1
+    (IsWalk-push others (turned_walk rest) (turned arc) goal arc.to (IsWalk-turned arcs others rest arc.to goal turn walks.2) (turn arc walks.0) refl)
+
+walk_seconds-turned : (walk : List Arc) → walk_seconds (turned_walk walk) ≡ walk_seconds walk
+walk_seconds-turned [] = refl
+walk_seconds-turned (arc ∷ rest) =
+    let a : walk_seconds (turned_walk rest ++ turned arc ∷ []) ≡ walk_seconds (turned_walk rest) + arc.seconds = walk_seconds-push (turned_walk rest) (turned arc) in
+    let b : walk_seconds (turned_walk rest) ≡ walk_seconds rest = walk_seconds-turned rest in
+    let c : walk_seconds (arc ∷ rest) ≡ arc.seconds + walk_seconds rest = sum_by-cons (λ (a : Arc). a.seconds) arc rest in
+    omega arith
+
+-- the least time is the same the other way round
+pub IsLeastTime-turned : (arcs others : List Arc) (a b s : ℕ) → IsTurnOf arcs others → IsTurnOf others arcs → IsLeastTime arcs a b s → IsLeastTime others b a s
+IsLeastTime-turned arcs others a b s turn back least = record {
+  walk = turned_walk least.walk;
+  walks = IsWalk-turned arcs others least.walk a b turn least.walks;
+  takes = walk_seconds-turned least.walk ∙ least.takes;
+  least = λ other walks.
+      let le : s ≤ walk_seconds (turned_walk other) = least.least (turned_walk other) (IsWalk-turned others arcs other b a back walks) in
+      let e : walk_seconds (turned_walk other) ≡ walk_seconds other = walk_seconds-turned other in
+      omega arith;
+}
+
+-- the label of the other direction is the start's own
+pub own_label : (arcs others : List Arc) (n : ℕ) (time : ℕ → ℕ → ℕ) (rank : List ℕ) (h bound : ℕ) (labels : List (List Hub)) → IsTurnOf arcs others → IsTurnOf others arcs → All (IsArcAmong n) arcs → All (IsArcAmong n) others → n ≤ 100000 → AreTimes arcs n time
+    → h < n → slice_index rank h ≤ bound → AreLabelsBelow others rank n bound labels → IsOwnLabel n time rank h (get_or labels h [])
+own_label arcs others n time rank h bound labels turn back among among' few are hh le below =
+    let lab = below.labelled h hh in
+    record {
+      sound = λ hub (k, inside, is).
+          let at = lab.sound k hub inside in
+          let ranked : IsRankedHub others rank h hub.node hub.seconds = (rw is at at).0 in
+          let within : hub.node < n = start_within others ranked.time.walk n hub.node h among' ranked.time.walks hh in
+          (within, (time_is among few are h hub.node hub.seconds hh within (IsLeastTime-turned others arcs hub.node h hub.seconds back turn ranked.time)).0);
+      complete = λ w hw low finite clear.
+          lab.complete (record { node = w; seconds = time h w })
+          (record {
+            time = IsLeastTime-turned arcs others h w (time h w) turn back (least_is among few are h w hh hw finite);
+            first = λ v before after lower from to e.
+                let hv : v < n = start_within others to.walk n v h among' to.walks hh in
+                let f : before ≡ time v w = (time_is among few are v w before hv hw (IsLeastTime-turned others arcs w v before back turn from)).0 in
+                let g : after ≡ time h v = (time_is among few are h v after hh hv (IsLeastTime-turned others arcs v h after back turn to)).0 in
+                clear v hv lower (let x : time h v + time v w ≡ time h w = omega arith in x);
+          })
+          (omega arith);
+    }

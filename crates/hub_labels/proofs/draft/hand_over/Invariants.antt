@@ -1,0 +1,10 @@
+use Rattle.std.proofs.Common.{ℕ, ◌<◌, All, length}
+use Rattle.hub_labels.specs.declared.hub.Hub.{Hub}
+use Rattle.hub_labels.specs.work.Drafts.{HandsOver}
+use Rattle.hub_labels.proofs.draft.hand_over.Given as goal
+
+abbrev pub invariant-loop-node : goal.invariant-loop-node
+invariant-loop-node l = record {
+  hands : HandsOver l.start l.via l.taken l.node-index l.initial.seconds l.initial.labels l.seconds l.labels;
+  hubs : All (λ label. All (λ (hub : Hub). hub.node < length l.via) label) l.labels;
+}

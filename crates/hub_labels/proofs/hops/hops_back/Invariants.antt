@@ -1,0 +1,10 @@
+use Rattle.std.proofs.Common.{length}
+use Rattle.road_network.specs.Roads.{IsNetwork}
+use Rattle.hub_labels.specs.work.Hops.{AreTurnedBefore}
+use Rattle.hub_labels.proofs.hops.hops_back.Given as goal
+
+abbrev pub invariant-loop-node : goal.invariant-loop-node
+invariant-loop-node l = record {
+  network : IsNetwork l.network;
+  turned : AreTurnedBefore l.network.arcs (length l.network.nodes) l.node l.hops.items;
+}

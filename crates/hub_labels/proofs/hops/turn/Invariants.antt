@@ -1,0 +1,6 @@
+use Rattle.std.proofs.Common.{length}
+use Rattle.hub_labels.specs.work.Hops.{TurnsHops}
+use Rattle.hub_labels.proofs.hops.turn.Given as goal
+
+abbrev pub invariant-loop-hop : goal.invariant-loop-hop
+invariant-loop-hop l = TurnsHops l.node l.leaving l.hop-index l.initial.hops.items l.hops.items

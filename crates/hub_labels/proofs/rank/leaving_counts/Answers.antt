@@ -1,0 +1,13 @@
+use Rattle.std.proofs.Common.{◌≤◌, length, map, ap, ◌∙◌, arith}
+use Rattle.std.proofs.lemmas.List.{length-map}
+use Rattle.road_network.specs.Roads.{hop_of, leaving}
+use Rattle.hub_labels.proofs.Degrees.{leaving_few}
+use Rattle.hub_labels.proofs.rank.leaving_counts.Goals as goal
+
+pub overflow_cast-arcs_from : goal.overflow_cast-arcs_from
+overflow_cast-arcs_from c =
+    let arcs = c.args.network.now.arcs in
+    let few = leaving_few arcs c.loop-node.node in
+    let most = c.loop-node.invariant.network.few_arcs in
+    let long = ap length c.arcs_from.ensures ∙ length-map (leaving c.loop-node.node arcs) hop_of in
+    omega (arith, few, most, long)

@@ -1,0 +1,30 @@
+use Rattle.std.proofs.Common.{◌≡◌, ℕ, ◌+◌, ◌-◌, ◌*◌, ◌<◌, ◌≤◌, ◌%◌, length, slice_index, map, ap, sym, ◌∙◌, subst, List, arith}
+use Rattle.std.proofs.lemmas.List.{get_or_default}
+use Rattle.hub_labels.specs.Rank.{degree}
+use Rattle.hub_labels.specs.work.Order.{key_of, IsNodeOrder}
+use Rattle.hub_labels.proofs.Keys.{degree_most}
+use Rattle.hub_labels.proofs.Order.{node_order}
+use Rattle.hub_labels.proofs.rank.nodes_by_rank.Goals as goal
+
+pub keys_of-requires-clause-few : goal.keys_of-requires-clause-few
+keys_of-requires-clause-few c = rw c.deref.ensures.value (omega (arith, c.in_ok-degrees.ensures.each, c.node_count-nodes.ensures.kept.few_nodes))
+
+pub keys_of-requires-clause-small : goal.keys_of-requires-clause-small
+keys_of-requires-clause-small c = rw c.deref.ensures.value (λ node d h.
+    let few = c.node_count-nodes.ensures.kept.few_arcs in
+    let most = degree_most c.args.network.now.arcs node few in
+    let is = c.in_ok-degrees.ensures.degrees node (omega (arith, h, c.in_ok-degrees.ensures.each)) in
+    rw (get_or_default c.in_ok-degrees.degrees.items node d 0 h) (omega (arith, most, is)))
+
+pub returns : goal.returns
+returns c =
+    let roads = c.args.network.now in
+    let n = length roads.nodes in
+    let sorted = c.sort_unstable.new.self.items in
+    let each = c.in_ok-degrees.ensures.each in
+    let read = ap length c.deref.ensures.value in
+    let keys : (node : ℕ) → node < length c.args.network.now.nodes → slice_index c.in_ok-keys.keys.items node ≡ key_of c.args.network.now.arcs node = λ node h.
+    (rw c.deref.ensures.value at c.in_ok-keys.ensures.1) node (omega (arith, h, each)) ∙ ap (λ (d : ℕ). (1000000 - d) * 100000 + node) (c.in_ok-degrees.ensures.degrees node h) in
+    let order : IsNodeOrder roads.arcs n (map (λ (key : ℕ). key % 100000) sorted) = node_order roads.arcs n c.in_ok-keys.keys.items sorted c.node_count-nodes.ensures.kept.few_nodes (c.in_ok-keys.ensures.0 ∙ read ∙ each) keys c.sort_unstable.ensures.permutation c.sort_unstable.ensures.sorted in
+    let nodes = rw c.deref-2.ensures.value at c.in_ok-order.ensures in
+    subst (λ (xs : List ℕ). IsNodeOrder roads.arcs n xs) (sym nodes) order

@@ -1,0 +1,6 @@
+use Rattle.std.proofs.Common.{◌≡◌, length}
+use Rattle.hub_labels.specs.work.Drafts.{HasSpread}
+use Rattle.hub_labels.proofs.via.spread.Given as goal
+
+abbrev pub invariant-loop-hub : goal.invariant-loop-hub
+invariant-loop-hub l = HasSpread l.label l.hub-index l.via

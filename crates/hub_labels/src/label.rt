@@ -1,0 +1,45 @@
+ghost use Rattle.std.specs.Prelude.{◌≡◌, ◌++◌, ◌∷◌, [], OnOk};
+
+use crate::hub::Hub;
+use pool_base::OutOfMemory;
+use std::alloc::Global;
+use std::marker::Model;
+
+/// The hubs of a node, by rank. Contracts see it as the list.
+#[derive(Drop)]
+pub struct Label {
+    hubs: Vec<Hub>,
+}
+
+impl Model for Label {
+    ghost use Rattle.std.specs.Prelude.{List};
+    ghost use Rattle.hub_labels.specs.declared.hub.Hub.{Hub};
+
+    ghost Value = { List Hub };
+
+    ghost view = { λ label. label.hubs.items };
+}
+
+impl Label {
+    pub(crate) fn empty(alloc: Global) -> Label
+        ensures { result ≡ [] }
+    {
+        Label {
+            hubs: Vec::new(alloc),
+        }
+    }
+
+    /// One more hub at the end.
+    pub(crate) fn push(&mut self, hub: Hub) -> Result<(), OutOfMemory>
+        ensures { OnOk result (self.new ≡ self.old ++ hub ∷ []) }
+    {
+        self.hubs.push(hub)?;
+        Ok(())
+    }
+
+    pub(crate) fn as_slice(&self) -> &[Hub]
+        ensures { result.now ≡ self.now }
+    {
+        self.hubs.as_slice()
+    }
+}

@@ -1,0 +1,132 @@
+ghost use Rattle.std.specs.Prelude.{◌≡◌, ◌==◌, ℕ, ◌<◌, [], IfOk, MatchOption, length, replicate};
+ghost use Rattle.road_network.specs.Roads.{Roads};
+ghost use Rattle.road_network.specs.Walk.{HasNoWalk, IsLeastTime, IsTimeBetween};
+ghost use Rattle.hub_labels.specs.Labels.{AreLabelsOf, label_at};
+
+use crate::common::least_in_common;
+use crate::hops::{hops_ahead, hops_back};
+use crate::hub::Hub;
+use crate::label::Label;
+use crate::rank::{nodes_by_rank, ranks_of};
+use crate::space::{Space, add_hub};
+use pool_base::{OutOfMemory, Times};
+use road_network::Network;
+use std::alloc::Global;
+use std::marker::Model;
+
+/// The hub labels of a road network. Contracts see the hubs of each node, by index: those that it reaches, and those that
+/// reach it.
+#[derive(Drop)]
+pub struct Labels {
+    /// By node: its rank.
+    rank: Vec<u32>,
+    forward: Vec<Label>,
+    backward: Vec<Label>,
+}
+
+impl Model for Labels {
+    ghost use Rattle.hub_labels.specs.Labels.{NodeLabels};
+    ghost use Rattle.hub_labels.specs.work.Common.{RiseByRank};
+
+    ghost Value = { NodeLabels };
+
+    ghost view = { λ a. record { forward = a.forward.items; backward = a.backward.items } };
+
+    ghost invariant = { λ a. RiseByRank a.rank.items a.forward.items a.backward.items };
+}
+
+impl Labels {
+    /// The labels of a network: by rank, one pruned search forward and one backward from each node.
+    pub fn build(alloc: Global, network: &Network) -> Result<Labels, OutOfMemory>
+        ensures { IfOk result (AreLabelsOf network.now) }
+    {
+        let nodes = network.node_count();
+        let order = nodes_by_rank(alloc, network)?;
+        let rank = ranks_of(alloc, nodes, &order)?;
+        let ahead = hops_ahead(alloc, network)?;
+        let back = hops_back(alloc, network)?;
+        let mut forward = no_labels(alloc, nodes)?;
+        let mut backward = no_labels(alloc, nodes)?;
+        let mut space = Space::new(alloc, nodes)?;
+        for node in order.as_slice() {
+            let start = *node as usize;
+            add_hub(&mut space, &ahead, &forward, &mut backward, start)?;
+            add_hub(&mut space, &back, &backward, &mut forward, start)?;
+        }
+        Ok(Labels {
+            rank,
+            forward,
+            backward,
+        })
+    }
+
+    /// How many nodes have labels.
+    pub fn len(&self) -> usize
+        ensures forward { result ≡ length self.now.forward }
+        ensures backward { result ≡ length self.now.backward }
+    {
+        self.forward.len()
+    }
+
+    /// Whether there is no node.
+    pub fn is_empty(&self) -> bool
+        ensures { result ≡ (length self.now.forward == 0) }
+    {
+        self.forward.is_empty()
+    }
+
+    /// The hubs that a node reaches, by rank, with the seconds to them.
+    pub fn forward(&self, a: usize) -> &[Hub]
+        requires { a < length self.now.forward }
+        ensures { result.now ≡ label_at self.now.forward a }
+    {
+        self.forward[a].as_slice()
+    }
+
+    /// The hubs that reach a node, by rank, with the seconds from them.
+    pub fn backward(&self, b: usize) -> &[Hub]
+        requires { b < length self.now.backward }
+        ensures { result.now ≡ label_at self.now.backward b }
+    {
+        self.backward[b].as_slice()
+    }
+
+    /// The least seconds over all walks from one node to another, by the hubs that their labels have in common; `NEVER`
+    /// exactly where there is no walk.
+    pub(crate) fn time(&self, a: usize, b: usize) -> u32
+        requires from { a < length self.now.forward }
+        requires to { b < length self.now.backward }
+        ensures { (roads : Roads) → AreLabelsOf roads self.now → IsTimeBetween roads.arcs a b result }
+    {
+        least_in_common(
+            &self.rank,
+            self.forward[a].as_slice(),
+            self.backward[b].as_slice(),
+        )
+    }
+
+    /// The least seconds over all walks from one node to another; `None` exactly where there is no walk. It takes no memory.
+    pub fn seconds(&self, a: usize, b: usize) -> Option<u32>
+        requires from { a < length self.now.forward }
+        requires to { b < length self.now.backward }
+        ensures { (roads : Roads) → AreLabelsOf roads self.now → MatchOption result (HasNoWalk roads.arcs a b) (IsLeastTime roads.arcs a b) }
+    {
+        let seconds = self.time(a, b);
+        if seconds == Times::NEVER {
+            None
+        } else {
+            Some(seconds)
+        }
+    }
+}
+
+/// As many nodes without hubs.
+fn no_labels(alloc: Global, nodes: usize) -> Result<Vec<Label>, OutOfMemory>
+    ensures { IfOk result (λ labels. labels.items ≡ replicate nodes []) }
+{
+    let mut labels = Vec::with_capacity(alloc, nodes)?;
+    for _ in 0..nodes {
+        labels.push(Label::empty(alloc))?;
+    }
+    Ok(labels)
+}

@@ -1,0 +1,12 @@
+//! The linear relaxation of an assignment: rows may be chosen in part.
+//!
+//! Multipliers come out of it that nobody has to trust: a leaf value judges them. Numbers are in fixed
+//! point, so that each machine does the same.
+#![tactic(auto)]
+
+pub mod fixed_point;
+mod relaxation;
+#[cfg(test)]
+mod tests;
+
+pub use relaxation::{Relaxation, RowTable, Saved, Share, first_multipliers};

@@ -1,0 +1,371 @@
+//! The linear relaxation of an assignment: rows may be chosen in part.
+//!
+//! The revised simplex method in fixed point, so that each machine does the same, over a pool of rows to
+//! which a pass over all rows adds those that better the solution (column generation; Gilmore and Gomory,
+//! 1961). There is a condition for each vehicle, then one for each rider. Nothing is proved of how good a
+//! solution is: a leaf value judges any multipliers.
+ghost use Rattle.std.specs.Prelude.{◌≡◌, IfOk, length};
+
+mod basis;
+mod climb;
+mod elimination;
+mod factors;
+mod lists;
+mod pivots;
+mod pool;
+mod pricing;
+mod row_table;
+
+use crate::fixed_point::{ONE, at, copy, item, set_at, times};
+use crate::relaxation::basis::Basis;
+use crate::relaxation::elimination::reset;
+use crate::relaxation::lists::short;
+use crate::relaxation::pool::{Candidate, Pool};
+pub use climb::first_multipliers;
+use pool_base::OutOfMemory;
+pub use row_table::RowTable;
+use std::alloc::Global;
+
+/// Within so much of what it may be at most a solution counts as the best, in 1/1024 second.
+const NEAR: i64 = 200;
+
+/// No column costs more, in units of 2^scale seconds.
+const MOST_COST: i64 = 10_000_000;
+
+/// How many passes over all rows a solution takes at most.
+const MOST_PASSES: u32 = 1000;
+
+/// A part of a row that a solution chooses.
+#[derive(Clone, Copy, Debug)]
+pub struct Share {
+    pub row: u32,
+    /// How much of it, in units of 2^-32.
+    pub part: i64,
+}
+
+/// A basis and its factors, to come back to.
+#[derive(Debug, Drop)]
+pub struct Saved {
+    basis: Basis,
+}
+
+/// A solution of the relaxation of some rows, and the work space for the next one.
+///
+/// A number of a column is that of a row, or a rider's behind the rows, who is left out, or behind those a
+/// vehicle's without rows.
+#[derive(Debug, Drop)]
+pub struct Relaxation {
+    basis: Basis,
+    pool: Pool,
+    is_forbidden: Vec<bool>,
+    /// What each row costs, in the units of prices.
+    row_costs: Vec<i64>,
+    /// What it costs to leave out each rider, in the units of prices.
+    left_costs: Vec<i64>,
+    /// The prices of the conditions, in units of 2^-32 of 2^scale seconds.
+    prices: Vec<i64>,
+    scale: u32,
+    /// The column that comes in, over the places.
+    entering: Vec<i64>,
+    /// What each place costs, and how much of it is chosen.
+    costs: Vec<i64>,
+    parts: Vec<i64>,
+    candidates: Vec<Candidate>,
+    /// In how many turns the candidates are still good.
+    turns: u32,
+    pivots: u64,
+    most_pivots: u64,
+    /// The best multipliers of the last solution and their value, in 1/1024 second.
+    multipliers: Vec<i64>,
+    value: i64,
+    /// The multipliers at hand, and for each vehicle the least reduced cost of its rows under them.
+    tried: Vec<i64>,
+    least: Vec<i64>,
+    offers: Vec<(i64, u32)>,
+}
+
+impl Relaxation {
+    /// The solution where each vehicle has this row: each vehicle with rows has one, and no two of them have
+    /// a rider in common.
+    pub fn new(
+        alloc: Global,
+        table: &RowTable,
+        start: &[Option<u32>],
+    ) -> Result<Self, OutOfMemory> {
+        let mut relaxation = Relaxation {
+            basis: Basis::new(alloc, table, start)?,
+            pool: Pool::new(alloc, table)?,
+            is_forbidden: Vec::new(alloc),
+            row_costs: Vec::new(alloc),
+            left_costs: Vec::new(alloc),
+            prices: Vec::new(alloc),
+            scale: scale_of(table),
+            entering: Vec::new(alloc),
+            costs: Vec::new(alloc),
+            parts: Vec::new(alloc),
+            candidates: Vec::new(alloc),
+            turns: 0,
+            pivots: 0,
+            most_pivots: u64::MAX,
+            multipliers: Vec::new(alloc),
+            value: i64::MIN,
+            tried: Vec::new(alloc),
+            least: Vec::new(alloc),
+            offers: Vec::new(alloc),
+        };
+        relaxation.make_space(table)?;
+        relaxation.set_true_costs(table);
+        Ok(relaxation)
+    }
+
+    fn make_space(&mut self, table: &RowTable) -> Result<(), OutOfMemory> {
+        let count = table.vehicle_count().saturating_add(table.rider_count());
+        reset(&mut self.is_forbidden, table.row_count(), false)?;
+        for row in 0..table.row_count() {
+            self.row_costs.push(in_prices(table.cost(row), self.scale))?;
+        }
+        reset(&mut self.left_costs, table.rider_count(), 0)?;
+        reset(&mut self.prices, count, 0)?;
+        reset(&mut self.entering, count, 0)?;
+        reset(&mut self.costs, count, 0)?;
+        reset(&mut self.parts, count, 0)?;
+        reset(&mut self.multipliers, table.rider_count(), 0)?;
+        reset(&mut self.tried, table.rider_count(), 0)?;
+        reset(&mut self.least, table.vehicle_count(), 0)
+    }
+
+    /// Has it cost as much to leave out a rider as the table says.
+    pub fn set_true_costs(&mut self, table: &RowTable) {
+        for rider in 0..self.left_costs.len() {
+            let cost = in_prices(table.cost_left(rider), self.scale);
+            set_at(&mut self.left_costs, rider, cost);
+        }
+    }
+
+    /// Has it cost no more to leave out a rider than her multiplier, in 1/1024 second, and these seconds.
+    pub fn set_boxed_costs(&mut self, table: &RowTable, multipliers: &[i64], seconds: i64) {
+        for rider in 0..self.left_costs.len() {
+            let boxed = (at(multipliers, rider) / 1024).saturating_add(seconds);
+            let cost = in_prices(boxed.min(table.cost_left(rider)), self.scale);
+            set_at(&mut self.left_costs, rider, cost);
+        }
+    }
+
+    /// Goes on to a solution over the rows that aren't forbidden, by passes over all of them that put up to
+    /// so many of each vehicle into the pool. It ends early once its value reaches this one, in 1/1024
+    /// second.
+    pub fn solve(
+        &mut self,
+        table: &RowTable,
+        most_value: i64,
+        most_rows: usize,
+        most_passes: u32,
+    ) -> Result<(), OutOfMemory> {
+        self.value = i64::MIN;
+        for pass in 0..most_passes.min(MOST_PASSES) {
+            self.pivot_on(table, u64::MAX)?;
+            self.reprice(table);
+            self.find_multipliers(table);
+            let added = self.pass(table, most_rows)?;
+            if self.value >= most_value || added == 0 || self.is_spent() {
+                return Ok(());
+            }
+            if (pass % 2 == 1 || added < 20) && self.is_near(table) {
+                return Ok(());
+            }
+        }
+        Ok(())
+    }
+
+    /// Puts the rows of least reduced cost of each vehicle under these multipliers into the pool.
+    pub fn fill_pool(
+        &mut self,
+        table: &RowTable,
+        multipliers: &[i64],
+        most_rows: usize,
+    ) -> Result<(), OutOfMemory> {
+        for vehicle in 0..table.vehicle_count() {
+            self.offer_rows(table, multipliers, vehicle, i64::MAX, most_rows)?;
+        }
+        Ok(())
+    }
+
+    /// Puts all rows into the pool.
+    pub fn fill_pool_whole(&mut self, table: &RowTable) -> Result<(), OutOfMemory> {
+        for row in 0..table.row_count() {
+            self.pool.add(row)?;
+        }
+        Ok(())
+    }
+
+    /// Takes the rows out of the pool whose reduced cost lies so much above their vehicle's least one, in
+    /// 1/1024 second.
+    pub fn shrink_pool(&mut self, table: &RowTable, multipliers: &[i64], most: i64) {
+        for vehicle in 0..table.vehicle_count() {
+            let least = self.least_reduced_cost(table, multipliers, vehicle);
+            if vehicle < self.least.len() {
+                self.least[vehicle] = least;
+            }
+        }
+        self.pool
+            .keep(table, multipliers, &self.least, most, &self.basis);
+    }
+
+    /// Has these count as the best multipliers, with this value.
+    pub fn set_best(&mut self, multipliers: &[i64], value: i64) {
+        copy(multipliers, &mut self.multipliers);
+        self.value = value;
+    }
+
+    /// The best multipliers of the last solution for so many riders, in 1/1024 second; 0 for one whom it
+    /// doesn't know.
+    pub fn multipliers(&self, alloc: Global, riders: usize) -> Result<Vec<i64>, OutOfMemory>
+        ensures { IfOk result (λ ms. length ms.items ≡ riders) }
+    {
+        let mut multipliers = vec![in alloc; 0; riders]?;
+        copy(&self.multipliers, &mut multipliers);
+        Ok(multipliers)
+    }
+
+    /// Their value over the rows that aren't forbidden, in 1/1024 second.
+    pub fn value(&self) -> i64 {
+        self.value
+    }
+
+    /// How many columns came in so far.
+    pub fn pivots(&self) -> u64 {
+        self.pivots
+    }
+
+    /// Breaks solutions off once so many columns came in.
+    pub fn set_most_pivots(&mut self, most: u64) {
+        self.most_pivots = most;
+    }
+
+    /// Whether as many columns came in as may.
+    pub fn is_spent(&self) -> bool {
+        self.pivots >= self.most_pivots
+    }
+
+    pub fn is_forbidden(&self, row: usize) -> bool {
+        item(&self.is_forbidden, row, false)
+    }
+
+    /// Forbids a row: it stays in the basis, at a cost at which it leaves. Whether it wasn't forbidden.
+    pub fn forbid(&mut self, row: usize) -> bool {
+        let is_new = !item(&self.is_forbidden, row, true);
+        set_at(&mut self.is_forbidden, row, true);
+        is_new
+    }
+
+    pub fn allow(&mut self, row: usize) {
+        set_at(&mut self.is_forbidden, row, false);
+    }
+
+    /// The columns of the basis.
+    pub fn columns(&self) -> &[u32] {
+        self.basis.columns()
+    }
+
+    /// Goes to a basis that was one before.
+    pub fn go_to(&mut self, table: &RowTable, columns: &[u32]) -> Result<(), OutOfMemory> {
+        self.basis.go_to(columns)?;
+        for column in columns {
+            if (*column as usize) < table.row_count() {
+                self.pool.add(*column as usize)?;
+            }
+        }
+        Ok(())
+    }
+
+    /// Room for a basis.
+    pub fn saved(&self, alloc: Global, table: &RowTable) -> Result<Saved, OutOfMemory> {
+        Ok(Saved {
+            basis: Basis::new(alloc, table, &[])?,
+        })
+    }
+
+    /// Writes the basis there.
+    pub fn save(&self, saved: &mut Saved) -> Result<(), OutOfMemory> {
+        saved.basis.copy_from(&self.basis)
+    }
+
+    /// Goes back to the basis that was written there.
+    pub fn go_back(&mut self, saved: &Saved) -> Result<(), OutOfMemory> {
+        self.basis.copy_from(&saved.basis)
+    }
+
+    /// What the solution costs, in units of 2^-32 of 2^scale seconds.
+    pub fn cost(&self, table: &RowTable) -> i64 {
+        let mut cost: i64 = 0;
+        for place in 0..self.basis.len() {
+            let whole = self.cost_of(table, self.basis.column(place));
+            cost = cost.wrapping_add(times(whole, self.basis.level(place)));
+        }
+        cost
+    }
+
+    /// A number of seconds in the units of costs.
+    pub fn in_prices(&self, seconds: i64) -> i64 {
+        in_prices(seconds, self.scale)
+    }
+
+    /// Lists the rows of which the solution chooses more than a hundredth.
+    pub fn find_shares(
+        &mut self,
+        table: &RowTable,
+        shares: &mut Vec<Share>,
+    ) -> Result<(), OutOfMemory> {
+        self.basis.find_parts(&mut self.parts);
+        shares.clear();
+        for place in 0..self.basis.len() {
+            let row = self.basis.column(place);
+            let part = at(&self.parts, place);
+            if row < table.row_count() && part > ONE / 100 {
+                shares.push(Share {
+                    row: short(row),
+                    part,
+                })?;
+            }
+        }
+        Ok(())
+    }
+
+    /// Whether the value is so near to what the solution costs that it is the best.
+    fn is_near(&mut self, table: &RowTable) -> bool {
+        self.basis.find_parts(&mut self.parts);
+        let mut cost: i64 = 0;
+        for place in 0..self.basis.len() {
+            let whole = self.cost_of(table, self.basis.column(place));
+            cost = cost.wrapping_add(times(whole, at(&self.parts, place)));
+        }
+        let bound = self.in_multipliers(cost);
+        bound.saturating_sub(self.value) < NEAR
+    }
+
+    /// A price in 1/1024 second.
+    fn in_multipliers(&self, price: i64) -> i64 {
+        let shift = 22 - self.scale.min(21);
+        price.wrapping_add(1 << (shift - 1)) >> shift
+    }
+}
+
+/// How many bits of costs are given up so that they, and what is forbidden, have room before the point.
+fn scale_of(table: &RowTable) -> u32 {
+    let mut greatest = table.penalty();
+    for row in 0..table.row_count() {
+        greatest = greatest.max(table.cost(row));
+    }
+    for scale in 0..14 {
+        if greatest >> scale <= 65536 {
+            return scale;
+        }
+    }
+    14
+}
+
+/// Seconds in units of 2^-32 of 2^scale seconds. What costs very much costs the most.
+fn in_prices(seconds: i64, scale: u32) -> i64 {
+    let units = seconds.clamp(-(1 << 40), 1 << 40) * 256 >> scale.min(20);
+    units.clamp(-MOST_COST * 256, MOST_COST * 256) * (1 << 24)
+}

@@ -1,0 +1,324 @@
+//! A draft: the relaxation of all rows, plans made from it, and a tree where they leave a gap.
+use crate::plans::Plans;
+use draft_trees::{DraftTree, Draws, Effort, Growth, by_falling_part, dive, seconds_of};
+use linear_relaxation::{Relaxation, RowTable, Share, first_multipliers};
+use pool_base::OutOfMemory;
+use std::alloc::Global;
+
+/// Beyond so many rows the first multipliers take more turns.
+const MANY_ROWS: usize = 20_000;
+
+const TURNS: u32 = 60;
+
+const MORE_TURNS: u32 = 200;
+
+/// How many rows of a vehicle a pass puts into the pool.
+const MOST_ROWS: usize = 20;
+
+/// How far above its multiplier it costs to leave out a rider at first, in seconds.
+const BOX: i64 = 5;
+
+/// Beyond so many vehicles and riders a trial is dear.
+const MANY_CONDITIONS: usize = 800;
+
+/// How many columns come in before the first tree tries no more.
+const QUICK_PIVOTS: u64 = 60_000;
+
+/// How many columns come in before the second tree tries no more, times vehicles and riders.
+const MOST_WORK: u64 = 120_000_000;
+
+/// With so many nodes the first tree ends unless a third of the gap is closed.
+const PROBE: usize = 40;
+
+/// After so many neighbourhoods in a row without a gain a plan is left, and how far each is searched.
+const IDLE: u32 = 300;
+
+const MORE_IDLE: u32 = 1500;
+
+const STEPS: u32 = 500;
+
+const MORE_STEPS: u32 = 2000;
+
+/// How many moves an annealing has.
+const MOVES: u64 = 2_000_000;
+
+/// How many plans are merged at most.
+const MOST_OPTIMA: usize = 10;
+
+/// How many small programs a round solves.
+const PROGRAMS: u32 = 20;
+
+/// How far from a vehicle's least a merged row's reduced cost may be where nobody is left out, in seconds.
+const MERGE_WIDTH: i64 = 5;
+
+/// A draft in the making.
+#[derive(Drop)]
+struct Drafting {
+    alloc: Global,
+    relaxation: Relaxation,
+    plans: Plans,
+    /// The first multipliers that are the best for all rows, their value in 1/1024 second, and the basis.
+    multipliers: Vec<i64>,
+    value: i64,
+    basis: Vec<u32>,
+    shares: Vec<Share>,
+    /// The best plan so far and its cost in seconds, and the bound.
+    plan: Vec<Option<u32>>,
+    cost: i64,
+    bound: i64,
+    draws: Draws,
+}
+
+/// The best plan that is found, and a tree of at most so many nodes. The held plan is lawful.
+pub fn make_draft(
+    alloc: Global,
+    table: &RowTable,
+    held: &[Option<u32>],
+    budget: usize,
+) -> Result<DraftTree, OutOfMemory> {
+    let mut drafting = Drafting::new(alloc, table, held)?;
+    drafting.make_plans(table)?;
+    let mut tree = drafting.quick_tree(table, budget)?;
+    if drafting.is_open() {
+        drafting.make_more_plans(table)?;
+        if drafting.is_open() && !drafting.is_near(2000) {
+            let other = drafting.strong_tree(table, budget)?;
+            if other.bound >= tree.bound {
+                tree = other;
+            }
+        }
+    }
+    tree.plan.clear();
+    tree.plan.extend_from_slice(&drafting.plan)?;
+    tree.cost = drafting.cost;
+    Ok(tree)
+}
+
+impl Drafting {
+    /// Solves the relaxation.
+    fn new(alloc: Global, table: &RowTable, held: &[Option<u32>]) -> Result<Self, OutOfMemory> {
+        let turns = if table.row_count() > MANY_ROWS {
+            MORE_TURNS
+        } else {
+            TURNS
+        };
+        let first = first_multipliers(alloc, table, turns)?;
+        let mut relaxation = Relaxation::new(alloc, table, held)?;
+        relaxation.fill_pool(table, &first, MOST_ROWS)?;
+        relaxation.set_boxed_costs(table, &first, BOX);
+        relaxation.pivot_on(table, u64::MAX)?;
+        relaxation.set_true_costs(table);
+        relaxation.solve(table, i64::MAX, MOST_ROWS, u32::MAX)?;
+        let mut shares = Vec::new(alloc);
+        relaxation.find_shares(table, &mut shares)?;
+        Ok(Drafting {
+            alloc,
+            plans: Plans::new(alloc, table)?,
+            multipliers: relaxation.multipliers(alloc, table.rider_count())?,
+            value: relaxation.value(),
+            basis: Vec::from_slice(alloc, relaxation.columns())?,
+            shares: by_falling_part(alloc, &shares)?,
+            plan: Vec::new(alloc),
+            cost: i64::MAX / 4096,
+            bound: seconds_of(relaxation.value()),
+            relaxation,
+            draws: Draws::new(5),
+        })
+    }
+
+    fn is_open(&self) -> bool {
+        self.bound < self.cost
+    }
+
+    /// Whether the gap is no more than this part of the cost.
+    fn is_near(&self, part: i64) -> bool {
+        self.cost.saturating_sub(self.bound).saturating_mul(part) <= self.cost
+    }
+
+    /// Keeps the plan at hand where it is the best so far.
+    fn keep(&mut self) -> Result<(), OutOfMemory> {
+        if self.plans.cost() < self.cost {
+            self.cost = self.plans.cost();
+            self.plan.clear();
+            self.plan.extend_from_slice(self.plans.chosen())?;
+        }
+        Ok(())
+    }
+
+    /// Makes a plan from the solution and one by a dive, each bettered by neighbourhoods.
+    fn make_plans(&mut self, table: &RowTable) -> Result<(), OutOfMemory> {
+        self.plans.price(table, &self.multipliers)?;
+        self.plans.round(table, &self.shares)?;
+        self.plans.better(table, self.bound, IDLE, STEPS)?;
+        self.keep()?;
+        if self.is_open() {
+            self.dive(table, false, IDLE, STEPS)?;
+        }
+        Ok(())
+    }
+
+    /// A plan by a dive, bettered by neighbourhoods. Whether there is one.
+    fn dive(
+        &mut self,
+        table: &RowTable,
+        is_drawn: bool,
+        idle: u32,
+        steps: u32,
+    ) -> Result<bool, OutOfMemory> {
+        let found = dive(
+            self.alloc,
+            table,
+            &mut self.relaxation,
+            &self.basis,
+            &mut self.draws,
+            is_drawn,
+        )?;
+        match found {
+            None => Ok(false),
+            Some(plan) => {
+                self.plans.adopt(table, &plan)?;
+                self.plans.better(table, self.bound, idle, steps)?;
+                self.keep()?;
+                Ok(true)
+            }
+        }
+    }
+
+    fn quick_tree(&mut self, table: &RowTable, budget: usize) -> Result<DraftTree, OutOfMemory> {
+        let is_large = is_large(table);
+        let effort = Effort {
+            candidates: if is_large { 6 } else { 12 },
+            pivots: if is_large { 60 } else { 300 },
+            most_pivots: self.relaxation.pivots().saturating_add(QUICK_PIVOTS),
+        };
+        self.tree(
+            table,
+            Growth {
+                budget,
+                effort,
+                probe: PROBE,
+            },
+        )
+    }
+
+    fn strong_tree(&mut self, table: &RowTable, budget: usize) -> Result<DraftTree, OutOfMemory> {
+        let is_large = is_large(table);
+        let conditions = table.vehicle_count().saturating_add(table.rider_count());
+        let most = MOST_WORK.checked_div(conditions as u64).unwrap_or(0);
+        let effort = Effort {
+            candidates: if is_large { 3 } else { 60 },
+            pivots: if is_large { 60 } else { 600 },
+            most_pivots: self.relaxation.pivots().saturating_add(most),
+        };
+        self.tree(
+            table,
+            Growth {
+                budget,
+                effort,
+                probe: usize::MAX,
+            },
+        )
+    }
+
+    /// A tree from the first solution. Rows whose reduced cost exceeds the gap leave the pool before it.
+    fn tree(&mut self, table: &RowTable, growth: Growth) -> Result<DraftTree, OutOfMemory> {
+        self.relaxation.go_to(table, &self.basis)?;
+        self.relaxation.pivot_on(table, u64::MAX)?;
+        let gap = self.cost.saturating_mul(1024).saturating_sub(self.value);
+        self.relaxation.shrink_pool(table, &self.multipliers, gap);
+        self.relaxation.set_best(&self.multipliers, self.value);
+        let mut tree = DraftTree::new(
+            self.alloc,
+            table,
+            &mut self.relaxation,
+            &self.plan,
+            self.cost,
+        )?;
+        if self.is_open() {
+            tree.grow(self.alloc, table, &mut self.relaxation, growth)?;
+        }
+        self.bound = self.bound.max(tree.bound);
+        if tree.cost < self.cost {
+            self.cost = tree.cost;
+            self.plan.clear();
+            self.plan.extend_from_slice(&tree.plan)?;
+        }
+        Ok(tree)
+    }
+
+    /// Rounds of annealing, drawn dives and merges: annealing where more riders might be served.
+    fn make_more_plans(&mut self, table: &RowTable) -> Result<(), OutOfMemory> {
+        let gap = self.cost.saturating_sub(self.bound);
+        let is_wide = gap >= table.penalty() / 4;
+        let rounds = if is_wide {
+            4
+        } else if self.is_near(2000) {
+            2
+        } else {
+            8
+        };
+        let mut optima: Vec<Vec<Option<u32>>> = Vec::new(self.alloc);
+        optima.push(Vec::from_slice(self.alloc, &self.plan)?)?;
+        for round in 0..rounds {
+            if self.is_open() {
+                self.make_round(table, round, is_wide, &mut optima)?;
+            }
+        }
+        Ok(())
+    }
+
+    fn make_round(
+        &mut self,
+        table: &RowTable,
+        round: u32,
+        is_wide: bool,
+        optima: &mut Vec<Vec<Option<u32>>>,
+    ) -> Result<(), OutOfMemory> {
+        if is_wide {
+            self.plans.adopt(table, &self.plan)?;
+            self.plans.anneal(table, round, MOVES)?;
+            self.plans.better(table, self.bound, MORE_IDLE, MORE_STEPS)?;
+            self.keep()?;
+            self.note(optima)?;
+        }
+        let idle = if is_wide { MORE_IDLE } else { 2 * MORE_IDLE };
+        if self.is_open() && self.dive(table, round > 0, idle, MORE_STEPS)? {
+            self.note(optima)?;
+        }
+        if self.is_open() {
+            self.merge(table, is_wide, optima)?;
+        }
+        if self.is_open() && !is_wide {
+            self.plans.try_programs(table, PROGRAMS)?;
+            self.keep()?;
+        }
+        Ok(())
+    }
+
+    fn merge(
+        &mut self,
+        table: &RowTable,
+        is_wide: bool,
+        optima: &mut Vec<Vec<Option<u32>>>,
+    ) -> Result<(), OutOfMemory> {
+        self.plans.adopt(table, &self.plan)?;
+        let width = if is_wide { 0 } else { MERGE_WIDTH };
+        self.plans.merge(table, optima, width)?;
+        self.plans.better(table, self.bound, IDLE, MORE_STEPS)?;
+        self.keep()?;
+        self.note(optima)
+    }
+
+    /// Puts the plan at hand among the optima, in place of the oldest where there are many.
+    fn note(&self, optima: &mut Vec<Vec<Option<u32>>>) -> Result<(), OutOfMemory> {
+        if optima.len() >= MOST_OPTIMA {
+            optima.remove(0);
+        }
+        optima.push(Vec::from_slice(self.alloc, self.plans.chosen())?)?;
+        Ok(())
+    }
+}
+
+fn is_large(table: &RowTable) -> bool {
+    table.vehicle_count().saturating_add(table.rider_count()) > MANY_CONDITIONS
+}

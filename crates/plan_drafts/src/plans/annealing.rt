@@ -1,0 +1,345 @@
+//! Simulated annealing (Kirkpatrick, Gelatt and Vecchi, 1983), for where one rider more could be served.
+//!
+//! A move gives a vehicle another row that has a drawn rider. The vehicles that served the row's riders
+//! fall back to their rows without them, the riders whom the vehicle served before go where they are
+//! cheapest, and the vehicles that lost riders fill up. A move that isn't taken is undone by its log.
+
+use crate::plans::beside::Beside;
+use crate::plans::cooling::{Chances, Cooling};
+use draft_trees::Draws;
+use crate::plans::flat::{Groups, NONE, at, narrow, put};
+use crate::plans::regrets::Regrets;
+use linear_relaxation::RowTable;
+use pool_base::OutOfMemory;
+use std::alloc::Global;
+
+/// How many moves have the same temperature.
+const MOVES_EACH: u64 = 1024;
+
+/// How many moves there are at most for each row of the table.
+const MOVES_A_ROW: u64 = 600;
+
+/// How many riders a row has at most.
+const MOST_RIDERS: usize = 6;
+
+/// Of how many rows of each vehicle moves take one, round after round.
+const WIDTHS: [usize; 3] = [40, 200, 80];
+
+/// A vehicle and the row that it had before a step.
+#[derive(Clone, Copy)]
+struct Step {
+    vehicle: u32,
+    row: u32,
+}
+
+/// A plan under way and the best one so far, with what moves need.
+#[derive(Drop)]
+pub struct Annealing {
+    beside: Beside,
+    chances: Chances,
+    draws: Draws,
+    /// For each rider the rows that moves take.
+    proposals: Groups,
+    rows: Vec<u32>,
+    servers: Vec<u32>,
+    /// What the move at hand costs, in seconds, its steps, whom it dropped, and who lost a rider.
+    change: i64,
+    log: Vec<Step>,
+    dropped: Vec<u32>,
+    short: Vec<u32>,
+    /// What the plan costs above the one at the start, and the least that there was.
+    above: i64,
+    least: i64,
+    best: Vec<Option<u32>>,
+}
+
+impl Annealing {
+    pub fn new(alloc: Global, table: &RowTable) -> Result<Self, OutOfMemory> {
+        Ok(Annealing {
+            beside: Beside::new(alloc, table)?,
+            chances: Chances::new(alloc)?,
+            draws: Draws::new(999),
+            proposals: Groups::new(alloc),
+            rows: vec![in alloc; NONE; table.vehicle_count()]?,
+            servers: vec![in alloc; NONE; table.rider_count()]?,
+            change: 0,
+            log: Vec::new(alloc),
+            dropped: Vec::new(alloc),
+            short: Vec::new(alloc),
+            above: 0,
+            least: 0,
+            best: vec![in alloc; None; table.vehicle_count()]?,
+        })
+    }
+
+    /// Makes so many moves from this plan, fewer where there are few rows. Whether it found a better one.
+    pub fn run(
+        &mut self,
+        table: &RowTable,
+        regrets: &Regrets,
+        chosen: &[Option<u32>],
+        round: u32,
+        moves: u64,
+    ) -> Result<bool, OutOfMemory> {
+        self.propose(regrets, round)?;
+        self.start(table, chosen);
+        let cooling = Cooling::of_round(round);
+        let most = (table.row_count() as u64).saturating_mul(MOVES_A_ROW);
+        let stages = moves.min(most) / MOVES_EACH;
+        for stage in 0..stages {
+            let temperature = cooling.temperature(stage, stages);
+            for _ in 0..MOVES_EACH {
+                self.attempt(table, temperature)?;
+            }
+        }
+        Ok(self.least < 0)
+    }
+
+    /// The best plan that there was.
+    pub fn best(&self) -> &[Option<u32>] {
+        &self.best
+    }
+
+    /// Lists for each rider the rows of least regret of each vehicle.
+    fn propose(&mut self, regrets: &Regrets, round: u32) -> Result<(), OutOfMemory> {
+        let width = at(&WIDTHS, (round % 3) as usize, 0);
+        self.proposals.clear();
+        for rider in 0..regrets.rider_count() {
+            for place in regrets.with(rider) {
+                let place = *place as usize;
+                let (first, _) = regrets.places_of(regrets.vehicle(place));
+                if place.saturating_sub(first) < width {
+                    self.proposals.push(regrets.row(place))?;
+                }
+            }
+            self.proposals.close()?;
+        }
+        Ok(())
+    }
+
+    fn start(&mut self, table: &RowTable, chosen: &[Option<u32>]) {
+        self.above = 0;
+        self.least = 0;
+        self.rows.as_mut_slice().fill(NONE);
+        self.servers.as_mut_slice().fill(NONE);
+        for (vehicle, row) in chosen.iter().enumerate() {
+            put(&mut self.best, vehicle, *row);
+            if let Some(row) = *row {
+                put(&mut self.rows, vehicle, row);
+                self.serve(table, row, narrow(vehicle));
+            }
+        }
+    }
+
+    /// Tries one move.
+    fn attempt(&mut self, table: &RowTable, temperature: i64) -> Result<(), OutOfMemory> {
+        self.change = 0;
+        self.log.clear();
+        self.dropped.clear();
+        self.short.clear();
+        let row = self.proposal();
+        if row == NONE || self.row_of(narrow(table.vehicle(row as usize))) == row {
+            return Ok(());
+        }
+        let is_made = self.make(table, row)?;
+        if is_made
+            && self
+                .chances
+                .is_taken(self.change, temperature, &mut self.draws)
+        {
+            self.accept();
+        } else {
+            self.undo(table);
+        }
+        Ok(())
+    }
+
+    /// A row with a rider, who is left out half the time, or `NONE`.
+    fn proposal(&mut self) -> u32 {
+        let riders = self.servers.len();
+        let mut rider = self.draws.below(riders);
+        if self.draws.below(2) == 1 {
+            for _ in 0..6 {
+                if at(&self.servers, rider, NONE) == NONE {
+                    break;
+                }
+                rider = self.draws.below(riders);
+            }
+        }
+        let rows = self.proposals.of(rider);
+        at(rows, self.draws.below(rows.len()), NONE)
+    }
+
+    /// Gives the row to its vehicle and mends the rest, where others have rows without its riders.
+    fn make(&mut self, table: &RowTable, row: u32) -> Result<bool, OutOfMemory> {
+        let vehicle = narrow(table.vehicle(row as usize));
+        let old = self.row_of(vehicle);
+        if old == NONE || !self.take_riders(table, row, vehicle)? {
+            return Ok(false);
+        }
+        for rider in table.riders_of(old as usize) {
+            self.dropped.push(*rider)?;
+        }
+        self.set_row(table, vehicle, row)?;
+        for place in 0..self.dropped.len() {
+            let rider = at(&self.dropped, place, NONE);
+            if self.server_of(rider) == NONE {
+                self.insert(table, rider)?;
+            }
+        }
+        for place in 0..self.short.len() {
+            let server = at(&self.short, place, NONE);
+            self.fill(table, server)?;
+        }
+        self.fill(table, vehicle)?;
+        Ok(true)
+    }
+
+    /// Takes the row's riders from the vehicles that serve them. Whether these have rows for that.
+    fn take_riders(
+        &mut self,
+        table: &RowTable,
+        row: u32,
+        vehicle: u32,
+    ) -> Result<bool, OutOfMemory> {
+        for rider in table.riders_of(row as usize) {
+            let server = self.server_of(*rider);
+            if server != NONE && server != vehicle {
+                let current = self.row_of(server) as usize;
+                let narrower = self.beside.without(table, current, *rider);
+                if narrower == NONE {
+                    return Ok(false);
+                }
+                self.set_row(table, server, narrower)?;
+                self.short.push(server)?;
+            }
+        }
+        Ok(true)
+    }
+
+    /// Adds the rider where that is cheapest, if it costs less than to leave her out.
+    fn insert(&mut self, table: &RowTable, rider: u32) -> Result<(), OutOfMemory> {
+        let mut least = table.cost_left(rider as usize);
+        let mut best = NONE;
+        for vehicle in self.beside.vehicles_with(rider as usize) {
+            let row = self.row_of(*vehicle) as usize;
+            let wider = self.beside.with(row, rider);
+            if wider != NONE {
+                let cost = table.cost(wider as usize).saturating_sub(table.cost(row));
+                if cost < least {
+                    least = cost;
+                    best = wider;
+                }
+            }
+        }
+        if best != NONE {
+            self.set_row(table, narrow(table.vehicle(best as usize)), best)?;
+        }
+        Ok(())
+    }
+
+    /// Adds riders to the vehicle's row as long as that saves something.
+    fn fill(&mut self, table: &RowTable, vehicle: u32) -> Result<(), OutOfMemory> {
+        for _ in 0..MOST_RIDERS {
+            let row = self.best_wider(table, self.row_of(vehicle) as usize);
+            if row == NONE {
+                break;
+            }
+            self.set_row(table, vehicle, row)?;
+        }
+        Ok(())
+    }
+
+    /// The row with one rider more that saves most, or `NONE`.
+    fn best_wider(&self, table: &RowTable, row: usize) -> u32 {
+        let mut least = 0;
+        let mut best = NONE;
+        for (rider, wider) in self.beside.added(row).iter().zip(self.beside.wider(row)) {
+            if self.server_of(*rider) == NONE {
+                let cost = table
+                    .cost(*wider as usize)
+                    .saturating_sub(table.cost(row))
+                    .saturating_sub(table.cost_left(*rider as usize));
+                if cost < least {
+                    least = cost;
+                    best = *wider;
+                }
+            }
+        }
+        best
+    }
+
+    fn row_of(&self, vehicle: u32) -> u32 {
+        at(&self.rows, vehicle as usize, NONE)
+    }
+
+    fn server_of(&self, rider: u32) -> u32 {
+        at(&self.servers, rider as usize, NONE)
+    }
+
+    /// Gives the vehicle this row.
+    fn set_row(&mut self, table: &RowTable, vehicle: u32, row: u32) -> Result<(), OutOfMemory> {
+        let old = self.row_of(vehicle);
+        self.log.push(Step { vehicle, row: old })?;
+        self.serve(table, old, NONE);
+        put(&mut self.rows, vehicle as usize, row);
+        self.serve(table, row, vehicle);
+        self.change = self
+            .change
+            .saturating_add(worth(table, row))
+            .saturating_sub(worth(table, old));
+        Ok(())
+    }
+
+    /// Writes who serves the riders of this row.
+    fn serve(&mut self, table: &RowTable, row: u32, server: u32) {
+        for rider in table.riders_of(row as usize) {
+            put(&mut self.servers, *rider as usize, server);
+        }
+    }
+
+    fn accept(&mut self) {
+        self.above = self.above.saturating_add(self.change);
+        if self.above < self.least {
+            self.least = self.above;
+            for (vehicle, row) in self.rows.iter().enumerate() {
+                let row = if *row == NONE { None } else { Some(*row) };
+                put(&mut self.best, vehicle, row);
+            }
+        }
+    }
+
+    /// Takes the steps back, the last one first.
+    fn undo(&mut self, table: &RowTable) {
+        for later in 0..self.log.len() {
+            let step = self.step_before(later);
+            let row = self.row_of(step.vehicle);
+            self.serve(table, row, NONE);
+            put(&mut self.rows, step.vehicle as usize, step.row);
+        }
+        for later in 0..self.log.len() {
+            let step = self.step_before(later);
+            let row = self.row_of(step.vehicle);
+            self.serve(table, row, step.vehicle);
+        }
+    }
+
+    /// The step that is so many before the last one.
+    fn step_before(&self, later: usize) -> Step {
+        let nothing = Step {
+            vehicle: NONE,
+            row: NONE,
+        };
+        let place = self.log.len().saturating_sub(later).saturating_sub(1);
+        at(&self.log, place, nothing)
+    }
+}
+
+/// What the row costs, less what it costs to leave out its riders.
+fn worth(table: &RowTable, row: u32) -> i64 {
+    let mut worth = table.cost(row as usize);
+    for rider in table.riders_of(row as usize) {
+        worth = worth.saturating_sub(table.cost_left(*rider as usize));
+    }
+    worth
+}

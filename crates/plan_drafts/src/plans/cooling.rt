@@ -1,0 +1,90 @@
+//! How warm an annealing is, and which losses it takes.
+
+use draft_trees::Draws;
+use crate::plans::flat::at;
+use pool_base::OutOfMemory;
+use std::alloc::Global;
+
+/// How many chances there are: a drawn number below this picks one.
+const CHANCES: usize = 4096;
+
+/// The bits after the point of a logarithm under way.
+const FRACTION: u32 = 40;
+
+/// From the warmest to the coldest: seconds at the start, and how often they halve, in 1/65536.
+#[derive(Clone, Copy)]
+pub struct Cooling {
+    start: i64,
+    halvings: u64,
+}
+
+/// From 300 seconds to 20.
+const MILD: Cooling = Cooling {
+    start: 300,
+    halvings: 256_044,
+};
+
+/// From 1,000 seconds to 30.
+const HOT: Cooling = Cooling {
+    start: 1000,
+    halvings: 331_540,
+};
+
+impl Cooling {
+    /// Mild and hot rounds take turns.
+    pub fn of_round(round: u32) -> Self {
+        if round % 2 == 0 { MILD } else { HOT }
+    }
+
+    /// The temperature after so many of all stages, in 1/1024 second: it halves in even steps.
+    pub fn temperature(self, stage: u64, stages: u64) -> i64 {
+        let share = self.halvings.saturating_mul(stage);
+        let halved = share.checked_div(stages).unwrap_or(0);
+        let whole = (halved >> 16).min(40) as u32;
+        let rest = (halved & 65_535) as i64;
+        let warm = self.start.saturating_mul(1024) >> whole;
+        warm.saturating_sub(warm.saturating_mul(rest) >> 17)
+    }
+}
+
+/// For each chance its negative logarithm, in 1/1024.
+#[derive(Drop)]
+pub struct Chances {
+    logarithms: Vec<i64>,
+}
+
+impl Chances {
+    /// The chances are (k + 1/2) / 4096. The logarithm of an odd number follows from that of the one before
+    /// it: ln (n + 2) = ln n + 2 artanh (1 / (n + 1)).
+    pub fn new(alloc: Global) -> Result<Self, OutOfMemory> {
+        let all = twice_artanh(3).saturating_mul(13);
+        let mut logarithms = Vec::new(alloc);
+        let mut sum: i64 = 0;
+        for chance in 0..CHANCES as u64 {
+            logarithms.push(all.saturating_sub(sum) >> (FRACTION - 10))?;
+            sum = sum.saturating_add(twice_artanh(2 * chance + 2));
+        }
+        Ok(Chances { logarithms })
+    }
+
+    /// Whether a drawn chance lets a loss of so many seconds pass at this temperature.
+    pub fn is_taken(&self, loss: i64, temperature: i64, draws: &mut Draws) -> bool {
+        if loss <= 0 {
+            return true;
+        }
+        let logarithm = at(&self.logarithms, draws.below(CHANCES), 0);
+        loss.saturating_mul(1024 * 1024) <= temperature.saturating_mul(logarithm)
+    }
+}
+
+/// 2 artanh (1 / n), for n from 2 on.
+fn twice_artanh(n: u64) -> i64 {
+    let square = n.saturating_mul(n);
+    let mut power: u64 = (2_u64 << FRACTION).checked_div(n).unwrap_or(0);
+    let mut sum: u64 = 0;
+    for term in 0..FRACTION as u64 {
+        sum = sum.saturating_add(power / (2 * term + 1));
+        power = power.checked_div(square).unwrap_or(0);
+    }
+    sum.min(1 << 62) as i64
+}

@@ -1,0 +1,159 @@
+//! Some vehicles and some of their rows as a small table of their own.
+
+use draft_trees::solve_part;
+use crate::plans::flat::{NONE, at, narrow, put};
+use crate::plans::present::Present;
+use crate::plans::regrets::Regrets;
+use linear_relaxation::RowTable;
+use pool_base::OutOfMemory;
+use std::alloc::Global;
+
+/// Which rows a part takes: those within a regret, and those that are marked.
+#[derive(Clone, Copy)]
+pub struct Wanted<'a> {
+    pub vehicles: &'a [u32],
+    pub marks: &'a [bool],
+    pub regret: i64,
+}
+
+/// A part under way: its riders with their numbers there, and for each of its rows the place.
+#[derive(Drop)]
+struct Part {
+    numbers: Vec<u32>,
+    riders: Vec<u32>,
+    places: Vec<u32>,
+    start: Vec<Option<u32>>,
+}
+
+/// Gives these vehicles, whose riders nobody serves now, the rows that a solution of their part chooses.
+/// Whether all went well.
+pub fn solve(
+    alloc: Global,
+    table: &RowTable,
+    regrets: &Regrets,
+    present: &mut Present,
+    multipliers: &[i64],
+    wanted: &Wanted,
+    most_nodes: u32,
+) -> Result<bool, OutOfMemory> {
+    let mut part = Part {
+        numbers: vec![in alloc; NONE; table.rider_count()]?,
+        riders: Vec::new(alloc),
+        places: Vec::new(alloc),
+        start: Vec::new(alloc),
+    };
+    part.find_places(regrets, present, wanted)?;
+    let rows = part.rows(alloc, table, regrets, present, wanted.vehicles)?;
+    let prices = part.prices(alloc, multipliers)?;
+    let chosen = solve_part(alloc, &rows, &part.start, &prices, most_nodes)?;
+    Ok(part.give(regrets, present, &chosen))
+}
+
+impl Part {
+    /// Finds the places that the part takes, and numbers their riders.
+    fn find_places(
+        &mut self,
+        regrets: &Regrets,
+        present: &Present,
+        wanted: &Wanted,
+    ) -> Result<(), OutOfMemory> {
+        for vehicle in wanted.vehicles {
+            let (first, end) = regrets.places_of(*vehicle as usize);
+            for place in first..end {
+                let riders = regrets.riders(place);
+                let is_wanted = regrets.above(place) <= wanted.regret
+                    || riders.is_empty()
+                    || present.place(*vehicle as usize) == Some(place)
+                    || at(wanted.marks, place, false);
+                if is_wanted && present.are_free(riders) {
+                    self.places.push(narrow(place))?;
+                    self.number(riders)?;
+                }
+            }
+        }
+        Ok(())
+    }
+
+    fn number(&mut self, riders: &[u32]) -> Result<(), OutOfMemory> {
+        for rider in riders {
+            if at(&self.numbers, *rider as usize, 0) == NONE {
+                put(
+                    &mut self.numbers,
+                    *rider as usize,
+                    narrow(self.riders.len()),
+                );
+                self.riders.push(*rider)?;
+            }
+        }
+        Ok(())
+    }
+
+    /// The part's rows. Writes which of them are the present ones.
+    fn rows(
+        &mut self,
+        alloc: Global,
+        table: &RowTable,
+        regrets: &Regrets,
+        present: &Present,
+        vehicles: &[u32],
+    ) -> Result<RowTable, OutOfMemory> {
+        let mut must = Vec::new(alloc);
+        for rider in &self.riders {
+            must.push(table.must(*rider as usize))?;
+        }
+        let mut rows = RowTable::new(alloc, table.penalty(), must)?;
+        let mut trip = Vec::new(alloc);
+        let mut next = 0;
+        for vehicle in vehicles {
+            let mut start = None;
+            for row in next..self.places.len() {
+                let place = at(&self.places, row, NONE) as usize;
+                if regrets.vehicle(place) != *vehicle as usize {
+                    break;
+                }
+                if present.place(*vehicle as usize) == Some(place) {
+                    start = Some(narrow(row));
+                }
+                self.write_trip(regrets.riders(place), &mut trip)?;
+                rows.push_row(table.cost(regrets.row(place) as usize), &trip)?;
+                next = row.saturating_add(1);
+            }
+            rows.end_vehicle()?;
+            self.start.push(start)?;
+        }
+        rows.index()?;
+        Ok(rows)
+    }
+
+    /// Writes the numbers that these riders have in the part.
+    fn write_trip(&self, riders: &[u32], trip: &mut Vec<u32>) -> Result<(), OutOfMemory> {
+        trip.clear();
+        for rider in riders {
+            trip.push(at(&self.numbers, *rider as usize, NONE))?;
+        }
+        Ok(())
+    }
+
+    /// The multipliers of the part's riders.
+    fn prices(&self, alloc: Global, multipliers: &[i64]) -> Result<Vec<i64>, OutOfMemory> {
+        let mut prices = Vec::new(alloc);
+        for rider in &self.riders {
+            prices.push(at(multipliers, *rider as usize, 0))?;
+        }
+        Ok(prices)
+    }
+
+    /// Gives the vehicles these rows of the part. Whether they fit.
+    fn give(&self, regrets: &Regrets, present: &mut Present, chosen: &[Option<u32>]) -> bool {
+        for row in chosen {
+            if let Some(row) = *row {
+                let place = at(&self.places, row as usize, NONE) as usize;
+                if !present.are_free(regrets.riders(place)) {
+                    return false;
+                }
+                present.give(regrets, place);
+            }
+        }
+        true
+    }
+}

@@ -1,0 +1,309 @@
+//! The rows that plans are made of, by regret.
+//!
+//! Under multipliers a plan costs the bound and regrets, none below 0: for each vehicle what the reduced
+//! cost of its row lies above the vehicle's least, and for each rider who is left out what that costs above
+//! her multiplier. Of each vehicle's rows only those of least regret are looked at.
+
+use crate::plans::flat::{Groups, NONE, at, narrow, put};
+use linear_relaxation::RowTable;
+use pool_base::OutOfMemory;
+use std::alloc::Global;
+
+/// How many rows of a vehicle are looked at.
+const MOST_ROWS: usize = 200;
+
+/// A regret counts up to this, and stands before a row's number below this in a rank.
+const MOST_REGRET: u64 = 1 << 42;
+
+const ROWS: u64 = 1 << 21;
+
+/// For each vehicle some of its rows, each at a place of its own, by rising regret.
+#[derive(Drop)]
+pub struct Regrets {
+    /// Where each vehicle's places end.
+    ends: Vec<u32>,
+    /// For each place its row, the row's vehicle, the row's regret in 1/1024 second, and its riders.
+    rows: Vec<u32>,
+    vehicles: Vec<u32>,
+    above: Vec<i64>,
+    riders: Groups,
+    /// For each rider the places with her, by rising regret.
+    with: Groups,
+    /// What it costs to leave the rider out, in 1/1024 second above her multiplier.
+    left: Vec<i64>,
+    /// All places by rising regret.
+    order: Vec<u32>,
+}
+
+impl Regrets {
+    /// The rows of least regret of each vehicle, with its smallest one and the one that is kept.
+    pub fn new(
+        alloc: Global,
+        table: &RowTable,
+        multipliers: &[i64],
+        kept: &[Option<u32>],
+    ) -> Result<Self, OutOfMemory> {
+        let mut regrets = Regrets {
+            ends: Vec::new(alloc),
+            rows: Vec::new(alloc),
+            vehicles: Vec::new(alloc),
+            above: Vec::new(alloc),
+            riders: Groups::new(alloc),
+            with: Groups::new(alloc),
+            left: left_costs(alloc, table, multipliers)?,
+            order: Vec::new(alloc),
+        };
+        let mut costs = Vec::new(alloc);
+        let mut ranks = Vec::new(alloc);
+        for vehicle in 0..table.vehicle_count() {
+            let kept = at(kept, vehicle, None);
+            rank_rows(table, multipliers, vehicle, kept, &mut costs, &mut ranks)?;
+            regrets.add_vehicle(table, vehicle, &ranks)?;
+        }
+        regrets.put_in_order(alloc)?;
+        regrets.list_by_rider(alloc, table.rider_count())?;
+        Ok(regrets)
+    }
+
+    /// Takes these rows as the vehicle's.
+    fn add_vehicle(
+        &mut self,
+        table: &RowTable,
+        vehicle: usize,
+        ranks: &[u64],
+    ) -> Result<(), OutOfMemory> {
+        let first = table.rows_of(vehicle).start;
+        for rank in ranks {
+            let row = first.saturating_add((*rank % ROWS) as usize);
+            self.rows.push(narrow(row))?;
+            self.vehicles.push(narrow(vehicle))?;
+            self.above.push((*rank / ROWS) as i64)?;
+            for rider in table.riders_of(row) {
+                self.riders.push(*rider)?;
+            }
+            self.riders.close()?;
+        }
+        self.ends.push(narrow(self.rows.len()))?;
+        Ok(())
+    }
+
+    fn put_in_order(&mut self, alloc: Global) -> Result<(), OutOfMemory> {
+        let mut ranks = Vec::new(alloc);
+        for (place, above) in self.above.iter().enumerate() {
+            ranks.push(rank_of(*above, place))?;
+        }
+        ranks.as_mut_slice().sort_unstable();
+        for rank in &ranks {
+            self.order.push((*rank % ROWS) as u32)?;
+        }
+        Ok(())
+    }
+
+    fn list_by_rider(&mut self, alloc: Global, riders: usize) -> Result<(), OutOfMemory> {
+        let mut counts = vec![in alloc; 0; riders]?;
+        for place in 0..self.rows.len() {
+            for rider in self.riders.of(place) {
+                let count = at(&counts, *rider as usize, 0_u32);
+                put(&mut counts, *rider as usize, count.saturating_add(1));
+            }
+        }
+        let mut with = Groups::with_room(alloc, &counts)?;
+        let mut cursors = with.cursors(alloc)?;
+        for place in &self.order {
+            for rider in self.riders.of(*place as usize) {
+                with.write(&mut cursors, *rider as usize, *place);
+            }
+        }
+        self.with = with;
+        Ok(())
+    }
+
+    pub fn vehicle_count(&self) -> usize {
+        self.ends.len()
+    }
+
+    pub fn rider_count(&self) -> usize {
+        self.left.len()
+    }
+
+    /// All places by rising regret.
+    pub fn order(&self) -> &[u32] {
+        &self.order
+    }
+
+    /// Where the vehicle's places begin and end.
+    pub fn places_of(&self, vehicle: usize) -> (usize, usize) {
+        let start = if vehicle == 0 {
+            0
+        } else {
+            at(&self.ends, vehicle - 1, 0) as usize
+        };
+        (start, at(&self.ends, vehicle, 0) as usize)
+    }
+
+    /// The vehicle's place for this row.
+    pub fn place_of(&self, vehicle: usize, row: u32) -> Option<usize> {
+        let (start, end) = self.places_of(vehicle);
+        for place in start..end {
+            if self.row(place) == row {
+                return Some(place);
+            }
+        }
+        None
+    }
+
+    #[inline]
+    pub fn row(&self, place: usize) -> u32 {
+        at(&self.rows, place, NONE)
+    }
+
+    #[inline]
+    pub fn vehicle(&self, place: usize) -> usize {
+        at(&self.vehicles, place, NONE) as usize
+    }
+
+    /// The regret of the row at this place.
+    #[inline]
+    pub fn above(&self, place: usize) -> i64 {
+        at(&self.above, place, 0)
+    }
+
+    #[inline]
+    pub fn riders(&self, place: usize) -> &[u32] {
+        self.riders.of(place)
+    }
+
+    /// The places whose rows have this rider, by rising regret.
+    #[inline]
+    pub fn with(&self, rider: usize) -> &[u32] {
+        self.with.of(rider)
+    }
+
+    /// The regret of leaving this rider out.
+    #[inline]
+    pub fn left(&self, rider: usize) -> i64 {
+        at(&self.left, rider, 0)
+    }
+}
+
+/// A number that rises with the regret, then with the row or place.
+fn rank_of(above: i64, place: usize) -> u64 {
+    let above = above.max(0).unsigned_abs().min(MOST_REGRET - 1);
+    let place = (place as u64).min(ROWS - 1);
+    above * ROWS + place
+}
+
+/// What it costs to leave each rider out, above her multiplier; none is below 0.
+fn left_costs(
+    alloc: Global,
+    table: &RowTable,
+    multipliers: &[i64],
+) -> Result<Vec<i64>, OutOfMemory> {
+    let mut left = Vec::new(alloc);
+    for rider in 0..table.rider_count() {
+        left.push(left_cost(table, rider).saturating_sub(price(table, multipliers, rider)))?;
+    }
+    Ok(left)
+}
+
+/// What it costs to leave the rider out, in 1/1024 second.
+fn left_cost(table: &RowTable, rider: usize) -> i64 {
+    table.cost_left(rider).saturating_mul(1024)
+}
+
+/// The rider's multiplier, and at most what it costs to leave her out.
+#[inline]
+fn price(table: &RowTable, multipliers: &[i64], rider: usize) -> i64 {
+    at(multipliers, rider, 0).min(left_cost(table, rider))
+}
+
+/// The ranks of the vehicle's rows that are looked at, rising; a row counts from the vehicle's first one.
+fn rank_rows(
+    table: &RowTable,
+    multipliers: &[i64],
+    vehicle: usize,
+    kept: Option<u32>,
+    costs: &mut Vec<i64>,
+    ranks: &mut Vec<u64>,
+) -> Result<(), OutOfMemory> {
+    let rows = table.rows_of(vehicle);
+    let first = rows.start;
+    let least = reduce(table, multipliers, rows.start, rows.end, costs)?;
+    let widest = width_of(costs, least);
+    ranks.clear();
+    for (offset, cost) in costs.iter().enumerate() {
+        let above = cost.saturating_sub(least);
+        if width(above) <= widest {
+            ranks.push(rank_of(above, offset))?;
+        }
+    }
+    ranks.as_mut_slice().sort_unstable();
+    ranks.truncate(MOST_ROWS);
+    add_rank(costs, least, 0, ranks)?;
+    if let Some(row) = kept {
+        add_rank(costs, least, (row as usize).saturating_sub(first), ranks)?;
+    }
+    ranks.as_mut_slice().sort_unstable();
+    Ok(())
+}
+
+/// Writes the reduced costs of these rows; the least of them.
+fn reduce(
+    table: &RowTable,
+    multipliers: &[i64],
+    first: usize,
+    end: usize,
+    costs: &mut Vec<i64>,
+) -> Result<i64, OutOfMemory> {
+    costs.clear();
+    let mut least = i64::MAX;
+    for row in first..end {
+        let mut cost = table.cost(row).saturating_mul(1024);
+        for rider in table.riders_of(row) {
+            cost = cost.saturating_sub(price(table, multipliers, *rider as usize));
+        }
+        least = least.min(cost);
+        costs.push(cost)?;
+    }
+    Ok(least)
+}
+
+/// How many bits the regret has.
+#[inline]
+fn width(above: i64) -> usize {
+    64_usize.saturating_sub(above.max(0).unsigned_abs().leading_zeros() as usize)
+}
+
+/// The least width of regrets that is that of as many rows as are looked at.
+fn width_of(costs: &[i64], least: i64) -> usize {
+    let mut counts: [usize; 65] = [0; 65];
+    for cost in costs {
+        let width = width(cost.saturating_sub(least));
+        let count = at(&counts, width, 0);
+        put(&mut counts, width, count.saturating_add(1));
+    }
+    let mut total: usize = 0;
+    for (width, count) in counts.iter().enumerate() {
+        total = total.saturating_add(*count);
+        if total >= MOST_ROWS {
+            return width;
+        }
+    }
+    64
+}
+
+/// Takes in the row at this offset, where it isn't among them yet.
+fn add_rank(
+    costs: &[i64],
+    least: i64,
+    offset: usize,
+    ranks: &mut Vec<u64>,
+) -> Result<(), OutOfMemory> {
+    if offset < costs.len() {
+        let rank = rank_of(costs[offset].saturating_sub(least), offset);
+        if !ranks.contains(&rank) {
+            ranks.push(rank)?;
+        }
+    }
+    Ok(())
+}

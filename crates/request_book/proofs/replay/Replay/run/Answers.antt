@@ -1,0 +1,22 @@
+use Rattle.std.proofs.Common.{◌≡◌, Result, Ok, Err, sym, ap, subst}
+use Rattle.std.specs.Prelude.{IfOk, OnErr}
+use Rattle.pool_base.specs.declared.memory.OutOfMemory.{OutOfMemory}
+use Rattle.request_book.specs.Consistent.{IsConsistent}
+use Rattle.request_book.specs.Step.{step}
+use Rattle.request_book.specs.declared.reply.Reply.{Reply}
+use Rattle.request_book.specs.work.Register.{state_of}
+use Rattle.request_book.proofs.ConsistentLemmas.{step-consistent}
+use Rattle.request_book.proofs.replay.Replay.run.Goals as goal
+
+pub invariant_of-self-2 : goal.invariant_of-self-2
+invariant_of-self-2 c = record { indexed = c.run.ensures.indexed; consistent = by c.run.result c.run.ensures.ok c.run.ensures.err }
+  where
+    before : IsConsistent (state_of c.reserve.new.self)
+    before = subst IsConsistent (sym c.in_ok-reserve.ensures.state) c.self.invariant.consistent
+
+    by : (r : Result Reply OutOfMemory)
+        → IfOk r (λ reply. (state_of c.run.new.self, reply) ≡ step c.self.inside.nodes.keys c.self.inside.wait (state_of c.reserve.new.self) c.args.command.now)
+        → OnErr r (state_of c.run.new.self ≡ state_of c.reserve.new.self) → IsConsistent (state_of c.run.new.self)
+    by (Ok reply) stepped same =
+        subst IsConsistent (sym (ap (λ p. p.0) stepped)) (step-consistent c.self.inside.nodes.keys c.self.inside.wait (state_of c.reserve.new.self) c.args.command.now before)
+    by (Err e) stepped same = subst IsConsistent (sym same) before

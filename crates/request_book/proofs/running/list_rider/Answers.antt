@@ -1,0 +1,12 @@
+use Rattle.std.proofs.Common.{◌≡◌, ◌++◌, ◌∷◌, [], false, eqb, ◌∙◌}
+use Rattle.std.specs.List.{list_any}
+use Rattle.std.proofs.lemmas.Bool.{cond-false}
+use Rattle.request_book.proofs.RegisterLemmas.{eqb_comm, list_any-agree}
+use Rattle.request_book.proofs.running.list_rider.Goals as goal
+
+pub returns : goal.returns
+returns c =
+    let ks = c.args.ids.now.keys in
+    let x = c.args.rider in
+    let absent : list_any (λ id. eqb x id) ks ≡ false = list_any-agree (λ id. eqb x id) (λ id. eqb id x) (eqb_comm x) ks ∙ c.requires in
+    c.in_ok-insert.ensures.keys ∙ cond-false (list_any (λ id. eqb x id) ks) ks (ks ++ x ∷ []) absent

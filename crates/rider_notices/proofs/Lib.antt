@@ -1,0 +1,4 @@
+pub mod lemmas
+pub mod ToldLemmas
+pub mod SteadyLemmas
+pub mod NoticeLemmas

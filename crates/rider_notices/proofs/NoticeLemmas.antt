@@ -1,0 +1,77 @@
+-- The notices of a journal, one after the other.
+use Rattle.std.proofs.Common.{◌≡◌, ℕ, ◌+◌, ◌<◌, ◌≤◌, Bool, true, false, cond, List, [], ◌∷◌, ◌++◌, length, get_or, take, drop, map, Some, None, refl, sym, ap, ◌∙◌, append_assoc}
+use Rattle.std.specs.Prelude.{filter, unwrap_or}
+use Rattle.std.proofs.lemmas.List.{append-nil, take_more, drop_all, at_drop_more, map-append}
+use Rattle.std.proofs.lemmas.List.Elements.{filter-append}
+use Rattle.request_book.specs.Step.{step}
+use Rattle.request_book.specs.declared.journal.Entry.{Entry}
+use Rattle.request_book.specs.declared.outcome.ChosenTrip.{ChosenTrip}
+use Rattle.request_book.specs.declared.reply.Reply.{Reply}
+use Rattle.request_book.specs.declared.state.State.{State}
+use Rattle.rider_notices.specs.Notices.{notice_of, trip_notice, entry_notices, notices_from}
+use Rattle.rider_notices.specs.declared.notice.Notice.{Notice}
+use Rattle.rider_notices.specs.declared.notice.Notice.TheVariants.{Unserved}
+
+module _ (batch : ℕ) (chosen : List ChosenTrip) (rider : ℕ) where
+  at_trip : (i : ℕ) (x : ChosenTrip) → i < length chosen → x ≡ get_or chosen i x
+      → notice_of batch (drop i chosen) rider ≡ unwrap_or (trip_notice batch x rider) (notice_of batch (drop (i + 1) chosen) rider)
+  unfolding notice_of
+  at_trip i x within is =
+      at_drop_more (λ trips. notice_of batch trips rider) chosen i x within
+      ∙ ap (λ trip. unwrap_or (trip_notice batch trip rider) (notice_of batch (drop (i + 1) chosen) rider)) (sym is)
+
+  -- the trip picks the rider up, or doesn't
+  pub notice-here : (i : ℕ) (x : ChosenTrip) (n : Notice) → i < length chosen → x ≡ get_or chosen i x → trip_notice batch x rider ≡ Some n
+      → notice_of batch (drop i chosen) rider ≡ n
+  notice-here i x n within is some = at_trip i x within is ∙ ap (λ o. unwrap_or o (notice_of batch (drop (i + 1) chosen) rider)) some
+
+  pub notice-next : (i : ℕ) (x : ChosenTrip) → i < length chosen → x ≡ get_or chosen i x → trip_notice batch x rider ≡ None
+      → notice_of batch (drop (i + 1) chosen) rider ≡ notice_of batch (drop i chosen) rider
+  notice-next i x within is none = sym (at_trip i x within is ∙ ap (λ o. unwrap_or o (notice_of batch (drop (i + 1) chosen) rider)) none)
+
+  pub notice-none : (i : ℕ) → length chosen ≤ i → notice_of batch (drop i chosen) rider ≡ Unserved batch rider
+  unfolding notice_of
+  notice-none i end = ap (λ trips. notice_of batch trips rider) (drop_all i chosen end)
+
+-- what is made of the elements that pass a test, with one more element
+pub made-more : {X Y : Type 0} (p : X → Bool) (f : X → Y) (xs : List X) (i : ℕ) (x : X) → i < length xs → x ≡ get_or xs i x
+    → map f (filter p (take (i + 1) xs)) ≡ map f (filter p (take i xs)) ++ cond (p x) (f x ∷ []) []
+made-more p f xs i x within is =
+    ap (λ ys. map f (filter p ys)) (take_more xs i x within ∙ ap (λ y. take i xs ++ y ∷ []) (sym is))
+    ∙ ap (map f) (filter-append p (take i xs) (x ∷ []))
+    ∙ map-append f (filter p (take i xs)) (filter p (x ∷ []))
+    ∙ ap (λ ys. map f (filter p (take i xs)) ++ ys) (by (p x))
+  where
+    by : (b : Bool) → map f (cond b (x ∷ []) []) ≡ cond b (f x ∷ []) []
+    by true = refl
+    by false = refl
+
+-- one more entry
+pub notices-more : (nodes : List ℕ) (wait : ℕ) (s : State) (es : List Entry) (i : ℕ) (e : Entry) → i < length es → e ≡ get_or es i e
+    → notices_from nodes wait s (drop i es) ≡ entry_notices s e.command e.reply ++ notices_from nodes wait (step nodes wait s e.command).0 (drop (i + 1) es)
+unfolding notices_from
+notices-more nodes wait s es i e within is =
+    at_drop_more (notices_from nodes wait s) es i e within
+    ∙ ap (λ x. entry_notices s x.command x.reply ++ notices_from nodes wait (step nodes wait s x.command).0 (drop (i + 1) es)) (sym is)
+
+pub notices-none : (nodes : List ℕ) (wait : ℕ) (s : State) (es : List Entry) (i : ℕ) → length es ≤ i → notices_from nodes wait s (drop i es) ≡ []
+unfolding notices_from
+notices-none nodes wait s es i end = ap (notices_from nodes wait s) (drop_all i es end)
+
+-- the notices of the entries so far, with those of one more; a replay of these nodes and this wait runs it
+pub told-next : (nodes : List ℕ) (wait : ℕ) (replayed : List ℕ) (waited : ℕ) (s next : State) (reply : Reply) (es : List Entry) (i : ℕ) (e : Entry) (told more all : List Notice)
+    → replayed ≡ nodes → waited ≡ wait → i < length es → e ≡ get_or es i e → more ≡ told ++ entry_notices s e.command e.reply
+    → (next, reply) ≡ step replayed waited s e.command → told ++ notices_from nodes wait s (drop i es) ≡ all
+    → more ++ notices_from nodes wait next (drop (i + 1) es) ≡ all
+told-next nodes wait replayed waited s next reply es i e told more all ns w within is adds stepped h =
+    let step_is : next ≡ (step nodes wait s e.command).0 =
+    ap (λ p. p.0) stepped ∙ ap (λ k. (step k waited s e.command).0) ns ∙ ap (λ k. (step nodes k s e.command).0) w in
+    let rest = notices_from nodes wait (step nodes wait s e.command).0 (drop (i + 1) es) in
+    ap (λ ys. ys ++ notices_from nodes wait next (drop (i + 1) es)) adds
+    ∙ ap (λ t. (told ++ entry_notices s e.command e.reply) ++ notices_from nodes wait t (drop (i + 1) es)) step_is
+    ∙ append_assoc told (entry_notices s e.command e.reply) rest
+    ∙ ap (λ ys. told ++ ys) (sym (notices-more nodes wait s es i e within is))
+    ∙ h
+
+pub told-end : (nodes : List ℕ) (wait : ℕ) (s : State) (es : List Entry) (i : ℕ) (told all : List Notice) → length es ≤ i → told ++ notices_from nodes wait s (drop i es) ≡ all → told ≡ all
+told-end nodes wait s es i told all end h = sym (ap (λ ys. told ++ ys) (notices-none nodes wait s es i end) ∙ append-nil told) ∙ h

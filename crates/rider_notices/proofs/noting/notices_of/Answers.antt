@@ -1,0 +1,22 @@
+use Rattle.std.proofs.Common.{ap, ◌∙◌, arith}
+use Rattle.rider_notices.specs.Notices.{notices_from}
+use Rattle.rider_notices.proofs.NoticeLemmas.{told-next, told-end}
+use Rattle.rider_notices.proofs.noting.notices_of.Goals as goal
+
+pub loop-entry-preserved : goal.loop-entry-preserved
+loop-entry-preserved c =
+    let h = c.loop-entry.invariant in
+    record {
+      nodes = c.run.ensures.nodes ∙ h.nodes;
+      wait = c.run.ensures.wait ∙ h.wait;
+      told =
+          told-next c.args.network.now.nodes c.args.wait c.loop-entry.replay.nodes c.loop-entry.replay.wait c.loop-entry.replay.state c.run.new.self.state c.in_ok-run.field-0
+          c.as_slice-entry-items.result.now c.loop-entry.entry-index c.entry-item.result c.loop-entry.told.items c.note_entry.new.told.items _
+          h.nodes h.wait c.loop-entry-test.true c.entry-item.is c.in_ok-note_entry.ensures c.in_ok-run.ensures.stepped h.told;
+    }
+
+pub returns : goal.returns
+returns c =
+    let es = c.as_slice-entry-items.result.now in
+    told-end c.args.network.now.nodes c.args.wait c.loop-entry.replay.state es c.loop-entry.entry-index c.loop-entry.told.items _ (omega arith) c.loop-entry.invariant.told
+    ∙ ap (notices_from c.args.network.now.nodes c.args.wait c.args.journal.now.base) c.as_slice-entry-items.ensures

@@ -1,0 +1,16 @@
+use Rattle.std.proofs.Common.{◌-◌, ◌≤◌, length, map}
+use Rattle.rider_notices.specs.Seen.{notifier_seen}
+use Rattle.rider_notices.proofs.ToldLemmas.{HaveHeardUpTo}
+use Rattle.rider_notices.proofs.telling.tell_all.Given as goal
+
+abbrev pub invariant-loop-at : goal.invariant-loop-at
+invariant-loop-at g l = record {
+  heard : HaveHeardUpTo l.notices l.at
+      (map (λ n. notifier_seen (goal.Notifier-dyn g (n.vtable, n.value)) n.value) l.initial.notifiers.items)
+      (map (λ n. notifier_seen (goal.Notifier-dyn g (n.vtable, n.value)) n.value) l.notifiers.items);
+  within : l.at ≤ length l.notifiers.items;
+  fewer : length l.notifiers.items ≤ length l.initial.notifiers.items;
+}
+
+abbrev pub decreases-loop-at : goal.decreases-loop-at
+decreases-loop-at g l = length l.notifiers.items - l.at

@@ -1,0 +1,64 @@
+-- The notices of a journal.
+use Rattle.std.specs.Prelude.{ℕ, Bool, false, ◌==◌, ◌&&◌, not, List, [], ◌∷◌, ◌++◌, Option, None, Some, map, filter, find, option_map, unwrap_or}
+use Rattle.batch_snapshot.specs.Batch.{Batch}
+use Rattle.request_book.specs.Consistent.{status_in}
+use Rattle.request_book.specs.Rider.{is_active}
+use Rattle.request_book.specs.Step.{step}
+use Rattle.request_book.specs.declared.command.Command.{Command}
+use Rattle.request_book.specs.declared.command.Command.TheVariants.{Close}
+use Rattle.request_book.specs.declared.journal.Entry.{Entry}
+use Rattle.request_book.specs.declared.journal.Journal.{Journal}
+use Rattle.request_book.specs.declared.outcome.Answer.{Answer}
+use Rattle.request_book.specs.declared.outcome.Answer.TheVariants.{Overflow, Planned}
+use Rattle.request_book.specs.declared.outcome.ChosenTrip.{ChosenTrip}
+use Rattle.request_book.specs.declared.outcome.PlannedStop.{PlannedStop}
+use Rattle.request_book.specs.declared.reply.Reply.{Reply}
+use Rattle.request_book.specs.declared.reply.Reply.TheVariants.{Closed}
+use Rattle.request_book.specs.declared.state.State.{State}
+use Rattle.rider_notices.specs.declared.notice.Notice.{Notice}
+use Rattle.rider_notices.specs.declared.notice.Notice.TheVariants.{Promised, Unserved}
+
+-- the second of the first stop that picks the rider up, or that drops the rider
+abbrev pub pickup_second : ℕ → List PlannedStop → Option ℕ
+pickup_second rider stops = option_map (λ stop. stop.second) (find (λ stop. stop.pick && (stop.rider == rider)) stops)
+
+abbrev pub dropoff_second : ℕ → List PlannedStop → Option ℕ
+dropoff_second rider stops = option_map (λ stop. stop.second) (find (λ stop. not stop.pick && (stop.rider == rider)) stops)
+
+-- the notice of a trip to a rider, if it picks the rider up; without a drop-off the rider arrives at the pickup
+abbrev pub trip_notice : ℕ → ChosenTrip → ℕ → Option Notice
+trip_notice batch trip rider =
+    option_map (λ pickup. Promised batch rider trip.vehicle pickup (unwrap_or (dropoff_second rider trip.stops.items) pickup)) (pickup_second rider trip.stops.items)
+
+-- the notice of a rider: of the first chosen trip that picks the rider up, if one does
+unfoldable pub notice_of : ℕ → List ChosenTrip → ℕ → Notice
+notice_of batch [] rider = Unserved batch rider
+notice_of batch (trip ∷ trips) rider = unwrap_or (trip_notice batch trip rider) (notice_of batch trips rider)
+
+-- the rider waits or has a promise
+abbrev pub is_asking : State → ℕ → Bool
+is_asking s rider = unwrap_or (option_map is_active (status_in s rider)) false
+
+-- the notices of an answer to the riders of its batch who wait or have a promise in this state; an overflow has none
+abbrev pub batch_notices : State → Batch → Answer → List Notice
+batch_notices s b Overflow = []
+batch_notices s b (Planned plan) = map (λ r. notice_of b.number plan.chosen r.id) (filter (λ r. is_asking s r.id) b.riders)
+
+-- the notices of the batch that stands sealed, if one does
+abbrev pub sealed_notices : State → Option Batch → Answer → List Notice
+sealed_notices s None answer = []
+sealed_notices s (Some b) answer = batch_notices s b answer
+
+-- the notices of an entry, in the state before it: a close that was answered `closed` has those of its batch
+abbrev pub entry_notices : State → Command → Reply → List Notice
+entry_notices s (Close batch outcome) Closed = sealed_notices s s.sealed outcome.answer
+entry_notices s _ _ = []
+
+-- the notices of entries, one after the other, from the state before them
+unfoldable pub notices_from : List ℕ → ℕ → State → List Entry → List Notice
+notices_from nodes wait s [] = []
+notices_from nodes wait s (e ∷ es) = entry_notices s e.command e.reply ++ notices_from nodes wait (step nodes wait s e.command).0 es
+
+-- the notices of a journal, for the nodes of a network and a longest wait
+abbrev pub notices : List ℕ → ℕ → Journal → List Notice
+notices nodes wait journal = notices_from nodes wait journal.base journal.entries

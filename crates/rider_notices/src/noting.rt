@@ -1,0 +1,143 @@
+ghost use Rattle.std.specs.Prelude.{◌≡◌, ◌++◌, ◌∷◌, [], IfOk, OnOk, if◌then◌else◌};
+ghost use Rattle.request_book.specs.Consistent.{IsConsistent};
+ghost use Rattle.rider_notices.specs.Notices.{notices, entry_notices, batch_notices, is_asking, notice_of, trip_notice, pickup_second, dropoff_second};
+
+use crate::notice::Notice;
+use batch_snapshot::Snapshot;
+use pool_base::{OutOfMemory, RiderId};
+use request_book::{
+    Answer, ChosenTrip, Command, Entry, Journal, PlannedStop, Replay, Reply, Status,
+};
+use road_network::Network;
+use std::alloc::Global;
+
+/// The notices of a journal over this network, where a rider waits for `wait` seconds at most.
+///
+/// For each batch that is closed with a plan, in order, each rider of its snapshot who waits or has a
+/// promise as the close comes has one notice, by rising id: the pickup and the drop-off of the first
+/// chosen trip that picks the rider up, or that no trip does. An overflow gives none.
+pub fn notices_of(
+    alloc: Global,
+    journal: &Journal,
+    network: &Network,
+    wait: u32,
+) -> Result<Vec<Notice>, OutOfMemory>
+    requires { IsConsistent journal.now.base }
+    ensures { IfOk result (λ told. told.items ≡ notices network.now.nodes wait journal.now) }
+{
+    let mut told = Vec::new(alloc);
+    let mut replay = Replay::of(alloc, network, wait, &journal.base)?;
+    for entry in journal.entries.as_slice() {
+        note_entry(&mut told, &replay, entry)?;
+        replay.run(&entry.command)?;
+    }
+    Ok(told)
+}
+
+/// Notes what an entry tells, in the state before it.
+fn note_entry(told: &mut Vec<Notice>, replay: &Replay, entry: &Entry) -> Result<(), OutOfMemory>
+    ensures { OnOk result (told.new.items ≡ told.old.items ++ entry_notices replay.now.state entry.now.command entry.now.reply) }
+{
+    match (&entry.command, &entry.reply) {
+        (Command::Close { outcome, .. }, Reply::Closed) => match replay.sealed() {
+            Some(batch) => note_batch(told, replay, batch, &outcome.answer),
+            None => Ok(()),
+        },
+        _ => Ok(()),
+    }
+}
+
+/// Notes what an answer tells the riders of its batch.
+fn note_batch(
+    told: &mut Vec<Notice>,
+    replay: &Replay,
+    batch: &Snapshot,
+    answer: &Answer,
+) -> Result<(), OutOfMemory>
+    ensures { OnOk result (told.new.items ≡ told.old.items ++ batch_notices replay.now.state batch.entry.now answer.now) }
+{
+    match answer {
+        Answer::Overflow => Ok(()),
+        Answer::Planned(plan) => {
+            let chosen = plan.chosen.as_slice();
+            for rider in batch.riders.as_slice() {
+                note_rider(told, replay, batch.batch, chosen, rider.id)?;
+            }
+            Ok(())
+        }
+    }
+}
+
+/// Notes the notice of a rider who waits or has a promise.
+fn note_rider(
+    told: &mut Vec<Notice>,
+    replay: &Replay,
+    batch: u64,
+    chosen: &[ChosenTrip],
+    rider: RiderId,
+) -> Result<(), OutOfMemory>
+    ensures { OnOk result (told.new.items ≡ told.old.items ++ (if is_asking replay.now.state rider then notice_of batch chosen.now rider ∷ [] else [])) }
+{
+    if is_asking(replay, rider) {
+        told.push(notice_of(batch, chosen, rider))?;
+    }
+    Ok(())
+}
+
+/// Whether a rider waits or has a promise.
+fn is_asking(replay: &Replay, rider: RiderId) -> bool
+    ensures { result ≡ is_asking replay.now.state rider }
+{
+    match replay.status_of(rider) {
+        Some(Status::Waiting | Status::Promised(_)) => true,
+        _ => false,
+    }
+}
+
+/// The notice of a rider: of the first trip that picks the rider up, if one does.
+fn notice_of(batch: u64, chosen: &[ChosenTrip], rider: RiderId) -> Notice
+    ensures { result ≡ notice_of batch chosen.now rider }
+{
+    for trip in chosen {
+        if let Some(notice) = trip_notice(batch, trip, rider) {
+            return notice;
+        }
+    }
+    Notice::Unserved { batch, rider }
+}
+
+/// The notice of a trip to a rider, if it picks the rider up.
+fn trip_notice(batch: u64, trip: &ChosenTrip, rider: RiderId) -> Option<Notice>
+    ensures { result ≡ trip_notice batch trip.now rider }
+{
+    let stops = trip.stops.as_slice();
+    let pickup = pickup_second(stops, rider)?;
+    let dropoff = dropoff_second(stops, rider).unwrap_or(pickup);
+    Some(Notice::Promised {
+        batch,
+        rider,
+        vehicle: trip.vehicle,
+        pickup,
+        dropoff,
+    })
+}
+
+/// The second of the first stop that picks the rider up.
+fn pickup_second(stops: &[PlannedStop], rider: RiderId) -> Option<u64>
+    ensures { result ≡ pickup_second rider stops.now }
+{
+    stops
+        .iter()
+        .find(|stop| stop.pick && stop.rider == rider)
+        .map(|stop| stop.second)
+}
+
+/// The second of the first stop that drops the rider.
+fn dropoff_second(stops: &[PlannedStop], rider: RiderId) -> Option<u64>
+    ensures { result ≡ dropoff_second rider stops.now }
+{
+    stops
+        .iter()
+        .find(|stop| !stop.pick && stop.rider == rider)
+        .map(|stop| stop.second)
+}
