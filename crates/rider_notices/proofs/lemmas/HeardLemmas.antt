@@ -1,5 +1,5 @@
 -- Notices that notifiers are told one list after the other.
-use Rattle.std.proofs.Common.{List, [], ◌∷◌, ◌++◌, Option, Some, None, refl, ap, ◌∙◌, append_assoc, sym, arith, length-append, length, map}
+use Rattle.std.proofs.Common.{◌≡◌, List, map, length, [], ◌∷◌, ◌++◌, Option, Some, None, refl, ap, ◌∙◌, append_assoc, sym, arith, length-append}
 use Rattle.std.proofs.lemmas.List.{append-nil}
 use Rattle.rider_notices.specs.declared.notice.Notice.{Notice}
 use Rattle.rider_notices.specs.Told.{HasTold, NotifierView, HasHeard, HaveHeard}
