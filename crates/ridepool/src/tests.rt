@@ -51,7 +51,6 @@ fn shown(
         &mut fleet,
         &mut script,
         &mut out,
-        &mut Vec::new(alloc),
         &FreeGate,
     );
     line_before(alloc, &status, out.written())
@@ -78,7 +77,6 @@ fn summed_up(
         &mut fleet,
         &mut script,
         &mut out,
-        &mut Vec::new(alloc),
         &FreeGate,
     );
     line_before(alloc, &status, out.written())
