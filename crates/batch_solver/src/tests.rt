@@ -1,9 +1,9 @@
-ghost use Rattle.std.specs.Prelude.{◌≤◌};
+ghost use Rattle.std.specs.Prelude.{◌≡◌, ◌≤◌};
 
 use crate::solve_batch;
 use batch_snapshot::Snapshot;
 use fleet_state::{HEADER as FLEET_HEADER, read_fleet};
-use pool_base::{NodeId, OutOfMemory, Party, RiderId, Second, VehicleId};
+use pool_base::{NodeId, OutOfMemory, Party, RiderId, Second, Times, VehicleId};
 use pool_io::rows;
 use request_book::{
     Answer, Book, Command, LateVehicle, MoveLine, Outcome, Planned, PlannedStop, Reply,
@@ -11,9 +11,11 @@ use request_book::{
 use rider_limits::{Mode, Settings};
 use road_network::{Network, read_network};
 use std::alloc::Global;
+use std::sync::atomic::{AtomicU64, Ordering};
 use std::test::Fail;
 use std::thread::Threads;
-use travel_times::are_known;
+use travel_times::{NetworkWays, Ways, are_known, times_between};
+use worker_gate::FreeGate;
 
 // Five nodes in a line, a minute between neighbours.
 const LINE: &[u8] =
@@ -120,6 +122,27 @@ fn settings(wait: u32, pairs: u32) -> Settings
     }
 }
 
+// The travel times of a network, with a count of the tables that were asked for.
+#[derive(Drop)]
+struct Counted<'a> {
+    network: &'a Network,
+    tables: AtomicU64,
+}
+
+impl Ways for Counted<'_> {
+    ghost roads = { λ ways. ways.network.now };
+
+    fn table<R: Threads + Sync>(
+        &self,
+        rt: &R,
+        alloc: Global,
+        nodes: &[NodeId],
+    ) -> Result<Times, OutOfMemory> {
+        self.tables.fetch_add(1, Ordering::SeqCst);
+        times_between(rt, alloc, self.network, nodes)
+    }
+}
+
 // The outcome, where all nodes are known.
 fn solved(
     rt: &(impl Threads + Sync),
@@ -128,15 +151,53 @@ fn solved(
     network: &Network,
     settings: &Settings,
 ) -> Option<Result<Outcome, OutOfMemory>> {
+    let ways = NetworkWays { network };
+    solved_by(rt, alloc, snapshot, network, &ways, settings)
+}
+
+fn solved_by<W: Ways>(
+    rt: &(impl Threads + Sync),
+    alloc: Global,
+    snapshot: &Snapshot,
+    network: &Network,
+    ways: &W,
+    settings: &Settings,
+) -> Option<Result<Outcome, OutOfMemory>>
+    requires { W.roads ways.now ≡ network.now }
+{
     match snapshot.points(alloc) {
         Ok(points) => {
             if are_known(network, points.nodes()) {
-                Some(solve_batch(rt, alloc, snapshot, network, settings))
+                let gate = FreeGate;
+                Some(solve_batch(rt, alloc, snapshot, network, ways, settings, &gate))
             } else {
                 None
             }
         }
         Err(_) => None,
+    }
+}
+
+// How many tables of travel times the batch of a fleet asks for.
+fn tables_asked(
+    rt: &(impl Threads + Sync),
+    alloc: Global,
+    network: &Network,
+    settings: &Settings,
+) -> Option<u64> {
+    let ways = Counted {
+        network,
+        tables: AtomicU64::new(0),
+    };
+    match book_of(alloc, network, FOUR_SEATS) {
+        Some(book) => match sealed(&book, 0) {
+            Some(snapshot) => match solved_by(rt, alloc, &snapshot, network, &ways, settings) {
+                Some(Ok(_)) => Some(ways.tables.load(Ordering::SeqCst)),
+                _ => None,
+            },
+            None => None,
+        },
+        None => None,
     }
 }
 
@@ -327,6 +388,15 @@ fn tells_late(planned: &Planned) -> bool {
         _ => false,
     };
     late && planned.rows.is_empty() && planned.chosen.is_empty() && has_costs(planned, 0)
+}
+
+#[test]
+fn the_ways_are_asked_once(rt: HostRuntime) {
+    let asked = match line(rt.alloc()) {
+        Some(network) => tables_asked(&rt, rt.alloc(), &network, &settings(120, 200_000)),
+        None => None,
+    };
+    assert!(rt; asked == Some(1));
 }
 
 #[test]

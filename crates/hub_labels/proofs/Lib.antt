@@ -13,3 +13,5 @@ pub mod HopLemmas
 pub mod Searching
 pub mod Adding
 pub mod Building
+pub mod Unique
+pub mod CellLemmas

@@ -1,4 +1,5 @@
 pub mod Rank
 pub mod Label
 pub mod Labels
+pub mod Fault
 pub mod work

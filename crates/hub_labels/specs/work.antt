@@ -5,3 +5,5 @@ pub mod Drafts
 pub mod Common
 pub mod Order
 pub mod Adding
+pub mod Difference
+pub mod Cells

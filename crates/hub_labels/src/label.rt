@@ -21,6 +21,21 @@ impl Model for Label {
 }
 
 impl Label {
+    /// The label of these hubs, in their order.
+    pub fn of(hubs: Vec<Hub>) -> Label
+        ensures { result ≡ hubs.items }
+    {
+        Label { hubs }
+    }
+
+    /// The vector that holds the hubs.
+    pub fn into_vec(self) -> Vec<Hub>
+        ensures { result.items ≡ self }
+    {
+        let Label { hubs } = self;
+        hubs
+    }
+
     pub(crate) fn empty(alloc: Global) -> Label
         ensures { result ≡ [] }
     {
@@ -37,7 +52,7 @@ impl Label {
         Ok(())
     }
 
-    pub(crate) fn as_slice(&self) -> &[Hub]
+    pub fn as_slice(&self) -> &[Hub]
         ensures { result.now ≡ self.now }
     {
         self.hubs.as_slice()

@@ -91,6 +91,18 @@ impl Labels {
         self.backward[b].as_slice()
     }
 
+    pub(crate) fn forward_labels(&self) -> &[Label]
+        ensures { result.now ≡ self.now.forward }
+    {
+        self.forward.as_slice()
+    }
+
+    pub(crate) fn backward_labels(&self) -> &[Label]
+        ensures { result.now ≡ self.now.backward }
+    {
+        self.backward.as_slice()
+    }
+
     /// The least seconds over all walks from one node to another, by the hubs that their labels have in common; `NEVER`
     /// exactly where there is no walk.
     pub(crate) fn time(&self, a: usize, b: usize) -> u32

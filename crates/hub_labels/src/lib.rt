@@ -1,8 +1,10 @@
 //! Hub labels.
 #![tactic(auto)]
 
+mod checked;
 mod common;
 mod draft;
+mod fault;
 mod hops;
 mod hub;
 mod label;
@@ -14,6 +16,10 @@ mod take;
 #[cfg(test)]
 mod tests;
 mod via;
+mod ways;
 
+pub use fault::LabelFault;
 pub use hub::Hub;
+pub use label::Label;
 pub use labels::Labels;
+pub use ways::LabelWays;

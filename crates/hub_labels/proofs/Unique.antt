@@ -1,0 +1,78 @@
+-- The definition names one label: lists by rank that have the same hubs are the same.
+use Rattle.std.proofs.Common.{◌≡◌, ◌≢◌, ℕ, zero, suc, ◌+◌, ◌<◌, ◌≤◌, ◌⊎◌, ◌↔◌, List, [], ◌∷◌, length, get_or, All, Contains, refl, sym, ap, ◌∙◌, subst, inl, inr, ⊎_elim, arith}
+use Rattle.road_network.specs.declared.arc.Arc.{Arc}
+use Rattle.hub_labels.specs.declared.hub.Hub.{Hub}
+use Rattle.hub_labels.specs.Rank.{degree, IsOfLowerRank}
+use Rattle.hub_labels.specs.Fault.{IsFirstWrong}
+use Rattle.hub_labels.specs.Label.{IsLabel}
+use Rattle.hub_labels.specs.work.Difference.{IsFirstDifference}
+
+-- of two nodes at most one is of lower rank
+lower_apart : (arcs : List Arc) (a b : ℕ) → IsOfLowerRank arcs a b → IsOfLowerRank arcs b a → ⊥
+lower_apart arcs a b one other = ⊎_elim
+    (λ (more : degree arcs b < degree arcs a). ⊎_elim (λ (more' : degree arcs a < degree arcs b). omega arith) (λ same. let e : degree arcs b ≡ degree arcs a = same.0 in omega arith) other)
+    (λ same. let e : degree arcs a ≡ degree arcs b = same.0 in let l : a < b = same.1 in ⊎_elim (λ (more' : degree arcs a < degree arcs b). omega arith) (λ same'. let l' : b < a = same'.1 in omega arith) other)
+    one
+
+-- hubs by rank
+abbrev IsByRank : List Arc → List Hub → Type 0
+IsByRank arcs label = (i j : ℕ) (d : Hub) → i < j → j < length label → IsOfLowerRank arcs (get_or label i d).node (get_or label j d).node
+
+tail_by_rank : (arcs : List Arc) (x : Hub) (xs : List Hub) → IsByRank arcs (x ∷ xs) → IsByRank arcs xs
+tail_by_rank arcs x xs by i j d lt h = by (suc i) (suc j) d (omega arith) (omega arith)
+
+-- the first hub is of lower rank than each later one
+head_lower : (arcs : List Arc) (x : Hub) (xs : List Hub) → IsByRank arcs (x ∷ xs) → (y : Hub) → Contains xs y → IsOfLowerRank arcs x.node y.node
+head_lower arcs x xs by y (k, inside, is) = subst (λ (z : Hub). IsOfLowerRank arcs x.node z.node) is (by 0 (suc k) y (omega arith) (omega arith))
+
+head_or_tail : (x : Hub) (xs : List Hub) (y : Hub) → Contains (x ∷ xs) y → (x ≡ y) ⊎ Contains xs y
+head_or_tail x xs y (zero, inside, is) = inl is
+head_or_tail x xs y (suc k, inside, is) = inr (k, omega arith, is)
+
+has_head : (x : Hub) (xs : List Hub) → Contains (x ∷ xs) x
+has_head x xs = (0, omega arith, refl)
+
+later : (x : Hub) (xs : List Hub) (y : Hub) → Contains xs y → Contains (x ∷ xs) y
+later x xs y (k, inside, is) = (suc k, omega arith, is)
+
+not_in_nothing : (y : Hub) → Contains [] y → ⊥
+not_in_nothing y (k, inside, is) = omega arith
+
+-- what later hubs of one list are, those of the other are
+tail_has : (arcs : List Arc) (x : Hub) (xs ys : List Hub) → IsByRank arcs (x ∷ xs) → ((z : Hub) → Contains (x ∷ xs) z → Contains (x ∷ ys) z) → (z : Hub) → Contains xs z → Contains ys z
+tail_has arcs x xs ys by has z in' = ⊎_elim
+    (λ (e : x ≡ z). let l = head_lower arcs x xs by z in' in absurd (lower_apart arcs x.node x.node (rw (← e) at l) (rw (← e) at l)))
+    (λ found. found)
+    (head_or_tail x ys z (has z (later x xs z in')))
+
+same_by_rank : (arcs : List Arc) (xs ys : List Hub) → IsByRank arcs xs → IsByRank arcs ys → ((z : Hub) → Contains xs z → Contains ys z) → ((z : Hub) → Contains ys z → Contains xs z) → xs ≡ ys
+same_by_rank arcs [] [] by by' there back = refl
+same_by_rank arcs [] (y ∷ ys) by by' there back = absurd (not_in_nothing y (back y (has_head y ys)))
+same_by_rank arcs (x ∷ xs) [] by by' there back = absurd (not_in_nothing x (there x (has_head x xs)))
+same_by_rank arcs (x ∷ xs) (y ∷ ys) by by' there back =
+    let first : y ≡ x = ⊎_elim
+    (λ (e : y ≡ x). e)
+    (λ in'. ⊎_elim
+    (λ (e : x ≡ y). sym e)
+    (λ in''. absurd (lower_apart arcs y.node x.node (head_lower arcs y ys by' x in') (head_lower arcs x xs by y in'')))
+    (head_or_tail x xs y (back y (has_head y ys))))
+    (head_or_tail y ys x (there x (has_head x xs))) in
+    let by'' : IsByRank arcs (x ∷ ys) = subst (λ (h : Hub). IsByRank arcs (h ∷ ys)) first by' in
+    let there' : (z : Hub) → Contains (x ∷ xs) z → Contains (x ∷ ys) z = subst (λ (h : Hub). (z : Hub) → Contains (x ∷ xs) z → Contains (h ∷ ys) z) first there in
+    let back' : (z : Hub) → Contains (x ∷ ys) z → Contains (x ∷ xs) z = subst (λ (h : Hub). (z : Hub) → Contains (h ∷ ys) z → Contains (x ∷ xs) z) first back in
+    ap (λ (t : List Hub). x ∷ t) (same_by_rank arcs xs ys (tail_by_rank arcs x xs by) (tail_by_rank arcs x ys by'') (tail_has arcs x xs ys by there') (tail_has arcs x ys xs by'' back'))
+    ∙ ap (λ (h : Hub). h ∷ ys) (sym first)
+
+pub one_label : (arcs : List Arc) (IsHub : ℕ → ℕ → Type 0) (one other : List Hub) → IsLabel arcs IsHub one → IsLabel arcs IsHub other → one ≡ other
+one_label arcs IsHub one other a b = same_by_rank arcs one other a.by_rank b.by_rank (λ z has. (b.hubs z).1 ((a.hubs z).0 has)) (λ z has. (a.hubs z).1 ((b.hubs z).0 has))
+
+-- where lists first differ from the labels, they are first wrong
+pub first_wrong : (arcs : List Arc) (n : ℕ) (IsHub : ℕ → ℕ → ℕ → Type 0) (labels others : List (List Hub)) (node : ℕ) → length labels ≡ n → ((a : ℕ) → a < n → IsLabel arcs (IsHub a) (get_or labels a [])) → IsFirstDifference labels others node
+    → IsFirstWrong n (λ a. IsLabel arcs (IsHub a) (get_or others a [])) node
+first_wrong arcs n IsHub labels others node each right differs =
+    let within : node < n = let l : node < length labels = differs.within in omega arith in
+    record {
+      within = within;
+      wrong = λ other. differs.differ (one_label arcs (IsHub node) (get_or labels node []) (get_or others node []) (right node within) other);
+      before = λ k lt. subst (λ (label : List Hub). IsLabel arcs (IsHub k) label) (differs.before k lt) (right k (omega arith));
+    }
