@@ -1,16 +1,15 @@
 -- A leaf where no vehicle has a choice holds one plan, whose cost is the first-fit value.
-use Rattle.std.proofs.Common.{◌≡◌, ◌≢◌, ◌==◌, ◌⊎◌, ◌&&◌, ℕ, zero, suc, ◌+◌, ◌*◌, ◌/◌, ◌<◌, ◌≤◌, Bool, true, false, ltb, nat_lt, IsTrue, List, [], ◌∷◌, ◌++◌, length, get_or, Option, Some, None, MatchOption, ℤ, pos, negsuc, ◌+ℤ◌, ◌-ℤ◌, ◌≤ℤ◌, refl, sym, ap, ◌∙◌, subst, inl, inr, ⊎_elim, arith, eq-eqb, eqb-true, ne_eqb, lt-ltb, le-ltb}
-use Rattle.std.specs.Int.{int_min}
+use Rattle.std.proofs.Common.{◌≡◌, ◌==◌, ◌⊎◌, ◌&&◌, ℕ, zero, suc, ◌+◌, ◌*◌, ◌/◌, ◌<◌, ◌≤◌, Bool, true, false, ltb, List, [], ◌∷◌, ◌++◌, length, Option, Some, None, MatchOption, ℤ, pos, negsuc, ◌+ℤ◌, ◌-ℤ◌, ◌≤ℤ◌, refl, sym, ap, ◌∙◌, subst, inl, inr, ⊎_elim, arith, eq-eqb, eqb-true, ne_eqb, lt-ltb, le-ltb}
 use Rattle.std.specs.Prelude.{unwrap_or}
-use Rattle.std.proofs.lemmas.Int.{ints, int_min_is}
-use Rattle.std.proofs.lemmas.Bool.{cases_eq, cases_lt, cases_Bool, and_from, and_parts, both_ways, cond-true, cond-false}
+use Rattle.std.proofs.lemmas.Int.{ints}
+use Rattle.std.proofs.lemmas.Bool.{cases_eq, cases_lt, cases_Bool, and_from, and_parts, cond-true, cond-false}
 use Rattle.std.proofs.lemmas.List.{get_or_push, get_or_append_left}
 use Rattle.plan_rules.specs.Sums.{sum_below, count_below, int_sum_below, least_below, lesser}
-use Rattle.plan_rules.specs.Graph.{Graph, IsRowOf, HasNoRow, row_at, riders_at, row_vehicle, cost_at, has_rider, choice_at, is_in, times_served, must_be_served, IsGoodGraph}
+use Rattle.plan_rules.specs.Graph.{Graph, IsRowOf, HasNoRow, riders_at, row_vehicle, has_rider, choice_at, is_in, must_be_served, IsGoodGraph}
 use Rattle.plan_rules.specs.Plan.{IsPlan, IsLawful, times_chosen, choice_cost, left_out, cost_of}
 use Rattle.plan_rules.specs.Multipliers.{Usable, multiplier_at, multiplier_sum, is_usable_by, reduced_cost, vehicle_term, rider_term, leaf_value, room_at, first_fit_of, first_fit_below, first_fit, first_fit_value}
 use Rattle.plan_rules.specs.Tree.{MayUse, IsSoleRow, IsDeadEnd, rounded_up}
-use Rattle.plan_rules.proofs.lemmas.SumLemmas.{flag, flag-true, flag-false, part, sum_below_scale, int_sum_same, int_sum_le, int_sum_plus, int_sum_minus, int_sum_pos, int_sum_zero, int_sum_swap, int_sum_once, least_below_some, least_below_none, least_below_found, lesser-le_right, count_below_found}
+use Rattle.plan_rules.proofs.lemmas.SumLemmas.{flag, flag-true, flag-false, part, sum_below_scale, int_sum_same, int_sum_le, int_sum_plus, int_sum_minus, int_sum_pos, int_sum_zero, int_sum_swap, int_sum_once, least_below_some, least_below_none, least_below_found, count_below_found}
 use Rattle.plan_rules.proofs.lemmas.GraphLemmas.{times_served_as_count, times_served_some, in_choice}
 use Rattle.plan_rules.proofs.lemmas.PlanLemmas.{has_choice}
 use Rattle.plan_rules.proofs.lemmas.DualityLemmas.{multiplier_sum_is}
