@@ -10,10 +10,11 @@ use Rattle.hub_labels.specs.Labels.{label_at}
 abbrev pub HasEach : Roads → List (List Hub) → Type 0
 HasEach roads labels = length labels ≡ length roads.nodes
 
--- the forward label of a node, and the backward label, are the ones that the definition names
+-- the label of the hubs that a node reaches is the one that the definition names
 abbrev pub IsForwardAt : Roads → List (List Hub) → ℕ → Type 0
 IsForwardAt roads labels a = IsLabel roads.arcs (IsForwardHub roads.arcs a) (label_at labels a)
 
+-- the label of the hubs that reach a node is the one that the definition names
 abbrev pub IsBackwardAt : Roads → List (List Hub) → ℕ → Type 0
 IsBackwardAt roads labels b = IsLabel roads.arcs (IsBackwardHub roads.arcs b) (label_at labels b)
 

@@ -1,4 +1,8 @@
-//! Hub labels.
+//! Hub labels: travel times of a road network that stays the same, by what two nodes' labels have in common.
+//!
+//! A label lists hubs of a node, with the seconds to them or from them. It holds exactly the hubs that the definition
+//! names, so there is one labelling of a network (canonical hub labels: Abraham, Delling, Goldberg and Werneck 2012). It
+//! is made by pruned searches, by rank, one forward and one backward from each node (Akiba, Iwata and Yoshida 2013).
 #![tactic(auto)]
 
 mod checked;

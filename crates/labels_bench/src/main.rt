@@ -1,0 +1,221 @@
+//! Times hub labels: how long building them takes on a network, how many hubs there are, and how long a table of
+//! shortest times takes by searches and by labels, between nodes spread evenly over it.
+#![tactic(auto)]
+
+ghost use Rattle.std.specs.Prelude.{◌≡◌, ◌<◌, ◌≤◌, IfSome};
+
+use hub_labels::{LabelWays, Labels};
+use pool_base::{NodeId, OutOfMemory, Times, read_number_up_to};
+use pool_io::{StdSource, read_all, rows};
+use road_network::{Network, read_network};
+use std::alloc::Global;
+use std::fs::File;
+use std::process::ExitCode;
+use std::thread::{Threads, available_parallelism};
+use std::time::Instant;
+use std::{env, io};
+use travel_times::{Ways, are_known, times_between};
+
+const USAGE: &str = "\
+usage: labels_bench NETWORK POINTS
+
+Prints how many threads there are, the microseconds that labels took and how many hubs they have, and the
+microseconds that a table took by searches and by labels, with the sum of its cells modulo 2^64.
+
+  NETWORK   a file of streets: from,to,seconds
+  POINTS    how many nodes, spread evenly over the network, 0 to 12500
+
+Exit status: 0 done; 2 words; 3 network; 4 clock or output; 5 out of memory.
+";
+
+/// A file is no longer than this many bytes.
+const LONGEST_FILE: u64 = 67_108_864;
+
+const MOST_POINTS: u64 = 12_500;
+
+/// What the words ask for.
+#[derive(Drop)]
+struct Wish {
+    network: String,
+    points: usize,
+}
+
+/// Why not all was measured.
+#[derive(Clone, Copy)]
+enum Fault {
+    Words,
+    Network,
+    Io,
+    OutOfMemory,
+}
+
+impl From<OutOfMemory> for Fault {
+    fn from(_error: OutOfMemory) -> Fault {
+        Fault::OutOfMemory
+    }
+}
+
+impl From<io::Error> for Fault {
+    fn from(_error: io::Error) -> Fault {
+        Fault::Io
+    }
+}
+
+fn main(rt: HostRuntime) -> ExitCode {
+    match measure(&rt, &rt) {
+        Ok(()) => ExitCode::SUCCESS,
+        Err(Fault::Words) => {
+            let _ = rt.print(USAGE);
+            ExitCode::from(2)
+        }
+        Err(Fault::Network) => ExitCode::from(3),
+        Err(Fault::Io) => ExitCode::from(4),
+        Err(Fault::OutOfMemory) => ExitCode::from(5),
+    }
+}
+
+fn measure(rt: &HostRuntime, threads: &(impl Threads + Sync)) -> Result<(), Fault> {
+    let Some(wish) = wish_of(rt) else {
+        return Err(Fault::Words);
+    };
+    let network = network_of(rt, &wish.network)?;
+    let nodes = spread_nodes(rt.alloc(), &network, wish.points)?;
+    println!(rt; "threads {}", available_parallelism(threads)?)?;
+    measure_rows(rt, threads, &network, &nodes)?;
+    measure_labels(rt, threads, &network, &nodes)
+}
+
+fn measure_rows(
+    rt: &HostRuntime,
+    threads: &(impl Threads + Sync),
+    network: &Network,
+    nodes: &[NodeId],
+) -> Result<(), Fault> {
+    let start = Instant::now(rt)?;
+    let times = table_by_rows(threads, rt.alloc(), network, nodes)?;
+    let took = start.elapsed(rt)?.as_micros();
+    println!(rt; "by searches {took} microseconds, cells {}", sum_of(&times))?;
+    Ok(())
+}
+
+fn measure_labels(
+    rt: &HostRuntime,
+    threads: &(impl Threads + Sync),
+    network: &Network,
+    nodes: &[NodeId],
+) -> Result<(), Fault> {
+    let start = Instant::now(rt)?;
+    let labels = Labels::build(rt.alloc(), network)?;
+    let took = start.elapsed(rt)?.as_micros();
+    println!(rt; "labels {took} microseconds, nodes {}, hubs {}", labels.len(), hubs_of(&labels))?;
+    let ways = LabelWays::of(network, labels);
+    let start = Instant::now(rt)?;
+    let times = table_by_labels(threads, rt.alloc(), network, &ways, nodes)?;
+    let took = start.elapsed(rt)?.as_micros();
+    println!(rt; "by labels {took} microseconds, cells {}", sum_of(&times))?;
+    Ok(())
+}
+
+/// What the words ask for; `None` where they aren't a path and a number.
+fn wish_of(rt: &HostRuntime) -> Option<Wish>
+    ensures { IfSome result (λ wish. wish.points ≤ 12500) }
+{
+    let mut words = env::args(rt).ok()?.skip(1);
+    let network = words.next()?;
+    let points = read_number_up_to(words.next()?.as_bytes(), MOST_POINTS)? as usize;
+    Some(Wish { network, points })
+}
+
+fn network_of(rt: &HostRuntime, path: &str) -> Result<Network, Fault> {
+    let Ok(file) = File::open(rt, path) else {
+        return Err(Fault::Network);
+    };
+    let Ok(text) = read_all(rt.alloc(), &mut StdSource::over(file), LONGEST_FILE) else {
+        return Err(Fault::Network);
+    };
+    let Ok(streets) = rows(rt.alloc(), &text, b"from,to,seconds") else {
+        return Err(Fault::Network);
+    };
+    match read_network(rt.alloc(), &streets) {
+        Ok(network) => Ok(network),
+        Err(_) => Err(Fault::Network),
+    }
+}
+
+/// As many nodes, spread evenly over those of the network in their order there; the same one again where
+/// there are fewer nodes than that.
+fn spread_nodes(alloc: Global, network: &Network, count: usize) -> Result<Vec<NodeId>, OutOfMemory>
+    requires { count ≤ 12500 }
+{
+    let all = network.node_count();
+    let mut nodes = Vec::with_capacity(alloc, count)?;
+    if all > 0 {
+        for place in 0..count {
+            nodes.push(network.node_at(spread_index(place, count, all)))?;
+        }
+    }
+    Ok(nodes)
+}
+
+/// The index of the place among so many that are spread evenly.
+fn spread_index(place: usize, count: usize, all: usize) -> usize
+    requires place { place < count }
+    requires count { count ≤ 12500 }
+    requires some { 0 < all }
+    requires few { all ≤ 100000 }
+    ensures { result < all }
+{
+    place * all / count
+}
+
+/// The table of these nodes by searches, if the network has them all.
+fn table_by_rows(
+    threads: &(impl Threads + Sync),
+    alloc: Global,
+    network: &Network,
+    nodes: &[NodeId],
+) -> Result<Times, Fault> {
+    if nodes.len() <= 12_500 && are_known(network, nodes) {
+        Ok(times_between(threads, alloc, network, nodes)?)
+    } else {
+        Err(Fault::Network)
+    }
+}
+
+/// The table of these nodes by labels of the network, if it has them all.
+fn table_by_labels(
+    threads: &(impl Threads + Sync),
+    alloc: Global,
+    network: &Network,
+    ways: &LabelWays,
+    nodes: &[NodeId],
+) -> Result<Times, Fault>
+    requires { ways.now ≡ network.now }
+{
+    if nodes.len() <= 12_500 && are_known(network, nodes) {
+        Ok(ways.table(threads, alloc, nodes)?)
+    } else {
+        Err(Fault::Network)
+    }
+}
+
+/// How many hubs all labels have.
+fn hubs_of(labels: &Labels) -> u64 {
+    let mut hubs = 0u64;
+    for node in 0..labels.len() {
+        hubs = hubs.wrapping_add(labels.forward(node).len() as u64);
+        hubs = hubs.wrapping_add(labels.backward(node).len() as u64);
+    }
+    hubs
+}
+
+/// The sum of all cells, modulo 2^64.
+fn sum_of(times: &Times) -> u64 {
+    let mut sum = 0u64;
+    for a in 0..times.len() {
+        for b in 0..times.len() {
+            sum = sum.wrapping_add(u64::from(times.seconds(a, b)));
+        }
+    }
+    sum
+}
