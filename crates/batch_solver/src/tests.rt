@@ -201,6 +201,17 @@ fn tables_asked(
     }
 }
 
+fn tables_of_the_line(
+    rt: &(impl Threads + Sync),
+    alloc: Global,
+    settings: &Settings,
+) -> Option<u64> {
+    match line(alloc) {
+        Some(network) => tables_asked(rt, alloc, &network, settings),
+        None => None,
+    }
+}
+
 // The outcome of a seal at this second.
 fn outcome_at(
     rt: &(impl Threads + Sync),
@@ -392,10 +403,7 @@ fn tells_late(planned: &Planned) -> bool {
 
 #[test]
 fn the_ways_are_asked_once(rt: HostRuntime) {
-    let asked = match line(rt.alloc()) {
-        Some(network) => tables_asked(&rt, rt.alloc(), &network, &settings(120, 200_000)),
-        None => None,
-    };
+    let asked = tables_of_the_line(&rt, rt.alloc(), &settings(120, 200_000));
     assert!(rt; asked == Some(1));
 }
 

@@ -206,9 +206,16 @@ fn run_first(
 {
     let ways = NetworkWays { network };
     let commands = round.lane(0);
-    let pass = &mut passes[0];
     run_lane(
-        rt, alloc, book, pass, commands, network, &ways, settings, &FreeGate,
+        rt,
+        alloc,
+        book,
+        &mut passes[0],
+        commands,
+        network,
+        &ways,
+        settings,
+        &FreeGate,
     )
     .is_ok()
 }

@@ -5,6 +5,7 @@
 //! just those calls of all passes. That a waiting call returns, and which lane comes first, is not said.
 #![tactic(auto)]
 
+mod bells;
 mod counter;
 mod hand_out;
 mod lock;

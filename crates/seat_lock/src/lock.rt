@@ -2,6 +2,7 @@
 ghost use Rattle.std.specs.Prelude.{◌≡◌, ℕ, ◌<◌, ◌≤◌, [], ◌∷◌, All, IfOk, IfErr, IsOk};
 ghost use Rattle.seat_lock.specs.Values.{AreAllPasses, IsNew, GainsCalls};
 
+use crate::bells::Bells;
 use crate::hand_out::{close, hand_out, join_all};
 use crate::logged::Logged;
 use crate::moves::{Key, Queue};
@@ -16,6 +17,7 @@ use std::snapshot::Snapshot;
 #[derive(Drop)]
 pub struct SeatLock<B: Logged> {
     pub(crate) queue: Queue<B>,
+    pub(crate) bells: Bells,
 }
 
 impl<B: Logged> Model for SeatLock<B> {
@@ -69,7 +71,13 @@ impl<B: Logged> SeatLock<B> {
         match Table::new(alloc, &[0, 0, 0], slots, &about) {
             Ok((queue, first)) => {
                 hand_out(&queue, first, lanes, &mut passes);
-                Ok((SeatLock { queue }, passes))
+                Ok((
+                    SeatLock {
+                        queue,
+                        bells: Bells::new(),
+                    },
+                    passes,
+                ))
             }
             Err(refused) => Err(Refused {
                 value: only(refused.slots),
@@ -84,7 +92,7 @@ impl<B: Logged> SeatLock<B> {
         ensures log { IfOk result (λ b. GainsCalls (B.log self.start) (B.log b) passes.items) }
         ensures root { IfOk result (λ b. B.root b ≡ B.root self.start) }
     {
-        let SeatLock { queue } = self;
+        let SeatLock { queue, bells: _ } = self;
         let all = join_all(&queue, passes);
         Ok(close(queue, all))
     }

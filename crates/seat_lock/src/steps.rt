@@ -6,9 +6,9 @@ ghost use Rattle.seat_lock.specs.work.Views.{with_stage};
 ghost use Rattle.seat_lock.specs.work.Moves.{TakesTurn, NotesAt, held};
 ghost use Rattle.seat_lock.specs.work.Turns.{IsSameSeat, CanDraw, CanNote, CanServe};
 
+use crate::bells::Bells;
 use crate::logged::Logged;
 use crate::moves::{Draw, Look, Note, Place, Queue, Serve};
-use crossbeam_utils::Backoff;
 use std::sync::Wait;
 
 const TICKETS: usize = 0;
@@ -27,10 +27,12 @@ pub(crate) fn draw<B: Logged>(queue: &Queue<B>, place: &mut Place<B>) -> u64
     queue.shared.fetch_add::<Draw>(place, TICKETS, 1)
 }
 
-// Looks at the served number until it is the ticket's, which takes the slot.
+// Looks at the served number until it is the ticket's, which takes the slot. It sleeps between looks. Whoever
+// serves the ticket rings its bell after that, so a ring between the look and the sleep ends the sleep.
 pub(crate) fn wait_turn<B: Logged, R: Wait>(
     rt: &R,
     queue: &Queue<B>,
+    bells: &Bells,
     place: &mut Place<B>,
     ticket: u64,
 )
@@ -41,12 +43,12 @@ pub(crate) fn wait_turn<B: Logged, R: Wait>(
     ensures own { IsSameSeat place.old place.new }
     ensures turn { (x : ℕ) × TakesTurn B.root B.log B.spare place.old.me.0 x place.new.me }
 {
-    let backoff = Backoff::new();
     for _ in rt.forever() {
+        let heard = bells.heard(ticket);
         if queue.shared.load::<Look<B>>(place, SERVED) == ticket {
             return;
         }
-        backoff.snooze();
+        bells.sleep(rt, ticket, heard);
     }
     unreachable!()
 }
