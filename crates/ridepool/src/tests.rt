@@ -51,6 +51,7 @@ fn shown(
         &mut fleet,
         &mut script,
         &mut out,
+        &mut Vec::new(alloc),
         &FreeGate,
     );
     line_before(alloc, &status, out.written())
@@ -77,6 +78,7 @@ fn summed_up(
         &mut fleet,
         &mut script,
         &mut out,
+        &mut Vec::new(alloc),
         &FreeGate,
     );
     line_before(alloc, &status, out.written())
