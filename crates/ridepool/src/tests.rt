@@ -13,7 +13,7 @@ const NETWORK: &[u8] =
 const FLEET: &[u8] = b"vehicle,seats,node,second\n";
 
 const BATCH: &[u8] =
-    b"round,lane,command,a,b,c,d\n0,0,submit,1,2,4,0\n0,3,submit,2,3,5,0\n1,0,seal,0,,,\n";
+    b"round,lane,command,a,b,c,d\n0,0,submit,1,2,4,0\n0,0,submit,2,3,5,0\n1,0,seal,0,,,\n";
 
 const SUBMITS: &[u8] =
     b"round,lane,command,a,b,c,d\n0,0,submit,1,2,4,0\n0,0,submit,1,2,4,0\n0,0,submit,2,9,4,0\n0,0,submit,3,2,2,0\n";
