@@ -237,7 +237,7 @@ fn failing_calls(
 #[test]
 fn a_sink_may_fail_at_each_of_its_calls(rt: HostRuntime) -> Result<(), Fail> {
     assert!(rt; 30 < failing_calls(&rt, rt.alloc(), 16)?);
-    assert!(rt; 60 < failing_calls(&rt, rt.alloc(), 7)?);
+    assert!(rt; 50 < failing_calls(&rt, rt.alloc(), 7)?);
     Ok(())
 }
 
