@@ -1,0 +1,4 @@
+//! A driven day.
+#![tactic(auto)]
+
+pub mod laws;
