@@ -1,1 +1,3 @@
 pub mod Rest
+pub mod Walk
+pub mod work

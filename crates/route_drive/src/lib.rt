@@ -2,3 +2,7 @@
 #![tactic(auto)]
 
 pub mod laws;
+mod tree;
+mod walk;
+
+pub use walk::{WalkStep, shortest_walk};

@@ -10,9 +10,11 @@ mod ring;
 mod rows;
 mod search;
 mod short_hop;
+mod single;
 mod table;
 #[cfg(test)]
 mod tests;
 
 pub use plain::times_by_repeated_relaxation;
+pub use single::times_from;
 pub use table::{are_known, times_between};
