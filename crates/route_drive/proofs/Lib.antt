@@ -1,2 +1,4 @@
 pub mod RestLemmas
 pub mod TreeLemmas
+pub mod DayLemmas
+pub mod EnterLemmas

@@ -1,3 +1,5 @@
 pub mod Rest
 pub mod Walk
+pub mod Day
+pub mod Entering
 pub mod work
