@@ -4,7 +4,7 @@ use Rattle.std.specs.Prelude.{IsSome, find}
 use Rattle.std.specs.List.{Any}
 use Rattle.std.proofs.lemmas.Bool.{cases_Bool, cases_eq, cond-true, cond-false, leb-true, le-leb}
 use Rattle.std.proofs.lemmas.Bool.Decides.{leb_tells}
-use Rattle.std.proofs.lemmas.List.{take_more, length-set, get_or-set_same, get_or-set_other}
+use Rattle.std.proofs.lemmas.List.{take_more, length-set, get_or-set_same, get_or-set_other, get_or_append_left}
 use Rattle.std.proofs.lemmas.List.Elements.{filter-append}
 use Rattle.std.proofs.Math.Seq.{drop-cons, get_or-append_seam}
 use Rattle.batch_snapshot.specs.declared.vehicle.Vehicle.{Vehicle}
@@ -15,7 +15,9 @@ use Rattle.script_rows.specs.Round.{NumberedLanes, lane_at, with_command}
 use Rattle.route_drive.specs.declared.course.Course.{Course}
 use Rattle.route_drive.specs.declared.course.Standing.{Standing}
 use Rattle.route_drive.specs.declared.walk.WalkStep.{WalkStep}
-use Rattle.route_drive.specs.Entering.{AreEntered, EntersTooLate, IsEntered, due, standing_after, step_from, walk_end}
+use Rattle.pool_base.specs.TravelTime.{longest}
+use Rattle.request_book.specs.declared.command.Command.TheVariants.{Pickup, Dropoff}
+use Rattle.route_drive.specs.Entering.{AreEntered, EntersTooLate, IsEntered, IsTooLate, due, left_commands, standing_after, step_from, stop_command, walk_end}
 use Rattle.route_drive.specs.work.Rounds.{Adds, EntersLate}
 
 module _ {X : Type 0} where
@@ -133,3 +135,51 @@ module _ (roads : Roads) (dwell now : ℕ) where
 -- the last one is among them
 pub any_last : (P : Command → Type 0) (xs : List Command) (x : Command) → P x → Any P (xs ++ x ∷ [])
 any_last P xs x p = (length xs, x, (let e = length-append xs (x ∷ []) in omega (arith, e)), get_or-append_seam xs x [] x, p)
+
+-- the stops left of one more vehicle
+left-push : (vehicles : List Vehicle) (courses : List Course) (v : Vehicle) (c : Course) → length courses ≡ length vehicles
+    → left_commands (vehicles ++ v ∷ []) (courses ++ c ∷ []) ≡ left_commands vehicles courses ++ map (stop_command v.id) c.stops.items
+left-push [] [] v c size = append-nil (map (stop_command v.id) c.stops.items)
+left-push [] (x ∷ courses) v c size = absurd (omega (arith, size))
+left-push (x ∷ vehicles) [] v c size = absurd (omega (arith, size))
+left-push (x ∷ vehicles) (y ∷ courses) v c size =
+    ap (λ l. map (stop_command x.id) y.stops.items ++ l) (left-push vehicles courses v c (omega (arith, size)))
+    ∙ sym (append_assoc (map (stop_command x.id) y.stops.items) (left_commands vehicles courses) (map (stop_command v.id) c.stops.items))
+
+pub left-more : (vehicles : List Vehicle) (courses : List Course) (k : ℕ) (v : Vehicle) (c : Course) → length courses ≡ length vehicles → k < length vehicles
+    → v ≡ get_or vehicles k v → c ≡ get_or courses k c
+    → left_commands (take (k + 1) vehicles) (take (k + 1) courses) ≡ left_commands (take k vehicles) (take k courses) ++ map (stop_command v.id) c.stops.items
+left-more vehicles courses k v c size h is_v is_c =
+    let vs : take (k + 1) vehicles ≡ take k vehicles ++ v ∷ [] = take_more vehicles k v h ∙ ap (λ y. take k vehicles ++ y ∷ []) (sym is_v) in
+    let cs : take (k + 1) courses ≡ take k courses ++ c ∷ [] = take_more courses k c (omega (arith, size, h)) ∙ ap (λ y. take k courses ++ y ∷ []) (sym is_c) in
+    ap (λ l. left_commands l (take (k + 1) courses)) vs ∙ ap (left_commands (take k vehicles ++ v ∷ [])) cs ∙ left-push (take k vehicles) (take k courses) v c (same_takes vehicles courses k size)
+
+any_left : (P : Command → Type 0) (xs ys : List Command) → Any P xs → Any P (xs ++ ys)
+any_left P xs ys (k, x, h, is, p) = (k, x, (let e = length-append xs ys in omega (arith, e, h)), get_or_append_left xs ys x k h ∙ is, p)
+
+any_right : (P : Command → Type 0) (xs ys : List Command) → Any P ys → Any P (xs ++ ys)
+any_right P [] ys any = any
+any_right P (z ∷ xs) ys any = let rest = any_right P xs ys any in (suc rest.0, rest.1, omega (arith, rest.2), rest.3, rest.4)
+
+-- a stop of one vehicle is among the stops left of all
+pub left_late : (P : Command → Type 0) (vehicles : List Vehicle) (courses : List Course) (k : ℕ) (v : Vehicle) (c : Course) → k < length vehicles → k < length courses
+    → v ≡ get_or vehicles k v → c ≡ get_or courses k c → Any P (map (stop_command v.id) c.stops.items) → Any P (left_commands vehicles courses)
+left_late P [] courses k v c h g is_v is_c any = absurd (omega arith)
+left_late P (x ∷ vehicles) [] k v c h g is_v is_c any = absurd (omega arith)
+left_late P (x ∷ vehicles) (y ∷ courses) zero v c h g is_v is_c any =
+    any_left P (map (stop_command x.id) y.stops.items) (left_commands vehicles courses) (rw (← is_v, ← is_c) any)
+left_late P (x ∷ vehicles) (y ∷ courses) (suc k) v c h g is_v is_c any =
+    any_right P (map (stop_command x.id) y.stops.items) (left_commands vehicles courses) (left_late P vehicles courses k v c (omega arith) (omega arith) is_v is_c any)
+
+-- one among those of a map
+pub any_mapped : (P : Command → Type 0) (f : PlannedStop → Command) (stops : List PlannedStop) (k : ℕ) (s : PlannedStop) → k < length stops → s ≡ get_or stops k s → P (f s) → Any P (map f stops)
+any_mapped P f [] k s h is p = absurd (omega arith)
+any_mapped P f (x ∷ stops) zero s h is p = (0, f s, omega arith, ap f (sym is), p)
+any_mapped P f (x ∷ stops) (suc k) s h is p = let rest = any_mapped P f stops k s (omega arith) is p in (suc rest.0, rest.1, omega (arith, rest.2), rest.3, rest.4)
+
+-- a stop that is too late is entered too late
+pub late_stop : (vehicle : ℕ) (s : PlannedStop) → longest < s.second → IsTooLate (stop_command vehicle s)
+late_stop vehicle s late = elim (cases_Bool s.pick) [
+  | inl e ↦ subst IsTooLate (sym (cond-true s.pick (Pickup vehicle s.rider s.second) (Dropoff vehicle s.rider s.second) e)) late
+  | inr e ↦ subst IsTooLate (sym (cond-false s.pick (Pickup vehicle s.rider s.second) (Dropoff vehicle s.rider s.second) e)) late
+]

@@ -2,4 +2,5 @@ pub mod Rest
 pub mod Walk
 pub mod Day
 pub mod Entering
+pub mod Driven
 pub mod work

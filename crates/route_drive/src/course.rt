@@ -4,14 +4,14 @@ use request_book::PlannedStop;
 
 /// What is on its way for a vehicle: the stops of its chosen trip that aren't entered yet, and the origin of the
 /// rider whom it is sent to where it is idle.
-#[derive(Debug, Drop)]
+#[derive(Drop)]
 pub struct Course {
     pub stops: ArrayVec<PlannedStop, 22>,
     pub target: Option<NodeId>,
 }
 
 /// A node at which a vehicle came at a second, and the second from which on it can leave.
-#[derive(Clone, Copy, Debug)]
+#[derive(Clone, Copy)]
 pub struct Standing {
     pub node: NodeId,
     pub second: u64,
@@ -19,7 +19,7 @@ pub struct Standing {
 }
 
 /// A node at a second.
-#[derive(Clone, Copy, Debug)]
+#[derive(Clone, Copy)]
 pub struct Place {
     pub node: NodeId,
     pub second: u64,

@@ -3,6 +3,7 @@ ghost use Rattle.std.specs.List.{list_any};
 ghost use Rattle.pool_base.specs.InOrder.{first_fault};
 ghost use Rattle.route_drive.specs.Day.{day_fault, first_seal, is_of_day, is_seal, lane_fault, round_fault, seal_of, seals_fault};
 
+use pool_base::Second;
 use request_book::Command;
 use script_rows::{Round, Script};
 
@@ -47,6 +48,7 @@ fn check_round(round: &Round, latest: u32) -> Result<u32, DayFault>
     match first_seal(round.lane(0)) {
         None => Ok(latest),
         Some(now) => {
+            let now = now.get();
             if now < latest {
                 Err(DayFault::SealBack {
                     round: round.number(),
@@ -110,11 +112,11 @@ fn has_seal(commands: &[Command]) -> bool
 }
 
 /// The second of the seal with which commands begin, if they do.
-pub(crate) fn first_seal(commands: &[Command]) -> Option<u32>
+pub(crate) fn first_seal(commands: &[Command]) -> Option<Second>
     ensures { result ≡ first_seal commands.now }
 {
     match commands {
-        [Command::Seal { now }, ..] => Some(now.get()),
+        [Command::Seal { now }, ..] => Some(*now),
         _ => None,
     }
 }

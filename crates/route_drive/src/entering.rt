@@ -21,7 +21,7 @@ use script_rows::Round;
 use std::alloc::Global;
 
 /// Why entering stopped.
-#[derive(Debug, Drop)]
+#[derive(Drop)]
 pub enum Stopped {
     /// A second is above 1,000,000,000.
     TooLate,
@@ -266,7 +266,7 @@ fn enter_commands(
 }
 
 /// Enters what is due of all vehicles, and where they are then.
-pub fn enter_all(
+pub(crate) fn enter_all(
     alloc: Global,
     round: &mut Round,
     network: &Network,
