@@ -24,4 +24,6 @@ mod step;
 mod tests;
 
 pub use branch_and_bound::search;
+pub use exchange::better_change;
+pub use first_plan::first_plan;
 pub use found::Found;

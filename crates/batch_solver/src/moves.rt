@@ -39,7 +39,7 @@ pub(crate) fn move_lines(
 }
 
 /// The vehicles in which nobody is or will be, and that aren't late.
-fn idle_vehicles(
+pub fn idle_vehicles(
     alloc: Global,
     settled: &Settled,
     graph: &TripGraph,
@@ -111,7 +111,7 @@ fn best_moves(
 }
 
 /// Where the vehicles are.
-fn starts_of(
+pub fn starts_of(
     alloc: Global,
     settled: &Settled,
     vehicles: &[usize],
@@ -127,7 +127,7 @@ fn starts_of(
 }
 
 /// Where the riders wait.
-fn origins_of(alloc: Global, settled: &Settled, riders: &[usize]) -> Result<Vec<usize>, OutOfMemory>
+pub fn origins_of(alloc: Global, settled: &Settled, riders: &[usize]) -> Result<Vec<usize>, OutOfMemory>
     requires { All (λ r. r < length settled.now.riders) riders.now }
     ensures { IfOk result (λ origins. origins.items ≡ origins_of settled.entry.now riders.now) }
 {
@@ -139,7 +139,7 @@ fn origins_of(alloc: Global, settled: &Settled, riders: &[usize]) -> Result<Vec<
 }
 
 /// The moves of these pairs of indexes, by ids.
-fn told_moves(
+pub fn told_moves(
     alloc: Global,
     times: &Times,
     settled: &Settled,

@@ -17,5 +17,5 @@ mod words;
 
 pub use fault::ReportFault;
 pub use head::write_head;
-pub use round::{write_end, write_round};
+pub use round::{write_end, write_entry_text, write_round};
 pub use summary::{write_load, write_summary};

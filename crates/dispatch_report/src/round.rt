@@ -1,5 +1,6 @@
 ghost use Rattle.std.specs.Prelude.{◌++◌, ◌∷◌, [], codes};
 ghost use Rattle.dispatch_report.specs.Entry.{entry_line};
+ghost use Rattle.dispatch_report.specs.Lines.{lines_text};
 ghost use Rattle.dispatch_report.specs.Round.{entry_block, entries_lines, round_text, end_text};
 ghost use Rattle.dispatch_report.specs.Words.{numbered};
 ghost use Rattle.dispatch_report.specs.Written.{sink_seen, WritesText};
@@ -31,6 +32,23 @@ pub fn write_round<K: Sink>(
     write_round_line(sink, &mut line, number)?;
     write_journal(sink, &mut line, journal, proof)?;
     Ok(())
+}
+
+/// Writes the lines of one entry at its position: its own, and after a close the block of its batch, with
+/// the search tree where `proof` is set.
+///
+/// After either fault a part of the text was written, from its front and not the whole.
+pub fn write_entry_text<K: Sink>(
+    alloc: Global,
+    sink: &mut K,
+    position: u64,
+    entry: &Entry,
+    proof: bool,
+) -> Result<(), ReportFault>
+    ensures { WritesText (sink_seen K.written K.faults sink.old sink.new) (lines_text ((entry_line position entry.now ∷ []) ++ entry_block proof entry.now.command entry.now.reply)) result }
+{
+    let mut line = Vec::new(alloc);
+    write_entry(sink, &mut line, position, entry, proof)
 }
 
 /// Writes the last line of a report.

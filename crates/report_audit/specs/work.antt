@@ -1,0 +1,4 @@
+-- What only the bodies of this crate need.
+pub mod Lanes
+pub mod Rounds
+pub mod Whole

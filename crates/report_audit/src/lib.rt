@@ -1,0 +1,25 @@
+//! An audit of a printed report: whether it is the report of a run of a script, and else what is wrong first.
+//!
+//! What is read of a line is believed of nothing: the book answers each command anew, each batch is judged
+//! anew, and the report's own text of what came of it is compared with the bytes. So a yes implies that the
+//! bytes are the report of a legal run, whoever printed them.
+#![tactic(auto)]
+
+mod audit;
+mod block;
+mod block_lines;
+mod command_form;
+mod entry;
+mod fault;
+mod head;
+mod lanes;
+mod place;
+mod reply_form;
+mod round;
+mod stops;
+#[cfg(test)]
+mod tests;
+mod words;
+
+pub use audit::{Audited, audit};
+pub use fault::AuditFault;
