@@ -7,9 +7,10 @@ ghost use Rattle.plan_rules.specs.Reading.{IsWholeTree, places_read, coming_afte
 ghost use Rattle.plan_rules.specs.Path.{standing_of, IsPathOf};
 ghost use Rattle.plan_rules.specs.Size.{IsSmallSum};
 ghost use Rattle.plan_rules.specs.Tree.{every_row};
+ghost use Rattle.bound_checker.specs.Visit.{coming_of};
 ghost use Rattle.dual_bound.specs.Index.{IsIndexOf};
 ghost use Rattle.outcome_check.specs.Parts.{ShowsBound};
-ghost use Rattle.outcome_check.specs.work.Tree.{HasValue, IsLimit, IsFairNode, IsFairPlace, IsTight, coming_of};
+ghost use Rattle.outcome_check.specs.work.Tree.{HasValue, IsLimit, IsFairNode, IsFairPlace, IsTight};
 
 use crate::refusal::{Point, Refusal};
 use assignment_search::first_plan;

@@ -1,5 +1,5 @@
 //! The audit of a whole report.
-ghost use Rattle.std.specs.Prelude.{◌≡◌, ◌≤◌, [], All, IfOk, OnOk};
+ghost use Rattle.std.specs.Prelude.{◌≡◌, ◌-◌, ◌^◌, ◌≤◌, [], All, IfOk, OnOk};
 ghost use Rattle.dispatch_report.specs.Round.{end_text};
 ghost use Rattle.report_audit.specs.Audit.{IsAudited};
 ghost use Rattle.request_book.specs.Consistent.{IsNode};
@@ -12,6 +12,7 @@ use crate::place::{Place, behind_text, line_at};
 use crate::round::{Audit, audit_round};
 use batch_snapshot::{Fleet, copied_vehicles};
 use dispatch_report::write_end;
+use pool_base::OutOfMemory;
 use pool_io::PlainSink;
 use request_book::Book;
 use rider_limits::Settings;
@@ -69,6 +70,7 @@ fn audit_rounds(
 ) -> Result<Audited, AuditFault>
     requires nodes { start.book.nodes ≡ network.now.nodes }
     requires wait { start.book.wait ≡ settings.now.wait }
+    requires first { start.book.first ≤ 2 ^ 64 - 1 }
     requires empty { start.book.entries ≡ [] }
     ensures { IfOk result (AuditsRounds settings.now network.now rounds.now start.entry.book start.entry.batches start.entry.place.rest.now) }
 {
@@ -89,16 +91,24 @@ fn check_end(alloc: Global, place: Place<'_>, entries: u64) -> Result<(), AuditF
     ensures { OnOk result (place.entry.rest.now ≡ end_text entries) }
 {
     let line = line_at(place)?;
-    let mut sink = PlainSink::new(alloc);
-    if write_end(alloc, &mut sink, entries).is_err() {
-        return Err(AuditFault::OutOfMemory);
-    }
-    let Some(next) = behind_text(place, sink.written()) else {
+    let printed = printed_end(alloc, entries)?;
+    let Some(next) = behind_text(place, printed.written()) else {
         return Err(wrong_line(place, line));
     };
     if next.rest.is_empty() {
         Ok(())
     } else {
         Err(AuditFault::Form { line: next.line })
+    }
+}
+
+/// The last line as it is printed.
+fn printed_end(alloc: Global, entries: u64) -> Result<PlainSink, OutOfMemory>
+    ensures { IfOk result (λ sink. sink ≡ end_text entries) }
+{
+    let mut sink = PlainSink::new(alloc);
+    match write_end(alloc, &mut sink, entries) {
+        Ok(()) => Ok(sink),
+        Err(_fault) => Err(OutOfMemory),
     }
 }

@@ -3,7 +3,7 @@ use crate::block_lines::{Kind, kind_of, may_follow, signed};
 use crate::fault::AuditFault;
 use crate::place::{Place, behind_line, line_at};
 use crate::stops::{late_in, move_in, rider_in, row_in, rr_in, rv_in, trip_in};
-use crate::words::{behind, digits_of, id, sole};
+use crate::words::{behind, digits_of, id, is, sole};
 use batch_snapshot::Vehicle;
 use outcome_check::Point;
 use plan_rules::{Multipliers, Node, Tree};
@@ -211,7 +211,7 @@ impl Draft {
         vehicles: &[Vehicle],
         line: &[u8],
     ) -> Result<(), LineFault> {
-        if line == b"dead" {
+        if is(line, b"dead") {
             return push(&mut self.tree, Node::Dead);
         }
         if let Some(text) = behind(line, b"leaf") {

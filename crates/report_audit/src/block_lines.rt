@@ -1,5 +1,5 @@
 //! The kinds of lines of a block, and numbers below zero.
-use crate::words::{behind, number};
+use crate::words::{behind, is, number};
 
 /// The kinds of lines of a block behind its first, in the order in which they stand.
 #[derive(Clone, Copy, Debug, PartialEq, Eq)]
@@ -35,7 +35,7 @@ pub(crate) fn kind_of(line: &[u8]) -> Option<Kind> {
 fn kind_of_graphs(line: &[u8]) -> Option<Kind> {
     if line.starts_with(b"expired ") {
         Some(Kind::Expired)
-    } else if line == b"overflow" {
+    } else if is(line, b"overflow") {
         Some(Kind::Overflow)
     } else if line.starts_with(b"lapsed ") {
         Some(Kind::Lapsed)
@@ -71,9 +71,9 @@ fn kind_of_bound(line: &[u8]) -> Option<Kind> {
         Some(Kind::Bound)
     } else if line.starts_with(b"nodes ") {
         Some(Kind::Nodes)
-    } else if line.starts_with(b"branch ") || line.starts_with(b"leaf") || line == b"dead" {
+    } else if line.starts_with(b"branch ") || line.starts_with(b"leaf") || is(line, b"dead") {
         Some(Kind::Tree)
-    } else if line == b"end" {
+    } else if is(line, b"end") {
         Some(Kind::End)
     } else {
         None
@@ -113,18 +113,18 @@ fn is_listed_before(last: Option<Kind>, kind: Kind) -> bool {
 
 /// A number, below zero or not, without leading zeros, and the text behind it.
 #[derive(Clone, Copy, Debug)]
-pub(crate) struct Signed<'a> {
+pub(crate) struct SignedNumeral<'a> {
     pub is_negative: bool,
     pub magnitude: u64,
     pub rest: &'a [u8],
 }
 
 /// A number that may be below zero, of at most this magnitude.
-pub(crate) fn signed<'a>(text: &'a [u8], most: u64) -> Option<Signed<'a>> {
+pub(crate) fn signed<'a>(text: &'a [u8], most: u64) -> Option<SignedNumeral<'a>> {
     match behind(text, b"-") {
         None => {
             let read = number(text, most)?;
-            Some(Signed {
+            Some(SignedNumeral {
                 is_negative: false,
                 magnitude: read.value,
                 rest: read.rest,
@@ -135,7 +135,7 @@ pub(crate) fn signed<'a>(text: &'a [u8], most: u64) -> Option<Signed<'a>> {
             if read.value == 0 {
                 return None;
             }
-            Some(Signed {
+            Some(SignedNumeral {
                 is_negative: true,
                 magnitude: read.value,
                 rest: read.rest,

@@ -5,9 +5,10 @@ ghost use Rattle.report_audit.specs.Audit.{AreAudited};
 
 use crate::fault::AuditFault;
 use crate::place::{Place, behind_line, behind_text, line_at};
-use crate::words::{numbered, sole};
+use crate::words::{is, numbered, sole};
 use batch_snapshot::Fleet;
 use dispatch_report::write_head;
+use pool_base::OutOfMemory;
 use pool_io::PlainSink;
 use rider_limits::{Mode, Settings};
 use road_network::Network;
@@ -50,13 +51,26 @@ pub(crate) fn read_head<'a>(
     };
     let settings = settings_from(first, workers)?;
     check_counts(first, network, fleet)?;
-    let mut sink = PlainSink::new(alloc);
-    if write_head(alloc, &mut sink, &settings, network, fleet).is_err() {
-        return Err(AuditFault::OutOfMemory);
-    }
-    match behind_text(first, sink.written()) {
+    let printed = printed_head(alloc, &settings, network, fleet)?;
+    match behind_text(first, printed.written()) {
         Some(place) => Ok(Head { settings, place }),
         None => Err(AuditFault::Form { line: 2 }),
+    }
+}
+
+/// The head as it is printed.
+fn printed_head(
+    alloc: Global,
+    settings: &Settings,
+    network: &Network,
+    fleet: &Fleet,
+) -> Result<PlainSink, OutOfMemory>
+    ensures { IfOk result (λ sink. sink ≡ head_text settings.entry.now network.entry.now fleet.entry.now) }
+{
+    let mut sink = PlainSink::new(alloc);
+    match write_head(alloc, &mut sink, settings, network, fleet) {
+        Ok(()) => Ok(sink),
+        Err(_fault) => Err(OutOfMemory),
     }
 }
 
@@ -66,7 +80,7 @@ fn settings_from(first: Place<'_>, workers: u8) -> Result<Settings, AuditFault>
     ensures { IfOk result (AreAudited workers) }
 {
     let title = line_at(first)?;
-    if title != b"ridepool report 1" {
+    if !is(title, b"ridepool report 1") {
         return Err(AuditFault::Form { line: 1 });
     }
     let line = line_at(behind_line(first, title))?;

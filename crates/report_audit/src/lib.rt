@@ -17,8 +17,6 @@ mod place;
 mod reply_form;
 mod round;
 mod stops;
-#[cfg(test)]
-mod tests;
 mod words;
 
 pub use audit::{Audited, audit};

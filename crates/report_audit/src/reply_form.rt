@@ -1,5 +1,5 @@
 //! The form of a reply in an entry's line.
-use crate::words::{behind, id, sole};
+use crate::words::{behind, id, is, sole};
 
 /// Whether the text is a reply.
 pub(crate) fn is_reply(text: &[u8]) -> bool {
@@ -10,12 +10,12 @@ pub(crate) fn is_reply(text: &[u8]) -> bool {
 }
 
 fn is_consent(text: &[u8]) -> bool {
-    text == b"accepted"
-        || text == b"cancelled"
-        || text == b"placed"
-        || text == b"picked"
-        || text == b"dropped"
-        || text == b"closed"
+    is(text, b"accepted")
+        || is(text, b"cancelled")
+        || is(text, b"placed")
+        || is(text, b"picked")
+        || is(text, b"dropped")
+        || is(text, b"closed")
         || sole(text, b"sealed ", u64::MAX).is_some()
 }
 
@@ -24,23 +24,23 @@ fn is_refusal(text: &[u8]) -> bool {
 }
 
 fn is_plain_refusal(text: &[u8]) -> bool {
-    text == b"duplicate-rider"
-        || text == b"unknown-node"
-        || text == b"same-place"
-        || text == b"pool-full"
-        || text == b"book-full"
-        || text == b"unknown-rider"
-        || text == b"unknown-vehicle"
-        || text == b"vehicle-full"
-        || text == b"not-aboard"
+    is(text, b"duplicate-rider")
+        || is(text, b"unknown-node")
+        || is(text, b"same-place")
+        || is(text, b"pool-full")
+        || is(text, b"book-full")
+        || is(text, b"unknown-rider")
+        || is(text, b"unknown-vehicle")
+        || is(text, b"vehicle-full")
+        || is(text, b"not-aboard")
 }
 
 fn is_refusal_of_state(text: &[u8]) -> bool {
-    text == b"ended cancelled"
-        || text == b"ended delivered"
-        || text == b"ended expired"
-        || text == b"not-promised none"
-        || text == b"not-this-batch none"
+    is(text, b"ended cancelled")
+        || is(text, b"ended delivered")
+        || is(text, b"ended expired")
+        || is(text, b"not-promised none")
+        || is(text, b"not-this-batch none")
 }
 
 fn is_refusal_with_number(text: &[u8]) -> bool {

@@ -1,5 +1,5 @@
 //! A round of a report.
-ghost use Rattle.std.specs.Prelude.{◌≡◌, ◌++◌, ◌∷◌, [], ◌<◌, All, Contains, IfOk, IfSome, length, codes, slice_get};
+ghost use Rattle.std.specs.Prelude.{◌≡◌, ◌++◌, ◌∷◌, [], ◌-◌, ◌^◌, ◌<◌, ◌≤◌, All, Contains, IfOk, IfSome, length, codes, slice_get};
 ghost use Rattle.batch_snapshot.specs.Batch.{Batch};
 ghost use Rattle.batch_snapshot.specs.Points.{named_nodes};
 ghost use Rattle.batch_solver.specs.Outcome.{IsGoodOutcome};
@@ -48,6 +48,7 @@ pub(crate) fn audit_round<'a>(
 ) -> Result<Audit<'a>, AuditFault>
     requires nodes { audit.book.nodes ≡ network.now.nodes }
     requires wait { audit.book.wait ≡ settings.now.wait }
+    requires first { audit.book.first ≤ 2 ^ 64 - 1 }
     requires empty { audit.book.entries ≡ [] }
     ensures { IfOk result (λ next. AuditsRound settings.now network.now round.now audit.entry.book audit.entry.batches audit.entry.place.rest.now next.book next.batches next.place.rest.now) }
 {
@@ -208,11 +209,19 @@ fn behind_entry<'a>(
     if number >= entries.len() {
         return Ok(None);
     }
+    let printed = printed_entry(alloc, position, &entries[number])?;
+    Ok(behind_text(place, printed.written()))
+}
+
+/// The lines of an entry as they are printed.
+fn printed_entry(alloc: Global, position: u64, entry: &Entry) -> Result<PlainSink, OutOfMemory>
+    ensures { IfOk result (λ sink. sink ≡ lines_text (entry_lines position entry.entry.now)) }
+{
     let mut sink = PlainSink::new(alloc);
-    if write_entry_text(alloc, &mut sink, position, &entries[number], true).is_err() {
-        return Err(OutOfMemory);
+    match write_entry_text(alloc, &mut sink, position, entry, true) {
+        Ok(()) => Ok(sink),
+        Err(_fault) => Err(OutOfMemory),
     }
-    Ok(behind_text(place, sink.written()))
 }
 
 /// Audits the close of a batch with its block.

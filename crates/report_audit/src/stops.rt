@@ -1,5 +1,5 @@
 //! Stops and trips of a block, read.
-use crate::words::{behind, id, numbered};
+use crate::words::{behind, id, is, numbered};
 use arrayvec::ArrayVec;
 use pool_base::{NodeId, RiderId, VehicleId};
 use request_book::{ChosenTrip, LateVehicle, MoveLine, PlannedStop, RowLine};
@@ -13,13 +13,13 @@ pub(crate) struct Told<T> {
 
 /// Stops that were read: those that there is room for.
 #[derive(Drop)]
-struct Stops<const N: usize> {
-    stops: ArrayVec<PlannedStop, N>,
+struct Stops {
+    stops: ArrayVec<PlannedStop, 22>,
     is_too_long: bool,
 }
 
 /// The text of stops.
-fn stops_in<const N: usize>(text: &[u8]) -> Option<Stops<N>> {
+fn stops_in(text: &[u8]) -> Option<Stops> {
     let mut stops = ArrayVec::new();
     let mut is_too_long = false;
     let mut rest = text;
@@ -40,6 +40,17 @@ fn stops_in<const N: usize>(text: &[u8]) -> Option<Stops<N>> {
     } else {
         None
     }
+}
+
+/// The first ten stops, which are all where no vehicle has more passengers.
+fn first_ten(stops: &[PlannedStop]) -> ArrayVec<PlannedStop, 10> {
+    let mut first = ArrayVec::new();
+    for stop in stops {
+        if !first.is_full() {
+            first.push(*stop);
+        }
+    }
+    first
 }
 
 /// A stop, and the text behind it.
@@ -80,7 +91,7 @@ pub(crate) fn rider_in(line: &[u8], word: &[u8]) -> Option<RiderId> {
 pub(crate) fn late_in(line: &[u8]) -> Option<Told<LateVehicle>> {
     let vehicle = id(line, b"late ")?;
     let name = VehicleId::new(vehicle.value)?;
-    if vehicle.rest == b" none" {
+    if is(vehicle.rest, b" none") {
         return Some(Told {
             value: LateVehicle {
                 vehicle: name,
@@ -91,14 +102,15 @@ pub(crate) fn late_in(line: &[u8]) -> Option<Told<LateVehicle>> {
         });
     }
     let delay = numbered(vehicle.rest, b" ", u64::MAX)?;
-    let Stops { stops, is_too_long } = stops_in::<10>(delay.rest)?;
+    let read = stops_in(delay.rest)?;
+    let stops = read.stops.as_slice();
     Some(Told {
         value: LateVehicle {
             vehicle: name,
             delay: delay.value,
-            stops: Some(stops),
+            stops: Some(first_ten(stops)),
         },
-        is_too_long,
+        is_too_long: read.is_too_long || stops.len() > 10,
     })
 }
 
@@ -152,7 +164,7 @@ pub(crate) fn row_in(line: &[u8]) -> Option<Told<RowLine>> {
 pub(crate) fn trip_in(line: &[u8]) -> Option<Told<ChosenTrip>> {
     let vehicle = id(line, b"trip ")?;
     let cost = numbered(vehicle.rest, b" ", u64::MAX)?;
-    let Stops { stops, is_too_long } = stops_in::<22>(cost.rest)?;
+    let Stops { stops, is_too_long } = stops_in(cost.rest)?;
     Some(Told {
         value: ChosenTrip {
             vehicle: VehicleId::new(vehicle.value)?,

@@ -11,6 +11,11 @@ pub(crate) struct Numeral<'a> {
     pub rest: &'a [u8],
 }
 
+/// Whether the text is the word.
+pub(crate) fn is(text: &[u8], word: &[u8]) -> bool {
+    text == word
+}
+
 /// The text behind a word.
 pub(crate) fn behind<'a>(text: &'a [u8], word: &[u8]) -> Option<&'a [u8]> {
     text.strip_prefix(word)

@@ -1,14 +1,12 @@
-use Rattle.std.specs.Prelude.{◌≡◌, ℕ, ◌+◌, ◌*◌, ◌<◌, ◌≤◌, Bool, true, false, ℤ, pos, ◌≤ℤ◌, ◌<ℤ◌, List, [], ◌∷◌, Option, length}
+use Rattle.std.specs.Prelude.{◌≡◌, ℕ, ◌+◌, ◌*◌, ◌<◌, ◌≤◌, ℤ, pos, ◌≤ℤ◌, ◌<ℤ◌, List, Option, length}
 use Rattle.assignment_search.specs.Found.{IsAtLeastFirstFit, IsBranchJustified}
 use Rattle.assignment_search.specs.Growth.{choice_count}
 use Rattle.plan_rules.specs.Graph.{Graph}
 use Rattle.plan_rules.specs.Greedy.{IsGreedy}
 use Rattle.plan_rules.specs.Multipliers.{Usable, first_fit_value}
-use Rattle.plan_rules.specs.Path.{standing_of}
 use Rattle.plan_rules.specs.Plan.{IsBound, IsLawful, cost_of}
 use Rattle.plan_rules.specs.Tree.{every_row, rounded_up, Place, IsTreeOfValue}
 use Rattle.plan_rules.specs.declared.node.Node.{Node}
-use Rattle.plan_rules.specs.declared.path.Decision.{Decision}
 
 -- the nodes are a sound tree of this value, within the budget
 pub record HasValue (g : Graph) (budget : ℕ) (bound : ℤ) (nodes : List Node) : Type 0 where
@@ -34,8 +32,3 @@ pub record IsFairNode (g : Graph) (bound : ℤ) (usable : Usable) (node : Node) 
 
 abbrev pub IsFairPlace : Graph → ℤ → Place → Type 0
 IsFairPlace g bound p = IsFairNode g bound p.usable p.node
-
--- the subtrees that a walk has before it: none once the tree has ended
-abbrev pub coming_of : Graph → Bool → List Decision → List Usable
-coming_of g true path = []
-coming_of g false path = (standing_of g path).usable ∷ (standing_of g path).coming

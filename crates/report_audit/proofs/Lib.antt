@@ -1,0 +1,5 @@
+pub mod TextLemmas
+pub mod LaneLemmas
+pub mod EntryLemmas
+pub mod RoundLemmas
+pub mod WholeLemmas
