@@ -73,9 +73,9 @@ module _ (settings : Settings) (roads : Roads) (round : NumberedLanes) (old new 
   -- the next command of the lane
   pub takes_command : (command : Command) (reply : Reply) (taken : ℕ) → IsApplied old lane command reply new → IsNoClose command
       → position ≡ next_position old.first old.entries → ReadsLast → lane < length before
-      → (stand_at before lane).taken ≡ taken → (stand_at before lane).open ≡ None
+      → (stand_at before lane).taken ≡ taken → (stand_at before lane).pending ≡ None
       → taken < length (lane_at round lane) → command ≡ get_or (lane_at round lane) taken command
-      → after ≡ set before lane (record { taken = taken + 1; open = sealed_by reply })
+      → after ≡ set before lane (record { taken = taken + 1; pending = sealed_by reply })
       → TakesEntry settings roads round old new before after text rest
   takes_command command reply taken applied plain at reads within here closed some is changed = record {
     entry = record { lane = lane; command = command; reply = reply };
@@ -83,13 +83,13 @@ module _ (settings : Settings) (roads : Roads) (round : NumberedLanes) (old new 
     same = same_run old new lane command reply applied;
     good = plain_good settings roads old.state command reply plain;
     goes = goes;
-    others = others_stay (record { taken = taken + 1; open = sealed_by reply }) changed;
+    others = others_stay (record { taken = taken + 1; pending = sealed_by reply }) changed;
     text = read_last (record { lane = lane; command = command; reply = reply }) applied.entries at reads;
   }
     where
       goes : (more : List Entry) → IsRest (lane_at round lane) (stand_at after lane) more → IsRest (lane_at round lane) (stand_at before lane) ((record { lane = lane; command = command; reply = reply }) ∷ more)
       goes more left =
-          let own : stand_at after lane ≡ record { taken = taken + 1; open = sealed_by reply } = own_stand (record { taken = taken + 1; open = sealed_by reply }) within changed in
+          let own : stand_at after lane ≡ record { taken = taken + 1; pending = sealed_by reply } = own_stand (record { taken = taken + 1; pending = sealed_by reply }) within changed in
           let on : IsLaneRunFrom (sealed_by reply) (drop (taken + 1) (lane_at round lane)) more = subst (λ (s : LaneStand). IsRest (lane_at round lane) s more) own left in
           let front : drop taken (lane_at round lane) ≡ command ∷ drop (taken + 1) (lane_at round lane) =
           drop_more (lane_at round lane) taken command some ∙ ap (λ (c : Command). c ∷ drop (taken + 1) (lane_at round lane)) (sym is) in
@@ -104,22 +104,22 @@ module _ (settings : Settings) (roads : Roads) (round : NumberedLanes) (old new 
   pub takes_close : (batch : ℕ) (outcome : Outcome) (reply : Reply) → IsApplied old lane (Close batch outcome) reply new
       → ((b : Batch) × (old.state.sealed ≡ Some b) × IsGoodOutcome settings roads b outcome)
       → position ≡ next_position old.first old.entries → ReadsLast → lane < length before
-      → (stand_at before lane).open ≡ Some batch
-      → after ≡ set before lane (record { taken = (stand_at before lane).taken; open = None })
+      → (stand_at before lane).pending ≡ Some batch
+      → after ≡ set before lane (record { taken = (stand_at before lane).taken; pending = None })
       → TakesEntry settings roads round old new before after text rest
-  takes_close batch outcome reply applied good at reads within open changed = record {
+  takes_close batch outcome reply applied good at reads within pending changed = record {
     entry = record { lane = lane; command = Close batch outcome; reply = reply };
     entries = applied.entries;
     same = same_run old new lane (Close batch outcome) reply applied;
     good = close_good settings roads old.state batch outcome reply good;
     goes = goes;
-    others = others_stay (record { taken = (stand_at before lane).taken; open = None }) changed;
+    others = others_stay (record { taken = (stand_at before lane).taken; pending = None }) changed;
     text = read_last (record { lane = lane; command = Close batch outcome; reply = reply }) applied.entries at reads;
   }
     where
       goes : (more : List Entry) → IsRest (lane_at round lane) (stand_at after lane) more → IsRest (lane_at round lane) (stand_at before lane) ((record { lane = lane; command = Close batch outcome; reply = reply }) ∷ more)
       goes more left =
-          let own : stand_at after lane ≡ record { taken = (stand_at before lane).taken; open = None } = own_stand (record { taken = (stand_at before lane).taken; open = None }) within changed in
+          let own : stand_at after lane ≡ record { taken = (stand_at before lane).taken; pending = None } = own_stand (record { taken = (stand_at before lane).taken; pending = None }) within changed in
           let on : IsLaneRunFrom None (drop (stand_at before lane).taken (lane_at round lane)) more = subst (λ (s : LaneStand). IsRest (lane_at round lane) s more) own left in
           let run : IsLaneRunFrom (Some batch) (drop (stand_at before lane).taken (lane_at round lane)) ((record { lane = lane; command = Close batch outcome; reply = reply }) ∷ more) = (refl, on) in
-          subst (λ (o : Option ℕ). IsLaneRunFrom o (drop (stand_at before lane).taken (lane_at round lane)) ((record { lane = lane; command = Close batch outcome; reply = reply }) ∷ more)) (sym open) run
+          subst (λ (o : Option ℕ). IsLaneRunFrom o (drop (stand_at before lane).taken (lane_at round lane)) ((record { lane = lane; command = Close batch outcome; reply = reply }) ∷ more)) (sym pending) run

@@ -40,11 +40,11 @@ closing_none (Refused refusal) other = refl
 abbrev pub DoneBelow : NumberedLanes → List LaneStand → ℕ → Type 0
 DoneBelow round lanes n = (lane : ℕ) → lane < n → IsRest (lane_at round lane) (stand_at lanes lane) []
 
--- nothing is left where no batch is open and all commands were taken
-pub rest_none : (commands : List Command) (stand : LaneStand) → stand.open ≡ None → stand.taken ≡ length commands → IsRest commands stand []
-rest_none commands stand open taken =
+-- nothing is left where no batch is pending and all commands were taken
+pub rest_none : (commands : List Command) (stand : LaneStand) → stand.pending ≡ None → stand.taken ≡ length commands → IsRest commands stand []
+rest_none commands stand pending taken =
     let none : drop stand.taken commands ≡ [] = drop_all stand.taken commands (omega (arith, taken)) in
-    subst (λ (o : Option ℕ). IsLaneRunFrom o (drop stand.taken commands) []) (sym open)
+    subst (λ (o : Option ℕ). IsLaneRunFrom o (drop stand.taken commands) []) (sym pending)
     (subst (λ (cs : List Command). IsLaneRunFrom None cs []) (sym none) tt)
 
 -- all lanes are done where the sixteen are
@@ -58,7 +58,7 @@ done_all round lanes kept sixteen below lane = ⊎_elim (λ (low : lane < 16). b
     beyond high =
         let none : lane_at round lane ≡ [] = get_or_past round.lanes lane [] (omega (arith, kept.sixteen)) in
         let start : stand_at lanes lane ≡ at_start = get_or_past lanes lane at_start (omega (arith, sixteen)) in
-        rest_none (lane_at round lane) (stand_at lanes lane) (ap (λ s. s.open) start) (ap (λ s. s.taken) start ∙ sym (ap length none))
+        rest_none (lane_at round lane) (stand_at lanes lane) (ap (λ s. s.pending) start) (ap (λ s. s.taken) start ∙ sym (ap length none))
 
 -- at the start every lane has all to do
 pub come_none : (round : NumberedLanes) (lanes : List LaneStand) → ((lane : ℕ) → stand_at lanes lane ≡ at_start) → HaveCome round lanes []

@@ -14,7 +14,7 @@ use Rattle.road_network.specs.Roads.{Roads}
 use Rattle.script_rows.specs.Round.{NumberedLanes}
 use Rattle.report_audit.specs.Audit.{AreAudited, IsAudited, batches_after, batches_after_run}
 use Rattle.report_audit.specs.Report.{report_text, rounds_text}
-use Rattle.report_audit.specs.declared.audit.Audited.{Audited}
+use Rattle.report_audit.specs.declared.whole.Audited.{Audited}
 use Rattle.report_audit.specs.work.Rounds.{AuditsRound}
 use Rattle.report_audit.specs.work.Whole.{AuditsRounds}
 use Rattle.report_audit.proofs.TextLemmas.{reads_on}

@@ -4,7 +4,7 @@ use Rattle.batch_snapshot.specs.declared.vehicle.Vehicle.{Vehicle}
 use Rattle.dispatch_engine.specs.Run.{IsRun, position_after_run}
 use Rattle.pool_io.specs.Faults.{one_more}
 use Rattle.report_audit.specs.Report.{report_text}
-use Rattle.report_audit.specs.declared.audit.Audited.{Audited}
+use Rattle.report_audit.specs.declared.whole.Audited.{Audited}
 use Rattle.request_book.specs.Book.{opening}
 use Rattle.request_book.specs.declared.journal.Entry.{Entry}
 use Rattle.request_book.specs.declared.journal.Journal.{Journal}

@@ -15,6 +15,7 @@ use road_network::Network;
 use std::alloc::Global;
 
 /// The head of a report that was read: the settings, and the place behind it.
+#[derive(Drop)]
 pub(crate) struct Head<'a> {
     pub settings: Settings,
     pub place: Place<'a>,

@@ -11,7 +11,7 @@ use script_rows::Round;
 #[derive(Clone, Copy, Debug, PartialEq, Eq)]
 pub(crate) struct LaneStand {
     pub taken: usize,
-    pub open: Option<u64>,
+    pub pending: Option<u64>,
 }
 
 /// Whether each lane's commands were all taken and each batch is closed.
@@ -20,7 +20,7 @@ pub(crate) fn are_done(lanes: &[LaneStand], round: &Round) -> bool
     ensures { IsTrue result → AreDone round.now lanes.now }
 {
     for lane in 0..16 {
-        if lanes[lane].open.is_some() {
+        if lanes[lane].pending.is_some() {
             return false;
         }
         if lanes[lane].taken != round.lane(lane).len() {

@@ -5,7 +5,6 @@
 //! bytes are the report of a legal run, whoever printed them.
 #![tactic(auto)]
 
-mod audit;
 mod block;
 mod block_lines;
 mod command_form;
@@ -17,7 +16,8 @@ mod place;
 mod reply_form;
 mod round;
 mod stops;
+mod whole;
 mod words;
 
-pub use audit::{Audited, audit};
 pub use fault::AuditFault;
+pub use whole::{Audited, audit};

@@ -31,6 +31,7 @@ use std::alloc::Global;
 use std::thread::Threads;
 
 /// An audit between two rounds: the book, the place in the report, and how many batches were closed.
+#[derive(Drop)]
 pub(crate) struct Audit<'a> {
     pub book: Book,
     pub place: Place<'a>,
@@ -60,7 +61,7 @@ pub(crate) fn audit_round<'a>(
     let mut book = book;
     let start = behind_round_line(alloc, place, round.number())?;
     let mut here = start;
-    let mut lanes = vec![in alloc; LaneStand { taken: 0, open: None }; 16]?;
+    let mut lanes = vec![in alloc; LaneStand { taken: 0, pending: None }; 16]?;
     for _ in 0..start.rest.len() {
         if are_done(&lanes, round) {
             break;
@@ -152,7 +153,7 @@ fn audit_entry<'a>(
         return Err(AuditFault::Entry { line: place.line });
     }
     let lane = told.lane as u8;
-    match lanes[lane as usize].open {
+    match lanes[lane as usize].pending {
         None => audit_command(alloc, place, book, lanes, lane, round),
         Some(batch) => audit_close(rt, alloc, place, book, lanes, lane, batch, network, settings),
     }
@@ -169,7 +170,7 @@ fn audit_command<'a>(
 ) -> Result<Place<'a>, AuditFault>
     requires lane { lane < 16 }
     requires lanes { length lanes.old ≡ 16 }
-    requires open { (stand_at lanes.old lane).open ≡ None }
+    requires pending { (stand_at lanes.old lane).pending ≡ None }
     ensures { IfOk result (λ next. (settings : OneSettings) (roads : Roads) → TakesEntry settings roads round.now book.old book.new lanes.old lanes.new place.entry.rest.now next.rest.now) }
 {
     let fault = AuditFault::Entry { line: place.line };
@@ -189,7 +190,7 @@ fn audit_command<'a>(
     };
     lanes[lane as usize] = LaneStand {
         taken: stand.taken + 1,
-        open: sealed_by(reply),
+        pending: sealed_by(reply),
     };
     Ok(next)
 }
@@ -239,7 +240,7 @@ fn audit_close<'a>(
     requires nodes { book.old.nodes ≡ network.now.nodes }
     requires lane { lane < 16 }
     requires lanes { length lanes.old ≡ 16 }
-    requires open { (stand_at lanes.old lane).open ≡ Some batch }
+    requires pending { (stand_at lanes.old lane).pending ≡ Some batch }
     ensures { IfOk result (λ next. (round : NumberedLanes) → TakesEntry settings.now network.now round book.old book.new lanes.old lanes.new place.entry.rest.now next.rest.now) }
 {
     let line = line_at(place)?;
@@ -260,7 +261,7 @@ fn audit_close<'a>(
     let stand = lanes[lane as usize];
     lanes[lane as usize] = LaneStand {
         taken: stand.taken,
-        open: None,
+        pending: None,
     };
     Ok(next)
 }

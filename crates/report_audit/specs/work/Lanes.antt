@@ -12,9 +12,9 @@ abbrev pub IsNoClose : Command → Type 0
 IsNoClose (Close batch outcome) = ⊥
 IsNoClose _ = Unit {0}
 
--- at the beginning no command was taken and no batch is open
+-- at the beginning no command was taken and no batch is pending
 abbrev pub at_start : LaneStand
-at_start = record { taken = 0; open = None }
+at_start = record { taken = 0; pending = None }
 
 -- how far a lane has come
 abbrev pub stand_at : List LaneStand → ℕ → LaneStand
@@ -22,7 +22,7 @@ stand_at lanes lane = slice_index_or lanes lane at_start
 
 -- the entries are what a lane that stands so has still to do
 abbrev pub IsRest : List Command → LaneStand → List Entry → Type 0
-IsRest commands stand rest = IsLaneRunFrom stand.open (drop stand.taken commands) rest
+IsRest commands stand rest = IsLaneRunFrom stand.pending (drop stand.taken commands) rest
 
 -- each lane's entries so far, with any that it has still to do, are a run of its commands
 abbrev pub HaveCome : NumberedLanes → List LaneStand → List Entry → Type 0

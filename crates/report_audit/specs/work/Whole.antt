@@ -4,7 +4,7 @@ use Rattle.dispatch_engine.specs.Run.{IsRun, position_after_run}
 use Rattle.dispatch_report.specs.Round.{end_text}
 use Rattle.report_audit.specs.Audit.{batches_after_run}
 use Rattle.report_audit.specs.Report.{rounds_text}
-use Rattle.report_audit.specs.declared.audit.Audited.{Audited}
+use Rattle.report_audit.specs.declared.whole.Audited.{Audited}
 use Rattle.request_book.specs.Book.{BookView, next_position}
 use Rattle.request_book.specs.declared.journal.Journal.{Journal}
 use Rattle.rider_limits.specs.declared.settings.Settings.{Settings}
