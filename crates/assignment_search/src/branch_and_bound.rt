@@ -9,7 +9,7 @@ ghost use Rattle.assignment_search.specs.Found.{Shows, IsSearchAnswer};
 ghost use Rattle.assignment_search.specs.Growth.{choice_count};
 
 use crate::exchange::exchange;
-use crate::simple_plans::first_plan;
+use crate::first_plan::first_plan;
 use crate::found::Found;
 use crate::growth::grow;
 use crate::guide::Guide;

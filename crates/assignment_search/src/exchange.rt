@@ -25,12 +25,8 @@ pub fn exchange(alloc: Global, graph: &TripGraph, plan: Plan) -> Result<Plan, Ou
     }
 }
 
-/// A lawful plan that gives one vehicle another row and costs less; `None` exactly where there is none.
-pub fn better_change(
-    alloc: Global,
-    graph: &TripGraph,
-    plan: &Plan,
-) -> Result<Option<Plan>, OutOfMemory>
+/// A lawful plan that gives one vehicle another row and costs less.
+fn better_change(alloc: Global, graph: &TripGraph, plan: &Plan) -> Result<Option<Plan>, OutOfMemory>
     requires { IsLawful graph.now plan.now }
     ensures { IfOk result (λ found. MatchOption found (HasNoBetterChange graph.now plan.now)
         (λ better. IsLawful graph.now better × (cost_of graph.now better < cost_of graph.now plan.now))) }

@@ -15,8 +15,4 @@ mod tests;
 mod told;
 mod trips;
 
-pub use left::left_riders;
-pub use lines::{lapsed_ids, rider_ids, row_lines, rr_lines, rv_lines};
-pub use moves::{idle_vehicles, origins_of, starts_of, told_moves};
 pub use solving::solve_batch;
-pub use told::tell_stops;

@@ -11,7 +11,7 @@ use std::alloc::Global;
 use stop_orders::Settled;
 
 /// The ids of riders whose promise has lapsed, in the batch's order.
-pub fn lapsed_ids(alloc: Global, settled: &Settled) -> Result<Vec<RiderId>, OutOfMemory>
+pub(crate) fn lapsed_ids(alloc: Global, settled: &Settled) -> Result<Vec<RiderId>, OutOfMemory>
     ensures { IfOk result (λ ids. ids.items ≡ lapsed_ids settled.entry.now) }
 {
     let mut ids = Vec::new(alloc);
@@ -24,7 +24,7 @@ pub fn lapsed_ids(alloc: Global, settled: &Settled) -> Result<Vec<RiderId>, OutO
 }
 
 /// The ids of riders, given by their numbers.
-pub fn rider_ids(
+pub(crate) fn rider_ids(
     alloc: Global,
     settled: &Settled,
     riders: &[usize],
@@ -40,7 +40,7 @@ pub fn rider_ids(
 }
 
 /// The edges between vehicles and riders, by their ids.
-pub fn rv_lines(
+pub(crate) fn rv_lines(
     alloc: Global,
     settled: &Settled,
     edges: &[RvEdge],
@@ -59,7 +59,7 @@ pub fn rv_lines(
 }
 
 /// The edges between riders, by their ids.
-pub fn rr_lines(
+pub(crate) fn rr_lines(
     alloc: Global,
     settled: &Settled,
     pairs: &[(usize, usize)],
@@ -78,7 +78,7 @@ pub fn rr_lines(
 }
 
 /// The rows of a trip graph, by their ids.
-pub fn row_lines(
+pub(crate) fn row_lines(
     alloc: Global,
     settled: &Settled,
     rows: &[TripRow],

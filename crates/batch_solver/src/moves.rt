@@ -39,7 +39,7 @@ pub(crate) fn move_lines(
 }
 
 /// The vehicles in which nobody is or will be, and that aren't late.
-pub fn idle_vehicles(
+fn idle_vehicles(
     alloc: Global,
     settled: &Settled,
     graph: &TripGraph,
@@ -111,7 +111,7 @@ fn best_moves(
 }
 
 /// Where the vehicles are.
-pub fn starts_of(
+fn starts_of(
     alloc: Global,
     settled: &Settled,
     vehicles: &[usize],
@@ -127,7 +127,7 @@ pub fn starts_of(
 }
 
 /// Where the riders wait.
-pub fn origins_of(alloc: Global, settled: &Settled, riders: &[usize]) -> Result<Vec<usize>, OutOfMemory>
+fn origins_of(alloc: Global, settled: &Settled, riders: &[usize]) -> Result<Vec<usize>, OutOfMemory>
     requires { All (λ r. r < length settled.now.riders) riders.now }
     ensures { IfOk result (λ origins. origins.items ≡ origins_of settled.entry.now riders.now) }
 {
@@ -139,7 +139,7 @@ pub fn origins_of(alloc: Global, settled: &Settled, riders: &[usize]) -> Result<
 }
 
 /// The moves of these pairs of indexes, by ids.
-pub fn told_moves(
+fn told_moves(
     alloc: Global,
     times: &Times,
     settled: &Settled,

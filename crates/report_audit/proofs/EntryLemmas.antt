@@ -1,6 +1,6 @@
 -- An entry that was audited.
-use Rattle.std.proofs.Common.{◌≡◌, ◌≢◌, ℕ, ◌+◌, ◌<◌, List, [], ◌∷◌, ◌++◌, length, get_or, set, drop, slice_get, Option, Some, None, refl, sym, ap, ◌∙◌, subst, arith}
-use Rattle.std.proofs.lemmas.List.{drop_more, get_or_push, get_or-set_same, get_or-set_other, length_push}
+use Rattle.std.proofs.Common.{◌≡◌, ◌≢◌, ℕ, zero, suc, ◌+◌, ◌<◌, List, [], ◌∷◌, ◌++◌, length, get_or, set, drop, slice_get, Option, Some, None, refl, sym, ap, ◌∙◌, subst, arith}
+use Rattle.std.proofs.lemmas.List.{drop_more, get_or_default, get_or_push, get_or-set_same, get_or-set_other, length_push}
 use Rattle.std.proofs.lemmas.Option.{slice_get-get_or}
 use Rattle.batch_snapshot.specs.Batch.{Batch}
 use Rattle.batch_solver.specs.Outcome.{IsGoodOutcome}
@@ -53,6 +53,19 @@ last_entry old new e is =
     ∙ slice_get-get_or whole (length old) e (omega (arith, length_push old e))
     ∙ ap Some (get_or_push old e e (length old) refl)
 
+-- an entry that is read is the one at its number
+pub entry_read : (es read : List Entry) (n : ℕ) (x e : Entry) → read ≡ es → x ≡ get_or read n x → slice_get es n ≡ Some e → x ≡ e
+entry_read es read n x e same is at = is ∙ ap (λ (xs : List Entry). get_or xs n x) same ∙ found es n x e at
+  where
+    found : (xs : List Entry) (k : ℕ) (d y : Entry) → slice_get xs k ≡ Some y → get_or xs k d ≡ y
+    found [] k d y none = absurd (cc none)
+    found (z ∷ zs) zero d y some = cc
+    found (z ∷ zs) (suc k) d y some = found zs k d y some
+
+-- a command that is read is the one at its number
+pub read_command : (commands read : List Command) (n : ℕ) (x c : Command) → read ≡ commands → x ≡ get_or read n x → c ≡ x → n < length commands → x ≡ get_or commands n c
+read_command commands read n x c same is copy within = is ∙ ap (λ (xs : List Command). get_or xs n x) same ∙ get_or_default commands n x c within
+
 same_run : (old new : BookView) (lane : ℕ) (command : Command) (reply : Reply) → IsApplied old lane command reply new → IsSameRun old new
 same_run old new lane command reply applied = record { nodes = applied.nodes; wait = applied.wait; first = applied.first; base = applied.base }
 
@@ -84,7 +97,7 @@ module _ (settings : Settings) (roads : Roads) (round : NumberedLanes) (old new 
     good = plain_good settings roads old.state command reply plain;
     goes = goes;
     others = others_stay (record { taken = taken + 1; pending = sealed_by reply }) changed;
-    text = read_last (record { lane = lane; command = command; reply = reply }) applied.entries at reads;
+    reads = read_last (record { lane = lane; command = command; reply = reply }) applied.entries at reads;
   }
     where
       goes : (more : List Entry) → IsRest (lane_at round lane) (stand_at after lane) more → IsRest (lane_at round lane) (stand_at before lane) ((record { lane = lane; command = command; reply = reply }) ∷ more)
@@ -114,7 +127,7 @@ module _ (settings : Settings) (roads : Roads) (round : NumberedLanes) (old new 
     good = close_good settings roads old.state batch outcome reply good;
     goes = goes;
     others = others_stay (record { taken = (stand_at before lane).taken; pending = None }) changed;
-    text = read_last (record { lane = lane; command = Close batch outcome; reply = reply }) applied.entries at reads;
+    reads = read_last (record { lane = lane; command = Close batch outcome; reply = reply }) applied.entries at reads;
   }
     where
       goes : (more : List Entry) → IsRest (lane_at round lane) (stand_at after lane) more → IsRest (lane_at round lane) (stand_at before lane) ((record { lane = lane; command = Close batch outcome; reply = reply }) ∷ more)

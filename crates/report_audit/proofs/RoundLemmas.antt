@@ -71,7 +71,7 @@ module _ (settings : Settings) (roads : Roads) where
       same = record { nodes = refl; wait = refl; first = refl; base = refl };
       closes = subst (ClosesAreGood settings roads start.base) (sym empty) tt;
       come = subst (HaveCome round lanes) (sym empty) (come_none round lanes fresh);
-      text = sym (ap (λ t. t ++ text) (ap (λ (es : List Entry). lines_text (entries_lines true start.first es)) empty ∙ lines_text-none));
+      reads = sym (ap (λ t. t ++ text) (ap (λ (es : List Entry). lines_text (entries_lines true start.first es)) empty ∙ lines_text-none));
     }
 
     pub stands_more : (start current next : BookView) (before after : List LaneStand) (text here rest : List ℕ) → IsBook current
@@ -94,7 +94,7 @@ module _ (settings : Settings) (roads : Roads) where
           closes = subst (λ (t : State). ClosesAreGood settings roads t next.entries) (sym takes.same.base)
               (subst (ClosesAreGood settings roads current.base) (sym takes.entries) pushed);
           come = subst (HaveCome round after) (sym takes.entries) (come_more round before after current.entries takes.entry stands.come takes.goes takes.others);
-          text = reads_lines text here rest (entries_lines true current.first current.entries) (entry_lines (next_position current.first current.entries) takes.entry) stands.text takes.text
+          reads = reads_lines text here rest (entries_lines true current.first current.entries) (entry_lines (next_position current.first current.entries) takes.entry) stands.reads takes.reads
               ∙ ap (λ ls. lines_text ls ++ rest) (sym lines);
         }
 
@@ -120,7 +120,7 @@ module _ (settings : Settings) (roads : Roads) where
           };
           first = stands.same.first;
           base = stands.same.base;
-          text = reads_lines text start rest (numbered (codes "round ") round.number ∷ []) (entries_lines true current.first current.entries) title stands.text;
+          reads = reads_lines text start rest (numbered (codes "round ") round.number ∷ []) (entries_lines true current.first current.entries) title stands.reads;
           ready_nodes = ap (λ k. k.nodes) emptied ∙ now_nodes;
           ready_wait = ap (λ k. k.wait) emptied ∙ now_wait;
           next_first = ap (λ k. k.first) emptied ∙ ap (λ p. next_position p current.entries) stands.same.first;

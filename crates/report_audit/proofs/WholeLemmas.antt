@@ -65,19 +65,19 @@ module _ (settings : Settings) (roads : Roads) where
   pub record HasAudited (start : BookView) (batches : ℕ) (text : List ℕ) (rounds : List NumberedLanes) (current : BookView) (now : ℕ) (rest : List ℕ) : Type 0 where
     pub journals : List Journal
     pub run : IsRun settings roads start.base start.first rounds journals
-    pub text : text ≡ rounds_text rounds journals ++ rest
+    pub reads : text ≡ rounds_text rounds journals ++ rest
     pub nodes : current.nodes ≡ roads.nodes
     pub wait : current.wait ≡ settings.wait
     pub base : current.base ≡ run_state start.base journals
     pub first : current.first ≡ position_after_run start.first journals
     pub most : current.first ≤ 2 ^ 64 - 1
     pub empty : current.entries ≡ []
-    pub batches : now ≡ batches_after_run batches journals
+    pub closed : now ≡ batches_after_run batches journals
 
   pub audited_none : (start : BookView) (batches : ℕ) (text : List ℕ) → start.nodes ≡ roads.nodes → start.wait ≡ settings.wait → start.first ≤ 2 ^ 64 - 1 → start.entries ≡ []
       → HasAudited start batches text [] start batches text
   audited_none start batches text nodes wait most empty =
-      record { journals = []; run = tt; text = refl; nodes = nodes; wait = wait; base = refl; first = refl; most = most; empty = empty; batches = refl }
+      record { journals = []; run = tt; reads = refl; nodes = nodes; wait = wait; base = refl; first = refl; most = most; empty = empty; closed = refl }
 
   audited_more : (start current next : BookView) (batches now after : ℕ) (text here rest : List ℕ) (rounds : List NumberedLanes) (r : NumberedLanes)
       → HasAudited start batches text rounds current now here → AuditsRound settings roads r current now here next after rest
@@ -87,7 +87,7 @@ module _ (settings : Settings) (roads : Roads) where
       record {
         journals = js;
         run = run_more start.base start.first rounds had.journals r one.journal had.run (one.base ∙ had.base) (one.first ∙ had.first) one.run;
-        text = reads_on text (rounds_text rounds had.journals) here (round_text r.number true one.journal) rest had.text one.text
+        reads = reads_on text (rounds_text rounds had.journals) here (round_text r.number true one.journal) rest had.reads one.reads
             ∙ ap (λ t. t ++ rest) (sym (text_more start.base start.first rounds had.journals r one.journal had.run));
         nodes = one.ready_nodes;
         wait = one.ready_wait;
@@ -95,7 +95,7 @@ module _ (settings : Settings) (roads : Roads) where
         first = one.next_first ∙ ap (λ p. next_position p one.journal.entries) had.first ∙ sym (position_more start.first had.journals one.journal);
         most = omega (arith, one.next_first);
         empty = one.empty;
-        batches = one.batches ∙ ap (λ n. batches_after n one.journal.entries) had.batches ∙ sym (batches_more batches had.journals one.journal);
+        closed = one.batches ∙ ap (λ n. batches_after n one.journal.entries) had.closed ∙ sym (batches_more batches had.journals one.journal);
       }
 
   take_next : (rounds : List NumberedLanes) (i : ℕ) (r : NumberedLanes) → i < length rounds → r ≡ get_or rounds i r → take i rounds ++ r ∷ [] ≡ take (i + 1) rounds
@@ -115,9 +115,9 @@ module _ (settings : Settings) (roads : Roads) where
   audited_all start current batches now text here rounds audited had entries count last = record {
     journals = had.journals;
     run = had.run;
-    text = had.text ∙ ap (λ t. rounds_text rounds had.journals ++ t) last;
+    reads = had.reads ∙ ap (λ t. rounds_text rounds had.journals ++ t) last;
     entries = entries ∙ ap (λ p. next_position p current.entries) had.first ∙ ap (λ es. next_position (position_after_run start.first had.journals) es) had.empty;
-    batches = count ∙ had.batches;
+    batches = count ∙ had.closed;
   }
 
 -- a position stands where nothing is added
@@ -139,7 +139,7 @@ audited_report settings roads vehicles rounds report here start workers audited 
       is = record {
         journals = js;
         run = subst (λ (s : State). IsRun settings roads s 0 rounds js) base (subst (λ (p : ℕ). IsRun settings roads start.base p rounds js) first all.run);
-        text = head ∙ ap (λ t. head_text settings roads vehicles ++ t) all.text
+        text = head ∙ ap (λ t. head_text settings roads vehicles ++ t) all.reads
             ∙ sym (append_assoc (head_text settings roads vehicles) (rounds_text rounds js) (end_text audited.entries))
             ∙ ap (λ n. (head_text settings roads vehicles ++ rounds_text rounds js) ++ end_text n) count;
         entries = count;

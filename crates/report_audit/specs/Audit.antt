@@ -16,10 +16,10 @@ use Rattle.road_network.specs.Roads.{Roads}
 use Rattle.script_rows.specs.Round.{NumberedLanes}
 
 -- settings of a run that prints its trees, with so many workers
-pub record AreAudited (workers : ℕ) (settings : Settings) : Type 0 where
+pub record AreAudited (count : ℕ) (settings : Settings) : Type 0 where
   pub run : settings.mode ≡ Run
   pub proof : settings.proof ≡ true
-  pub workers : settings.workers ≡ workers
+  pub workers : settings.workers ≡ count
 
 -- whether the entry closed a batch
 abbrev pub is_closing : Reply → Bool

@@ -1,8 +1,8 @@
 //! The kinds of lines of a block, and numbers below zero.
-use crate::words::{behind, is, number};
+use crate::words::{behind, digits_of, is, number};
 
 /// The kinds of lines of a block behind its first, in the order in which they stand.
-#[derive(Clone, Copy, Debug, PartialEq, Eq)]
+#[derive(Clone, Copy, PartialEq, Eq)]
 pub(crate) enum Kind {
     Expired,
     Overflow,
@@ -112,7 +112,7 @@ fn is_listed_before(last: Option<Kind>, kind: Kind) -> bool {
 }
 
 /// A number, below zero or not, without leading zeros, and the text behind it.
-#[derive(Clone, Copy, Debug)]
+#[derive(Clone, Copy)]
 pub(crate) struct SignedNumeral<'a> {
     pub is_negative: bool,
     pub magnitude: u64,
@@ -142,4 +142,17 @@ pub(crate) fn signed<'a>(text: &'a [u8], most: u64) -> Option<SignedNumeral<'a>>
             })
         }
     }
+}
+
+/// Whether the text is a number, below zero or not, of 128 bits or so: of at most 39 digits.
+pub(crate) fn is_signed(text: &[u8]) -> bool {
+    let digits = match behind(text, b"-") {
+        Some(rest) => rest,
+        None => text,
+    };
+    let count = digits_of(digits).len();
+    if count != digits.len() || count == 0 || count > 39 {
+        return false;
+    }
+    digits[0] != b'0' || is(text, b"0")
 }

@@ -6,7 +6,7 @@ use crate::reply_form::is_reply;
 use crate::words::{behind, number, numbered, sole};
 
 /// What an entry's line tells first.
-#[derive(Clone, Copy, Debug)]
+#[derive(Clone, Copy)]
 pub(crate) struct EntryLine {
     pub position: u64,
     pub lane: u64,

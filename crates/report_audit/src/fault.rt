@@ -1,4 +1,4 @@
-use outcome_check::{Point, Refusal};
+use crate::point::Point;
 use pool_base::OutOfMemory;
 use std::alloc::{AllocError, AllocFailed};
 
@@ -13,17 +13,9 @@ pub enum AuditFault {
     Head { line: u64 },
     /// A round, an entry or the end isn't what the script and the book give.
     Entry { line: u64 },
-    /// The outcome in the block that begins at this line isn't good: the first point that was found to fail.
+    /// The block that begins at this line isn't that of the batch: the first point in which it differs.
     Batch { line: u64, point: Point },
     OutOfMemory,
-}
-
-/// Why a block isn't taken.
-pub(crate) fn batch_fault(line: u64, refusal: Refusal) -> AuditFault {
-    match refusal {
-        Refusal::Fails(point) => AuditFault::Batch { line, point },
-        Refusal::OutOfMemory => AuditFault::OutOfMemory,
-    }
 }
 
 impl From<OutOfMemory> for AuditFault {

@@ -22,7 +22,7 @@ pub(crate) struct Head<'a> {
 }
 
 /// The numbers of the settings line.
-#[derive(Clone, Copy, Debug)]
+#[derive(Clone, Copy)]
 struct SettingsLine {
     wait: u64,
     delay: u64,

@@ -1,17 +1,32 @@
 //! How far the lanes of a round have come.
-ghost use Rattle.std.specs.Prelude.{◌≡◌, ◌<◌, ◌≤◌, ℕ, IfSome, IsTrue, length};
-ghost use Rattle.script_rows.specs.Round.{lane_at};
+ghost use Rattle.std.specs.Prelude.{◌≡◌, ◌<◌, [], IfSome, IsTrue, length, slice_set};
 ghost use Rattle.shared_book.specs.Locked.{sealed_by};
-ghost use Rattle.report_audit.specs.work.Lanes.{AreDone, IsNoClose};
+ghost use Rattle.report_audit.specs.work.Lanes.{AreDone, IsNoClose, IsRest, stand_at};
 
 use request_book::{Command, Reply};
 use script_rows::Round;
 
 /// How many commands of a lane were taken, and the batch that it sealed and hasn't closed.
-#[derive(Clone, Copy, Debug, PartialEq, Eq)]
+#[derive(Clone, Copy)]
 pub(crate) struct LaneStand {
     pub taken: usize,
     pub pending: Option<u64>,
+}
+
+/// How far a lane has come.
+pub(crate) fn stand_of(lanes: &[LaneStand], lane: usize) -> LaneStand
+    requires { lane < length lanes.now }
+    ensures { result ≡ stand_at lanes.now lane }
+{
+    lanes[lane]
+}
+
+/// Writes how far a lane has come.
+pub(crate) fn set_stand(lanes: &mut [LaneStand], lane: usize, stand: LaneStand)
+    requires { lane < length lanes.old }
+    ensures { lanes.new ≡ slice_set lanes.old lane stand }
+{
+    lanes[lane] = stand;
 }
 
 /// Whether each lane's commands were all taken and each batch is closed.
@@ -20,14 +35,22 @@ pub(crate) fn are_done(lanes: &[LaneStand], round: &Round) -> bool
     ensures { IsTrue result → AreDone round.now lanes.now }
 {
     for lane in 0..16 {
-        if lanes[lane].pending.is_some() {
-            return false;
-        }
-        if lanes[lane].taken != round.lane(lane).len() {
+        if !is_done(stand_of(lanes, lane), round.lane(lane)) {
             return false;
         }
     }
+    let _kept = round.lane(0);
     true
+}
+
+/// Whether the lane's commands were all taken and each batch is closed.
+fn is_done(stand: LaneStand, commands: &[Command]) -> bool
+    ensures { IsTrue result → IsRest commands.now stand [] }
+{
+    match stand.pending {
+        Some(_) => false,
+        None => stand.taken == commands.len(),
+    }
 }
 
 /// The batch that a seal put up, by its reply.

@@ -4,7 +4,7 @@ ghost use Rattle.std.specs.Prelude.{◌≡◌, ◌++◌, IfSome};
 use crate::fault::AuditFault;
 
 /// The bytes that are left, and the number of the line that begins there.
-#[derive(Clone, Copy, Debug)]
+#[derive(Clone, Copy)]
 pub(crate) struct Place<'a> {
     pub rest: &'a [u8],
     pub line: u64,

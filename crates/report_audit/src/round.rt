@@ -1,7 +1,6 @@
 //! A round of a report.
-ghost use Rattle.std.specs.Prelude.{◌≡◌, ◌++◌, ◌∷◌, [], ◌-◌, ◌^◌, ◌<◌, ◌≤◌, All, Contains, IfOk, IfSome, length, codes, slice_get};
+ghost use Rattle.std.specs.Prelude.{◌≡◌, ◌++◌, ◌∷◌, [], ◌-◌, ◌^◌, ◌<◌, ◌≤◌, IfOk, IfSome, length, codes, slice_get};
 ghost use Rattle.batch_snapshot.specs.Batch.{Batch};
-ghost use Rattle.batch_snapshot.specs.Points.{named_nodes};
 ghost use Rattle.batch_solver.specs.Outcome.{IsGoodOutcome};
 ghost use Rattle.dispatch_report.specs.Lines.{lines_text};
 ghost use Rattle.dispatch_report.specs.Words.{numbered};
@@ -13,14 +12,14 @@ ghost use Rattle.report_audit.specs.Audit.{batches_after, is_closing};
 ghost use Rattle.report_audit.specs.work.Lanes.{stand_at};
 ghost use Rattle.report_audit.specs.work.Rounds.{TakesEntry, AuditsRound, entry_lines};
 
-use crate::block::{Block, read_block};
+use crate::block::behind_block;
 use crate::entry::{entry_in, wrong_line};
-use crate::fault::{AuditFault, batch_fault};
-use crate::lanes::{LaneStand, are_done, copied, sealed_by};
+use crate::fault::AuditFault;
+use crate::lanes::{LaneStand, are_done, copied, sealed_by, set_stand, stand_of};
 use crate::place::{Place, behind_line, behind_text, line_at};
-use batch_snapshot::Snapshot;
+use crate::point::{Point, behind_first_line, first_difference};
+use batch_solver::solve_batch;
 use dispatch_report::write_entry_text;
-use outcome_check::{Point, check_outcome};
 use pool_base::{OutOfMemory, put_bytes, put_number};
 use pool_io::PlainSink;
 use request_book::{Book, Command, Entry, Outcome, Reply, State};
@@ -62,10 +61,11 @@ pub(crate) fn audit_round<'a>(
     let start = behind_round_line(alloc, place, round.number())?;
     let mut here = start;
     let mut lanes = vec![in alloc; LaneStand { taken: 0, pending: None }; 16]?;
-    for _ in 0..start.rest.len() {
+    'entries: for _ in 0..start.rest.len() {
         if are_done(&lanes, round) {
             break;
         }
+        let _kept = book.entries();
         here = audit_entry(rt, alloc, here, &mut book, &mut lanes, round, network, settings)?;
     }
     if !are_done(&lanes, round) {
@@ -153,7 +153,7 @@ fn audit_entry<'a>(
         return Err(AuditFault::Entry { line: place.line });
     }
     let lane = told.lane as u8;
-    match lanes[lane as usize].pending {
+    match stand_of(lanes, lane as usize).pending {
         None => audit_command(alloc, place, book, lanes, lane, round),
         Some(batch) => audit_close(rt, alloc, place, book, lanes, lane, batch, network, settings),
     }
@@ -174,7 +174,7 @@ fn audit_command<'a>(
     ensures { IfOk result (λ next. (settings : OneSettings) (roads : Roads) → TakesEntry settings roads round.now book.old book.new lanes.old lanes.new place.entry.rest.now next.rest.now) }
 {
     let fault = AuditFault::Entry { line: place.line };
-    let stand = lanes[lane as usize];
+    let stand = stand_of(lanes, lane as usize);
     let commands = round.lane(lane as usize);
     if stand.taken >= commands.len() {
         return Err(fault);
@@ -188,10 +188,11 @@ fn audit_command<'a>(
     let Some(next) = behind_entry(alloc, place, position, book, count)? else {
         return Err(fault);
     };
-    lanes[lane as usize] = LaneStand {
+    let after = LaneStand {
         taken: stand.taken + 1,
         pending: sealed_by(reply),
     };
+    set_stand(lanes, lane as usize, after);
     Ok(next)
 }
 
@@ -211,7 +212,10 @@ fn behind_entry<'a>(
         return Ok(None);
     }
     let printed = printed_entry(alloc, position, &entries[number])?;
-    Ok(behind_text(place, printed.written()))
+    match behind_text(place, printed.written()) {
+        Some(next) => Ok(Some(next)),
+        None => Ok(None),
+    }
 }
 
 /// The lines of an entry as they are printed.
@@ -249,20 +253,19 @@ fn audit_close<'a>(
         return Err(AuditFault::Entry { line: place.line });
     }
     let from = behind_line(place, line);
-    let outcome = outcome_from(rt, alloc, from, book, batch, network, settings)?;
+    let end = behind_block(from)?;
+    let outcome = outcome_of(rt, alloc, from, book, network, settings)?;
     let count = book.entries().len();
     let _reply = book.apply(lane, Command::Close { batch, outcome })?;
     let Some(next) = behind_entry(alloc, place, position, book, count)? else {
-        return Err(AuditFault::Batch {
-            line: from.line,
-            point: Point::Bound,
-        });
+        return Err(wrong_block(alloc, from, end, position, book, count));
     };
-    let stand = lanes[lane as usize];
-    lanes[lane as usize] = LaneStand {
+    let stand = stand_of(lanes, lane as usize);
+    let after = LaneStand {
         taken: stand.taken,
         pending: None,
     };
+    set_stand(lanes, lane as usize, after);
     Ok(next)
 }
 
@@ -284,13 +287,12 @@ fn is_close_line(
     Ok(text.as_slice() == line)
 }
 
-/// The outcome of the block that begins here, which is good for the batch that stands sealed in the book.
-fn outcome_from(
+/// A good outcome of the batch that stands sealed in the book.
+fn outcome_of(
     rt: &(impl Threads + Sync),
     alloc: Global,
     from: Place<'_>,
     book: &Book,
-    batch: u64,
     network: &Network,
     settings: &Settings,
 ) -> Result<Outcome, AuditFault>
@@ -305,35 +307,32 @@ fn outcome_from(
             point: Point::Answer,
         });
     };
-    let block = read_block(alloc, from, snapshot.vehicles.as_slice())?;
-    judge(rt, alloc, from.line, &snapshot, batch, network, settings, block)
+    let outcome = solve_batch(rt, alloc, &snapshot, network, settings)?;
+    Ok(outcome)
 }
 
-/// The outcome of a block that was read, where it is good.
-fn judge(
-    rt: &(impl Threads + Sync),
+/// Why the block that begins here isn't that of the book's entry of this number.
+fn wrong_block(
     alloc: Global,
-    line: u64,
-    snapshot: &Snapshot,
-    batch: u64,
-    network: &Network,
-    settings: &Settings,
-    block: Block,
-) -> Result<Outcome, AuditFault>
-    requires { All (λ node. Contains network.now.nodes node) (named_nodes snapshot.now) }
-    ensures { IfOk result (IsGoodOutcome settings.now network.now snapshot.now) }
-{
-    if block.batch != batch {
-        return Err(AuditFault::Batch {
-            line,
-            point: Point::Answer,
-        });
-    }
-    match check_outcome(rt, alloc, snapshot, network, settings, &block.outcome) {
-        Ok(()) => match block.broken {
-            None => Ok(block.outcome),
-            Some(point) => Err(AuditFault::Batch { line, point }),
-        },
-        Err(refusal) => Err(batch_fault(line, refusal.or_earlier(block.broken))),
+    from: Place<'_>,
+    end: Place<'_>,
+    position: u64,
+    book: &Book,
+    number: usize,
+) -> AuditFault {
+    let Some(entry) = book.entries().get(number) else {
+        return AuditFault::OutOfMemory;
+    };
+    let printed = match printed_entry(alloc, position, entry) {
+        Ok(printed) => printed,
+        Err(_memory) => return AuditFault::OutOfMemory,
+    };
+    let block = match from.rest.get(..from.rest.len().saturating_sub(end.rest.len())) {
+        Some(block) => block,
+        None => from.rest,
+    };
+    AuditFault::Batch {
+        line: from.line,
+        point: first_difference(block, behind_first_line(printed.written())),
     }
 }

@@ -5,7 +5,7 @@ use pool_base::read_number_up_to;
 pub(crate) const GREATEST_ID: u64 = 1_000_000_000;
 
 /// A number, and the text behind it.
-#[derive(Clone, Copy, Debug)]
+#[derive(Clone, Copy)]
 pub(crate) struct Numeral<'a> {
     pub value: u64,
     pub rest: &'a [u8],

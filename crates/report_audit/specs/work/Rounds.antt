@@ -29,7 +29,7 @@ module _ (settings : Settings) (roads : Roads) where
     pub good : IsGoodClose settings roads old.state entry.command entry.reply
     pub goes : (more : List Entry) → IsRest (lane_at round entry.lane) (stand_at after entry.lane) more → IsRest (lane_at round entry.lane) (stand_at before entry.lane) (entry ∷ more)
     pub others : (lane : ℕ) → lane ≢ entry.lane → stand_at after lane ≡ stand_at before lane
-    pub text : text ≡ lines_text (entry_lines (next_position old.first old.entries) entry) ++ rest
+    pub reads : text ≡ lines_text (entry_lines (next_position old.first old.entries) entry) ++ rest
 
   -- where an audit stands within a round: the closes so far are good, the lanes have come so far, and the lines of
   -- the entries so far were read
@@ -37,7 +37,7 @@ module _ (settings : Settings) (roads : Roads) where
     pub same : IsSameRun start current
     pub closes : ClosesAreGood settings roads current.base current.entries
     pub come : HaveCome round lanes current.entries
-    pub text : text ≡ lines_text (entries_lines true current.first current.entries) ++ rest
+    pub reads : text ≡ lines_text (entries_lines true current.first current.entries) ++ rest
 
   -- a round was audited: its journal is a run of it, and its text was read
   pub record AuditsRound (round : NumberedLanes) (book : BookView) (before : ℕ) (text : List ℕ) (next : BookView) (after : ℕ) (rest : List ℕ) : Type 0 where
@@ -45,7 +45,7 @@ module _ (settings : Settings) (roads : Roads) where
     pub run : IsRoundRun settings roads round journal
     pub first : journal.first ≡ book.first
     pub base : journal.base ≡ book.base
-    pub text : text ≡ round_text round.number true journal ++ rest
+    pub reads : text ≡ round_text round.number true journal ++ rest
     pub ready_nodes : next.nodes ≡ roads.nodes
     pub ready_wait : next.wait ≡ settings.wait
     pub next_first : next.first ≡ next_position book.first journal.entries

@@ -12,9 +12,9 @@ use Rattle.road_network.specs.Roads.{Roads}
 use Rattle.script_rows.specs.Round.{NumberedLanes}
 
 -- rounds were audited, and the last line
-pub record AuditsRounds (settings : Settings) (roads : Roads) (rounds : List NumberedLanes) (book : BookView) (batches : ℕ) (text : List ℕ) (audited : Audited) : Type 0 where
+pub record AuditsRounds (settings : Settings) (roads : Roads) (rounds : List NumberedLanes) (book : BookView) (before : ℕ) (text : List ℕ) (audited : Audited) : Type 0 where
   pub journals : List Journal
   pub run : IsRun settings roads book.base book.first rounds journals
-  pub text : text ≡ rounds_text rounds journals ++ end_text audited.entries
+  pub reads : text ≡ rounds_text rounds journals ++ end_text audited.entries
   pub entries : audited.entries ≡ next_position (position_after_run book.first journals) []
-  pub batches : audited.batches ≡ batches_after_run batches journals
+  pub batches : audited.batches ≡ batches_after_run before journals

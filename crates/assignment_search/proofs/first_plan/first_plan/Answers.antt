@@ -1,7 +1,7 @@
 use Rattle.std.proofs.Common.{◌≡◌, ◌≤◌, List, Option, ℕ, ap, subst, arith}
 use Rattle.plan_rules.specs.Plan.{IsLawful, cost_of}
 use Rattle.assignment_search.proofs.UniqueLemmas.{greedy_unique}
-use Rattle.assignment_search.proofs.simple_plans.first_plan.Goals as goal
+use Rattle.assignment_search.proofs.first_plan.first_plan.Goals as goal
 
 pub returns-clause-greedy : goal.returns-clause-greedy
 returns-clause-greedy c = λ chosen is lawful.
