@@ -39,7 +39,7 @@ pub(crate) fn are_done(lanes: &[LaneStand], round: &Round) -> bool
             return false;
         }
     }
-    let _kept = round.lane(0);
+    let _first = round.lane(0);
     true
 }
 

@@ -18,6 +18,7 @@ use crate::fault::AuditFault;
 use crate::lanes::{LaneStand, are_done, copied, sealed_by, set_stand, stand_of};
 use crate::place::{Place, behind_line, behind_text, line_at};
 use crate::point::{Point, behind_first_line, first_difference};
+use batch_snapshot::Snapshot;
 use batch_solver::solve_batch;
 use dispatch_report::write_entry_text;
 use pool_base::{OutOfMemory, put_bytes, put_number};
@@ -300,8 +301,7 @@ fn outcome_of(
     ensures { IfOk result (λ outcome. (b : Batch) × (book.now.state.sealed ≡ Some b) × IsGoodOutcome settings.now network.now b outcome) }
 {
     let _kept = book.entries();
-    let State { sealed, .. } = book.state()?;
-    let Some(snapshot) = sealed else {
+    let Some(snapshot) = sealed_in(book.state()?) else {
         return Err(AuditFault::Batch {
             line: from.line,
             point: Point::Answer,
@@ -309,6 +309,20 @@ fn outcome_of(
     };
     let outcome = solve_batch(rt, alloc, &snapshot, network, settings)?;
     Ok(outcome)
+}
+
+/// The batch that stands sealed.
+fn sealed_in(state: State) -> Option<Snapshot>
+    ensures { result ≡ state.sealed }
+{
+    let State {
+        riders: _riders,
+        vehicles: _vehicles,
+        last_seal: _last_seal,
+        sealed,
+        batches: _batches,
+    } = state;
+    sealed
 }
 
 /// Why the block that begins here isn't that of the book's entry of this number.

@@ -22,4 +22,4 @@ loop-lane-preserved c =
 pub returns : goal.returns
 returns c =
     let below : DoneBelow c.args.round.now c.args.lanes.now 16 = subst (DoneBelow c.args.round.now c.args.lanes.now) (omega arith) c.loop-lane.invariant in
-    λ _. done_all c.args.round.now c.args.lanes.now c.lane-kept.ensures.kept c.requires below
+    λ _. done_all c.args.round.now c.args.lanes.now c.lane-_first.ensures.kept c.requires below
