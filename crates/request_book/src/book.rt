@@ -1,7 +1,7 @@
 ghost use Rattle.std.specs.Prelude.{◌≡◌, ◌==◌, ◌+◌, ◌<◌, ◌≤◌, ◌++◌, ◌∷◌, [], All, false, option_map, IfOk, OnOk, OnErr, IsOk, vec_len, vec_capacity};
 ghost use Rattle.std.specs.List.{list_any};
 ghost use Rattle.request_book.specs.Book.{opening, next_position, would_seal, IsApplied, IsBook, IsLight, IsSameBook};
-ghost use Rattle.request_book.specs.Consistent.{IsNode};
+ghost use Rattle.request_book.specs.Consistent.{IsConsistent, IsNode};
 ghost use Rattle.request_book.specs.State.{find_rider};
 
 use crate::command::Command;
@@ -193,9 +193,10 @@ impl Book {
     }
 
     /// Gives the journal up and begins a new one, at the next position and the state as it is. No room
-    /// is left. After an error nothing has changed.
+    /// is left. The journal's base is a state that a book had. After an error nothing has changed.
     pub fn take_round(&mut self) -> Result<Journal, OutOfMemory>
         ensures journal { IfOk result (λ journal. journal ≡ record { first = self.old.first; base = self.old.base; entries = self.old.entries }) }
+        ensures consistent { IfOk result (λ journal. IsConsistent journal.base) }
         ensures next { OnOk result (self.new ≡ record { nodes = self.old.nodes; wait = self.old.wait; first = next_position self.old.first self.old.entries; base = self.old.state; entries = []; state = self.old.state; spare = 0 }) }
         ensures unchanged { OnErr result (IsSameBook self.old self.new) }
         ensures kept { OnErr result (self.old.spare ≤ self.new.spare) }

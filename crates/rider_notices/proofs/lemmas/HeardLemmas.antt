@@ -1,5 +1,5 @@
 -- Notices that notifiers are told one list after the other.
-use Rattle.std.proofs.Common.{List, [], ◌∷◌, ◌++◌, Option, Some, None, refl, ap, ◌∙◌, append_assoc, sym, arith, length-append}
+use Rattle.std.proofs.Common.{◌≡◌, List, map, length, [], ◌∷◌, ◌++◌, Option, Some, None, refl, ap, ◌∙◌, append_assoc, sym, arith, length-append}
 use Rattle.std.proofs.lemmas.List.{append-nil}
 use Rattle.rider_notices.specs.declared.notice.Notice.{Notice}
 use Rattle.rider_notices.specs.Told.{HasTold, NotifierView, HasHeard, HaveHeard}
@@ -38,3 +38,8 @@ all-heard-more xs ys _ _ _ (HaveHeard.kept a b olds kepts p ps) (HaveHeard.dropp
     HaveHeard.dropped a olds lefts (omega (arith, p.steady, q, length-append xs ys)) (all-heard-more xs ys olds kepts lefts ps qs)
 all-heard-more xs ys _ _ lefts (HaveHeard.dropped a olds kepts p ps) qs =
     HaveHeard.dropped a olds lefts (omega (arith, p, length-append xs ys)) (all-heard-more xs ys olds kepts lefts ps qs)
+
+-- where there is nobody, all have heard anything
+pub nobody-hears : {A : Type 0} (seen : A → NotifierView) (notices : List Notice) (xs : List A) → length xs ≡ 0 → HaveHeard notices (map seen xs) (map seen xs)
+nobody-hears seen notices [] none = HaveHeard.none
+nobody-hears seen notices (x ∷ xs) none = absurd (omega (arith, none))
