@@ -1,10 +1,8 @@
 -- How the parts of a call explain its end, and what follows from the explanation.
 use Rattle.std.proofs.Common.{◌≡◌, ℕ, List, Option, Some, None, Result, Ok, Err, MatchResult, refl, sym, ap, subst, inl, inr, arith}
 use Rattle.std.specs.Prelude.{◌⊎◌}
-use Rattle.std.specs.Io.KnownBytes.{Appends}
 use Rattle.pool_base.specs.declared.which.Which.{Which}
 use Rattle.pool_base.specs.declared.which.Which.TheVariants as file
-use Rattle.request_book.specs.declared.journal.Journal.{Journal}
 use Rattle.rider_limits.specs.Words.{fault_of}
 use Rattle.rider_limits.specs.declared.settings.Mode.{Mode}
 use Rattle.rider_limits.specs.declared.settings.Mode.TheVariants.{Run, Load}
@@ -12,9 +10,9 @@ use Rattle.rider_limits.specs.declared.settings.Settings.{Settings}
 use Rattle.rider_limits.specs.declared.word_fault.WordFault.{WordFault}
 use Rattle.ridepool.specs.Explained.{AreGood, AreForRun, AreForLoad, AreAccepted, Explains, IsLimited, HidesNoMemory, Answers}
 use Rattle.ridepool.specs.Inputs.{Inputs, IsWithin, AreUntouched, AreInputs, CameTo, IsStop}
-use Rattle.ridepool.specs.Report.{RunsRounds, report_text}
+use Rattle.ridepool.specs.Report.{IsWhole}
 use Rattle.dispatch_report.specs.Written.{Change}
-use Rattle.ridepool.specs.Seen.{IsUntouched, SourceView, Sources, Seen, source_at}
+use Rattle.ridepool.specs.Seen.{IsUntouched, SourceView, Sources, Seen, IsSilent, source_at}
 use Rattle.ridepool.specs.declared.inputs.ReadInputs.{ReadInputs}
 use Rattle.ridepool.specs.declared.status.RunStatus.{RunStatus}
 use Rattle.ridepool.specs.declared.status.RunStatus.TheVariants.{Done, Words, Network, Fleet, Script, TooLong, ReadFault, WriteFault, OutOfMemory}
@@ -76,9 +74,10 @@ accepted_limited : (seen : Seen) (i : Inputs) (e : RunStatus) → AreAccepted se
 accepted_limited seen i e accepted = λ w. inl (inputs_within i.settings.mode seen.sources i accepted.inputs w)
 
 limited : (seen : Seen) (e : RunStatus) → Explains seen e → IsLimited seen.sources e
-limited seen Done why = accepted_limited seen why.0 _ why.2
+limited seen Done why = accepted_limited seen why.0 _ why.1
 limited seen (Words fault) why = untouched_limited seen.sources _ why.1
-limited seen WriteFault why = accepted_limited seen why.0.0 _ why.0.1
+limited seen WriteFault (inl part, rose) = accepted_limited seen part.0 _ part.1
+limited seen WriteFault (inr all, rose) = accepted_limited seen all.0 _ all.1
 limited seen OutOfMemory (inl stop) = stop_limited seen.sources _ stop.1
 limited seen OutOfMemory (inr (inl load)) = untouched_limited seen.sources _ load.1
 limited seen OutOfMemory (inr (inr part)) = accepted_limited seen part.0 _ part.1
@@ -97,9 +96,10 @@ touches : (seen : Seen) (i : Inputs) → AreAccepted seen i → AreForRun seen.w
 touches seen i accepted = accepted_touches seen i i.settings.mode refl accepted.words accepted.inputs
 
 untouched : (seen : Seen) (e : RunStatus) → Explains seen e → AreForRun seen.words ⊎ AreUntouched seen.sources
-untouched seen Done why = touches seen why.0 why.2
+untouched seen Done why = touches seen why.0 why.1
 untouched seen (Words fault) why = inr why.1
-untouched seen WriteFault why = touches seen why.0.0 why.0.1
+untouched seen WriteFault (inl part, rose) = touches seen part.0 part.1
+untouched seen WriteFault (inr all, rose) = touches seen all.0 all.1
 untouched seen OutOfMemory (inl stop) = inl stop.0
 untouched seen OutOfMemory (inr (inl load)) = inr load.1
 untouched seen OutOfMemory (inr (inr part)) = touches seen part.0 part.1
@@ -121,11 +121,11 @@ answer seen e why hides =
     }
 
 -- words that are refused
-pub words_answer : (seen : Seen) (fault : WordFault) → fault_of seen.words ≡ Some fault → AreUntouched seen.sources → IsUntouched seen.out → Answers seen (Words fault)
+pub words_answer : (seen : Seen) (fault : WordFault) → fault_of seen.words ≡ Some fault → AreUntouched seen.sources → IsSilent seen → Answers seen (Words fault)
 words_answer seen fault why sources out = answer seen (Words fault) (why, sources, out) tt
 
 -- inputs that aren't there
-stop_explains : (seen : Seen) (e : RunStatus) → AreForRun seen.words → IsStop seen.sources e → IsUntouched seen.out → Explains seen e
+stop_explains : (seen : Seen) (e : RunStatus) → AreForRun seen.words → IsStop seen.sources e → IsSilent seen → Explains seen e
 stop_explains seen (Network fault) run why out = (run, why, out)
 stop_explains seen (Fleet fault) run why out = (run, why, out)
 stop_explains seen (Script fault) run why out = (run, why, out)
@@ -136,17 +136,19 @@ stop_explains seen Done run why out = absurd why
 stop_explains seen (Words fault) run why out = absurd why
 stop_explains seen WriteFault run why out = absurd why
 
-no_input : (seen : Seen) (settings : Settings) (e : RunStatus) (m : Mode) → settings.mode ≡ m → AreGood seen.words settings → IsNoInput m seen.sources e → IsUntouched seen.out → Explains seen e
+no_input : (seen : Seen) (settings : Settings) (e : RunStatus) (m : Mode) → settings.mode ≡ m → AreGood seen.words settings → IsNoInput m seen.sources e → IsSilent seen → Explains seen e
 no_input seen settings e Run is good why out = stop_explains seen e (settings, good, is) why out
 no_input seen settings e (Load shape) is good why out =
     subst (Explains seen) (sym why.1) (inr (inl ((settings, good, λ run. cc (run, is)), why.0, out)))
 
-pub input_answer : (seen : Seen) (settings : Settings) (e : RunStatus) → AreGood seen.words settings → GotInputs settings seen.sources (Err e) → IsUntouched seen.out → Answers seen e
+pub input_answer : (seen : Seen) (settings : Settings) (e : RunStatus) → AreGood seen.words settings → GotInputs settings seen.sources (Err e) → IsSilent seen → Answers seen e
 input_answer seen settings e good got out = answer seen e (no_input seen settings e settings.mode refl good got.inputs out) got.refused
 
 -- a report that is written, or isn't
-fault_answer : (seen : Seen) (i : Inputs) (e : RunStatus) → AreAccepted seen i → IsWritingFault i seen.out.before.written seen.out.after.written seen.out.before.faults seen.out.after.faults e → Answers seen e
-fault_answer seen i WriteFault accepted why = answer seen WriteFault ((i, accepted, why.1), why.0) tt
+fault_answer : (seen : Seen) (i : Inputs) (e : RunStatus) → AreAccepted seen i
+    → IsWritingFault i seen.out.before.written seen.out.after.written seen.notifiers.before seen.notifiers.after seen.out.before.faults seen.out.after.faults e → Answers seen e
+fault_answer seen i WriteFault accepted (rose, inl part) = answer seen WriteFault (inl (i, accepted, part), rose) tt
+fault_answer seen i WriteFault accepted (rose, inr all) = answer seen WriteFault (inr (i, accepted, all), rose) tt
 fault_answer seen i OutOfMemory accepted why = answer seen OutOfMemory (inr (inr (i, accepted, why))) tt
 fault_answer seen i Done accepted why = absurd why
 fault_answer seen i (Words fault) accepted why = absurd why
@@ -162,11 +164,11 @@ accepted_by seen settings got good inputs = record { words = good; inputs = inpu
 
 pub done_answer : (seen : Seen) (settings : Settings) (got : ReadInputs) → AreGood seen.words settings → GotInputs settings seen.sources (Ok got)
     → (let i : Inputs = record { settings = settings; roads = got.network; vehicles = got.fleet; rounds = got.script } in
-    (journals : List Journal) × RunsRounds i i.rounds journals × Appends seen.out.before.written seen.out.after.written (report_text i journals))
+    IsWhole i seen.out.before.written seen.out.after.written seen.notifiers.before seen.notifiers.after)
     → Answers seen Done
-done_answer seen settings got good inputs written = answer seen Done (_, written.0, accepted_by seen settings got good inputs, written.1, written.2) tt
+done_answer seen settings got good inputs written = answer seen Done (_, accepted_by seen settings got good inputs, written) tt
 
 pub written_answer : (seen : Seen) (settings : Settings) (got : ReadInputs) (e : RunStatus) → AreGood seen.words settings → GotInputs settings seen.sources (Ok got)
-    → IsWritingFault (record { settings = settings; roads = got.network; vehicles = got.fleet; rounds = got.script }) seen.out.before.written seen.out.after.written seen.out.before.faults seen.out.after.faults e
+    → IsWritingFault (record { settings = settings; roads = got.network; vehicles = got.fleet; rounds = got.script }) seen.out.before.written seen.out.after.written seen.notifiers.before seen.notifiers.after seen.out.before.faults seen.out.after.faults e
     → Answers seen e
 written_answer seen settings got e good inputs why = fault_answer seen _ e (accepted_by seen settings got good inputs) why

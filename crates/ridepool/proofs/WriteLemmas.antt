@@ -1,9 +1,9 @@
 -- Texts of rounds, one after the other, and what stands where the last isn't whole.
 use Rattle.std.proofs.Common.{◌≡◌, ℕ, Bool, ◌+◌, ◌-◌, ◌^◌, ◌<◌, ◌≤◌, List, [], ◌∷◌, ◌++◌, length, take, drop, get_or, Option, Result, Ok, Err, MatchResult, refl, sym, subst, ap, ◌∙◌, append_assoc, append-nil, add-one, arith, inl, inr}
-use Rattle.std.specs.Prelude.{◌⊎◌}
+use Rattle.std.specs.Prelude.{◌⊎◌, IfErr}
 use Rattle.std.specs.Io.KnownBytes.{Appends, Keeps}
 use Rattle.std.proofs.KnownBytes.{Appends-nil, Appends-trans, Appends-kept}
-use Rattle.std.proofs.lemmas.List.{take-append-drop, length-drop}
+use Rattle.std.proofs.lemmas.List.{take-append-drop, length-append, length-drop}
 use Rattle.std.proofs.Math.Seq.{take-suc}
 use Rattle.pool_io.specs.Sink.{AppendsPart}
 use Rattle.dispatch_engine.specs.Run.{IsReady, IsRoundRun, IsRun, IsSameRun, position_after_run, journal_of}
@@ -27,8 +27,11 @@ use Rattle.rider_limits.specs.declared.settings.Settings.{Settings}
 use Rattle.road_network.specs.Roads.{Roads}
 use Rattle.script_rows.specs.Round.{NumberedLanes}
 use Rattle.ridepool.specs.Inputs.{Inputs}
-use Rattle.ridepool.specs.Report.{RunsRounds, first_text, added_text, rounds_text, begun_text, report_text, Begins, IsPart}
-use Rattle.ridepool.specs.work.Writing.{NextJournal, WritesRound, WritesPart, WritesRounds, WritesFirst, LacksEnd, IsRoundFault, IsRoundsFault, IsWritingFault, status_of}
+use Rattle.rider_notices.specs.Notices.{notices}
+use Rattle.rider_notices.specs.Told.{NotifierView, HaveHeard}
+use Rattle.rider_notices.proofs.lemmas.HeardLemmas.{all-heard-nothing, all-heard-more}
+use Rattle.ridepool.specs.Report.{RunsRounds, first_text, added_text, rounds_text, run_notices, begun_text, report_text, Begins, IsWhole, IsPart}
+use Rattle.ridepool.specs.work.Writing.{NextJournal, WritesRound, WritesPart, WritesRounds, IsRoundsPart, IsTextFault, IsFlushed, IsRoundFault, IsRoundsFault, IsWritingFault, status_of}
 use Rattle.ridepool.specs.declared.status.RunStatus.{RunStatus}
 use Rattle.ridepool.specs.declared.status.RunStatus.TheVariants.{Done, Words, Network, Fleet, Script, TooLong, ReadFault, WriteFault, OutOfMemory}
 
@@ -77,6 +80,14 @@ begins_after a b c front back first next =
       appends = Appends-trans a b c front next.written first next.appends;
     }
 
+-- the same text
+pub begins_as : (a b : Option (List ℕ)) (t u : List ℕ) → t ≡ u → Begins a b t → Begins a b u
+begins_as a b t u is x = record { written = x.written; unwritten = x.unwritten; whole = x.whole ∙ is; appends = x.appends }
+
+-- no bytes more
+pub begins_kept : (a b c : Option (List ℕ)) (text : List ℕ) → Begins a b text → Keeps b c → Begins a c text
+begins_kept a b c text x keeps = record { written = x.written; unwritten = x.unwritten; whole = x.whole; appends = Appends-kept a b c x.written x.appends keeps }
+
 -- all of it is a beginning
 pub begins_whole : (a b : Option (List ℕ)) (text : List ℕ) → Appends a b text → Begins a b text
 begins_whole a b text h = record { written = text; unwritten = []; whole = append-nil text; appends = h }
@@ -106,36 +117,47 @@ module _ (settings : Settings) (roads : Roads) where
       ap (λ t. added_text settings.mode settings.proof q.number k ++ t) (rounds_text-more (state_after roads.nodes settings.wait s k.entries) (next_position position k.entries) rs js r j run.3)
       ∙ sym (append_assoc (added_text settings.mode settings.proof q.number k) (rounds_text settings rs js) (added_text settings.mode settings.proof r.number j))
 
-  -- what stands after some rounds: their journals and texts, and the book that comes next
-  pub record HasWritten (book : BookView) (rounds : List NumberedLanes) (before after : Option (List ℕ)) (current : BookView) : Type 0 where
+  -- the notices of a run, and of one more journal
+  pub run_notices-more : (js : List Journal) (j : Journal) → run_notices settings roads (js ++ j ∷ []) ≡ run_notices settings roads js ++ notices roads.nodes settings.wait j
+  run_notices-more [] j = append-nil (notices roads.nodes settings.wait j)
+  run_notices-more (k ∷ js) j =
+      ap (λ ns. notices roads.nodes settings.wait k ++ ns) (run_notices-more js j)
+      ∙ sym (append_assoc (notices roads.nodes settings.wait k) (run_notices settings roads js) (notices roads.nodes settings.wait j))
+
+  -- what stands after some rounds: their journals, texts and notices, and the book that comes next
+  pub record HasWritten (book : BookView) (rounds : List NumberedLanes) (before after : Option (List ℕ)) (notifiers left : List NotifierView) (current : BookView) : Type 0 where
     pub journals : List Journal
     pub run : IsRun settings roads book.base book.first rounds journals
     pub text : Appends before after (rounds_text settings rounds journals)
+    pub told : HaveHeard (run_notices settings roads journals) notifiers left
     pub ready : IsReady settings roads current
     pub base : current.base ≡ state_after_run roads.nodes settings.wait book.base journals
     pub first : current.first ≡ position_after_run book.first journals
     pub entries : current.entries ≡ []
 
-  pub written_none : (book : BookView) (a : Option (List ℕ)) → book.entries ≡ [] → IsReady settings roads book → HasWritten book [] a a book
-  written_none book a empty ready =
-      record { journals = []; run = tt; text = Appends-nil a; ready = ready; base = refl; first = refl; entries = empty }
+  pub written_none : (book : BookView) (a : Option (List ℕ)) (n : List NotifierView) → book.entries ≡ [] → IsReady settings roads book → HasWritten book [] a a n n book
+  written_none book a n empty ready =
+      record { journals = []; run = tt; text = Appends-nil a; told = all-heard-nothing n; ready = ready; base = refl; first = refl; entries = empty }
 
   -- a journal of the round that comes next, seen from the book of the first
-  next_run : (book current : BookView) (rounds : List NumberedLanes) (r : NumberedLanes) (a b : Option (List ℕ)) (j : Journal)
-      → (w : HasWritten book rounds a b current) → NextJournal settings roads current r j
+  next_run : (book current : BookView) (rounds : List NumberedLanes) (r : NumberedLanes) (a b : Option (List ℕ)) (n m : List NotifierView) (j : Journal)
+      → (w : HasWritten book rounds a b n m current) → NextJournal settings roads current r j
       → IsRun settings roads book.base book.first (rounds ++ r ∷ []) (w.journals ++ j ∷ [])
-  next_run book current rounds r a b j w is =
+  next_run book current rounds r a b n m j w is =
       run-more book.base book.first rounds w.journals r j w.run (is.base ∙ w.base) (is.first ∙ w.first) is.run
 
-  pub written_more : (book current next : BookView) (rounds : List NumberedLanes) (r : NumberedLanes) (a b c : Option (List ℕ))
-      → HasWritten book rounds a b current → WritesRound settings roads current r b c next → HasWritten book (rounds ++ r ∷ []) a c next
-  written_more book current next rounds r a b c w x =
+  pub written_more : (book current next : BookView) (rounds : List NumberedLanes) (r : NumberedLanes) (a b c : Option (List ℕ)) (n m k : List NotifierView)
+      → HasWritten book rounds a b n m current → WritesRound settings roads current r b c m k next → HasWritten book (rounds ++ r ∷ []) a c n k next
+  written_more book current next rounds r a b c n m k w x =
       record {
         journals = w.journals ++ x.journal ∷ [];
-        run = next_run book current rounds r a b x.journal w x.is;
+        run = next_run book current rounds r a b n m x.journal w x.is;
         text =
             subst (λ t. Appends a c t) (sym (rounds_text-more book.base book.first rounds w.journals r x.journal w.run))
             (Appends-trans a b c (rounds_text settings rounds w.journals) (added_text settings.mode settings.proof r.number x.journal) w.text x.text);
+        told =
+            subst (λ t. HaveHeard t n k) (sym (run_notices-more w.journals x.journal))
+            (all-heard-more (run_notices settings roads w.journals) (notices roads.nodes settings.wait x.journal) n m k w.told x.told);
         ready = x.ready;
         base =
             x.base
@@ -149,99 +171,103 @@ module _ (settings : Settings) (roads : Roads) where
   take_next : (rounds : List NumberedLanes) (i : ℕ) (r : NumberedLanes) → i < length rounds → r ≡ get_or rounds i r → take i rounds ++ r ∷ [] ≡ take (i + 1) rounds
   take_next rounds i r within is = ap (λ y. take i rounds ++ y ∷ []) is ∙ sym (rw add-one (take-suc rounds i r within))
 
-  pub written_next : (book current next : BookView) (rounds : List NumberedLanes) (i : ℕ) (r : NumberedLanes) (a b c : Option (List ℕ))
+  pub written_next : (book current next : BookView) (rounds : List NumberedLanes) (i : ℕ) (r : NumberedLanes) (a b c : Option (List ℕ)) (n m k : List NotifierView)
       → i < length rounds → r ≡ get_or rounds i r
-      → HasWritten book (take i rounds) a b current → WritesRound settings roads current r b c next → HasWritten book (take (i + 1) rounds) a c next
-  written_next book current next rounds i r a b c within is w x =
-      subst (λ rs. HasWritten book rs a c next) (take_next rounds i r within is) (written_more book current next (take i rounds) r a b c w x)
+      → HasWritten book (take i rounds) a b n m current → WritesRound settings roads current r b c m k next → HasWritten book (take (i + 1) rounds) a c n k next
+  written_next book current next rounds i r a b c n m k within is w x =
+      subst (λ rs. HasWritten book rs a c n k next) (take_next rounds i r within is) (written_more book current next (take i rounds) r a b c n m k w x)
 
   -- nothing of a round's text, and some of it
-  stays_first : (book current : BookView) (rounds : List NumberedLanes) (i : ℕ) (a b c : Option (List ℕ))
-      → HasWritten book (take i rounds) a b current → Keeps b c → WritesFirst settings roads book rounds a c
-  stays_first book current rounds i a b c w keeps =
-      record {
-        count = i;
-        journals = w.journals;
-        run = w.run;
-        text = begins_whole a c (rounds_text settings (take i rounds) w.journals) (Appends-kept a b c (rounds_text settings (take i rounds) w.journals) w.text keeps);
-      }
+  stays_part : (book current : BookView) (rounds : List NumberedLanes) (i : ℕ) (a b c : Option (List ℕ)) (n m : List NotifierView)
+      → HasWritten book (take i rounds) a b n m current → Keeps b c → IsRoundsPart settings roads book rounds a c n m
+  stays_part book current rounds i a b c n m w keeps =
+      IsRoundsPart.whole i w.journals w.run (Appends-kept a b c (rounds_text settings (take i rounds) w.journals) w.text keeps) w.told
 
-  part_first : (book current : BookView) (rounds : List NumberedLanes) (i : ℕ) (r : NumberedLanes) (a b c : Option (List ℕ))
+  next_part : (book current : BookView) (rounds : List NumberedLanes) (i : ℕ) (r : NumberedLanes) (a b c : Option (List ℕ)) (n m : List NotifierView)
       → i < length rounds → r ≡ get_or rounds i r
-      → HasWritten book (take i rounds) a b current → WritesPart settings roads current r b c → WritesFirst settings roads book rounds a c
-  part_first book current rounds i r a b c within is w x =
+      → HasWritten book (take i rounds) a b n m current → WritesPart settings roads current r b c → IsRoundsPart settings roads book rounds a c n m
+  unfolding begins_after begins_as
+  next_part book current rounds i r a b c n m within is w x =
       let js = w.journals ++ x.journal ∷ [] in
       let front = rounds_text settings (take i rounds) w.journals in
       let back = added_text settings.mode settings.proof r.number x.journal in
-      record {
-        count = i + 1;
-        journals = js;
-        run = subst (λ rs. IsRun settings roads book.base book.first rs js) (take_next rounds i r within is) (next_run book current (take i rounds) r a b x.journal w x.is);
-        text =
-            subst (λ rs. Begins a c (rounds_text settings rs js)) (take_next rounds i r within is)
-            (subst (λ t. Begins a c t) (sym (rounds_text-more book.base book.first (take i rounds) w.journals r x.journal w.run))
-            (begins_after a b c front back w.text (begins_part b c back x.part).0));
-      }
+      let same : front ++ back ≡ rounds_text settings (take (i + 1) rounds) js =
+      sym (rounds_text-more book.base book.first (take i rounds) w.journals r x.journal w.run) ∙ ap (λ rs. rounds_text settings rs js) (take_next rounds i r within is) in
+      IsRoundsPart.next_round i w.journals x.journal
+      (subst (λ rs. IsRun settings roads book.base book.first rs js) (take_next rounds i r within is) (next_run book current (take i rounds) r a b n m x.journal w x.is))
+      (begins_as a c (front ++ back) (rounds_text settings (take (i + 1) rounds) js) same (begins_after a b c front back w.text x.part))
+      (omega (arith, length-append front x.part.written))
+      w.told
+
+  -- the same of other notifiers
+  left_as : (book : BookView) (rounds : List NumberedLanes) (a b : Option (List ℕ)) (n m k : List NotifierView) → k ≡ m → IsRoundsPart settings roads book rounds a b n m → IsRoundsPart settings roads book rounds a b n k
+  left_as book rounds a b n m k same part = subst (IsRoundsPart settings roads book rounds a b n) (sym same) part
 
   -- a round that wasn't written whole
-  pub round_fault : (book current : BookView) (rounds : List NumberedLanes) (i : ℕ) (r : NumberedLanes) (a b c : Option (List ℕ)) (low middle high : ℕ) (s : RunStatus)
+  pub round_fault : (book current : BookView) (rounds : List NumberedLanes) (i : ℕ) (r : NumberedLanes) (a b c : Option (List ℕ)) (n m k : List NotifierView) (low middle high : ℕ) (s : RunStatus)
       → i < length rounds → r ≡ get_or rounds i r → low ≤ middle
-      → HasWritten book (take i rounds) a b current → IsRoundFault settings roads current r b c middle high s → IsRoundsFault settings roads book rounds a c low high s
-  round_fault book current rounds i r a b c low middle high WriteFault within is up w why =
-      (omega (arith, why.0, up), inl (part_first book current rounds i r a b c within is w why.1))
-  round_fault book current rounds i r a b c low middle high OutOfMemory within is up w (inl keeps) =
-      inl (stays_first book current rounds i a b c w keeps)
-  round_fault book current rounds i r a b c low middle high OutOfMemory within is up w (inr part) =
-      inl (part_first book current rounds i r a b c within is w part)
-  round_fault book current rounds i r a b c low middle high Done within is up w why = absurd why
-  round_fault book current rounds i r a b c low middle high (Words fault) within is up w why = absurd why
-  round_fault book current rounds i r a b c low middle high (Network fault) within is up w why = absurd why
-  round_fault book current rounds i r a b c low middle high (Fleet fault) within is up w why = absurd why
-  round_fault book current rounds i r a b c low middle high (Script fault) within is up w why = absurd why
-  round_fault book current rounds i r a b c low middle high (TooLong f) within is up w why = absurd why
-  round_fault book current rounds i r a b c low middle high (ReadFault f) within is up w why = absurd why
+      → HasWritten book (take i rounds) a b n m current → IsRoundFault settings roads current r b c m k middle high s → IsRoundsFault settings roads book rounds a c n k low high s
+  round_fault book current rounds i r a b c n m k low middle high WriteFault within is up w why =
+      (omega (arith, why.0, up), inl (left_as book rounds a c n m k why.2 (next_part book current rounds i r a b c n m within is w why.1)))
+  round_fault book current rounds i r a b c n m k low middle high OutOfMemory within is up w (inl keeps, same) =
+      left_as book rounds a c n m k same (stays_part book current rounds i a b c n m w keeps)
+  round_fault book current rounds i r a b c n m k low middle high OutOfMemory within is up w (inr part, same) =
+      left_as book rounds a c n m k same (next_part book current rounds i r a b c n m within is w part)
+  round_fault book current rounds i r a b c n m k low middle high Done within is up w why = absurd why
+  round_fault book current rounds i r a b c n m k low middle high (Words fault) within is up w why = absurd why
+  round_fault book current rounds i r a b c n m k low middle high (Network fault) within is up w why = absurd why
+  round_fault book current rounds i r a b c n m k low middle high (Fleet fault) within is up w why = absurd why
+  round_fault book current rounds i r a b c n m k low middle high (Script fault) within is up w why = absurd why
+  round_fault book current rounds i r a b c n m k low middle high (TooLong f) within is up w why = absurd why
+  round_fault book current rounds i r a b c n m k low middle high (ReadFault f) within is up w why = absurd why
 
   -- the last line's number, from the book behind all rounds
-  last_number : (book current : BookView) (rounds : List NumberedLanes) (a b : Option (List ℕ)) → (w : HasWritten book rounds a b current)
+  last_number : (book current : BookView) (rounds : List NumberedLanes) (a b : Option (List ℕ)) (n m : List NotifierView) → (w : HasWritten book rounds a b n m current)
       → next_position current.first current.entries ≡ next_position (position_after_run book.first w.journals) []
-  last_number book current rounds a b w = ap (λ p. next_position p current.entries) w.first ∙ ap (λ es. next_position (position_after_run book.first w.journals) es) w.entries
+  last_number book current rounds a b n m w = ap (λ p. next_position p current.entries) w.first ∙ ap (λ es. next_position (position_after_run book.first w.journals) es) w.entries
 
-  pub written_all : (book current : BookView) (rounds : List NumberedLanes) (a b c : Option (List ℕ)) (number : ℕ)
-      → HasWritten book rounds a b current → number ≡ next_position current.first current.entries → Appends b c (end_text number) → WritesRounds settings roads book rounds a c
-  written_all book current rounds a b c number w is last =
+  pub written_all : (book current : BookView) (rounds : List NumberedLanes) (a b c : Option (List ℕ)) (n m : List NotifierView) (number : ℕ)
+      → HasWritten book rounds a b n m current → number ≡ next_position current.first current.entries → Appends b c (end_text number) → WritesRounds settings roads book rounds a c n m
+  written_all book current rounds a b c n m number w is last =
       record {
         journals = w.journals;
         run = w.run;
         text =
             Appends-trans a b c (rounds_text settings rounds w.journals) (end_text (next_position (position_after_run book.first w.journals) [])) w.text
-            (subst (λ n. Appends b c (end_text n)) (is ∙ last_number book current rounds a b w) last);
+            (subst (λ x. Appends b c (end_text x)) (is ∙ last_number book current rounds a b n m w) last);
+        told = w.told;
       }
 
-  pub lacks_end : (book current : BookView) (rounds : List NumberedLanes) (a b c : Option (List ℕ)) (number : ℕ)
-      → HasWritten book rounds a b current → number ≡ next_position current.first current.entries → AppendsPart b c (end_text number) → LacksEnd settings roads book rounds a c
-  unfolding begins_after begins_part
-  lacks_end book current rounds a b c number w is part =
+  pub lacks_end : (book current : BookView) (rounds : List NumberedLanes) (a b c : Option (List ℕ)) (n m : List NotifierView) (number : ℕ)
+      → HasWritten book rounds a b n m current → number ≡ next_position current.first current.entries → AppendsPart b c (end_text number) → IsRoundsPart settings roads book rounds a c n m
+  unfolding begins_after
+  lacks_end book current rounds a b c n m number w is part =
+      let front = rounds_text settings rounds w.journals in
       let line = end_text (next_position (position_after_run book.first w.journals) []) in
-      let x = begins_part b c line (subst (λ n. AppendsPart b c (end_text n)) (is ∙ last_number book current rounds a b w) part) in
-      record {
-        journals = w.journals;
-        run = w.run;
-        text = begins_after a b c (rounds_text settings rounds w.journals) line w.text x.0;
-        lacks = x.1;
-      }
+      let x = begins_part b c line (subst (λ k. AppendsPart b c (end_text k)) (is ∙ last_number book current rounds a b n m w) part) in
+      IsRoundsPart.last_line w.journals w.run (begins_after a b c front line w.text x.0) (omega (arith, length-append front x.0.written)) x.1 w.told
 
-  -- a text that wasn't written whole, as a round's, as the last line's and as the head's
-  pub round_unwritten : (book : BookView) (r : NumberedLanes) (a b : Option (List ℕ)) (low high : ℕ) (fault : ReportFault) (s : RunStatus)
-      → s ≡ status_of fault → WritesPart settings roads book r a b → (fault ≡ report.WriteFault → Rose low high) → IsRoundFault settings roads book r a b low high s
-  round_unwritten book r a b low high report.WriteFault s is part rose = subst (IsRoundFault settings roads book r a b low high) (sym is) (rose refl, part)
-  round_unwritten book r a b low high report.OutOfMemory s is part rose = subst (IsRoundFault settings roads book r a b low high) (sym is) (inr part)
-
-  pub end_unwritten : (book : BookView) (rounds : List NumberedLanes) (a b : Option (List ℕ)) (low middle high : ℕ) (fault : ReportFault) (s : RunStatus)
-      → s ≡ status_of fault → LacksEnd settings roads book rounds a b → low ≤ middle → (fault ≡ report.WriteFault → Rose middle high) → IsRoundsFault settings roads book rounds a b low high s
-  end_unwritten book rounds a b low middle high report.WriteFault s is lacks up rose =
+  -- a text that wasn't written whole, as the last line's
+  pub end_unwritten : (book : BookView) (rounds : List NumberedLanes) (a b : Option (List ℕ)) (n m : List NotifierView) (low middle high : ℕ) (fault : ReportFault) (s : RunStatus)
+      → s ≡ status_of fault → IsRoundsPart settings roads book rounds a b n m → low ≤ middle → (fault ≡ report.WriteFault → Rose middle high) → IsRoundsFault settings roads book rounds a b n m low high s
+  end_unwritten book rounds a b n m low middle high report.WriteFault s is lacks up rose =
       let rises : Rose middle high = rose refl in
-      subst (IsRoundsFault settings roads book rounds a b low high) (sym is) (omega (arith, rises, up), inr lacks)
-  end_unwritten book rounds a b low middle high report.OutOfMemory s is lacks up rose = subst (IsRoundsFault settings roads book rounds a b low high) (sym is) (inr lacks)
+      subst (IsRoundsFault settings roads book rounds a b n m low high) (sym is) (omega (arith, rises, up), inl lacks)
+  end_unwritten book rounds a b n m low middle high report.OutOfMemory s is lacks up rose = subst (IsRoundsFault settings roads book rounds a b n m low high) (sym is) lacks
+
+  kept_rounds : (book : BookView) (rounds : List NumberedLanes) (a b c : Option (List ℕ)) (n m : List NotifierView) → WritesRounds settings roads book rounds a b n m → Keeps b c → WritesRounds settings roads book rounds a c n m
+  kept_rounds book rounds a b c n m w keeps =
+      let text = rounds_text settings rounds w.journals ++ end_text (next_position (position_after_run book.first w.journals) []) in
+      record { journals = w.journals; run = w.run; text = Appends-kept a b c text w.text keeps; told = w.told }
+
+  -- the last line was written, and flushed or not
+  pub flushed_end : (book : BookView) (rounds : List NumberedLanes) (a b c : Option (List ℕ)) (n m : List NotifierView) (low middle high : ℕ) (r : Result (Unit {0}) RunStatus)
+      → low ≤ middle → WritesRounds settings roads book rounds a b n m → IsFlushed b c middle high r
+      → MatchResult r (λ _. WritesRounds settings roads book rounds a c n m) (IsRoundsFault settings roads book rounds a c n m low high)
+  flushed_end book rounds a b c n m low middle high (Ok x) up w f = kept_rounds book rounds a b c n m w f.bytes
+  flushed_end book rounds a b c n m low middle high (Err s) up w f =
+      subst (IsRoundsFault settings roads book rounds a c n m low high) (sym f.fault.0)
+      (omega (arith, f.fault.1, up), inr (kept_rounds book rounds a b c n m w f.bytes))
 
   -- the journal that a round's book gives up, seen from the book before the round
   pub next_journal : (book after : BookView) (r : NumberedLanes) (j : Journal) → IsRoundRun settings roads r (journal_of after) → IsSameRun book after → j ≡ journal_of after → NextJournal settings roads book r j
@@ -253,15 +279,16 @@ module _ (settings : Settings) (roads : Roads) where
       }
 
   -- a round, run and written
-  pub wrote_round : (book after next : BookView) (r : NumberedLanes) (a b : Option (List ℕ)) (j : Journal)
+  pub wrote_round : (book after next : BookView) (r : NumberedLanes) (a b : Option (List ℕ)) (n m : List NotifierView) (j : Journal)
       → IsRoundRun settings roads r (journal_of after) → IsSameRun book after → IsBook after → IsReady settings roads after → j ≡ journal_of after
       → next ≡ record { nodes = after.nodes; wait = after.wait; first = next_position after.first after.entries; base = after.state; entries = []; state = after.state; spare = 0 }
-      → Appends a b (added_text settings.mode settings.proof r.number j) → WritesRound settings roads book r a b next
-  wrote_round book after next r a b j run same kept ready is emptied text =
+      → Appends a b (added_text settings.mode settings.proof r.number j) → HaveHeard (notices roads.nodes settings.wait j) n m → WritesRound settings roads book r a b n m next
+  wrote_round book after next r a b n m j run same kept ready is emptied text told =
       record {
         journal = j;
         is = next_journal book after r j run same is;
         text = text;
+        told = told;
         ready = record {
           nodes = ap (λ k. k.nodes) emptied ∙ ready.nodes;
           wait = ap (λ k. k.wait) emptied ∙ ready.wait;
@@ -277,26 +304,50 @@ module _ (settings : Settings) (roads : Roads) where
         entries = ap (λ k. k.entries) emptied;
       }
 
+  -- a round that was written, and whose notices weren't told
+  pub round_untold : (book : BookView) (r : NumberedLanes) (a b : Option (List ℕ)) (n m : List NotifierView) (low high : ℕ) (j : Journal) → NextJournal settings roads book r j
+      → Appends a b (added_text settings.mode settings.proof r.number j) → m ≡ n → IsRoundFault settings roads book r a b n m low high OutOfMemory
+  round_untold book r a b n m low high j is text same =
+      (inr (record { journal = j; is = is; part = begins_whole a b (added_text settings.mode settings.proof r.number j) text }), same)
+
+  -- a round that was run, and whose text wasn't written and flushed
+  pub round_unwritten : (book : BookView) (r : NumberedLanes) (a b : Option (List ℕ)) (n : List NotifierView) (low high : ℕ) (j : Journal) (s : RunStatus) → NextJournal settings roads book r j
+      → IsTextFault (added_text settings.mode settings.proof r.number j) a b low high s → IsRoundFault settings roads book r a b n n low high s
+  round_unwritten book r a b n low high j WriteFault is why = (why.0, record { journal = j; is = is; part = why.1 }, refl)
+  round_unwritten book r a b n low high j OutOfMemory is why = (inr (record { journal = j; is = is; part = why }), refl)
+  round_unwritten book r a b n low high j Done is why = absurd why
+  round_unwritten book r a b n low high j (Words fault) is why = absurd why
+  round_unwritten book r a b n low high j (Network fault) is why = absurd why
+  round_unwritten book r a b n low high j (Fleet fault) is why = absurd why
+  round_unwritten book r a b n low high j (Script fault) is why = absurd why
+  round_unwritten book r a b n low high j (TooLong f) is why = absurd why
+  round_unwritten book r a b n low high j (ReadFault f) is why = absurd why
+
+-- a text that was written, and flushed or not
+pub text_flushed : (text : List ℕ) (a b c : Option (List ℕ)) (low middle high : ℕ) (r : Result (Unit {0}) RunStatus) → low ≤ middle → Appends a b text → IsFlushed b c middle high r
+    → MatchResult r (λ _. Appends a c text) (IsTextFault text a c low high)
+text_flushed text a b c low middle high (Ok x) up h f = Appends-kept a b c text h f.bytes
+text_flushed text a b c low middle high (Err s) up h f =
+    subst (IsTextFault text a c low high) (sym f.fault.0) (omega (arith, f.fault.1, up), begins_kept a b c text (begins_whole a b text h) f.bytes)
+
+pub text_unwritten : (text : List ℕ) (a b : Option (List ℕ)) (low high : ℕ) (fault : ReportFault) (s : RunStatus)
+    → s ≡ status_of fault → AppendsPart a b text → (fault ≡ report.WriteFault → Rose low high) → IsTextFault text a b low high s
+text_unwritten text a b low high report.WriteFault s is part rose = subst (IsTextFault text a b low high) (sym is) (rose refl, (begins_part a b text part).0)
+text_unwritten text a b low high report.OutOfMemory s is part rose = subst (IsTextFault text a b low high) (sym is) (begins_part a b text part).0
+
 -- the text before the first round
 abbrev pub head_of : Inputs → List ℕ
 head_of i = first_text i.settings.mode i.settings i.roads i.vehicles
 
--- the report before the first round
-begun_none : (i : Inputs) → begun_text i [] [] ≡ head_of i
-begun_none i = append-nil (head_of i)
+pub head_unwritten : (i : Inputs) (a b : Option (List ℕ)) (n : List NotifierView) (low high : ℕ) (fault : ReportFault) (s : RunStatus)
+    → s ≡ status_of fault → AppendsPart a b (head_of i) → (fault ≡ report.WriteFault → Rose low high) → IsWritingFault i a b n n low high s
+head_unwritten i a b n low high report.WriteFault s is part rose =
+    subst (IsWritingFault i a b n n low high) (sym is) (rose refl, inl (IsPart.head (begins_part a b (head_of i) part).0 refl))
+head_unwritten i a b n low high report.OutOfMemory s is part rose =
+    subst (IsWritingFault i a b n n low high) (sym is) (IsPart.head (begins_part a b (head_of i) part).0 refl)
 
-part_of_head : (i : Inputs) (a b : Option (List ℕ)) → Begins a b (head_of i) → IsPart i a b
-part_of_head i a b begun = IsPart.rounds 0 [] tt (subst (Begins a b) (sym (begun_none i)) begun)
-
-pub head_unwritten : (i : Inputs) (a b : Option (List ℕ)) (low high : ℕ) (fault : ReportFault) (s : RunStatus)
-    → s ≡ status_of fault → AppendsPart a b (head_of i) → (fault ≡ report.WriteFault → Rose low high) → IsWritingFault i a b low high s
-head_unwritten i a b low high report.WriteFault s is part rose =
-    subst (IsWritingFault i a b low high) (sym is) (rose refl, part_of_head i a b (begins_part a b (head_of i) part).0)
-head_unwritten i a b low high report.OutOfMemory s is part rose =
-    subst (IsWritingFault i a b low high) (sym is) (part_of_head i a b (begins_part a b (head_of i) part).0)
-
-pub head_alone : (i : Inputs) (a b : Option (List ℕ)) → Appends a b (head_of i) → IsPart i a b
-head_alone i a b whole = part_of_head i a b (begins_whole a b (head_of i) whole)
+pub head_alone : (i : Inputs) (a b : Option (List ℕ)) (n : List NotifierView) → Appends a b (head_of i) → IsPart i a b n n
+head_alone i a b n whole = IsPart.head (begins_whole a b (head_of i) whole) refl
 
 -- the book of a run before its first round
 abbrev pub opened : Inputs → BookView
@@ -306,47 +357,50 @@ opened i = record { nodes = i.roads.nodes; wait = i.settings.wait; first = 0; ba
 last_position : (js : List Journal) → next_position (position_after_run 0 js) [] ≡ position_after_run 0 js
 last_position js = omega (arith, position_after_run-most 0 js (omega arith))
 
-pub report_whole : (i : Inputs) (a b c : Option (List ℕ)) → Appends a b (head_of i) → WritesRounds i.settings i.roads (opened i) i.rounds b c
-    → (journals : List Journal) × RunsRounds i i.rounds journals × Appends a c (report_text i journals)
-report_whole i a b c head w =
-    let texts = rounds_text i.settings i.rounds w.journals in (
-      w.journals,
-      w.run,
-      subst (Appends a c) (sym (append_assoc (head_of i) texts (end_text (position_after_run 0 w.journals))))
-          (Appends-trans a b c (head_of i) (texts ++ end_text (position_after_run 0 w.journals)) head
-          (subst (λ n. Appends b c (texts ++ end_text n)) (last_position w.journals) w.text)),
-    )
-
-part_of_rounds : (i : Inputs) (a b c : Option (List ℕ)) → Appends a b (head_of i)
-    → WritesFirst i.settings i.roads (opened i) i.rounds b c ⊎ LacksEnd i.settings i.roads (opened i) i.rounds b c → IsPart i a c
-unfolding begins_after
-part_of_rounds i a b c head (inl w) =
-    IsPart.rounds w.count w.journals w.run (begins_after a b c (head_of i) (rounds_text i.settings (take w.count i.rounds) w.journals) head w.text)
-part_of_rounds i a b c head (inr w) =
+pub report_whole : (i : Inputs) (a b c : Option (List ℕ)) (n m : List NotifierView) → Appends a b (head_of i) → WritesRounds i.settings i.roads (opened i) i.rounds b c n m → IsWhole i a c n m
+report_whole i a b c n m head w =
     let texts = rounds_text i.settings i.rounds w.journals in
-    let line = end_text (next_position (position_after_run 0 w.journals) []) in
-    let begun = begins_after a b c (head_of i) (texts ++ line) head w.text in
-    let whole : head_of i ++ (texts ++ line) ≡ report_text i w.journals =
-    sym (append_assoc (head_of i) texts line) ∙ ap (λ n. (head_of i ++ texts) ++ end_text n) (last_position w.journals) in
-    IsPart.last_line w.journals w.run
-    (record { written = begun.written; unwritten = begun.unwritten; whole = begun.whole ∙ whole; appends = begun.appends })
-    w.lacks
+    record {
+      journals = w.journals;
+      run = w.run;
+      text =
+          subst (Appends a c) (sym (append_assoc (head_of i) texts (end_text (position_after_run 0 w.journals))))
+          (Appends-trans a b c (head_of i) (texts ++ end_text (position_after_run 0 w.journals)) head
+          (subst (λ k. Appends b c (texts ++ end_text k)) (last_position w.journals) w.text));
+      told = w.told;
+    }
 
-pub rounds_unwritten : (i : Inputs) (a b c : Option (List ℕ)) (low middle high : ℕ) (s : RunStatus) → Appends a b (head_of i) → low ≤ middle
-    → IsRoundsFault i.settings i.roads (opened i) i.rounds b c middle high s → IsWritingFault i a c low high s
-rounds_unwritten i a b c low middle high WriteFault head up why = (omega (arith, why.0, up), part_of_rounds i a b c head why.1)
-rounds_unwritten i a b c low middle high OutOfMemory head up why = part_of_rounds i a b c head why
-rounds_unwritten i a b c low middle high Done head up why = absurd why
-rounds_unwritten i a b c low middle high (Words fault) head up why = absurd why
-rounds_unwritten i a b c low middle high (Network fault) head up why = absurd why
-rounds_unwritten i a b c low middle high (Fleet fault) head up why = absurd why
-rounds_unwritten i a b c low middle high (Script fault) head up why = absurd why
-rounds_unwritten i a b c low middle high (TooLong f) head up why = absurd why
-rounds_unwritten i a b c low middle high (ReadFault f) head up why = absurd why
+part_of_rounds : (i : Inputs) (a b c : Option (List ℕ)) (n m : List NotifierView) → Appends a b (head_of i) → IsRoundsPart i.settings i.roads (opened i) i.rounds b c n m → IsPart i a c n m
+unfolding begins_after begins_as
+part_of_rounds i a b c n m head (IsRoundsPart.whole count js run text told) =
+    IsPart.rounds count js run (Appends-trans a b c (head_of i) (rounds_text i.settings (take count i.rounds) js) head text) told
+part_of_rounds i a b c n m head (IsRoundsPart.next_round count js next run text front told) =
+    IsPart.next_round count js next run (begins_after a b c (head_of i) (rounds_text i.settings (take (count + 1) i.rounds) (js ++ next ∷ [])) head text)
+    (omega (arith, length-append (head_of i) (rounds_text i.settings (take count i.rounds) js), length-append (head_of i) text.written, front)) told
+part_of_rounds i a b c n m head (IsRoundsPart.last_line js run text front lacks told) =
+    let texts = rounds_text i.settings i.rounds js in
+    let line = end_text (next_position (position_after_run 0 js) []) in
+    let whole : head_of i ++ (texts ++ line) ≡ report_text i js =
+    sym (append_assoc (head_of i) texts line) ∙ ap (λ k. (head_of i ++ texts) ++ end_text k) (last_position js) in
+    IsPart.last_line js run (begins_as a c (head_of i ++ (texts ++ line)) (report_text i js) whole (begins_after a b c (head_of i) (texts ++ line) head text))
+    (omega (arith, length-append (head_of i) texts, length-append (head_of i) text.written, front)) lacks told
+
+pub rounds_unwritten : (i : Inputs) (a b c : Option (List ℕ)) (n m : List NotifierView) (low middle high : ℕ) (s : RunStatus) → Appends a b (head_of i) → low ≤ middle
+    → IsRoundsFault i.settings i.roads (opened i) i.rounds b c n m middle high s → IsWritingFault i a c n m low high s
+rounds_unwritten i a b c n m low middle high WriteFault head up (rose, inl part) = (omega (arith, rose, up), inl (part_of_rounds i a b c n m head part))
+rounds_unwritten i a b c n m low middle high WriteFault head up (rose, inr all) = (omega (arith, rose, up), inr (report_whole i a b c n m head all))
+rounds_unwritten i a b c n m low middle high OutOfMemory head up why = part_of_rounds i a b c n m head why
+rounds_unwritten i a b c n m low middle high Done head up why = absurd why
+rounds_unwritten i a b c n m low middle high (Words fault) head up why = absurd why
+rounds_unwritten i a b c n m low middle high (Network fault) head up why = absurd why
+rounds_unwritten i a b c n m low middle high (Fleet fault) head up why = absurd why
+rounds_unwritten i a b c n m low middle high (Script fault) head up why = absurd why
+rounds_unwritten i a b c n m low middle high (TooLong f) head up why = absurd why
+rounds_unwritten i a b c n m low middle high (ReadFault f) head up why = absurd why
 
 -- the report, from its head and from what became of the rounds
-pub report_from : (i : Inputs) (a b c : Option (List ℕ)) (low middle high : ℕ) (r : Result (Unit {0}) RunStatus) → Appends a b (head_of i) → low ≤ middle
-    → MatchResult r (λ _. WritesRounds i.settings i.roads (opened i) i.rounds b c) (IsRoundsFault i.settings i.roads (opened i) i.rounds b c middle high)
-    → MatchResult r (λ _. (journals : List Journal) × RunsRounds i i.rounds journals × Appends a c (report_text i journals)) (IsWritingFault i a c low high)
-report_from i a b c low middle high (Ok x) head up h = report_whole i a b c head h
-report_from i a b c low middle high (Err s) head up h = rounds_unwritten i a b c low middle high s head up h
+pub report_from : (i : Inputs) (a b c : Option (List ℕ)) (n m : List NotifierView) (low middle high : ℕ) (r : Result (Unit {0}) RunStatus) → Appends a b (head_of i) → low ≤ middle
+    → MatchResult r (λ _. WritesRounds i.settings i.roads (opened i) i.rounds b c n m) (IsRoundsFault i.settings i.roads (opened i) i.rounds b c n m middle high)
+    → MatchResult r (λ _. IsWhole i a c n m) (IsWritingFault i a c n m low high)
+report_from i a b c n m low middle high (Ok x) head up h = report_whole i a b c n m head h
+report_from i a b c n m low middle high (Err s) head up h = rounds_unwritten i a b c n m low middle high s head up h

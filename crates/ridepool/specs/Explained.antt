@@ -1,13 +1,11 @@
 -- How a call ends, and what stands then.
 use Rattle.std.specs.Prelude.{◌≡◌, ◌≢◌, ℕ, ◌≤◌, List, Option, Some, None, length, ◌⊎◌}
-use Rattle.std.specs.Io.KnownBytes.{Appends}
 use Rattle.fleet_state.specs.declared.fault.FleetFault.TheVariants as fleet
 use Rattle.load_maker.specs.Texts.{Texts}
 use Rattle.pool_base.specs.declared.which.Which.{Which}
 use Rattle.pool_io.specs.Faults.{Rose}
 use Rattle.pool_io.specs.declared.input.Input.TheVariants.{Rows, Own}
 use Rattle.pool_io.specs.declared.records.RowFault.TheVariants as row
-use Rattle.request_book.specs.declared.journal.Journal.{Journal}
 use Rattle.rider_limits.specs.Settings.{AreGiven}
 use Rattle.rider_limits.specs.Words.{fault_of}
 use Rattle.rider_limits.specs.declared.settings.Mode.TheVariants.{Run}
@@ -15,9 +13,9 @@ use Rattle.rider_limits.specs.declared.settings.Settings.{Settings}
 use Rattle.road_network.specs.declared.fault.NetworkFault.TheVariants as network
 use Rattle.script_rows.specs.declared.fault.ScriptFault.TheVariants as script
 use Rattle.ridepool.specs.Inputs.{Inputs, AreInputs, AreTexts, AreUntouched, IsStop, IsWithin}
-use Rattle.ridepool.specs.Report.{RunsRounds, report_text, IsPart}
+use Rattle.ridepool.specs.Report.{IsWhole, IsPart}
 use Rattle.dispatch_report.specs.Written.{Change}
-use Rattle.ridepool.specs.Seen.{Seen, Sources, SourceView, IsUntouched, source_at}
+use Rattle.ridepool.specs.Seen.{Seen, Sources, SourceView, IsSilent, source_at}
 use Rattle.ridepool.specs.declared.status.RunStatus.{RunStatus}
 use Rattle.ridepool.specs.declared.status.RunStatus.TheVariants.{Done, Words, Network, Fleet, Script, TooLong, WriteFault, OutOfMemory}
 
@@ -39,23 +37,26 @@ pub record AreAccepted (seen : Seen) (i : Inputs) : Type 0 where
   pub words : AreGood seen.words i.settings
   pub inputs : AreInputs i.settings.mode seen.sources i
 
--- a run stopped at a source, with nothing written
+-- a run stopped at a source, with nothing written and nobody told
 abbrev pub StopsRun : Seen → RunStatus → Type 0
-StopsRun seen status = AreForRun seen.words × IsStop seen.sources status × IsUntouched seen.out
+StopsRun seen status = AreForRun seen.words × IsStop seen.sources status × IsSilent seen
+
+-- the inputs pass, the report of a run of the whole script is written, and its notices were told
+abbrev pub WritesAll : Seen → Type 0
+WritesAll seen = (i : Inputs) × AreAccepted seen i × IsWhole i seen.out.before.written seen.out.after.written seen.notifiers.before seen.notifiers.after
 
 -- the inputs pass, and the report of the first rounds stands in part
 abbrev pub WritesPart : Seen → Type 0
-WritesPart seen = (i : Inputs) × AreAccepted seen i × IsPart i seen.out.before.written seen.out.after.written
+WritesPart seen = (i : Inputs) × AreAccepted seen i × IsPart i seen.out.before.written seen.out.after.written seen.notifiers.before seen.notifiers.after
 
--- why a call ended as it did, and what is written
+-- why a call ended as it did, what is written, and who was told what; where the flush behind the last line fails, the
+-- report is written whole
 abbrev pub Explains : Seen → RunStatus → Type 0
-Explains seen Done =
-    (i : Inputs) × (journals : List Journal) × AreAccepted seen i × RunsRounds i i.rounds journals
-    × Appends seen.out.before.written seen.out.after.written (report_text i journals)
-Explains seen (Words fault) = (fault_of seen.words ≡ Some fault) × AreUntouched seen.sources × IsUntouched seen.out
-Explains seen WriteFault = WritesPart seen × Rose seen.out.before.faults seen.out.after.faults
+Explains seen Done = WritesAll seen
+Explains seen (Words fault) = (fault_of seen.words ≡ Some fault) × AreUntouched seen.sources × IsSilent seen
+Explains seen WriteFault = (WritesPart seen ⊎ WritesAll seen) × Rose seen.out.before.faults seen.out.after.faults
 Explains seen OutOfMemory =
-    StopsRun seen OutOfMemory ⊎ (AreForLoad seen.words × AreUntouched seen.sources × IsUntouched seen.out) ⊎ WritesPart seen
+    StopsRun seen OutOfMemory ⊎ (AreForLoad seen.words × AreUntouched seen.sources × IsSilent seen) ⊎ WritesPart seen
 Explains seen status = StopsRun seen status
 
 -- a source tells these bytes at entry, at most 67,108,864, and no read of it fails

@@ -6,3 +6,4 @@ pub mod Explained
 pub mod Status
 pub mod Text
 pub mod work
+pub mod NoticeText

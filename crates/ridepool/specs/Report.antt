@@ -1,5 +1,5 @@
--- What a run writes: its report, or of a made workload its summary.
-use Rattle.std.specs.Prelude.{◌≡◌, ℕ, ◌<◌, Bool, List, [], ◌∷◌, ◌++◌, length, take, Option}
+-- What a run writes: its report, or of a made workload its summary; and what its riders are told.
+use Rattle.std.specs.Prelude.{◌≡◌, ℕ, ◌+◌, ◌<◌, ◌≤◌, Bool, List, [], ◌∷◌, ◌++◌, length, take, Option}
 use Rattle.std.specs.Io.KnownBytes.{Appends}
 use Rattle.batch_snapshot.specs.declared.vehicle.Vehicle.{Vehicle}
 use Rattle.dispatch_engine.specs.Run.{IsRun, position_after_run}
@@ -12,6 +12,9 @@ use Rattle.ridepool.specs.Inputs.{Inputs}
 use Rattle.rider_limits.specs.declared.settings.Mode.{Mode}
 use Rattle.rider_limits.specs.declared.settings.Mode.TheVariants.{Run, Load}
 use Rattle.rider_limits.specs.declared.settings.Settings.{Settings}
+use Rattle.rider_notices.specs.Notices.{notices}
+use Rattle.rider_notices.specs.Told.{NotifierView, HaveHeard}
+use Rattle.rider_notices.specs.declared.notice.Notice.{Notice}
 use Rattle.road_network.specs.Roads.{Roads}
 use Rattle.script_rows.specs.Round.{NumberedLanes}
 
@@ -50,10 +53,32 @@ pub record Begins (before after : Option (List ℕ)) (text : List ℕ) : Type 0 
   pub whole : written ++ unwritten ≡ text
   pub appends : Appends before after written
 
--- a run of the first rounds stands in part: what is written is a beginning of its report without the last
--- line, or a beginning of the whole report that lacks something of the last line
-pub data IsPart (i : Inputs) (before after : Option (List ℕ)) : Type 0 where
+-- the notices of a run, one journal after the other
+abbrev pub run_notices : Settings → Roads → List Journal → List Notice
+run_notices settings roads [] = []
+run_notices settings roads (j ∷ js) = notices roads.nodes settings.wait j ++ run_notices settings roads js
+
+-- the report of a run of the whole script is written, and each notifier that is left was told its notices
+pub record IsWhole (i : Inputs) (before after : Option (List ℕ)) (notifiers left : List NotifierView) : Type 0 where
+  pub journals : List Journal
+  pub run : RunsRounds i i.rounds journals
+  pub text : Appends before after (report_text i journals)
+  pub told : HaveHeard (run_notices i.settings i.roads journals) notifiers left
+
+-- a run of the first rounds stands in part
+pub data IsPart (i : Inputs) (before after : Option (List ℕ)) (notifiers left : List NotifierView) : Type 0 where
+  -- a beginning of the first lines is written, and nobody was told anything
+  head : Begins before after (first_text i.settings.mode i.settings i.roads i.vehicles) → left ≡ notifiers → IsPart i before after notifiers left
+  -- some rounds are written whole, and their notices were told
   rounds : (count : ℕ) (journals : List Journal) → RunsRounds i (take count i.rounds) journals
-      → Begins before after (begun_text i (take count i.rounds) journals) → IsPart i before after
+      → Appends before after (begun_text i (take count i.rounds) journals)
+      → HaveHeard (run_notices i.settings i.roads journals) notifiers left → IsPart i before after notifiers left
+  -- so are some rounds; and of the next, whose notices weren't told, a beginning is written
+  next_round : (count : ℕ) (journals : List Journal) (next : Journal) → RunsRounds i (take (count + 1) i.rounds) (journals ++ next ∷ [])
+      → (b : Begins before after (begun_text i (take (count + 1) i.rounds) (journals ++ next ∷ [])))
+      → length (begun_text i (take count i.rounds) journals) ≤ length b.written
+      → HaveHeard (run_notices i.settings i.roads journals) notifiers left → IsPart i before after notifiers left
+  -- so are all rounds, and a beginning of the last line that lacks something
   last_line : (journals : List Journal) → RunsRounds i i.rounds journals
-      → (b : Begins before after (report_text i journals)) → 0 < length b.unwritten → IsPart i before after
+      → (b : Begins before after (report_text i journals)) → length (begun_text i i.rounds journals) ≤ length b.written → 0 < length b.unwritten
+      → HaveHeard (run_notices i.settings i.roads journals) notifiers left → IsPart i before after notifiers left

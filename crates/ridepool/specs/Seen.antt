@@ -3,6 +3,7 @@ use Rattle.std.specs.Prelude.{◌≡◌, ℕ, List, Option}
 use Rattle.dispatch_report.specs.Written.{Change, SinkView}
 use Rattle.pool_base.specs.declared.which.Which.{Which}
 use Rattle.pool_base.specs.declared.which.Which.TheVariants.{Network, Fleet, Script}
+use Rattle.rider_notices.specs.Told.{NotifierView}
 
 -- what a source tells: the bytes still to come, if it tells any; how many came so far; how many reads failed
 pub record SourceView : Type 0 where
@@ -34,8 +35,14 @@ source_at s Network = s.network
 source_at s Fleet = s.fleet
 source_at s Script = s.script
 
--- a call: its words, its sources, and the sink of its report
+-- a call: its words, its sources, the sink of its report, and the notifiers of its riders
 pub record Seen : Type 0 where
   pub words : List (List ℕ)
   pub sources : Sources
   pub out : Change SinkView
+  pub notifiers : Change (List NotifierView)
+
+-- nothing is written and nobody was told anything
+pub record IsSilent (seen : Seen) : Type 0 where
+  pub out : IsUntouched seen.out
+  pub notifiers : IsUntouched seen.notifiers

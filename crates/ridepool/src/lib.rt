@@ -2,11 +2,12 @@
 //!
 //! A successful run prints the report of one legal journal for each round of the script, with each lane's
 //! commands once, in their order, and a good outcome for each batch; for a made workload it prints one line
-//! for each batch instead. Every other answer has its cause in the contract of the call, and a refused input
+//! for each batch instead. Behind each round its notices are told. Every other answer has its cause in the contract of the call, and a refused input
 //! leaves nothing written.
 #![tactic(auto)]
 
 mod inputs;
+mod line_notifier;
 mod reading;
 mod run;
 mod status;
@@ -15,6 +16,7 @@ mod tests;
 mod text;
 mod writing;
 
+pub use line_notifier::LineNotifier;
 pub use run::ridepool;
 pub use status::RunStatus;
 pub use text::fault_text;

@@ -3,15 +3,18 @@ ghost use Rattle.std.specs.String.{string_bytes};
 ghost use Rattle.ridepool.specs.Explained.{Answers};
 ghost use Rattle.dispatch_report.specs.Written.{sink_seen};
 ghost use Rattle.ridepool.specs.Seen.{source_seen};
+ghost use Rattle.rider_notices.specs.Seen.{notifier_seen};
 
 use crate::inputs::inputs_from;
 use crate::status::RunStatus;
 use crate::writing::write_report;
 use pool_io::{Sink, Source};
 use rider_limits::read_words;
+use rider_notices::Notifier;
 use std::alloc::Global;
 use std::sync::Wait;
 use std::thread::Threads;
+use worker_gate::Gate;
 
 /// Reads the words and the inputs, runs the script, and writes the report, or of a made workload its
 /// summary.
@@ -20,15 +23,22 @@ use std::thread::Threads;
 /// from the sources and judged in the order network, fleet, script, each to its end, and only then is
 /// anything written. For `load` they are made of the shape that the words give, and no source is touched.
 ///
-/// `Done` says that the report of a run of the whole script is written. `Words` comes exactly where the
+/// After each round its text is flushed, and then its notices are told. A notifier that fails is told no
+/// more, taken out and dropped, and changes neither report nor status; one that is sure of as many calls as
+/// the run has notices is kept.
+///
+/// `Done` says that the report of a run of the whole script is written, and that each notifier that is left
+/// was told exactly the notices of that run. `Words` comes exactly where the
 /// words are refused. For `run` alone, `Network`, `Fleet` and `Script` come exactly where that input is
 /// refused and the earlier ones pass; `TooLong` exactly where 67,108,865 bytes were taken from that source;
 /// `ReadFault` only where that source's count of faults rose. Sources behind the one that is named are
 /// untouched, and those before it were read to their ends. `WriteFault` comes only where the sink's count
 /// of faults rose. Where nothing of this is so, the answer is `Done` or `OutOfMemory`. After all of these
-/// but `WriteFault` nothing is written; after `WriteFault` and `OutOfMemory` a beginning of the report of
-/// a run of the script's first rounds stands.
-pub fn ridepool<N: Source, F: Source, S: Source, K: Sink>(
+/// but `WriteFault` nothing is written and nobody was told anything; after `WriteFault` and `OutOfMemory` a
+/// beginning of the report of a run of the script's first rounds stands, and the notices told are those of
+/// the rounds that were written whole and flushed, of all such rounds or, without memory, of all but the
+/// last. Where the flush behind the last line fails, the whole report is written.
+pub fn ridepool<N: Source, F: Source, S: Source, K: Sink, G: Gate>(
     rt: &(impl Threads + Wait + Sync),
     alloc: Global,
     words: &[String],
@@ -36,6 +46,8 @@ pub fn ridepool<N: Source, F: Source, S: Source, K: Sink>(
     fleet: &mut F,
     script: &mut S,
     out: &mut K,
+    notifiers: &mut Vec<Box<dyn Notifier>>,
+    _gate: &G,
 ) -> RunStatus
     ensures { Answers (record {
       words = map string_bytes words.now;
@@ -45,6 +57,10 @@ pub fn ridepool<N: Source, F: Source, S: Source, K: Sink>(
         script = source_seen S.left S.taken S.faults script.old script.new;
       };
       out = sink_seen K.written K.faults out.old out.new;
+      notifiers = record {
+        before = map (λ n. notifier_seen (⟦<dyn Notifier as Notifier>⟧ n.vtable) n.value) notifiers.old.items;
+        after = map (λ n. notifier_seen (⟦<dyn Notifier as Notifier>⟧ n.vtable) n.value) notifiers.new.items;
+      };
     }) result }
 {
     let settings = match read_words(words) {
@@ -55,7 +71,7 @@ pub fn ridepool<N: Source, F: Source, S: Source, K: Sink>(
         Ok(inputs) => inputs,
         Err(status) => return status,
     };
-    match write_report(rt, alloc, out, &settings, inputs) {
+    match write_report(rt, alloc, out, &settings, inputs, notifiers) {
         Ok(()) => RunStatus::Done,
         Err(status) => status,
     }

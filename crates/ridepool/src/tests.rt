@@ -5,6 +5,7 @@ use std::alloc::{AllocError, Global};
 use std::sync::Wait;
 use std::test::Fail;
 use std::thread::Threads;
+use worker_gate::FreeGate;
 
 const NETWORK: &[u8] =
     b"from,to,seconds\n1,2,60\n2,1,60\n2,3,60\n3,2,60\n3,4,60\n4,3,60\n4,5,60\n5,4,60\n";
@@ -50,6 +51,8 @@ fn shown(
         &mut fleet,
         &mut script,
         &mut out,
+        &mut Vec::new(alloc),
+        &FreeGate,
     );
     line_before(alloc, &status, out.written())
 }
@@ -75,6 +78,8 @@ fn summed_up(
         &mut fleet,
         &mut script,
         &mut out,
+        &mut Vec::new(alloc),
+        &FreeGate,
     );
     line_before(alloc, &status, out.written())
 }

@@ -56,7 +56,7 @@ fn put_status(text: &mut Vec<u8>, status: &RunStatus) -> Result<(), OutOfMemory>
 }
 
 #[tactic(auto, unfolding(dispatch_report::specs::Words::numbered))]
-fn put_at(text: &mut Vec<u8>, words: &[u8], number: u64) -> Result<(), OutOfMemory>
+pub(crate) fn put_at(text: &mut Vec<u8>, words: &[u8], number: u64) -> Result<(), OutOfMemory>
     ensures { OnOk result (text.new.items ≡ text.old.items ++ numbered words.now number) }
 {
     put_bytes(text, words)?;

@@ -6,14 +6,16 @@
 
 use pool_base::OutOfMemory;
 use pool_io::{StdSink, StdSource};
-use ridepool::{RunStatus, fault_text, ridepool};
-use rider_limits::value_of;
+use ridepool::{LineNotifier, RunStatus, fault_text, ridepool};
+use rider_limits::{read_words, value_of};
+use rider_notices::Notifier;
 use std::fs::File;
 use std::io::{BufWriter, Write};
 use std::process::ExitCode;
 use std::sync::Wait;
 use std::thread::Threads;
 use std::{env, io};
+use worker_gate::FreeGate;
 
 const HELP: &str = "\
 usage: ridepool run network=FILE fleet=FILE script=FILE [KEY=VALUE ..]
@@ -27,6 +29,7 @@ For `run`:
   network=FILE   streets: from,to,seconds
   fleet=FILE     vehicles: vehicle,seats,node,second
   script=FILE    commands: round,lane,command,a,b,c,d and, for parties, e
+  notices=FILE   where to write what riders are told: a line for each rider of each batch (none)
   proof=0|1      print the tree that shows the bound (0)
 
 For `load`:
@@ -113,6 +116,17 @@ fn run(rt: &HostRuntime, threads: &(impl Threads + Wait + Sync), words: &[String
     let Ok(mut output) = BufWriter::new(rt.alloc(), rt.stdout()) else {
         return RunStatus::OutOfMemory;
     };
+    let mut notifiers: Vec<Box<dyn Notifier>> = Vec::new(rt.alloc());
+    if let Some(path) = notices_path(words) {
+        let notifier = LineNotifier::over(rt.alloc(), File::create(rt, path).ok());
+        let Ok(boxed) = Box::new(rt.alloc(), notifier) else {
+            return RunStatus::OutOfMemory;
+        };
+        if notifiers.push(boxed).is_err() {
+            return RunStatus::OutOfMemory;
+        }
+    }
+    let given = notifiers.len();
     let mut network = source_of(rt, words, "network");
     let mut fleet = source_of(rt, words, "fleet");
     let mut script = source_of(rt, words, "script");
@@ -125,10 +139,20 @@ fn run(rt: &HostRuntime, threads: &(impl Threads + Wait + Sync), words: &[String
         &mut fleet,
         &mut script,
         &mut sink,
+        &mut notifiers,
+        &FreeGate,
     );
-    match (output.flush(), status) {
-        (Err(_), RunStatus::Done) => RunStatus::WriteFault,
-        (_, status) => status,
+    if notifiers.len() < given {
+        print_line(rt, b"notices: write failed");
+    }
+    status
+}
+
+/// The file for notices, where the words are good and name one: faulty words touch no file.
+fn notices_path(words: &[String]) -> Option<&str> {
+    match read_words(words) {
+        Ok(_) => value_of(words, "notices"),
+        Err(_) => None,
     }
 }
 
@@ -148,11 +172,16 @@ fn report(rt: &HostRuntime, status: &RunStatus) -> ExitCode {
     let code = status.code();
     if code != 0 {
         if let Ok(text) = fault_text(rt.alloc(), status) {
-            let mut line = rt.stderr();
-            let _ = line.write_all(b"ridepool: ");
-            let _ = line.write_all(&text);
-            let _ = line.write_all(b"\n");
+            print_line(rt, &text);
         }
     }
     ExitCode::from(code)
+}
+
+/// Prints a line of the program to standard error.
+fn print_line(rt: &HostRuntime, text: &[u8]) {
+    let mut line = rt.stderr();
+    let _ = line.write_all(b"ridepool: ");
+    let _ = line.write_all(text);
+    let _ = line.write_all(b"\n");
 }

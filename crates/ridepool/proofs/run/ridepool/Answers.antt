@@ -3,10 +3,10 @@ use Rattle.ridepool.proofs.ExitLemmas.{words_answer, input_answer, done_answer, 
 use Rattle.ridepool.proofs.run.ridepool.Goals as goal
 
 pub returns-in-Err : goal.returns-in-Err
-returns-in-Err g c = words_answer _ c.in-Err.fault c.in-Err.ensures.refused (record { network = refl; fleet = refl; script = refl }) refl
+returns-in-Err g c = words_answer _ c.in-Err.fault c.in-Err.ensures.refused (record { network = refl; fleet = refl; script = refl }) (record { out = refl; notifiers = refl })
 
 pub returns-in-Err-inputs_from : goal.returns-in-Err-inputs_from
-returns-in-Err-inputs_from g c = input_answer _ c.in-Ok.settings c.in-Err-inputs_from.status (record { faultless = c.in-Ok.ensures.accepted.0; given = c.in-Ok.ensures.accepted.1 }) c.in-Err-inputs_from.ensures.got refl
+returns-in-Err-inputs_from g c = input_answer _ c.in-Ok.settings c.in-Err-inputs_from.status (record { faultless = c.in-Ok.ensures.accepted.0; given = c.in-Ok.ensures.accepted.1 }) c.in-Err-inputs_from.ensures.got (record { out = refl; notifiers = refl })
 
 pub returns-in-Ok-write_report : goal.returns-in-Ok-write_report
 returns-in-Ok-write_report g c = done_answer _ c.in-Ok.settings c.in-Ok-inputs_from.inputs (record { faultless = c.in-Ok.ensures.accepted.0; given = c.in-Ok.ensures.accepted.1 }) c.in-Ok-inputs_from.ensures.got c.in-Ok-write_report.ensures.report

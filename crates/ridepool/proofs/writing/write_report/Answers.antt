@@ -9,13 +9,13 @@ use Rattle.ridepool.proofs.writing.write_report.Goals as goal
 pub returns-in-Err-clause-report : goal.returns-in-Err-clause-report
 returns-in-Err-clause-report g c =
     let i : Inputs = record { settings = c.args.settings.now; roads = c.args.inputs.network; vehicles = c.args.inputs.fleet; rounds = c.args.inputs.script } in
-    head_unwritten i (g.K.Sink.written c.args.out.now) (g.K.Sink.written c.write_first.new.out) (g.K.Sink.faults c.args.out.now) (g.K.Sink.faults c.write_first.new.out)
+    head_unwritten i (g.K.Sink.written c.args.out.now) (g.K.Sink.written c.write_first.new.out) _ (g.K.Sink.faults c.args.out.now) (g.K.Sink.faults c.write_first.new.out)
     c.in-Err.fault c.status_of.result c.status_of.ensures c.in-Err.ensures.bytes (λ is. c.in-Err.ensures.fault (ap Err is))
 
 pub returns-in_default-new-clause-report : goal.returns-in_default-new-clause-report
 returns-in_default-new-clause-report g c =
     let i : Inputs = record { settings = c.args.settings.now; roads = c.args.inputs.network; vehicles = c.args.inputs.fleet; rounds = c.args.inputs.script } in
-    head_alone i (g.K.Sink.written c.args.out.now) (g.K.Sink.written c.write_first.new.out) c.in_default.ensures.bytes
+    head_alone i (g.K.Sink.written c.args.out.now) (g.K.Sink.written c.write_first.new.out) _ c.in_default.ensures.bytes
 
 pub returns-clause-report : goal.returns-clause-report
 returns-clause-report g c =
@@ -25,9 +25,6 @@ returns-clause-report g c =
     let after = g.K.Sink.written c.write_rounds.new.out in
     let middle = g.K.Sink.faults c.write_first.new.out in
     let high = g.K.Sink.faults c.write_rounds.new.out in
-    let P : BookView → List NumberedLanes → Type 0 =
-    λ book rounds. MatchResult c.write_rounds.result (λ _. WritesRounds c.args.settings.now c.args.inputs.network book rounds here after)
-    (IsRoundsFault c.args.settings.now c.args.inputs.network book rounds here after middle high) in
-    report_from i before here after (g.K.Sink.faults c.args.out.now) middle high c.write_rounds.result c.in_default.ensures.bytes c.write_first.ensures.never_falls
-    (subst (λ rounds. P (opened i) rounds) c.rounds.ensures
-    (subst (λ book. P book c.rounds.result.now) c.in-Ok.ensures c.write_rounds.ensures.rounds))
+    report_from i before here after _ _ (g.K.Sink.faults c.args.out.now) middle high c.write_rounds.result c.in_default.ensures.bytes c.write_first.ensures.never_falls
+    (subst (λ rounds. MatchResult c.write_rounds.result (λ _. WritesRounds i.settings i.roads (opened i) rounds here after _ _) (IsRoundsFault i.settings i.roads (opened i) rounds here after _ _ middle high)) c.rounds.ensures
+    (subst (λ book. MatchResult c.write_rounds.result (λ _. WritesRounds i.settings i.roads book c.rounds.result.now here after _ _) (IsRoundsFault i.settings i.roads book c.rounds.result.now here after _ _ middle high)) c.in-Ok.ensures c.write_rounds.ensures.rounds))
