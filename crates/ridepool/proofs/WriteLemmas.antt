@@ -4,7 +4,7 @@ use Rattle.std.specs.Prelude.{◌⊎◌, IfErr}
 use Rattle.std.specs.Io.KnownBytes.{Appends, Keeps}
 use Rattle.std.proofs.KnownBytes.{Appends-nil, Appends-trans, Appends-kept}
 use Rattle.std.proofs.lemmas.List.{take-append-drop, length-append, length-drop}
-use Rattle.std.proofs.Math.Seq.{take-suc}
+use Rattle.std.proofs.Math.Seq.{take-suc, take-length}
 use Rattle.pool_io.specs.Sink.{AppendsPart}
 use Rattle.dispatch_engine.specs.Run.{IsReady, IsRoundRun, IsRun, IsSameRun, position_after_run, journal_of}
 use Rattle.dispatch_engine.specs.work.Run.{state_after_run}
@@ -176,6 +176,10 @@ module _ (settings : Settings) (roads : Roads) where
       → HasWritten book (take i rounds) a b n m current → WritesRound settings roads current r b c m k next → HasWritten book (take (i + 1) rounds) a c n k next
   written_next book current next rounds i r a b c n m k within is w x =
       subst (λ rs. HasWritten book rs a c n k next) (take_next rounds i r within is) (written_more book current next (take i rounds) r a b c n m k w x)
+
+  pub written_whole : (book current : BookView) (rounds : List NumberedLanes) (i : ℕ) (a b : Option (List ℕ)) (n m : List NotifierView) → i ≡ length rounds
+      → HasWritten book (take i rounds) a b n m current → HasWritten book rounds a b n m current
+  written_whole book current rounds i a b n m end w = subst (λ rs. HasWritten book rs a b n m current) (ap (λ k. take k rounds) end ∙ take-length rounds) w
 
   -- nothing of a round's text, and some of it
   stays_part : (book current : BookView) (rounds : List NumberedLanes) (i : ℕ) (a b c : Option (List ℕ)) (n m : List NotifierView)
@@ -404,3 +408,13 @@ pub report_from : (i : Inputs) (a b c : Option (List ℕ)) (n m : List NotifierV
     → MatchResult r (λ _. IsWhole i a c n m) (IsWritingFault i a c n m low high)
 report_from i a b c n m low middle high (Ok x) head up h = report_whole i a b c n m head h
 report_from i a b c n m low middle high (Err s) head up h = rounds_unwritten i a b c n m low middle high s head up h
+
+-- the same of a book and rounds that are those of the inputs
+pub report_of : (i : Inputs) (book : BookView) (rounds : List NumberedLanes) (a b c : Option (List ℕ)) (n m : List NotifierView) (low middle high : ℕ) (r : Result (Unit {0}) RunStatus)
+    → book ≡ opened i → rounds ≡ i.rounds → Appends a b (head_of i) → low ≤ middle
+    → MatchResult r (λ _. WritesRounds i.settings i.roads book rounds b c n m) (IsRoundsFault i.settings i.roads book rounds b c n m middle high)
+    → MatchResult r (λ _. IsWhole i a c n m) (IsWritingFault i a c n m low high)
+report_of i book rounds a b c n m low middle high r first all head up h =
+    report_from i a b c n m low middle high r head up
+    (subst (λ rs. MatchResult r (λ _. WritesRounds i.settings i.roads (opened i) rs b c n m) (IsRoundsFault i.settings i.roads (opened i) rs b c n m middle high)) all
+    (subst (λ k. MatchResult r (λ _. WritesRounds i.settings i.roads k rounds b c n m) (IsRoundsFault i.settings i.roads k rounds b c n m middle high)) first h))

@@ -1,14 +1,13 @@
 ghost use Rattle.std.specs.Prelude.{◌≡◌, ◌++◌, ℕ, None, OnOk};
 ghost use Rattle.ridepool.specs.NoticeText.{notice_text};
 
+use crate::text::put_at;
 use pool_base::{OutOfMemory, put_bytes};
 use pool_io::Failed;
 use rider_notices::{Notice, Notifier};
 use std::alloc::Global;
 use std::io::Write;
 use std::marker::Model;
-
-use crate::text::put_at;
 
 /// A notifier over one of std's writers, which writes each notice as a line.
 ///

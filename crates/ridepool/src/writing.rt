@@ -73,8 +73,7 @@ fn write_rounds<K: Sink>(
 ) -> Result<(), RunStatus>
     requires ready { IsReady settings.now network.now book }
     requires empty { book.entries ≡ [] }
-    ensures rounds {
-        let all = map (λ n. notifier_seen (⟦<dyn Notifier as Notifier>⟧ n.vtable) n.value) notifiers.old.items in
+    ensures rounds { let all = map (λ n. notifier_seen (⟦<dyn Notifier as Notifier>⟧ n.vtable) n.value) notifiers.old.items in
         let left = map (λ n. notifier_seen (⟦<dyn Notifier as Notifier>⟧ n.vtable) n.value) notifiers.new.items in
         MatchResult result
         (λ _. WritesRounds settings.now network.now book rounds.now (K.written out.old) (K.written out.new) all left)
@@ -104,8 +103,7 @@ fn write_next<K: Sink>(
 ) -> Result<Book, RunStatus>
     requires ready { IsReady settings.now network.now book }
     requires empty { book.entries ≡ [] }
-    ensures round {
-        let all = map (λ n. notifier_seen (⟦<dyn Notifier as Notifier>⟧ n.vtable) n.value) notifiers.old.items in
+    ensures round { let all = map (λ n. notifier_seen (⟦<dyn Notifier as Notifier>⟧ n.vtable) n.value) notifiers.old.items in
         let left = map (λ n. notifier_seen (⟦<dyn Notifier as Notifier>⟧ n.vtable) n.value) notifiers.new.items in
         MatchResult result
         (WritesRound settings.now network.now book round.now (K.written out.old) (K.written out.new) all left)
@@ -136,8 +134,7 @@ fn tell_journal(
     wait: u32,
 ) -> Result<(), OutOfMemory>
     requires { IsConsistent journal.now.base }
-    ensures {
-        let all = map (λ n. notifier_seen (⟦<dyn Notifier as Notifier>⟧ n.vtable) n.value) notifiers.old.items in
+    ensures { let all = map (λ n. notifier_seen (⟦<dyn Notifier as Notifier>⟧ n.vtable) n.value) notifiers.old.items in
         let left = map (λ n. notifier_seen (⟦<dyn Notifier as Notifier>⟧ n.vtable) n.value) notifiers.new.items in
         MatchResult result (λ _. HaveHeard (notices network.now.nodes wait journal.now) all left) (λ _. left ≡ all) }
 {

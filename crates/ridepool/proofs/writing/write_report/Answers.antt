@@ -1,9 +1,6 @@
-use Rattle.std.proofs.Common.{List, Err, MatchResult, ap, subst}
-use Rattle.request_book.specs.Book.{BookView}
-use Rattle.script_rows.specs.Round.{NumberedLanes}
+use Rattle.std.proofs.Common.{Err, ap}
 use Rattle.ridepool.specs.Inputs.{Inputs}
-use Rattle.ridepool.specs.work.Writing.{WritesRounds, IsRoundsFault}
-use Rattle.ridepool.proofs.WriteLemmas.{head_unwritten, head_alone, opened, report_from}
+use Rattle.ridepool.proofs.WriteLemmas.{head_unwritten, head_alone, report_of}
 use Rattle.ridepool.proofs.writing.write_report.Goals as goal
 
 pub returns-in-Err-clause-report : goal.returns-in-Err-clause-report
@@ -25,6 +22,5 @@ returns-clause-report g c =
     let after = g.K.Sink.written c.write_rounds.new.out in
     let middle = g.K.Sink.faults c.write_first.new.out in
     let high = g.K.Sink.faults c.write_rounds.new.out in
-    report_from i before here after _ _ (g.K.Sink.faults c.args.out.now) middle high c.write_rounds.result c.in_default.ensures.bytes c.write_first.ensures.never_falls
-    (subst (λ rounds. MatchResult c.write_rounds.result (λ _. WritesRounds i.settings i.roads (opened i) rounds here after _ _) (IsRoundsFault i.settings i.roads (opened i) rounds here after _ _ middle high)) c.rounds.ensures
-    (subst (λ book. MatchResult c.write_rounds.result (λ _. WritesRounds i.settings i.roads book c.rounds.result.now here after _ _) (IsRoundsFault i.settings i.roads book c.rounds.result.now here after _ _ middle high)) c.in-Ok.ensures c.write_rounds.ensures.rounds))
+    report_of i c.in-Ok.book c.rounds-rounds.result.now before here after _ _ (g.K.Sink.faults c.args.out.now) middle high c.write_rounds.result
+    c.in-Ok.ensures c.rounds-rounds.ensures c.in_default.ensures.bytes c.write_first.ensures.never_falls c.write_rounds.ensures.rounds

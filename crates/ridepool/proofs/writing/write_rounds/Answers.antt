@@ -1,7 +1,6 @@
-use Rattle.std.proofs.Common.{◌<◌, ◌≡◌, Err, length, take, ap, subst, arith, ◌∙◌}
+use Rattle.std.proofs.Common.{◌<◌, ◌≡◌, Err, length, ap, arith}
 use Rattle.std.proofs.lemmas.Result.{err_from_is_err_and}
-use Rattle.std.proofs.Math.Seq.{take-length}
-use Rattle.ridepool.proofs.WriteLemmas.{HasWritten, written_none, written_next, written_all, round_fault, end_unwritten, lacks_end, flushed_end}
+use Rattle.ridepool.proofs.WriteLemmas.{written_none, written_next, written_whole, written_all, round_fault, end_unwritten, lacks_end, flushed_end}
 use Rattle.ridepool.proofs.writing.write_rounds.Goals as goal
 
 pub loop-round-init : goal.loop-round-init
@@ -37,12 +36,11 @@ returns-in-Ok-clause-rounds g c =
     let before = g.K.Sink.written c.args.out.now in
     let here = g.K.Sink.written c.loop-round.out in
     let end : i ≡ length rounds = omega arith in
-    let whole : take i rounds ≡ rounds = ap (λ n. take n rounds) end ∙ take-length rounds in
-    let all = subst (λ rs. HasWritten c.args.settings.now c.args.network.now c.args.book rs before here _ _ c.loop-round.current) whole c.loop-round.invariant.0 in
     flushed_end c.args.settings.now c.args.network.now c.args.book rounds before (g.K.Sink.written c.write_end.new.sink) (g.K.Sink.written c.flush.new.out) _ _
     (g.K.Sink.faults c.args.out.now) (g.K.Sink.faults c.write_end.new.sink) (g.K.Sink.faults c.flush.new.out) c.flush.result
     (omega (arith, c.loop-round.invariant.1, c.write_end.ensures.never_falls))
-    (written_all c.args.settings.now c.args.network.now c.args.book c.loop-round.current rounds before here (g.K.Sink.written c.write_end.new.sink) _ _ c.next_position.result all c.next_position.ensures c.in-Ok.ensures.bytes)
+    (written_all c.args.settings.now c.args.network.now c.args.book c.loop-round.current rounds before here (g.K.Sink.written c.write_end.new.sink) _ _ c.next_position.result
+    (written_whole c.args.settings.now c.args.network.now c.args.book c.loop-round.current rounds i before here _ _ end c.loop-round.invariant.0) c.next_position.ensures c.in-Ok.ensures.bytes)
     c.flush.ensures
 
 pub returns-clause-rounds : goal.returns-clause-rounds
@@ -53,9 +51,8 @@ returns-clause-rounds g c =
     let here = g.K.Sink.written c.loop-round.out in
     let after = g.K.Sink.written c.write_end.new.sink in
     let end : i ≡ length rounds = omega arith in
-    let whole : take i rounds ≡ rounds = ap (λ n. take n rounds) end ∙ take-length rounds in
-    let all = subst (λ rs. HasWritten c.args.settings.now c.args.network.now c.args.book rs before here _ _ c.loop-round.current) whole c.loop-round.invariant.0 in
     end_unwritten c.args.settings.now c.args.network.now c.args.book rounds before after _ _ (g.K.Sink.faults c.args.out.now) (g.K.Sink.faults c.loop-round.out) (g.K.Sink.faults c.write_end.new.sink)
     c.in-Err.fault c.status_of.result c.status_of.ensures
-    (lacks_end c.args.settings.now c.args.network.now c.args.book c.loop-round.current rounds before here after _ _ c.next_position.result all c.next_position.ensures c.in-Err.ensures.bytes)
+    (lacks_end c.args.settings.now c.args.network.now c.args.book c.loop-round.current rounds before here after _ _ c.next_position.result
+    (written_whole c.args.settings.now c.args.network.now c.args.book c.loop-round.current rounds i before here _ _ end c.loop-round.invariant.0) c.next_position.ensures c.in-Err.ensures.bytes)
     c.loop-round.invariant.1 (λ is. c.in-Err.ensures.fault (ap Err is))
