@@ -111,11 +111,8 @@ fn print_page(rt: &HostRuntime, page: &str) -> RunStatus {
     }
 }
 
-/// Runs the words on the files that they name, with standard output as the sink.
+/// Runs the words on the files that they name. A notifier that failed is told on standard error.
 fn run(rt: &HostRuntime, threads: &(impl Threads + Wait + Sync), words: &[String]) -> RunStatus {
-    let Ok(mut output) = BufWriter::new(rt.alloc(), rt.stdout()) else {
-        return RunStatus::OutOfMemory;
-    };
     let mut notifiers: Vec<Box<dyn Notifier>> = Vec::new(rt.alloc());
     if let Some(path) = notices_path(words) {
         let notifier = LineNotifier::over(rt.alloc(), File::create(rt, path).ok());
@@ -127,11 +124,28 @@ fn run(rt: &HostRuntime, threads: &(impl Threads + Wait + Sync), words: &[String
         }
     }
     let given = notifiers.len();
+    let status = run_files(rt, threads, words, &mut notifiers);
+    if notifiers.len() < given {
+        print_line(rt, b"notices: write failed");
+    }
+    status
+}
+
+/// Runs the words on the files that they name, with standard output as the sink.
+fn run_files(
+    rt: &HostRuntime,
+    threads: &(impl Threads + Wait + Sync),
+    words: &[String],
+    notifiers: &mut Vec<Box<dyn Notifier>>,
+) -> RunStatus {
+    let Ok(mut output) = BufWriter::new(rt.alloc(), rt.stdout()) else {
+        return RunStatus::OutOfMemory;
+    };
     let mut network = source_of(rt, words, "network");
     let mut fleet = source_of(rt, words, "fleet");
     let mut script = source_of(rt, words, "script");
     let mut sink = StdSink::over(&mut output);
-    let status = ridepool(
+    ridepool(
         threads,
         rt.alloc(),
         words,
@@ -139,13 +153,9 @@ fn run(rt: &HostRuntime, threads: &(impl Threads + Wait + Sync), words: &[String
         &mut fleet,
         &mut script,
         &mut sink,
-        &mut notifiers,
+        notifiers,
         &FreeGate,
-    );
-    if notifiers.len() < given {
-        print_line(rt, b"notices: write failed");
-    }
-    status
+    )
 }
 
 /// The file for notices, where the words are good and name one: faulty words touch no file.
