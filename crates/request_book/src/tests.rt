@@ -5,9 +5,7 @@ use crate::BookRefusal::{
     VehicleFull,
 };
 use crate::Reply::{Accepted, Closed, Dropped, Picked, Placed, Refused, Sealed};
-use crate::{
-    Answer, Book, ChosenTrip, Command, Outcome, Planned, PlannedStop, Replay, Reply, Status,
-};
+use crate::{Answer, Book, ChosenTrip, Command, Outcome, Planned, PlannedStop, Reply, Status};
 use arrayvec::ArrayVec;
 use batch_snapshot::{Promise, Snapshot};
 use fleet_state::read_fleet;
@@ -17,6 +15,8 @@ use pool_io::rows;
 use road_network::{Network, read_network};
 use std::alloc::{AllocError, Global};
 use std::test::Fail;
+
+mod replaying;
 
 const LINE: &[u8] =
     b"from,to,seconds\n1,2,60\n2,1,60\n2,3,60\n3,2,60\n3,4,60\n4,3,60\n4,5,60\n5,4,60\n";
@@ -758,62 +758,6 @@ fn copies(alloc: Global) -> Result<bool, AllocError> {
     Ok(other.is_none() & copied)
 }
 
-/// Whether a replay of the entries since the round's base comes to the book's batch and statuses.
-fn is_replayed(alloc: Global, book: &mut Book, riders: &[RiderId]) -> bool {
-    let Ok(journal) = book.take_round() else {
-        return false;
-    };
-    let Ok(network) = network(alloc) else {
-        return false;
-    };
-    let Ok(mut replay) = Replay::of(alloc, &network, 120, &journal.base) else {
-        return false;
-    };
-    for entry in journal.entries.as_slice() {
-        match replay.run(&entry.command) {
-            Ok(reply) if reply == entry.reply => {}
-            _ => return false,
-        }
-    }
-    for rider in riders {
-        if replay.status_of(*rider) != book.status_of(*rider) {
-            return false;
-        }
-    }
-    match replay.sealed() {
-        Some(batch) => shows(
-            alloc,
-            batch,
-            "1 at 121: 1 vehicles, riders [2, 3], expired [1]",
-        ),
-        None => false,
-    }
-}
-
-/// Whether a replay from the base of a second round tells what the book does.
-fn replays(alloc: Global) -> Result<bool, AllocError> {
-    let mut book = book(alloc, ONE)?;
-    let first = [
-        (Ask::Submit(1, 2, 4, 0), Accepted),
-        (Ask::Submit(2, 2, 4, 1), Accepted),
-    ];
-    let second = [
-        (Ask::Submit(3, 2, 4, 2), Accepted),
-        (Ask::Submit(3, 2, 4, 2), Refused(DuplicateRider)),
-        (Ask::Seal(121), Sealed { batch: 1 }),
-    ];
-    let begun = round(alloc, &mut book, &first).is_some();
-    let other = first_other(alloc, &mut book, &second);
-    let riders = [rider_id(1), rider_id(2), rider_id(3), rider_id(4)];
-    Ok(begun & other.is_none() & is_replayed(alloc, &mut book, &riders))
-}
-
-#[test]
-fn a_replay_comes_to_the_state_of_the_book(rt: HostRuntime) -> Result<(), Fail> {
-    assert!(rt; replays(rt.alloc())?);
-    Ok(())
-}
-
 #[test]
 fn answers_with_memory(rt: HostRuntime) -> Result<(), Fail> {
     let alloc = rt.alloc();
@@ -822,7 +766,7 @@ fn answers_with_memory(rt: HostRuntime) -> Result<(), Fail> {
     let text = "1 at 0: 1 vehicles, riders [1], expired []";
     assert!(rt; seals(alloc, ONE, &script, 0, text)?);
     assert!(rt; copies(alloc)?);
-    assert!(rt; replays(alloc)?);
+    assert!(rt; replaying::replays(alloc)?);
     let told = [Some([0, 0, 1, 1]), Some([1, 1, 0, 1]), Some([1, 1, 0, 1])];
     assert!(rt; rounds(alloc, &script, &[])? == told);
     Ok(())

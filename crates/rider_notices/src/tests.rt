@@ -1,0 +1,248 @@
+//! Notices of worked journals on a line of five nodes, 60 seconds between neighbours, and who is told them.
+use crate::{MemoryNotifier, Notice, Notifier, notices_of, tell_all};
+use arrayvec::ArrayVec;
+use fleet_state::read_fleet;
+use plan_rules::Tree;
+use pool_base::{NodeId, Party, RiderId, Second, Sequence, VehicleId};
+use pool_io::rows;
+use request_book::{Answer, Book, ChosenTrip, Command, Outcome, Planned, PlannedStop};
+use road_network::{Network, read_network};
+use std::alloc::{AllocError, Global};
+use std::test::Fail;
+
+const LINE: &[u8] =
+    b"from,to,seconds\n1,2,60\n2,1,60\n2,3,60\n3,2,60\n3,4,60\n4,3,60\n4,5,60\n5,4,60\n";
+
+const FLEET: &[u8] = b"vehicle,seats,node,second\n1,4,1,0\n";
+
+fn rider(name: u64) -> RiderId {
+    RiderId::new(name).unwrap_or(RiderId::default())
+}
+
+fn vehicle(name: u64) -> VehicleId {
+    VehicleId::new(name).unwrap_or(VehicleId::default())
+}
+
+fn node(name: u64) -> NodeId {
+    NodeId::new(name).unwrap_or(NodeId::default())
+}
+
+fn second(number: u64) -> Second {
+    Second::new(number).unwrap_or(Second::default())
+}
+
+fn network(alloc: Global) -> Option<Network> {
+    match rows(alloc, LINE, b"from,to,seconds") {
+        Ok(rows) => read_network(alloc, &rows).ok(),
+        Err(_) => None,
+    }
+}
+
+// The book of one vehicle on the line, where a rider waits for 120 seconds at most.
+fn book(alloc: Global, network: &Network) -> Option<Book> {
+    match rows(alloc, FLEET, b"vehicle,seats,node,second") {
+        Ok(rows) => match read_fleet(alloc, &rows, network) {
+            Ok(fleet) => Book::new(alloc, network, fleet, 120).ok(),
+            Err(_) => None,
+        },
+        Err(_) => None,
+    }
+}
+
+fn submit(name: u64) -> Command {
+    Command::Submit {
+        rider: rider(name),
+        origin: node(2),
+        destination: node(4),
+        time: second(0),
+        party: Party::ONE,
+    }
+}
+
+fn stop(pick: bool, name: u64, at: u64, time: u64) -> PlannedStop {
+    PlannedStop {
+        pick,
+        rider: rider(name),
+        node: node(at),
+        second: time,
+    }
+}
+
+// The trip that picks rider 1 up at second 60 and drops her at 180.
+fn trip() -> ChosenTrip {
+    let mut stops = ArrayVec::new();
+    stops.push(stop(true, 1, 2, 60));
+    stops.push(stop(false, 1, 4, 180));
+    ChosenTrip {
+        vehicle: vehicle(1),
+        cost: 60,
+        stops,
+    }
+}
+
+// A plan of that trip alone.
+fn plan(alloc: Global) -> Result<Answer, AllocError> {
+    let mut chosen = Vec::new(alloc);
+    chosen.push(trip())?;
+    Ok(Answer::Planned(Planned {
+        lapsed: Sequence::empty(alloc),
+        late: Sequence::empty(alloc),
+        rv: Sequence::empty(alloc),
+        rr: Sequence::empty(alloc),
+        rows: Sequence::empty(alloc),
+        chosen: Sequence::of(chosen),
+        left: Sequence::empty(alloc),
+        moves: Sequence::empty(alloc),
+        cost: 60,
+        bound: 60,
+        tree: Tree::of(Vec::new(alloc)),
+    }))
+}
+
+fn close(alloc: Global, answer: Answer) -> Command {
+    Command::Close {
+        batch: 1,
+        outcome: Outcome {
+            expired: Sequence::empty(alloc),
+            answer,
+        },
+    }
+}
+
+fn took(book: &mut Book, command: Command) -> bool {
+    book.apply(0, command).is_ok()
+}
+
+// What happens between the seal of a batch of riders 1 and 2 and its close.
+#[derive(Clone, Copy)]
+enum Course {
+    Plan,
+    PlanAfterACancel,
+    Overflow,
+}
+
+fn closed(alloc: Global, book: &mut Book, course: Course) -> bool {
+    match course {
+        Course::Overflow => took(book, close(alloc, Answer::Overflow)),
+        Course::Plan => planned(alloc, book),
+        Course::PlanAfterACancel => {
+            took(book, Command::Cancel { rider: rider(1) }) & planned(alloc, book)
+        }
+    }
+}
+
+fn planned(alloc: Global, book: &mut Book) -> bool {
+    match plan(alloc) {
+        Ok(answer) => took(book, close(alloc, answer)),
+        Err(_) => false,
+    }
+}
+
+fn ran(alloc: Global, book: &mut Book, course: Course) -> bool {
+    let asked = took(book, submit(1)) & took(book, submit(2));
+    let sealed = took(book, Command::Seal { now: second(0) });
+    asked & sealed & closed(alloc, book, course)
+}
+
+// The notices of a batch that took this course.
+fn told(alloc: Global, course: Course) -> Option<Vec<Notice>> {
+    let network = network(alloc)?;
+    let mut book = book(alloc, &network)?;
+    if !ran(alloc, &mut book, course) {
+        return None;
+    }
+    match book.take_round() {
+        Ok(journal) => notices_of(alloc, &journal, &network, 120).ok(),
+        Err(_) => None,
+    }
+}
+
+fn promised() -> Notice {
+    Notice::Promised {
+        batch: 1,
+        rider: rider(1),
+        vehicle: vehicle(1),
+        pickup: 60,
+        dropoff: 180,
+    }
+}
+
+fn unserved() -> Notice {
+    Notice::Unserved {
+        batch: 1,
+        rider: rider(2),
+    }
+}
+
+fn are(told: Option<Vec<Notice>>, expected: &[Notice]) -> bool {
+    match told {
+        Some(notices) => notices.as_slice() == expected,
+        None => false,
+    }
+}
+
+// A notifier with room for so many notices whose calls of these numbers fail.
+fn notifier(alloc: Global, room: u64, fail: &[u64]) -> Result<MemoryNotifier, AllocError> {
+    let mut notifier = MemoryNotifier::new(alloc, Vec::from_slice(alloc, fail)?);
+    match notifier.reserve(room) {
+        Ok(()) => Ok(notifier),
+        Err(_) => Err(AllocError),
+    }
+}
+
+fn boxed(alloc: Global, room: u64, fail: &[u64]) -> Result<Box<dyn Notifier>, AllocError> {
+    let notifier = notifier(alloc, room, fail)?;
+    Box::new(alloc, notifier)
+}
+
+// How many of three notifiers stay and go, where the second fails this call.
+fn told_to_three(alloc: Global, call: u64) -> Result<(usize, usize), AllocError> {
+    let mut notifiers: Vec<Box<dyn Notifier>> = Vec::new(alloc);
+    notifiers.push(boxed(alloc, 2, &[])?)?;
+    notifiers.push(boxed(alloc, 2, &[call])?)?;
+    notifiers.push(boxed(alloc, 2, &[])?)?;
+    let told = tell_all(&mut notifiers, &[promised(), unserved()]);
+    Ok((notifiers.len(), told.dropped))
+}
+
+#[test]
+fn riders_of_a_plan_are_told_what_it_gives_them(rt: HostRuntime) -> Result<(), Fail> {
+    assert!(rt; are(told(rt.alloc(), Course::Plan), &[promised(), unserved()]));
+    Ok(())
+}
+
+#[test]
+fn who_gave_up_is_told_nothing(rt: HostRuntime) -> Result<(), Fail> {
+    assert!(rt; are(told(rt.alloc(), Course::PlanAfterACancel), &[unserved()]));
+    Ok(())
+}
+
+#[test]
+fn an_overflow_tells_nothing(rt: HostRuntime) -> Result<(), Fail> {
+    assert!(rt; are(told(rt.alloc(), Course::Overflow), &[]));
+    Ok(())
+}
+
+#[test]
+fn the_notifier_that_fails_is_dropped_alone(rt: HostRuntime) -> Result<(), Fail> {
+    assert!(rt; told_to_three(rt.alloc(), 0)? == (2, 1));
+    assert!(rt; told_to_three(rt.alloc(), 1)? == (2, 1));
+    assert!(rt; told_to_three(rt.alloc(), 2)? == (3, 0));
+    Ok(())
+}
+
+#[test]
+fn a_notifier_keeps_what_it_was_told(rt: HostRuntime) -> Result<(), Fail> {
+    let mut notifier = notifier(rt.alloc(), 1, &[1])?;
+    assert!(rt; notifier.tell(&promised()).is_ok());
+    assert!(rt; notifier.tell(&unserved()).is_err());
+    assert!(rt; notifier.told() == [promised()]);
+    Ok(())
+}
+
+#[test]
+fn answers_with_memory(rt: HostRuntime) -> Result<(), Fail> {
+    assert!(rt; told(rt.alloc(), Course::Plan).is_some());
+    assert!(rt; notifier(rt.alloc(), 8, &[]).is_ok());
+    Ok(())
+}
