@@ -1,14 +1,15 @@
 """Makes what the program stands on fail, call by call, and looks at what it leaves behind.
 
-    failing.py PROGRAM [PART ..]
+    failing.py PROGRAM [quick] [PART ..]
 
 Sources are cut after each of their bytes; the program is killed between rounds; output, notices and files are such as
 can't be written or read. By faults.c, which a C compiler builds, each read, each write and each request for memory is
-refused in turn, one a run. The last line is `N passed, M failed`, by runs; a part that can't be tried here says so.
+refused in turn, one a run; with `quick` of many runs only some. The last line is `N passed, M failed`, by runs; a part that can't be tried here says so.
 """
 
 import os
 import re
+import shutil
 import signal
 import subprocess
 import sys
@@ -29,6 +30,8 @@ TESTS = Path(__file__).resolve().parent
 FILES = list(HEADERS)
 WORDS = ["run", *(f"{name}={name}.csv" for name in FILES)]
 STREET = (TESTS / "street" / "network.csv").read_text()
+QUICK_STEP = 13  # of many runs one in so many is quick
+MOST_SHOWN = 10  # wrong runs of a part
 BUFFER = 8192  # bytes that the program holds back at most within a round
 
 
@@ -134,8 +137,12 @@ def run_in(folder, call, inputs):
 class Part:
     """A part's runs: how many there were, how many calls failed in them, and what was wrong."""
 
-    def __init__(self, name):
-        self.name, self.runs, self.faults, self.wrong = name, 0, 0, []
+    def __init__(self, step):
+        self.step, self.runs, self.faults, self.wrong = step, 0, 0, []
+
+    def try_some(self, tries):
+        """Tries one in so many, where not all are due."""
+        self.try_all(list(tries)[:: self.step])
 
     def try_all(self, tries):
         """Each try is a name and a function of an empty folder that raises Wrong, and gives how many calls failed."""
@@ -272,7 +279,7 @@ def refused_requests(part, shim, words, inputs, check, name):
     with tempfile.TemporaryDirectory() as folder:
         run_in(Path(folder), lambda it: shim.run(it, words, plan), inputs)
     count = plan.calls["memory"]
-    part.try_all([(f"{name}: request {k}", without_memory(shim, words, inputs, k, check)) for k in range(1, count + 1)])
+    part.try_some([(f"{name}: request {k}", without_memory(shim, words, inputs, k, check)) for k in range(1, count + 1)])
 
 
 def refused_memory(part, shim):
@@ -351,41 +358,188 @@ def killed(part, program):
     longest = max(b - a for a, b in zip([0, *whole.ends], whole.ends))
     if longest >= BUFFER:
         raise Wrong(f"a round of {longest} bytes is no test of whole rounds")
-    part.try_all([(f"killed after round {k}", kill(program, whole, k)) for k in range(1, len(whole.ends))])
+    part.try_some([(f"killed after round {k}", kill(program, whole, k)) for k in range(1, len(whole.ends))])
 
 
-def killed_load(part, program):
-    """A workload of a hundred large batches, cut after some seconds: each closed batch has come as a line, one by one."""
+def cut_load(seconds):
+    """Cuts a workload of a hundred large batches: the closed ones stand there, each in its line, and came one by one."""
+    words = "load seed=7 vehicles=500 riders=250 rounds=100 pairs=2000000".split()
 
-    def run(folder):
-        words = "load seed=7 vehicles=500 riders=250 rounds=100 pairs=2000000".split()
-        going = subprocess.Popen([program, *words], stdout=subprocess.PIPE, text=True)
-        began, came = time.monotonic(), []
-        timer = subprocess.Popen(["sleep", "10"])
-        os.set_blocking(going.stdout.fileno(), False)
-        text = ""
-        while timer.poll() is None:
-            piece = going.stdout.read() or ""
-            if piece:
-                came.append((time.monotonic() - began, piece))
-            text += piece
-            time.sleep(0.02)
-        going.kill()
-        going.wait()
-        text += going.stdout.read() or ""
-        lines = text.split("\n")
-        if lines.pop() or lines[0] != "load seed=7 side=20 vehicles=500 riders=250 rounds=100":
-            raise Wrong(f"these are no whole lines of the summary: {text!r}")
-        if any(not line.startswith(f"batch {k} served ") for k, line in enumerate(lines[1:], 1)):
-            raise Wrong(f"these aren't the first batches: {text!r}")
-        if len(lines) < 3 or len(came) < 2:
-            raise Wrong(f"after ten seconds stands {text!r}, in {len(came)} pieces")
-        return 1
+    def cut_after(program):
+        def run(folder):
+            path, sizes = folder / "summary", set()
+            with open(path, "wb") as output:
+                going = subprocess.Popen([program, *words], stdout=output)
+            end = time.monotonic() + seconds
+            while time.monotonic() < end and going.poll() is None:
+                sizes.add(path.stat().st_size)
+                time.sleep(0.01)
+            going.kill()
+            going.wait()
+            lines = path.read_text().split("\n")
+            if lines.pop() or lines[:1] != ["load seed=7 side=20 vehicles=500 riders=250 rounds=100"]:
+                raise Wrong(f"after {seconds} seconds these are no whole lines of the summary: {lines}")
+            if any(not line.startswith(f"batch {k} served ") for k, line in enumerate(lines[1:], 1)):
+                raise Wrong(f"these aren't the first batches: {lines}")
+            if len(lines) < 2 or len(sizes) < len(lines):
+                raise Wrong(f"after {seconds} seconds stands {lines}, in {len(sizes) - 1} pieces")
+            return 1
 
-    part.try_all([("cut after ten seconds", run)])
+        return run
+
+    return lambda part, program: part.try_all([(f"cut after {seconds} seconds", cut_after(program))])
 
 
-PARTS = {"cut sources": cut_sources, "killed between rounds": killed, "a workload cut after ten seconds": killed_load}
+# Places that can't be read or written
+
+FULL, WITHOUT_OUTPUT = "/dev/full", "ridepool: report: write failed\n"
+
+
+def as_nobody():
+    """Who has no rights to a file without permissions: root has."""
+    return {"user": 65534, "group": 65534, "extra_groups": []} if os.geteuid() == 0 else {}
+
+
+def full_device(words):
+    def run(program, folder):
+        with open(FULL, "wb") as output:
+            left = run_in(folder, lambda it: start(program, it, words, stdout=output), POOLED)
+        left.need((left.status, left.error) == (8, WITHOUT_OUTPUT), "status 8 should come")
+        left.need(not left.notices, "nobody should be told anything")
+
+    return run
+
+
+def closed_pipe(program, folder):
+    reading, writing = os.pipe()
+    os.close(reading)
+    with open(writing, "wb") as output:
+        left = run_in(folder, lambda it: start(program, it, [*WORDS, "notices=notices"], stdout=output), POOLED)
+    left.need((left.status, left.error) == (8, WITHOUT_OUTPUT), "status 8 should come")
+    left.need(not left.notices, "nobody should be told anything")
+
+
+def closed_after_a_line(program, folder):
+    """As `| head -1`."""
+    with subprocess.Popen([program, "load", "rounds=50"], stdout=subprocess.PIPE, stderr=subprocess.PIPE, text=True) as going:
+        line = going.stdout.readline()
+        going.stdout.close()
+        error = going.stderr.read()
+        status = going.wait(timeout=60)
+    if (line, status, error) != ("load seed=1 side=20 vehicles=100 riders=150 rounds=50\n", 8, WITHOUT_OUTPUT):
+        raise Wrong(f"status {status}, {line!r}, {error!r}")
+
+
+def closed_place(place, words):
+    """Runs the program with standard output or error closed, and a file of notices that must not take its place."""
+
+    def run(program, folder):
+        line = ["sh", "-c", f'exec "$0" "$@" {place}>&-', program, *words, "notices=notices"]
+        left = run_in(folder, lambda it: subprocess.run(line, cwd=it, capture_output=True, timeout=60), POOLED)
+        return left
+
+    return run
+
+
+def closed_output(program, folder):
+    left = closed_place(1, WORDS)(program, folder)
+    left.need((left.status, left.error) == (8, WITHOUT_OUTPUT), "status 8 should come")
+    left.need(not left.notices, f"in the file of notices stands {left.notices!r}")
+
+
+def closed_error(program, folder):
+    words = ["run", "network=fleet.csv", *WORDS[2:]]
+    left = closed_place(2, words)(program, folder)
+    left.is_refused(3, "")
+
+
+def no_file(key, name, status, line):
+    """A folder or a missing file for a key."""
+
+    def run(program, folder):
+        words = [word for word in WORDS if not word.startswith(f"{key}=")]
+        left = run_in(folder, lambda it: start(program, it, [*words, f"{key}={name}"]), POOLED)
+        if status:
+            left.is_refused(status, line)
+        else:
+            left.need((left.status, left.error) == (0, line), "the report should go on")
+            judge(Run(folder, WORDS), left.output)
+
+    return run
+
+
+def forbidden(key, prepare_folder, line):
+    """A file that whoever runs the program may not read or write."""
+
+    def run(program, folder):
+        mine = shutil.copy(program, folder / "program")
+        folder.chmod(0o755)
+        words = [word for word in WORDS if not word.startswith(f"{key}=")] + [f"{key}=closed/file"]
+        (folder / "closed").mkdir()
+
+        def call(it):
+            prepare_folder(it / "closed")
+            return start(mine, it, words, **as_nobody())
+
+        left = run_in(folder, call, POOLED)
+        (folder / "closed").chmod(0o755)
+        if key == "notices":
+            left.need((left.status, left.error) == (0, line), "the report should go on")
+            judge(Run(folder, WORDS), left.output)
+            left.need(not list((folder / "closed").iterdir()), "nothing should be written")
+        else:
+            left.is_refused(7, line)
+
+    return run
+
+
+def unreadable(folder):
+    (folder / "file").write_text(POOLED["script"])
+    (folder / "file").chmod(0)
+
+
+def ended_early(program, folder):
+    """A script that comes through a pipe whose writer ends within a line."""
+    os.mkfifo(folder / "pipe")
+    words = [*WORDS[:3], "script=pipe"]
+    for name in FILES[:2]:
+        (folder / f"{name}.csv").write_text(POOLED[name])
+    with subprocess.Popen([program, *words], cwd=folder, stdout=subprocess.PIPE, stderr=subprocess.PIPE) as going:
+        (folder / "pipe").write_text(POOLED["script"][:-10])
+        output, error = going.communicate(timeout=60)
+    left = Left(subprocess.CompletedProcess([], going.returncode, output, error), folder)
+    left.is_refused(*refusal({**POOLED, "script": POOLED["script"][:-10]}))
+
+
+PLACES = {
+    "a run's report to a full device": full_device([*WORDS, "notices=notices"]),
+    "a summary to a full device": full_device(LOAD),
+    "the help to a full device": full_device(["--help"]),
+    "the version to a full device": full_device(["--version"]),
+    "a closed pipe": closed_pipe,
+    "a pipe that is closed after a line": closed_after_a_line,
+    "standard output is closed": closed_output,
+    "standard error is closed": closed_error,
+    **{f"a folder for the {name}": no_file(name, ".", 7, f"ridepool: {name}: read failed\n") for name in FILES},
+    **{f"no file for the {name}": no_file(name, "none", 7, f"ridepool: {name}: read failed\n") for name in FILES},
+    "a folder for the notices": no_file("notices", ".", 0, DROPPED),
+    "notices in a folder that isn't there": no_file("notices", "none/file", 0, DROPPED),
+    "notices in a read-only folder": forbidden("notices", lambda it: it.chmod(0o555), DROPPED),
+    "a script that may not be read": forbidden("script", unreadable, "ridepool: script: read failed\n"),
+    "a script that ends early": ended_early,
+}
+
+
+def refused_places(part, program):
+    part.try_all((name, lambda folder, run=run: run(program, folder) or 1) for name, run in PLACES.items())
+
+
+PARTS = {
+    "refused places": refused_places,
+    "cut sources": cut_sources,
+    "killed between rounds": killed,
+    "a workload cut": cut_load(10),
+}
 SHIM_PARTS = {
     "failing reads": failing_reads,
     "failing writes": failing_writes,
@@ -398,6 +552,8 @@ def main():
     if len(sys.argv) < 2:
         sys.exit(__doc__)
     program, names = os.path.abspath(sys.argv[1]), sys.argv[2:]
+    is_quick = names[:1] == ["quick"]
+    names = names[is_quick:]
     shim = Shim(program)
     passed = failed = 0
     for name, run in {**PARTS, **SHIM_PARTS}.items():
@@ -406,10 +562,10 @@ def main():
         if name in SHIM_PARTS and shim.why:
             print(f"{name}: not tried, since {shim.why}")
             continue
-        part, began = Part(name), time.monotonic()
+        part, began = Part(QUICK_STEP if is_quick else 1), time.monotonic()
         run(part, shim if name in SHIM_PARTS else program)
         print(f"{name}: {part.runs} runs, {part.faults} faults, {time.monotonic() - began:.1f} s")
-        for line in part.wrong[:10]:
+        for line in part.wrong[:MOST_SHOWN]:
             print(f"    {line}")
         failed += len(part.wrong)
         passed += part.runs - len(part.wrong)
