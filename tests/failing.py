@@ -8,6 +8,7 @@ refused in turn, one a run; with `quick` of many runs only some. The last line i
 """
 
 import os
+import pty
 import re
 import shutil
 import signal
@@ -361,33 +362,97 @@ def killed(part, program):
     part.try_some([(f"killed after round {k}", kill(program, whole, k)) for k in range(1, len(whole.ends))])
 
 
-def cut_load(seconds):
-    """Cuts a workload of a hundred large batches: the closed ones stand there, each in its line, and came one by one."""
-    words = "load seed=7 vehicles=500 riders=250 rounds=100 pairs=2000000".split()
+LARGE_LOAD = "load seed=7 vehicles=500 riders=250 rounds=100 pairs=2000000".split()
 
-    def cut_after(program):
+
+def cut_load(part, program):
+    """Cuts a workload of a hundred large batches: the closed ones stand there, each in its line, and came one by one."""
+    seconds = 10 if part.step == 1 else 4
+
+    def run(folder):
+        path, sizes = folder / "summary", set()
+        with open(path, "wb") as output:
+            going = subprocess.Popen([program, *LARGE_LOAD], stdout=output)
+        end = time.monotonic() + seconds
+        while time.monotonic() < end and going.poll() is None:
+            sizes.add(path.stat().st_size)
+            time.sleep(0.01)
+        going.kill()
+        going.wait()
+        lines = path.read_text().split("\n")
+        if lines.pop() or lines[:1] != ["load seed=7 side=20 vehicles=500 riders=250 rounds=100"]:
+            raise Wrong(f"these are no whole lines of the summary: {lines}")
+        if any(not line.startswith(f"batch {k} served ") for k, line in enumerate(lines[1:], 1)):
+            raise Wrong(f"these aren't the first batches: {lines}")
+        if len(lines) < 2 or len(sizes) < len(lines):
+            raise Wrong(f"what came was {lines}, in {len(sizes) - 1} pieces")
+        return 1
+
+    part.try_all([(f"cut after {seconds} seconds", run)])
+
+
+# The line on a terminal
+
+CLEAR = "\r\x1b[K"
+PROGRESS = r"round \d+, batches closed: \d+(?:, last: (?:overflow|\d+ rows, gap -?\d+))?"
+
+
+def progress_of(summary):
+    """The lines that are shown as this summary of a made workload is written, two rounds for each batch."""
+    shown = ["round 1, batches closed: 0"]
+    for k, line in enumerate(summary.splitlines()[1:-1], 1):
+        shown.append(f"round {2 * k}, {shown[-1].partition(', ')[2]}")
+        words = line.split(" ")
+        last = "overflow" if words[2] == "overflow" else f"{words[7]} rows, gap {int(words[11]) - int(words[13])}"
+        shown.append(f"round {2 * k + 1}, batches closed: {k}, last: {last}")
+    return shown
+
+
+def on_terminal(program, words, both):
+    """What a run writes to standard output, and what stands on the terminal that standard error is, and maybe output too."""
+    mine, its = pty.openpty()
+    output = {"stdout": its} if both else {"stdout": subprocess.PIPE}
+    with subprocess.Popen([program, *words], stderr=its, **output) as going:
+        os.close(its)
+        screen = []
+        try:
+            while piece := os.read(mine, 65536):
+                screen.append(piece)
+        except OSError:
+            pass  # so a terminal ends
+        os.close(mine)
+        written = "" if both else going.stdout.read().decode()
+    return written, b"".join(screen).decode().replace("\r\n", "\n")
+
+
+def progress(part, program):
+    def shows(words, is_expected):
         def run(folder):
-            path, sizes = folder / "summary", set()
-            with open(path, "wb") as output:
-                going = subprocess.Popen([program, *words], stdout=output)
-            end = time.monotonic() + seconds
-            while time.monotonic() < end and going.poll() is None:
-                sizes.add(path.stat().st_size)
-                time.sleep(0.01)
-            going.kill()
-            going.wait()
-            lines = path.read_text().split("\n")
-            if lines.pop() or lines[:1] != ["load seed=7 side=20 vehicles=500 riders=250 rounds=100"]:
-                raise Wrong(f"after {seconds} seconds these are no whole lines of the summary: {lines}")
-            if any(not line.startswith(f"batch {k} served ") for k, line in enumerate(lines[1:], 1)):
-                raise Wrong(f"these aren't the first batches: {lines}")
-            if len(lines) < 2 or len(sizes) < len(lines):
-                raise Wrong(f"after {seconds} seconds stands {lines}, in {len(sizes) - 1} pieces")
-            return 1
+            quiet = start(program, folder, words)
+            if quiet.returncode or quiet.stderr:
+                raise Wrong(f"without a terminal {quiet.stderr!r} is shown")
+            summary = quiet.stdout.decode()
+            written, screen = on_terminal(program, words, False)
+            if written != summary:
+                raise Wrong(f"beside a terminal {written!r} is written")
+            is_expected(summary, screen)
+            _, screen = on_terminal(program, words, True)
+            if re.sub(PROGRESS + re.escape(CLEAR), "", screen) != summary:
+                raise Wrong(f"on one terminal with the output stands {screen!r}")
 
         return run
 
-    return lambda part, program: part.try_all([(f"cut after {seconds} seconds", cut_after(program))])
+    def of_load(summary, screen):
+        expected = "".join(line + CLEAR for line in progress_of(summary))
+        if screen != expected:
+            raise Wrong(f"on the terminal stands {screen!r}, and {expected!r} should")
+
+    def of_page(page, screen):
+        if screen:
+            raise Wrong(f"on the terminal stands {screen!r}")
+
+    tries = [("a workload", LOAD, of_load), ("with an overflow", [*LOAD, "pairs=20"], of_load), ("help", ["--help"], of_page)]
+    part.try_all((name, shows(words, check)) for name, words, check in tries)
 
 
 # Places that can't be read or written
@@ -538,7 +603,8 @@ PARTS = {
     "refused places": refused_places,
     "cut sources": cut_sources,
     "killed between rounds": killed,
-    "a workload cut": cut_load(10),
+    "a workload cut": cut_load,
+    "progress on a terminal": progress,
 }
 SHIM_PARTS = {
     "failing reads": failing_reads,
