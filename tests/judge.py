@@ -44,6 +44,52 @@ class Lines:
             raise self.wrong(why)
 
 
+class Ended(Exception):
+    """What stands of a report ends here."""
+
+
+class Beginning(Lines):
+    """The lines of a text that may end anywhere, even within a line."""
+
+    def __init__(self, text):
+        self.lines = text.split("\n")
+        self.begun = self.lines.pop()
+        self.at = 0
+
+    def look(self):
+        if self.at == len(self.lines):
+            raise Ended
+        return super().look()
+
+    def take(self, expected, what="it"):
+        if self.at < len(self.lines):
+            return super().take(expected, what)
+        if not expected.startswith(self.begun):
+            raise Wrong(f"the last line, {self.begun!r}, should begin {expected!r}")
+        raise Ended
+
+    def take_all(self, expected, word):
+        for line in expected:
+            self.take(line, word)
+        if self.at < len(self.lines) and self.look()[0] == word:
+            raise self.wrong(f"there is no such {word}")
+
+
+def judge_beginning(run, text):
+    """Raises Wrong where no report of the run begins with the text. Of an entry or a trip that is only begun nothing is
+    said. Whether the whole report stands."""
+    lines = Beginning(text)
+    try:
+        judge_lines(run, lines)
+    except Ended:
+        return False
+    except (IndexError, KeyError, ValueError) as error:
+        raise lines.wrong(f"it can't be read ({error!r})")
+    if lines.begun:
+        raise Wrong(f"{lines.begun!r} comes after the end")
+    return True
+
+
 def judge(run, text):
     """Raises Wrong where the report can't be that of the run, and gives the book that it leaves."""
     lines = Lines(text)

@@ -1,5 +1,5 @@
 """Shows that the judge refuses wrong reports: takes right ones, of the cases and of drawn inputs, spoils each in many ways,
-and demands that each spoiled one is refused.
+and demands that each spoiled one is refused, as a report and as the beginning of one.
 
     spoiled.py PROGRAM [RUNS [SEED]]
 
@@ -17,7 +17,7 @@ from pathlib import Path
 
 from drawn import inputs_of, output_of, write_inputs
 from inputs import Run
-from judge import Wrong, judge
+from judge import Wrong, judge, judge_beginning
 from run import CASES, prepare
 
 
@@ -115,6 +115,7 @@ def entry(reply, by):
     return changed(rf"^(\d+ \d+ .* ){reply}$", rf"\g<1>{by}")
 
 
+CUT = "a last line left out"  # which makes a report a beginning
 WAYS = {
     "another setting": changed(r"^(settings .* penalty=)(\d+)", r"\g<1>1\2"),
     "another number of nodes of the network": changed(r"^(network nodes=)(\d+)", r"\g<1>1\2"),
@@ -175,7 +176,7 @@ WAYS = {
     "a branch of another row": number_plus("branch", 2, 1000),
     "a branch of another vehicle": number_plus("branch", 1, 1000),
     "another number of entries": number_plus("done", 1, 1),
-    "a last line left out": left_out("done"),
+    CUT: left_out("done"),
     "a line behind the last": twice("done"),
 }
 
@@ -203,18 +204,33 @@ def spoil_all(name, run, report):
     lines = report.rstrip("\n").split("\n")
     if not is_right(run, lines):
         passed.append(("a right report", name))
+    if not begins_right(run, report[: rng.randrange(len(report))]):
+        passed.append(("the beginning of a right report", name))
     for way, spoil in WAYS.items():
         places = [at for at in range(len(lines)) if spoil(lines, at)]
         if places:
             tried[way] += 1
-            if is_right(run, spoil(lines, rng.choice(places))):
+            spoiled = spoil(lines, rng.choice(places))
+            if is_right(run, spoiled) or (way != CUT and begins_right(run, text_of(spoiled))):
                 passed.append((way, name))
     return tried, passed
 
 
+def text_of(lines):
+    return "".join(f"{line}\n" for line in lines)
+
+
 def is_right(run, lines):
+    return passes(judge, run, text_of(lines))
+
+
+def begins_right(run, text):
+    return passes(judge_beginning, run, text)
+
+
+def passes(judging, run, text):
     try:
-        judge(run, "".join(f"{line}\n" for line in lines))
+        judging(run, text)
         return True
     except Wrong:
         return False

@@ -9,8 +9,9 @@ use pool_io::{StdSink, StdSource};
 use ridepool::{LineNotifier, RunStatus, fault_text, ridepool};
 use rider_limits::{read_words, value_of};
 use rider_notices::Notifier;
+use run_progress::WatchedSink;
 use std::fs::File;
-use std::io::{BufWriter, Write};
+use std::io::{BufWriter, IsTerminal, Write};
 use std::process::ExitCode;
 use std::sync::Wait;
 use std::thread::Threads;
@@ -59,6 +60,7 @@ Exit status: 0 done; 2 words; 3 network; 4 fleet; 5 script; 6 input too long; 7 
 const VERSION: &str = "ridepool 0.1.0\n";
 
 fn main(rt: HostRuntime) -> ExitCode {
+    let _places = [standard_place(&rt), standard_place(&rt), standard_place(&rt)];
     let words = match words_of(&rt) {
         Ok(words) => words,
         Err(OutOfMemory) => return report(&rt, &RunStatus::OutOfMemory),
@@ -68,6 +70,12 @@ fn main(rt: HostRuntime) -> ExitCode {
         None => run(&rt, &rt, &words),
     };
     report(&rt, &status)
+}
+
+/// A file that takes the place of standard input, output or error where one of them is closed. No file that is opened
+/// later can then be taken for it.
+fn standard_place(rt: &HostRuntime) -> Option<File> {
+    File::open(rt, "/dev/null").ok()
 }
 
 /// The words behind the program's name. A word that isn't UTF-8 spoils them all: there is then no command.
@@ -130,7 +138,12 @@ fn run(rt: &HostRuntime, threads: &(impl Threads + Wait + Sync), words: &[String
     let mut network = source_of(rt, words, "network");
     let mut fleet = source_of(rt, words, "fleet");
     let mut script = source_of(rt, words, "script");
-    let mut sink = StdSink::over(&mut output);
+    let terminal = if rt.stderr().is_terminal() {
+        Some(rt.stderr())
+    } else {
+        None
+    };
+    let mut sink = WatchedSink::over(rt.alloc(), StdSink::over(&mut output), terminal);
     let status = ridepool(
         threads,
         rt.alloc(),
@@ -142,6 +155,7 @@ fn run(rt: &HostRuntime, threads: &(impl Threads + Wait + Sync), words: &[String
         &mut notifiers,
         &FreeGate,
     );
+    sink.clear();
     if notifiers.len() < given {
         print_line(rt, b"notices: write failed");
     }

@@ -190,19 +190,26 @@ fn notifier(alloc: Global, room: u64, fail: &[u64]) -> Result<MemoryNotifier, Al
     }
 }
 
-fn boxed(alloc: Global, room: u64, fail: &[u64]) -> Result<Box<dyn Notifier>, AllocError> {
-    let notifier = notifier(alloc, room, fail)?;
-    Box::new(alloc, notifier)
-}
-
-// How many of three notifiers stay and go, where the second fails this call.
-fn told_to_three(alloc: Global, call: u64) -> Result<(usize, usize), AllocError> {
+// How many notifiers stay and go after a plan's notices.
+fn told_to(alloc: Global, given: Vec<MemoryNotifier>) -> Result<(usize, usize), AllocError> {
     let mut notifiers: Vec<Box<dyn Notifier>> = Vec::new(alloc);
-    notifiers.push(boxed(alloc, 2, &[])?)?;
-    notifiers.push(boxed(alloc, 2, &[call])?)?;
-    notifiers.push(boxed(alloc, 2, &[])?)?;
+    for notifier in given {
+        let Ok(boxed) = Box::new(alloc, notifier) else {
+            return Err(AllocError);
+        };
+        notifiers.push(boxed)?;
+    }
     let told = tell_all(&mut notifiers, &[promised(), unserved()]);
     Ok((notifiers.len(), told.dropped))
+}
+
+// The same of three, of which the second fails this call.
+fn told_to_three(alloc: Global, call: u64) -> Result<(usize, usize), AllocError> {
+    let mut given = Vec::new(alloc);
+    given.push(notifier(alloc, 2, &[])?)?;
+    given.push(notifier(alloc, 2, &[call])?)?;
+    given.push(notifier(alloc, 2, &[])?)?;
+    told_to(alloc, given)
 }
 
 #[test]
@@ -236,7 +243,7 @@ fn a_notifier_keeps_what_it_was_told(rt: HostRuntime) -> Result<(), Fail> {
     let mut notifier = notifier(rt.alloc(), 1, &[1])?;
     assert!(rt; notifier.tell(&promised()).is_ok());
     assert!(rt; notifier.tell(&unserved()).is_err());
-    assert!(rt; notifier.told() == [promised()]);
+    assert!(rt; notifier.told() == [promised()].as_slice());
     Ok(())
 }
 

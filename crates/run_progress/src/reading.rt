@@ -1,0 +1,88 @@
+//! What a line of a report or a summary says of a batch.
+
+/// What came of a batch.
+#[derive(Clone, Copy, Debug, PartialEq, Eq)]
+pub(crate) enum Closed {
+    Overflow,
+    /// A plan over so many rows, whose cost is so far above its bound.
+    Planned { rows: u64, gap: i64 },
+}
+
+/// What a line says.
+#[derive(Clone, Copy, Debug, PartialEq, Eq)]
+pub(crate) enum Line {
+    /// The last before the first round.
+    HeadEnd,
+    /// A batch's block begins.
+    Batch,
+    Row,
+    Cost(i64),
+    Bound(i64),
+    Overflow,
+    /// A batch in one line.
+    Summed(Closed),
+    Done,
+    Other,
+}
+
+/// Reads the front of a line.
+pub(crate) fn read_line(bytes: &[u8]) -> Line {
+    match str::from_utf8(bytes) {
+        Ok(text) => line_of(text),
+        Err(_) => Line::Other,
+    }
+}
+
+fn line_of(text: &str) -> Line {
+    match text.split_once(' ') {
+        Some(("fleet" | "load", _)) => Line::HeadEnd,
+        Some(("batch", rest)) => batch_line(rest),
+        Some(("row", _)) => Line::Row,
+        Some(("cost", cost)) => number(cost).map_or(Line::Other, Line::Cost),
+        Some(("bound", bound)) => number(bound).map_or(Line::Other, Line::Bound),
+        Some(("done", _)) => Line::Done,
+        Some(_) => Line::Other,
+        None => {
+            if text == "overflow" {
+                Line::Overflow
+            } else {
+                Line::Other
+            }
+        }
+    }
+}
+
+/// What a batch's first line says behind its word: the number alone, or the whole batch.
+fn batch_line(rest: &str) -> Line {
+    match rest.split_once(' ') {
+        None => Line::Batch,
+        Some((_, "overflow")) => Line::Summed(Closed::Overflow),
+        Some((_, sums)) => match planned(sums) {
+            Some(closed) => Line::Summed(closed),
+            None => Line::Other,
+        },
+    }
+}
+
+fn planned(sums: &str) -> Option<Closed> {
+    let rows = behind(sums, " rows ")?;
+    let cost = behind(sums, " cost ")?;
+    let bound = behind(sums, " bound ")?;
+    Some(Closed::Planned {
+        rows: rows.unsigned_abs(),
+        gap: cost.saturating_sub(bound),
+    })
+}
+
+/// The number that stands behind a name.
+fn behind(text: &str, name: &str) -> Option<i64> {
+    let (_, rest) = text.split_once(name)?;
+    match rest.split_once(' ') {
+        Some((word, _)) => number(word),
+        None => number(rest),
+    }
+}
+
+fn number(word: &str) -> Option<i64> {
+    word.parse().ok()
+}
