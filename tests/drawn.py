@@ -46,8 +46,10 @@ class MadeWorkload:
 
 
 def inputs_of(seed):
-    """What the seed draws."""
-    return {0: MadeWorkload, 5: Crowd}.get(seed % 10, Draw)(seed)
+    """What the seed draws; every third run goes by labels."""
+    drawn = {0: MadeWorkload, 5: Crowd}.get(seed % 10, Draw)(seed)
+    drawn.words += ["times=labels"] * (seed % 3 == 0)
+    return drawn
 
 
 def write_inputs(drawn, folder):

@@ -8,7 +8,7 @@ use pool_io::rows;
 use request_book::{
     Answer, Book, Command, LateVehicle, MoveLine, Outcome, Planned, PlannedStop, Reply,
 };
-use rider_limits::{Mode, Settings};
+use rider_limits::{Mode, Settings, TimesWay};
 use road_network::{Network, read_network};
 use std::alloc::Global;
 use std::sync::atomic::{AtomicU64, Ordering};
@@ -119,6 +119,7 @@ fn settings(wait: u32, pairs: u32) -> Settings
         workers: 4,
         proof: false,
         dwell: 0,
+        times: TimesWay::Rows,
     }
 }
 

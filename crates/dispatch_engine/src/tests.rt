@@ -7,7 +7,7 @@ use crate::{run_lane, run_round};
 use fleet_state::{HEADER as FLEET_HEADER, read_fleet};
 use pool_io::rows;
 use request_book::{Book, Reply};
-use rider_limits::{Mode, Settings};
+use rider_limits::{Mode, Settings, TimesWay};
 use road_network::{Network, read_network};
 use script_rows::{Round, Script, ScriptVersion, read_script};
 use shared_book::{Pass, SharedBook};
@@ -125,6 +125,7 @@ fn settings() -> Settings
         workers: 2,
         proof: false,
         dwell: 0,
+        times: TimesWay::Rows,
     }
 }
 

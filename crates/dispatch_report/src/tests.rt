@@ -9,7 +9,7 @@ use request_book::{
     Answer, ChosenTrip, Command, Entry, Journal, LateVehicle, MoveLine, Outcome, Planned,
     PlannedStop, Reply, RowLine, State,
 };
-use rider_limits::{LoadShape, Mode, Settings};
+use rider_limits::{LoadShape, Mode, Settings, TimesWay};
 use road_network::{Network, read_network};
 use std::alloc::Global;
 
@@ -223,6 +223,7 @@ fn settings() -> Settings {
         workers: 1,
         proof: true,
         dwell: 5,
+        times: TimesWay::Rows,
     }
 }
 

@@ -139,6 +139,10 @@ module _ (settings : Settings) (roads : Roads) where
   written_none book a n empty ready =
       record { journals = []; run = tt; text = Appends-nil a; told = all-heard-nothing n; ready = ready; base = refl; first = refl; entries = empty }
 
+  -- of no round anything is written
+  pub nothing_written : (book : BookView) (rounds : List NumberedLanes) (a : Option (List ℕ)) (n : List NotifierView) → IsRoundsPart settings roads book rounds a a n n
+  nothing_written book rounds a n = IsRoundsPart.whole 0 [] tt (Appends-nil a) (all-heard-nothing n)
+
   -- a journal of the round that comes next, seen from the book of the first
   next_run : (book current : BookView) (rounds : List NumberedLanes) (r : NumberedLanes) (a b : Option (List ℕ)) (n m : List NotifierView) (j : Journal)
       → (w : HasWritten book rounds a b n m current) → NextJournal settings roads current r j

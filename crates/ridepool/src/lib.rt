@@ -10,6 +10,7 @@ mod inputs;
 mod line_notifier;
 mod reading;
 mod run;
+mod setup;
 mod status;
 #[cfg(test)]
 mod tests;

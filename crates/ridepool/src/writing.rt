@@ -12,21 +12,23 @@ ghost use Rattle.ridepool.specs.Report.{first_text, added_text, IsWhole};
 ghost use Rattle.ridepool.specs.work.Writing.{IsWritingFault, IsRoundsFault, IsRoundFault, IsTextFault, IsFlushed, WritesRound, WritesRounds, status_of};
 
 use crate::inputs::ReadInputs;
+use crate::setup::Setup;
 use crate::status::RunStatus;
 use batch_snapshot::Fleet;
 use dispatch_engine::run_round;
 use dispatch_report::{ReportFault, write_end, write_head, write_load, write_round, write_summary};
+use hub_labels::{LabelWays, Labels};
 use pool_base::OutOfMemory;
 use pool_io::{Failed, Sink};
 use request_book::{Book, Journal};
-use rider_limits::{Mode, Settings};
+use rider_limits::{Mode, Settings, TimesWay};
 use rider_notices::{Notifier, notices_of, tell_all};
 use road_network::Network;
 use script_rows::Round;
 use std::alloc::Global;
 use std::sync::Wait;
 use std::thread::Threads;
-use travel_times::NetworkWays;
+use travel_times::{NetworkWays, Ways};
 use worker_gate::Gate;
 
 /// Runs the script and writes its report, or a made workload's summary, round by round; after each round
@@ -66,6 +68,7 @@ pub(crate) fn write_report<K: Sink, G: Gate>(
     )
 }
 
+/// Runs rounds one after the other, by the way to tell travel times that the settings name.
 fn write_rounds<K: Sink, G: Gate>(
     rt: &(impl Threads + Wait + Sync),
     alloc: Global,
@@ -86,11 +89,55 @@ fn write_rounds<K: Sink, G: Gate>(
         (IsRoundsFault settings.now network.now book rounds.now (K.written out.old) (K.written out.new) all left (K.faults out.old) (K.faults out.new)) }
     ensures never_falls { K.faults out.old ≤ K.faults out.new }
 {
+    match settings.times {
+        TimesWay::Rows => {
+            let ways = NetworkWays { network };
+            let setup = Setup {
+                network,
+                ways: &ways,
+                settings,
+                gate,
+            };
+            write_each(rt, alloc, out, book, rounds, &setup, notifiers)
+        }
+        TimesWay::Labels => {
+            let Ok(labels) = Labels::build(alloc, network) else {
+                return Err(RunStatus::OutOfMemory);
+            };
+            let ways = LabelWays::of(network, labels);
+            let setup = Setup {
+                network,
+                ways: &ways,
+                settings,
+                gate,
+            };
+            write_each(rt, alloc, out, book, rounds, &setup, notifiers)
+        }
+    }
+}
+
+/// Runs each round and writes it, and then the last line.
+fn write_each<K: Sink, W: Ways, G: Gate>(
+    rt: &(impl Threads + Wait + Sync),
+    alloc: Global,
+    out: &mut K,
+    book: Book,
+    rounds: &[Round],
+    setup: &Setup<'_, W, G>,
+    notifiers: &mut Vec<Box<dyn Notifier>>,
+) -> Result<(), RunStatus>
+    requires ready { IsReady setup.now.settings.now setup.now.network.now book }
+    requires empty { book.entries ≡ [] }
+    ensures rounds { let all = map (λ n. notifier_seen (⟦<dyn Notifier as Notifier>⟧ n.vtable) n.value) notifiers.old.items in
+        let left = map (λ n. notifier_seen (⟦<dyn Notifier as Notifier>⟧ n.vtable) n.value) notifiers.new.items in
+        MatchResult result
+        (λ _. WritesRounds setup.now.settings.now setup.now.network.now book rounds.now (K.written out.old) (K.written out.new) all left)
+        (IsRoundsFault setup.now.settings.now setup.now.network.now book rounds.now (K.written out.old) (K.written out.new) all left (K.faults out.old) (K.faults out.new)) }
+    ensures never_falls { K.faults out.old ≤ K.faults out.new }
+{
     let mut current = book;
     for round in rounds {
-        current = write_next(
-            rt, alloc, out, current, round, network, settings, notifiers, gate,
-        )?;
+        current = write_next(rt, alloc, out, current, round, setup, notifiers)?;
     }
     match write_end(alloc, out, current.next_position()) {
         Ok(()) => flush(out),
@@ -99,28 +146,31 @@ fn write_rounds<K: Sink, G: Gate>(
 }
 
 /// Runs a round, writes its text, flushes it, tells its notices, and gives its journal up.
-fn write_next<K: Sink, G: Gate>(
+fn write_next<K: Sink, W: Ways, G: Gate>(
     rt: &(impl Threads + Wait + Sync),
     alloc: Global,
     out: &mut K,
     book: Book,
     round: &Round,
-    network: &Network,
-    settings: &Settings,
+    setup: &Setup<'_, W, G>,
     notifiers: &mut Vec<Box<dyn Notifier>>,
-    gate: &G,
 ) -> Result<Book, RunStatus>
-    requires ready { IsReady settings.now network.now book }
+    requires ready { IsReady setup.now.settings.now setup.now.network.now book }
     requires empty { book.entries ≡ [] }
     ensures round { let all = map (λ n. notifier_seen (⟦<dyn Notifier as Notifier>⟧ n.vtable) n.value) notifiers.old.items in
         let left = map (λ n. notifier_seen (⟦<dyn Notifier as Notifier>⟧ n.vtable) n.value) notifiers.new.items in
         MatchResult result
-        (WritesRound settings.now network.now book round.now (K.written out.old) (K.written out.new) all left)
-        (IsRoundFault settings.now network.now book round.now (K.written out.old) (K.written out.new) all left (K.faults out.old) (K.faults out.new)) }
+        (WritesRound setup.now.settings.now setup.now.network.now book round.now (K.written out.old) (K.written out.new) all left)
+        (IsRoundFault setup.now.settings.now setup.now.network.now book round.now (K.written out.old) (K.written out.new) all left (K.faults out.old) (K.faults out.new)) }
     ensures never_falls { K.faults out.old ≤ K.faults out.new }
 {
-    let ways = NetworkWays { network };
-    let Ok(mut book) = run_round(rt, alloc, book, round, network, &ways, settings, gate) else {
+    let Setup {
+        network,
+        ways,
+        settings,
+        gate,
+    } = setup;
+    let Ok(mut book) = run_round(rt, alloc, book, round, network, *ways, settings, *gate) else {
         return Err(RunStatus::OutOfMemory);
     };
     let Ok(journal) = book.take_round() else {

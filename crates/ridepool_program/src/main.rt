@@ -49,6 +49,7 @@ For both:
   pairs=N        most vehicle-trip pairs of a batch, 1 to 2000000 (200000)
   workers=N      workers that look for trips, 1 to 64 (4)
   dwell=S        what each stop takes, 0 to 600 seconds (0)
+  times=WAY      travel times by `rows`, searches in each batch, or by `labels`, made once (rows)
 
   --help, -h     this text
   --version      the version

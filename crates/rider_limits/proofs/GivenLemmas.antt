@@ -11,10 +11,10 @@ use Rattle.pool_base.proofs.lemmas.NumeralLemmas.{number_up_to-some}
 use Rattle.rider_limits.specs.declared.command.Command.{Command}
 use Rattle.rider_limits.specs.declared.command.Command.TheVariants.{Run, Load}
 use Rattle.rider_limits.specs.declared.key.Key.{Key}
-use Rattle.rider_limits.specs.declared.key.Key.TheVariants.{Input, Notices, Wait, Delay, Trip, Penalty, Budget, Pairs, Workers, Proof, Dwell, Seed, Side, Vehicles, Riders, Rounds}
+use Rattle.rider_limits.specs.declared.key.Key.TheVariants.{Input, Notices, Wait, Delay, Trip, Penalty, Budget, Pairs, Workers, Proof, Dwell, Times, Seed, Side, Vehicles, Riders, Rounds}
 use Rattle.rider_limits.specs.declared.key.Takes.TheVariants.{Number}
 use Rattle.rider_limits.specs.declared.word_fault.WordFault.TheVariants.{UnknownKey, Repeated, BadValue}
-use Rattle.rider_limits.specs.Key.{key_name, has_key, key_of, takes_of, default_of, accepts}
+use Rattle.rider_limits.specs.Key.{about, key_of, accepts}
 use Rattle.rider_limits.specs.work.Taken.{IsNumber, IsAccepted}
 use Rattle.rider_limits.specs.Words.{after_key, text_given, option_of, option_fault, fault_at, words_fault}
 use Rattle.rider_limits.proofs.WordsLemmas.{after_key-some}
@@ -28,7 +28,7 @@ prefix_len-front p (x ∷ xs) y ys pass fails =
     ap (λ b. cond b (1 + prefix_len p (xs ++ y ∷ ys)) 0) parts.0 ∙ omega (arith, rest)
 
 -- no key's name has `=` in it
-name_lacks_equals : (key : Key) → list_all (λ c. not (nat_eq c 61)) (key_name key) ≡ true
+name_lacks_equals : (key : Key) → list_all (λ c. not (nat_eq c 61)) (about key).name ≡ true
 name_lacks_equals (Input Network) = refl
 name_lacks_equals (Input Fleet) = refl
 name_lacks_equals (Input Script) = refl
@@ -42,6 +42,7 @@ name_lacks_equals Pairs = refl
 name_lacks_equals Workers = refl
 name_lacks_equals Proof = refl
 name_lacks_equals Dwell = refl
+name_lacks_equals Times = refl
 name_lacks_equals Seed = refl
 name_lacks_equals Side = refl
 name_lacks_equals Vehicles = refl
@@ -49,7 +50,7 @@ name_lacks_equals Riders = refl
 name_lacks_equals Rounds = refl
 
 -- a key is found by its name, where the command has it
-key_of-name : (command : Command) (key : Key) → key_of command (key_name key) ≡ cond (has_key command key) (Some key) None
+key_of-name : (command : Command) (key : Key) → key_of command (about key).name ≡ cond ((about key).has command) (Some key) None
 unfolding key_of
 key_of-name Run (Input Network) = refl
 key_of-name Run (Input Fleet) = refl
@@ -64,6 +65,7 @@ key_of-name Run Pairs = refl
 key_of-name Run Workers = refl
 key_of-name Run Proof = refl
 key_of-name Run Dwell = refl
+key_of-name Run Times = refl
 key_of-name Run Seed = refl
 key_of-name Run Side = refl
 key_of-name Run Vehicles = refl
@@ -82,6 +84,7 @@ key_of-name Load Pairs = refl
 key_of-name Load Workers = refl
 key_of-name Load Proof = refl
 key_of-name Load Dwell = refl
+key_of-name Load Times = refl
 key_of-name Load Seed = refl
 key_of-name Load Side = refl
 key_of-name Load Vehicles = refl
@@ -89,10 +92,10 @@ key_of-name Load Riders = refl
 key_of-name Load Rounds = refl
 
 -- a word of a key's name, `=` and a text gives that key and text, where the command has the key
-option_of-named : (command : Command) (key : Key) (word text : List ℕ) → word ≡ key_name key ++ 61 ∷ text → option_of command word ≡ option_map (λ k. (k, text)) (cond (has_key command key) (Some key) None)
+option_of-named : (command : Command) (key : Key) (word text : List ℕ) → word ≡ (about key).name ++ 61 ∷ text → option_of command word ≡ option_map (λ k. (k, text)) (cond ((about key).has command) (Some key) None)
 unfolding option_of
 option_of-named command key word text is =
-    let name : List ℕ = key_name key in
+    let name : List ℕ = (about key).name in
     let at : position_or_len (λ c. nat_eq c 61) word ≡ length name =
     ap (position_or_len (λ c. nat_eq c 61)) is ∙ prefix_len-front (λ c. not (nat_eq c 61)) name 61 text (name_lacks_equals key) refl in
     let size : length word ≡ length name + length (61 ∷ text) = ap length is ∙ length-append name (61 ∷ text) in
@@ -109,20 +112,20 @@ option_of-named command key word text is =
     ∙ ap (option_map (λ k. (k, text))) (key_of-name command key)
 
 -- a word without a fault gives a key of the command a text that the key takes
-faultless : (command : Command) (key : Key) (earlier : List (List ℕ)) (place : ℕ) (word text : List ℕ) → word ≡ key_name key ++ 61 ∷ text → option_fault earlier place (option_of command word) ≡ None → accepts (takes_of key) text ≡ true
+faultless : (command : Command) (key : Key) (earlier : List (List ℕ)) (place : ℕ) (word text : List ℕ) → word ≡ (about key).name ++ 61 ∷ text → option_fault earlier place (option_of command word) ≡ None → accepts (about key).takes text ≡ true
 faultless command key earlier place word text is none =
     let named = option_of-named command key word text is in
-    let at : option_fault earlier place (option_map (λ k. (k, text)) (cond (has_key command key) (Some key) None)) ≡ None = sym (ap (option_fault earlier place) named) ∙ none in
-    elim (cases_Bool (has_key command key)) [
+    let at : option_fault earlier place (option_map (λ k. (k, text)) (cond ((about key).has command) (Some key) None)) ≡ None = sym (ap (option_fault earlier place) named) ∙ none in
+    elim (cases_Bool ((about key).has command)) [
       | inl has ↦
           let found : option_fault earlier place (Some (key, text)) ≡ None = sym (ap (λ b. option_fault earlier place (option_map (λ k. (k, text)) (cond b (Some key) None))) has) ∙ at in
-          elim (cases_Bool (is_some (text_given (key_name key) earlier))) [
+          elim (cases_Bool (is_some (text_given (about key).name earlier))) [
             | inl repeated ↦
-                let e : Some (Repeated place) ≡ None = sym (ap (λ b. cond b (Some (Repeated place)) (cond (accepts (takes_of key) text) None (Some (BadValue place)))) repeated) ∙ found in
+                let e : Some (Repeated place) ≡ None = sym (ap (λ b. cond b (Some (Repeated place)) (cond (accepts (about key).takes text) None (Some (BadValue place)))) repeated) ∙ found in
                 absurd cc
             | inr single ↦
-                let judged : cond (accepts (takes_of key) text) None (Some (BadValue place)) ≡ None = sym (ap (λ b. cond b (Some (Repeated place)) (cond (accepts (takes_of key) text) None (Some (BadValue place)))) single) ∙ found in
-                elim (cases_Bool (accepts (takes_of key) text)) [
+                let judged : cond (accepts (about key).takes text) None (Some (BadValue place)) ≡ None = sym (ap (λ b. cond b (Some (Repeated place)) (cond (accepts (about key).takes text) None (Some (BadValue place)))) single) ∙ found in
+                elim (cases_Bool (accepts (about key).takes text)) [
                   | inl good ↦ good
                   | inr bad ↦
                       let e : Some (BadValue place) ≡ None = sym (ap (λ b. cond b None (Some (BadValue place))) bad) ∙ judged in
@@ -144,10 +147,10 @@ text_given-at key (word ∷ words) text given = by_first (λ given. text_given-a
     by_first later (Some t) here given = (0, omega arith, here ∙ given)
 
 -- words without a fault give each key a text that it takes
-given_is_accepted : (command : Command) (key : Key) (words : List (List ℕ)) (text : List ℕ) → words_fault command words ≡ None → text_given (key_name key) words ≡ Some text → accepts (takes_of key) text ≡ true
+given_is_accepted : (command : Command) (key : Key) (words : List (List ℕ)) (text : List ℕ) → words_fault command words ≡ None → text_given (about key).name words ≡ Some text → accepts (about key).takes text ≡ true
 given_is_accepted command key words text none given =
-    let at = text_given-at (key_name key) words text given in
-    faultless command key (take at.0 words) (at.0 + 2) (get_or words at.0 []) text (after_key-some (key_name key) (get_or words at.0 []) text at.2)
+    let at = text_given-at (about key).name words text given in
+    faultless command key (take at.0 words) (at.0 + 2) (get_or words at.0 []) text (after_key-some (about key).name (get_or words at.0 []) text at.2)
     (first_fault-each (fault_at command words) (length words) at.0 none at.1)
 
 -- a text that a range takes is a numeral, and its value is of the range
@@ -170,9 +173,9 @@ accepts-number least greatest text good = by_number (number_up_to greatest text)
 pub record IsTakenText (key : Key) (text : List ℕ) : Type 0 where
   pub numeral : is_numeral text ≡ true
   pub small : value_of text < 2 ^ 64
-  pub taken : IsAccepted (takes_of key) (value_of text)
+  pub taken : IsAccepted (about key).takes (value_of text)
 
-number_taken : (key : Key) (least greatest : ℕ) (text : List ℕ) → takes_of key ≡ Number least greatest → greatest ≤ 1000000000 → accepts (takes_of key) text ≡ true → IsTakenText key text
+number_taken : (key : Key) (least greatest : ℕ) (text : List ℕ) → (about key).takes ≡ Number least greatest → greatest ≤ 1000000000 → accepts (about key).takes text ≡ true → IsTakenText key text
 number_taken key least greatest text is small good =
     let v = accepts-number least greatest text (sym (ap (λ t. accepts t text) is) ∙ good) in
     record {
@@ -181,7 +184,7 @@ number_taken key least greatest text is small good =
       taken = rw is (v.low, v.high);
     }
 
-pub accepted_is_taken : (key : Key) (text : List ℕ) → IsNumber (takes_of key) → accepts (takes_of key) text ≡ true → IsTakenText key text
+pub accepted_is_taken : (key : Key) (text : List ℕ) → IsNumber (about key).takes → accepts (about key).takes text ≡ true → IsTakenText key text
 accepted_is_taken (Input which) text number good = absurd number
 accepted_is_taken Notices text number good = absurd number
 accepted_is_taken Wait text number good = number_taken Wait 0 7200 text refl (lit≤ tt) good
@@ -193,6 +196,7 @@ accepted_is_taken Pairs text number good = number_taken Pairs 1 2000000 text ref
 accepted_is_taken Workers text number good = number_taken Workers 1 64 text refl (lit≤ tt) good
 accepted_is_taken Proof text number good = number_taken Proof 0 1 text refl (lit≤ tt) good
 accepted_is_taken Dwell text number good = number_taken Dwell 0 600 text refl (lit≤ tt) good
+accepted_is_taken Times text number good = absurd number
 accepted_is_taken Seed text number good = number_taken Seed 0 1000000000 text refl (lit≤ tt) good
 accepted_is_taken Side text number good = number_taken Side 2 100 text refl (lit≤ tt) good
 accepted_is_taken Vehicles text number good = number_taken Vehicles 1 500 text refl (lit≤ tt) good
@@ -200,7 +204,7 @@ accepted_is_taken Riders text number good = number_taken Riders 1 1000 text refl
 accepted_is_taken Rounds text number good = number_taken Rounds 1 100 text refl (lit≤ tt) good
 
 -- what a key gives of itself is a number that it takes
-pub default_is_taken : (key : Key) → IsNumber (takes_of key) → IsAccepted (takes_of key) (default_of key)
+pub default_is_taken : (key : Key) → IsNumber (about key).takes → IsAccepted (about key).takes (about key).default_number
 default_is_taken (Input which) number = absurd number
 default_is_taken Notices number = absurd number
 default_is_taken Wait number = (lit≤ tt, lit≤ tt)
@@ -212,6 +216,7 @@ default_is_taken Pairs number = (lit≤ tt, lit≤ tt)
 default_is_taken Workers number = (lit≤ tt, lit≤ tt)
 default_is_taken Proof number = (lit≤ tt, lit≤ tt)
 default_is_taken Dwell number = (lit≤ tt, lit≤ tt)
+default_is_taken Times number = absurd number
 default_is_taken Seed number = (lit≤ tt, lit≤ tt)
 default_is_taken Side number = (lit≤ tt, lit≤ tt)
 default_is_taken Vehicles number = (lit≤ tt, lit≤ tt)
@@ -219,6 +224,6 @@ default_is_taken Riders number = (lit≤ tt, lit≤ tt)
 default_is_taken Rounds number = (lit≤ tt, lit≤ tt)
 
 -- words without a fault give a key of numbers a numeral that it takes
-pub given_is_taken : (command : Command) (key : Key) (words : List (List ℕ)) (text : List ℕ) → words_fault command words ≡ None → IsNumber (takes_of key) → text_given (key_name key) words ≡ Some text → IsTakenText key text
+pub given_is_taken : (command : Command) (key : Key) (words : List (List ℕ)) (text : List ℕ) → words_fault command words ≡ None → IsNumber (about key).takes → text_given (about key).name words ≡ Some text → IsTakenText key text
 given_is_taken command key words text none number given =
     accepted_is_taken key text number (given_is_accepted command key words text none given)

@@ -1,20 +1,21 @@
-use Rattle.std.specs.Prelude.{◌≡◌, ℕ, List, [], ◌∷◌, Option, Some, IsTrue, ◌↔◌}
+use Rattle.std.specs.Prelude.{◌≡◌, ℕ, List, [], ◌∷◌, Option, Some, IsTrue, ◌↔◌, codes}
 use Rattle.std.specs.Option.{option_map_or}
 use Rattle.pool_base.specs.Number.{value_of}
 use Rattle.rider_limits.specs.declared.command.Command.{Command}
 use Rattle.rider_limits.specs.declared.command.Command.TheVariants.{Run, Load}
 use Rattle.rider_limits.specs.declared.key.Key.{Key}
-use Rattle.rider_limits.specs.declared.key.Key.TheVariants.{Wait, Delay, Trip, Penalty, Budget, Pairs, Workers, Proof, Dwell, Seed, Side, Vehicles, Riders, Rounds}
+use Rattle.rider_limits.specs.declared.key.Key.TheVariants.{Wait, Delay, Trip, Penalty, Budget, Pairs, Workers, Proof, Dwell, Times, Seed, Side, Vehicles, Riders, Rounds}
 use Rattle.rider_limits.specs.declared.load_shape.LoadShape.{LoadShape}
 use Rattle.rider_limits.specs.declared.settings.Mode.{Mode}
 use Rattle.rider_limits.specs.declared.settings.Mode.TheVariants.{Run as Running, Load as Loading}
 use Rattle.rider_limits.specs.declared.settings.Settings.{Settings}
-use Rattle.rider_limits.specs.Key.{command_of, key_name, default_of}
+use Rattle.rider_limits.specs.declared.settings.TimesWay.TheVariants.{Labels}
+use Rattle.rider_limits.specs.Key.{command_of, about}
 use Rattle.rider_limits.specs.Words.{text_given}
 
 -- the number that words give a key, or the key's own where none does
 abbrev pub number_given : Key → List (List ℕ) → ℕ
-number_given key words = option_map_or value_of (text_given (key_name key) words) (default_of key)
+number_given key words = option_map_or value_of (text_given (about key).name words) (about key).default_number
 
 -- the shape is the one that the words give
 pub record IsShapeGiven (words : List (List ℕ)) (shape : LoadShape) : Type 0 where
@@ -42,6 +43,7 @@ pub record AreGivenBehind (command : Option Command) (words : List (List ℕ)) (
   pub workers : s.workers ≡ number_given Workers words
   pub proof : IsTrue s.proof ↔ (number_given Proof words ≡ 1)
   pub dwell : s.dwell ≡ number_given Dwell words
+  pub times : (s.times ≡ Labels) ↔ (text_given (about Times).name words ≡ Some (codes "labels"))
 
 -- the settings are those that words give, of which the first is the command
 abbrev pub AreGiven : List (List ℕ) → Settings → Type 0

@@ -10,7 +10,7 @@ use Rattle.rider_limits.specs.declared.command.Command.TheVariants.{Run, Load}
 use Rattle.rider_limits.specs.declared.key.Key.{Key}
 use Rattle.rider_limits.specs.declared.word_fault.WordFault.{WordFault}
 use Rattle.rider_limits.specs.declared.word_fault.WordFault.TheVariants.{NoCommand, UnknownKey, Repeated, BadValue, MissingFile}
-use Rattle.rider_limits.specs.Key.{command_of, key_of, key_name, takes_of, accepts}
+use Rattle.rider_limits.specs.Key.{command_of, key_of, about, accepts}
 
 -- what stands behind a key and `=`, where a word begins with them
 unfoldable pub after_key : List ℕ → List ℕ → Option (List ℕ)
@@ -33,8 +33,8 @@ option_of command word =
 abbrev pub option_fault : List (List ℕ) → ℕ → Option (Key × List ℕ) → Option WordFault
 option_fault earlier word None = Some (UnknownKey word)
 option_fault earlier word (Some (key, text)) =
-    if is_some (text_given (key_name key) earlier) then Some (Repeated word)
-    else (if accepts (takes_of key) text then None else Some (BadValue word))
+    if is_some (text_given (about key).name earlier) then Some (Repeated word)
+    else (if accepts (about key).takes text then None else Some (BadValue word))
 
 -- what is wrong with the word at a place behind the command, if anything; the command is word 1
 abbrev pub fault_at : Command → List (List ℕ) → ℕ → Option WordFault

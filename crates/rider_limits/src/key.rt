@@ -1,6 +1,6 @@
 ghost use Rattle.std.specs.Prelude.{◌≡◌};
 ghost use Rattle.std.specs.List.{find};
-ghost use Rattle.rider_limits.specs.Key.{is_key};
+ghost use Rattle.rider_limits.specs.work.Taken.{is_key};
 
 use crate::command::Command;
 use pool_base::{Which, read_number_up_to};
@@ -19,6 +19,7 @@ pub(crate) enum Key {
     Workers,
     Proof,
     Dwell,
+    Times,
     Seed,
     Side,
     Vehicles,
@@ -26,18 +27,20 @@ pub(crate) enum Key {
     Rounds,
 }
 
-/// What may stand behind a key's `=`: a file's name, or a number of a range.
+/// What may stand behind a key's `=`: a file's name, a number of a range, or a way to come by travel times.
 #[derive(Clone, Copy, Debug, PartialEq, Eq)]
 pub(crate) enum Takes {
     FileName,
     Number(u64, u64),
+    Way,
 }
 
 impl Key {
-    ghost use Rattle.rider_limits.specs.Key.{key_name, is_key, key_of, has_key, takes_of, default_of};
+    ghost use Rattle.rider_limits.specs.Key.{about, key_of};
+    ghost use Rattle.rider_limits.specs.work.Taken.{is_key};
 
     pub(crate) fn name(self) -> &'static str
-        ensures { result.now ≡ key_name self }
+        ensures { result.now ≡ (about self).name }
     {
         match self {
             Key::Input(which) => which.name(),
@@ -51,6 +54,7 @@ impl Key {
             Key::Workers => "workers",
             Key::Proof => "proof",
             Key::Dwell => "dwell",
+            Key::Times => "times",
             Key::Seed => "seed",
             Key::Side => "side",
             Key::Vehicles => "vehicles",
@@ -60,7 +64,7 @@ impl Key {
     }
 
     fn is_of(self, command: Command) -> bool
-        ensures { result ≡ has_key command self }
+        ensures { result ≡ (about self).has command }
     {
         match self {
             Key::Input(_) | Key::Notices | Key::Proof => command == Command::Run,
@@ -95,6 +99,7 @@ impl Key {
             Key::Workers,
             Key::Proof,
             Key::Dwell,
+            Key::Times,
             Key::Seed,
             Key::Side,
             Key::Vehicles,
@@ -105,7 +110,7 @@ impl Key {
     }
 
     pub(crate) fn takes(self) -> Takes
-        ensures { result ≡ takes_of self }
+        ensures { result ≡ (about self).takes }
     {
         match self {
             Key::Input(_) | Key::Notices => Takes::FileName,
@@ -117,6 +122,7 @@ impl Key {
             Key::Workers => Takes::Number(1, 64),
             Key::Proof => Takes::Number(0, 1),
             Key::Dwell => Takes::Number(0, 600),
+            Key::Times => Takes::Way,
             Key::Seed => Takes::Number(0, 1_000_000_000),
             Key::Side => Takes::Number(2, 100),
             Key::Vehicles => Takes::Number(1, 500),
@@ -127,10 +133,10 @@ impl Key {
 
     /// The number where no word gives one.
     pub(crate) fn default_number(self) -> u64
-        ensures { result ≡ default_of self }
+        ensures { result ≡ (about self).default_number }
     {
         match self {
-            Key::Input(_) | Key::Notices | Key::Proof | Key::Dwell => 0,
+            Key::Input(_) | Key::Notices | Key::Proof | Key::Dwell | Key::Times => 0,
             Key::Wait => 120,
             Key::Delay => 180,
             Key::Trip | Key::Workers | Key::Rounds => 4,
@@ -163,6 +169,7 @@ impl Takes {
             Takes::Number(least, greatest) => {
                 read_number_up_to(text.as_bytes(), greatest).is_some_and(|n| least <= n)
             }
+            Takes::Way => "rows" == text || "labels" == text,
         }
     }
 }

@@ -14,7 +14,7 @@ mod words;
 
 pub use load_shape::LoadShape;
 pub use reading::read_words;
-pub use settings::{Mode, Settings};
+pub use settings::{Mode, Settings, TimesWay};
 pub use word_fault::WordFault;
 pub use words::value_of;
 

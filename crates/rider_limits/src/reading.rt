@@ -1,15 +1,17 @@
-ghost use Rattle.std.specs.Prelude.{◌≡◌, None, Some, map, IfOk, IfErr};
+ghost use Rattle.std.specs.Prelude.{◌≡◌, ◌↔◌, None, Some, codes, map, IfOk, IfErr};
 ghost use Rattle.std.specs.String.{string_bytes};
-ghost use Rattle.rider_limits.specs.Key.{takes_of};
+ghost use Rattle.rider_limits.specs.Key.{about};
 ghost use Rattle.rider_limits.specs.work.Taken.{IsNumber, IsAccepted};
-ghost use Rattle.rider_limits.specs.Words.{words_fault, fault_of};
+ghost use Rattle.rider_limits.specs.Words.{text_given, words_fault, fault_of};
 ghost use Rattle.rider_limits.specs.Settings.{number_given, IsShapeGiven, AreGivenBehind, AreGiven};
 ghost use Rattle.rider_limits.specs.declared.command.Command.TheVariants.{Load};
+ghost use Rattle.rider_limits.specs.declared.key.Key.TheVariants.{Times};
+ghost use Rattle.rider_limits.specs.declared.settings.TimesWay.TheVariants.{Labels};
 
 use crate::command::Command;
 use crate::key::Key;
 use crate::load_shape::LoadShape;
-use crate::settings::{Mode, Settings};
+use crate::settings::{Mode, Settings, TimesWay};
 use crate::word_fault::WordFault;
 use crate::words::{first_fault, missing_file, value_of};
 use pool_base::read_number_up_to;
@@ -17,9 +19,9 @@ use pool_base::read_number_up_to;
 /// The number that words without a fault give a key.
 fn number(command: Command, options: &[String], key: Key) -> u64
     requires faultless { words_fault command (map string_bytes options.now) ≡ None }
-    requires number { IsNumber (takes_of key) }
+    requires number { IsNumber (about key).takes }
     ensures value { result ≡ number_given key (map string_bytes options.now) }
-    ensures within { IsAccepted (takes_of key) result }
+    ensures within { IsAccepted (about key).takes result }
 {
     match value_of(options, key.name()) {
         None => key.default_number(),
@@ -60,6 +62,17 @@ fn settings(command: Command, options: &[String]) -> Settings
         workers: number(command, options, Key::Workers) as u8,
         proof: number(command, options, Key::Proof) == 1,
         dwell: number(command, options, Key::Dwell) as u16,
+        times: way(options),
+    }
+}
+
+/// The way to come by travel times that words give.
+fn way(options: &[String]) -> TimesWay
+    ensures { (result ≡ Labels) ↔ (text_given (about Times).name (map string_bytes options.now) ≡ Some (codes "labels")) }
+{
+    match value_of(options, Key::Times.name()) {
+        Some("labels") => TimesWay::Labels,
+        _ => TimesWay::Rows,
     }
 }
 

@@ -11,6 +11,15 @@ pub enum Mode {
     Load(LoadShape),
 }
 
+/// How a batch comes by its travel times.
+#[derive(Clone, Copy, Debug, PartialEq, Eq)]
+pub enum TimesWay {
+    /// By one search for each of its points.
+    Rows,
+    /// By labels of all nodes, which are made once, before the first batch.
+    Labels,
+}
+
 /// The settings of a run. The type keeps each number within its range.
 #[derive(Clone, Copy, Debug, PartialEq, Eq)]
 pub struct Settings {
@@ -33,5 +42,7 @@ pub struct Settings {
     pub proof: bool,
     /// What each stop takes, in seconds, 0 to 600.
     pub dwell: u16,
+    /// How a batch comes by its travel times.
+    pub times: TimesWay,
     pub ghost in_range: { AreInRange wait delay trip penalty budget pairs workers dwell },
 }

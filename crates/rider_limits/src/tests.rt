@@ -1,4 +1,4 @@
-use crate::{LoadShape, Mode, Settings, read_words, value_of};
+use crate::{LoadShape, Mode, Settings, TimesWay, read_words, value_of};
 use std::alloc::{AllocError, Global};
 use std::test::Fail;
 
@@ -26,6 +26,7 @@ fn words_without_numbers_give_the_defaults(rt: HostRuntime) -> Result<(), Fail> 
             workers: 4,
             proof: false,
             dwell: 0,
+            times: TimesWay::Rows,
         })
     );
     assert_eq!(rt; value_of(&given, "fleet"), Some("f"));
@@ -51,7 +52,7 @@ fn words_without_numbers_give_the_defaults(rt: HostRuntime) -> Result<(), Fail> 
 fn numbers_are_read_up_to_their_ends(rt: HostRuntime) -> Result<(), Fail> {
     let given = words(
         rt.alloc(),
-        "run network=n script=a=b fleet=f notices=o wait=07200 delay=0 trip=6 penalty=1000000000 budget=50000 pairs=1 workers=64 proof=1 dwell=600",
+        "run network=n script=a=b fleet=f notices=o wait=07200 delay=0 trip=6 penalty=1000000000 budget=50000 pairs=1 workers=64 proof=1 dwell=600 times=labels",
     )?;
     assert_eq!(rt;
         read_words(&given),
@@ -66,6 +67,7 @@ fn numbers_are_read_up_to_their_ends(rt: HostRuntime) -> Result<(), Fail> {
             workers: 64,
             proof: true,
             dwell: 600,
+            times: TimesWay::Labels,
         })
     );
     assert_eq!(rt; value_of(&given, "script"), Some("a=b"));

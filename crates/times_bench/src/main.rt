@@ -1,9 +1,11 @@
-//! Times tables of shortest times: how long `times_between` takes on a network, between nodes spread evenly
-//! over it, and the sum of each table's cells, by which another program's table can be compared.
+//! Times tables of shortest times: how long a table takes on a network, by searches or by labels, between nodes
+//! spread evenly over it, and the sum of each table's cells, by which another program's table can be compared.
 #![tactic(auto)]
 
-ghost use Rattle.std.specs.Prelude.{◌<◌, ◌≤◌, IfSome};
+ghost use Rattle.std.specs.Prelude.{◌≡◌, ◌<◌, ◌≤◌, IfOk, IfSome};
+ghost use Rattle.hub_labels.specs.Labels.{AreLabelsOf};
 
+use hub_labels::{LabelWays, Labels};
 use pool_base::{NodeId, OutOfMemory, Times, read_number_up_to};
 use pool_io::{StdSource, read_all, rows};
 use road_network::{Network, read_network};
@@ -13,17 +15,19 @@ use std::process::ExitCode;
 use std::thread::{Threads, available_parallelism};
 use std::time::Instant;
 use std::{env, io};
-use travel_times::{are_known, times_between};
+use travel_times::{NetworkWays, Ways, are_known};
 
 const USAGE: &str = "\
-usage: times_bench NETWORK POINTS REPEATS
+usage: times_bench NETWORK POINTS REPEATS WAY
 
-Prints how many threads there are, and then a line for each repeat: the microseconds that a table of
-shortest times took, and the sum of its cells modulo 2^64.
+Prints how many threads there are, for labels the microseconds that they took and how many hubs they have,
+and then a line for each repeat: the microseconds that a table of shortest times took, and the sum of its
+cells modulo 2^64.
 
   NETWORK   a file of streets: from,to,seconds
   POINTS    how many nodes, spread evenly over the network, 0 to 12500
   REPEATS   how many times the table is made, 0 to 1000
+  WAY       rows, by one search for each node, or labels
 
 Exit status: 0 done; 2 words; 3 network; 4 clock or output; 5 out of memory.
 ";
@@ -39,6 +43,7 @@ struct Wish {
     network: String,
     points: usize,
     repeats: u64,
+    by_labels: bool,
 }
 
 /// Why not all was measured.
@@ -82,16 +87,56 @@ fn measure(rt: &HostRuntime, threads: &(impl Threads + Sync)) -> Result<(), Faul
     let network = network_of(rt, &wish.network)?;
     let nodes = spread_nodes(rt.alloc(), &network, wish.points)?;
     println!(rt; "threads {}", available_parallelism(threads)?)?;
-    for _repeat in 0..wish.repeats {
+    if wish.by_labels {
+        let ways = LabelWays::of(&network, labels_of(rt, &network)?);
+        measure_tables(rt, threads, &network, &ways, &nodes, wish.repeats)
+    } else {
+        let ways = NetworkWays { network: &network };
+        measure_tables(rt, threads, &network, &ways, &nodes, wish.repeats)
+    }
+}
+
+/// The labels of a network, timed.
+fn labels_of(rt: &HostRuntime, network: &Network) -> Result<Labels, Fault>
+    ensures { IfOk result (AreLabelsOf network.now) }
+{
+    let start = Instant::now(rt)?;
+    let labels = Labels::build(rt.alloc(), network)?;
+    let took = start.elapsed(rt)?.as_micros();
+    println!(rt; "labels {took} microseconds, nodes {}, hubs {}", labels.len(), hubs_of(&labels))?;
+    Ok(labels)
+}
+
+/// How many hubs all labels have.
+fn hubs_of(labels: &Labels) -> u64 {
+    let mut hubs = 0u64;
+    for node in 0..labels.len() {
+        hubs = hubs.wrapping_add(labels.forward(node).len() as u64);
+        hubs = hubs.wrapping_add(labels.backward(node).len() as u64);
+    }
+    hubs
+}
+
+fn measure_tables<W: Ways>(
+    rt: &HostRuntime,
+    threads: &(impl Threads + Sync),
+    network: &Network,
+    ways: &W,
+    nodes: &[NodeId],
+    repeats: u64,
+) -> Result<(), Fault>
+    requires { W.roads ways.now ≡ network.now }
+{
+    for _repeat in 0..repeats {
         let start = Instant::now(rt)?;
-        let times = table_of(threads, rt.alloc(), &network, &nodes)?;
+        let times = table_of(threads, rt.alloc(), network, ways, nodes)?;
         let took = start.elapsed(rt)?.as_micros();
         println!(rt; "{took} microseconds, cells {}", sum_of(&times))?;
     }
     Ok(())
 }
 
-/// What the words ask for; `None` where they aren't a path and two numbers.
+/// What the words ask for; `None` where they aren't a path, two numbers and a way.
 fn wish_of(rt: &HostRuntime) -> Option<Wish>
     ensures { IfSome result (λ wish. wish.points ≤ 12500) }
 {
@@ -99,10 +144,15 @@ fn wish_of(rt: &HostRuntime) -> Option<Wish>
     let network = words.next()?;
     let points = read_number_up_to(words.next()?.as_bytes(), MOST_POINTS)? as usize;
     let repeats = read_number_up_to(words.next()?.as_bytes(), 1000)?;
+    let way = words.next()?;
+    if way.as_str() != "rows" && way.as_str() != "labels" {
+        return None;
+    }
     Some(Wish {
         network,
         points,
         repeats,
+        by_labels: way.as_str() == "labels",
     })
 }
 
@@ -149,14 +199,17 @@ fn spread_index(place: usize, count: usize, all: usize) -> usize
 }
 
 /// The table of these nodes, if the network has them all.
-fn table_of(
+fn table_of<W: Ways>(
     threads: &(impl Threads + Sync),
     alloc: Global,
     network: &Network,
+    ways: &W,
     nodes: &[NodeId],
-) -> Result<Times, Fault> {
+) -> Result<Times, Fault>
+    requires { W.roads ways.now ≡ network.now }
+{
     if nodes.len() <= 12_500 && are_known(network, nodes) {
-        Ok(times_between(threads, alloc, network, nodes)?)
+        Ok(ways.table(threads, alloc, nodes)?)
     } else {
         Err(Fault::Network)
     }

@@ -11,7 +11,7 @@ use pair_graph::{rider_rider, rider_vehicle};
 use plan_rules::TripRow;
 use pool_base::{NodeId, OutOfMemory, Steps, Times};
 use promise_check::settle;
-use rider_limits::{Mode, Settings};
+use rider_limits::{Mode, Settings, TimesWay};
 use std::alloc::Global;
 use std::marker::Brand;
 use std::sync::ledger::{Blank, Ledger};
@@ -65,6 +65,7 @@ pub fn settings_of(wait: u32, delay: u32, pairs: u32, workers: u8) -> Settings
         workers,
         proof: false,
         dwell: 0,
+        times: TimesWay::Rows,
     }
 }
 

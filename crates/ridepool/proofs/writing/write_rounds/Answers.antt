@@ -1,58 +1,6 @@
-use Rattle.std.proofs.Common.{◌<◌, ◌≡◌, Err, length, ap, arith}
-use Rattle.std.proofs.lemmas.Result.{err_from_is_err_and}
-use Rattle.ridepool.proofs.WriteLemmas.{written_none, written_next, written_whole, written_all, round_fault, end_unwritten, lacks_end, flushed_end}
+use Rattle.ridepool.proofs.WriteLemmas.{nothing_written}
 use Rattle.ridepool.proofs.writing.write_rounds.Goals as goal
 
-pub loop-round-init : goal.loop-round-init
-loop-round-init g c = (written_none c.args.settings.now c.args.network.now c.args.book (g.K.Sink.written c.args.out.now) _ c.requires.empty c.requires.ready, omega arith)
-
-pub loop-round-preserved : goal.loop-round-preserved
-loop-round-preserved g c =
-    let rounds = c.args.rounds.now in
-    let i = c.loop-round.round-index in
-    let within : i < length rounds = omega arith in (
-      written_next c.args.settings.now c.args.network.now c.args.book c.loop-round.current c.in_ok-current.current rounds i c.round-item.result
-          (g.K.Sink.written c.args.out.now) (g.K.Sink.written c.loop-round.out) (g.K.Sink.written c.write_next.new.out) _ _ _
-          within c.round-item.is c.loop-round.invariant.0 c.in_ok-current.ensures.round,
-      omega (arith, c.loop-round.invariant.1, c.write_next.ensures.never_falls),
-    )
-
-pub returns-in_err-current-clause-rounds : goal.returns-in_err-current-clause-rounds
-returns-in_err-current-clause-rounds g c =
-    let rounds = c.args.rounds.now in
-    let i = c.loop-round.round-index in
-    let within : i < length rounds = omega arith in
-    let p = err_from_is_err_and c.from_residual.result c.from_residual.ensures.1 in
-    rw (p.1, p.2)
-    (round_fault c.args.settings.now c.args.network.now c.args.book c.loop-round.current rounds i c.round-item.result
-    (g.K.Sink.written c.args.out.now) (g.K.Sink.written c.loop-round.out) (g.K.Sink.written c.write_next.new.out) _ _ _
-    (g.K.Sink.faults c.args.out.now) (g.K.Sink.faults c.loop-round.out) (g.K.Sink.faults c.write_next.new.out)
-    c.in_err-current.field-0.0 within c.round-item.is c.loop-round.invariant.1 c.loop-round.invariant.0 c.in_err-current.ensures.round)
-
-pub returns-in-Ok-clause-rounds : goal.returns-in-Ok-clause-rounds
-returns-in-Ok-clause-rounds g c =
-    let rounds = c.args.rounds.now in
-    let i = c.loop-round.round-index in
-    let before = g.K.Sink.written c.args.out.now in
-    let here = g.K.Sink.written c.loop-round.out in
-    let end : i ≡ length rounds = omega arith in
-    flushed_end c.args.settings.now c.args.network.now c.args.book rounds before (g.K.Sink.written c.write_end.new.sink) (g.K.Sink.written c.flush.new.out) _ _
-    (g.K.Sink.faults c.args.out.now) (g.K.Sink.faults c.write_end.new.sink) (g.K.Sink.faults c.flush.new.out) c.flush.result
-    (omega (arith, c.loop-round.invariant.1, c.write_end.ensures.never_falls))
-    (written_all c.args.settings.now c.args.network.now c.args.book c.loop-round.current rounds before here (g.K.Sink.written c.write_end.new.sink) _ _ c.next_position.result
-    (written_whole c.args.settings.now c.args.network.now c.args.book c.loop-round.current rounds i before here _ _ end c.loop-round.invariant.0) c.next_position.ensures c.in-Ok.ensures.bytes)
-    c.flush.ensures
-
-pub returns-clause-rounds : goal.returns-clause-rounds
-returns-clause-rounds g c =
-    let rounds = c.args.rounds.now in
-    let i = c.loop-round.round-index in
-    let before = g.K.Sink.written c.args.out.now in
-    let here = g.K.Sink.written c.loop-round.out in
-    let after = g.K.Sink.written c.write_end.new.sink in
-    let end : i ≡ length rounds = omega arith in
-    end_unwritten c.args.settings.now c.args.network.now c.args.book rounds before after _ _ (g.K.Sink.faults c.args.out.now) (g.K.Sink.faults c.loop-round.out) (g.K.Sink.faults c.write_end.new.sink)
-    c.in-Err.fault c.status_of.result c.status_of.ensures
-    (lacks_end c.args.settings.now c.args.network.now c.args.book c.loop-round.current rounds before here after _ _ c.next_position.result
-    (written_whole c.args.settings.now c.args.network.now c.args.book c.loop-round.current rounds i before here _ _ end c.loop-round.invariant.0) c.next_position.ensures c.in-Err.ensures.bytes)
-    c.loop-round.invariant.1 (λ is. c.in-Err.ensures.fault (ap Err is))
+pub returns-in_default-clause-rounds : goal.returns-in_default-clause-rounds
+returns-in_default-clause-rounds g c =
+    nothing_written c.args.settings.now c.args.network.now c.args.book c.args.rounds.now (g.K.Sink.written c.args.out.now) _
