@@ -3,16 +3,13 @@ ghost use Rattle.std.specs.Prelude.{◌≡◌, ◌≤◌};
 use crate::solve_batch;
 use batch_snapshot::Snapshot;
 use fleet_state::{HEADER as FLEET_HEADER, read_fleet};
-use pool_base::{NodeId, OutOfMemory, Party, RiderId, Second, Times, VehicleId};
+use pool_base::{NodeId, OutOfMemory, Party, RiderId, Second, Times};
 use pool_io::rows;
-use request_book::{
-    Answer, Book, Command, LateVehicle, MoveLine, Outcome, Planned, PlannedStop, Reply,
-};
+use request_book::{Answer, Book, Command, Outcome, Reply};
 use rider_limits::{Mode, Settings, TimesWay};
 use road_network::{Network, read_network};
 use std::alloc::Global;
 use std::sync::atomic::{AtomicU64, Ordering};
-use std::test::Fail;
 use std::thread::Threads;
 use travel_times::{NetworkWays, Ways, are_known, times_between};
 use worker_gate::FreeGate;
@@ -27,8 +24,6 @@ const FOUR_SEATS: &[u8] = b"vehicle,seats,node,second\n1,4,1,0\n";
 const TWO_SEATS: &[u8] = b"vehicle,seats,node,second\n1,2,1,0\n";
 
 // Rider 1 goes from node 2 to 4, rider 2 from 3 to 5.
-const ONE: &[(u64, u64, u64)] = &[(1, 2, 4)];
-
 const BOTH: &[(u64, u64, u64)] = &[(1, 2, 4), (2, 3, 5)];
 
 fn line(alloc: Global) -> Option<Network> {
@@ -56,10 +51,6 @@ fn book_of(alloc: Global, network: &Network, fleet: &[u8]) -> Option<Book> {
 
 fn rider(name: u64) -> RiderId {
     RiderId::new(name).unwrap_or(RiderId::default())
-}
-
-fn vehicle(name: u64) -> VehicleId {
-    VehicleId::new(name).unwrap_or(VehicleId::default())
 }
 
 fn node(name: u64) -> NodeId {
@@ -265,143 +256,6 @@ fn answer_of(
     }
 }
 
-fn are_riders(ids: &[RiderId], names: &[u32]) -> bool {
-    if ids.len() != names.len() {
-        return false;
-    }
-    for k in 0..ids.len() {
-        if ids[k].get() != names[k] {
-            return false;
-        }
-    }
-    true
-}
-
-fn is_stop(stop: &PlannedStop, expected: (bool, u32, u32, u64)) -> bool {
-    stop.pick == expected.0
-        && stop.rider.get() == expected.1
-        && stop.node.get() == expected.2
-        && stop.second == expected.3
-}
-
-fn are_stops(stops: &[PlannedStop], expected: &[(bool, u32, u32, u64)]) -> bool {
-    if stops.len() != expected.len() {
-        return false;
-    }
-    for k in 0..stops.len() {
-        if !is_stop(&stops[k], expected[k]) {
-            return false;
-        }
-    }
-    true
-}
-
-// Whether the row of this number has these riders and this cost.
-fn has_row(planned: &Planned, number: usize, names: &[u32], cost: u64) -> bool {
-    match planned.rows.as_slice().get(number) {
-        Some(row) => row.cost == cost && are_riders(row.riders.as_slice(), names),
-        None => false,
-    }
-}
-
-// Whether the only trip has this cost and these stops.
-fn has_trip(planned: &Planned, cost: u64, stops: &[(bool, u32, u32, u64)]) -> bool {
-    match planned.chosen.as_slice() {
-        [trip] => trip.cost == cost && are_stops(trip.stops.as_slice(), stops),
-        _ => false,
-    }
-}
-
-fn has_rv(planned: &Planned, riders: usize) -> bool {
-    let lines = planned.rv.as_slice();
-    if lines.len() != riders {
-        return false;
-    }
-    for k in 0..lines.len() {
-        if lines[k].0.get() != 1 || lines[k].1.get() as usize != k + 1 {
-            return false;
-        }
-    }
-    true
-}
-
-fn has_costs(planned: &Planned, cost: u64) -> bool {
-    planned.cost == cost && planned.bound == i128::from(cost)
-}
-
-fn serves_one(planned: &Planned) -> bool {
-    has_rv(planned, 1)
-        && planned.rr.is_empty()
-        && planned.rows.len() == 2
-        && has_row(planned, 0, &[], 0)
-        && has_row(planned, 1, &[1], 60)
-        && has_trip(planned, 60, &[(true, 1, 2, 60), (false, 1, 4, 180)])
-        && planned.left.is_empty()
-        && planned.moves.is_empty()
-        && has_costs(planned, 60)
-}
-
-fn is_move(line: &MoveLine) -> bool {
-    line.vehicle.get() == 1 && line.rider.get() == 1 && line.seconds == 60
-}
-
-fn leaves_one(planned: &Planned) -> bool {
-    let moved = match planned.moves.as_slice() {
-        [line] => is_move(line),
-        _ => false,
-    };
-    moved
-        && has_rv(planned, 0)
-        && planned.rows.len() == 1
-        && has_row(planned, 0, &[], 0)
-        && has_trip(planned, 0, &[])
-        && are_riders(planned.left.as_slice(), &[1])
-        && has_costs(planned, 10_000)
-}
-
-fn pools_both(planned: &Planned) -> bool {
-    let paired = match planned.rr.as_slice() {
-        [(first, second)] => first.get() == 1 && second.get() == 2,
-        _ => false,
-    };
-    let stops = &[
-        (true, 1, 2, 60),
-        (true, 2, 3, 120),
-        (false, 1, 4, 180),
-        (false, 2, 5, 240),
-    ];
-    paired
-        && has_rv(planned, 2)
-        && planned.rows.len() == 4
-        && has_row(planned, 0, &[], 0)
-        && has_row(planned, 1, &[1], 60)
-        && has_row(planned, 2, &[2], 120)
-        && has_row(planned, 3, &[1, 2], 180)
-        && has_trip(planned, 180, stops)
-        && planned.left.is_empty()
-        && planned.moves.is_empty()
-        && has_costs(planned, 180)
-}
-
-fn is_late(line: &LateVehicle) -> bool {
-    match &line.stops {
-        Some(stops) => {
-            line.vehicle.get() == 1
-                && line.delay == 1_000
-                && are_stops(stops.as_slice(), &[(false, 1, 4, 1_120)])
-        }
-        None => false,
-    }
-}
-
-fn tells_late(planned: &Planned) -> bool {
-    let late = match planned.late.as_slice() {
-        [line] => is_late(line),
-        _ => false,
-    };
-    late && planned.rows.is_empty() && planned.chosen.is_empty() && has_costs(planned, 0)
-}
-
 #[test]
 fn the_ways_are_asked_once(rt: HostRuntime) {
     let asked = tables_of_the_line(&rt, rt.alloc(), &settings(120, 200_000));
@@ -409,115 +263,10 @@ fn the_ways_are_asked_once(rt: HostRuntime) {
 }
 
 #[test]
-fn a_rider_is_served(rt: HostRuntime) -> Result<(), Fail> {
-    let answer = answer_of(&rt, rt.alloc(), FOUR_SEATS, ONE, &settings(120, 200_000));
-    let served = match &answer {
-        Some(Answer::Planned(planned)) => serves_one(planned),
-        _ => false,
-    };
-    assert!(rt; served);
-    Ok(())
-}
-
-#[test]
-fn a_rider_who_is_out_of_reach_is_left_out(rt: HostRuntime) -> Result<(), Fail> {
-    let answer = answer_of(&rt, rt.alloc(), FOUR_SEATS, ONE, &settings(59, 200_000));
-    let left = match &answer {
-        Some(Answer::Planned(planned)) => leaves_one(planned),
-        _ => false,
-    };
-    assert!(rt; left);
-    Ok(())
-}
-
-#[test]
-fn two_riders_share_a_vehicle(rt: HostRuntime) -> Result<(), Fail> {
-    let answer = answer_of(&rt, rt.alloc(), TWO_SEATS, BOTH, &settings(120, 4));
-    let pooled = match &answer {
-        Some(Answer::Planned(planned)) => pools_both(planned),
-        _ => false,
-    };
-    assert!(rt; pooled);
-    Ok(())
-}
-
-#[test]
-fn four_rows_are_more_than_three(rt: HostRuntime) -> Result<(), Fail> {
-    let answer = answer_of(&rt, rt.alloc(), TWO_SEATS, BOTH, &settings(120, 3));
-    let over = match &answer {
-        Some(Answer::Overflow) => true,
-        _ => false,
-    };
-    assert!(rt; over);
-    Ok(())
-}
-
-// Whether rider 1 is planned at second 0 and picked up at second 60.
-fn rides(rt: &(impl Threads + Sync), alloc: Global, network: &Network, book: &mut Book) -> bool {
-    if !asks(book, ONE) {
-        return false;
-    }
-    match outcome_at(rt, alloc, network, book, 0, &settings(120, 200_000)) {
-        Some(outcome) => is_picked_up(book, outcome),
-        None => false,
-    }
-}
-
-fn is_picked_up(book: &mut Book, outcome: Outcome) -> bool {
-    let now = second(0);
-    let pickup = Command::Pickup {
-        vehicle: vehicle(1),
-        rider: rider(1),
-        time: second(60),
-    };
-    takes(book, Command::Seal { now })
-        && takes(book, Command::Close { batch: 1, outcome })
-        && takes(book, pickup)
-}
-
-fn late_in(
-    rt: &(impl Threads + Sync),
-    alloc: Global,
-    network: &Network,
-    book: &mut Book,
-) -> Option<Answer> {
-    if !rides(rt, alloc, network, book) {
-        return None;
-    }
-    match outcome_at(rt, alloc, network, book, 1_000, &settings(120, 200_000)) {
-        Some(outcome) => Some(outcome.answer),
-        None => None,
-    }
-}
-
-// The answer of the batch of second 1,000, with rider 1 aboard at node 2 since second 60.
-fn late_answer(rt: &(impl Threads + Sync), alloc: Global) -> Option<Answer> {
-    match line(alloc) {
-        Some(network) => match book_of(alloc, &network, FOUR_SEATS) {
-            Some(mut book) => late_in(rt, alloc, &network, &mut book),
-            None => None,
-        },
-        None => None,
-    }
-}
-
-#[test]
-fn a_late_passenger_is_dropped(rt: HostRuntime) -> Result<(), Fail> {
-    let answer = late_answer(&rt, rt.alloc());
-    let late = match &answer {
-        Some(Answer::Planned(planned)) => tells_late(planned),
-        _ => false,
-    };
-    assert!(rt; late);
-    Ok(())
-}
-
-#[test]
-fn answers_with_memory(rt: HostRuntime) -> Result<(), Fail> {
+fn answers_with_memory(rt: HostRuntime) {
     let alloc = rt.alloc();
-    let shared = answer_of(&rt, alloc, TWO_SEATS, BOTH, &settings(120, 4)).is_some();
-    let left = answer_of(&rt, alloc, FOUR_SEATS, ONE, &settings(59, 200_000)).is_some();
-    let late = late_answer(&rt, alloc).is_some();
-    assert!(rt; shared && left && late);
-    Ok(())
+    let shared = answer_of(&rt, alloc, TWO_SEATS, BOTH, &settings(120, 4));
+    assert!(rt; matches!(shared, Some(Answer::Planned(_))));
+    let over = answer_of(&rt, alloc, TWO_SEATS, BOTH, &settings(120, 3));
+    assert!(rt; matches!(over, Some(Answer::Overflow)));
 }

@@ -1,13 +1,11 @@
 //! Worked scripts of commands on a line of five nodes, 60 seconds between neighbours.
 use crate::BookRefusal::{
-    BatchOpen, BookFull, ClockBack, DuplicateRider, Ended, IsAboard, NotAboard, NotPromised,
-    NotThisBatch, PoolFull, SamePlace, TimeBack, UnknownNode, UnknownRider, UnknownVehicle,
-    VehicleFull,
+    BatchOpen, ClockBack, DuplicateRider, Ended, IsAboard, NotAboard, NotThisBatch,
 };
-use crate::Reply::{Accepted, Closed, Dropped, Picked, Placed, Refused, Sealed};
+use crate::Reply::{Accepted, Closed, Dropped, Picked, Refused, Sealed};
 use crate::{Answer, Book, ChosenTrip, Command, Outcome, Planned, PlannedStop, Reply, Status};
 use arrayvec::ArrayVec;
-use batch_snapshot::{Promise, Snapshot};
+use batch_snapshot::Snapshot;
 use fleet_state::read_fleet;
 use plan_rules::Tree;
 use pool_base::{NodeId, Party, RiderId, Second, Sequence, VehicleId};
@@ -29,10 +27,7 @@ const TWO: &[u8] = b"vehicle,seats,node,second\n1,4,1,0\n2,4,1,0\n";
 #[derive(Clone, Copy, Debug, PartialEq)]
 enum Ask {
     Submit(u64, u64, u64, u64),
-    /// A submit of rider, persons, from node 2 to node 4 at second 0.
-    Party(u64, u64),
     Cancel(u64),
-    Report(u64, u64, u64),
     Pickup(u64, u64, u64),
     Dropoff(u64, u64, u64),
     Seal(u64),
@@ -44,8 +39,6 @@ enum Ask {
     Overflow(u64),
     /// A submit of each rider from the first to before the second.
     Submits(u64, u64),
-    /// The same, each giving up before the next.
-    Passes(u64, u64),
 }
 
 fn rider_id(name: u64) -> RiderId {
@@ -89,13 +82,13 @@ fn book(alloc: Global, fleet: &[u8]) -> Result<Book, AllocError> {
     }
 }
 
-fn submit(rider: u64, origin: u64, destination: u64, time: u64, persons: u64) -> Command {
+fn submit(rider: u64, origin: u64, destination: u64, time: u64) -> Command {
     Command::Submit {
         rider: rider_id(rider),
         origin: node(origin),
         destination: node(destination),
         time: second(time),
-        party: Party::new(persons).unwrap_or(Party::ONE),
+        party: Party::ONE,
     }
 }
 
@@ -157,16 +150,10 @@ fn giving(
 fn command(alloc: Global, ask: Ask) -> Result<Command, AllocError> {
     match ask {
         Ask::Submit(rider, origin, destination, time) => {
-            Ok(submit(rider, origin, destination, time, 1))
+            Ok(submit(rider, origin, destination, time))
         }
-        Ask::Party(rider, persons) => Ok(submit(rider, 2, 4, 0, persons)),
         Ask::Cancel(rider) => Ok(Command::Cancel {
             rider: rider_id(rider),
-        }),
-        Ask::Report(vehicle, at, time) => Ok(Command::Report {
-            vehicle: vehicle_id(vehicle),
-            node: node(at),
-            time: second(time),
         }),
         Ask::Pickup(vehicle, rider, time) => Ok(Command::Pickup {
             vehicle: vehicle_id(vehicle),
@@ -182,7 +169,7 @@ fn command(alloc: Global, ask: Ask) -> Result<Command, AllocError> {
         Ask::Close(batch) => Ok(close(alloc, batch, planned(alloc, Vec::new(alloc)))),
         Ask::Give(batch, vehicle, rider, time) => giving(alloc, batch, vehicle, rider, time),
         Ask::Overflow(batch) => Ok(close(alloc, batch, Answer::Overflow)),
-        Ask::Submits(..) | Ask::Passes(..) => Err(AllocError),
+        Ask::Submits(..) => Err(AllocError),
     }
 }
 
@@ -205,7 +192,6 @@ fn answer(alloc: Global, book: &mut Book, ask: Ask) -> Option<Reply> {
 fn reply(alloc: Global, book: &mut Book, ask: Ask) -> Option<Reply> {
     match ask {
         Ask::Submits(first, end) => all_submit(alloc, book, first, end),
-        Ask::Passes(first, end) => all_pass(alloc, book, first, end),
         ask => answer(alloc, book, ask),
     }
 }
@@ -218,20 +204,6 @@ fn all_submit(alloc: Global, book: &mut Book, first: u64, end: u64) -> Option<Re
         }
     }
     Some(Accepted)
-}
-
-fn all_pass(alloc: Global, book: &mut Book, first: u64, end: u64) -> Option<Reply> {
-    for rider in first..end {
-        let given = answer(alloc, book, Ask::Submit(rider, 2, 4, 0));
-        if given != Some(Accepted) {
-            return given;
-        }
-        let given = answer(alloc, book, Ask::Cancel(rider));
-        if given != Some(Reply::Cancelled) {
-            return given;
-        }
-    }
-    Some(Reply::Cancelled)
 }
 
 /// The first step of a script that is answered otherwise, with its answer.
@@ -283,28 +255,6 @@ fn leaves(
 
 fn ended(status: Status) -> Reply {
     Refused(Ended { status })
-}
-
-#[test]
-fn every_kind_of_fault_of_a_day_is_refused(rt: HostRuntime) -> Result<(), Fail> {
-    let script = [
-        (Ask::Submit(1, 2, 4, 0), Accepted),
-        (Ask::Submit(1, 2, 4, 0), Refused(DuplicateRider)),
-        (Ask::Submit(2, 9, 4, 0), Refused(UnknownNode)),
-        (Ask::Submit(2, 2, 2, 0), Refused(SamePlace)),
-        (Ask::Cancel(7), Refused(UnknownRider)),
-        (Ask::Cancel(1), Reply::Cancelled),
-        (Ask::Cancel(1), ended(Status::Cancelled)),
-        (Ask::Report(9, 1, 0), Refused(UnknownVehicle)),
-        (Ask::Report(1, 2, 10), Placed),
-        (Ask::Report(1, 2, 9), Refused(TimeBack { last: second(10) })),
-        (Ask::Dropoff(1, 1, 10), Refused(NotAboard)),
-        (Ask::Seal(50), Sealed { batch: 1 }),
-        (Ask::Close(1), Closed),
-        (Ask::Seal(49), Refused(ClockBack { last: second(50) })),
-    ];
-    assert_eq!(rt; played(rt.alloc(), ONE, &script)?, None);
-    Ok(())
 }
 
 #[test]
@@ -362,140 +312,6 @@ fn one_batch_is_open_at_a_time(rt: HostRuntime) -> Result<(), Fail> {
 }
 
 #[test]
-fn submits_are_refused_by_the_first_fault(rt: HostRuntime) -> Result<(), Fail> {
-    let script = [
-        (Ask::Submit(1, 2, 4, 0), Accepted),
-        (Ask::Submit(1, 9, 9, 0), Refused(DuplicateRider)),
-        (Ask::Submit(2, 9, 9, 0), Refused(UnknownNode)),
-        (Ask::Submit(2, 2, 9, 0), Refused(UnknownNode)),
-        (Ask::Submit(2, 2, 2, 0), Refused(SamePlace)),
-        (Ask::Submit(2, 5, 1, 1_000_000_000), Accepted),
-        (Ask::Cancel(2), Reply::Cancelled),
-        (Ask::Submit(2, 5, 1, 0), Refused(DuplicateRider)),
-    ];
-    assert_eq!(rt; played(rt.alloc(), ONE, &script)?, None);
-    Ok(())
-}
-
-#[test]
-fn who_is_aboard_or_has_ended_is_told(rt: HostRuntime) -> Result<(), Fail> {
-    let aboard = Refused(IsAboard {
-        vehicle: vehicle_id(1),
-    });
-    let script = [
-        (Ask::Submit(1, 2, 4, 0), Accepted),
-        (Ask::Seal(0), Sealed { batch: 1 }),
-        (Ask::Give(1, 1, 1, 60), Closed),
-        (Ask::Pickup(1, 1, 60), Picked),
-        (Ask::Cancel(1), aboard),
-        (Ask::Pickup(1, 1, 60), aboard),
-        (Ask::Dropoff(1, 1, 180), Dropped),
-        (Ask::Cancel(1), ended(Status::Delivered)),
-        (Ask::Pickup(1, 1, 180), ended(Status::Delivered)),
-        (Ask::Dropoff(1, 1, 180), Refused(NotAboard)),
-        (Ask::Submit(2, 2, 4, 0), Accepted),
-        (Ask::Seal(121), Sealed { batch: 2 }),
-        (Ask::Cancel(2), ended(Status::Expired)),
-        (Ask::Pickup(1, 2, 180), ended(Status::Expired)),
-        (Ask::Submit(3, 2, 4, 0), Accepted),
-        (Ask::Cancel(3), Reply::Cancelled),
-        (Ask::Pickup(1, 3, 180), ended(Status::Cancelled)),
-    ];
-    assert_eq!(rt; played(rt.alloc(), ONE, &script)?, None);
-    Ok(())
-}
-
-#[test]
-fn vehicles_are_refused_by_the_first_fault(rt: HostRuntime) -> Result<(), Fail> {
-    let script = [
-        (Ask::Report(9, 9, 0), Refused(UnknownVehicle)),
-        (Ask::Report(1, 2, 10), Placed),
-        (Ask::Report(1, 9, 9), Refused(UnknownNode)),
-        (Ask::Report(1, 2, 9), Refused(TimeBack { last: second(10) })),
-        (Ask::Report(1, 3, 10), Placed),
-        (Ask::Pickup(9, 9, 0), Refused(UnknownVehicle)),
-        (Ask::Pickup(1, 9, 0), Refused(UnknownRider)),
-        (Ask::Dropoff(9, 9, 0), Refused(UnknownVehicle)),
-        (Ask::Dropoff(1, 9, 0), Refused(UnknownRider)),
-        (Ask::Submit(1, 2, 4, 0), Accepted),
-        (Ask::Pickup(1, 1, 0), Refused(NotPromised { holder: None })),
-        (Ask::Dropoff(1, 1, 0), Refused(NotAboard)),
-    ];
-    assert_eq!(rt; played(rt.alloc(), ONE, &script)?, None);
-    Ok(())
-}
-
-#[test]
-fn only_the_promised_vehicle_picks_up(rt: HostRuntime) -> Result<(), Fail> {
-    let other = Refused(NotPromised {
-        holder: Some(vehicle_id(2)),
-    });
-    let script = [
-        (Ask::Submit(1, 2, 4, 0), Accepted),
-        (Ask::Seal(0), Sealed { batch: 1 }),
-        (Ask::Give(1, 2, 1, 60), Closed),
-        (Ask::Pickup(1, 1, 60), other),
-        (Ask::Report(2, 1, 50), Placed),
-        (
-            Ask::Pickup(2, 1, 49),
-            Refused(TimeBack { last: second(50) }),
-        ),
-        (Ask::Pickup(2, 1, 60), Picked),
-        (Ask::Dropoff(1, 1, 60), Refused(NotAboard)),
-        (
-            Ask::Dropoff(2, 1, 59),
-            Refused(TimeBack { last: second(60) }),
-        ),
-        (Ask::Dropoff(2, 1, 60), Dropped),
-    ];
-    assert_eq!(rt; played(rt.alloc(), TWO, &script)?, None);
-    Ok(())
-}
-
-#[test]
-fn seats_are_counted_in_persons(rt: HostRuntime) -> Result<(), Fail> {
-    let script = [
-        (Ask::Party(1, 2), Accepted),
-        (Ask::Seal(0), Sealed { batch: 1 }),
-        (Ask::Give(1, 1, 1, 0), Closed),
-        (Ask::Pickup(1, 1, 0), Picked),
-        (Ask::Party(2, 3), Accepted),
-        (Ask::Seal(0), Sealed { batch: 2 }),
-        (Ask::Give(2, 1, 2, 0), Closed),
-        (Ask::Pickup(1, 2, 0), Refused(VehicleFull)),
-        (Ask::Party(3, 2), Accepted),
-        (Ask::Seal(0), Sealed { batch: 3 }),
-        (Ask::Give(3, 1, 3, 0), Closed),
-        (Ask::Pickup(1, 3, 0), Picked),
-        // The last plan had no trip for her, so she waits again.
-        (Ask::Pickup(1, 2, 0), Refused(NotPromised { holder: None })),
-    ];
-    assert_eq!(rt; played(rt.alloc(), ONE, &script)?, None);
-    Ok(())
-}
-
-#[test]
-fn an_overflow_leaves_promises(rt: HostRuntime) -> Result<(), Fail> {
-    let script = [
-        (Ask::Submit(1, 2, 4, 0), Accepted),
-        (Ask::Submit(2, 2, 4, 0), Accepted),
-        (Ask::Seal(0), Sealed { batch: 1 }),
-        (Ask::Submit(3, 2, 4, 0), Accepted),
-        (Ask::Give(1, 1, 1, 60), Closed),
-        (Ask::Seal(0), Sealed { batch: 2 }),
-        (Ask::Overflow(2), Closed),
-    ];
-    let waiting = Some(Status::Waiting);
-    let promised = Some(Status::Promised(Promise {
-        vehicle: vehicle_id(1),
-        pickup: 60,
-    }));
-    let statuses = [None, promised, waiting, waiting];
-    assert!(rt; leaves(rt.alloc(), ONE, &script, &statuses)?);
-    Ok(())
-}
-
-#[test]
 fn a_plan_is_for_its_own_batch(rt: HostRuntime) -> Result<(), Fail> {
     let script = [
         (Ask::Submit(1, 2, 4, 0), Accepted),
@@ -506,34 +322,6 @@ fn a_plan_is_for_its_own_batch(rt: HostRuntime) -> Result<(), Fail> {
     let waiting = Some(Status::Waiting);
     let statuses = [None, waiting, waiting, None];
     assert!(rt; leaves(rt.alloc(), ONE, &script, &statuses)?);
-    Ok(())
-}
-
-#[test]
-fn a_full_pool_takes_one_more_for_each_who_leaves(rt: HostRuntime) -> Result<(), Fail> {
-    let script = [
-        (Ask::Submits(0, 1_000), Accepted),
-        (Ask::Submit(1_000, 2, 4, 0), Refused(PoolFull)),
-        (Ask::Submit(1_000, 2, 2, 0), Refused(SamePlace)),
-        (Ask::Cancel(0), Reply::Cancelled),
-        (Ask::Submit(1_000, 2, 4, 0), Accepted),
-        (Ask::Submit(1_001, 2, 4, 0), Refused(PoolFull)),
-    ];
-    assert_eq!(rt; played(rt.alloc(), ONE, &script)?, None);
-    Ok(())
-}
-
-#[test]
-fn a_full_book_takes_nobody(rt: HostRuntime) -> Result<(), Fail> {
-    let script = [
-        (Ask::Passes(0, 99_000), Reply::Cancelled),
-        (Ask::Submits(99_000, 100_000), Accepted),
-        (Ask::Submit(100_000, 2, 4, 0), Refused(PoolFull)),
-        (Ask::Cancel(99_999), Reply::Cancelled),
-        (Ask::Submit(100_000, 2, 4, 0), Refused(BookFull)),
-        (Ask::Submit(99_999, 2, 4, 0), Refused(DuplicateRider)),
-    ];
-    assert_eq!(rt; played(rt.alloc(), ONE, &script)?, None);
     Ok(())
 }
 
@@ -605,34 +393,6 @@ fn seals(
     let mut book = book(alloc, fleet)?;
     let other = first_other(alloc, &mut book, script);
     Ok(other.is_none() & seal_shows(alloc, &mut book, now, text))
-}
-
-#[test]
-fn a_seal_ends_waits_and_leaves_later_riders_out(rt: HostRuntime) -> Result<(), Fail> {
-    let script = [
-        (Ask::Submit(5, 2, 4, 0), Accepted),
-        (Ask::Submit(4, 2, 4, 1), Accepted),
-        (Ask::Submit(3, 2, 4, 121), Accepted),
-        (Ask::Submit(2, 2, 4, 122), Accepted),
-        (Ask::Submit(1, 2, 4, 0), Accepted),
-        (Ask::Submit(6, 2, 4, 0), Accepted),
-        (Ask::Cancel(6), Reply::Cancelled),
-    ];
-    let text = "1 at 121: 1 vehicles, riders [3, 4], expired [1, 5]";
-    assert!(rt; seals(rt.alloc(), ONE, &script, 121, text)?);
-    Ok(())
-}
-
-#[test]
-fn who_is_left_out_waits_for_the_next_batch(rt: HostRuntime) -> Result<(), Fail> {
-    let script = [
-        (Ask::Submit(1, 2, 4, 100), Accepted),
-        (Ask::Seal(0), Sealed { batch: 1 }),
-        (Ask::Close(1), Closed),
-    ];
-    let text = "2 at 100: 2 vehicles, riders [1], expired []";
-    assert!(rt; seals(rt.alloc(), TWO, &script, 100, text)?);
-    Ok(())
 }
 
 /// What a round tells: the position of its first entry, and how many riders were there before it; then

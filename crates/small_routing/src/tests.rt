@@ -1,4 +1,4 @@
-//! Worked routes, and a comparison with the search over all orders.
+//! Worked routes.
 ghost use Rattle.std.specs.Prelude.{◌≡◌, ◌<◌, ◌≤◌};
 ghost use Rattle.pool_base.specs.Times.{point_count};
 ghost use Rattle.stop_orders.specs.Task.{IsTask};
@@ -6,14 +6,12 @@ ghost use Rattle.stop_orders.specs.Task.{IsTask};
 use super::*;
 use arrayvec::ArrayVec;
 use pool_base::{OutOfMemory, Party, Steps, Times};
-use rand_xoshiro::Xoshiro256PlusPlus;
-use rand_xoshiro::rand_core::{Rng, SeedableRng};
 use std::alloc::Global;
 use std::marker::Brand;
 use std::process::Abort;
 use std::sync::ledger::{Blank, Ledger};
 use std::test::Fail;
-use stop_orders::{Leg, Stop, Task, is_valid, least_over_all_orders};
+use stop_orders::{Leg, Stop, Task, is_valid};
 
 /// Places 0 to 4 on a line, 60 seconds apart, and place 5 at place 0, from which there is no way back.
 fn line(alloc: Global) -> Result<Times, Fail> {
@@ -204,61 +202,5 @@ fn widest_task(rt: HostRuntime) -> Result<(), Fail> {
     let mut workspace = Workspace::new(rt.alloc());
     let route = least(&rt, &mut workspace, &task, &times)?.ok_or("an order")?;
     assert_eq!(rt; route.delay, WIDEST);
-    Ok(())
-}
-
-/// A number below `most`.
-fn draw(rng: &mut Xoshiro256PlusPlus, most: u64) -> u64
-    requires { 0 < most }
-    ensures { result < most }
-{
-    rng.next_u64() % most
-}
-
-fn drawn_leg(rng: &mut Xoshiro256PlusPlus) -> Leg {
-    let ideal = draw(rng, 600);
-    Leg {
-        origin: draw(rng, 6) as usize,
-        destination: draw(rng, 6) as usize,
-        latest_pickup: draw(rng, 600),
-        ideal,
-        latest_dropoff: ideal + draw(rng, 400),
-        party: Party::new(1 + draw(rng, 3)).unwrap_or(Party::ONE),
-    }
-}
-
-fn drawn_task(rng: &mut Xoshiro256PlusPlus) -> Task {
-    let mut task = vehicle(
-        draw(rng, 5) as usize,
-        draw(rng, 100),
-        draw(rng, 20) as u16,
-        1 + draw(rng, 4) as u8,
-    );
-    for _rider in 0..draw(rng, 4) {
-        let _waits = task.riders.try_push(drawn_leg(rng));
-    }
-    for _passenger in 0..draw(rng, 3) {
-        let _aboard = task.aboard.try_push(drawn_leg(rng));
-    }
-    task
-}
-
-#[test]
-fn as_all_orders_say(rt: HostRuntime) -> Result<(), Fail> {
-    let times = line(rt.alloc())?;
-    let mut workspace = Workspace::new(rt.alloc());
-    let mut rng = Xoshiro256PlusPlus::seed_from_u64(9);
-    let mut served = 0u32;
-    for _task in 0..2000u32 {
-        let task = drawn_task(&mut rng);
-        if !is_valid(&task, times.len()) {
-            continue;
-        }
-        let plain = least_over_all_orders(&task, &times).map(|route| route.delay);
-        let found = least(&rt, &mut workspace, &task, &times)?.map(|route| route.delay);
-        assert_eq!(rt; found, plain);
-        served = served.saturating_add(found.is_some() as u32);
-    }
-    assert!(rt; served > 400);
     Ok(())
 }

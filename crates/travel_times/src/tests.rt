@@ -3,8 +3,6 @@ ghost use Rattle.std.specs.Prelude.{◌<◌, ◌≤◌, All, Contains, length};
 use crate::{NetworkWays, Ways, are_known, times_between, times_by_repeated_relaxation};
 use pool_base::{NodeId, OutOfMemory, Times, put_number};
 use pool_io::rows;
-use rand_xoshiro::SplitMix64;
-use rand_xoshiro::rand_core::{Rng, SeedableRng};
 use road_network::{Network, read_network};
 use std::alloc::Global;
 use std::process::Abort;
@@ -183,38 +181,6 @@ fn have_same_cells(one: &Times, other: &Times) -> bool {
 fn threads_agree_with_repeated_relaxation(rt: HostRuntime) -> Result<(), Fail> {
     let text = grid(rt.alloc(), 15)?;
     assert_eq!(rt; versions_agree(&rt, rt.alloc(), &text), Some(true));
-    Ok(())
-}
-
-/// A number below `most`.
-fn draw(draws: &mut SplitMix64, most: u64) -> u64
-    requires { 0 < most }
-    ensures { result < most }
-{
-    draws.next_u64() % most
-}
-
-/// A network of at most 8 nodes: one-way arcs, of no seconds too, from a node to itself too, several between the
-/// same two nodes, and at times too few to reach all.
-fn drawn(alloc: Global, draws: &mut SplitMix64) -> Result<Vec<u8>, OutOfMemory> {
-    let mut text = Vec::from_slice(alloc, b"from,to,seconds\n")?;
-    for _arc in 0..draw(draws, 20) {
-        let from = draw(draws, 8);
-        let to = draw(draws, 8);
-        let seconds = draw(draws, 3) * draw(draws, 3334);
-        put_arc(&mut text, from, to, seconds)?;
-    }
-    Ok(text)
-}
-
-#[test]
-fn drawn_networks_agree_with_repeated_relaxation(rt: HostRuntime) -> Result<(), Fail> {
-    assert_eq!(rt; versions_agree(&rt, rt.alloc(), TOWN), Some(true));
-    let mut draws = SplitMix64::seed_from_u64(4);
-    for _network in 0..300u32 {
-        let text = drawn(rt.alloc(), &mut draws)?;
-        assert_eq!(rt; versions_agree(&rt, rt.alloc(), &text), Some(true));
-    }
     Ok(())
 }
 

@@ -1,11 +1,11 @@
-//! What the crates answer to a scene, as texts.
+//! What the crates answer to the batch, as texts.
 ghost use Rattle.std.specs.Prelude.{◌≡◌, ℕ, ◌<◌, ◌≤◌, Contains, IfOk, length};
 ghost use Rattle.pool_base.specs.Times.{point_count, travel_time};
 ghost use Rattle.batch_snapshot.specs.Points.{ArePoints};
 ghost use Rattle.stop_orders.specs.Settled.{IsRrEdge};
 ghost use Rattle.stop_orders.specs.Sound.{IsSound};
 
-use crate::scene::{Scene, batch};
+use crate::asking::batch;
 use batch_snapshot::{Points, Snapshot};
 use pair_graph::{rider_rider, rider_vehicle};
 use plan_rules::TripRow;
@@ -16,16 +16,14 @@ use std::alloc::Global;
 use std::marker::Brand;
 use std::sync::ledger::{Blank, Ledger};
 use std::thread::Threads;
-use stop_orders::{PairList, Settled, SettledRider, SettledVehicle};
+use stop_orders::{PairList, Settled};
 use trip_graph::{GraphAnswer, grow_graph};
 use trip_growth::{Grown, Level, TripOf, empty_level, grow, grow_level};
 use worker_gate::FreeGate;
 
-/// What is asked of a scene.
+/// What is asked of the batch.
 #[derive(Clone, Copy, Debug)]
 pub enum Asked {
-    /// Which vehicles are late and whom they hold, and the riders' limits.
-    Limits,
     /// The edges between vehicles and riders, and those between riders.
     Edges,
     /// The trips of the first vehicle, where there is room for so many.
@@ -36,33 +34,20 @@ pub enum Asked {
     Rows,
 }
 
-/// The settings but for the numbers that a scene is tried with, for one worker.
-pub fn settings(wait: u32, delay: u32, pairs: u32) -> Settings
-    requires wait { wait ≤ 7200 }
-    requires delay { delay ≤ 7200 }
+/// The settings, with so many rows allowed.
+fn settings(pairs: u32) -> Settings
     requires some { 1 ≤ pairs }
     requires most { pairs ≤ 2000000 }
-{
-    settings_of(wait, delay, pairs, 1)
-}
-
-/// The same for so many workers.
-pub fn settings_of(wait: u32, delay: u32, pairs: u32, workers: u8) -> Settings
-    requires wait { wait ≤ 7200 }
-    requires delay { delay ≤ 7200 }
-    requires some { 1 ≤ pairs }
-    requires most { pairs ≤ 2000000 }
-    requires workers { (1 ≤ workers) × (workers ≤ 64) }
 {
     Settings {
         mode: Mode::Run,
-        wait,
-        delay,
+        wait: 120,
+        delay: 180,
         trip: 4,
         penalty: 10_000,
         budget: 200,
         pairs,
-        workers,
+        workers: 4,
         proof: false,
         dwell: 0,
         times: TimesWay::Rows,
@@ -91,16 +76,14 @@ fn line_times(alloc: Global, points: &Points) -> Result<Times, OutOfMemory>
     }
 }
 
-/// The answer to what is asked of a scene; vehicles and riders stand by their numbers, limits by their ids.
+/// The answer to what is asked of the batch; vehicles and riders stand by their numbers.
 pub fn told(
     rt: &(impl Threads + Sync),
     alloc: Global,
-    scene: Scene,
-    settings: &Settings,
     asked: Asked,
 ) -> Result<String, OutOfMemory> {
-    let snapshot = batch(alloc, scene)?;
-    told_of_batch(rt, alloc, &snapshot, settings, asked)
+    let snapshot = batch(alloc)?;
+    told_of_batch(rt, alloc, &snapshot, &settings(200_000), asked)
 }
 
 fn told_of_batch(
@@ -155,45 +138,11 @@ fn told_of_settled(
     requires { IsSound settings.now.trip (point_count times.now) (travel_time times.now) settled.now }
 {
     match asked {
-        Asked::Limits => text_of_limits(alloc, settled),
         Asked::Edges => text_of_edges(alloc, settled, times),
         Asked::Trips { room } => text_of_trips(alloc, settled, times, room),
         Asked::Singles { room } => text_of_singles(alloc, settled, times, room),
         Asked::Rows => text_of_rows(rt, alloc, settled, times, settings),
     }
-}
-
-fn text_of_limits(alloc: Global, settled: &Settled) -> Result<String, OutOfMemory> {
-    let mut text = String::new(alloc);
-    for vehicle in settled.vehicles.as_slice() {
-        put_vehicle(alloc, &mut text, vehicle)?;
-    }
-    for rider in settled.riders.as_slice() {
-        put_rider(alloc, &mut text, rider)?;
-    }
-    Ok(text)
-}
-
-fn put_vehicle(
-    alloc: Global,
-    text: &mut String,
-    vehicle: &SettledVehicle,
-) -> Result<(), OutOfMemory> {
-    let id = vehicle.id.get();
-    let held = vehicle.held.as_slice();
-    let late = vehicle.late;
-    let line = format!(in alloc; "vehicle {id} held {held:?} late {late}\n")?;
-    text.push_str(line.as_str())?;
-    Ok(())
-}
-
-fn put_rider(alloc: Global, text: &mut String, rider: &SettledRider) -> Result<(), OutOfMemory> {
-    let id = rider.id.get();
-    let latest = rider.leg.latest_pickup;
-    let lapsed = rider.lapsed;
-    let line = format!(in alloc; "rider {id} by {latest} lapsed {lapsed}\n")?;
-    text.push_str(line.as_str())?;
-    Ok(())
 }
 
 fn text_of_edges(alloc: Global, settled: &Settled, times: &Times) -> Result<String, OutOfMemory>
