@@ -5,12 +5,13 @@ use Rattle.std.specs.List.{AllZip}
 use Rattle.std.proofs.lemmas.Bool.{cases_eq, eq-eqb, eqb-true}
 use Rattle.batch_snapshot.specs.Batch.{Batch}
 use Rattle.request_book.specs.Book.{next_position}
-use Rattle.request_book.specs.Closing.{closed_state}
-use Rattle.request_book.specs.Refusals.{first_of, batch_open, clock_back, not_this_batch}
+use Rattle.request_book.specs.work.Closing.{closed_state}
+use Rattle.request_book.specs.work.Refusals.{first_of, batch_open, clock_back, not_this_batch}
 use Rattle.request_book.specs.Replay.{state_after, RepliesAreSteps}
 use Rattle.request_book.specs.Sealing.{batch_of, sealed_state}
 use Rattle.pool_io.specs.Faults.{one_more}
-use Rattle.request_book.specs.Step.{answer, seal_refusal, seal_step, close_step, step}
+use Rattle.request_book.specs.Step.{step}
+use Rattle.request_book.specs.work.Table.{answer, seal_refusal, seal_step, close_step}
 use Rattle.request_book.specs.declared.command.Command.{Command}
 use Rattle.request_book.specs.declared.command.Command.TheVariants.{Submit, Cancel, Report, Pickup, Dropoff, Seal, Close}
 use Rattle.request_book.specs.declared.journal.Entry.{Entry}

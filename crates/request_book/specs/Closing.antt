@@ -44,7 +44,3 @@ after_plan riders ps r = if is_active r.status && in_batch riders r.id then with
 unfoldable pub after_answer : List Rider → Answer → List BookRider → List BookRider
 after_answer batch Overflow riders = riders
 after_answer batch (Planned plan) riders = map (after_plan batch (picks plan.chosen)) riders
-
--- the state after the close of the sealed batch
-unfoldable pub closed_state : State → Answer → State
-closed_state s answer = elim s.sealed [ None ↦ s | Some b ↦ record s { riders = after_answer b.riders answer s.riders; sealed = None } ]

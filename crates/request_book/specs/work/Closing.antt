@@ -25,3 +25,7 @@ takes_promise riders p r = if in_batch riders p.rider && is_waiting r.status the
 unfoldable pub promised_in_turn : List Rider → List Pick → List BookRider → List BookRider
 promised_in_turn riders [] rs = rs
 promised_in_turn riders (p ∷ ps) rs = promised_in_turn riders ps (changed_at (λ r. r.id) p.rider (takes_promise riders p) rs)
+
+-- the state after the close of the sealed batch
+unfoldable pub closed_state : State → Answer → State
+closed_state s answer = elim s.sealed [ None ↦ s | Some b ↦ record s { riders = after_answer b.riders answer s.riders; sealed = None } ]
