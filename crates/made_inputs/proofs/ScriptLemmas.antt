@@ -14,7 +14,7 @@ use Rattle.script_rows.specs.declared.version.ScriptVersion.TheVariants.{One}
 use Rattle.script_rows.specs.Word.{word_of}
 use Rattle.script_rows.specs.Line.{party_in, submit_in, three_in, command_in, leaves_empty, line_in}
 use Rattle.script_rows.specs.Round.{NumberedLanes}
-use Rattle.script_rows.specs.Script.{round_before, line_at, lines_of, rounds_of, script_of}
+use Rattle.script_rows.specs.Script.{round_before, line_at, rounds_of, script_of}
 use Rattle.rider_limits.specs.declared.load_shape.LoadShape.{LoadShape}
 use Rattle.load_maker.specs.declared.row.Field.{Field}
 use Rattle.load_maker.specs.declared.row.Field.TheVariants as field
@@ -273,7 +273,7 @@ script_given high rows lines few =
     record {
       rounds = rounds_of given.0;
       is =
-          ap (λ b. cond b (Err TooManyRows) (lines_of One records >>= λ ls. Ok (rounds_of ls))) (le-ltb 200000 (length records) (omega (arith, size, few)))
+          ap (λ b. cond b (Err TooManyRows) (all_or_first (line_at One records) (length records) >>= λ ls. Ok (rounds_of ls))) (le-ltb 200000 (length records) (omega (arith, size, few)))
           ∙ ap (λ r. r >>= λ ls. Ok (rounds_of ls)) given.1;
     }
 

@@ -14,7 +14,7 @@ use Rattle.script_rows.specs.declared.version.ScriptVersion.{ScriptVersion}
 use Rattle.script_rows.specs.Line.{line_in}
 use Rattle.script_rows.specs.Round.{NumberedLanes}
 use Rattle.script_rows.specs.work.Building.{IsBehind, empty_round, last_round, with_command, joins, with_line}
-use Rattle.script_rows.specs.Script.{round_before, line_at, lines_of, round_of, rounds_of, script_of}
+use Rattle.script_rows.specs.Script.{round_before, line_at, round_of, rounds_of, script_of}
 use Rattle.script_rows.proofs.GroupLemmas.{map-agree, round_of-push, round_of-push_other, round_of-none}
 
 -- a row that joins the last round
@@ -177,9 +177,9 @@ pub line_at-read : (version : ScriptVersion) (records : List (List (List ℕ))) 
 line_at-read version records row last made before is = ap (λ n. line_in version (row + 1) n (get_or records row [])) (sym before) ∙ is
 
 -- the rounds of few rows
-script_of-few : (version : ScriptVersion) (records : List (List (List ℕ))) → length records ≤ 200000 → script_of version records ≡ (lines_of version records >>= λ lines. Ok (rounds_of lines))
+script_of-few : (version : ScriptVersion) (records : List (List (List ℕ))) → length records ≤ 200000 → script_of version records ≡ (all_or_first (line_at version records) (length records) >>= λ lines. Ok (rounds_of lines))
 script_of-few version records few =
-    ap (λ b. cond b (Err TooManyRows) (lines_of version records >>= λ lines. Ok (rounds_of lines))) (le-ltb 200000 (length records) few)
+    ap (λ b. cond b (Err TooManyRows) (all_or_first (line_at version records) (length records) >>= λ lines. Ok (rounds_of lines))) (le-ltb 200000 (length records) few)
 
 -- the first row that is refused
 pub script_of-refused : (version : ScriptVersion) (records : List (List (List ℕ))) (row : ℕ) (lines : List Line) (fault : ScriptFault) → length records ≤ 200000 → row < length records → all_or_first (line_at version records) row ≡ Ok lines → line_at version records row ≡ Err fault → script_of version records ≡ Err fault

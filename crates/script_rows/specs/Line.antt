@@ -1,5 +1,5 @@
-use Rattle.std.specs.Prelude.{ℕ, Bool, true, false, not, ◌&&◌, List, Result, Ok, Err, length, nat_lt, nat_le, ◌==◌, if◌then◌else◌}
-use Rattle.std.specs.List.{list_all}
+use Rattle.std.specs.Prelude.{ℕ, ◌+◌, ◌-◌, Bool, true, false, not, ◌&&◌, List, Result, Ok, Err, length, nat_lt, nat_le, ◌==◌, if◌then◌else◌}
+use Rattle.std.specs.List.{list_all, range_with_len}
 use Rattle.std.specs.Option.{ok_or}
 use Rattle.pool_base.specs.InOrder.{◌>>=◌, refused_where}
 use Rattle.pool_base.specs.Numeral.{number_in}
@@ -13,7 +13,7 @@ use Rattle.script_rows.specs.declared.version.ScriptVersion.{ScriptVersion}
 use Rattle.script_rows.specs.declared.version.ScriptVersion.TheVariants.{One, Two}
 use Rattle.script_rows.specs.declared.word.Word.{Word}
 use Rattle.script_rows.specs.declared.word.Word.TheVariants.{Submit, Cancel, Report, Pickup, Dropoff, Seal}
-use Rattle.script_rows.specs.Word.{word_of, unused_by}
+use Rattle.script_rows.specs.Word.{word_of, used_by, columns_of}
 
 -- the party of a request: one person in the first version, and what the last column says in the second
 unfoldable pub party_in : ScriptVersion → ℕ → List (List ℕ) → Result ℕ ScriptFault
@@ -49,13 +49,10 @@ command_in version row fields Pickup = three_in pickup row fields
 command_in version row fields Dropoff = three_in dropoff row fields
 command_in version row fields Seal = number_in Number row fields 3 >>= λ now. Ok (seal now)
 
--- a column is empty
-abbrev pub is_empty_in : List (List ℕ) → ℕ → Bool
-is_empty_in fields column = length (field_at fields column) == 0
-
--- every column that a command doesn't use is empty
+-- every column behind those that a command uses is empty
 unfoldable pub leaves_empty : ScriptVersion → List (List ℕ) → Word → Bool
-leaves_empty version fields word = list_all (is_empty_in fields) (unused_by version word)
+leaves_empty version fields word =
+    list_all (λ column. length (field_at fields column) == 0) (range_with_len (3 + used_by version word) (columns_of version - (3 + used_by version word)))
 
 -- the word is `seal`
 abbrev pub is_seal : Word → Bool

@@ -3,7 +3,6 @@ use Rattle.std.specs.List.{filter, range_with_len}
 use Rattle.pool_base.specs.Distinct.{distinct}
 use Rattle.pool_base.specs.InOrder.{◌>>=◌, all_or_first}
 use Rattle.pool_base.specs.Numeral.{number_at}
-use Rattle.request_book.specs.declared.command.Command.{Command}
 use Rattle.script_rows.specs.declared.fault.ScriptFault.{ScriptFault}
 use Rattle.script_rows.specs.declared.fault.ScriptFault.TheVariants.{TooManyRows}
 use Rattle.script_rows.specs.declared.line.Line.{Line}
@@ -20,17 +19,10 @@ round_before records (suc place) = number_at (slice_index_or records place []) 0
 abbrev pub line_at : ScriptVersion → List (List (List ℕ)) → ℕ → Result Line ScriptFault
 line_at version records place = line_in version (place + 1) (round_before records place) (slice_index_or records place [])
 
--- all rows, or the first refusal
-abbrev pub lines_of : ScriptVersion → List (List (List ℕ)) → Result (List Line) ScriptFault
-lines_of version records = all_or_first (line_at version records) (length records)
-
--- the commands of a round's lane, in the order of the rows
-abbrev pub commands_of : List Line → ℕ → ℕ → List Command
-commands_of lines number lane = map (λ l. l.command) (filter (λ l. l.round == number && l.lane == lane) lines)
-
--- the round of a number, with its sixteen lanes
+-- the round of a number: sixteen lanes, each with its commands in the order of the rows
 abbrev pub round_of : List Line → ℕ → NumberedLanes
-round_of lines number = record { number = number; lanes = map (commands_of lines number) (range_with_len 0 16) }
+round_of lines number =
+    record { number = number; lanes = map (λ lane. map (λ l. l.command) (filter (λ l. l.round == number && l.lane == lane) lines)) (range_with_len 0 16) }
 
 -- the rounds of rows, one for each number
 unfoldable pub rounds_of : List Line → List NumberedLanes
@@ -40,4 +32,4 @@ rounds_of lines = map (round_of lines) (distinct (map (λ l. l.round) lines))
 abbrev pub script_of : ScriptVersion → List (List (List ℕ)) → Result (List NumberedLanes) ScriptFault
 script_of version records =
     if nat_lt 200000 (length records) then Err TooManyRows
-    else (lines_of version records >>= λ lines. Ok (rounds_of lines))
+    else (all_or_first (line_at version records) (length records) >>= λ lines. Ok (rounds_of lines))

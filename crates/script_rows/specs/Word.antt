@@ -1,5 +1,5 @@
-use Rattle.std.specs.Prelude.{ℕ, ◌+◌, ◌-◌, List, [], ◌∷◌, Bool, Option, codes}
-use Rattle.std.specs.List.{find, range_with_len}
+use Rattle.std.specs.Prelude.{ℕ, List, [], ◌∷◌, Option, codes}
+use Rattle.std.specs.List.{find}
 use Rattle.std.specs.Str.{bytes_eq}
 use Rattle.pool_base.specs.Header.{script_header, party_header}
 use Rattle.script_rows.specs.declared.version.ScriptVersion.{ScriptVersion}
@@ -16,13 +16,9 @@ command_word Pickup = codes "pickup"
 command_word Dropoff = codes "dropoff"
 command_word Seal = codes "seal"
 
--- a field names a command
-abbrev pub is_named : List ℕ → Word → Bool
-is_named field word = bytes_eq (command_word word) field
-
 -- the command that a field names
 unfoldable pub word_of : List ℕ → Option Word
-word_of field = find (is_named field) (Submit ∷ Cancel ∷ Report ∷ Pickup ∷ Dropoff ∷ Seal ∷ [])
+word_of field = find (λ word. bytes_eq (command_word word) field) (Submit ∷ Cancel ∷ Report ∷ Pickup ∷ Dropoff ∷ Seal ∷ [])
 
 -- how many columns a script has: the second version adds the party
 abbrev pub columns_of : ScriptVersion → ℕ
@@ -39,11 +35,5 @@ abbrev pub used_by : ScriptVersion → Word → ℕ
 used_by One Submit = 4
 used_by Two Submit = 5
 used_by _ Cancel = 1
-used_by _ Report = 3
-used_by _ Pickup = 3
-used_by _ Dropoff = 3
 used_by _ Seal = 1
-
--- the columns that a command leaves empty, from 0
-abbrev pub unused_by : ScriptVersion → Word → List ℕ
-unused_by version word = range_with_len (3 + used_by version word) (columns_of version - (3 + used_by version word))
+used_by _ _ = 3

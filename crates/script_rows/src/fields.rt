@@ -3,7 +3,8 @@ ghost use Rattle.std.specs.List.{list_all, range_with_len};
 ghost use Rattle.pool_io.specs.Table.{record_at};
 ghost use Rattle.pool_base.specs.Numeral.{number_in};
 ghost use Rattle.script_rows.specs.work.Row.{IsScriptRow, IsScriptField};
-ghost use Rattle.script_rows.specs.Line.{party_in, submit_in, three_in, command_in, is_empty_in, leaves_empty};
+ghost use Rattle.script_rows.specs.Line.{party_in, submit_in, three_in, command_in, leaves_empty};
+ghost use Rattle.script_rows.specs.work.Words.{is_empty_in};
 
 use crate::fault::ScriptFault;
 use crate::version::ScriptVersion;

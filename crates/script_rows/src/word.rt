@@ -1,6 +1,6 @@
 ghost use Rattle.std.specs.Prelude.{◌≡◌};
 ghost use Rattle.std.specs.List.{find};
-ghost use Rattle.script_rows.specs.Word.{is_named};
+ghost use Rattle.script_rows.specs.work.Words.{is_named};
 
 use crate::version::ScriptVersion;
 
@@ -16,7 +16,8 @@ pub(crate) enum Word {
 }
 
 impl Word {
-    ghost use Rattle.script_rows.specs.Word.{command_word, is_named, word_of, used_by};
+    ghost use Rattle.script_rows.specs.Word.{command_word, word_of, used_by};
+    ghost use Rattle.script_rows.specs.work.Words.{is_named};
 
     fn name(self) -> &'static str
         ensures { result.now ≡ command_word self }

@@ -1,4 +1,5 @@
-use Rattle.std.specs.Prelude.{ℕ, ◌-◌, ◌<◌, ◌≤◌, Bool, ◌&&◌, List, [], ◌∷◌, ◌++◌, length, replicate, nat_lt, ◌==◌, slice_index_or, slice_set, if◌then◌else◌}
+use Rattle.std.specs.Prelude.{ℕ, ◌-◌, ◌<◌, ◌≤◌, Bool, ◌&&◌, List, [], ◌∷◌, ◌++◌, length, map, replicate, nat_lt, ◌==◌, slice_index_or, slice_set, if◌then◌else◌}
+use Rattle.std.specs.List.{filter}
 use Rattle.request_book.specs.declared.command.Command.{Command}
 use Rattle.script_rows.specs.declared.line.Line.{Line}
 use Rattle.script_rows.specs.Round.{NumberedLanes, lane_at, MayStand}
@@ -13,6 +14,10 @@ pub record IsBehind (last : ℕ) (line : Line) : Type 0 where
 -- a round with one more command at the end of a lane
 abbrev pub with_command : NumberedLanes → ℕ → Command → NumberedLanes
 with_command round lane command = record round { lanes = slice_set round.lanes lane (lane_at round lane ++ command ∷ []) }
+
+-- the commands of a round's lane, in the order of the rows
+abbrev pub commands_of : List Line → ℕ → ℕ → List Command
+commands_of lines number lane = map (λ l. l.command) (filter (λ l. l.round == number && l.lane == lane) lines)
 
 -- the round of a number, without commands
 abbrev pub empty_round : ℕ → NumberedLanes
