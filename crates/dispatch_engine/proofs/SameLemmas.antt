@@ -11,7 +11,8 @@ use Rattle.request_book.specs.Replay.{state_after, RepliesAreSteps}
 use Rattle.request_book.specs.Sealing.{batch_of, sealed_state}
 use Rattle.pool_io.specs.Faults.{one_more}
 use Rattle.request_book.specs.Step.{step}
-use Rattle.request_book.specs.work.Table.{answer, seal_refusal, seal_step, close_step}
+use Rattle.request_book.specs.work.Table.{answer, seal_refusal, seal_step, close_step, table_step}
+use Rattle.request_book.proofs.lemmas.StepTable.{by-table}
 use Rattle.request_book.specs.declared.command.Command.{Command}
 use Rattle.request_book.specs.declared.command.Command.TheVariants.{Submit, Cancel, Report, Pickup, Dropoff, Seal, Close}
 use Rattle.request_book.specs.declared.journal.Entry.{Entry}
@@ -131,6 +132,9 @@ module _ (nodes : List ℕ) (wait : ℕ) where
     clock : clock_of (step nodes wait s c).0 ≡ clock_of (step nodes wait t d).0
     told : sealed_by (step nodes wait s c).1 ≡ sealed_by (step nodes wait t d).1
 
+  ticks-step : (s : State) (c : Command) (k : Clock) (o : Option ℕ) → Ticks (table_step nodes wait s c) k o → Ticks (step nodes wait s c) k o
+  ticks-step s c k o = by-table (λ p. Ticks p k o) nodes wait s c
+
   from-ticks : (s t : State) (c d : Command) (k : Clock) (o : Option ℕ) → Ticks (step nodes wait s c) k o → Ticks (step nodes wait t d) k o → Agrees s t c d
   from-ticks s t c d k o p q = record { clock = p.clock ∙ sym q.clock; told = p.told ∙ sym q.told }
 
@@ -141,18 +145,18 @@ module _ (nodes : List ℕ) (wait : ℕ) where
       (quiet-ticks t _ (plain-quiet nodes wait t c plain))
 
   seal-agrees : (s t : State) (now : ℕ) → clock_of s ≡ clock_of t → Agrees s t (Seal now) (Seal now)
-  unfolding step
+  unfolding table_step
   seal-agrees s t now same =
       from-ticks s t (Seal now) (Seal now) _ _
-      (subst (λ k. Ticks (seal_step wait s now) (sealed_clock (open_refusal k now) k now) (told_batch (open_refusal k now) k)) same (seal-ticks wait s now))
-      (seal-ticks wait t now)
+      (ticks-step s (Seal now) _ _ (subst (λ k. Ticks (seal_step wait s now) (sealed_clock (open_refusal k now) k now) (told_batch (open_refusal k now) k)) same (seal-ticks wait s now)))
+      (ticks-step t (Seal now) _ _ (seal-ticks wait t now))
 
   close-agrees : (s t : State) (batch : ℕ) (c d : Command) → IsCloseOf batch c → IsCloseOf batch d → clock_of s ≡ clock_of t → Agrees s t c d
-  unfolding step
+  unfolding table_step
   close-agrees s t batch (Close a o) (Close b p) c d same =
       from-ticks s t (Close a o) (Close b p) _ _
-      (subst (λ k. Ticks (close_step s a o.answer) (closed_clock (is_open k.open' a) k) None) same (close-ticks s a o.answer))
-      (subst (λ n. Ticks (close_step t b p.answer) (closed_clock (is_open (number_of t.sealed) n) (clock_of t)) None) (d ∙ sym c) (close-ticks t b p.answer))
+      (ticks-step s (Close a o) _ _ (subst (λ k. Ticks (close_step s a o.answer) (closed_clock (is_open k.open' a) k) None) same (close-ticks s a o.answer)))
+      (ticks-step t (Close b p) _ _ (subst (λ n. Ticks (close_step t b p.answer) (closed_clock (is_open (number_of t.sealed) n) (clock_of t)) None) (d ∙ sym c) (close-ticks t b p.answer)))
   close-agrees s t batch (Close a o) _ c d same = absurd d
   close-agrees s t batch _ d c e same = absurd c
 

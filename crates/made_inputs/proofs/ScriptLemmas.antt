@@ -4,7 +4,7 @@ use Rattle.std.proofs.lemmas.List.{length-append, length-map}
 use Rattle.std.proofs.lemmas.Nat.{mod_below}
 use Rattle.std.proofs.Math.Nat.{mul-le-mul, suc-mul}
 use Rattle.rand_core.specs.Stream.{Stream, next_u64}
-use Rattle.pool_base.specs.InOrder.{◌>>=◌}
+use Rattle.pool_base.specs.InOrder.{◌>>=◌, all_or_first}
 use Rattle.pool_base.specs.Numeral.{number_up_to, number_at}
 use Rattle.pool_base.proofs.lemmas.InOrderLemmas.{all_or_first-all}
 use Rattle.request_book.specs.declared.command.Command.{Command}

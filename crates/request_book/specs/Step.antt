@@ -104,8 +104,8 @@ dropoff s vehicle rider time = do
 -- a batch is sealed: none may be open, and the second isn't below that of the last seal
 unfoldable pub seal : ℕ → State → ℕ → Result State BookRefusal
 seal wait s now = do
-  _ ← option_map_or (λ b. Err (BatchOpen b.number)) s.sealed (Ok tt)
-  _ ← option_map_or (λ last. refused_where (nat_lt now last) (ClockBack last)) s.last_seal (Ok tt)
+  _ ← option_map_or (λ b. Err (BatchOpen b.number)) s.sealed (Ok (tt {0}))
+  _ ← option_map_or (λ last. refused_where (nat_lt now last) (ClockBack last)) s.last_seal (Ok (tt {0}))
   Ok (sealed_state wait s now)
 
 -- the sealed batch, if it has this number, is closed

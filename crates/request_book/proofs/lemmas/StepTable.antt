@@ -1,5 +1,5 @@
 -- The step table is what the register works: refusals as a list of those that hold.
-use Rattle.std.proofs.Common.{◌≡◌, ℕ, Bool, true, false, cond, eqb, leb, ltb, List, [], ◌∷◌, ◌++◌, length, Option, Some, None, Result, Ok, Err, refl, sym, ap, ◌∙◌}
+use Rattle.std.proofs.Common.{◌≡◌, ℕ, Bool, true, false, cond, eqb, leb, ltb, List, [], ◌∷◌, ◌++◌, length, Option, Some, None, Result, Ok, Err, refl, sym, ap, subst, ◌∙◌}
 use Rattle.std.specs.Prelude.{is_some, ◌&&◌, not}
 use Rattle.std.specs.Option.{ok_or, option_map_or}
 use Rattle.batch_snapshot.specs.Batch.{Batch}
@@ -155,7 +155,7 @@ sealed-table P Q wait s now refused passed = by s.sealed s.last_seal
     last_one last false = passed
 
     by : (o : Option Batch) (l : Option ℕ)
-        → Q (option_map_or (λ b. Err (BatchOpen b.number)) o (Ok tt) >>= λ _. option_map_or (λ last. refused_where (ltb now last) (ClockBack last)) l (Ok tt) >>= λ _. Ok (sealed_state wait s now)) ≡ P (first_of (batch_open o ∷ clock_back l now ∷ []))
+        → Q (option_map_or (λ b. Err (BatchOpen b.number)) o (Ok (tt {0})) >>= λ _. option_map_or (λ last. refused_where (ltb now last) (ClockBack last)) l (Ok (tt {0})) >>= λ _. Ok (sealed_state wait s now)) ≡ P (first_of (batch_open o ∷ clock_back l now ∷ []))
     by (Some b) l = refused (BatchOpen b.number)
     by None None = passed
     by None (Some last) = last_one last (ltb now last)
@@ -205,3 +205,7 @@ step-table nodes wait s (command.Close batch outcome) = close-table s batch outc
 -- what the register works for the command that a match told
 pub step-is : (nodes : List ℕ) (wait : ℕ) (s : State) (c d : Command) → c ≡ d → table_step nodes wait s d ≡ step nodes wait s c
 step-is nodes wait s c d e = sym (ap (table_step nodes wait s) e) ∙ sym (step-table nodes wait s c)
+
+-- what holds of the register's step holds of the book's
+pub by-table : (P : State × Reply → Type 0) (nodes : List ℕ) (wait : ℕ) (s : State) (c : Command) → P (table_step nodes wait s c) → P (step nodes wait s c)
+by-table P nodes wait s c = subst P (sym (step-table nodes wait s c))

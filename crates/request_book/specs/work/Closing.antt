@@ -1,10 +1,12 @@
 -- How a close gives riders what a plan gives them, one after another.
-use Rattle.std.specs.Prelude.{ℕ, Bool, true, false, ◌&&◌, List, [], ◌∷◌, if◌then◌else◌}
+use Rattle.std.specs.Prelude.{ℕ, Bool, true, false, ◌&&◌, List, [], ◌∷◌, None, Some, if◌then◌else◌}
 use Rattle.batch_snapshot.specs.declared.rider.Rider.{Rider}
 use Rattle.request_book.specs.declared.rider.BookRider.{BookRider}
 use Rattle.request_book.specs.declared.rider.Status.{Status}
 use Rattle.request_book.specs.declared.rider.Status.TheVariants.{Waiting, Promised}
-use Rattle.request_book.specs.Closing.{Pick, in_batch}
+use Rattle.request_book.specs.declared.outcome.Answer.{Answer}
+use Rattle.request_book.specs.declared.state.State.{State}
+use Rattle.request_book.specs.Closing.{Pick, in_batch, after_answer}
 use Rattle.request_book.specs.Keyed.{changed_at}
 use Rattle.request_book.specs.Rider.{is_active, with_status}
 
