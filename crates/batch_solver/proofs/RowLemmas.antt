@@ -1,4 +1,4 @@
-use Rattle.std.proofs.Common.{◌≡◌, ℕ, ◌<◌, ◌≤◌, false, List, length, get_or, Option, Some, None, MatchOption, sym, ap, ◌∙◌, subst, arith}
+use Rattle.std.proofs.Common.{◌≡◌, ℕ, ◌<◌, ◌≤◌, List, length, get_or, Option, Some, None, MatchOption, sym, ap, ◌∙◌, subst, arith}
 use Rattle.std.proofs.lemmas.List.{get_or_default}
 use Rattle.plan_rules.specs.declared.row.TripRow.{TripRow}
 use Rattle.plan_rules.specs.Graph.{Graph, IsRowOf, HasNoRow, choice_at, riders_at, cost_at, no_row}
@@ -8,9 +8,9 @@ use Rattle.rider_limits.specs.declared.settings.Settings.{Settings}
 use Rattle.stop_orders.specs.declared.settled.Settled.{Settled}
 use Rattle.stop_orders.specs.declared.stop.Stop.{Stop}
 use Rattle.stop_orders.specs.declared.task.Task.{Task}
-use Rattle.stop_orders.specs.Settled.{IsTrip, trip_task, vehicle_at}
+use Rattle.stop_orders.specs.Settled.{IsTrip, trip_task}
 use Rattle.stop_orders.specs.Task.{IsLeastDelay, Serves, order_delay}
-use Rattle.trip_graph.specs.Answer.{IsTripGraphOf, IsRowWith}
+use Rattle.trip_graph.specs.Answer.{IsTripGraphOf}
 use Rattle.batch_solver.specs.Told.{vehicle_id, told_stops}
 use Rattle.batch_solver.specs.Trips.{IsTripOf}
 
@@ -34,14 +34,6 @@ module _ (settings : Settings) (tau : ℕ → ℕ → ℕ) (settled : Settled) (
 
   own_choice : (v : ℕ) → v < length settled.vehicles → MatchOption (choice_at chosen v) (HasNoRow graph v) (IsRowOf graph v)
   own_choice v h = lawful.plan.own v (omega (arith, exact.vehicle_total))
-
-  -- a vehicle that isn't late has a row, and so is given one
-  pub choice_some : (v : ℕ) → v < length settled.vehicles → (vehicle_at settled v).late ≡ false → choice_at chosen v ≡ None → ⊥
-  choice_some v h in_time none =
-      let held = rw in_time at (exact.hold.each v h) in
-      let row : IsRowWith graph.rows v (vehicle_at settled v).held.items held.0 = held.2 in
-      let no : HasNoRow graph v = rw none at (own_choice v h) in
-      no held.0 (record { within = row.within; own = row.own })
 
   pub served_row : (v row : ℕ) → v < length settled.vehicles → choice_at chosen v ≡ Some row → IsServedRow tau settled graph v row
   served_row v row h choice =

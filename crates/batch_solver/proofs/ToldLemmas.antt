@@ -1,6 +1,6 @@
 use Rattle.std.proofs.Common.{◌≡◌, ℕ, ◌+◌, ◌*◌, ◌<◌, ◌≤◌, List, [], ◌∷◌, ◌++◌, length, map, zip, sym, ap, ◌∙◌, subst, arith}
 use Rattle.std.specs.List.{AllByRecursion}
-use Rattle.std.proofs.lemmas.List.{append_assoc, append-nil, length_push}
+use Rattle.std.proofs.lemmas.List.{append_assoc, length_push}
 use Rattle.pool_base.specs.TravelTime.{never}
 use Rattle.request_book.specs.declared.outcome.PlannedStop.{PlannedStop}
 use Rattle.stop_orders.specs.declared.settled.Settled.{Settled}
@@ -50,6 +50,3 @@ module _ (points : ℕ) (nodes : List ℕ) (tau : ℕ → ℕ → ℕ) (settled 
         fits = omega (arith, scan.fits, length_push told one);
         all = append_assoc told (one ∷ []) after ∙ ap (λ x. told ++ x ∷ after) one_is ∙ scan.all;
       }))
-
-  pub told_last : (place free : ℕ) (told : List PlannedStop) → ToldScan points nodes tau settled v trip task room stops [] place free told → told ≡ told_stops nodes tau settled v trip stops
-  told_last place free told scan = sym (append-nil told) ∙ scan.all

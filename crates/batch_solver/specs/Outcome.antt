@@ -50,17 +50,14 @@ abbrev pub IsGoodAnswer : Settings → List ℕ → (ℕ → ℕ → ℕ) → Se
 IsGoodAnswer settings points tau settled answer.Overflow = HasMoreRows tau settled settings.trip settings.pairs
 IsGoodAnswer settings points tau settled (answer.Planned planned) = IsGoodPlan settings points tau settled planned
 
--- the batch's nodes, the travel times between them on the network, and the limits that follow from them
-pub record IsPosed (settings : Settings) (roads : Roads) (batch : Batch) (points : List ℕ) (times : Times) (settled : Settled) : Type 0 where
-  pub nodes : ArePoints batch points
-  pub table : AreTravelTimes roads.arcs (map (index_in roads.nodes) points) times
-  pub limits : IsSettled settings points (travel_time times) batch settled
-
 -- the outcome is a good answer for the batch, and tells who expired
 pub record IsGoodOutcome (settings : Settings) (roads : Roads) (batch : Batch) (outcome : Outcome) : Type 0 where
   pub points : List ℕ
   pub times : Times
   pub settled : Settled
-  pub posed : IsPosed settings roads batch points times settled
+  -- the batch's nodes, the travel times between them on the network, and the limits that follow from them
+  pub nodes : ArePoints batch points
+  pub table : AreTravelTimes roads.arcs (map (index_in roads.nodes) points) times
+  pub limits : IsSettled settings points (travel_time times) batch settled
   pub expired : outcome.expired ≡ batch.expired
   pub answer : IsGoodAnswer settings points (travel_time times) settled outcome.answer

@@ -1,8 +1,8 @@
 -- Of two runs of the same commands in one lane: which seals are answered with which batch doesn't depend on what batches gave.
-use Rattle.std.proofs.Common.{◌≡◌, ◌≢◌, ℕ, zero, suc, ◌+◌, ◌<◌, Bool, true, false, cond, eqb, List, [], ◌∷◌, length, Option, Some, None, refl, sym, ap, subst, ◌∙◌, inl, inr, arith}
+use Rattle.std.proofs.Common.{◌≡◌, ◌≢◌, ℕ, suc, Bool, true, false, cond, eqb, List, [], ◌∷◌, Option, Some, None, refl, sym, ap, subst, ◌∙◌, inl, inr, arith}
 use Rattle.std.specs.Prelude.{All, ◌⊎◌, option_map}
 use Rattle.std.specs.List.{AllZip}
-use Rattle.std.proofs.lemmas.Bool.{cases_eq, eq-eqb, eqb-true}
+use Rattle.std.proofs.lemmas.Bool.{cases_eq, eq-eqb}
 use Rattle.batch_snapshot.specs.Batch.{Batch}
 use Rattle.request_book.specs.Book.{next_position}
 use Rattle.request_book.specs.work.Closing.{closed_state}
@@ -31,7 +31,7 @@ use Rattle.dispatch_engine.specs.Lane.{of_lane, IsCloseOf, IsLaneRunFrom, IsLane
 use Rattle.dispatch_engine.specs.Run.{IsRoundRun, IsRun}
 use Rattle.dispatch_engine.specs.Same.{IsInLaneZero, IsSameCommand, HaveSameCommands}
 use Rattle.dispatch_engine.specs.work.Lanes.{IsPlain}
-use Rattle.dispatch_engine.proofs.LaneLemmas.{IsQuiet, plain-quiet, closed-none}
+use Rattle.dispatch_engine.proofs.LaneLemmas.{IsQuiet, plain-quiet}
 
 -- what answers a seal or a close looks at: the last seal, the number of the batch that stands sealed, and how many there were
 pub record Clock : Type 0 where

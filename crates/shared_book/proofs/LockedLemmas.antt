@@ -19,7 +19,7 @@ use Rattle.request_book.specs.declared.reply.Reply.{Reply}
 use Rattle.request_book.specs.declared.reply.Reply.TheVariants.{Accepted, Cancelled, Placed, Picked, Dropped, Sealed, Closed}
 use Rattle.request_book.specs.declared.state.State.{State}
 use Rattle.seat_lock.specs.declared.logged.Entry.{Entry as Logged}
-use Rattle.shared_book.specs.Locked.{is_light, sealed_by, snapshot_after, call_of, calls_from, log_of, root_of, Fits}
+use Rattle.shared_book.specs.Locked.{is_light, sealed_by, snapshot_after, call_of, calls_from, log_of, Fits}
 use Rattle.shared_book.specs.work.Locked.{snapshot_before}
 
 module _ (nodes : List ℕ) (wait : ℕ) where
@@ -75,9 +75,6 @@ applied-call old new lane command reply snapshot book applied is =
     (λ i. calls_from (applied.nodes i) (applied.wait i) (applied.base i) (applied.entries i))
     ∙ calls-push old.nodes old.wait old.base old.entries e
     ∙ ap (λ o. log_of old ++ call o ∷ []) shown
-
-pub same-root : (old new : BookView) → new.nodes ≡ old.nodes → new.wait ≡ old.wait → new.first ≡ old.first → new.base ≡ old.base → root_of new ≡ root_of old
-same-root old new nodes wait first base = λ i. record { nodes = nodes i; wait = wait i; first = first i; base = base i }
 
 -- a reply goes with the root and the command
 not-sealed : (s next : State) (o : Option BookRefusal) (reply : Reply) → sealed_by reply ≡ None → None ≡ sealed_by (answer s o reply next).1

@@ -62,53 +62,26 @@ fn out_of_reach(rt: HostRuntime) -> Result<(), Fail> {
     Ok(())
 }
 
+/// Whether the stops, with those of rider 1 after them, are an order.
+fn is_order_with_rider_1(stops: &[Stop]) -> bool {
+    let mut all: ArrayVec<Stop, 8> = ArrayVec::new();
+    for stop in stops {
+        let _stop = all.try_push(*stop);
+    }
+    let _pick = all.try_push(Stop::Pick(1));
+    let _drop = all.try_push(Stop::Drop(1));
+    is_order(&two(), all.as_slice())
+}
+
 #[test]
 fn lists_that_are_no_order(rt: HostRuntime) {
-    let task = two();
-    assert!(rt; !is_order(&task, &[Stop::Pick(0), Stop::Drop(0)]));
-    assert!(rt;
-        !is_order(
-            &task,
-            &[
-                Stop::Pick(0),
-                Stop::Pick(0),
-                Stop::Drop(0),
-                Stop::Pick(1),
-                Stop::Drop(1)
-            ]
-        )
-    );
-    assert!(rt;
-        !is_order(
-            &task,
-            &[Stop::Drop(0), Stop::Pick(0), Stop::Pick(1), Stop::Drop(1)]
-        )
-    );
-    assert!(rt;
-        !is_order(
-            &task,
-            &[
-                Stop::Pick(0),
-                Stop::Drop(0),
-                Stop::Pick(1),
-                Stop::Drop(1),
-                Stop::Alight(0)
-            ]
-        )
-    );
-    assert!(rt;
-        !is_order(
-            &task,
-            &[
-                Stop::Pick(0),
-                Stop::Drop(0),
-                Stop::Pick(1),
-                Stop::Drop(1),
-                Stop::Pick(2),
-                Stop::Drop(2)
-            ]
-        )
-    );
+    let there = [Stop::Pick(0), Stop::Drop(0)];
+    assert!(rt; is_order_with_rider_1(&there));
+    assert!(rt; !is_order(&two(), &there));
+    assert!(rt; !is_order_with_rider_1(&[Stop::Drop(0), Stop::Pick(0)]));
+    assert!(rt; !is_order_with_rider_1(&[Stop::Pick(0), Stop::Pick(0), Stop::Drop(0)]));
+    assert!(rt; !is_order_with_rider_1(&[Stop::Pick(0), Stop::Drop(0), Stop::Alight(0)]));
+    assert!(rt; !is_order_with_rider_1(&[Stop::Pick(0), Stop::Drop(0), Stop::Pick(2)]));
 }
 
 #[test]

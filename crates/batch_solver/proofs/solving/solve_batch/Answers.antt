@@ -21,11 +21,9 @@ returns g c =
       points = c.in_ok-points.points;
       times = times;
       settled = c.in_ok-settled.settled;
-      posed = record {
-        nodes = c.in_ok-points.ensures.points;
-        table = subst (λ (points : List ℕ). AreTravelTimes roads.arcs (map (index_in roads.nodes) points) times) c.nodes.ensures.nodes table;
-        limits = c.in_ok-settled.ensures.settled;
-      };
+      nodes = c.in_ok-points.ensures.points;
+      table = subst (λ (points : List ℕ). AreTravelTimes roads.arcs (map (index_in roads.nodes) points) times) c.nodes.ensures.nodes table;
+      limits = c.in_ok-settled.ensures.settled;
       expired = c.of.ensures ∙ c.in_ok-expired.ensures.items ∙ c.as_slice.ensures ∙ ap (λ (b : Batch). b.expired) c.snapshot.view_is;
       answer = c.in_ok-answer.ensures;
     }
