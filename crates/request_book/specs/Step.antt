@@ -1,10 +1,10 @@
 -- The step table: how the book answers each command, and what changes. Refusals are tried in the order
 -- in which they stand; the first that holds is the reply, and nothing changes.
-use Rattle.std.specs.Prelude.{ℕ, Bool, false, ◌==◌, ◌+◌, ◌&&◌, not, List, [], ◌∷◌, ◌++◌, length, Option, None, Some, is_some, nat_le, nat_lt, Result, Ok, Err}
+use Rattle.std.specs.Prelude.{ℕ, false, ◌==◌, ◌+◌, ◌&&◌, not, List, [], ◌∷◌, ◌++◌, length, None, Some, is_some, nat_le, nat_lt, Result, Ok, Err}
 use Rattle.std.specs.Option.{ok_or, option_map_or}
 use Rattle.batch_snapshot.specs.Vehicle.{persons_aboard}
 use Rattle.batch_snapshot.specs.declared.vehicle.Vehicle.{Vehicle}
-use Rattle.pool_base.specs.InOrder.{◌>>=◌, refused_where}
+use Rattle.pool_base.specs.InOrder.{refused_where}
 use Rattle.request_book.specs.declared.outcome.Answer.{Answer}
 use Rattle.request_book.specs.declared.command.Command.{Command}
 use Rattle.request_book.specs.declared.command.Command.TheVariants as command

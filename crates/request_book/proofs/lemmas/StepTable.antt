@@ -1,5 +1,5 @@
 -- The step table is what the register works: refusals as a list of those that hold.
-use Rattle.std.proofs.Common.{◌≡◌, ℕ, Bool, true, false, cond, eqb, leb, ltb, List, [], ◌∷◌, ◌++◌, length, Option, Some, None, Result, Ok, Err, refl, sym, ap, subst, ◌∙◌}
+use Rattle.std.proofs.Common.{◌≡◌, ℕ, ◌+◌, Bool, true, false, cond, eqb, leb, ltb, List, [], ◌∷◌, ◌++◌, length, Option, Some, None, Result, Ok, Err, refl, sym, ap, subst, ◌∙◌}
 use Rattle.std.specs.Prelude.{is_some, ◌&&◌, not}
 use Rattle.std.specs.Option.{ok_or, option_map_or}
 use Rattle.batch_snapshot.specs.Batch.{Batch}
@@ -209,3 +209,18 @@ step-is nodes wait s c d e = sym (ap (table_step nodes wait s) e) ∙ sym (step-
 -- what holds of the register's step holds of the book's
 pub by-table : (P : State × Reply → Type 0) (nodes : List ℕ) (wait : ℕ) (s : State) (c : Command) → P (table_step nodes wait s c) → P (step nodes wait s c)
 by-table P nodes wait s c = subst P (sym (step-table nodes wait s c))
+
+-- a seal that is refused would show nothing, and another the batch
+pub would_seal-refused : (wait : ℕ) (s : State) (now : ℕ) (o : Option BookRefusal) → o ≡ seal_refusal s now → is_some o ≡ true → None ≡ would_seal wait s now
+would_seal-refused wait s now o e some = by o some ∙ ap (λ p. batch_unless p (batch_of wait s now)) e ∙ sym (would_seal-table wait s now)
+  where
+    by : (p : Option BookRefusal) → is_some p ≡ true → None ≡ batch_unless p (batch_of wait s now)
+    by (Some refusal) f = refl
+    by None f = absurd cc
+
+pub would_seal-open : (wait : ℕ) (s : State) (now : ℕ) (o : Option BookRefusal) → o ≡ seal_refusal s now → is_some o ≡ false → Some (batch_of wait s now) ≡ would_seal wait s now
+would_seal-open wait s now o e none = by o none ∙ ap (λ p. batch_unless p (batch_of wait s now)) e ∙ sym (would_seal-table wait s now)
+  where
+    by : (p : Option BookRefusal) → is_some p ≡ false → Some (batch_of wait s now) ≡ batch_unless p (batch_of wait s now)
+    by (Some refusal) f = absurd cc
+    by None f = refl
