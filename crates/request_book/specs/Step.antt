@@ -4,7 +4,7 @@ use Rattle.std.specs.Prelude.{ℕ, false, ◌==◌, ◌+◌, ◌&&◌, not, List
 use Rattle.std.specs.Option.{ok_or, option_map_or}
 use Rattle.batch_snapshot.specs.Vehicle.{persons_aboard}
 use Rattle.batch_snapshot.specs.declared.vehicle.Vehicle.{Vehicle}
-use Rattle.pool_base.specs.InOrder.{refused_where}
+use Rattle.pool_base.specs.InOrder.{◌>>=◌, refused_where}
 use Rattle.request_book.specs.declared.outcome.Answer.{Answer}
 use Rattle.request_book.specs.declared.command.Command.{Command}
 use Rattle.request_book.specs.declared.command.Command.TheVariants as command
