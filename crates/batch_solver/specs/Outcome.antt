@@ -20,7 +20,7 @@ use Rattle.road_network.specs.Roads.{Roads, index_in}
 use Rattle.stop_orders.specs.declared.settled.Settled.{Settled}
 use Rattle.travel_times.specs.Table.{AreTravelTimes}
 use Rattle.trip_graph.specs.Answer.{IsTripGraphOf, HasMoreRows}
-use Rattle.batch_solver.specs.Told.{vehicle_id, rider_id, row_line, left_riders}
+use Rattle.batch_solver.specs.Told.{rider_id, rv_line, rr_line, row_line, left_riders}
 use Rattle.batch_solver.specs.Trips.{AreTrips, AreLate}
 use Rattle.batch_solver.specs.Moves.{AreMoves, idle_vehicles}
 
@@ -36,10 +36,10 @@ pub record IsGoodPlan (settings : Settings) (points : List ℕ) (tau : ℕ → �
   pub late : AreLate points tau settled planned.late
   pub edges : List RvEdge
   pub edges_exact : IsRvGraph tau settled edges
-  pub rv : planned.rv ≡ map (λ e. (vehicle_id settled e.vehicle, rider_id settled e.rider)) edges
+  pub rv : planned.rv ≡ map (rv_line settled) edges
   pub pairs : List (ℕ × ℕ)
   pub pairs_exact : IsRrGraph tau settled pairs
-  pub rr : planned.rr ≡ map (λ p. (rider_id settled p.0, rider_id settled p.1)) pairs
+  pub rr : planned.rr ≡ map (rr_line settled) pairs
   pub rows : planned.rows ≡ map (row_line settled) graph.rows
   pub trips : AreTrips points tau settled graph chosen planned.chosen
   pub left : planned.left ≡ map (rider_id settled) (left_riders graph chosen)

@@ -4,6 +4,7 @@ use Rattle.std.specs.List.{range_with_len, zip}
 use Rattle.plan_rules.specs.Graph.{Graph}
 use Rattle.plan_rules.specs.Plan.{times_chosen}
 use Rattle.plan_rules.specs.declared.row.TripRow.{TripRow}
+use Rattle.pair_graph.specs.declared.rv_edge.RvEdge.{RvEdge}
 use Rattle.request_book.specs.declared.outcome.PlannedStop.{PlannedStop}
 use Rattle.request_book.specs.declared.outcome.RowLine.{RowLine}
 use Rattle.stop_orders.specs.Settled.{vehicle_at, rider_at, trip_task}
@@ -19,6 +20,14 @@ vehicle_id settled v = (vehicle_at settled v).id
 -- the id of a rider
 abbrev pub rider_id : Settled → ℕ → ℕ
 rider_id settled r = (rider_at settled r).id
+
+-- an edge between a vehicle and a rider
+abbrev pub rv_line : Settled → RvEdge → ℕ × ℕ
+rv_line settled edge = (vehicle_id settled edge.vehicle, rider_id settled edge.rider)
+
+-- an edge between two riders
+abbrev pub rr_line : Settled → ℕ × ℕ → ℕ × ℕ
+rr_line settled pair = (rider_id settled pair.0, rider_id settled pair.1)
 
 -- a row of the trip graph
 abbrev pub row_line : Settled → TripRow → RowLine

@@ -1,6 +1,6 @@
 ghost use Rattle.std.specs.Prelude.{◌≡◌, ◌<◌, ◌≤◌, ℕ, All, IfOk, length, map};
-ghost use Rattle.batch_solver.specs.Told.{rider_id, row_line};
-ghost use Rattle.batch_solver.specs.work.Told.{lapsed_ids, rr_line, rv_line};
+ghost use Rattle.batch_solver.specs.Told.{rider_id, rr_line, rv_line, row_line};
+ghost use Rattle.batch_solver.specs.work.Told.{lapsed_ids};
 
 use arrayvec::ArrayVec;
 use pair_graph::RvEdge;

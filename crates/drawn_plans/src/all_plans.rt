@@ -1,6 +1,5 @@
 //! All plans of a graph, one after another.
-use crate::plain_bounds::is_allowed;
-use crate::plain_rules::{Choice, lawful_cost, own_rows, rows_before};
+use crate::plain_rules::{lawful_cost, own_rows, rows_before};
 use plan_rules::{Plan, TripGraph, cost_of, is_lawful};
 use pool_base::OutOfMemory;
 use std::alloc::Global;
@@ -44,8 +43,6 @@ pub fn told_cost(graph: &TripGraph, plan: &Plan) -> Option<u64> {
 /// What all plans of a graph show.
 #[derive(Clone, Copy, Debug)]
 pub struct Listed {
-    pub plans: u64,
-    pub lawful: u64,
     /// The least cost of a lawful plan.
     pub least: Option<u64>,
     /// Whether the rules' own calls say of each plan what the plain reading says.
@@ -54,12 +51,10 @@ pub struct Listed {
 
 pub fn list_plans(alloc: Global, graph: &TripGraph) -> Result<Listed, OutOfMemory> {
     let mut listed = Listed {
-        plans: plan_count(graph),
-        lawful: 0,
         least: None,
         agreed: true,
     };
-    for number in 0..listed.plans {
+    for number in 0..plan_count(graph) {
         let plan = plan_of(alloc, graph, number)?;
         let cost = lawful_cost(graph, plan.chosen());
         listed.agreed = listed.agreed && told_cost(graph, &plan) == cost;
@@ -71,37 +66,7 @@ pub fn list_plans(alloc: Global, graph: &TripGraph) -> Result<Listed, OutOfMemor
 impl Listed {
     fn add(&mut self, cost: Option<u64>) {
         if let Some(cost) = cost {
-            self.lawful = self.lawful.saturating_add(1);
             self.least = Some(self.least.unwrap_or(cost).min(cost));
         }
     }
-}
-
-/// The least cost of a lawful plan of allowed rows.
-pub fn least_of_allowed(
-    alloc: Global,
-    graph: &TripGraph,
-    allowed: &[bool],
-) -> Result<Option<u64>, OutOfMemory> {
-    let mut least: Option<u64> = None;
-    for number in 0..plan_count(graph) {
-        let plan = plan_of(alloc, graph, number)?;
-        if uses_allowed(allowed, plan.chosen()) {
-            if let Some(cost) = lawful_cost(graph, plan.chosen()) {
-                least = Some(least.unwrap_or(cost).min(cost));
-            }
-        }
-    }
-    Ok(least)
-}
-
-fn uses_allowed(allowed: &[bool], chosen: &[Choice]) -> bool {
-    for choice in chosen {
-        if let Some(row) = choice {
-            if !is_allowed(allowed, *row as usize) {
-                return false;
-            }
-        }
-    }
-    true
 }

@@ -214,28 +214,6 @@ fn drawn_rows(
     Ok(drawn)
 }
 
-/// For each row whether it is allowed: two of three are, and of each vehicle that has rows one at least,
-/// the held one or, in every other graph, the first.
-pub fn drawn_allowed(
-    alloc: Global,
-    draws: &mut Xoshiro256PlusPlus,
-    graph: &TripGraph,
-) -> Result<Vec<bool>, OutOfMemory> {
-    let mut allowed = Vec::new(alloc);
-    let keeps_held = draw(draws, 2) == 0;
-    let mut before = None;
-    for (number, row) in graph.rows().iter().enumerate() {
-        let is_kept = if keeps_held {
-            graph.held().contains(&u32::try_from(number).ok())
-        } else {
-            before != Some(row.vehicle)
-        };
-        allowed.push(is_kept || draw(draws, 3) > 0)?;
-        before = Some(row.vehicle);
-    }
-    Ok(allowed)
-}
-
 /// A multiplier for each rider, from -100 to 500 seconds, in 1/1024 second.
 pub fn drawn_multipliers(
     alloc: Global,

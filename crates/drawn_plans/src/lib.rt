@@ -1,7 +1,8 @@
-//! Drawn trip graphs whose plans are all listed: what a search, a bound and a check say of them.
+//! Drawn trip graphs whose plans are all listed, and drawn trees of them: what a check says of these.
 //!
 //! It has tests alone, of the crates from `plan_rules` to `bound_checker`, and judges by the rules as they
-//! are read plainly: it lists every plan, and writes costs, leaf values and first-fit multipliers anew.
+//! are read plainly: it lists every plan, and writes costs, leaf values and first-fit multipliers anew. What
+//! the search of a batch finds, tests/drawn.py judges on the whole program.
 #![tactic(auto)]
 
 #[cfg(test)]

@@ -113,12 +113,3 @@ fn room_of(graph: &TripGraph, allowed: &[bool], earlier: &[i64], rider: usize) -
     }
     room
 }
-
-/// The sum of the vehicles' least allowed costs and of the multipliers.
-pub fn first_fit_sum(graph: &TripGraph, allowed: &[bool], multipliers: &[i64]) -> i64 {
-    let mut sum = vehicle_sum(graph, allowed, &[]);
-    for multiplier in multipliers {
-        sum = sum.saturating_add(*multiplier);
-    }
-    sum
-}

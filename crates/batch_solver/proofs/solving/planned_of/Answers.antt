@@ -6,8 +6,7 @@ use Rattle.pool_base.specs.Times.{travel_time}
 use Rattle.request_book.specs.declared.outcome.ChosenTrip.{ChosenTrip}
 use Rattle.request_book.specs.declared.outcome.LateVehicle.{LateVehicle}
 use Rattle.request_book.specs.declared.outcome.MoveLine.{MoveLine}
-use Rattle.batch_solver.specs.Told.{rider_id, row_line, left_riders}
-use Rattle.batch_solver.specs.work.Told.{rr_line}
+use Rattle.batch_solver.specs.Told.{rider_id, rr_line, row_line, left_riders}
 use Rattle.batch_solver.specs.Trips.{AreTrips, AreLate}
 use Rattle.batch_solver.specs.Moves.{AreMoves, idle_vehicles}
 use Rattle.batch_solver.proofs.GraphLemmas.{rows_of_riders, rows_are_few}
