@@ -317,7 +317,14 @@ fn answers_with_memory(rt: HostRuntime) -> Result<(), Fail> {
     assert!(rt; left.shown.as_slice().starts_with(b"|ridepool report 1\n"));
     assert!(rt; left.shown.as_slice().ends_with(b"\nend\ndone 4\n"));
     assert!(rt; left.told == 6 && left.notifiers == 3);
-    let left = ran(&rt, rt.alloc(), "load side=3 vehicles=2 riders=9 rounds=2", b"", 4096, NOTHING)?;
+    let left = ran(
+        &rt,
+        rt.alloc(),
+        "load side=3 vehicles=2 riders=9 rounds=2",
+        b"",
+        4096,
+        NOTHING,
+    )?;
     assert!(rt; left.shown.as_slice().ends_with(b"\ndone 24\n"));
     let line = line_of(rt.alloc(), &RunStatus::TooLong(Which::Fleet))?;
     assert_eq!(rt;
