@@ -4,7 +4,8 @@
 
 Sources are cut after each of their bytes; the program is killed between rounds; output, notices and files are such as
 can't be written or read. By faults.c, which a C compiler builds, each read, each write and each request for memory is
-refused in turn, one a run; with `quick` of many runs only some. The last line is `N passed, M failed`, by runs; a part that can't be tried here says so.
+refused in turn, one a run; with `quick` of many runs only some. A part that can't be tried here says so. The last line is
+`N passed, M failed`, by runs.
 """
 
 import os
@@ -46,7 +47,7 @@ POOLED = {
     "fleet": table("fleet", "1,2,1,0"),
     "script": table("script", "0,0,submit,1,2,4,0", "0,0,submit,2,3,5,0", "1,0,seal,0,,,"),
 }
-# A vehicle that fetches the first rider and is then too late, and others who are left out: most kinds of lines.
+# A vehicle that fetches the first rider and is then too late, a rider who expires and one who is left out.
 RIDDEN = {
     "network": STREET,
     "fleet": table("fleet", "1,4,1,0", "2,1,3,0"),
@@ -54,7 +55,7 @@ RIDDEN = {
         "script",
         *("0,0,submit,1,1,5,0", "0,0,submit,2,2,4,0", "0,0,submit,3,3,5,0", "0,0,seal,0,,,"),
         *("1,0,pickup,1,1,0,", "1,0,report,1,1,200,", "1,0,submit,4,2,4,190", "1,0,cancel,2,,,", "1,0,seal,200,,,"),
-        *("2,0,submit,5,4,1,230", "2,0,seal,400,,,"),
+        *("2,0,submit,5,1,2,240", "2,0,seal,250,,,"),
     ),
 }
 LANES = {

@@ -89,6 +89,50 @@ struct Left {
     notifiers: usize,
 }
 
+// The sources and the sink of a run.
+#[derive(Drop)]
+struct Fakes {
+    network: MemorySource,
+    fleet: MemorySource,
+    script: MemorySource,
+    out: MemorySink,
+}
+
+fn fakes(
+    alloc: Global,
+    script: &[u8],
+    pieces: usize,
+    failing: Failing,
+) -> Result<Fakes, AllocError> {
+    let network = source(alloc, NETWORK, pieces, failing.reads[0])?;
+    let fleet = source(alloc, FLEET, pieces, failing.reads[1])?;
+    let script = source(alloc, script, pieces, failing.reads[2])?;
+    let out = MemorySink::new(alloc, pieces.max(1), planned(alloc, failing.write)?);
+    Ok(Fakes {
+        network,
+        fleet,
+        script,
+        out,
+    })
+}
+
+fn counting(
+    alloc: Global,
+    told: &Rc<Cell<u64>>,
+    fail: Option<u64>,
+) -> Result<Box<Counting>, AllocError> {
+    let notifier = Counting {
+        told: told.clone()?,
+        fail,
+        calls: 0,
+        faults: 0,
+    };
+    match Box::new(alloc, notifier) {
+        Ok(boxed) => Ok(boxed),
+        Err(_) => Err(AllocError),
+    }
+}
+
 fn ran(
     rt: &(impl Threads + Wait + Sync),
     alloc: Global,
@@ -97,42 +141,39 @@ fn ran(
     pieces: usize,
     failing: Failing,
 ) -> Result<Left, AllocError> {
-    let words = words(alloc, text)?;
-    let mut network = source(alloc, NETWORK, pieces, failing.reads[0])?;
-    let mut fleet = source(alloc, FLEET, pieces, failing.reads[1])?;
-    let mut script = source(alloc, script, pieces, failing.reads[2])?;
-    let mut out = MemorySink::new(alloc, pieces.max(1), planned(alloc, failing.write)?);
     let told = Rc::new(alloc, Cell::new(0))?;
     let mut notifiers: Vec<Box<dyn Notifier>> = Vec::new(alloc);
     for fail in [None, failing.notice, None] {
-        let shared = told.clone()?;
-        let notifier = Counting {
-            told: shared,
-            fail,
-            calls: 0,
-            faults: 0,
-        };
-        let Ok(boxed) = Box::new(alloc, notifier) else {
-            return Err(AllocError);
-        };
-        notifiers.push(boxed)?;
+        notifiers.push(counting(alloc, &told, fail)?)?;
     }
-    let status = ridepool(
-        rt,
-        alloc,
-        &words,
-        &mut network,
-        &mut fleet,
-        &mut script,
-        &mut out,
-        &mut notifiers,
-        &FreeGate,
-    );
+    let mut fakes = fakes(alloc, script, pieces, failing)?;
+    let status = status_of(rt, alloc, text, &mut fakes, &mut notifiers)?;
     Ok(Left {
-        shown: line_before(alloc, &status, out.written())?,
+        shown: line_before(alloc, &status, fakes.out.written())?,
         told: told.get(),
         notifiers: notifiers.len(),
     })
+}
+
+fn status_of(
+    rt: &(impl Threads + Wait + Sync),
+    alloc: Global,
+    text: &str,
+    fakes: &mut Fakes,
+    notifiers: &mut Vec<Box<dyn Notifier>>,
+) -> Result<RunStatus, AllocError> {
+    let words = words(alloc, text)?;
+    Ok(ridepool(
+        rt,
+        alloc,
+        &words,
+        &mut fakes.network,
+        &mut fakes.fleet,
+        &mut fakes.script,
+        &mut fakes.out,
+        notifiers,
+        &FreeGate,
+    ))
 }
 
 // The line of a fault, and a bar before what was written.
@@ -317,7 +358,14 @@ fn answers_with_memory(rt: HostRuntime) -> Result<(), Fail> {
     assert!(rt; left.shown.as_slice().starts_with(b"|ridepool report 1\n"));
     assert!(rt; left.shown.as_slice().ends_with(b"\nend\ndone 4\n"));
     assert!(rt; left.told == 6 && left.notifiers == 3);
-    let left = ran(&rt, rt.alloc(), "load side=3 vehicles=2 riders=9 rounds=2", b"", 4096, NOTHING)?;
+    let left = ran(
+        &rt,
+        rt.alloc(),
+        "load side=3 vehicles=2 riders=9 rounds=2",
+        b"",
+        4096,
+        NOTHING,
+    )?;
     assert!(rt; left.shown.as_slice().ends_with(b"\ndone 24\n"));
     let line = line_of(rt.alloc(), &RunStatus::TooLong(Which::Fleet))?;
     assert_eq!(rt;

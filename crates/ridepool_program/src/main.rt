@@ -61,7 +61,11 @@ Exit status: 0 done; 2 words; 3 network; 4 fleet; 5 script; 6 input too long; 7 
 const VERSION: &str = "ridepool 0.1.0\n";
 
 fn main(rt: HostRuntime) -> ExitCode {
-    let _places = [standard_place(&rt), standard_place(&rt), standard_place(&rt)];
+    let _places = [
+        standard_place(&rt),
+        standard_place(&rt),
+        standard_place(&rt),
+    ];
     let words = match words_of(&rt) {
         Ok(words) => words,
         Err(OutOfMemory) => return report(&rt, &RunStatus::OutOfMemory),
