@@ -1,18 +1,20 @@
 -- From what each lane did to the one history in which all of them stand.
-use Rattle.std.proofs.Common.{◌≡◌, ◌≢◌, ℕ, zero, suc, ◌+◌, ◌<◌, ◌≤◌, ◌==◌, Bool, true, false, cond, eqb, List, [], ◌∷◌, ◌++◌, length, map, filter, get_or, Option, Some, None, refl, sym, ap, subst, ◌∙◌, inl, inr, arith}
+use Rattle.std.proofs.Common.{◌≡◌, ◌≢◌, ℕ, suc, ◌+◌, ◌<◌, ◌≤◌, ◌==◌, Bool, true, false, cond, eqb, List, [], ◌∷◌, ◌++◌, length, map, filter, Option, Some, None, refl, sym, ap, subst, ◌∙◌, inl, inr, arith}
 use Rattle.std.specs.Prelude.{All, option_map, slice_index_or}
 use Rattle.std.specs.List.{enumerate_from}
-use Rattle.std.proofs.lemmas.Bool.{cases_eq, cases_lt, eq-eqb, eqb-true, eqb-false, true≢false, false≢true}
+use Rattle.std.proofs.lemmas.Bool.{cases_lt, eq-eqb, eqb-true, eqb-false, false≢true}
 use Rattle.batch_snapshot.specs.Batch.{Batch}
 use Rattle.batch_solver.specs.Outcome.{IsGoodOutcome}
-use Rattle.request_book.specs.Book.{BookView, IsBook, batch_unless}
-use Rattle.request_book.specs.Closing.{closed_state}
-use Rattle.request_book.specs.Refusals.{first_of, unknown_node, unknown_rider, is_aboard, has_ended, unknown_vehicle, time_back, not_promised, vehicle_full, not_aboard, not_this_batch}
+use Rattle.request_book.specs.Book.{BookView}
+use Rattle.request_book.specs.work.Closing.{closed_state}
+use Rattle.request_book.specs.work.Refusals.{first_of, unknown_node, unknown_rider, is_aboard, has_ended, unknown_vehicle, time_back, not_promised, vehicle_full, not_aboard, not_this_batch}
 use Rattle.request_book.specs.Replay.{state_after, RepliesAreSteps}
 use Rattle.request_book.specs.Sealing.{batch_of, sealed_state}
 use Rattle.pool_io.specs.Faults.{one_more}
 use Rattle.request_book.specs.State.{find_rider, find_vehicle}
-use Rattle.request_book.specs.Step.{answer, rider_becomes, vehicle_becomes, stands_at, picked_up, dropped_off, submit_refusal, seal_refusal, submit_step, cancel_step, report_step, pickup_step, dropoff_step, seal_step, close_step, step}
+use Rattle.request_book.specs.Step.{rider_becomes, vehicle_becomes, stands_at, step}
+use Rattle.request_book.specs.work.Table.{answer, picked_up, dropped_off, submit_refusal, seal_refusal, submit_step, cancel_step, report_step, pickup_step, dropoff_step, seal_step, close_step, table_step}
+use Rattle.request_book.proofs.lemmas.StepTable.{step-table, by-table}
 use Rattle.request_book.specs.declared.command.Command.{Command}
 use Rattle.request_book.specs.declared.command.Command.TheVariants.{Submit, Cancel, Report, Pickup, Dropoff, Seal, Close}
 use Rattle.request_book.specs.declared.journal.Entry.{Entry}
@@ -60,27 +62,30 @@ dropped-seals : (s : State) (r : Option BookRider) (vehicle time : ℕ) → IsOf
 dropped-seals s None vehicle time = record { sealed = refl; last = refl; batches = refl }
 dropped-seals s (Some r) vehicle time = record { sealed = refl; last = refl; batches = refl }
 
-pub plain-quiet : (nodes : List ℕ) (wait : ℕ) (s : State) (command : Command) → IsPlain command → IsQuiet s (step nodes wait s command)
-unfolding step submit_step cancel_step report_step pickup_step dropoff_step
-plain-quiet nodes wait s (Submit rider origin destination time party) plain =
+table-quiet : (nodes : List ℕ) (wait : ℕ) (s : State) (command : Command) → IsPlain command → IsQuiet s (table_step nodes wait s command)
+unfolding table_step submit_step cancel_step report_step pickup_step dropoff_step
+table-quiet nodes wait s (Submit rider origin destination time party) plain =
     let r : BookRider = record { id = rider; origin = origin; destination = destination; time = time; party = party; status = Waiting } in
     answer-quiet s (record s { riders = s.riders ++ r ∷ [] }) (submit_refusal nodes s r) Accepted (record { sealed = refl; last = refl; batches = refl }) (λ t. refl) refl
-plain-quiet nodes wait s (Cancel rider) plain =
+table-quiet nodes wait s (Cancel rider) plain =
     let r = find_rider rider s.riders in
     answer-quiet s (rider_becomes s rider GivenUp) (first_of (unknown_rider r ∷ is_aboard r ∷ has_ended r ∷ [])) Cancelled (record { sealed = refl; last = refl; batches = refl }) (λ t. refl) refl
-plain-quiet nodes wait s (Report vehicle node time) plain =
+table-quiet nodes wait s (Report vehicle node time) plain =
     let v = find_vehicle vehicle s.vehicles in
     answer-quiet s (vehicle_becomes s vehicle (stands_at node time)) (first_of (unknown_vehicle v ∷ unknown_node nodes node ∷ time_back v time ∷ [])) Placed (record { sealed = refl; last = refl; batches = refl }) (λ t. refl) refl
-plain-quiet nodes wait s (Pickup vehicle rider time) plain =
+table-quiet nodes wait s (Pickup vehicle rider time) plain =
     let v = find_vehicle vehicle s.vehicles in
     let r = find_rider rider s.riders in
     answer-quiet s (picked_up s r vehicle time) (first_of (unknown_vehicle v ∷ unknown_rider r ∷ is_aboard r ∷ has_ended r ∷ not_promised r vehicle ∷ time_back v time ∷ vehicle_full v r ∷ [])) Picked (picked-seals s r vehicle time) (λ t. refl) refl
-plain-quiet nodes wait s (Dropoff vehicle rider time) plain =
+table-quiet nodes wait s (Dropoff vehicle rider time) plain =
     let v = find_vehicle vehicle s.vehicles in
     let r = find_rider rider s.riders in
     answer-quiet s (dropped_off s r vehicle time) (first_of (unknown_vehicle v ∷ unknown_rider r ∷ not_aboard r vehicle ∷ time_back v time ∷ [])) Dropped (dropped-seals s r vehicle time) (λ t. refl) refl
-plain-quiet nodes wait s (Seal now) plain = absurd plain
-plain-quiet nodes wait s (Close batch outcome) plain = absurd plain
+table-quiet nodes wait s (Seal now) plain = absurd plain
+table-quiet nodes wait s (Close batch outcome) plain = absurd plain
+
+pub plain-quiet : (nodes : List ℕ) (wait : ℕ) (s : State) (command : Command) → IsPlain command → IsQuiet s (step nodes wait s command)
+plain-quiet nodes wait s command plain = by-table (IsQuiet s) nodes wait s command (table-quiet nodes wait s command plain)
 
 -- the batch that stands sealed was sealed last
 abbrev IsLast : State → Option Batch → Type 0
@@ -120,15 +125,18 @@ close-last s batch outcome last is = by (first_of (not_this_batch s.sealed batch
     by None b e = (let none : None ≡ Some b = sym (closed-none s outcome) ∙ e in absurd cc)
     by (Some refusal) b e = is b e
 
+table-last : (nodes : List ℕ) (wait : ℕ) (s : State) (command : Command) (last : Option Batch) → IsLast s last → IsLast (table_step nodes wait s command).0 (last_sealed last (snapshot_after (table_step nodes wait s command).1 (table_step nodes wait s command).0))
+unfolding table_step
+table-last nodes wait s (Submit rider origin destination time party) last is = quiet-last s _ last (table-quiet nodes wait s (Submit rider origin destination time party) tt) is
+table-last nodes wait s (Cancel rider) last is = quiet-last s _ last (table-quiet nodes wait s (Cancel rider) tt) is
+table-last nodes wait s (Report vehicle node time) last is = quiet-last s _ last (table-quiet nodes wait s (Report vehicle node time) tt) is
+table-last nodes wait s (Pickup vehicle rider time) last is = quiet-last s _ last (table-quiet nodes wait s (Pickup vehicle rider time) tt) is
+table-last nodes wait s (Dropoff vehicle rider time) last is = quiet-last s _ last (table-quiet nodes wait s (Dropoff vehicle rider time) tt) is
+table-last nodes wait s (Seal now) last is = seal-last wait s now last is
+table-last nodes wait s (Close batch outcome) last is = close-last s batch outcome.answer last is
+
 step-last : (nodes : List ℕ) (wait : ℕ) (s : State) (command : Command) (last : Option Batch) → IsLast s last → IsLast (step nodes wait s command).0 (last_sealed last (snapshot_after (step nodes wait s command).1 (step nodes wait s command).0))
-unfolding step
-step-last nodes wait s (Submit rider origin destination time party) last is = quiet-last s _ last (plain-quiet nodes wait s (Submit rider origin destination time party) tt) is
-step-last nodes wait s (Cancel rider) last is = quiet-last s _ last (plain-quiet nodes wait s (Cancel rider) tt) is
-step-last nodes wait s (Report vehicle node time) last is = quiet-last s _ last (plain-quiet nodes wait s (Report vehicle node time) tt) is
-step-last nodes wait s (Pickup vehicle rider time) last is = quiet-last s _ last (plain-quiet nodes wait s (Pickup vehicle rider time) tt) is
-step-last nodes wait s (Dropoff vehicle rider time) last is = quiet-last s _ last (plain-quiet nodes wait s (Dropoff vehicle rider time) tt) is
-step-last nodes wait s (Seal now) last is = seal-last wait s now last is
-step-last nodes wait s (Close batch outcome) last is = close-last s batch outcome.answer last is
+step-last nodes wait s command last is = by-table (λ p. IsLast p.0 (last_sealed last (snapshot_after p.1 p.0))) nodes wait s command (table-last nodes wait s command last is)
 
 -- a rule of each element
 abbrev Each : {X : Type 0} → (X → Type 0) → List X → Type 0
@@ -159,7 +167,7 @@ module _ (settings : Settings) (roads : Roads) where
 
   -- a close of the lane that seals is good for the batch that stands sealed
   good-close : (s : State) (command : Command) (reply : Reply) (last : Option Batch) → IsLast s last → IsGoodFor settings roads last command → reply ≡ (step roads.nodes settings.wait s command).1 → IsGoodClose settings roads s command reply
-  unfolding step close_step
+  unfolding table_step close_step
   good-close s (Submit rider origin destination time party) reply last is good e = tt
   good-close s (Cancel rider) reply last is good e = tt
   good-close s (Report vehicle node time) reply last is good e = tt
@@ -174,7 +182,7 @@ module _ (settings : Settings) (roads : Roads) where
   good-close s (Close batch outcome) (Sealed number) last is good e = tt
   good-close s (Close batch outcome) (Refused refusal) last is good e = tt
   good-close s (Close batch outcome) Closed last is good e =
-      let stands = close-refused s.sealed batch (answered s (closed_state s outcome.answer) _ e) in
+      let stands = close-refused s.sealed batch (answered s (closed_state s outcome.answer) _ (e ∙ ap (λ p. p.1) (step-table roads.nodes settings.wait s (Close batch outcome)))) in
       let same : good.0 ≡ stands.0 = (let both : Some good.0 ≡ Some stands.0 = sym good.1 ∙ is stands.0 stands.1 in cc) in
       (stands.0, stands.1, subst (λ (b : Batch). IsGoodOutcome settings roads b outcome) same good.2)
 
@@ -216,23 +224,26 @@ module _ (nodes : List ℕ) (wait : ℕ) where
   quiet-stands s after none quiet = ap (option_map (λ b. b.number)) (quiet.sealed ∙ none) ∙ sym quiet.told
 
   -- where no batch stands sealed, the one of the reply does then
-  opens : (s : State) (command : Command) → s.sealed ≡ None → Stands (step nodes wait s command).0 (sealed_by (step nodes wait s command).1)
-  unfolding step seal_step close_step batch_of sealed_state
-  opens s (Submit rider origin destination time party) none = quiet-stands s _ none (plain-quiet nodes wait s (Submit rider origin destination time party) tt)
-  opens s (Cancel rider) none = quiet-stands s _ none (plain-quiet nodes wait s (Cancel rider) tt)
-  opens s (Report vehicle node time) none = quiet-stands s _ none (plain-quiet nodes wait s (Report vehicle node time) tt)
-  opens s (Pickup vehicle rider time) none = quiet-stands s _ none (plain-quiet nodes wait s (Pickup vehicle rider time) tt)
-  opens s (Dropoff vehicle rider time) none = quiet-stands s _ none (plain-quiet nodes wait s (Dropoff vehicle rider time) tt)
-  opens s (Seal now) none = by (seal_refusal s now)
+  table-opens : (s : State) (command : Command) → s.sealed ≡ None → Stands (table_step nodes wait s command).0 (sealed_by (table_step nodes wait s command).1)
+  unfolding table_step seal_step close_step batch_of sealed_state
+  table-opens s (Submit rider origin destination time party) none = quiet-stands s _ none (table-quiet nodes wait s (Submit rider origin destination time party) tt)
+  table-opens s (Cancel rider) none = quiet-stands s _ none (table-quiet nodes wait s (Cancel rider) tt)
+  table-opens s (Report vehicle node time) none = quiet-stands s _ none (table-quiet nodes wait s (Report vehicle node time) tt)
+  table-opens s (Pickup vehicle rider time) none = quiet-stands s _ none (table-quiet nodes wait s (Pickup vehicle rider time) tt)
+  table-opens s (Dropoff vehicle rider time) none = quiet-stands s _ none (table-quiet nodes wait s (Dropoff vehicle rider time) tt)
+  table-opens s (Seal now) none = by (seal_refusal s now)
     where
       by : (o : Option BookRefusal) → Stands (answer s o (Sealed (one_more s.batches)) (sealed_state wait s now)).0 (sealed_by (answer s o (Sealed (one_more s.batches)) (sealed_state wait s now)).1)
       by None = refl
       by (Some refusal) = ap (option_map (λ b. b.number)) none
-  opens s (Close batch outcome) none = by (first_of (not_this_batch s.sealed batch ∷ []))
+  table-opens s (Close batch outcome) none = by (first_of (not_this_batch s.sealed batch ∷ []))
     where
       by : (o : Option BookRefusal) → Stands (answer s o Closed (closed_state s outcome.answer)).0 (sealed_by (answer s o Closed (closed_state s outcome.answer)).1)
       by None = ap (option_map (λ b. b.number)) (closed-none s outcome.answer)
       by (Some refusal) = ap (option_map (λ b. b.number)) none
+
+  opens : (s : State) (command : Command) → s.sealed ≡ None → Stands (step nodes wait s command).0 (sealed_by (step nodes wait s command).1)
+  opens s command none = by-table (λ p. Stands p.0 (sealed_by p.1)) nodes wait s command (table-opens s command none)
 
   taken : (o : Option Batch) (batch : ℕ) → option_map (λ b. b.number) o ≡ Some batch → first_of (not_this_batch o batch ∷ []) ≡ None
   unfolding first_of
@@ -240,17 +251,20 @@ module _ (nodes : List ℕ) (wait : ℕ) where
   taken (Some b) batch e = let is : b.number ≡ batch = cc in rw (eq-eqb b.number batch is) refl
 
   -- the close of the batch that stands sealed is taken
-  closes : (s : State) (command : Command) (batch : ℕ) → Stands s (Some batch) → IsCloseOf batch command → (step nodes wait s command).0.sealed ≡ None
-  unfolding step close_step
-  closes s (Submit rider origin destination time party) batch stands is = absurd is
-  closes s (Cancel rider) batch stands is = absurd is
-  closes s (Report vehicle node time) batch stands is = absurd is
-  closes s (Pickup vehicle rider time) batch stands is = absurd is
-  closes s (Dropoff vehicle rider time) batch stands is = absurd is
-  closes s (Seal now) batch stands is = absurd is
-  closes s (Close closed outcome) batch stands is =
+  table-closes : (s : State) (command : Command) (batch : ℕ) → Stands s (Some batch) → IsCloseOf batch command → (table_step nodes wait s command).0.sealed ≡ None
+  unfolding table_step close_step
+  table-closes s (Submit rider origin destination time party) batch stands is = absurd is
+  table-closes s (Cancel rider) batch stands is = absurd is
+  table-closes s (Report vehicle node time) batch stands is = absurd is
+  table-closes s (Pickup vehicle rider time) batch stands is = absurd is
+  table-closes s (Dropoff vehicle rider time) batch stands is = absurd is
+  table-closes s (Seal now) batch stands is = absurd is
+  table-closes s (Close closed outcome) batch stands is =
       ap (λ (o : Option BookRefusal). (answer s o Closed (closed_state s outcome.answer)).0.sealed) (taken s.sealed closed (stands ∙ ap Some (sym is)))
       ∙ closed-none s outcome.answer
+
+  closes : (s : State) (command : Command) (batch : ℕ) → Stands s (Some batch) → IsCloseOf batch command → (step nodes wait s command).0.sealed ≡ None
+  closes s command batch stands is = ap (λ p. p.0.sealed) (step-table nodes wait s command) ∙ table-closes s command batch stands is
 
   ends-first : (s : State) (pending : Option ℕ) (cs : List Command) (e : Entry) (rest : List Entry) (More : Type 0)
       → Stands s pending → e.reply ≡ (step nodes wait s e.command).1 → IsInZero e

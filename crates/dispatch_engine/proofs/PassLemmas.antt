@@ -18,7 +18,7 @@ use Rattle.shared_book.specs.declared.locked.LockedReply.{LockedReply}
 use Rattle.shared_book.specs.declared.shared.Receipt.{Receipt}
 use Rattle.shared_book.specs.Locked.{entry_of, is_light, sealed_by, Fits}
 use Rattle.shared_book.specs.Shared.{BookPass, with_snapshot, HasCalled, HasCalledSome}
-use Rattle.dispatch_engine.specs.Lane.{IsCloseOf, IsLaneRunFrom, IsLaneRun, IsLaneBeginning, last_sealed, IsGoodFor, LaneClosesAreGood, HasRun, HasBegun}
+use Rattle.dispatch_engine.specs.Lane.{IsLaneRunFrom, IsLaneRun, IsLaneBeginning, last_sealed, IsGoodFor, LaneClosesAreGood, HasRun, HasBegun}
 use Rattle.dispatch_engine.specs.work.Lanes.{calls_of_pass, IsPlain}
 
 -- a run, and one more

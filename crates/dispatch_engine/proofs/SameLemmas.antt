@@ -1,16 +1,18 @@
 -- Of two runs of the same commands in one lane: which seals are answered with which batch doesn't depend on what batches gave.
-use Rattle.std.proofs.Common.{◌≡◌, ◌≢◌, ℕ, zero, suc, ◌+◌, ◌<◌, Bool, true, false, cond, eqb, List, [], ◌∷◌, length, Option, Some, None, refl, sym, ap, subst, ◌∙◌, inl, inr, arith}
+use Rattle.std.proofs.Common.{◌≡◌, ◌≢◌, ℕ, suc, Bool, true, false, cond, eqb, List, [], ◌∷◌, Option, Some, None, refl, sym, ap, subst, ◌∙◌, inl, inr, arith}
 use Rattle.std.specs.Prelude.{All, ◌⊎◌, option_map}
 use Rattle.std.specs.List.{AllZip}
-use Rattle.std.proofs.lemmas.Bool.{cases_eq, eq-eqb, eqb-true}
+use Rattle.std.proofs.lemmas.Bool.{cases_eq, eq-eqb}
 use Rattle.batch_snapshot.specs.Batch.{Batch}
 use Rattle.request_book.specs.Book.{next_position}
-use Rattle.request_book.specs.Closing.{closed_state}
-use Rattle.request_book.specs.Refusals.{first_of, batch_open, clock_back, not_this_batch}
+use Rattle.request_book.specs.work.Closing.{closed_state}
+use Rattle.request_book.specs.work.Refusals.{first_of, batch_open, clock_back, not_this_batch}
 use Rattle.request_book.specs.Replay.{state_after, RepliesAreSteps}
 use Rattle.request_book.specs.Sealing.{batch_of, sealed_state}
 use Rattle.pool_io.specs.Faults.{one_more}
-use Rattle.request_book.specs.Step.{answer, seal_refusal, seal_step, close_step, step}
+use Rattle.request_book.specs.Step.{step}
+use Rattle.request_book.specs.work.Table.{answer, seal_refusal, seal_step, close_step, table_step}
+use Rattle.request_book.proofs.lemmas.StepTable.{by-table}
 use Rattle.request_book.specs.declared.command.Command.{Command}
 use Rattle.request_book.specs.declared.command.Command.TheVariants.{Submit, Cancel, Report, Pickup, Dropoff, Seal, Close}
 use Rattle.request_book.specs.declared.journal.Entry.{Entry}
@@ -29,7 +31,7 @@ use Rattle.dispatch_engine.specs.Lane.{of_lane, IsCloseOf, IsLaneRunFrom, IsLane
 use Rattle.dispatch_engine.specs.Run.{IsRoundRun, IsRun}
 use Rattle.dispatch_engine.specs.Same.{IsInLaneZero, IsSameCommand, HaveSameCommands}
 use Rattle.dispatch_engine.specs.work.Lanes.{IsPlain}
-use Rattle.dispatch_engine.proofs.LaneLemmas.{IsQuiet, plain-quiet, closed-none}
+use Rattle.dispatch_engine.proofs.LaneLemmas.{IsQuiet, plain-quiet}
 
 -- what answers a seal or a close looks at: the last seal, the number of the batch that stands sealed, and how many there were
 pub record Clock : Type 0 where
@@ -130,6 +132,9 @@ module _ (nodes : List ℕ) (wait : ℕ) where
     clock : clock_of (step nodes wait s c).0 ≡ clock_of (step nodes wait t d).0
     told : sealed_by (step nodes wait s c).1 ≡ sealed_by (step nodes wait t d).1
 
+  ticks-step : (s : State) (c : Command) (k : Clock) (o : Option ℕ) → Ticks (table_step nodes wait s c) k o → Ticks (step nodes wait s c) k o
+  ticks-step s c k o = by-table (λ p. Ticks p k o) nodes wait s c
+
   from-ticks : (s t : State) (c d : Command) (k : Clock) (o : Option ℕ) → Ticks (step nodes wait s c) k o → Ticks (step nodes wait t d) k o → Agrees s t c d
   from-ticks s t c d k o p q = record { clock = p.clock ∙ sym q.clock; told = p.told ∙ sym q.told }
 
@@ -140,18 +145,18 @@ module _ (nodes : List ℕ) (wait : ℕ) where
       (quiet-ticks t _ (plain-quiet nodes wait t c plain))
 
   seal-agrees : (s t : State) (now : ℕ) → clock_of s ≡ clock_of t → Agrees s t (Seal now) (Seal now)
-  unfolding step
+  unfolding table_step
   seal-agrees s t now same =
       from-ticks s t (Seal now) (Seal now) _ _
-      (subst (λ k. Ticks (seal_step wait s now) (sealed_clock (open_refusal k now) k now) (told_batch (open_refusal k now) k)) same (seal-ticks wait s now))
-      (seal-ticks wait t now)
+      (ticks-step s (Seal now) _ _ (subst (λ k. Ticks (seal_step wait s now) (sealed_clock (open_refusal k now) k now) (told_batch (open_refusal k now) k)) same (seal-ticks wait s now)))
+      (ticks-step t (Seal now) _ _ (seal-ticks wait t now))
 
   close-agrees : (s t : State) (batch : ℕ) (c d : Command) → IsCloseOf batch c → IsCloseOf batch d → clock_of s ≡ clock_of t → Agrees s t c d
-  unfolding step
+  unfolding table_step
   close-agrees s t batch (Close a o) (Close b p) c d same =
       from-ticks s t (Close a o) (Close b p) _ _
-      (subst (λ k. Ticks (close_step s a o.answer) (closed_clock (is_open k.open' a) k) None) same (close-ticks s a o.answer))
-      (subst (λ n. Ticks (close_step t b p.answer) (closed_clock (is_open (number_of t.sealed) n) (clock_of t)) None) (d ∙ sym c) (close-ticks t b p.answer))
+      (ticks-step s (Close a o) _ _ (subst (λ k. Ticks (close_step s a o.answer) (closed_clock (is_open k.open' a) k) None) same (close-ticks s a o.answer)))
+      (ticks-step t (Close b p) _ _ (subst (λ n. Ticks (close_step t b p.answer) (closed_clock (is_open (number_of t.sealed) n) (clock_of t)) None) (d ∙ sym c) (close-ticks t b p.answer)))
   close-agrees s t batch (Close a o) _ c d same = absurd d
   close-agrees s t batch _ d c e same = absurd c
 

@@ -22,18 +22,21 @@ use Rattle.request_book.specs.declared.rider.BookRider.{BookRider}
 use Rattle.request_book.specs.declared.rider.Status.{Status}
 use Rattle.request_book.specs.declared.rider.Status.TheVariants.{Waiting, Promised, Aboard, Delivered, Expired, Cancelled as GivenUp}
 use Rattle.request_book.specs.declared.state.State.{State}
-use Rattle.request_book.specs.Closing.{Pick, after_answer, after_plan, closed_state, in_batch, picks, planned_status}
+use Rattle.request_book.specs.Closing.{Pick, after_answer, after_plan, in_batch, picks, planned_status}
+use Rattle.request_book.specs.work.Closing.{closed_state}
 use Rattle.request_book.specs.Consistent.{AreConsistent, IsConsistent, seat_in}
 use Rattle.request_book.specs.Keyed.{changed_at, without, KeysRise, KeysDiffer}
-use Rattle.request_book.specs.Refusals.{first_of, unknown_vehicle, unknown_rider, is_aboard, has_ended, not_promised, not_aboard, time_back, vehicle_full, seat_refusal, not_this_batch}
+use Rattle.request_book.specs.work.Refusals.{first_of, unknown_vehicle, unknown_rider, is_aboard, has_ended, not_promised, not_aboard, time_back, vehicle_full, seat_refusal, not_this_batch}
 use Rattle.request_book.specs.Rider.{is_active, vehicle_of, with_status, passenger_of}
 use Rattle.request_book.specs.Sealing.{is_over, after_seal, sealed_state}
 use Rattle.pool_io.specs.Faults.{one_more}
 use Rattle.request_book.specs.State.{find_rider, find_vehicle, find_passenger, pool_count}
-use Rattle.request_book.specs.Step.{answer, rider_becomes, vehicle_becomes, stands_at, takes_in, lets_out, picked_up, dropped_off, submit_refusal, submit_step, cancel_step, report_step, pickup_step, dropoff_step, seal_refusal, seal_step, close_step, step}
+use Rattle.request_book.specs.Step.{rider_becomes, vehicle_becomes, stands_at, takes_in, lets_out, step}
+use Rattle.request_book.specs.work.Table.{answer, picked_up, dropped_off, submit_refusal, submit_step, cancel_step, report_step, pickup_step, dropoff_step, seal_refusal, seal_step, close_step, table_step}
 use Rattle.request_book.proofs.BatchLemmas.{after_seal-id}
 use Rattle.request_book.proofs.CloseLemmas.{after_plan-id, after_plan-active}
 use Rattle.request_book.proofs.KeyedLemmas.{look_up-key, look_up-map, look_up-changed_here, look_up-changed_there, look_up-push_here, look_up-push_there, look_up-without_here, look_up-without_there, KeysDiffer-push, KeysDiffer-map, KeysDiffer-changed_at, KeysDiffer-from_rise, KeysRise-changed_at, All-changed_at, length-changed_at}
+use Rattle.request_book.proofs.lemmas.StepTable.{step-table}
 use Rattle.request_book.proofs.StepLemmas.{first_of-none, active_left, submit-fits, closed-some}
 
 -- an answer keeps what the old state keeps, and the new one where nothing is refused
@@ -452,13 +455,16 @@ close-keeps P s batch a old new = answer-keeps P s (first_of (not_this_batch s.s
     by None e none = let refused = ap (λ o. not_this_batch o batch) (sym e) ∙ none in absurd cc
     by (Some b) e none = subst P (sym (closed-some s b a e)) (new b e)
 
-pub step-consistent : (nodes : List ℕ) (wait : ℕ) (s : State) (command : Command) → IsConsistent s → IsConsistent (step nodes wait s command).0
-unfolding step
-step-consistent nodes wait s (Submit rider origin destination time party) kept =
+table-consistent : (nodes : List ℕ) (wait : ℕ) (s : State) (command : Command) → IsConsistent s → IsConsistent (table_step nodes wait s command).0
+unfolding table_step
+table-consistent nodes wait s (Submit rider origin destination time party) kept =
     submit-consistent nodes s (record { id = rider; origin = origin; destination = destination; time = time; party = party; status = Waiting }) refl kept
-step-consistent nodes wait s (Cancel rider) kept = cancel-consistent s rider kept
-step-consistent nodes wait s (Report vehicle node time) kept = report-consistent nodes s vehicle node time kept
-step-consistent nodes wait s (Pickup vehicle rider time) kept = pickup-consistent s vehicle rider time kept
-step-consistent nodes wait s (Dropoff vehicle rider time) kept = dropoff-consistent s vehicle rider time kept
-step-consistent nodes wait s (Seal now) kept = seal-consistent wait s now kept
-step-consistent nodes wait s (Close batch outcome) kept = close-keeps IsConsistent s batch outcome.answer kept (λ b e. answered s.riders s.vehicles kept b.riders outcome.answer)
+table-consistent nodes wait s (Cancel rider) kept = cancel-consistent s rider kept
+table-consistent nodes wait s (Report vehicle node time) kept = report-consistent nodes s vehicle node time kept
+table-consistent nodes wait s (Pickup vehicle rider time) kept = pickup-consistent s vehicle rider time kept
+table-consistent nodes wait s (Dropoff vehicle rider time) kept = dropoff-consistent s vehicle rider time kept
+table-consistent nodes wait s (Seal now) kept = seal-consistent wait s now kept
+table-consistent nodes wait s (Close batch outcome) kept = close-keeps IsConsistent s batch outcome.answer kept (λ b e. answered s.riders s.vehicles kept b.riders outcome.answer)
+
+pub step-consistent : (nodes : List ℕ) (wait : ℕ) (s : State) (command : Command) → IsConsistent s → IsConsistent (step nodes wait s command).0
+step-consistent nodes wait s command kept = subst (λ p. IsConsistent p.0) (sym (step-table nodes wait s command)) (table-consistent nodes wait s command kept)

@@ -1,12 +1,10 @@
 -- The laws of steps and journals.
-use Rattle.std.proofs.Common.{◌≡◌, ℕ, ◌+◌, ◌-◌, ◌^◌, ◌<◌, ◌≤◌, Bool, true, false, cond, eqb, List, [], ◌∷◌, ◌++◌, length, Option, Some, None, refl, sym, ap, subst, ◌∙◌, inl, inr, arith}
+use Rattle.std.proofs.Common.{◌≡◌, ℕ, ◌+◌, ◌-◌, ◌^◌, ◌≤◌, Bool, true, false, cond, eqb, List, [], ◌∷◌, ◌++◌, length, Option, Some, None, refl, sym, ap, ◌∙◌, inl, inr, arith}
 use Rattle.std.specs.Prelude.{min, is_some, option_map, option_and_then, ◌↔◌}
-use Rattle.std.specs.List.{All}
 use Rattle.std.proofs.Math.Nat.{min-eq_left, min-eq_right}
 use Rattle.std.proofs.lemmas.Bool.{cases_lt, eq-eqb, eqb-true, true≢false}
 use Rattle.std.proofs.lemmas.List.{length-append}
 use Rattle.batch_snapshot.specs.Kept.{IsFleet}
-use Rattle.batch_snapshot.specs.Vehicle.{HasSeats}
 use Rattle.batch_snapshot.specs.declared.vehicle.Vehicle.{Vehicle}
 use Rattle.request_book.specs.declared.command.Command.{Command}
 use Rattle.request_book.specs.declared.command.Command.TheVariants.{Submit, Cancel, Report, Pickup, Dropoff, Seal, Close}
@@ -19,32 +17,39 @@ use Rattle.request_book.specs.declared.rider.Status.{Status}
 use Rattle.request_book.specs.declared.rider.Status.TheVariants.{Waiting, Promised, Aboard, Delivered, Expired, Cancelled as GivenUp}
 use Rattle.request_book.specs.declared.state.State.{State}
 use Rattle.request_book.specs.Book.{next_position, opening}
-use Rattle.request_book.specs.Closing.{closed_state}
+use Rattle.request_book.specs.work.Closing.{closed_state}
 use Rattle.request_book.specs.Consistent.{IsConsistent, IsPassenger, seat_in, status_in}
 use Rattle.request_book.specs.Replay.{state_after}
 use Rattle.request_book.specs.Rider.{passenger_of, vehicle_of}
 use Rattle.request_book.specs.Sealing.{sealed_state}
 use Rattle.pool_io.specs.Faults.{one_more}
 use Rattle.request_book.specs.State.{find_rider}
-use Rattle.request_book.specs.Step.{answer, rider_becomes, vehicle_becomes, stands_at, picked_up, dropped_off, submit_step, cancel_step, report_step, pickup_step, dropoff_step, seal_step, close_step, step}
+use Rattle.request_book.specs.Step.{rider_becomes, vehicle_becomes, stands_at, step}
+use Rattle.request_book.specs.work.Table.{answer, picked_up, dropped_off, submit_step, cancel_step, report_step, pickup_step, dropoff_step, seal_step, close_step, table_step}
 use Rattle.request_book.proofs.BookLemmas.{opening-consistent}
 use Rattle.request_book.proofs.ConsistentLemmas.{step-consistent}
+use Rattle.request_book.proofs.lemmas.StepTable.{step-table}
 
 -- a refused command changes nothing
 answer-refused : (s : State) (o : Option BookRefusal) (reply : Reply) (next : State) → ((refusal : BookRefusal) → reply ≡ Refused refusal → ⊥) → (refusal : BookRefusal) → (answer s o reply next).1 ≡ Refused refusal → (answer s o reply next).0 ≡ s
 answer-refused s None reply next other refusal e = absurd (other refusal e)
 answer-refused s (Some first) reply next other refusal e = refl
 
-pub refused-keeps : (nodes : List ℕ) (wait : ℕ) (s : State) (command : Command) (refusal : BookRefusal) → (step nodes wait s command).1 ≡ Refused refusal → (step nodes wait s command).0 ≡ s
-unfolding step submit_step cancel_step report_step pickup_step dropoff_step seal_step close_step
-refused-keeps nodes wait s (Submit rider origin destination time party) refusal e =
+table-refused : (nodes : List ℕ) (wait : ℕ) (s : State) (command : Command) (refusal : BookRefusal) → (table_step nodes wait s command).1 ≡ Refused refusal → (table_step nodes wait s command).0 ≡ s
+unfolding table_step submit_step cancel_step report_step pickup_step dropoff_step seal_step close_step
+table-refused nodes wait s (Submit rider origin destination time party) refusal e =
     answer-refused s _ Accepted (record s { riders = s.riders ++ (record { id = rider; origin = origin; destination = destination; time = time; party = party; status = Waiting }) ∷ [] }) (λ r f. absurd cc) refusal e
-refused-keeps nodes wait s (Cancel rider) refusal e = answer-refused s _ Cancelled (rider_becomes s rider GivenUp) (λ r f. absurd cc) refusal e
-refused-keeps nodes wait s (Report vehicle node time) refusal e = answer-refused s _ Placed (vehicle_becomes s vehicle (stands_at node time)) (λ r f. absurd cc) refusal e
-refused-keeps nodes wait s (Pickup vehicle rider time) refusal e = answer-refused s _ Picked (picked_up s (find_rider rider s.riders) vehicle time) (λ r f. absurd cc) refusal e
-refused-keeps nodes wait s (Dropoff vehicle rider time) refusal e = answer-refused s _ Dropped (dropped_off s (find_rider rider s.riders) vehicle time) (λ r f. absurd cc) refusal e
-refused-keeps nodes wait s (Seal now) refusal e = answer-refused s _ (Sealed (one_more s.batches)) (sealed_state wait s now) (λ r f. absurd cc) refusal e
-refused-keeps nodes wait s (Close batch outcome) refusal e = answer-refused s _ Closed (closed_state s outcome.answer) (λ r f. absurd cc) refusal e
+table-refused nodes wait s (Cancel rider) refusal e = answer-refused s _ Cancelled (rider_becomes s rider GivenUp) (λ r f. absurd cc) refusal e
+table-refused nodes wait s (Report vehicle node time) refusal e = answer-refused s _ Placed (vehicle_becomes s vehicle (stands_at node time)) (λ r f. absurd cc) refusal e
+table-refused nodes wait s (Pickup vehicle rider time) refusal e = answer-refused s _ Picked (picked_up s (find_rider rider s.riders) vehicle time) (λ r f. absurd cc) refusal e
+table-refused nodes wait s (Dropoff vehicle rider time) refusal e = answer-refused s _ Dropped (dropped_off s (find_rider rider s.riders) vehicle time) (λ r f. absurd cc) refusal e
+table-refused nodes wait s (Seal now) refusal e = answer-refused s _ (Sealed (one_more s.batches)) (sealed_state wait s now) (λ r f. absurd cc) refusal e
+table-refused nodes wait s (Close batch outcome) refusal e = answer-refused s _ Closed (closed_state s outcome.answer) (λ r f. absurd cc) refusal e
+
+pub refused-keeps : (nodes : List ℕ) (wait : ℕ) (s : State) (command : Command) (refusal : BookRefusal) → (step nodes wait s command).1 ≡ Refused refusal → (step nodes wait s command).0 ≡ s
+refused-keeps nodes wait s command refusal e =
+    let same = step-table nodes wait s command in
+    ap (λ p. p.0) same ∙ table-refused nodes wait s command refusal (sym (ap (λ p. p.1) same) ∙ e)
 
 -- runs
 pub rounds-join : (nodes : List ℕ) (wait : ℕ) (s : State) (round later : List Entry) → state_after nodes wait s (round ++ later) ≡ state_after nodes wait (state_after nodes wait s round) later

@@ -1,3 +1,4 @@
+pub mod lemmas
 pub mod KeyedLemmas
 pub mod RegisterLemmas
 pub mod StepLemmas

@@ -20,16 +20,18 @@ use Rattle.request_book.specs.declared.state.State.{State}
 use Rattle.request_book.specs.Closing.{after_answer, after_plan, in_batch, picks, planned_status}
 use Rattle.request_book.specs.Consistent.{IsConsistent, IsNode, NamesNodes, seat_in}
 use Rattle.request_book.specs.Keyed.{KeysDiffer, by_key}
-use Rattle.request_book.specs.Refusals.{unknown_node}
+use Rattle.request_book.specs.work.Refusals.{unknown_node}
 use Rattle.request_book.specs.Rider.{is_active, vehicle_of, with_status, passenger_of}
 use Rattle.request_book.specs.Sealing.{is_over, after_seal, asking, batch_of, sealed_state}
 use Rattle.pool_io.specs.Faults.{one_more}
 use Rattle.request_book.specs.State.{find_rider, find_vehicle, find_passenger}
 use Rattle.road_network.specs.Roads.{has_node}
-use Rattle.request_book.specs.Step.{rider_becomes, vehicle_becomes, stands_at, takes_in, lets_out, picked_up, dropped_off, submit_refusal, submit_step, cancel_step, report_step, pickup_step, dropoff_step, seal_refusal, seal_step, close_step, step}
+use Rattle.request_book.specs.Step.{rider_becomes, vehicle_becomes, stands_at, takes_in, lets_out, step}
+use Rattle.request_book.specs.work.Table.{picked_up, dropped_off, submit_refusal, submit_step, cancel_step, report_step, pickup_step, dropoff_step, seal_refusal, seal_step, close_step, table_step}
 use Rattle.request_book.proofs.BatchLemmas.{batch-each}
 use Rattle.request_book.proofs.ConsistentLemmas.{answer-keeps, close-keeps}
 use Rattle.request_book.proofs.KeyedLemmas.{All-changed_at, All-look_up, All-from_look_up, KeysDiffer-from_rise}
+use Rattle.request_book.proofs.lemmas.StepTable.{step-table}
 use Rattle.request_book.proofs.StepLemmas.{first_of-none}
 
 All-flat_map : {X Y : Type 0} (P : Y → Type 0) (f : X → List Y) (xs : List X) → All (λ x. All P (f x)) xs → All P (flat_map f xs)
@@ -198,13 +200,16 @@ module _ (nodes : List ℕ) where
         sealed = λ c f. absurd cc;
       })
 
-  pub step-named : (wait : ℕ) (s : State) (command : Command) → IsConsistent s → NamesNodes nodes s → NamesNodes nodes (step nodes wait s command).0
-  unfolding step
-  step-named wait s (Submit rider origin destination time party) kept named =
+  table-named : (wait : ℕ) (s : State) (command : Command) → IsConsistent s → NamesNodes nodes s → NamesNodes nodes (table_step nodes wait s command).0
+  unfolding table_step
+  table-named wait s (Submit rider origin destination time party) kept named =
       submit-named s (record { id = rider; origin = origin; destination = destination; time = time; party = party; status = Waiting }) named
-  step-named wait s (Cancel rider) kept named = cancel-named s rider kept named
-  step-named wait s (Report vehicle node time) kept named = report-named s vehicle node time kept named
-  step-named wait s (Pickup vehicle rider time) kept named = pickup-named s vehicle rider time kept named
-  step-named wait s (Dropoff vehicle rider time) kept named = dropoff-named s vehicle rider time kept named
-  step-named wait s (Seal now) kept named = seal-named wait s now kept named
-  step-named wait s (Close batch outcome) kept named = close-named s batch outcome.answer named
+  table-named wait s (Cancel rider) kept named = cancel-named s rider kept named
+  table-named wait s (Report vehicle node time) kept named = report-named s vehicle node time kept named
+  table-named wait s (Pickup vehicle rider time) kept named = pickup-named s vehicle rider time kept named
+  table-named wait s (Dropoff vehicle rider time) kept named = dropoff-named s vehicle rider time kept named
+  table-named wait s (Seal now) kept named = seal-named wait s now kept named
+  table-named wait s (Close batch outcome) kept named = close-named s batch outcome.answer named
+
+  pub step-named : (wait : ℕ) (s : State) (command : Command) → IsConsistent s → NamesNodes nodes s → NamesNodes nodes (step nodes wait s command).0
+  step-named wait s command kept named = subst (λ p. NamesNodes nodes p.0) (sym (step-table nodes wait s command)) (table-named wait s command kept named)

@@ -1,16 +1,14 @@
-use Rattle.std.specs.Prelude.{◌≡◌, ℕ, ◌+◌, ◌-◌, ◌^◌, List, [], ◌∷◌, ◌++◌, length, min, Option, None, Some}
+use Rattle.std.specs.Prelude.{◌≡◌, ℕ, ◌+◌, ◌-◌, ◌^◌, List, [], ◌∷◌, ◌++◌, length, min, Option, None, Ok, Err}
 use Rattle.batch_snapshot.specs.Batch.{Batch}
 use Rattle.batch_snapshot.specs.declared.vehicle.Vehicle.{Vehicle}
 use Rattle.request_book.specs.declared.command.Command.{Command}
 use Rattle.request_book.specs.declared.command.Command.TheVariants.{Seal}
 use Rattle.request_book.specs.declared.journal.Entry.{Entry}
-use Rattle.request_book.specs.declared.reply.BookRefusal.{BookRefusal}
 use Rattle.request_book.specs.declared.reply.Reply.{Reply}
 use Rattle.request_book.specs.declared.state.State.{State}
 use Rattle.request_book.specs.Consistent.{IsConsistent, NamesNodes}
 use Rattle.request_book.specs.Replay.{state_after, RepliesAreSteps}
-use Rattle.request_book.specs.Sealing.{batch_of}
-use Rattle.request_book.specs.Step.{step, seal_refusal}
+use Rattle.request_book.specs.Step.{step, seal}
 
 -- what a book tells
 pub record BookView : Type 0 where
@@ -52,12 +50,8 @@ IsLight (Seal now) = ⊥
 IsLight _ = Unit {0}
 
 -- the batch that a seal would put into `sealed`; none where the step refuses the seal
-abbrev pub batch_unless : Option BookRefusal → Batch → Option Batch
-batch_unless (Some refusal) batch = None
-batch_unless None batch = Some batch
-
 abbrev pub would_seal : ℕ → State → ℕ → Option Batch
-would_seal wait s now = batch_unless (seal_refusal s now) (batch_of wait s now)
+would_seal wait s now = elim (seal wait s now) [ Ok next ↦ next.sealed | Err refusal ↦ None ]
 
 -- nothing but the room has changed
 pub record IsSameBook (old new : BookView) : Type 0 where

@@ -1,4 +1,4 @@
-use Rattle.std.specs.Prelude.{ℕ, Bool, ◌&&◌, List, [], ◌∷◌, None, Some, map, option_map, unwrap_or, is_some, if◌then◌else◌}
+use Rattle.std.specs.Prelude.{ℕ, Bool, ◌&&◌, List, [], ◌∷◌, map, option_map, unwrap_or, is_some, if◌then◌else◌}
 use Rattle.std.specs.List.{flat_map}
 use Rattle.batch_snapshot.specs.declared.promise.Promise.{Promise}
 use Rattle.batch_snapshot.specs.declared.rider.Rider.{Rider}
@@ -9,7 +9,6 @@ use Rattle.request_book.specs.declared.outcome.PlannedStop.{PlannedStop}
 use Rattle.request_book.specs.declared.rider.BookRider.{BookRider}
 use Rattle.request_book.specs.declared.rider.Status.{Status}
 use Rattle.request_book.specs.declared.rider.Status.TheVariants.{Waiting, Promised}
-use Rattle.request_book.specs.declared.state.State.{State}
 use Rattle.request_book.specs.Keyed.{look_up}
 use Rattle.request_book.specs.Rider.{is_active, with_status}
 
@@ -44,7 +43,3 @@ after_plan riders ps r = if is_active r.status && in_batch riders r.id then with
 unfoldable pub after_answer : List Rider → Answer → List BookRider → List BookRider
 after_answer batch Overflow riders = riders
 after_answer batch (Planned plan) riders = map (after_plan batch (picks plan.chosen)) riders
-
--- the state after the close of the sealed batch
-unfoldable pub closed_state : State → Answer → State
-closed_state s answer = elim s.sealed [ None ↦ s | Some b ↦ record s { riders = after_answer b.riders answer s.riders; sealed = None } ]

@@ -1,7 +1,6 @@
 pub mod Keyed
 pub mod Rider
 pub mod State
-pub mod Refusals
 pub mod Sealing
 pub mod Closing
 pub mod Step

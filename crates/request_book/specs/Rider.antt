@@ -1,9 +1,9 @@
-use Rattle.std.specs.Prelude.{ℕ, Bool, true, false, Option, None, Some, is_some}
+use Rattle.std.specs.Prelude.{ℕ, Bool, Option, None, Some, is_some}
 use Rattle.batch_snapshot.specs.declared.passenger.Passenger.{Passenger}
 use Rattle.batch_snapshot.specs.declared.promise.Promise.{Promise}
 use Rattle.batch_snapshot.specs.declared.rider.Rider.{Rider}
 use Rattle.request_book.specs.declared.rider.Status.{Status}
-use Rattle.request_book.specs.declared.rider.Status.TheVariants.{Waiting, Promised, Aboard, Cancelled, Delivered, Expired}
+use Rattle.request_book.specs.declared.rider.Status.TheVariants.{Waiting, Promised, Aboard}
 use Rattle.request_book.specs.declared.rider.BookRider.{BookRider}
 
 -- what a rider in the pool was promised: nothing yet, or a pickup

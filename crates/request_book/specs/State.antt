@@ -1,5 +1,4 @@
-use Rattle.std.specs.Prelude.{ℕ, Bool, ◌==◌, List, Option, count_by}
-use Rattle.std.specs.List.{list_any}
+use Rattle.std.specs.Prelude.{ℕ, List, Option, count_by}
 use Rattle.batch_snapshot.specs.declared.passenger.Passenger.{Passenger}
 use Rattle.batch_snapshot.specs.declared.vehicle.Vehicle.{Vehicle}
 use Rattle.request_book.specs.declared.rider.BookRider.{BookRider}

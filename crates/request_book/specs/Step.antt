@@ -1,29 +1,28 @@
 -- The step table: how the book answers each command, and what changes. Refusals are tried in the order
 -- in which they stand; the first that holds is the reply, and nothing changes.
-use Rattle.std.specs.Prelude.{ℕ, List, [], ◌∷◌, ◌++◌, Option, None, Some}
+use Rattle.std.specs.Prelude.{ℕ, false, ◌==◌, ◌+◌, ◌&&◌, not, List, [], ◌∷◌, ◌++◌, length, None, Some, is_some, nat_le, nat_lt, Result, Ok, Err}
+use Rattle.std.specs.Option.{ok_or, option_map_or}
+use Rattle.batch_snapshot.specs.Vehicle.{persons_aboard}
 use Rattle.batch_snapshot.specs.declared.vehicle.Vehicle.{Vehicle}
+use Rattle.pool_base.specs.InOrder.{◌>>=◌, refused_where}
 use Rattle.request_book.specs.declared.outcome.Answer.{Answer}
 use Rattle.request_book.specs.declared.command.Command.{Command}
-use Rattle.request_book.specs.declared.command.Command.TheVariants.{Submit, Cancel, Report, Pickup, Dropoff, Seal, Close}
+use Rattle.request_book.specs.declared.command.Command.TheVariants as command
 use Rattle.request_book.specs.declared.reply.BookRefusal.{BookRefusal}
+use Rattle.request_book.specs.declared.reply.BookRefusal.TheVariants.{DuplicateRider, UnknownNode, SamePlace, PoolFull, BookFull, UnknownRider, IsAboard, Ended, UnknownVehicle, TimeBack, NotPromised, VehicleFull, NotAboard, BatchOpen, ClockBack, NotThisBatch}
 use Rattle.request_book.specs.declared.reply.Reply.{Reply}
 use Rattle.request_book.specs.declared.reply.Reply.TheVariants.{Accepted, Cancelled, Placed, Picked, Dropped, Sealed, Closed, Refused}
 use Rattle.request_book.specs.declared.rider.BookRider.{BookRider}
 use Rattle.request_book.specs.declared.rider.Status.{Status}
-use Rattle.request_book.specs.declared.rider.Status.TheVariants.{Waiting, Aboard, Delivered, Cancelled as GivenUp}
+use Rattle.request_book.specs.declared.rider.Status.TheVariants.{Waiting, Promised, Aboard, Delivered, Cancelled as GivenUp}
 use Rattle.request_book.specs.declared.state.State.{State}
 use Rattle.request_book.specs.Keyed.{changed_at, without}
-use Rattle.request_book.specs.Rider.{with_status, passenger_of}
-use Rattle.request_book.specs.State.{find_rider, find_vehicle}
-use Rattle.request_book.specs.Refusals.{first_of, duplicate_rider, unknown_node, same_place, pool_full, book_full, unknown_rider, is_aboard, has_ended, unknown_vehicle, time_back, not_promised, vehicle_full, not_aboard, batch_open, clock_back, not_this_batch}
+use Rattle.request_book.specs.Rider.{with_status, passenger_of, vehicle_of}
+use Rattle.request_book.specs.State.{find_rider, find_vehicle, pool_count}
 use Rattle.request_book.specs.Sealing.{sealed_state}
+use Rattle.request_book.specs.Closing.{after_answer}
 use Rattle.pool_io.specs.Faults.{one_more}
-use Rattle.request_book.specs.Closing.{closed_state}
-
--- a refusal changes nothing; without one the reply and the new state are these
-abbrev pub answer : State → Option BookRefusal → Reply → State → State × Reply
-answer s (Some refusal) reply next = (s, Refused refusal)
-answer s None reply next = (next, reply)
+use Rattle.road_network.specs.Roads.{has_node}
 
 -- the state with another status of a rider
 abbrev pub rider_becomes : State → ℕ → Status → State
@@ -45,71 +44,89 @@ takes_in r time v = record v { node = r.origin; time = time; aboard = record { i
 abbrev pub lets_out : BookRider → ℕ → Vehicle → Vehicle
 lets_out r time v = record v { node = r.destination; time = time; aboard = record { items = without (λ p. p.rider) r.id v.aboard.items } }
 
--- the change of a pickup, and of a drop-off
-abbrev pub picked_up : State → Option BookRider → ℕ → ℕ → State
-picked_up s None vehicle time = s
-picked_up s (Some r) vehicle time = vehicle_becomes (rider_becomes s r.id (Aboard vehicle)) vehicle (takes_in r time)
+-- nothing, for a rider who waits or has a promise; else that they are aboard or have ended
+abbrev pub still_asks : Status → Result (Unit {0}) BookRefusal
+still_asks Waiting = Ok tt
+still_asks (Promised p) = Ok tt
+still_asks (Aboard vehicle) = Err (IsAboard vehicle)
+still_asks status = Err (Ended status)
 
-abbrev pub dropped_off : State → Option BookRider → ℕ → ℕ → State
-dropped_off s None vehicle time = s
-dropped_off s (Some r) vehicle time = vehicle_becomes (rider_becomes s r.id Delivered) vehicle (lets_out r time)
+-- nothing, for a rider who is promised to this vehicle; else who holds the promise, if anybody does
+abbrev pub is_promised_by : ℕ → Status → Result (Unit {0}) BookRefusal
+is_promised_by vehicle (Promised p) = refused_where (not (p.vehicle == vehicle)) (NotPromised (Some p.vehicle))
+is_promised_by vehicle _ = Err (NotPromised None)
 
 -- a rider asks: added last, waiting
-abbrev pub submit_refusal : List ℕ → State → BookRider → Option BookRefusal
-submit_refusal nodes s r = first_of (duplicate_rider (find_rider r.id s.riders) ∷ unknown_node nodes r.origin ∷ unknown_node nodes r.destination ∷ same_place r.origin r.destination ∷ pool_full s.riders ∷ book_full s.riders ∷ [])
-
-unfoldable pub submit_step : List ℕ → State → BookRider → State × Reply
-submit_step nodes s r = answer s (submit_refusal nodes s r) Accepted (record s { riders = s.riders ++ r ∷ [] })
+unfoldable pub submit : List ℕ → State → BookRider → Result State BookRefusal
+submit nodes s r = do
+  _ ← refused_where (is_some (find_rider r.id s.riders)) DuplicateRider
+  _ ← refused_where (not (has_node nodes r.origin && has_node nodes r.destination)) UnknownNode
+  _ ← refused_where (r.origin == r.destination) SamePlace
+  _ ← refused_where (nat_le 1000 (pool_count s.riders)) PoolFull
+  _ ← refused_where (nat_le 100000 (length s.riders)) BookFull
+  Ok (record s { riders = s.riders ++ r ∷ [] })
 
 -- a rider gives up
-unfoldable pub cancel_step : State → ℕ → State × Reply
-cancel_step s rider =
-    let r = find_rider rider s.riders in
-    answer s (first_of (unknown_rider r ∷ is_aboard r ∷ has_ended r ∷ []))
-    Cancelled (rider_becomes s rider GivenUp)
+unfoldable pub cancel : State → ℕ → Result State BookRefusal
+cancel s rider = do
+  r ← ok_or (find_rider rider s.riders) UnknownRider
+  _ ← still_asks r.status
+  Ok (rider_becomes s rider GivenUp)
 
 -- a vehicle is at a node
-unfoldable pub report_step : List ℕ → State → ℕ → ℕ → ℕ → State × Reply
-report_step nodes s vehicle node time =
-    let v = find_vehicle vehicle s.vehicles in
-    answer s (first_of (unknown_vehicle v ∷ unknown_node nodes node ∷ time_back v time ∷ []))
-    Placed (vehicle_becomes s vehicle (stands_at node time))
+unfoldable pub report : List ℕ → State → ℕ → ℕ → ℕ → Result State BookRefusal
+report nodes s vehicle node time = do
+  v ← ok_or (find_vehicle vehicle s.vehicles) UnknownVehicle
+  _ ← refused_where (not (has_node nodes node)) UnknownNode
+  _ ← refused_where (nat_lt time v.time) (TimeBack v.time)
+  Ok (vehicle_becomes s vehicle (stands_at node time))
 
--- a vehicle picks up the rider who is promised to it
-unfoldable pub pickup_step : State → ℕ → ℕ → ℕ → State × Reply
-pickup_step s vehicle rider time =
-    let v = find_vehicle vehicle s.vehicles in
-    let r = find_rider rider s.riders in
-    answer s (first_of (unknown_vehicle v ∷ unknown_rider r ∷ is_aboard r ∷ has_ended r ∷ not_promised r vehicle ∷ time_back v time ∷ vehicle_full v r ∷ []))
-    Picked (picked_up s r vehicle time)
+-- a vehicle picks up the rider who is promised to it, if there are seats for the whole party
+unfoldable pub pickup : State → ℕ → ℕ → ℕ → Result State BookRefusal
+pickup s vehicle rider time = do
+  v ← ok_or (find_vehicle vehicle s.vehicles) UnknownVehicle
+  r ← ok_or (find_rider rider s.riders) UnknownRider
+  _ ← still_asks r.status
+  _ ← is_promised_by vehicle r.status
+  _ ← refused_where (nat_lt time v.time) (TimeBack v.time)
+  _ ← refused_where (not (nat_le (persons_aboard v + r.party) v.seats)) VehicleFull
+  Ok (vehicle_becomes (rider_becomes s r.id (Aboard vehicle)) vehicle (takes_in r time))
 
 -- a vehicle drops its passenger
-unfoldable pub dropoff_step : State → ℕ → ℕ → ℕ → State × Reply
-dropoff_step s vehicle rider time =
-    let v = find_vehicle vehicle s.vehicles in
-    let r = find_rider rider s.riders in
-    answer s (first_of (unknown_vehicle v ∷ unknown_rider r ∷ not_aboard r vehicle ∷ time_back v time ∷ []))
-    Dropped (dropped_off s r vehicle time)
+unfoldable pub dropoff : State → ℕ → ℕ → ℕ → Result State BookRefusal
+dropoff s vehicle rider time = do
+  v ← ok_or (find_vehicle vehicle s.vehicles) UnknownVehicle
+  r ← ok_or (find_rider rider s.riders) UnknownRider
+  _ ← refused_where (not (option_map_or (λ holder. holder == vehicle) (vehicle_of r.status) false)) NotAboard
+  _ ← refused_where (nat_lt time v.time) (TimeBack v.time)
+  Ok (vehicle_becomes (rider_becomes s r.id Delivered) vehicle (lets_out r time))
 
--- why a seal is refused
-abbrev pub seal_refusal : State → ℕ → Option BookRefusal
-seal_refusal s now = first_of (batch_open s.sealed ∷ clock_back s.last_seal now ∷ [])
+-- a batch is sealed: none may be open, and the second isn't below that of the last seal
+unfoldable pub seal : ℕ → State → ℕ → Result State BookRefusal
+seal wait s now = do
+  _ ← option_map_or (λ b. Err (BatchOpen b.number)) s.sealed (Ok (tt {0}))
+  _ ← option_map_or (λ last. refused_where (nat_lt now last) (ClockBack last)) s.last_seal (Ok (tt {0}))
+  Ok (sealed_state wait s now)
 
--- a batch is sealed
-unfoldable pub seal_step : ℕ → State → ℕ → State × Reply
-seal_step wait s now = answer s (seal_refusal s now) (Sealed (one_more s.batches)) (sealed_state wait s now)
+-- the sealed batch, if it has this number, is closed
+unfoldable pub close : State → ℕ → Answer → Result State BookRefusal
+close s batch answer = do
+  b ← ok_or s.sealed (NotThisBatch None)
+  _ ← refused_where (not (b.number == batch)) (NotThisBatch (Some b.number))
+  Ok (record s { riders = after_answer b.riders answer s.riders; sealed = None })
 
--- the sealed batch is closed
-unfoldable pub close_step : State → ℕ → Answer → State × Reply
-close_step s batch outcome = answer s (first_of (not_this_batch s.sealed batch ∷ [])) Closed (closed_state s outcome)
+-- a refusal changes nothing; without one these are the new state and the reply
+abbrev pub answered : State → Reply → Result State BookRefusal → State × Reply
+answered s reply (Ok next) = (next, reply)
+answered s reply (Err refusal) = (s, Refused refusal)
 
 -- one step of the book, for the nodes of a network and a longest wait
 unfoldable pub step : List ℕ → ℕ → State → Command → State × Reply
-step nodes wait s (Submit rider origin destination time party) =
-    submit_step nodes s (record { id = rider; origin = origin; destination = destination; time = time; party = party; status = Waiting })
-step nodes wait s (Cancel rider) = cancel_step s rider
-step nodes wait s (Report vehicle node time) = report_step nodes s vehicle node time
-step nodes wait s (Pickup vehicle rider time) = pickup_step s vehicle rider time
-step nodes wait s (Dropoff vehicle rider time) = dropoff_step s vehicle rider time
-step nodes wait s (Seal now) = seal_step wait s now
-step nodes wait s (Close batch outcome) = close_step s batch outcome.answer
+step nodes wait s (command.Submit rider origin destination time party) =
+    answered s Accepted (submit nodes s (record { id = rider; origin = origin; destination = destination; time = time; party = party; status = Waiting }))
+step nodes wait s (command.Cancel rider) = answered s Cancelled (cancel s rider)
+step nodes wait s (command.Report vehicle node time) = answered s Placed (report nodes s vehicle node time)
+step nodes wait s (command.Pickup vehicle rider time) = answered s Picked (pickup s vehicle rider time)
+step nodes wait s (command.Dropoff vehicle rider time) = answered s Dropped (dropoff s vehicle rider time)
+step nodes wait s (command.Seal now) = answered s (Sealed (one_more s.batches)) (seal wait s now)
+step nodes wait s (command.Close batch outcome) = answered s Closed (close s batch outcome.answer)

@@ -11,7 +11,7 @@ ghost use Rattle.request_book.specs.State.{find_rider};
 ghost use Rattle.request_book.specs.Consistent.{IsConsistent};
 ghost use Rattle.request_book.specs.Sealing.{is_over, over_id, asking, after_seal, batch_of};
 ghost use Rattle.pool_io.specs.Faults.{one_more};
-ghost use Rattle.request_book.specs.Step.{seal_refusal, seal_step};
+ghost use Rattle.request_book.specs.work.Table.{seal_refusal, seal_step};
 
 use crate::refusals::{POOL, batch_open, clock_back, first_of};
 use crate::register::{Register, change_status};

@@ -3,12 +3,14 @@ use Rattle.std.proofs.Common.{◌≡◌, ℕ, suc, false, List, [], ◌∷◌, �
 use Rattle.std.specs.Prelude.{All, option_map}
 use Rattle.batch_snapshot.specs.Batch.{Batch}
 use Rattle.batch_snapshot.specs.Points.{named_nodes}
-use Rattle.request_book.specs.Book.{BookView, IsApplied, IsBook, batch_unless}
+use Rattle.request_book.specs.Book.{BookView, IsApplied, IsBook}
 use Rattle.request_book.specs.Consistent.{IsNode}
 use Rattle.request_book.specs.Replay.{state_after}
 use Rattle.request_book.specs.Sealing.{batch_of, sealed_state}
 use Rattle.pool_io.specs.Faults.{one_more}
-use Rattle.request_book.specs.Step.{answer, seal_refusal, submit_step, cancel_step, report_step, pickup_step, dropoff_step, seal_step, close_step, step}
+use Rattle.request_book.specs.Step.{step}
+use Rattle.request_book.specs.work.Table.{answer, seal_refusal, submit_step, cancel_step, report_step, pickup_step, dropoff_step, seal_step, close_step, table_step, batch_unless}
+use Rattle.request_book.proofs.lemmas.StepTable.{would_seal-table, by-table}
 use Rattle.request_book.specs.declared.command.Command.{Command}
 use Rattle.request_book.specs.declared.command.Command.TheVariants.{Submit, Cancel, Report, Pickup, Dropoff, Seal, Close}
 use Rattle.request_book.specs.declared.journal.Entry.{Entry}
@@ -17,7 +19,7 @@ use Rattle.request_book.specs.declared.reply.Reply.{Reply}
 use Rattle.request_book.specs.declared.reply.Reply.TheVariants.{Accepted, Cancelled, Placed, Picked, Dropped, Sealed, Closed}
 use Rattle.request_book.specs.declared.state.State.{State}
 use Rattle.seat_lock.specs.declared.logged.Entry.{Entry as Logged}
-use Rattle.shared_book.specs.Locked.{is_light, sealed_by, snapshot_after, call_of, calls_from, log_of, root_of, Fits}
+use Rattle.shared_book.specs.Locked.{is_light, sealed_by, snapshot_after, call_of, calls_from, log_of, Fits}
 use Rattle.shared_book.specs.work.Locked.{snapshot_before}
 
 module _ (nodes : List ℕ) (wait : ℕ) where
@@ -43,15 +45,18 @@ answer-sealed wait s now None = refl
 answer-sealed wait s now (Some refusal) = refl
 
 -- the batch that a command seals is the one that it would seal
+table-snapshot : (nodes : List ℕ) (wait : ℕ) (s : State) (command : Command) → snapshot_after (table_step nodes wait s command).1 (table_step nodes wait s command).0 ≡ snapshot_before wait s command
+unfolding table_step submit_step cancel_step report_step pickup_step dropoff_step seal_step close_step
+table-snapshot nodes wait s (Submit rider origin destination time party) = answer-none s _ _ Accepted (λ t. refl)
+table-snapshot nodes wait s (Cancel rider) = answer-none s _ _ Cancelled (λ t. refl)
+table-snapshot nodes wait s (Report vehicle node time) = answer-none s _ _ Placed (λ t. refl)
+table-snapshot nodes wait s (Pickup vehicle rider time) = answer-none s _ _ Picked (λ t. refl)
+table-snapshot nodes wait s (Dropoff vehicle rider time) = answer-none s _ _ Dropped (λ t. refl)
+table-snapshot nodes wait s (Seal now) = answer-sealed wait s now (seal_refusal s now) ∙ sym (would_seal-table wait s now)
+table-snapshot nodes wait s (Close batch outcome) = answer-none s _ _ Closed (λ t. refl)
+
 pub step-snapshot : (nodes : List ℕ) (wait : ℕ) (s : State) (command : Command) → snapshot_after (step nodes wait s command).1 (step nodes wait s command).0 ≡ snapshot_before wait s command
-unfolding step submit_step cancel_step report_step pickup_step dropoff_step seal_step close_step
-step-snapshot nodes wait s (Submit rider origin destination time party) = answer-none s _ _ Accepted (λ t. refl)
-step-snapshot nodes wait s (Cancel rider) = answer-none s _ _ Cancelled (λ t. refl)
-step-snapshot nodes wait s (Report vehicle node time) = answer-none s _ _ Placed (λ t. refl)
-step-snapshot nodes wait s (Pickup vehicle rider time) = answer-none s _ _ Picked (λ t. refl)
-step-snapshot nodes wait s (Dropoff vehicle rider time) = answer-none s _ _ Dropped (λ t. refl)
-step-snapshot nodes wait s (Seal now) = answer-sealed wait s now (seal_refusal s now)
-step-snapshot nodes wait s (Close batch outcome) = answer-none s _ _ Closed (λ t. refl)
+step-snapshot nodes wait s command = by-table (λ p. snapshot_after p.1 p.0 ≡ snapshot_before wait s command) nodes wait s command (table-snapshot nodes wait s command)
 
 -- a command that was applied is one more call
 pub applied-call : (old new : BookView) (lane : ℕ) (command : Command) (reply : Reply) (snapshot : Option Batch)
@@ -71,9 +76,6 @@ applied-call old new lane command reply snapshot book applied is =
     ∙ calls-push old.nodes old.wait old.base old.entries e
     ∙ ap (λ o. log_of old ++ call o ∷ []) shown
 
-pub same-root : (old new : BookView) → new.nodes ≡ old.nodes → new.wait ≡ old.wait → new.first ≡ old.first → new.base ≡ old.base → root_of new ≡ root_of old
-same-root old new nodes wait first base = λ i. record { nodes = nodes i; wait = wait i; first = first i; base = base i }
-
 -- a reply goes with the root and the command
 not-sealed : (s next : State) (o : Option BookRefusal) (reply : Reply) → sealed_by reply ≡ None → None ≡ sealed_by (answer s o reply next).1
 not-sealed s next None reply e = sym e
@@ -83,38 +85,44 @@ not-sealed s next (Some refusal) reply e = refl
 abbrev number_of : Option Batch → Option ℕ
 number_of = option_map (λ b. b.number)
 
-pub step-sealed : (nodes : List ℕ) (wait : ℕ) (s : State) (command : Command) → number_of (snapshot_before wait s command) ≡ sealed_by (step nodes wait s command).1
-unfolding step submit_step cancel_step report_step pickup_step dropoff_step seal_step close_step batch_of
-step-sealed nodes wait s (Submit rider origin destination time party) = not-sealed s _ _ Accepted refl
-step-sealed nodes wait s (Cancel rider) = not-sealed s _ _ Cancelled refl
-step-sealed nodes wait s (Report vehicle node time) = not-sealed s _ _ Placed refl
-step-sealed nodes wait s (Pickup vehicle rider time) = not-sealed s _ _ Picked refl
-step-sealed nodes wait s (Dropoff vehicle rider time) = not-sealed s _ _ Dropped refl
-step-sealed nodes wait s (Seal now) = by (seal_refusal s now)
+table-sealed : (nodes : List ℕ) (wait : ℕ) (s : State) (command : Command) → number_of (snapshot_before wait s command) ≡ sealed_by (table_step nodes wait s command).1
+unfolding table_step submit_step cancel_step report_step pickup_step dropoff_step seal_step close_step batch_of
+table-sealed nodes wait s (Submit rider origin destination time party) = not-sealed s _ _ Accepted refl
+table-sealed nodes wait s (Cancel rider) = not-sealed s _ _ Cancelled refl
+table-sealed nodes wait s (Report vehicle node time) = not-sealed s _ _ Placed refl
+table-sealed nodes wait s (Pickup vehicle rider time) = not-sealed s _ _ Picked refl
+table-sealed nodes wait s (Dropoff vehicle rider time) = not-sealed s _ _ Dropped refl
+table-sealed nodes wait s (Seal now) = ap number_of (would_seal-table wait s now) ∙ by (seal_refusal s now)
   where
     by : (o : Option BookRefusal) → number_of (batch_unless o (batch_of wait s now)) ≡ sealed_by (answer s o (Sealed (one_more s.batches)) (sealed_state wait s now)).1
     by None = refl
     by (Some refusal) = refl
-step-sealed nodes wait s (Close batch outcome) = not-sealed s _ _ Closed refl
+table-sealed nodes wait s (Close batch outcome) = not-sealed s _ _ Closed refl
+
+pub step-sealed : (nodes : List ℕ) (wait : ℕ) (s : State) (command : Command) → number_of (snapshot_before wait s command) ≡ sealed_by (step nodes wait s command).1
+step-sealed nodes wait s command = by-table (λ p. number_of (snapshot_before wait s command) ≡ sealed_by p.1) nodes wait s command (table-sealed nodes wait s command)
 
 -- where a command seals a batch, it is a seal, and the batch stands sealed
 pub record HasSealed (command : Command) (after : State × Reply) (b : Batch) : Type 0 where
   pub seals : is_light command ≡ false
   pub stands : after.0.sealed ≡ Some b
 
-pub step-seals : (nodes : List ℕ) (wait : ℕ) (s : State) (command : Command) (b : Batch) → snapshot_before wait s command ≡ Some b → HasSealed command (step nodes wait s command) b
-unfolding step seal_step batch_of sealed_state
-step-seals nodes wait s (Submit rider origin destination time party) b e = absurd cc
-step-seals nodes wait s (Cancel rider) b e = absurd cc
-step-seals nodes wait s (Report vehicle node time) b e = absurd cc
-step-seals nodes wait s (Pickup vehicle rider time) b e = absurd cc
-step-seals nodes wait s (Dropoff vehicle rider time) b e = absurd cc
-step-seals nodes wait s (Seal now) b e = by (seal_refusal s now) e
+table-seals : (nodes : List ℕ) (wait : ℕ) (s : State) (command : Command) (b : Batch) → snapshot_before wait s command ≡ Some b → HasSealed command (table_step nodes wait s command) b
+unfolding table_step seal_step batch_of sealed_state
+table-seals nodes wait s (Submit rider origin destination time party) b e = absurd cc
+table-seals nodes wait s (Cancel rider) b e = absurd cc
+table-seals nodes wait s (Report vehicle node time) b e = absurd cc
+table-seals nodes wait s (Pickup vehicle rider time) b e = absurd cc
+table-seals nodes wait s (Dropoff vehicle rider time) b e = absurd cc
+table-seals nodes wait s (Seal now) b e = by (seal_refusal s now) (sym (would_seal-table wait s now) ∙ e)
   where
     by : (o : Option BookRefusal) → batch_unless o (batch_of wait s now) ≡ Some b → HasSealed (Seal now) (answer s o (Sealed (one_more s.batches)) (sealed_state wait s now)) b
     by None f = record { seals = refl; stands = f }
     by (Some refusal) f = absurd cc
-step-seals nodes wait s (Close batch outcome) b e = absurd cc
+table-seals nodes wait s (Close batch outcome) b e = absurd cc
+
+pub step-seals : (nodes : List ℕ) (wait : ℕ) (s : State) (command : Command) (b : Batch) → snapshot_before wait s command ≡ Some b → HasSealed command (step nodes wait s command) b
+step-seals nodes wait s command b e = by-table (λ p. HasSealed command p b) nodes wait s command (table-seals nodes wait s command b e)
 
 pub applied-fits : (old new : BookView) (lane : ℕ) (command : Command) (reply : Reply) (snapshot : Option Batch)
     → IsBook new → IsApplied old lane command reply new → snapshot ≡ snapshot_before old.wait old.state command

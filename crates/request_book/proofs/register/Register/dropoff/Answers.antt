@@ -8,7 +8,7 @@ use Rattle.request_book.specs.declared.rider.BookRider.{BookRider}
 use Rattle.request_book.specs.declared.rider.Status.TheVariants.{Delivered}
 use Rattle.request_book.specs.declared.state.State.{State}
 use Rattle.request_book.specs.Keyed.{changed_at, KeysRise, KeysDiffer}
-use Rattle.request_book.specs.Refusals.{first_of, seat_refusal, time_back}
+use Rattle.request_book.specs.work.Refusals.{first_of, seat_refusal, time_back}
 use Rattle.request_book.specs.work.Register.{state_of, pool_id}
 use Rattle.request_book.specs.Rider.{with_status}
 use Rattle.request_book.specs.State.{find_rider, find_vehicle}

@@ -9,7 +9,7 @@ use Rattle.request_book.specs.declared.rider.BookRider.{BookRider}
 use Rattle.request_book.specs.declared.rider.Status.TheVariants.{Aboard}
 use Rattle.request_book.specs.declared.state.State.{State}
 use Rattle.request_book.specs.Keyed.{changed_at, KeysRise, KeysDiffer}
-use Rattle.request_book.specs.Refusals.{first_of, aboard_refusal, ended_refusal, promise_refusal, time_back, vehicle_full}
+use Rattle.request_book.specs.work.Refusals.{first_of, aboard_refusal, ended_refusal, promise_refusal, time_back, vehicle_full}
 use Rattle.request_book.specs.work.Register.{state_of}
 use Rattle.request_book.specs.Rider.{with_status}
 use Rattle.request_book.specs.State.{find_rider, find_vehicle}

@@ -4,7 +4,7 @@ use Rattle.request_book.specs.declared.reply.Reply.{Reply}
 use Rattle.request_book.specs.declared.reply.Reply.TheVariants.{Placed}
 use Rattle.request_book.specs.declared.state.State.{State}
 use Rattle.request_book.specs.Keyed.{changed_at, KeysRise}
-use Rattle.request_book.specs.Refusals.{first_of, unknown_node, time_back}
+use Rattle.request_book.specs.work.Refusals.{first_of, unknown_node, time_back}
 use Rattle.request_book.specs.work.Register.{state_of}
 use Rattle.request_book.specs.State.{find_vehicle}
 use Rattle.request_book.specs.Step.{stands_at}
