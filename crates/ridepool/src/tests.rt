@@ -98,7 +98,7 @@ struct Fakes {
     out: MemorySink,
 }
 
-fn fakes(
+fn fakes_of(
     alloc: Global,
     script: &[u8],
     pieces: usize,
@@ -116,7 +116,7 @@ fn fakes(
     })
 }
 
-fn counting(
+fn boxed(
     alloc: Global,
     told: &Rc<Cell<u64>>,
     fail: Option<u64>,
@@ -128,7 +128,7 @@ fn counting(
         faults: 0,
     };
     match Box::new(alloc, notifier) {
-        Ok(boxed) => Ok(boxed),
+        Ok(notifier) => Ok(notifier),
         Err(_) => Err(AllocError),
     }
 }
@@ -144,9 +144,9 @@ fn ran(
     let told = Rc::new(alloc, Cell::new(0))?;
     let mut notifiers: Vec<Box<dyn Notifier>> = Vec::new(alloc);
     for fail in [None, failing.notice, None] {
-        notifiers.push(counting(alloc, &told, fail)?)?;
+        notifiers.push(boxed(alloc, &told, fail)?)?;
     }
-    let mut fakes = fakes(alloc, script, pieces, failing)?;
+    let mut fakes = fakes_of(alloc, script, pieces, failing)?;
     let status = status_of(rt, alloc, text, &mut fakes, &mut notifiers)?;
     Ok(Left {
         shown: line_before(alloc, &status, fakes.out.written())?,
