@@ -4,7 +4,7 @@
 //! the regrets so far and the least of the vehicles to come stay below the best choice's. What it costs to
 //! leave a rider out counts as soon as the last vehicle that could serve her has its row.
 
-use crate::plans::flat::{Groups, at, narrow, put};
+use crate::plans::flat::{Groups, NONE, at, narrow, put};
 use crate::plans::present::Present;
 use crate::plans::regrets::Regrets;
 use pool_base::OutOfMemory;
@@ -34,11 +34,12 @@ pub struct Choices {
     trips: Groups,
     /// Which of those lists each depth takes, the shortest first.
     turns: [usize; MOST_VEHICLES],
-    /// For each depth, the last first, the riders whom no later vehicle could serve.
-    closing: Groups,
-    /// For each rider whether she is in such a list, and whether a choice serves her.
+    /// For each rider the last depth that could serve her, and whether there is one and a choice serves her.
+    closings: Vec<u32>,
     is_listed: Vec<bool>,
     is_served: Vec<bool>,
+    /// For each depth what it costs to leave out the riders whom it could serve last and no choice serves.
+    left: [i64; MOST_VEHICLES],
     /// For each depth the least regret from there on.
     least: [i64; MOST_VEHICLES + 1],
     /// For each depth the regret of the choices before it, and which entry comes next.
@@ -55,9 +56,10 @@ impl Choices {
             above: Vec::new(alloc),
             trips: Groups::new(alloc),
             turns: [0; MOST_VEHICLES],
-            closing: Groups::new(alloc),
+            closings: vec![in alloc; NONE; riders]?,
             is_listed: vec![in alloc; false; riders]?,
             is_served: vec![in alloc; false; riders]?,
+            left: [0; MOST_VEHICLES],
             least: [0; MOST_VEHICLES + 1],
             sums: [0; MOST_VEHICLES + 1],
             nexts: [0; MOST_VEHICLES],
@@ -80,7 +82,7 @@ impl Choices {
         }
         self.find_fits(regrets, present, vehicles)?;
         self.order_turns();
-        self.find_closing()?;
+        self.find_closings(regrets);
         self.find_least();
         let before = self.regret_of(regrets, present, vehicles);
         let after = self.search(regrets, before.saturating_add(1), most_steps);
@@ -158,17 +160,34 @@ impl Choices {
         self.fits.start(list)..self.fits.start(list.saturating_add(1))
     }
 
-    fn find_closing(&mut self) -> Result<(), OutOfMemory> {
-        self.closing.clear();
+    /// Finds for each depth, the last first, the riders whom no later one could serve.
+    fn find_closings(&mut self, regrets: &Regrets) {
+        self.left = [0; MOST_VEHICLES];
         let depths = self.depths();
         for later in 0..depths {
-            for entry in self.entries_at(depths - 1 - later) {
-                list_riders(self.trips.of(entry), &mut self.is_listed, &mut self.closing)?;
+            let depth = depths - 1 - later;
+            for entry in self.entries_at(depth) {
+                self.close_riders(regrets, depth, entry);
             }
-            self.closing.close()?;
         }
         self.is_listed.as_mut_slice().fill(false);
-        Ok(())
+    }
+
+    /// Has this depth be the last that could serve the riders of its entry whom no later one could.
+    fn close_riders(&mut self, regrets: &Regrets, depth: usize, entry: usize) {
+        for rider in self.trips.of(entry) {
+            let number = *rider as usize;
+            if !at(&self.is_listed, number, true) {
+                put(&mut self.is_listed, number, true);
+                put(&mut self.closings, number, narrow(depth));
+                let left = at(&self.left, depth, 0);
+                put(
+                    &mut self.left,
+                    depth,
+                    left.saturating_add(regrets.left(number)),
+                );
+            }
+        }
     }
 
     fn find_least(&mut self) {
@@ -188,31 +207,14 @@ impl Choices {
     }
 
     /// The regret of the present rows of these vehicles, and of the riders whom they could serve and don't.
-    fn regret_of(&mut self, regrets: &Regrets, present: &Present, vehicles: &[u32]) -> i64 {
+    fn regret_of(&self, regrets: &Regrets, present: &Present, vehicles: &[u32]) -> i64 {
         let mut regret: i64 = 0;
-        for vehicle in vehicles {
-            if let Some(place) = present.place(*vehicle as usize) {
-                regret = regret.saturating_add(regrets.above(place));
-                mark(&mut self.is_served, regrets.riders(place), true);
-            }
-        }
-        for later in 0..self.closing.count() {
-            regret = regret.saturating_add(self.regret_of_left(regrets, later));
+        for left in &self.left {
+            regret = regret.saturating_add(*left);
         }
         for vehicle in vehicles {
             if let Some(place) = present.place(*vehicle as usize) {
-                mark(&mut self.is_served, regrets.riders(place), false);
-            }
-        }
-        regret
-    }
-
-    /// The regret of the riders of this closing list whom no choice serves.
-    fn regret_of_left(&self, regrets: &Regrets, later: usize) -> i64 {
-        let mut regret: i64 = 0;
-        for rider in self.closing.of(later) {
-            if !at(&self.is_served, *rider as usize, true) {
-                regret = regret.saturating_add(regrets.left(*rider as usize));
+                regret = regret.saturating_add(regret_at(regrets, place));
             }
         }
         regret
@@ -231,7 +233,7 @@ impl Choices {
                         return state.limit;
                     }
                     state.depth -= 1;
-                    self.leave(state.depth);
+                    self.leave(regrets, state.depth);
                 }
                 Some(entry) => {
                     if self.descend(regrets, entry, &mut state) {
@@ -244,7 +246,7 @@ impl Choices {
             }
         }
         for depth in 0..state.depth {
-            self.leave(depth);
+            self.leave(regrets, depth);
         }
         state.limit
     }
@@ -255,13 +257,13 @@ impl Choices {
         let below = depth.saturating_add(1);
         let sum = self.take(regrets, depth, entry);
         if sum.saturating_add(at(&self.least, below, 0)) >= state.limit {
-            self.leave(depth);
+            self.leave(regrets, depth);
             return false;
         }
         if below >= self.depths() {
             state.limit = sum;
             self.best = self.picks;
-            self.leave(depth);
+            self.leave(regrets, depth);
         } else {
             state.depth = below;
             self.enter(below, sum);
@@ -304,35 +306,41 @@ impl Choices {
     /// Chooses the row; the regret so far, with the riders who can't be served any more.
     fn take(&mut self, regrets: &Regrets, depth: usize, entry: usize) -> i64 {
         put(&mut self.picks, depth, entry);
-        mark(&mut self.is_served, self.trips.of(entry), true);
-        let later = self.depths().saturating_sub(depth).saturating_sub(1);
+        self.mark(regrets, entry, true);
         at(&self.sums, depth, 0)
             .saturating_add(at(&self.above, entry, 0))
-            .saturating_add(self.regret_of_left(regrets, later))
+            .saturating_add(at(&self.left, depth, 0))
     }
 
-    fn leave(&mut self, depth: usize) {
-        let entry = at(&self.picks, depth, 0);
-        mark(&mut self.is_served, self.trips.of(entry), false);
+    fn leave(&mut self, regrets: &Regrets, depth: usize) {
+        self.mark(regrets, at(&self.picks, depth, 0), false);
     }
-}
 
-/// Lists and marks these riders, where they aren't marked yet.
-fn list_riders(riders: &[u32], marks: &mut [bool], listed: &mut Groups) -> Result<(), OutOfMemory> {
-    for rider in riders {
-        if !at(marks, *rider as usize, true) {
-            put(marks, *rider as usize, true);
-            listed.push(*rider)?;
+    /// Has the riders of an entry be served or not.
+    fn mark(&mut self, regrets: &Regrets, entry: usize, is_served: bool) {
+        for rider in self.trips.of(entry) {
+            let number = *rider as usize;
+            put(&mut self.is_served, number, is_served);
+            let depth = at(&self.closings, number, NONE) as usize;
+            let left = at(&self.left, depth, 0);
+            let regret = regrets.left(number);
+            let change = if is_served {
+                regret.wrapping_neg()
+            } else {
+                regret
+            };
+            put(&mut self.left, depth, left.wrapping_add(change));
         }
     }
-    Ok(())
 }
 
-#[inline]
-fn mark(marks: &mut [bool], riders: &[u32], value: bool) {
-    for rider in riders {
-        put(marks, *rider as usize, value);
+/// The regret of a row, less that of leaving out its riders.
+fn regret_at(regrets: &Regrets, place: usize) -> i64 {
+    let mut regret = regrets.above(place);
+    for rider in regrets.riders(place) {
+        regret = regret.saturating_sub(regrets.left(*rider as usize));
     }
+    regret
 }
 
 #[inline]
