@@ -31,7 +31,7 @@ WORKLOADS = {
     "500 vehicles": "vehicles=500 riders=250 rounds=3",
     "100 vehicles": "vehicles=100 riders=250 rounds=3",
     "50 vehicles, side 10": "side=10 vehicles=50 riders=150 rounds=3",
-    "100 vehicles, wide": "vehicles=100 riders=250 rounds=3 wait=300 delay=300",
+    "100 vehicles, wide": "rounds=3 wait=300 delay=300",
     "40 vehicles, wide": "vehicles=40 riders=150 rounds=3 wait=240 delay=240",
     "500 vehicles, trips of six": "vehicles=500 riders=250 rounds=3 trip=6 wait=300 delay=300 pairs=2000000",
     "side 100": "side=100 vehicles=500 riders=250 rounds=2",
