@@ -5,7 +5,7 @@
 
 Contracts, ghost items and tests are left out; what the crates use of Rattle's library and of others (vectors whose calls
 answer with an error, allocators, drawn numbers) is written here in Rust. The program reads a graph as search.py writes them
-and prints what search_bench prints. Nothing is proved of it, and its seconds are near those of the proved program, not the
+and prints its rows, the bound, the cost, the nodes and the microseconds. Nothing is proved of it, and its seconds are near those of the proved program, not the
 same: use it to compare two states of the sources.
 """
 
