@@ -313,7 +313,8 @@ impl Choices {
     }
 
     fn leave(&mut self, regrets: &Regrets, depth: usize) {
-        self.mark(regrets, at(&self.picks, depth, 0), false);
+        let entry = at(&self.picks, depth, 0);
+        self.mark(regrets, entry, false);
     }
 
     /// Has the riders of an entry be served or not.
