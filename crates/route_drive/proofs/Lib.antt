@@ -1,0 +1,6 @@
+pub mod RestLemmas
+pub mod TreeLemmas
+pub mod DayLemmas
+pub mod EnterLemmas
+pub mod CountLemmas
+pub mod DriveLemmas
