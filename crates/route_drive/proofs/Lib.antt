@@ -3,4 +3,5 @@ pub mod TreeLemmas
 pub mod DayLemmas
 pub mod EnterLemmas
 pub mod CountLemmas
+pub mod EntryLemmas
 pub mod DriveLemmas
