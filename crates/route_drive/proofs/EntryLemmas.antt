@@ -1,16 +1,24 @@
 -- Counts of entries that follow one another.
-use Rattle.std.proofs.Common.{◌≡◌, ℕ, zero, suc, ◌+◌, ◌-◌, ◌^◌, ◌<◌, ◌≤◌, min, max, Bool, true, false, List, [], ◌∷◌, ◌++◌, length, get_or, map, filter, take, Option, None, Some, refl, sym, ap, ◌∙◌, subst, arith, append_assoc, append-nil, length-append}
-use Rattle.std.proofs.lemmas.Bool.{cond-true, cond-false}
-use Rattle.std.proofs.lemmas.List.{take_more}
-use Rattle.std.proofs.lemmas.List.Elements.{filter-append}
+use Rattle.std.proofs.Common.{◌≡◌, ℕ, zero, suc, ◌+◌, ◌-◌, ◌^◌, ◌<◌, ◌≤◌, min, max, Bool, true, false, List, [], ◌∷◌, ◌++◌, length, get_or, map, filter, take, Option, None, Some, refl, sym, ap, ◌∙◌, inl, inr, subst, arith, eqb, append_assoc, append-nil, length-append}
+use Rattle.std.specs.Prelude.{◌==◌, All, Contains, MatchOption, find}
+use Rattle.std.specs.Option.{option_map_or}
+use Rattle.std.proofs.lemmas.Bool.{cases_Bool, cond-true, cond-false, eqb-true}
+use Rattle.std.proofs.lemmas.List.{take_more, get_or_default}
+use Rattle.std.proofs.lemmas.List.Folds.{Any-from_list_any}
+use Rattle.std.proofs.lemmas.List.Elements.{filter-append, All-nil, All-cons, All-head, All-tail}
+use Rattle.request_book.specs.Consistent.{IsNode}
+use Rattle.request_book.specs.Keyed.{look_up}
+use Rattle.request_book.specs.State.{find_rider}
 use Rattle.request_book.specs.declared.journal.Entry.{Entry}
 use Rattle.request_book.specs.declared.reply.Reply.{Reply}
 use Rattle.request_book.specs.declared.reply.Reply.TheVariants.{Accepted, Cancelled, Placed, Picked, Dropped, Sealed, Closed, Refused}
 use Rattle.request_book.specs.declared.rider.BookRider.{BookRider}
-use Rattle.road_network.specs.Roads.{Roads}
+use Rattle.road_network.specs.Roads.{Roads, index_in}
+use Rattle.road_network.specs.Walk.{IsTimeBetween}
 use Rattle.route_drive.specs.declared.counts.Counts.{Counts}
 use Rattle.route_drive.specs.declared.day_run.DayRound.{DayRound}
-use Rattle.route_drive.specs.Counts.{AreCounts, AreDelaysOf, IsDelayOf, count_of, dropped_among, entries_of, greatest, is_dropped, is_picked, picked_among, wait_of}
+use Rattle.route_drive.specs.Counts.{AreCounts, AreDelaysOf, IsDelayOf, count_of, dropped_among, entries_of, greatest, ideal_dropoff, is_dropped, is_picked, picked_among, rider_of, wait_of}
+use Rattle.route_drive.specs.Entering.{second_of}
 use Rattle.route_drive.specs.work.Counting.{AddsCounts, AddsEntry, HasCounts}
 
 -- a filter over one more element
@@ -32,24 +40,24 @@ map-push f [] x = refl
 map-push f (y ∷ xs) x = ap (λ l. f y ∷ l) (map-push f xs x)
 
 not_picked : (r : Reply) → (r ≡ Picked → ⊥) → is_picked r ≡ false
-not_picked Accepted no = refl
-not_picked Cancelled no = refl
-not_picked Placed no = refl
-not_picked Picked no = absurd (no refl)
-not_picked Dropped no = refl
-not_picked (Sealed batch) no = refl
-not_picked Closed no = refl
-not_picked (Refused why) no = refl
+not_picked Accepted other = refl
+not_picked Cancelled other = refl
+not_picked Placed other = refl
+not_picked Picked other = absurd (other refl)
+not_picked Dropped other = refl
+not_picked (Sealed batch) other = refl
+not_picked Closed other = refl
+not_picked (Refused why) other = refl
 
 not_dropped : (r : Reply) → (r ≡ Dropped → ⊥) → is_dropped r ≡ false
-not_dropped Accepted no = refl
-not_dropped Cancelled no = refl
-not_dropped Placed no = refl
-not_dropped Picked no = refl
-not_dropped Dropped no = absurd (no refl)
-not_dropped (Sealed batch) no = refl
-not_dropped Closed no = refl
-not_dropped (Refused why) no = refl
+not_dropped Accepted other = refl
+not_dropped Cancelled other = refl
+not_dropped Placed other = refl
+not_dropped Picked other = refl
+not_dropped Dropped other = absurd (other refl)
+not_dropped (Sealed batch) other = refl
+not_dropped Closed other = refl
+not_dropped (Refused why) other = refl
 
 entries_of-push : (made : List DayRound) (r : DayRound) → entries_of (made ++ r ∷ []) ≡ entries_of made ++ r.journal.entries
 entries_of-push [] r = append-nil r.journal.entries
@@ -99,9 +107,9 @@ module _ (roads : Roads) (riders : List BookRider) where
 
   -- an entry that is answered otherwise
   pub adds_nothing : (e : Entry) (counts : Counts) → (e.reply ≡ Picked → ⊥) → (e.reply ≡ Dropped → ⊥) → AddsEntry roads riders e counts counts
-  adds_nothing e counts no_pick no_drop = λ earlier has.
-      let picked = filter-left (λ (x : Entry). is_picked x.reply) earlier e (not_picked e.reply no_pick) in
-      let dropped = filter-left (λ (x : Entry). is_dropped x.reply) earlier e (not_dropped e.reply no_drop) in
+  adds_nothing e counts unpicked undropped = λ earlier has.
+      let picked = filter-left (λ (x : Entry). is_picked x.reply) earlier e (not_picked e.reply unpicked) in
+      let dropped = filter-left (λ (x : Entry). is_dropped x.reply) earlier e (not_dropped e.reply undropped) in
       record {
         picked_is = has.picked_is ∙ sym (ap count_of picked);
         dropped_is = has.dropped_is ∙ sym (ap count_of dropped);
@@ -133,3 +141,51 @@ module _ (roads : Roads) (riders : List BookRider) where
       let parts : entries_of (take (k + 1) made) ≡ entries_of (take k made) ++ r.journal.entries =
       ap entries_of (take_more made k r within ∙ ap (λ (x : DayRound). take k made ++ x ∷ []) (sym is)) ∙ entries_of-push (take k made) r in
       subst (λ (es : List Entry). HasCounts roads riders es after) (sym parts) (adds (entries_of (take k made)) has)
+
+-- a node that is found is among the nodes
+node_known : (nodes : List ℕ) (node : ℕ) → IsNode nodes node → Contains nodes node
+node_known nodes node found =
+    let any = Any-from_list_any (λ n. eqb n node) nodes found in
+    let same : any.1 ≡ node = eqb-true any.1 node any.4 in
+    (any.0, any.2, get_or_default nodes any.0 node any.1 any.2 ∙ any.3 ∙ same)
+
+pub two_known : (nodes : List ℕ) (from to : ℕ) → IsNode nodes from → IsNode nodes to → All (λ (node : ℕ). Contains nodes node) (from ∷ to ∷ [])
+two_known nodes from to a b =
+    let known = λ (node : ℕ). Contains nodes node in
+    All-cons known from (to ∷ []) (node_known nodes from a) (All-cons known to [] (node_known nodes to b) (All-nil known))
+
+-- what holds of all holds of what is found
+pub all_found : {X : Type 0} (P : X → Type 0) (p : X → Bool) (xs : List X) (x : X) → All P xs → find p xs ≡ Some x → P x
+all_found P p [] x all found = absurd cc
+all_found P p (y ∷ ys) x all found = elim (cases_Bool (p y)) [
+  | inl yes ↦ let is : Some y ≡ Some x = sym (cond-true (p y) (Some y) (find p ys) yes) ∙ found in let same : y ≡ x = cc in subst P same (All-head P y ys all)
+  | inr other ↦ all_found P p ys x (All-tail P y ys all) (sym (cond-false (p y) (Some y) (find p ys) other) ∙ found)
+]
+
+-- the wait of a rider who was found
+found_as : (riders : List BookRider) (e : Entry) (id : ℕ) (o : Option BookRider) → id ≡ rider_of e.command → find (λ (x : BookRider). x.id == id) riders ≡ o → find_rider (rider_of e.command) riders ≡ o
+unfolding look_up
+found_as riders e id o is found = subst (λ (n : ℕ). find (λ (x : BookRider). x.id == n) riders ≡ o) is found
+
+pub found_wait : (riders : List BookRider) (e : Entry) (id second : ℕ) (r : BookRider) → id ≡ rider_of e.command → second ≡ second_of e.command → find (λ (x : BookRider). x.id == id) riders ≡ Some r
+    → second - r.time ≡ wait_of riders e
+found_wait riders e id second r is_id is_second found =
+    ap (λ (n : ℕ). n - r.time) is_second ∙ sym (ap (λ (o : Option BookRider). option_map_or (λ (x : BookRider). second_of e.command - x.time) o 0) (found_as riders e id (Some r) is_id found))
+
+pub wait_none : (riders : List BookRider) (e : Entry) (id : ℕ) → id ≡ rider_of e.command → find (λ (x : BookRider). x.id == id) riders ≡ None → 0 ≡ wait_of riders e
+wait_none riders e id is_id found = sym (ap (λ (o : Option BookRider). option_map_or (λ (x : BookRider). second_of e.command - x.time) o 0) (found_as riders e id None is_id found))
+
+-- the delay of a rider who was found
+pub found_delay : (roads : Roads) (riders : List BookRider) (e : Entry) (id second seconds d : ℕ) (r : BookRider) → id ≡ rider_of e.command → second ≡ second_of e.command
+    → find (λ (x : BookRider). x.id == id) riders ≡ Some r → IsTimeBetween roads.arcs (index_in roads.nodes r.origin) (index_in roads.nodes r.destination) seconds
+    → d ≡ second - ideal_dropoff r.time seconds → IsDelayOf roads riders e d
+found_delay roads riders e id second seconds d r is_id is_second found between is =
+    subst (λ (o : Option BookRider). MatchOption o (d ≡ 0)
+    (λ (x : BookRider). (s : ℕ) × IsTimeBetween roads.arcs (index_in roads.nodes x.origin) (index_in roads.nodes x.destination) s × (d ≡ second_of e.command - ideal_dropoff x.time s)))
+    (sym (found_as riders e id (Some r) is_id found)) (seconds, between, is ∙ ap (λ (n : ℕ). n - ideal_dropoff r.time seconds) is_second)
+
+pub delay_none : (roads : Roads) (riders : List BookRider) (e : Entry) (id : ℕ) → id ≡ rider_of e.command → find (λ (x : BookRider). x.id == id) riders ≡ None → IsDelayOf roads riders e 0
+delay_none roads riders e id is_id found =
+    subst (λ (o : Option BookRider). MatchOption o (0 ≡ 0)
+    (λ (x : BookRider). (s : ℕ) × IsTimeBetween roads.arcs (index_in roads.nodes x.origin) (index_in roads.nodes x.destination) s × (0 ≡ second_of e.command - ideal_dropoff x.time s)))
+    (sym (found_as riders e id None is_id found)) refl
