@@ -158,7 +158,7 @@ two_known nodes from to a b =
 pub all_found : {X : Type 0} (P : X → Type 0) (p : X → Bool) (xs : List X) (x : X) → All P xs → find p xs ≡ Some x → P x
 all_found P p [] x all found = absurd cc
 all_found P p (y ∷ ys) x all found = elim (cases_Bool (p y)) [
-  | inl yes ↦ let is : Some y ≡ Some x = sym (cond-true (p y) (Some y) (find p ys) yes) ∙ found in let same : y ≡ x = cc in subst P same (All-head P y ys all)
+  | inl holds ↦ let is : Some y ≡ Some x = sym (cond-true (p y) (Some y) (find p ys) holds) ∙ found in let same : y ≡ x = cc in subst P same (All-head P y ys all)
   | inr other ↦ all_found P p ys x (All-tail P y ys all) (sym (cond-false (p y) (Some y) (find p ys) other) ∙ found)
 ]
 
@@ -184,8 +184,8 @@ found_delay roads riders e id second seconds d r is_id is_second found between i
     (λ (x : BookRider). (s : ℕ) × IsTimeBetween roads.arcs (index_in roads.nodes x.origin) (index_in roads.nodes x.destination) s × (d ≡ second_of e.command - ideal_dropoff x.time s)))
     (sym (found_as riders e id (Some r) is_id found)) (seconds, between, is ∙ ap (λ (n : ℕ). n - ideal_dropoff r.time seconds) is_second)
 
-pub delay_none : (roads : Roads) (riders : List BookRider) (e : Entry) (id : ℕ) → id ≡ rider_of e.command → find (λ (x : BookRider). x.id == id) riders ≡ None → IsDelayOf roads riders e 0
-delay_none roads riders e id is_id found =
-    subst (λ (o : Option BookRider). MatchOption o (0 ≡ 0)
-    (λ (x : BookRider). (s : ℕ) × IsTimeBetween roads.arcs (index_in roads.nodes x.origin) (index_in roads.nodes x.destination) s × (0 ≡ second_of e.command - ideal_dropoff x.time s)))
-    (sym (found_as riders e id None is_id found)) refl
+pub delay_none : (roads : Roads) (riders : List BookRider) (e : Entry) (id d : ℕ) → d ≡ 0 → id ≡ rider_of e.command → find (λ (x : BookRider). x.id == id) riders ≡ None → IsDelayOf roads riders e d
+delay_none roads riders e id d zero is_id found =
+    subst (λ (o : Option BookRider). MatchOption o (d ≡ 0)
+    (λ (x : BookRider). (s : ℕ) × IsTimeBetween roads.arcs (index_in roads.nodes x.origin) (index_in roads.nodes x.destination) s × (d ≡ second_of e.command - ideal_dropoff x.time s)))
+    (sym (found_as riders e id None is_id found)) zero

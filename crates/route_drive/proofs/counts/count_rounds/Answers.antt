@@ -17,7 +17,7 @@ pub loop-round-preserved : goal.loop-round-preserved
 loop-round-preserved g c =
     let within : c.loop-round.round-index < length c.args.rounds.now = omega arith in
     counts_more c.args.network.now c.args.riders.now c.args.rounds.now c.loop-round.round-index c.round-item.result c.loop-round.counts c.in-Ok.next within
-    c.round-item.is c.loop-round.invariant (rw c.as_slice-entries.ensures.value at c.in-Ok.ensures)
+    c.round-item.is c.loop-round.invariant (rw c.as_slice-entries.ensures at c.in-Ok.ensures)
 
 pub returns : goal.returns
 returns g c =

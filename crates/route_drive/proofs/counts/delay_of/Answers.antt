@@ -1,4 +1,4 @@
-use Rattle.std.proofs.Common.{◌≡◌, ◌-◌, arith}
+use Rattle.std.proofs.Common.{◌≡◌, ◌-◌, refl, arith}
 use Rattle.std.specs.Prelude.{◌==◌}
 use Rattle.request_book.specs.Consistent.{IsNode}
 use Rattle.request_book.specs.declared.rider.BookRider.{BookRider}
@@ -28,4 +28,4 @@ returns-in_ok-seconds-in-Some g c =
     c.visit_of-id.ensures.rider c.visit_of-id.ensures.second c.in-Some.ensures.some (rw c.requires.ways at c.in_ok-seconds-in-Some.ensures) is
 
 pub returns-in-None : goal.returns-in-None
-returns-in-None g c = delay_none c.args.network.now c.args.riders.now c.args.entry.now c.visit_of-id.result.0 c.visit_of-id.ensures.rider c.in-None.ensures.none
+returns-in-None g c = delay_none c.args.network.now c.args.riders.now c.args.entry.now c.visit_of-id.result.0 0 refl c.visit_of-id.ensures.rider c.in-None.ensures.none
