@@ -17,6 +17,20 @@ loop-round-preserved g c =
     let i = c.loop-round.round-index in
     let within : c.loop-round.round-index < length c.args.rounds.now = omega arith in
     let parts : take i rounds ++ c.round-item.result ∷ [] ≡ take (i + 1) rounds = ap (λ (r : NumberedLanes). take i rounds ++ r ∷ []) c.round-item.is ∙ sym (take_more rounds i c.round-item.result within) in
-    subst (λ (rs : List NumberedLanes). IsUnderWay c.args.setup.now.settings.now c.args.setup.now.network.now c.args.book.state rs c.in-Ok-2.next.book c.in-Ok-2.next.courses.items c.in-Ok-2.next.made.items) parts
+    subst (λ (rs : List NumberedLanes). IsUnderWay c.args.setup.now.settings.now c.args.setup.now.network.now c.args.book.state rs c.in-Ok-drive_round.next.book c.in-Ok-drive_round.next.courses.items c.in-Ok-drive_round.next.made.items) parts
     (under_way_more c.args.setup.now.settings.now c.args.setup.now.network.now c.args.book.state (take i rounds) c.loop-round.drive.book c.loop-round.drive.courses.items c.loop-round.drive.made.items c.loop-round.invariant
-    c.round-item.result c.in-Ok-2.next.book c.in-Ok-2.next.courses.items c.in-Ok-2.next.made.items c.in-Ok-2.ensures.run)
+    c.round-item.result c.in-Ok-drive_round.next.book c.in-Ok-drive_round.next.courses.items c.in-Ok-drive_round.next.made.items c.in-Ok-drive_round.ensures.run)
+
+pub returns-in-Err-drive_round-clause-late : goal.returns-in-Err-drive_round-clause-late
+returns-in-Err-drive_round-clause-late g c =
+    let rounds = c.args.rounds.now in
+    let i = c.loop-round.round-index in
+    let within : c.loop-round.round-index < length c.args.rounds.now = omega arith in
+    round_late c.args.setup.now.settings.now c.args.setup.now.network.now c.args.book.state (take i rounds) c.loop-round.drive.book c.loop-round.drive.courses.items c.loop-round.drive.made.items c.loop-round.invariant
+    rounds (drop (suc i) rounds) c.round-item.result c.in-Err-drive_round.fault (rounds_at rounds i c.round-item.result within c.round-item.is) c.in-Err-drive_round.ensures.late
+
+pub returns-clause-run : goal.returns-clause-run
+returns-clause-run g c =
+    let all : length c.args.rounds.now ≤ c.loop-round.round-index = omega arith in
+    subst (λ (rs : List NumberedLanes). IsUnderWay c.args.setup.now.settings.now c.args.setup.now.network.now c.args.book.state rs c.loop-round.drive.book c.loop-round.drive.courses.items c.loop-round.drive.made.items)
+    (take_all c.args.rounds.now c.loop-round.round-index all) c.loop-round.invariant
