@@ -185,7 +185,7 @@ found_delay roads riders e id second seconds d r is_id is_second found between i
     (sym (found_as riders e id (Some r) is_id found)) (seconds, between, is ∙ ap (λ (n : ℕ). n - ideal_dropoff r.time seconds) is_second)
 
 pub delay_none : (roads : Roads) (riders : List BookRider) (e : Entry) (id d : ℕ) → d ≡ 0 → id ≡ rider_of e.command → find (λ (x : BookRider). x.id == id) riders ≡ None → IsDelayOf roads riders e d
-delay_none roads riders e id d zero is_id found =
+delay_none roads riders e id d none is_id found =
     subst (λ (o : Option BookRider). MatchOption o (d ≡ 0)
     (λ (x : BookRider). (s : ℕ) × IsTimeBetween roads.arcs (index_in roads.nodes x.origin) (index_in roads.nodes x.destination) s × (d ≡ second_of e.command - ideal_dropoff x.time s)))
-    (sym (found_as riders e id None is_id found)) zero
+    (sym (found_as riders e id None is_id found)) none
