@@ -239,7 +239,14 @@ fn enter_vehicle(
     let Some(time) = Second::new(there.second) else {
         return Err(Stopped::TooLate);
     };
-    match enter_commands(round, vehicle.id, now, course.stops.as_slice(), there.node, time) {
+    match enter_commands(
+        round,
+        vehicle.id,
+        now,
+        course.stops.as_slice(),
+        there.node,
+        time,
+    ) {
         Ok(()) => Ok(()),
         Err(_) => Err(Stopped::OutOfMemory),
     }

@@ -37,7 +37,15 @@ pub(crate) fn driven_round(
     };
     if let Some(now) = first_seal(round.lane(0)) {
         let vehicles = state.vehicles.as_slice();
-        match enter_all(alloc, &mut driven, network, settings.dwell, now, vehicles, courses) {
+        match enter_all(
+            alloc,
+            &mut driven,
+            network,
+            settings.dwell,
+            now,
+            vehicles,
+            courses,
+        ) {
             Ok(()) => {}
             Err(stopped) => return Err(stopped),
         }

@@ -153,16 +153,20 @@ fn driven(
     day: &[u8],
     dwell: u16,
 ) -> Option<Result<DayRun, DriveFault>> {
-    let (Some(network), Some(script), Some(settings)) =
-        (line(alloc), script(alloc, day), settings(dwell))
-    else {
+    let (Some(network), Some(script), Some(settings)) = (
+        line(alloc),
+        script(alloc, day),
+        settings(dwell),
+    ) else {
         return None;
     };
     match is_day(&script) {
         Ok(()) => match book_of(alloc, &network, fleet, &settings) {
             Some(book) => {
                 let ways = NetworkWays { network: &network };
-                Some(drive_day(rt, alloc, book, &script, &network, &ways, &settings, &FreeGate))
+                Some(drive_day(
+                    rt, alloc, book, &script, &network, &ways, &settings, &FreeGate,
+                ))
             }
             None => None,
         },

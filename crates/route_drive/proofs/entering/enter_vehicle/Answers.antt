@@ -33,7 +33,9 @@ returns-in-Ok-enter_commands-clause-entered c =
     (subst (λ (g : Option ℕ). IsReported c.args.network.now c.args.now c.standing-at.result g c.in-Ok.there) c.next_goal-goal.ensures c.in-Ok.ensures) in
     let before : List Command = map (stop_command v.id) (due c.args.now stops) in
     let report : Command = Report v.id c.in-Ok.there.node c.in-Ok.there.second in
-    let time : c.in-Some.time ≡ c.in-Ok.there.second = c.in-Some.ensures.value in
-    (before ++ report ∷ [], record { there = c.in-Ok.there; reported = reported; told = refl },
-    All-push IsInTime before report (due_in_time v.id c.args.now stops c.standing-at.ensures.in_time) (c.in-Some.ensures.valid.0 refl),
-    rw (c.as_slice-2.ensures.value, time) at c.in-Ok-enter_commands.ensures)
+    let time : c.in-Some.time ≡ c.in-Ok.there.second = c.in-Some.ensures.value in (
+      before ++ report ∷ [],
+      record { there = c.in-Ok.there; reported = reported; told = refl },
+      All-push IsInTime before report (due_in_time v.id c.args.now stops c.standing-at.ensures.in_time) (c.in-Some.ensures.valid.0 refl),
+      rw (c.as_slice-2.ensures.value, time) at c.in-Ok-enter_commands.ensures,
+    )
