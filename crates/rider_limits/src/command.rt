@@ -5,6 +5,7 @@ ghost use Rattle.std.specs.Prelude.{◌≡◌};
 pub(crate) enum Command {
     Run,
     Load,
+    Drive,
 }
 
 impl Command {
@@ -16,6 +17,7 @@ impl Command {
         match self {
             Command::Run => "run",
             Command::Load => "load",
+            Command::Drive => "drive",
         }
     }
 
@@ -23,7 +25,7 @@ impl Command {
     pub(crate) fn of(word: &str) -> Option<Command>
         ensures { result ≡ command_of word.now }
     {
-        [Command::Run, Command::Load]
+        [Command::Run, Command::Load, Command::Drive]
             .into_iter()
             .find(|command| command.word() == word)
     }

@@ -82,7 +82,7 @@ pub(crate) fn missing_file(command: Command, options: &[String]) -> Option<Which
     ensures { result ≡ missing_file command (map string_bytes options.now) }
 {
     match command {
-        Command::Run => [Which::Network, Which::Fleet, Which::Script]
+        Command::Run | Command::Drive => [Which::Network, Which::Fleet, Which::Script]
             .into_iter()
             .find(|which| is_missing(options, *which)),
         Command::Load => None,
