@@ -1,7 +1,7 @@
-ghost use Rattle.std.specs.Prelude.{◌≡◌, ◌≤◌, [], List, None, map, IfErr, IfOk, MatchResult};
+ghost use Rattle.std.specs.Prelude.{◌≡◌, ◌≤◌, [], List, map, MatchResult};
 ghost use Rattle.std.specs.Io.KnownBytes.{Appends};
 ghost use Rattle.std.specs.List.{All};
-ghost use Rattle.dispatch_engine.specs.Run.{IsReady};
+ghost use Rattle.dispatch_engine.specs.Run.{IsReady, position_after_run};
 ghost use Rattle.request_book.specs.Consistent.{IsConsistent, IsNode};
 ghost use Rattle.rider_notices.specs.Notices.{notices};
 ghost use Rattle.rider_notices.specs.Seen.{notifier_seen};
@@ -10,10 +10,7 @@ ghost use Rattle.dispatch_report.specs.Written.{sink_seen, WritesText};
 ghost use Rattle.request_book.specs.Book.{next_position};
 ghost use Rattle.ridepool.specs.Inputs.{Inputs, IsDayFor};
 ghost use Rattle.ridepool.specs.Report.{first_text, added_text, journals_of, IsWhole};
-ghost use Rattle.ridepool.specs.work.Writing.{BeginsRounds, EndsRounds, IsWritingFault, IsRoundsFault, IsRoundFault, IsTextFault, IsFlushed, IsUnput, PutsRound, RunsAll, RunsFirst, WritesRound, WritesRounds, day_counts, last_lines, late_status, status_of};
-ghost use Rattle.route_drive.specs.Counts.{AreCounts, entries_of};
-ghost use Rattle.route_drive.specs.Day.{day_fault};
-ghost use Rattle.route_drive.specs.Driven.{IsDrivenDay, IsLateAnswer, IsNewBook, state_left};
+ghost use Rattle.ridepool.specs.work.Writing.{BeginsRounds, EndsRounds, IsWritingFault, IsRoundsFault, IsRoundFault, IsTextFault, IsFlushed, IsUnput, HasPut, PutsRound, StopsIn, RunsAll, RunsFirst, WritesRound, WritesRounds, day_counts, last_lines, late_status, status_of};
 
 use crate::inputs::ReadInputs;
 use crate::setup::Setup;
@@ -120,7 +117,17 @@ fn write_by<K: Sink, W: Ways, G: Gate>(
     };
     match setup.settings.mode {
         Mode::Drive => {
-            let run = match drive(rt, alloc, book, script, setup) {
+            let driven = drive_day(
+                rt,
+                alloc,
+                book,
+                script,
+                setup.network,
+                setup.ways,
+                setup.settings,
+                setup.gate,
+            );
+            let run = match driven {
                 Ok(run) => run,
                 Err(fault) => return Err(late_status(fault)),
             };
@@ -136,30 +143,6 @@ fn write_by<K: Sink, W: Ways, G: Gate>(
             write_each(rt, alloc, out, book, script.rounds(), setup, notifiers)
         }
     }
-}
-
-/// Drives the vehicles through a day.
-fn drive<W: Ways, G: Gate>(
-    rt: &(impl Threads + Wait + Sync),
-    alloc: Global,
-    book: Book,
-    day: &Script,
-    setup: &Setup<'_, W, G>,
-) -> Result<DayRun, DriveFault>
-    requires new { IsNewBook setup.now.settings.now setup.now.network.now book }
-    requires day { day_fault day.now ≡ None }
-    ensures run { IfOk result (λ run. IsDrivenDay setup.now.settings.now setup.now.network.now book.state day.now run.rounds) }
-    ensures counts { IfOk result (λ run. AreCounts setup.now.network.now (state_left setup.now.settings.now setup.now.network.now book.state (journals_of run.rounds)).riders (entries_of run.rounds) run.picked run.dropped run.worst_wait run.worst_delay) }
-    ensures consistent { IfOk result (λ run. All (λ r. IsConsistent r.journal.base) run.rounds) }
-    ensures late { IfErr result (IsLateAnswer setup.now.settings.now setup.now.network.now book.state day.now) }
-{
-    let Setup {
-        network,
-        ways,
-        settings,
-        gate,
-    } = setup;
-    drive_day(rt, alloc, book, day, network, *ways, settings, *gate)
 }
 
 /// Runs each round and writes it, and then the last line.
@@ -252,16 +235,40 @@ fn write_driven<K: Sink>(
     ensures never_falls { K.faults out.old ≤ K.faults out.new }
 {
     let rounds = run.rounds.as_slice();
-    let mut position = 0;
-    for made in rounds {
-        put_round(alloc, out, made, settings, network, notifiers)?;
-        position = position_after(position, &made.journal);
-    }
+    let position = match write_made(alloc, out, rounds, settings, network, notifiers) {
+        Ok(position) => position,
+        Err(status) => return Err(status),
+    };
     let counts = counts_of(run);
     match write_day_end(alloc, out, &counts, position) {
         Ok(()) => flush(out),
         Err(fault) => Err(status_of(fault)),
     }
+}
+
+/// Writes rounds, each flushed and its notices told, and gives the position behind their entries.
+fn write_made<K: Sink>(
+    alloc: Global,
+    out: &mut K,
+    rounds: &[DayRound],
+    settings: &Settings,
+    network: &Network,
+    notifiers: &mut Vec<Box<dyn Notifier>>,
+) -> Result<u64, RunStatus>
+    requires { All (λ r. IsConsistent r.journal.base) rounds.now }
+    ensures rounds { let all = map (λ n. notifier_seen (⟦<dyn Notifier as Notifier>⟧ n.vtable) n.value) notifiers.old.items in
+        let left = map (λ n. notifier_seen (⟦<dyn Notifier as Notifier>⟧ n.vtable) n.value) notifiers.new.items in
+        MatchResult result
+        (λ position. HasPut settings.now network.now rounds.now (K.written out.old) (K.written out.new) all left × (position ≡ position_after_run 0 (journals_of rounds.now)))
+        (StopsIn settings.now network.now rounds.now (K.written out.old) (K.written out.new) all left (K.faults out.old) (K.faults out.new)) }
+    ensures never_falls { K.faults out.old ≤ K.faults out.new }
+{
+    let mut position = 0;
+    for made in rounds {
+        put_round(alloc, out, made, settings, network, notifiers)?;
+        position = position_after(position, &made.journal);
+    }
+    Ok(position)
 }
 
 /// The position behind the entries of a journal.

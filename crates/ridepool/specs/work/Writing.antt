@@ -56,6 +56,10 @@ pub record IsFlushed (before after : Option (List ℕ)) (low high : ℕ) (result
   pub fault : IfErr result (λ status. (status ≡ WriteFault) × Rose low high)
   pub never_falls : low ≤ high
 
+-- these are the first of some rounds
+abbrev pub BeginsRounds : List DayRound → List DayRound → Type 0
+BeginsRounds rounds made = (rest : List DayRound) × (made ++ rest ≡ rounds)
+
 module _ (settings : Settings) (roads : Roads) where
   -- what a round adds is written, and its notices were told
   pub record PutsRound (r : DayRound) (before after : Option (List ℕ)) (notifiers left : List NotifierView) : Type 0 where
@@ -66,6 +70,23 @@ module _ (settings : Settings) (roads : Roads) where
   pub record IsUnput (r : DayRound) (before after : Option (List ℕ)) (notifiers left : List NotifierView) (low high : ℕ) (status : RunStatus) : Type 0 where
     pub part : IsTextFault (added_text settings.mode settings.proof r) before after low high status
     pub told : left ≡ notifiers
+
+  -- what rounds add is written, and their notices were told
+  pub record HasPut (made : List DayRound) (before after : Option (List ℕ)) (notifiers left : List NotifierView) : Type 0 where
+    pub text : Appends before after (rounds_text settings made)
+    pub told : HaveHeard (rounds_notices settings roads made) notifiers left
+
+  -- of some rounds the first were put out, and the next wasn't
+  pub record StopsIn (rounds : List DayRound) (before after : Option (List ℕ)) (notifiers left : List NotifierView) (low high : ℕ) (status : RunStatus) : Type 0 where
+    pub made : List DayRound
+    pub next : DayRound
+    pub first : BeginsRounds rounds (made ++ next ∷ [])
+    pub here : Option (List ℕ)
+    pub heard : List NotifierView
+    pub faults : ℕ
+    pub puts : HasPut made before here notifiers heard
+    pub up : low ≤ faults
+    pub why : IsUnput next here after heard left faults high status
 
   -- a journal is a run of the round that a book comes to
   pub record NextJournal (book : BookView) (round : NumberedLanes) (journal : Journal) : Type 0 where
@@ -132,10 +153,6 @@ module _ (settings : Settings) (roads : Roads) where
         Rose low high × (IsRoundsPart before after notifiers left ⊎ WritesRounds before after notifiers left)
     IsRoundsFault before after notifiers left low high OutOfMemory = IsRoundsPart before after notifiers left
     IsRoundsFault before after notifiers left low high _ = ⊥
-
--- these are the first of some rounds
-abbrev pub BeginsRounds : List DayRound → List DayRound → Type 0
-BeginsRounds rounds made = (rest : List DayRound) × (made ++ rest ≡ rounds)
 
 -- these are the rounds, and these the last lines
 abbrev pub EndsRounds : List DayRound → List ℕ → List DayRound → List ℕ → Type 0

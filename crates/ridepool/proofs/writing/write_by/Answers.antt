@@ -1,0 +1,25 @@
+use Rattle.std.proofs.Common.{Err, ap, arith, refl, subst, sym, ◌∙◌, length}
+use Rattle.std.specs.Prelude.{◌≡◌}
+use Rattle.ridepool.specs.Inputs.{Inputs, IsDayFor}
+use Rattle.ridepool.specs.work.Writing.{BeginsRounds, EndsRounds, RunsAll, RunsFirst, last_lines}
+use Rattle.ridepool.proofs.WriteLemmas.{head_unwritten, nothing_written, report_from, run_serves, day_serves, new_book, ready_book, day_fault}
+use Rattle.ridepool.proofs.writing.write_by.Goals as goal
+
+pub returns-in_default-clause-report : goal.returns-in_default-clause-report
+returns-in_default-clause-report g c =
+    let i : Inputs = record { settings = c.args.setup.now.settings.now; roads = c.args.setup.now.network.now; vehicles = c.args.fleet; rounds = c.args.script.now } in
+    nothing_written i (g.K.Sink.written c.args.out.now) _
+
+pub drive_day-requires-clause-new : goal.drive_day-requires-clause-new
+drive_day-requires-clause-new g c =
+    let i : Inputs = record { settings = c.args.setup.now.settings.now; roads = c.args.setup.now.network.now; vehicles = c.args.fleet; rounds = c.args.script.now } in
+    new_book i c.in-Ok.book c.in-Ok.ensures
+
+pub drive_day-requires-clause-day : goal.drive_day-requires-clause-day
+drive_day-requires-clause-day g c = subst (λ m. IsDayFor m c.args.script.now) c.in-Drive.is c.requires.day
+
+pub returns-in-Err-in-Drive-clause-report : goal.returns-in-Err-in-Drive-clause-report
+returns-in-Err-in-Drive-clause-report g c =
+    let i : Inputs = record { settings = c.args.setup.now.settings.now; roads = c.args.setup.now.network.now; vehicles = c.args.fleet; rounds = c.args.script.now } in
+    day_fault i c.in-Ok.book (g.K.Sink.written c.args.out.now) _ (g.K.Sink.faults c.args.out.now) c.in-Err-in-Drive.fault c.late_status.result c.in-Drive.is c.in-Ok.ensures c.late_status.ensures
+    c.in-Err-in-Drive.ensures.late
