@@ -1,0 +1,7 @@
+pub mod RestLemmas
+pub mod TreeLemmas
+pub mod DayLemmas
+pub mod EnterLemmas
+pub mod CountLemmas
+pub mod EntryLemmas
+pub mod DriveLemmas

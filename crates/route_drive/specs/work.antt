@@ -1,0 +1,4 @@
+pub mod Tree
+pub mod Rounds
+pub mod Drive
+pub mod Counting
