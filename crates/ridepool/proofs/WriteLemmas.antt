@@ -87,7 +87,7 @@ take_next xs i x within is = ap (λ y. take i xs ++ y ∷ []) is ∙ sym (rw add
 
 -- journals, numbers, texts and notices of rounds, and of one more
 journals_more : (made : List DayRound) (r : DayRound) → journals_of (made ++ r ∷ []) ≡ journals_of made ++ r.journal ∷ []
-journals_more made r = map-append (λ x. x.journal) made (r ∷ [])
+journals_more made r = map-append (λ (x : DayRound). x.journal) made (r ∷ [])
 
 flat_more : {X A : Type 0} (f : X → List A) (xs : List X) (x : X) → flat_map f (xs ++ x ∷ []) ≡ flat_map f xs ++ f x
 flat_more f xs x = flat_map-append f xs (x ∷ []) ∙ ap (λ t. flat_map f xs ++ t) (append-nil (f x))
@@ -118,7 +118,7 @@ module _ (settings : Settings) (roads : Roads) where
             subst (λ t. Appends a c t) (sym (flat_more (added_text settings.mode settings.proof) made r))
             (Appends-trans a b c (rounds_text settings made) (added_text settings.mode settings.proof r) w.text x.text);
         told =
-            subst (λ t. HaveHeard t n k) (sym (flat_more (λ x. notices roads.nodes settings.wait x.journal) made r))
+            subst (λ t. HaveHeard t n k) (sym (flat_more (λ (x : DayRound). notices roads.nodes settings.wait x.journal) made r))
             (all-heard-more (rounds_notices settings roads made) (notices roads.nodes settings.wait r.journal) n m k w.told x.told);
       }
 
@@ -188,8 +188,8 @@ module _ (settings : Settings) (roads : Roads) where
   next_run book current rounds r a b n m j w is =
       record {
         numbers =
-            map-append (λ x. x.number) w.made (made_of settings roads r j ∷ [])
-            ∙ ap (λ ns. ns ++ r.number ∷ []) w.runs.numbers ∙ sym (map-append (λ x. x.number) rounds (r ∷ []));
+            map-append (λ (x : DayRound). x.number) w.made (made_of settings roads r j ∷ [])
+            ∙ ap (λ ns. ns ++ r.number ∷ []) w.runs.numbers ∙ sym (map-append (λ (x : NumberedLanes). x.number) rounds (r ∷ []));
         run =
             subst (IsRun settings roads book.base book.first (rounds ++ r ∷ [])) (sym (journals_more w.made (made_of settings roads r j)))
             (run-more book.base book.first rounds (journals_of w.made) r j w.runs.run (is.base ∙ w.base) (is.first ∙ w.first) is.run);
