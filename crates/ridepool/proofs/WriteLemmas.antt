@@ -2,9 +2,10 @@
 use Rattle.std.proofs.Common.{◌≡◌, ℕ, Bool, ◌+◌, ◌-◌, ◌^◌, ◌<◌, ◌≤◌, List, [], ◌∷◌, ◌++◌, length, map, take, drop, get_or, Option, Result, Ok, Err, MatchResult, refl, sym, subst, ap, ◌∙◌, append_assoc, append-nil, add-one, arith, inl, inr}
 use Rattle.std.specs.Prelude.{◌⊎◌, IfErr, IfOk}
 use Rattle.std.specs.Io.KnownBytes.{Appends, Keeps}
-use Rattle.std.specs.List.{flat_map}
+use Rattle.std.specs.List.{All, flat_map}
 use Rattle.std.proofs.KnownBytes.{Appends-nil, Appends-trans, Appends-kept}
 use Rattle.std.proofs.lemmas.Grind.{flat_map-append}
+use Rattle.std.proofs.lemmas.List.Elements.{All-cons}
 use Rattle.std.proofs.lemmas.List.{take-append-drop, length-append, length-drop, map-append}
 use Rattle.std.proofs.Math.Seq.{take-suc, take-length}
 use Rattle.pool_io.specs.Sink.{AppendsPart}
@@ -18,7 +19,10 @@ use Rattle.dispatch_report.specs.declared.fault.ReportFault.{ReportFault}
 use Rattle.dispatch_report.specs.declared.fault.ReportFault.TheVariants as report
 use Rattle.pool_io.specs.Faults.{Rose}
 use Rattle.request_book.specs.Book.{BookView, IsBook, next_position, opening}
+use Rattle.request_book.specs.Consistent.{IsConsistent}
 use Rattle.request_book.specs.Replay.{state_after}
+use Rattle.request_book.specs.Step.{step}
+use Rattle.request_book.specs.declared.journal.Entry.{Entry}
 use Rattle.request_book.specs.declared.journal.Journal.{Journal}
 use Rattle.request_book.specs.declared.state.State.{State}
 use Rattle.rider_limits.specs.declared.settings.Mode.{Mode}
@@ -514,6 +518,34 @@ day_serves i book run driven is day counts =
                 (subst (λ rs. IsEnd Drive i rs end) (sym report.0) (day_counts run, counted, report.1));
           };
     }
+
+-- the states of a run are consistent, and so are those from which the rounds of a day begin
+AreConsistentFrom : (i : Inputs) → Type 0
+AreConsistentFrom i = (entries : List Entry) → IsConsistent (state_after i.roads.nodes i.settings.wait (opening i.vehicles) entries)
+
+state_after-more : (nodes : List ℕ) (wait : ℕ) (s : State) (es fs : List Entry) → state_after nodes wait (state_after nodes wait s es) fs ≡ state_after nodes wait s (es ++ fs)
+unfolding state_after
+state_after-more nodes wait s [] fs = refl
+state_after-more nodes wait s (e ∷ es) fs = state_after-more nodes wait (step nodes wait s e.command).0 es fs
+
+run_bases : (i : Inputs) → AreConsistentFrom i → (s : State) (es : List Entry) → s ≡ state_after i.roads.nodes i.settings.wait (opening i.vehicles) es
+    → (p : ℕ) (rounds : List NumberedLanes) (made : List DayRound) → IsRun i.settings i.roads s p rounds (journals_of made) → All (λ r. IsConsistent r.journal.base) made
+run_bases i law s es at p [] [] run = λ k d within. absurd (omega (arith, within))
+run_bases i law s es at p [] (m ∷ made) run = absurd run
+run_bases i law s es at p (r ∷ rounds) [] run = absurd run
+run_bases i law s es at p (r ∷ rounds) (m ∷ made) run =
+    All-cons (λ (x : DayRound). IsConsistent x.journal.base) m made (subst IsConsistent (sym (run.0 ∙ at)) (law es))
+    (run_bases i law (state_after i.roads.nodes i.settings.wait s m.journal.entries) (es ++ m.journal.entries)
+    (ap (λ x. state_after i.roads.nodes i.settings.wait x m.journal.entries) at ∙ state_after-more i.roads.nodes i.settings.wait (opening i.vehicles) es m.journal.entries)
+    (next_position p m.journal.entries) rounds made run.3)
+
+driven_bases : (i : Inputs) → AreConsistentFrom i → (rounds : List NumberedLanes) (made : List DayRound) → IsDrivenDay i.settings i.roads (opening i.vehicles) rounds made → All (λ r. IsConsistent r.journal.base) made
+unfolding state_after
+driven_bases i law [] made day = subst (All (λ (x : DayRound). IsConsistent x.journal.base)) (sym day) (λ k d within. absurd (omega (arith, within)))
+driven_bases i law (r ∷ rounds) made day = run_bases i law (opening i.vehicles) [] refl 0 (day.script ++ day.end ∷ []) made day.run
+
+pub day_bases : (i : Inputs) (book : BookView) (made : List DayRound) → book ≡ opened i → AreConsistentFrom i → IsDrivenDay i.settings i.roads book.state i.rounds made → All (λ r. IsConsistent r.journal.base) made
+day_bases i book made is law day = driven_bases i law i.rounds made (subst (λ b. IsDrivenDay i.settings i.roads b.state i.rounds made) is day)
 
 -- the book of a call is new
 pub new_book : (i : Inputs) (book : BookView) → book ≡ opened i → IsNewBook i.settings i.roads book

@@ -23,7 +23,7 @@ use dispatch_report::{
 use hub_labels::{LabelWays, Labels};
 use pool_base::OutOfMemory;
 use pool_io::{Failed, Sink};
-use request_book::{Book, Journal};
+use request_book::{Book, Journal, states_are_consistent};
 use rider_limits::{Mode, Settings, TimesWay};
 use rider_notices::{Notifier, notices_of, tell_all};
 use road_network::Network;
@@ -131,6 +131,7 @@ fn write_by<K: Sink, W: Ways, G: Gate>(
                 Ok(run) => run,
                 Err(fault) => return Err(late_status(fault)),
             };
+            states_are_consistent();
             if let Err(fault) = write_first(alloc, out, setup.settings, setup.network, vehicles) {
                 return Err(status_of(fault));
             }

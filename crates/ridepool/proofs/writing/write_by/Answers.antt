@@ -2,7 +2,7 @@ use Rattle.std.proofs.Common.{Err, ap, arith, refl, subst, sym, ◌∙◌, lengt
 use Rattle.std.specs.Prelude.{◌≡◌}
 use Rattle.ridepool.specs.Inputs.{Inputs, IsDayFor}
 use Rattle.ridepool.specs.work.Writing.{BeginsRounds, EndsRounds, RunsAll, RunsFirst, last_lines}
-use Rattle.ridepool.proofs.WriteLemmas.{head_unwritten, nothing_written, report_from, run_serves, day_serves, new_book, ready_book, day_fault}
+use Rattle.ridepool.proofs.WriteLemmas.{head_unwritten, nothing_written, report_from, run_serves, day_serves, new_book, ready_book, day_bases, day_fault}
 use Rattle.ridepool.proofs.writing.write_by.Goals as goal
 
 pub returns-in_default-clause-report : goal.returns-in_default-clause-report
@@ -47,3 +47,9 @@ returns-in_default-clause-report-2 g c =
     (g.K.Sink.written c.args.out.now) (g.K.Sink.written c.write_first.new.out) (g.K.Sink.written c.write_each.new.out) _ _
     (g.K.Sink.faults c.args.out.now) (g.K.Sink.faults c.write_first.new.out) (g.K.Sink.faults c.write_each.new.out) c.write_each.result
     c.in_default.ensures.bytes c.write_first.ensures.never_falls c.write_each.ensures.rounds
+
+pub write_driven-requires : goal.write_driven-requires
+write_driven-requires g c =
+    let i : Inputs = record { settings = c.args.setup.now.settings.now; roads = c.args.setup.now.network.now; vehicles = c.args.fleet; rounds = c.args.script.now } in
+    day_bases i c.in-Ok.book c.in-Ok-in-Drive.run.rounds c.in-Ok.ensures
+    (λ entries. c.states_are_consistent.ensures i.roads.nodes i.settings.wait i.vehicles entries c.vehicles-vehicles.ensures.kept) c.in-Ok-in-Drive.ensures.run
