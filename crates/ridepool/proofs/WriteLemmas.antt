@@ -41,7 +41,7 @@ use Rattle.rider_notices.specs.Notices.{notices}
 use Rattle.rider_notices.specs.Told.{NotifierView, HaveHeard}
 use Rattle.rider_notices.proofs.lemmas.HeardLemmas.{all-heard-nothing, all-heard-more}
 use Rattle.ridepool.specs.Report.{AreAll, AreFirst, IsEnd, Runs, IsReport, first_text, added_text, begun_text, journals_of, rounds_text, rounds_notices, Begins, IsWhole, IsPart}
-use Rattle.ridepool.specs.work.Writing.{BeginsRounds, EndsRounds, NextJournal, HasPut, PutsRound, IsUnput, StopsIn, RunsAll, RunsFirst, RunsFrom, WritesRound, WritesRounds, IsRoundsPart, IsTextFault, IsFlushed, IsRoundFault, IsRoundsFault, IsWritingFault, day_counts, last_lines, late_status, made_of, status_of}
+use Rattle.ridepool.specs.work.Writing.{BeginsRounds, EndsRounds, NextJournal, HasPut, PutsRound, IsUnput, StopsIn, RunsAll, RunsFirst, RunsFrom, WritesRound, WritesRounds, IsRoundsPart, IsTextFault, IsFlushed, IsRoundFault, IsRoundsFault, IsWritingFault, day_counts, day_ending, late_status, made_of, status_of}
 use Rattle.ridepool.specs.declared.status.RunStatus.{RunStatus}
 use Rattle.ridepool.specs.declared.status.RunStatus.TheVariants.{Done, Words, Network, Fleet, Script, TooLong, ReadFault, WriteFault, OutOfMemory, Day, TooLate}
 
@@ -164,7 +164,7 @@ module _ (settings : Settings) (roads : Roads) where
   -- what stands before the last lines of a day, and that they are its last lines
   pub day_end : (run : DayRun) (rounds : List DayRound) (a b : Option (List ℕ)) (n m : List NotifierView) (p : ℕ) (counts : DayCounts) → rounds ≡ run.rounds → counts ≡ day_counts run
       → HasPut settings roads rounds a b n m × (p ≡ position_after_run 0 (journals_of rounds))
-      → HasPut settings roads run.rounds a b n m × (day_end_text counts p ≡ last_lines run)
+      → HasPut settings roads run.rounds a b n m × (day_end_text counts p ≡ day_ending run)
   day_end run rounds a b n m p counts same counted (w, at) =
       (
         subst (λ rs. HasPut settings roads rs a b n m) same w,
@@ -503,7 +503,7 @@ run_serves i book rounds undriven is all =
 pub day_serves : (i : Inputs) (book : BookView) (run : DayRun) → i.settings.mode ≡ Drive → book ≡ opened i
     → IsDrivenDay i.settings i.roads book.state i.rounds run.rounds
     → AreCounts i.roads (state_left i.settings i.roads book.state (journals_of run.rounds)).riders (entries_of run.rounds) run.picked run.dropped run.worst_wait run.worst_delay
-    → Serves i (BeginsRounds run.rounds) (EndsRounds run.rounds (last_lines run))
+    → Serves i (BeginsRounds run.rounds) (EndsRounds run.rounds (day_ending run))
 day_serves i book run driven is day counts =
     let whole : IsDrivenDay i.settings i.roads (opening i.vehicles) i.rounds run.rounds = subst (λ b. IsDrivenDay i.settings i.roads b.state i.rounds run.rounds) is day in
     let counted = subst (λ b. AreCounts i.roads (state_left i.settings i.roads b.state (journals_of run.rounds)).riders (entries_of run.rounds) run.picked run.dropped run.worst_wait run.worst_delay) is counts in
@@ -520,7 +520,7 @@ day_serves i book run driven is day counts =
     }
 
 -- the states of a run are consistent, and so are those from which the rounds of a day begin
-AreConsistentFrom : (i : Inputs) → Type 0
+abbrev pub AreConsistentFrom : (i : Inputs) → Type 0
 AreConsistentFrom i = (entries : List Entry) → IsConsistent (state_after i.roads.nodes i.settings.wait (opening i.vehicles) entries)
 
 state_after-more : (nodes : List ℕ) (wait : ℕ) (s : State) (es fs : List Entry) → state_after nodes wait (state_after nodes wait s es) fs ≡ state_after nodes wait s (es ++ fs)

@@ -10,7 +10,7 @@ ghost use Rattle.dispatch_report.specs.Written.{sink_seen, WritesText};
 ghost use Rattle.request_book.specs.Book.{next_position};
 ghost use Rattle.ridepool.specs.Inputs.{Inputs, IsDayFor};
 ghost use Rattle.ridepool.specs.Report.{first_text, added_text, journals_of, IsWhole};
-ghost use Rattle.ridepool.specs.work.Writing.{BeginsRounds, EndsRounds, IsWritingFault, IsRoundsFault, IsRoundFault, IsTextFault, IsFlushed, IsUnput, HasPut, PutsRound, StopsIn, RunsAll, RunsFirst, WritesRound, WritesRounds, day_counts, last_lines, late_status, status_of};
+ghost use Rattle.ridepool.specs.work.Writing.{BeginsRounds, EndsRounds, IsWritingFault, IsRoundsFault, IsRoundFault, IsTextFault, IsFlushed, IsUnput, HasPut, PutsRound, StopsIn, RunsAll, RunsFirst, WritesRound, WritesRounds, day_counts, day_ending, late_status, status_of};
 
 use crate::inputs::ReadInputs;
 use crate::setup::Setup;
@@ -227,7 +227,7 @@ fn write_driven<K: Sink>(
     notifiers: &mut Vec<Box<dyn Notifier>>,
 ) -> Result<(), RunStatus>
     requires { All (λ r. IsConsistent r.journal.base) run.now.rounds }
-    ensures rounds { let end = last_lines run.now in
+    ensures rounds { let end = day_ending run.now in
         let all = map (λ n. notifier_seen (⟦<dyn Notifier as Notifier>⟧ n.vtable) n.value) notifiers.old.items in
         let left = map (λ n. notifier_seen (⟦<dyn Notifier as Notifier>⟧ n.vtable) n.value) notifiers.new.items in
         MatchResult result

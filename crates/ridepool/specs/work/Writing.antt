@@ -41,8 +41,8 @@ late_status drive.OutOfMemory = OutOfMemory
 abbrev pub day_counts : DayRun → DayCounts
 day_counts run = record { picked = run.picked; dropped = run.dropped; worst_wait = run.worst_wait; worst_delay = run.worst_delay }
 
-abbrev pub last_lines : DayRun → List ℕ
-last_lines run = day_end_text (day_counts run) (position_after_run 0 (journals_of run.rounds))
+abbrev pub day_ending : DayRun → List ℕ
+day_ending run = day_end_text (day_counts run) (position_after_run 0 (journals_of run.rounds))
 
 -- a text was written and flushed, or a beginning of it stands
 abbrev pub IsTextFault : List ℕ → Option (List ℕ) → Option (List ℕ) → ℕ → ℕ → RunStatus → Type 0

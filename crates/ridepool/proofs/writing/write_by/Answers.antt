@@ -1,7 +1,7 @@
 use Rattle.std.proofs.Common.{Err, ap, arith, refl, subst, sym, ◌∙◌, length}
 use Rattle.std.specs.Prelude.{◌≡◌}
 use Rattle.ridepool.specs.Inputs.{Inputs, IsDayFor}
-use Rattle.ridepool.specs.work.Writing.{BeginsRounds, EndsRounds, RunsAll, RunsFirst, last_lines}
+use Rattle.ridepool.specs.work.Writing.{BeginsRounds, EndsRounds, RunsAll, RunsFirst, day_ending}
 use Rattle.ridepool.proofs.WriteLemmas.{head_unwritten, nothing_written, report_from, run_serves, day_serves, new_book, ready_book, day_bases, day_fault}
 use Rattle.ridepool.proofs.writing.write_by.Goals as goal
 
@@ -34,7 +34,7 @@ pub returns-in-Ok-in-Drive-clause-report : goal.returns-in-Ok-in-Drive-clause-re
 returns-in-Ok-in-Drive-clause-report g c =
     let i : Inputs = record { settings = c.args.setup.now.settings.now; roads = c.args.setup.now.network.now; vehicles = c.args.fleet; rounds = c.args.script.now } in
     let run = c.in-Ok-in-Drive.run in
-    report_from i (BeginsRounds run.rounds) (EndsRounds run.rounds (last_lines run)) (day_serves i c.in-Ok.book run c.in-Drive.is c.in-Ok.ensures c.in-Ok-in-Drive.ensures.run c.in-Ok-in-Drive.ensures.counts)
+    report_from i (BeginsRounds run.rounds) (EndsRounds run.rounds (day_ending run)) (day_serves i c.in-Ok.book run c.in-Drive.is c.in-Ok.ensures c.in-Ok-in-Drive.ensures.run c.in-Ok-in-Drive.ensures.counts)
     (g.K.Sink.written c.args.out.now) (g.K.Sink.written c.write_first.new.out) (g.K.Sink.written c.write_driven.new.out) _ _
     (g.K.Sink.faults c.args.out.now) (g.K.Sink.faults c.write_first.new.out) (g.K.Sink.faults c.write_driven.new.out) c.write_driven.result
     c.in_default.ensures.bytes c.write_first.ensures.never_falls c.write_driven.ensures.rounds

@@ -15,7 +15,7 @@ loop-made-preserved g c =
     let within : i < length rounds = omega arith in (
       put_next s roads rounds i c.made-item.result (g.K.Sink.written c.args.out.now) (g.K.Sink.written c.loop-made.out) (g.K.Sink.written c.put_round.new.out) _ _ _
           within c.made-item.is c.loop-made.invariant.0 c.in_ok-put_round.ensures.round,
-      position_next s roads rounds i c.made-item.result c.loop-made.position c.position_after.result within c.made-item.is c.loop-made.invariant.1 c.position_after.ensures,
+      position_next s roads rounds i c.made-item.result c.loop-made.position c.position_after-position.result within c.made-item.is c.loop-made.invariant.1 c.position_after-position.ensures,
       omega (arith, c.loop-made.invariant.2, c.put_round.ensures.never_falls),
     )
 
