@@ -1,13 +1,13 @@
 #!/usr/bin/env bash
 # Times hub labels on square grids of the made network and on drawn networks of uneven streets (uneven_network.py). Run it
-# at the top of the repository, with the sides of the squares as words (20 and 50 where there are none). For each network
-# it prints the seconds and the memory that labels take, the hubs of a node's two labels together, the least milliseconds
-# of three tables of 500 points by searches and by labels, on one thread, and how many such tables a day make labels pay.
-# It stops where the two tables differ.
+# at the top of the repository, with networks and their sides as words: square:20 uneven:20 square:50 uneven:50 uneven:100
+# where there are none. For each network it prints the seconds and the memory that labels take, the hubs of a node's two
+# labels together, the least milliseconds of three tables of 500 points by searches and by labels, on one thread, and how
+# many such tables a day make labels pay. It stops where the two tables differ.
 set -euo pipefail
 work=$(mktemp -d)
 trap 'rm -rf "$work"' EXIT
-[ $# -gt 0 ] || set -- 20 50
+[ $# -gt 0 ] || set -- square:20 uneven:20 square:50 uneven:50 uneven:100
 (cd crates/times_bench && rt run > /dev/null) || [ $? = 2 ]
 # What the program prints for the network, and the greatest memory that it had, in kilobytes.
 timed() { /usr/bin/time -f '%M kilobytes' taskset -c 0 crates/times_bench/out/times_bench "$work/network" "$@" 2>&1; }
@@ -29,9 +29,11 @@ measure() {
                 name, nodes, build / 1e6, kilobytes / 1e3, hubs / nodes, rows / 1e3, labels / 1e3, pays
         }'
 }
-for side in "$@"; do
-    python3 bench/made_texts.py 1 "$side" 1 0 0 network > "$work/network"
-    measure "square of $side"
-    python3 bench/uneven_network.py 1 "$side" > "$work/network"
-    measure "uneven streets, $side"
+for word in "$@"; do
+    case $word in
+        square:*) python3 bench/made_texts.py 1 "${word#*:}" 1 0 0 network > "$work/network" ;;
+        uneven:*) python3 bench/uneven_network.py 1 "${word#*:}" > "$work/network" ;;
+        *) echo "no network: $word" >&2; exit 2 ;;
+    esac
+    measure "$word"
 done
