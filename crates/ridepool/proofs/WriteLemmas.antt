@@ -41,7 +41,7 @@ use Rattle.rider_notices.specs.Notices.{notices}
 use Rattle.rider_notices.specs.Told.{NotifierView, HaveHeard}
 use Rattle.rider_notices.proofs.lemmas.HeardLemmas.{all-heard-nothing, all-heard-more}
 use Rattle.ridepool.specs.Report.{AreAll, AreFirst, IsEnd, Runs, IsReport, first_text, added_text, begun_text, journals_of, rounds_text, rounds_notices, Begins, IsWhole, IsPart}
-use Rattle.ridepool.specs.work.Writing.{BeginsRounds, EndsRounds, NextJournal, HasPut, PutsRound, IsUnput, StopsIn, RunsAll, RunsFirst, RunsFrom, WritesRound, WritesRounds, IsRoundsPart, IsTextFault, IsFlushed, IsRoundFault, IsRoundsFault, IsWritingFault, day_counts, day_ending, late_status, made_of, status_of}
+use Rattle.ridepool.specs.work.Writing.{BeginsRounds, EndsRounds, NextJournal, HasPut, PutsRound, IsUnput, StopsIn, RunsAll, RunsFirst, RunsFrom, WritesReport, WritesRound, WritesRounds, IsReportFault, IsRoundsPart, IsTextFault, IsFlushed, IsRoundFault, IsRoundsFault, IsWritingFault, day_counts, day_ending, late_status, made_of, status_of}
 use Rattle.ridepool.specs.declared.status.RunStatus.{RunStatus}
 use Rattle.ridepool.specs.declared.status.RunStatus.TheVariants.{Done, Words, Network, Fleet, Script, TooLong, ReadFault, WriteFault, OutOfMemory, Day, TooLate}
 
@@ -309,6 +309,13 @@ module _ (settings : Settings) (roads : Roads) where
         subst (IsRoundsFault settings roads P Q a c n m low high) (sym f.fault.0)
         (omega (arith, f.fault.1, up), inr (kept_rounds a b c n m w f.bytes))
 
+    -- the first lines, and what became of the rounds behind them
+    pub behind_head : (head : List ℕ) (a b c : Option (List ℕ)) (n m : List NotifierView) (low middle high : ℕ) (r : Result (Unit {0}) RunStatus) → Appends a b head → low ≤ middle
+        → MatchResult r (λ _. WritesRounds settings roads P Q b c n m) (IsRoundsFault settings roads P Q b c n m middle high)
+        → MatchResult r (λ _. WritesReport settings roads P Q head a c n m) (IsReportFault settings roads P Q head a c n m low high)
+    behind_head head a b c n m low middle high (Ok x) first up w = record { here = b; first = first; rounds = w }
+    behind_head head a b c n m low middle high (Err s) first up why = IsReportFault.behind s b middle first up why
+
   -- the first rounds of a run, and all of them with the last line
   abbrev pub RunPart : BookView → List NumberedLanes → Option (List ℕ) → Option (List ℕ) → List NotifierView → List NotifierView → Type 0
   RunPart book rounds a b n m = IsRoundsPart settings roads (RunsFirst settings roads book rounds) (RunsAll settings roads book rounds) a b n m
@@ -399,13 +406,6 @@ text_unwritten text a b low high report.OutOfMemory s is part rose = subst (IsTe
 abbrev pub head_of : Inputs → List ℕ
 head_of i = first_text i.settings.mode i.settings i.roads (length i.vehicles)
 
-pub head_unwritten : (i : Inputs) (a b : Option (List ℕ)) (n : List NotifierView) (low high : ℕ) (fault : ReportFault) (s : RunStatus)
-    → s ≡ status_of fault → AppendsPart a b (head_of i) → (fault ≡ report.WriteFault → Rose low high) → IsWritingFault i a b n n low high s
-head_unwritten i a b n low high report.WriteFault s is part rose =
-    subst (IsWritingFault i a b n n low high) (sym is) (rose refl, inl (IsPart.head (begins_part a b (head_of i) part).0 refl))
-head_unwritten i a b n low high report.OutOfMemory s is part rose =
-    subst (IsWritingFault i a b n n low high) (sym is) (IsPart.head (begins_part a b (head_of i) part).0 refl)
-
 -- nothing is written
 pub nothing_written : (i : Inputs) (a : Option (List ℕ)) (n : List NotifierView) → IsPart i a a n n
 nothing_written i a n = IsPart.head (record { written = []; unwritten = head_of i; whole = refl; appends = Appends-nil a }) refl
@@ -463,12 +463,30 @@ module _ (i : Inputs) (P : List DayRound → Type 0) (Q : List DayRound → List
   rounds_unwritten a b c n m low middle high (Day fault) head up why = absurd why
   rounds_unwritten a b c n m low middle high (TooLate round made) head up why = absurd why
 
-  -- the report, from its first lines and from what became of the rounds
-  pub report_from : (a b c : Option (List ℕ)) (n m : List NotifierView) (low middle high : ℕ) (r : Result (Unit {0}) RunStatus) → Appends a b (head_of i) → low ≤ middle
-      → MatchResult r (λ _. WritesRounds i.settings i.roads P Q b c n m) (IsRoundsFault i.settings i.roads P Q b c n m middle high)
+  -- first lines that weren't written
+  unbegun_head : (a b : Option (List ℕ)) (n m : List NotifierView) (low high : ℕ) (s : RunStatus) → IsTextFault (head_of i) a b low high s → m ≡ n → IsWritingFault i a b n m low high s
+  unbegun_head a b n m low high WriteFault why same = (why.0, inl (IsPart.head why.1 same))
+  unbegun_head a b n m low high OutOfMemory why same = IsPart.head why same
+  unbegun_head a b n m low high Done why same = absurd why
+  unbegun_head a b n m low high (Words fault) why same = absurd why
+  unbegun_head a b n m low high (Network fault) why same = absurd why
+  unbegun_head a b n m low high (Fleet fault) why same = absurd why
+  unbegun_head a b n m low high (Script fault) why same = absurd why
+  unbegun_head a b n m low high (TooLong f) why same = absurd why
+  unbegun_head a b n m low high (ReadFault f) why same = absurd why
+  unbegun_head a b n m low high (Day fault) why same = absurd why
+  unbegun_head a b n m low high (TooLate round made) why same = absurd why
+
+  report_fault : (a c : Option (List ℕ)) (n m : List NotifierView) (low high : ℕ) (s : RunStatus) → IsReportFault i.settings i.roads P Q (head_of i) a c n m low high s → IsWritingFault i a c n m low high s
+  report_fault a c n m low high _ (IsReportFault.unbegun s why same) = unbegun_head a c n m low high s why same
+  report_fault a c n m low high _ (IsReportFault.behind s b middle head up why) = rounds_unwritten a b c n m low middle high s head up why
+
+  -- the report, from what became of its parts
+  pub report_from : (a c : Option (List ℕ)) (n m : List NotifierView) (low high : ℕ) (r : Result (Unit {0}) RunStatus)
+      → MatchResult r (λ _. WritesReport i.settings i.roads P Q (head_of i) a c n m) (IsReportFault i.settings i.roads P Q (head_of i) a c n m low high)
       → MatchResult r (λ _. IsWhole i a c n m) (IsWritingFault i a c n m low high)
-  report_from a b c n m low middle high (Ok x) head up h = report_whole a b c n m head h
-  report_from a b c n m low middle high (Err s) head up h = rounds_unwritten a b c n m low middle high s head up h
+  report_from a c n m low high (Ok x) w = report_whole a w.here c n m w.first w.rounds
+  report_from a c n m low high (Err s) why = report_fault a c n m low high s why
 
 -- a run's rounds
 first_run : (m : Mode) (i : Inputs) (made : List DayRound) → (m ≡ Drive → ⊥) → (count : ℕ) × Runs i (take count i.rounds) made → AreFirst m i made

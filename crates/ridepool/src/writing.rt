@@ -10,7 +10,7 @@ ghost use Rattle.dispatch_report.specs.Written.{sink_seen, WritesText};
 ghost use Rattle.request_book.specs.Book.{next_position};
 ghost use Rattle.ridepool.specs.Inputs.{Inputs, IsDayFor};
 ghost use Rattle.ridepool.specs.Report.{first_text, added_text, journals_of, IsWhole};
-ghost use Rattle.ridepool.specs.work.Writing.{BeginsRounds, EndsRounds, IsWritingFault, IsRoundsFault, IsRoundFault, IsTextFault, IsFlushed, IsUnput, HasPut, PutsRound, StopsIn, RunsAll, RunsFirst, WritesRound, WritesRounds, day_counts, day_ending, late_status, status_of};
+ghost use Rattle.ridepool.specs.work.Writing.{BeginsRounds, EndsRounds, IsWritingFault, IsRoundsFault, IsReportFault, IsRoundFault, IsTextFault, IsFlushed, IsUnput, HasPut, PutsRound, StopsIn, RunsAll, RunsFirst, WritesReport, WritesRound, WritesRounds, day_counts, day_ending, late_status, status_of};
 
 use crate::inputs::ReadInputs;
 use crate::setup::Setup;
@@ -111,6 +111,7 @@ fn write_by<K: Sink, W: Ways, G: Gate>(
         (IsWritingFault i (K.written out.old) (K.written out.new) all left (K.faults out.old) (K.faults out.new)) }
     ensures never_falls { K.faults out.old ≤ K.faults out.new }
 {
+    states_are_consistent();
     let vehicles = fleet.vehicles().len();
     let Ok(book) = Book::new(alloc, setup.network, fleet, setup.settings.wait) else {
         return Err(RunStatus::OutOfMemory);
@@ -127,22 +128,66 @@ fn write_by<K: Sink, W: Ways, G: Gate>(
                 setup.settings,
                 setup.gate,
             );
-            let run = match driven {
-                Ok(run) => run,
-                Err(fault) => return Err(late_status(fault)),
-            };
-            states_are_consistent();
-            if let Err(fault) = write_first(alloc, out, setup.settings, setup.network, vehicles) {
-                return Err(status_of(fault));
+            match driven {
+                Ok(run) => write_day(alloc, out, vehicles, &run, setup.settings, setup.network, notifiers),
+                Err(fault) => Err(late_status(fault)),
             }
-            write_driven(alloc, out, &run, setup.settings, setup.network, notifiers)
         }
-        _ => {
-            if let Err(fault) = write_first(alloc, out, setup.settings, setup.network, vehicles) {
-                return Err(status_of(fault));
-            }
-            write_each(rt, alloc, out, book, script.rounds(), setup, notifiers)
-        }
+        _ => write_run(rt, alloc, out, vehicles, book, script.rounds(), setup, notifiers),
+    }
+}
+
+/// Writes the report of a day that was driven.
+fn write_day<K: Sink>(
+    alloc: Global,
+    out: &mut K,
+    vehicles: usize,
+    run: &DayRun,
+    settings: &Settings,
+    network: &Network,
+    notifiers: &mut Vec<Box<dyn Notifier>>,
+) -> Result<(), RunStatus>
+    requires { All (λ r. IsConsistent r.journal.base) run.now.rounds }
+    ensures report { let head = first_text settings.now.mode settings.now network.now vehicles in
+        let end = day_ending run.now in
+        let all = map (λ n. notifier_seen (⟦<dyn Notifier as Notifier>⟧ n.vtable) n.value) notifiers.old.items in
+        let left = map (λ n. notifier_seen (⟦<dyn Notifier as Notifier>⟧ n.vtable) n.value) notifiers.new.items in
+        MatchResult result
+        (λ _. WritesReport settings.now network.now (BeginsRounds run.now.rounds) (EndsRounds run.now.rounds end) head (K.written out.old) (K.written out.new) all left)
+        (IsReportFault settings.now network.now (BeginsRounds run.now.rounds) (EndsRounds run.now.rounds end) head (K.written out.old) (K.written out.new) all left (K.faults out.old) (K.faults out.new)) }
+    ensures never_falls { K.faults out.old ≤ K.faults out.new }
+{
+    match write_first(alloc, out, settings, network, vehicles) {
+        Ok(()) => write_driven(alloc, out, run, settings, network, notifiers),
+        Err(fault) => Err(status_of(fault)),
+    }
+}
+
+/// Runs rounds and writes their report, or a made workload's summary.
+fn write_run<K: Sink, W: Ways, G: Gate>(
+    rt: &(impl Threads + Wait + Sync),
+    alloc: Global,
+    out: &mut K,
+    vehicles: usize,
+    book: Book,
+    rounds: &[Round],
+    setup: &Setup<'_, W, G>,
+    notifiers: &mut Vec<Box<dyn Notifier>>,
+) -> Result<(), RunStatus>
+    requires ready { IsReady setup.now.settings.now setup.now.network.now book }
+    requires empty { book.entries ≡ [] }
+    ensures report { let s = setup.now.settings.now in let roads = setup.now.network.now in
+        let head = first_text s.mode s roads vehicles in
+        let all = map (λ n. notifier_seen (⟦<dyn Notifier as Notifier>⟧ n.vtable) n.value) notifiers.old.items in
+        let left = map (λ n. notifier_seen (⟦<dyn Notifier as Notifier>⟧ n.vtable) n.value) notifiers.new.items in
+        MatchResult result
+        (λ _. WritesReport s roads (RunsFirst s roads book rounds.now) (RunsAll s roads book rounds.now) head (K.written out.old) (K.written out.new) all left)
+        (IsReportFault s roads (RunsFirst s roads book rounds.now) (RunsAll s roads book rounds.now) head (K.written out.old) (K.written out.new) all left (K.faults out.old) (K.faults out.new)) }
+    ensures never_falls { K.faults out.old ≤ K.faults out.new }
+{
+    match write_first(alloc, out, setup.settings, setup.network, vehicles) {
+        Ok(()) => write_each(rt, alloc, out, book, rounds, setup, notifiers),
+        Err(fault) => Err(status_of(fault)),
     }
 }
 

@@ -154,6 +154,18 @@ module _ (settings : Settings) (roads : Roads) where
     IsRoundsFault before after notifiers left low high OutOfMemory = IsRoundsPart before after notifiers left
     IsRoundsFault before after notifiers left low high _ = ⊥
 
+    -- the first lines, all rounds and the last lines are written
+    pub record WritesReport (head : List ℕ) (before after : Option (List ℕ)) (notifiers left : List NotifierView) : Type 0 where
+      pub here : Option (List ℕ)
+      pub first : Appends before here head
+      pub rounds : WritesRounds here after notifiers left
+
+    -- why not: the first lines weren't, or behind them the rounds weren't
+    pub data IsReportFault (head : List ℕ) (before after : Option (List ℕ)) (notifiers left : List NotifierView) (low high : ℕ) : RunStatus → Type 0 where
+      unbegun : (status : RunStatus) → IsTextFault head before after low high status → left ≡ notifiers → IsReportFault head before after notifiers left low high status
+      behind : (status : RunStatus) (here : Option (List ℕ)) (middle : ℕ) → Appends before here head → low ≤ middle → IsRoundsFault here after notifiers left middle high status
+          → IsReportFault head before after notifiers left low high status
+
 -- these are the rounds, and these the last lines
 abbrev pub EndsRounds : List DayRound → List ℕ → List DayRound → List ℕ → Type 0
 EndsRounds rounds last made end = (made ≡ rounds) × (end ≡ last)
