@@ -365,6 +365,15 @@ module _ (settings : Settings) (roads : Roads) where
         base = ap (λ k. k.base) is ∙ same.base;
       }
 
+  -- the same of a round whose number is another's
+  pub puts_numbered : (p q : ℕ) (j : Journal) (a b : Option (List ℕ)) (n m : List NotifierView) → p ≡ q
+      → PutsRound settings roads (record { number = p; journal = j }) a b n m → PutsRound settings roads (record { number = q; journal = j }) a b n m
+  puts_numbered p q j a b n m same w = subst (λ k. PutsRound settings roads (record { number = k; journal = j }) a b n m) same w
+
+  pub unput_numbered : (p q : ℕ) (j : Journal) (a b : Option (List ℕ)) (n m : List NotifierView) (low high : ℕ) (s : RunStatus) → p ≡ q
+      → IsUnput settings roads (record { number = p; journal = j }) a b n m low high s → IsUnput settings roads (record { number = q; journal = j }) a b n m low high s
+  unput_numbered p q j a b n m low high s same why = subst (λ k. IsUnput settings roads (record { number = k; journal = j }) a b n m low high s) same why
+
   -- a round, run and written
   pub wrote_round : (book after next : BookView) (r : NumberedLanes) (a b : Option (List ℕ)) (n m : List NotifierView) (j : Journal)
       → IsRoundRun settings roads r (journal_of after) → IsSameRun book after → IsBook after → IsReady settings roads after → j ≡ journal_of after

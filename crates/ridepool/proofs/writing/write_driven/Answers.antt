@@ -1,7 +1,4 @@
-use Rattle.std.proofs.Common.{Err, ap, refl, sym, subst, ◌∙◌, List, ◌≡◌}
-use Rattle.dispatch_engine.specs.Run.{position_after_run}
-use Rattle.dispatch_report.specs.Day.{day_end_text}
-use Rattle.ridepool.specs.Report.{journals_of}
+use Rattle.std.proofs.Common.{Err, ap, arith, refl, sym}
 use Rattle.ridepool.specs.work.Writing.{BeginsRounds, EndsRounds, day_ending}
 use Rattle.ridepool.proofs.WriteLemmas.{stops_fault, written_all, lacks_end, end_unwritten, flushed_end, day_end}
 use Rattle.ridepool.proofs.writing.write_driven.Goals as goal
@@ -12,7 +9,7 @@ returns-in-Err-clause-rounds g c =
     let roads = c.args.network.now in
     let run = c.args.run.now in
     stops_fault s roads (BeginsRounds run.rounds) (EndsRounds run.rounds (day_ending run)) run.rounds _ _ _ _ _ _ c.in-Err.status (λ made first. first)
-    (rw (sym c.as_slice.ensures) c.in-Err.ensures.rounds)
+    (rw (sym c.as_slice-rounds.ensures) c.in-Err.ensures.rounds)
 
 pub returns-in-Ok-write_day_end-clause-rounds : goal.returns-in-Ok-write_day_end-clause-rounds
 returns-in-Ok-write_day_end-clause-rounds g c =
@@ -24,15 +21,15 @@ returns-in-Ok-write_day_end-clause-rounds g c =
     let before = g.K.Sink.written c.args.out.now in
     let here = g.K.Sink.written c.write_made.new.out in
     let after = g.K.Sink.written c.write_day_end.new.sink in
-    let h = day_end s roads run c.rounds.result.now before here _ _ c.in-Ok.position c.counts_of.result c.as_slice.ensures c.counts_of.ensures c.in-Ok.ensures.rounds in
+    let h = day_end s roads run c.as_slice-rounds.result.now before here _ _ c.in-Ok.position c.counts_of-counts.result c.as_slice-rounds.ensures c.counts_of-counts.ensures c.in-Ok.ensures.rounds in
     flushed_end s roads P Q before after (g.K.Sink.written c.flush.new.out) _ _
     (g.K.Sink.faults c.args.out.now) (g.K.Sink.faults c.write_day_end.new.sink) (g.K.Sink.faults c.flush.new.out) c.flush.result
     (omega (arith, c.write_made.ensures.never_falls, c.write_day_end.ensures.never_falls))
     (written_all s roads P Q run.rounds (day_ending run) before here after _ _ (refl, refl) h.0 (rw (sym h.1) c.in-Ok-write_day_end.ensures.bytes))
     c.flush.ensures
 
-pub returns-clause-rounds : goal.returns-clause-rounds
-returns-clause-rounds g c =
+pub returns-in-Err-write_day_end-clause-rounds : goal.returns-in-Err-write_day_end-clause-rounds
+returns-in-Err-write_day_end-clause-rounds g c =
     let s = c.args.settings.now in
     let roads = c.args.network.now in
     let run = c.args.run.now in
@@ -41,7 +38,7 @@ returns-clause-rounds g c =
     let before = g.K.Sink.written c.args.out.now in
     let here = g.K.Sink.written c.write_made.new.out in
     let after = g.K.Sink.written c.write_day_end.new.sink in
-    let h = day_end s roads run c.rounds.result.now before here _ _ c.in-Ok.position c.counts_of.result c.as_slice.ensures c.counts_of.ensures c.in-Ok.ensures.rounds in
+    let h = day_end s roads run c.as_slice-rounds.result.now before here _ _ c.in-Ok.position c.counts_of-counts.result c.as_slice-rounds.ensures c.counts_of-counts.ensures c.in-Ok.ensures.rounds in
     end_unwritten s roads P Q before after _ _
     (g.K.Sink.faults c.args.out.now) (g.K.Sink.faults c.write_made.new.out) (g.K.Sink.faults c.write_day_end.new.sink)
     c.in-Err-write_day_end.fault c.status_of.result c.status_of.ensures

@@ -1,7 +1,7 @@
-use Rattle.std.proofs.Common.{ℕ, refl, subst, sym}
+use Rattle.std.proofs.Common.{refl}
 use Rattle.std.proofs.KnownBytes.{Keeps-refl}
-use Rattle.ridepool.specs.work.Writing.{IsRoundFault, IsUnput, PutsRound}
-use Rattle.ridepool.proofs.WriteLemmas.{next_journal, wrote_round}
+use Rattle.ridepool.specs.work.Writing.{IsRoundFault}
+use Rattle.ridepool.proofs.WriteLemmas.{next_journal, wrote_round, puts_numbered, unput_numbered}
 use Rattle.ridepool.proofs.writing.write_next.Goals as goal
 
 pub returns-in_default-clause-round : goal.returns-in_default-clause-round
@@ -17,10 +17,9 @@ returns-in-Ok-put_round-clause-round g c =
     let before = g.K.Sink.written c.args.out.now in
     let after = g.K.Sink.written c.put_round.new.out in
     let journal = c.in-Ok-take_round.journal in
-    let P : ℕ → Type 0 = λ n. PutsRound s roads (record { number = n; journal = journal }) before after _ _ in
     wrote_round s roads c.args.book c.in-Ok.book c.take_round.new.self c.args.round.now before after _ _ journal
     c.in-Ok.ensures.run c.in-Ok.ensures.same c.in-Ok.ensures.kept c.in-Ok.ensures.ready c.in-Ok-take_round.ensures.journal c.in-Ok-take_round.ensures.next
-    (subst P c.number.ensures.value c.in-Ok-put_round.ensures.round)
+    (puts_numbered s roads _ _ journal before after _ _ c.number.ensures.value c.in-Ok-put_round.ensures.round)
 
 pub returns-in-Err-clause-round : goal.returns-in-Err-clause-round
 returns-in-Err-clause-round g c =
@@ -29,7 +28,6 @@ returns-in-Err-clause-round g c =
     let before = g.K.Sink.written c.args.out.now in
     let after = g.K.Sink.written c.put_round.new.out in
     let journal = c.in-Ok-take_round.journal in
-    let P : ℕ → Type 0 = λ n. IsUnput s roads (record { number = n; journal = journal }) before after _ _ (g.K.Sink.faults c.args.out.now) (g.K.Sink.faults c.put_round.new.out) c.in-Err.status in
     IsRoundFault.unput journal c.in-Err.status
     (next_journal s roads c.args.book c.in-Ok.book c.args.round.now journal c.in-Ok.ensures.run c.in-Ok.ensures.same c.in-Ok-take_round.ensures.journal)
-    (subst P c.number.ensures.value c.in-Err.ensures.round)
+    (unput_numbered s roads _ _ journal before after _ _ (g.K.Sink.faults c.args.out.now) (g.K.Sink.faults c.put_round.new.out) c.in-Err.status c.number.ensures.value c.in-Err.ensures.round)
