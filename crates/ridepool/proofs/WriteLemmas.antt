@@ -491,11 +491,21 @@ module _ (i : Inputs) (P : List DayRound → Type 0) (Q : List DayRound → List
   report_fault a c n m low high _ (IsReportFault.behind s b middle head up why) = rounds_unwritten a b c n m low middle high s head up why
 
   -- the report, from what became of its parts
-  pub report_from : (a c : Option (List ℕ)) (n m : List NotifierView) (low high : ℕ) (r : Result (Unit {0}) RunStatus)
+  report_from : (a c : Option (List ℕ)) (n m : List NotifierView) (low high : ℕ) (r : Result (Unit {0}) RunStatus)
       → MatchResult r (λ _. WritesReport i.settings i.roads P Q (head_of i) a c n m) (IsReportFault i.settings i.roads P Q (head_of i) a c n m low high)
       → MatchResult r (λ _. IsWhole i a c n m) (IsWritingFault i a c n m low high)
   report_from a c n m low high (Ok x) w = report_whole a w.here c n m w.first w.rounds
   report_from a c n m low high (Err s) why = report_fault a c n m low high s why
+
+  -- the same with a count of the vehicles
+  pub report_counted : (count : ℕ) (a c : Option (List ℕ)) (n m : List NotifierView) (low high : ℕ) (r : Result (Unit {0}) RunStatus) → count ≡ length i.vehicles
+      → MatchResult r (λ _. WritesReport i.settings i.roads P Q (first_text i.settings.mode i.settings i.roads count) a c n m)
+      (IsReportFault i.settings i.roads P Q (first_text i.settings.mode i.settings i.roads count) a c n m low high)
+      → MatchResult r (λ _. IsWhole i a c n m) (IsWritingFault i a c n m low high)
+  report_counted count a c n m low high r is h =
+      report_from a c n m low high r
+      (subst (λ k. MatchResult r (λ _. WritesReport i.settings i.roads P Q (first_text i.settings.mode i.settings i.roads k) a c n m)
+      (IsReportFault i.settings i.roads P Q (first_text i.settings.mode i.settings i.roads k) a c n m low high)) is h)
 
 -- a run's rounds
 first_run : (m : Mode) (i : Inputs) (made : List DayRound) → (m ≡ Drive → ⊥) → (count : ℕ) × Runs i (take count i.rounds) made → AreFirst m i made
