@@ -2,11 +2,14 @@
 use Rattle.std.proofs.Common.{◌≡◌, ℕ, List, [], ◌∷◌, ◌++◌, length, Option, None, Some, refl, ◌∙◌}
 use Rattle.std.proofs.lemmas.List.{length-map}
 use Rattle.batch_snapshot.specs.Batch.{Batch}
-use Rattle.request_book.specs.Closing.{closed_state, after_answer}
+use Rattle.request_book.specs.Closing.{after_answer}
+use Rattle.request_book.specs.work.Closing.{closed_state}
 use Rattle.request_book.specs.Keyed.{changed_at}
 use Rattle.request_book.specs.Replay.{state_after}
 use Rattle.request_book.specs.Sealing.{sealed_state}
-use Rattle.request_book.specs.Step.{answer, picked_up, dropped_off, step, submit_step, cancel_step, report_step, pickup_step, dropoff_step, seal_step, close_step}
+use Rattle.request_book.specs.Step.{step}
+use Rattle.request_book.specs.work.Table.{answer, picked_up, dropped_off, submit_step, cancel_step, report_step, pickup_step, dropoff_step, seal_step, close_step, table_step}
+use Rattle.request_book.proofs.lemmas.StepTable.{by-table}
 use Rattle.request_book.specs.declared.command.Command.{Command}
 use Rattle.request_book.specs.declared.command.Command.TheVariants.{Submit, Cancel, Report, Pickup, Dropoff, Seal, Close}
 use Rattle.request_book.specs.declared.journal.Entry.{Entry}
@@ -66,15 +69,18 @@ close-count : (s : State) (batch : ℕ) (a : Answer) → length (close_step s ba
 unfolding close_step
 close-count s batch a = answer-count s _ _ _ (closed-count s a)
 
+table-step-count : (nodes : List ℕ) (wait : ℕ) (s : State) (c : Command) → length (table_step nodes wait s c).0.vehicles ≡ length s.vehicles
+unfolding table_step
+table-step-count nodes wait s (Submit rider origin destination time party) = submit-count nodes s _
+table-step-count nodes wait s (Cancel rider) = cancel-count s rider
+table-step-count nodes wait s (Report vehicle node time) = report-count nodes s vehicle node time
+table-step-count nodes wait s (Pickup vehicle rider time) = pickup-count s vehicle rider time
+table-step-count nodes wait s (Dropoff vehicle rider time) = dropoff-count s vehicle rider time
+table-step-count nodes wait s (Seal now) = seal-count wait s now
+table-step-count nodes wait s (Close batch outcome) = close-count s batch outcome.answer
+
 step-count : (nodes : List ℕ) (wait : ℕ) (s : State) (c : Command) → length (step nodes wait s c).0.vehicles ≡ length s.vehicles
-unfolding step
-step-count nodes wait s (Submit rider origin destination time party) = submit-count nodes s _
-step-count nodes wait s (Cancel rider) = cancel-count s rider
-step-count nodes wait s (Report vehicle node time) = report-count nodes s vehicle node time
-step-count nodes wait s (Pickup vehicle rider time) = pickup-count s vehicle rider time
-step-count nodes wait s (Dropoff vehicle rider time) = dropoff-count s vehicle rider time
-step-count nodes wait s (Seal now) = seal-count wait s now
-step-count nodes wait s (Close batch outcome) = close-count s batch outcome.answer
+step-count nodes wait s c = by-table (λ p. length p.0.vehicles ≡ length s.vehicles) nodes wait s c (table-step-count nodes wait s c)
 
 pub vehicles-count : (nodes : List ℕ) (wait : ℕ) (s : State) (es : List Entry) → length (state_after nodes wait s es).vehicles ≡ length s.vehicles
 unfolding state_after
