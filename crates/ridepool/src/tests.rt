@@ -1,12 +1,7 @@
-ghost use Rattle.std.specs.Prelude.{None};
-
 use crate::{RunStatus, fault_text, ridepool};
 use pool_base::Which;
-use pool_io::{Failed, MemorySink, MemorySource};
-use rider_notices::{Notice, Notifier};
+use pool_io::{MemorySink, MemorySource};
 use std::alloc::{AllocError, Global};
-use std::cell::Cell;
-use std::rc::Rc;
 use std::sync::Wait;
 use std::test::Fail;
 use std::thread::Threads;
@@ -34,146 +29,59 @@ round 0\n\
 3 0 submit 3 2 2 0 refused same-place\n\
 done 4\n";
 
-const RUN: &str = "run network=n fleet=f script=s";
-
-const LOAD: &str = "load side=2 vehicles=1 riders=1 rounds=1";
-
-// Which calls fail in a run, by number: of the three sources, of the sink, and of the second of three notifiers.
-#[derive(Clone, Copy)]
-struct Failing {
-    reads: [Option<u64>; 3],
-    write: Option<u64>,
-    notice: Option<u64>,
-}
-
-const NOTHING: Failing = Failing {
-    reads: [None; 3],
-    write: None,
-    notice: None,
-};
-
-// A notifier that counts what it and its neighbours were told, and fails one call.
-#[derive(Drop)]
-struct Counting {
-    told: Rc<Cell<u64>>,
-    fail: Option<u64>,
-    calls: u64,
-    faults: u64,
-}
-
-impl Notifier for Counting {
-    ghost told = { λ _. None };
-
-    ghost faults = { λ n. n.faults };
-
-    ghost steady = { λ _. 0 };
-
-    fn tell(&mut self, _notice: &Notice) -> Result<(), Failed> {
-        let call = self.calls;
-        self.calls = call.saturating_add(1);
-        if self.fail == Some(call) {
-            self.faults = self.faults.saturating_add(1);
-            return Err(Failed);
-        }
-        self.told.set(self.told.get().saturating_add(1));
-        Ok(())
-    }
-}
-
-// What a run left: the line of its fault and behind a bar the bytes written, how many notices were told in all, and
-// how many notifiers are left.
-#[derive(Drop)]
-struct Left {
-    shown: Vec<u8>,
-    told: u64,
-    notifiers: usize,
-}
-
-// The sources and the sink of a run.
-#[derive(Drop)]
-struct Fakes {
-    network: MemorySource,
-    fleet: MemorySource,
-    script: MemorySource,
-    out: MemorySink,
-}
-
-fn fakes(
+// What a run shows: the line of its fault, and a bar before the bytes that were written.
+fn shown(
+    rt: &(impl Threads + Wait + Sync),
     alloc: Global,
     script: &[u8],
     pieces: usize,
-    failing: Failing,
-) -> Result<Fakes, AllocError> {
-    let network = source(alloc, NETWORK, pieces, failing.reads[0])?;
-    let fleet = source(alloc, FLEET, pieces, failing.reads[1])?;
-    let script = source(alloc, script, pieces, failing.reads[2])?;
-    let out = MemorySink::new(alloc, pieces.max(1), planned(alloc, failing.write)?);
-    Ok(Fakes {
-        network,
-        fleet,
-        script,
-        out,
-    })
-}
-
-fn counting(
-    alloc: Global,
-    told: &Rc<Cell<u64>>,
-    fail: Option<u64>,
-) -> Result<Box<Counting>, AllocError> {
-    let notifier = Counting {
-        told: told.clone()?,
-        fail,
-        calls: 0,
-        faults: 0,
-    };
-    match Box::new(alloc, notifier) {
-        Ok(boxed) => Ok(boxed),
-        Err(_) => Err(AllocError),
-    }
-}
-
-fn ran(
-    rt: &(impl Threads + Wait + Sync),
-    alloc: Global,
-    text: &str,
-    script: &[u8],
-    pieces: usize,
-    failing: Failing,
-) -> Result<Left, AllocError> {
-    let told = Rc::new(alloc, Cell::new(0))?;
-    let mut notifiers: Vec<Box<dyn Notifier>> = Vec::new(alloc);
-    for fail in [None, failing.notice, None] {
-        notifiers.push(counting(alloc, &told, fail)?)?;
-    }
-    let mut fakes = fakes(alloc, script, pieces, failing)?;
-    let status = status_of(rt, alloc, text, &mut fakes, &mut notifiers)?;
-    Ok(Left {
-        shown: line_before(alloc, &status, fakes.out.written())?,
-        told: told.get(),
-        notifiers: notifiers.len(),
-    })
-}
-
-fn status_of(
-    rt: &(impl Threads + Wait + Sync),
-    alloc: Global,
-    text: &str,
-    fakes: &mut Fakes,
-    notifiers: &mut Vec<Box<dyn Notifier>>,
-) -> Result<RunStatus, AllocError> {
-    let words = words(alloc, text)?;
-    Ok(ridepool(
+    failing_reads: [Option<u64>; 3],
+    failing_write: Option<u64>,
+) -> Result<Vec<u8>, AllocError> {
+    let words = words(alloc, "run network=n fleet=f script=s")?;
+    let mut network = source(alloc, NETWORK, pieces, failing_reads[0])?;
+    let mut fleet = source(alloc, FLEET, pieces, failing_reads[1])?;
+    let mut script = source(alloc, script, pieces, failing_reads[2])?;
+    let mut out = MemorySink::new(alloc, pieces.max(1), planned(alloc, failing_write)?);
+    let status = ridepool(
         rt,
         alloc,
         &words,
-        &mut fakes.network,
-        &mut fakes.fleet,
-        &mut fakes.script,
-        &mut fakes.out,
-        notifiers,
+        &mut network,
+        &mut fleet,
+        &mut script,
+        &mut out,
+        &mut Vec::new(alloc),
         &FreeGate,
-    ))
+    );
+    line_before(alloc, &status, out.written())
+}
+
+// What a made workload shows, beside sources whose every read would fail.
+fn summed_up(
+    rt: &(impl Threads + Wait + Sync),
+    alloc: Global,
+    text: &str,
+    pieces: usize,
+    failing_write: Option<u64>,
+) -> Result<Vec<u8>, AllocError> {
+    let words = words(alloc, text)?;
+    let mut network = source(alloc, b"", 1, Some(0))?;
+    let mut fleet = source(alloc, b"", 1, Some(0))?;
+    let mut script = source(alloc, b"", 1, Some(0))?;
+    let mut out = MemorySink::new(alloc, pieces.max(1), planned(alloc, failing_write)?);
+    let status = ridepool(
+        rt,
+        alloc,
+        &words,
+        &mut network,
+        &mut fleet,
+        &mut script,
+        &mut out,
+        &mut Vec::new(alloc),
+        &FreeGate,
+    );
+    line_before(alloc, &status, out.written())
 }
 
 // The line of a fault, and a bar before what was written.
@@ -228,145 +136,124 @@ fn whole(alloc: Global) -> Result<Vec<u8>, AllocError> {
 #[test]
 fn submits_give_their_report_in_pieces_of_any_size(rt: HostRuntime) -> Result<(), Fail> {
     let expected = whole(rt.alloc())?;
-    for pieces in [1, 7, 100_000] {
-        let left = ran(&rt, rt.alloc(), RUN, SUBMITS, pieces, NOTHING)?;
-        assert_eq!(rt; left.shown.as_slice(), expected.as_slice());
+    for pieces in [1, 2, 7, 100_000] {
+        let text = shown(&rt, rt.alloc(), SUBMITS, pieces, [None; 3], None)?;
+        assert_eq!(rt; text.as_slice(), expected.as_slice());
     }
     Ok(())
 }
 
 #[test]
-fn the_smallest_workload_is_summed_up_and_touches_no_source(rt: HostRuntime) -> Result<(), Fail> {
-    let summary =
-        b"|load seed=1 side=2 vehicles=1 riders=1 rounds=1\nbatch 1 served 1 out 0 rows 2 trips 1 cost 74 bound 74\ndone 3\n";
-    let failing = Failing {
-        reads: [Some(0); 3],
-        ..NOTHING
-    };
-    for pieces in [1, 7, 100_000] {
-        let left = ran(&rt, rt.alloc(), LOAD, b"", pieces, failing)?;
-        assert_eq!(rt; left.shown.as_slice(), summary.as_slice());
+fn a_failing_read_is_blamed_on_its_file(rt: HostRuntime) -> Result<(), Fail> {
+    for call in 0..3 {
+        let text = shown(&rt, rt.alloc(), SUBMITS, 10, [Some(call), None, None], None)?;
+        assert_eq!(rt; text.as_slice(), b"network: read failed|".as_slice());
+        let text = shown(&rt, rt.alloc(), SUBMITS, 10, [None, Some(call), None], None)?;
+        assert_eq!(rt; text.as_slice(), b"fleet: read failed|".as_slice());
+        let text = shown(&rt, rt.alloc(), SUBMITS, 10, [None, None, Some(call)], None)?;
+        assert_eq!(rt; text.as_slice(), b"script: read failed|".as_slice());
     }
     Ok(())
 }
 
-// What one call fails of.
-#[derive(Clone, Copy)]
-enum Place {
-    Network,
-    Fleet,
-    Script,
-    Sink,
-    Notifier,
+#[test]
+fn a_failing_write_leaves_a_beginning(rt: HostRuntime) -> Result<(), Fail> {
+    let text = shown(&rt, rt.alloc(), SUBMITS, 10, [None; 3], Some(0))?;
+    assert_eq!(rt; text.as_slice(), b"report: write failed|".as_slice());
+    let text = shown(&rt, rt.alloc(), SUBMITS, 10, [None; 3], Some(2))?;
+    assert_eq!(rt;
+        text.as_slice(),
+        b"report: write failed|ridepool report 1\n".as_slice()
+    );
+    Ok(())
 }
 
-fn failing_at(place: Place, call: u64) -> Failing {
-    let call = Some(call);
-    match place {
-        Place::Network => Failing {
-            reads: [call, None, None],
-            ..NOTHING
-        },
-        Place::Fleet => Failing {
-            reads: [None, call, None],
-            ..NOTHING
-        },
-        Place::Script => Failing {
-            reads: [None, None, call],
-            ..NOTHING
-        },
-        Place::Sink => Failing {
-            write: call,
-            ..NOTHING
-        },
-        Place::Notifier => Failing {
-            notice: call,
-            ..NOTHING
-        },
+#[test]
+fn the_smallest_workload_is_summed_up_in_pieces_of_any_size(rt: HostRuntime) -> Result<(), Fail> {
+    let words = "load side=2 vehicles=1 riders=1 rounds=1";
+    let summary =
+        b"|load seed=1 side=2 vehicles=1 riders=1 rounds=1\nbatch 1 served 1 out 0 rows 2 trips 1 cost 74 bound 74\ndone 3\n";
+    for pieces in [1, 7, 100_000] {
+        let text = summed_up(&rt, rt.alloc(), words, pieces, None)?;
+        assert_eq!(rt; text.as_slice(), summary.as_slice());
     }
+    Ok(())
 }
 
-// Whether a run with a failing call left what it should, beside a run without one.
-fn stands(place: Place, left: &Left, whole: &Left) -> bool {
-    match place {
-        Place::Network => is_untouched(left, b"network: read failed|"),
-        Place::Fleet => is_untouched(left, b"fleet: read failed|"),
-        Place::Script => is_untouched(left, b"script: read failed|"),
-        Place::Sink => has_begun(left, whole),
-        Place::Notifier => {
-            left.shown == whole.shown && left.notifiers == 2 && left.told < whole.told
-        }
+#[test]
+fn a_failing_write_leaves_a_beginning_of_a_summary(rt: HostRuntime) -> Result<(), Fail> {
+    let words = "load side=2 vehicles=1 riders=1 rounds=1";
+    let text = summed_up(&rt, rt.alloc(), words, 10, Some(0))?;
+    assert_eq!(rt; text.as_slice(), b"report: write failed|".as_slice());
+    let text = summed_up(&rt, rt.alloc(), words, 10, Some(2))?;
+    assert_eq!(rt;
+        text.as_slice(),
+        b"report: write failed|load seed=1 side=2 v".as_slice()
+    );
+    Ok(())
+}
+
+// Whether a sink that takes so many bytes a write and fails at this call leaves a beginning of the report;
+// `None` where there is no such call.
+fn fails_well(
+    rt: &(impl Threads + Wait + Sync),
+    alloc: Global,
+    whole: &[u8],
+    pieces: usize,
+    call: u64,
+) -> Result<Option<bool>, AllocError> {
+    let text = shown(rt, alloc, BATCH, pieces, [None; 3], Some(call))?;
+    if text.as_slice() == whole {
+        return Ok(None);
     }
+    Ok(
+        match text
+            .as_slice()
+            .strip_prefix(b"report: write failed|".as_slice())
+        {
+            Some(written) => Some(whole.starts_with(b"|") && whole[1..].starts_with(written)),
+            None => Some(false),
+        },
+    )
 }
 
-fn is_untouched(left: &Left, line: &[u8]) -> bool {
-    left.shown.as_slice() == line && left.told == 0 && left.notifiers == 3
-}
-
-// Whether a beginning of the report stands, and all or nobody was told: the notices of the one batch.
-fn has_begun(left: &Left, whole: &Left) -> bool {
-    match left
-        .shown
-        .as_slice()
-        .strip_prefix(b"report: write failed|".as_slice())
-    {
-        Some(written) => {
-            let told = left.told == whole.told && written.ends_with(b"end\n") || left.told == 0;
-            whole.shown.starts_with(b"|") && whole.shown[1..].starts_with(written) && told
-        }
-        None => false,
-    }
-}
-
-// How many calls fail well in turn, until there is no further one. Pieces of five or seven bytes.
+// How many calls of such a sink fail well in turn, until there is no further call.
 fn failing_calls(
     rt: &(impl Threads + Wait + Sync),
     alloc: Global,
-    place: Place,
     pieces: usize,
 ) -> Result<u64, AllocError> {
-    let whole = ran(rt, alloc, RUN, BATCH, pieces, NOTHING)?;
+    let whole = shown(rt, alloc, BATCH, pieces, [None; 3], None)?;
     for call in 0..1000 {
-        let left = ran(rt, alloc, RUN, BATCH, pieces, failing_at(place, call))?;
-        if left.shown == whole.shown && left.told == whole.told {
-            return Ok(call);
-        }
-        if !stands(place, &left, &whole) {
-            return Ok(0);
+        match fails_well(rt, alloc, &whole, pieces, call)? {
+            Some(true) => {}
+            Some(false) => return Ok(0),
+            None => return Ok(call),
         }
     }
     Ok(0)
 }
 
 #[test]
-fn each_call_may_fail(rt: HostRuntime) -> Result<(), Fail> {
-    for (place, calls) in [
-        (Place::Network, 16),
-        (Place::Fleet, 6),
-        (Place::Script, 16),
-        (Place::Sink, 60),
-        (Place::Notifier, 2),
-    ] {
-        assert!(rt; calls <= failing_calls(&rt, rt.alloc(), place, 5)?);
-    }
+fn a_sink_may_fail_at_each_of_its_calls(rt: HostRuntime) -> Result<(), Fail> {
+    assert!(rt; 30 < failing_calls(&rt, rt.alloc(), 16)?);
+    assert!(rt; 50 < failing_calls(&rt, rt.alloc(), 7)?);
     Ok(())
 }
 
 #[test]
 fn answers_with_memory(rt: HostRuntime) -> Result<(), Fail> {
-    let left = ran(&rt, rt.alloc(), RUN, BATCH, 4096, NOTHING)?;
-    assert!(rt; left.shown.as_slice().starts_with(b"|ridepool report 1\n"));
-    assert!(rt; left.shown.as_slice().ends_with(b"\nend\ndone 4\n"));
-    assert!(rt; left.told == 6 && left.notifiers == 3);
-    let left = ran(
+    let report = shown(&rt, rt.alloc(), BATCH, 4096, [None; 3], None)?;
+    assert!(rt; report.as_slice().starts_with(b"|ridepool report 1\n"));
+    assert!(rt; report.as_slice().ends_with(b"\nend\ndone 4\n"));
+    let summary = summed_up(
         &rt,
         rt.alloc(),
         "load side=3 vehicles=2 riders=9 rounds=2",
-        b"",
         4096,
-        NOTHING,
+        None,
     )?;
-    assert!(rt; left.shown.as_slice().ends_with(b"\ndone 24\n"));
+    assert!(rt; summary.as_slice().ends_with(b"\ndone 24\n"));
     let line = line_of(rt.alloc(), &RunStatus::TooLong(Which::Fleet))?;
     assert_eq!(rt;
         line.as_slice(),

@@ -16,7 +16,7 @@ const CLEAR: &[u8] = b"\r\x1b[K";
 /// whose report or summary they are.
 ///
 /// The line comes when the lines before the first round are written and after each flush, which ends a round;
-/// the next write takes it away. A terminal that fails, and want of memory for the line, change nothing else.
+/// the next write or flush takes it away, so that what the sink holds back never stands behind it. A terminal that fails, and want of memory for the line, change nothing else.
 #[derive(Drop)]
 pub struct WatchedSink<K, W> {
     sink: K,
@@ -103,6 +103,7 @@ impl<K: Sink, W: Write> Sink for WatchedSink<K, W> {
     }
 
     fn flush(&mut self) -> Result<(), Failed> {
+        self.clear();
         self.sink.flush()?;
         self.progress.end_round();
         self.show();

@@ -103,7 +103,11 @@ fn labels_of(rt: &HostRuntime, network: &Network) -> Result<Labels, Fault>
     let start = Instant::now(rt)?;
     let labels = Labels::build(rt.alloc(), network)?;
     let took = start.elapsed(rt)?.as_micros();
-    println!(rt; "labels {took} microseconds, nodes {}, hubs {}", labels.len(), hubs_of(&labels))?;
+    println!(rt;
+        "labels {took} microseconds, nodes {}, hubs {}",
+        labels.len(),
+        hubs_of(&labels)
+    )?;
     Ok(labels)
 }
 

@@ -1,0 +1,5 @@
+pub mod SortedLemmas
+pub mod TableLemmas
+pub mod SettledLemmas
+pub mod EdgeLemmas
+pub mod GraphLemmas

@@ -1,0 +1,135 @@
+-- A batch has one trip graph, or more rows than are allowed, and never both.
+use Rattle.std.proofs.Common.{◌≡◌, ℕ, suc, ◌<◌, ◌≤◌, inl, inr, Bool, true, false, MatchBool, List, length, get_or, Contains, Option, Some, None, sym, ap, ◌∙◌, subst, arith}
+use Rattle.std.specs.Cmp.{IsTotalOrder}
+use Rattle.std.specs.Ordering.{nat_cmp, ordering_then}
+use Rattle.std.specs.Cmp.Lexicographic.{slice_cmp}
+use Rattle.std.specs.declared.cmp.Ordering.TheVariants.{Less, Equal}
+use Rattle.std.proofs.lemmas.Bool.{cases_lt}
+use Rattle.std.proofs.lemmas.Cmp.{nat_cmp_total, nat_list_cmp_total, on_total, then_total, tied_itself}
+use Rattle.std.proofs.lemmas.List.{get_or_default, ext_get_or}
+use Rattle.std.proofs.lemmas.List.Elements.{All-contains}
+use Rattle.stop_orders.specs.declared.settled.Settled.{Settled}
+use Rattle.stop_orders.specs.declared.task.Task.{Task}
+use Rattle.stop_orders.specs.Settled.{IsRow, vehicle_at, trip_task}
+use Rattle.stop_orders.specs.Task.{IsLeastDelay}
+use Rattle.plan_rules.specs.declared.row.TripRow.{TripRow}
+use Rattle.plan_rules.specs.Graph.{Graph, no_row, choice_at, row_cmp}
+use Rattle.rider_limits.specs.declared.settings.Settings.{Settings}
+use Rattle.trip_graph.specs.Answer.{IsRowWith, AreRowsOf, HoldRows, IsTripGraphOf, HasMoreRows}
+use Rattle.batch_laws.proofs.lemmas.SortedLemmas.{IsStrict, AreInOrder, AreNeighbours, in_order, same_members, no_longer}
+
+abbrev pub RowBefore : TripRow → TripRow → Type 0
+RowBefore a b = row_cmp a b ≡ Less
+
+row_total : IsTotalOrder row_cmp
+row_total =
+    then_total (on_total (λ (r : TripRow). r.vehicle) nat_cmp_total)
+    (then_total (on_total (λ (r : TripRow). length r.riders.items) nat_cmp_total) (on_total (λ (r : TripRow). r.riders.items) nat_list_cmp_total))
+
+pub rows_strict : IsStrict RowBefore
+rows_strict = record {
+  irreflexive = λ r h. let tied = tied_itself row_total r in let no : Less ≡ Equal = sym h ∙ tied in cc;
+  transitive = row_total.trans;
+}
+
+pub rows_neighbours : (rows : List TripRow) → ((k : ℕ) → suc k < length rows → row_cmp (get_or rows k no_row) (get_or rows (suc k) no_row) ≡ Less) → AreNeighbours RowBefore rows
+rows_neighbours rows up k d within =
+    let here : k < length rows = omega arith in
+    subst (λ (x : TripRow). RowBefore x (get_or rows (suc k) d)) (get_or_default rows k no_row d here)
+    (subst (λ (y : TripRow). RowBefore (get_or rows k no_row) y) (get_or_default rows (suc k) no_row d within) (up k within))
+
+pub rows_in_order : (rows : List TripRow) → ((k : ℕ) → suc k < length rows → row_cmp (get_or rows k no_row) (get_or rows (suc k) no_row) ≡ Less) → AreInOrder RowBefore rows
+rows_in_order rows up = in_order RowBefore rows_strict rows (rows_neighbours rows up)
+
+-- rows that stand for the same vehicle and riders aren't one before the other
+not_before : (a b : TripRow) → a.vehicle ≡ b.vehicle → a.riders.items ≡ b.riders.items → RowBefore a b → ⊥
+not_before a b v r h =
+    let like : row_cmp a b ≡ row_cmp a a = ap (λ (x : ℕ). ordering_then (nat_cmp a.vehicle x) (ordering_then (nat_cmp (length a.riders.items) (length b.riders.items)) (slice_cmp nat_cmp a.riders.items b.riders.items))) (sym v)
+    ∙ ap (λ (x : List ℕ). ordering_then (nat_cmp a.vehicle a.vehicle) (ordering_then (nat_cmp (length a.riders.items) (length x)) (slice_cmp nat_cmp a.riders.items x))) (sym r) in
+    rows_strict.irreflexive a (sym like ∙ h)
+
+-- a vehicle's row of these riders stands at one place
+pub one_place : (rows : List TripRow) → AreInOrder RowBefore rows → (v : ℕ) (trip : List ℕ) (j k : ℕ) → IsRowWith rows v trip j → IsRowWith rows v trip k → j ≡ k
+one_place rows up v trip j k a b = elim (cases_lt j k) as (λ _. j ≡ k) [
+  | inl less ↦ absurd (not_before (get_or rows j no_row) (get_or rows k no_row) (a.own ∙ sym b.own) (a.trip ∙ sym b.trip) (up j k no_row less b.within))
+  | inr ge ↦ elim (cases_lt k j) as (λ _. j ≡ k) [
+    | inl less ↦ absurd (not_before (get_or rows k no_row) (get_or rows j no_row) (b.own ∙ sym a.own) (b.trip ∙ sym a.trip) (up k j no_row less a.within))
+    | inr le ↦ omega arith
+  ]
+]
+
+pub one_least : (tau : ℕ → ℕ → ℕ) (task : Task) (a b : ℕ) → IsLeastDelay tau task a → IsLeastDelay tau task b → a ≡ b
+one_least tau task a b least other =
+    let below = least.least other.stops other.serves in let above = other.least least.stops least.serves in
+    let x = least.has_delay in let y = other.has_delay in
+    omega (arith, below, above, x, y)
+
+same_row : (a b : TripRow) → a.vehicle ≡ b.vehicle → a.riders.items ≡ b.riders.items → a.cost ≡ b.cost → a ≡ b
+same_row a b v r c =
+    ap (λ (x : ℕ). record { vehicle = x; riders = a.riders; cost = a.cost }) v
+    ∙ ap (λ (x : List ℕ). record { vehicle = b.vehicle; riders = record { items = x }; cost = a.cost }) r
+    ∙ ap (λ (x : ℕ). record { vehicle = b.vehicle; riders = b.riders; cost = x }) c
+
+module _ (tau : ℕ → ℕ → ℕ) (settled : Settled) (most : ℕ) where
+  -- whatever is a row stands among them
+  pub row_in : (rows : List TripRow) → AreRowsOf most tau settled rows → (row : TripRow) → IsRow most tau settled row.vehicle row.riders.items row.cost → Contains rows row
+  row_in rows are row is =
+      let found = are.whole row.vehicle row.riders.items is.served in
+      let k = found.0 in let at : IsRowWith rows row.vehicle row.riders.items k = found.1 in
+      let there : TripRow = get_or rows k no_row in
+      let right : IsRow most tau settled there.vehicle there.riders.items there.cost = are.right k no_row at.within in
+      let right' : IsLeastDelay tau (trip_task settled row.vehicle row.riders.items) there.cost =
+      subst (λ (v : ℕ). IsLeastDelay tau (trip_task settled v row.riders.items) there.cost) at.own
+      (subst (λ (t : List ℕ). IsLeastDelay tau (trip_task settled there.vehicle t) there.cost) at.trip right.least) in
+      let same : there ≡ row = same_row there row at.own at.trip (one_least tau (trip_task settled row.vehicle row.riders.items) there.cost row.cost right' is.least) in
+      (k, at.within, get_or_default rows k row no_row at.within ∙ same)
+
+  row_also : (rows others : List TripRow) → AreRowsOf most tau settled rows → AreRowsOf most tau settled others → (row : TripRow) → Contains rows row → Contains others row
+  row_also rows others are also row found = row_in others also row (All-contains (λ (r : TripRow). IsRow most tau settled r.vehicle r.riders.items r.cost) rows row are.right found)
+
+  pub one_list_of_rows : (rows others : List TripRow) → AreInOrder RowBefore rows → AreInOrder RowBefore others → AreRowsOf most tau settled rows → AreRowsOf most tau settled others → rows ≡ others
+  one_list_of_rows rows others up vp are also = same_members RowBefore rows_strict rows others up vp (row_also rows others are also) (row_also others rows also are)
+
+  pub no_more_rows : (rows : List TripRow) (allowed : ℕ) → AreInOrder RowBefore rows → AreRowsOf most tau settled rows → length rows ≤ allowed → HasMoreRows tau settled most allowed → ⊥
+  no_more_rows rows allowed up are few more =
+      let long = no_longer RowBefore rows_strict rows more.rows (rows_in_order more.rows more.order) up
+      (λ row found. row_in rows are row (All-contains (λ (r : TripRow). IsRow most tau settled r.vehicle r.riders.items r.cost) more.rows row more.right found)) in
+      let above = more.more in
+      omega (arith, long, above, few)
+
+one_choice : (settled : Settled) (rows : List TripRow) → AreInOrder RowBefore rows → (held other : List (Option ℕ)) (v : ℕ) (late : Bool)
+    → MatchBool late (choice_at held v ≡ None) ((k : ℕ) × (choice_at held v ≡ Some k) × IsRowWith rows v (vehicle_at settled v).held.items k)
+    → MatchBool late (choice_at other v ≡ None) ((k : ℕ) × (choice_at other v ≡ Some k) × IsRowWith rows v (vehicle_at settled v).held.items k)
+    → choice_at held v ≡ choice_at other v
+one_choice settled rows up held other v true a b = a ∙ sym b
+one_choice settled rows up held other v false a b =
+    let same : a.0 ≡ b.0 = one_place rows up v (vehicle_at settled v).held.items a.0 b.0 a.2 b.2 in
+    a.1 ∙ ap (λ (k : ℕ). Some k) same ∙ sym b.1
+
+pub one_held : (settled : Settled) (vehicles : ℕ) (rows : List TripRow) → AreInOrder RowBefore rows → (held other : List (Option ℕ)) → HoldRows settled vehicles rows held → HoldRows settled vehicles rows other → held ≡ other
+one_held settled vehicles rows up held other a b =
+    ext_get_or None held other (a.count ∙ sym b.count)
+    (λ v within. let inside : v < vehicles = (let n = a.count in omega (arith, n)) in one_choice settled rows up held other v (vehicle_at settled v).late (a.each v inside) (b.each v inside))
+
+same_graph : (a b : Graph) → a.vehicles ≡ b.vehicles → a.riders ≡ b.riders → a.penalty ≡ b.penalty → a.rows ≡ b.rows → a.held ≡ b.held → a ≡ b
+same_graph a b v r p rows held =
+    ap (λ (x : ℕ). record { vehicles = x; riders = a.riders; penalty = a.penalty; rows = a.rows; held = a.held }) v
+    ∙ ap (λ (x : ℕ). record { vehicles = b.vehicles; riders = x; penalty = a.penalty; rows = a.rows; held = a.held }) r
+    ∙ ap (λ (x : ℕ). record { vehicles = b.vehicles; riders = b.riders; penalty = x; rows = a.rows; held = a.held }) p
+    ∙ ap (λ (x : List TripRow). record { vehicles = b.vehicles; riders = b.riders; penalty = b.penalty; rows = x; held = a.held }) rows
+    ∙ ap (λ (x : List (Option ℕ)). record { vehicles = b.vehicles; riders = b.riders; penalty = b.penalty; rows = b.rows; held = x }) held
+
+module _ (settings : Settings) (tau : ℕ → ℕ → ℕ) (settled : Settled) where
+  pub graph_in_order : (g : Graph) → IsTripGraphOf settings tau settled g → AreInOrder RowBefore g.rows
+  graph_in_order g are = rows_in_order g.rows are.good.order
+
+  pub one_trip_graph : (a b : Graph) → IsTripGraphOf settings tau settled a → IsTripGraphOf settings tau settled b → a ≡ b
+  one_trip_graph a b are also =
+      let up = graph_in_order a are in let vp = graph_in_order b also in
+      let rows : a.rows ≡ b.rows = one_list_of_rows tau settled settings.trip a.rows b.rows up vp are.exact also.exact in
+      let hold : HoldRows settled (length settled.vehicles) b.rows a.held = subst (λ (r : List TripRow). HoldRows settled (length settled.vehicles) r a.held) rows are.hold in
+      same_graph a b (are.vehicle_total ∙ sym also.vehicle_total) (are.rider_total ∙ sym also.rider_total) (are.left_out ∙ sym also.left_out) rows
+      (one_held settled (length settled.vehicles) b.rows vp a.held b.held hold also.hold)
+
+  pub graph_or_overflow : (g : Graph) → IsTripGraphOf settings tau settled g → HasMoreRows tau settled settings.trip settings.pairs → ⊥
+  graph_or_overflow g are more = no_more_rows tau settled settings.trip g.rows settings.pairs (graph_in_order g are) are.exact are.few more
