@@ -26,12 +26,12 @@ answer-count s next (Some refusal) reply same = refl
 picked-count : (s : State) (r : Option BookRider) (vehicle time : ℕ) → length (picked_up s r vehicle time).vehicles ≡ length s.vehicles
 unfolding changed_at
 picked-count s None vehicle time = refl
-picked-count s (Some r) vehicle time = length-map _ s.vehicles
+picked-count s (Some r) vehicle time = length-map s.vehicles _
 
 dropped-count : (s : State) (r : Option BookRider) (vehicle time : ℕ) → length (dropped_off s r vehicle time).vehicles ≡ length s.vehicles
 unfolding changed_at
 dropped-count s None vehicle time = refl
-dropped-count s (Some r) vehicle time = length-map _ s.vehicles
+dropped-count s (Some r) vehicle time = length-map s.vehicles _
 
 closed-count : (s : State) (a : Answer) → length (closed_state s a).vehicles ≡ length s.vehicles
 unfolding closed_state
@@ -51,7 +51,7 @@ cancel-count s rider = answer-count s _ _ _ refl
 
 report-count : (nodes : List ℕ) (s : State) (vehicle node time : ℕ) → length (report_step nodes s vehicle node time).0.vehicles ≡ length s.vehicles
 unfolding report_step changed_at
-report-count nodes s vehicle node time = answer-count s _ _ _ (length-map _ s.vehicles)
+report-count nodes s vehicle node time = answer-count s _ _ _ (length-map s.vehicles _)
 
 pickup-count : (s : State) (vehicle rider time : ℕ) → length (pickup_step s vehicle rider time).0.vehicles ≡ length s.vehicles
 unfolding pickup_step

@@ -35,8 +35,8 @@ map-last f (y ∷ xs) x = ap (λ l. f y ∷ l) (map-last f xs x)
 -- as many courses as vehicles
 courses_each : (s : State) (round : NumberedLanes) (es : List Entry) (courses : List Course) → length courses ≡ length s.vehicles → length (courses_after s round es courses) ≡ length s.vehicles
 courses_each s round es courses same = elim (plan_in es) as (λ (o : Option Planned). length (option_map_or (λ planned. map (planned_course s.riders planned) s.vehicles) o (map (left_course (seal_of round)) courses)) ≡ length s.vehicles) [
-  | None ↦ length-map (left_course (seal_of round)) courses ∙ same
-  | Some planned ↦ length-map (planned_course s.riders planned) s.vehicles
+  | None ↦ length-map courses (left_course (seal_of round)) ∙ same
+  | Some planned ↦ length-map s.vehicles (planned_course s.riders planned)
 ]
 
 nothing_past : (lanes : List (List Command)) (k : ℕ) → length lanes ≤ k → get_or lanes k [] ≡ []
@@ -115,8 +115,8 @@ module _ (settings : Settings) (roads : Roads) where
         base = is.base ∙ sym is.state;
         state = rw js refl;
         first = rw js is.first;
-        courses_are = rw js are;
-        each = ap length are ∙ length-map _ new.state.vehicles;
+        courses_are = are;
+        each = ap length are ∙ length-map new.state.vehicles _;
       } in
       subst (λ (b : BookView). IsUnderWay settings roads new.state [] b courses made) (sym same) way
 

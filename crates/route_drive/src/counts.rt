@@ -182,7 +182,9 @@ fn delay_of<W: Ways>(
     let (id, second) = visit_of(&entry.command);
     match rider_in(riders, id) {
         Some(rider) => {
-            let seconds = seconds_between(rt, alloc, rider.origin, rider.destination, ways)?;
+            let from = rider.origin;
+            let to = rider.destination;
+            let seconds = seconds_between(rt, alloc, from, to, network, ways)?;
             let ideal = ideal_of(rider.time, seconds);
             Ok((second.get() as u64).saturating_sub(ideal))
         }
@@ -208,11 +210,13 @@ fn seconds_between<W: Ways>(
     alloc: Global,
     from: NodeId,
     to: NodeId,
+    network: &Network,
     ways: &W,
 ) -> Result<u32, OutOfMemory>
-    requires from { IsNode (W.roads ways.now).nodes from }
-    requires to { IsNode (W.roads ways.now).nodes to }
-    ensures { IfOk result (IsTimeBetween (W.roads ways.now).arcs (index_in (W.roads ways.now).nodes from) (index_in (W.roads ways.now).nodes to)) }
+    requires from { IsNode network.now.nodes from }
+    requires to { IsNode network.now.nodes to }
+    requires ways { W.roads ways.now ≡ network.now }
+    ensures { IfOk result (IsTimeBetween network.now.arcs (index_in network.now.nodes from) (index_in network.now.nodes to)) }
 {
     let times = ways.table(rt, alloc, &[from, to])?;
     Ok(times.seconds(0, 1))
