@@ -2,3 +2,8 @@ pub mod Lists
 pub mod Walks
 pub mod Riders
 pub mod Enter
+pub mod Replies
+pub mod States
+pub mod Sealing
+pub mod Numbers
+pub mod Tables
