@@ -39,7 +39,7 @@ module _ (roads : Roads) (points : List ℕ) (times : Times) (table : AreTravelT
   time_between i j a b at_i at_j =
       let li : i < length points = slice_get_within points i a at_i in
       let lj : j < length points = slice_get_within points j b at_j in
-      let n : length (map (index_in roads.nodes) points) ≡ length points = length-map points in
+      let n : length (map (index_in roads.nodes) points) ≡ length points = length-map points (index_in roads.nodes) in
       let ei : get_or (map (index_in roads.nodes) points) i 0 ≡ index_in roads.nodes a = get_or-map (index_in roads.nodes) points i 0 0 li ∙ ap (index_in roads.nodes) (get_or_from_slice_get points i a 0 at_i) in
       let ej : get_or (map (index_in roads.nodes) points) j 0 ≡ index_in roads.nodes b = get_or-map (index_in roads.nodes) points j 0 0 lj ∙ ap (index_in roads.nodes) (get_or_from_slice_get points j b 0 at_j) in
       subst (λ p. IsTimeBetween roads.arcs p (index_in roads.nodes b) (travel_time times i j)) ei
