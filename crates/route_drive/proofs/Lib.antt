@@ -4,3 +4,4 @@ pub mod DayLemmas
 pub mod EnterLemmas
 pub mod CountLemmas
 pub mod DriveLemmas
+pub mod kept

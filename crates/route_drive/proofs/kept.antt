@@ -7,3 +7,8 @@ pub mod States
 pub mod Sealing
 pub mod Numbers
 pub mod Tables
+pub mod Batches
+pub mod Served
+pub mod Reported
+pub mod Lapse
+pub mod Told

@@ -5,3 +5,4 @@ pub mod Entering
 pub mod Driven
 pub mod Counts
 pub mod work
+pub mod Kept

@@ -2,3 +2,4 @@ pub mod Tree
 pub mod Rounds
 pub mod Drive
 pub mod Counting
+pub mod Serving

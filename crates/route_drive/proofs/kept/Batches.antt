@@ -153,7 +153,7 @@ pub record IsRiderAboard (s : State) (vehicle : ℕ) (id : ℕ) (p : Passenger) 
   pub status : rider.status ≡ Aboard vehicle
   pub is : passenger_of rider ≡ p
 
-seat_is : (x : ℕ) (r : BookRider) (p : Passenger) → seat_in x r ≡ Some p → (r.status ≡ Aboard x) × (passenger_of r ≡ p)
+pub seat_is : (x : ℕ) (r : BookRider) (p : Passenger) → seat_in x r ≡ Some p → (r.status ≡ Aboard x) × (passenger_of r ≡ p)
 seat_is x r p e = by r.status refl e
   where
     one : (u : ℕ) (b : Bool) → eqb u x ≡ b → r.status ≡ Aboard u → cond b (Some (passenger_of r)) None ≡ Some p → (r.status ≡ Aboard x) × (passenger_of r ≡ p)

@@ -65,7 +65,7 @@ pub record Then (settings : Settings) (roads : Roads) (t : State) (vehicle node 
   pub by : v.time ≡ time
   pub serves : IsServing settings roads t.riders v free stops
 
-vehicle_id : (id : ℕ) (vehicles : List Vehicle) (v : Vehicle) → find_vehicle id vehicles ≡ Some v → v.id ≡ id
+pub vehicle_id : (id : ℕ) (vehicles : List Vehicle) (v : Vehicle) → find_vehicle id vehicles ≡ Some v → v.id ≡ id
 vehicle_id id vehicles v e = look_up-key (λ (v : Vehicle). v.id) id vehicles v e
 
 -- the state after a change of a rider's status and of a vehicle
