@@ -12,3 +12,6 @@ pub mod Served
 pub mod Reported
 pub mod Lapse
 pub mod Told
+pub mod Trips
+pub mod Chosen
+pub mod Made

@@ -104,7 +104,7 @@ module _ (riders passengers : List ℕ) (distinct : IsDistinct nat_eq riders) (d
   }
 
 -- without the riders' stops the passengers' drop-offs are an order of the passengers
-pub alights_only : Stop → Bool
+unfoldable pub alights_only : Stop → Bool
 alights_only stop = elim stop [ Pick k ↦ false | Drop k ↦ false | Alight k ↦ true ]
 
 pub passengers_order : (riders passengers : ℕ) (stops : List Stop) → IsOrder riders passengers stops → IsOrder 0 passengers (filter alights_only stops)

@@ -194,7 +194,7 @@ module _ (settings : Settings) (roads : Roads) (s : State) (stops : ℕ → List
         let nn = name_is j lj in
         omega (arith, ids, a, c, ni, nn))
 
-    passengers_differ : KeysDiffer (λ (p : Passenger). p.rider) x.aboard.items
+    pub passengers_differ : KeysDiffer (λ (p : Passenger). p.rider) x.aboard.items
     passengers_differ = All-look_up (λ (v : Vehicle). v.id) (λ (v : Vehicle). KeysDiffer (λ p. p.rider) v.aboard.items) x.id s.vehicles x kept.state.consistent.passengers vehicle_found
 
     passengers_distinct : IsDistinct nat_eq passenger_names
@@ -222,7 +222,7 @@ module _ (settings : Settings) (roads : Roads) (s : State) (stops : ℕ → List
         let l = has.1 in
         subst (λ z. has_node names z ≡ true) name (is_node_at names has.0 (omega (arith, l, e)))
 
-    passenger_rider : (z : ℕ) (p : Passenger) → find_passenger z x.aboard.items ≡ Some p → IsRiderAboard s x.id z p
+    pub passenger_rider : (z : ℕ) (p : Passenger) → find_passenger z x.aboard.items ≡ Some p → IsRiderAboard s x.id z p
     passenger_rider z p e =
         by (find_rider z s.riders) refl (sym (ap (option_and_then (λ (v : Vehicle). find_passenger z v.aboard.items)) (sym vehicle_found) ∙ kept.state.consistent.aboard x.id z) ∙ e)
       where

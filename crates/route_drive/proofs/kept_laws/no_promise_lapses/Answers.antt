@@ -12,6 +12,9 @@ use Rattle.route_drive.proofs.kept.Served as b2
 use Rattle.route_drive.proofs.kept.Reported as b3
 use Rattle.route_drive.proofs.kept.Lapse as b4
 use Rattle.route_drive.proofs.kept.Told as b5
+use Rattle.route_drive.proofs.kept.Trips as b6
+use Rattle.route_drive.proofs.kept.Chosen as b7
+use Rattle.route_drive.proofs.kept.Made as b8
 use Rattle.route_drive.proofs.kept_laws.no_promise_lapses.Goals as goal
 
 pub returns : goal.returns
