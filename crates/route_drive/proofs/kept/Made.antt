@@ -98,7 +98,11 @@ use Rattle.stop_orders.specs.declared.visit.Visit.TheVariants.{Pickup, Dropoff}
 use Rattle.route_drive.specs.Kept.{IsDroppedInTime, ideal_dropoff}
 use Rattle.route_drive.specs.work.Serving.{AreReached, party_at, seats_after, HasSeatsFor, IsRightPickup, IsRightDropoff, IsRightStop, IsOfVehicle, HasCalls, IsServing, IsPromiseKept, IsDayState}
 use Rattle.route_drive.proofs.kept.Lists.{all_weaker, both}
-use Rattle.route_drive.proofs.kept.Batches.{promise_status}
+use Rattle.route_drive.proofs.kept.Batches.{promise_status, same_persons}
+use Rattle.std.proofs.Common.{max}
+use Rattle.request_book.specs.Consistent.{seat_in}
+use Rattle.stop_orders.specs.Task.{persons}
+use Rattle.route_drive.proofs.kept.Trips.{row_of}
 use Rattle.route_drive.proofs.kept.Lapse.{promise_is_live}
 use Rattle.route_drive.proofs.kept.Riders.{found_id}
 use Rattle.route_drive.proofs.kept.Sealing.{first_call}
@@ -156,15 +160,15 @@ module _ (settings : Settings) (roads : Roads) (s : State) (stops : ℕ → List
       ∙ ap Some (after_is b.riders (picks planned.chosen) of.0 active among ∙ ap (λ z. with_status (planned_status (picks planned.chosen) z) of.0) id))
 
   -- a vehicle of a number, with its trip
-  record HasTrip (k : ℕ) : Type 0 where
-    within : k < length settled.vehicles
-    x : Vehicle
-    at : slice_get b.vehicles k ≡ Some x
-    t : ChosenTrip
-    chosen : slice_get planned.chosen k ≡ Some t
-    is : IsTripOf points (travel_time times) settled good.graph good.chosen k t
+  pub record HasTrip (k : ℕ) : Type 0 where
+    pub within : k < length settled.vehicles
+    pub x : Vehicle
+    pub at : slice_get b.vehicles k ≡ Some x
+    pub t : ChosenTrip
+    pub chosen : slice_get planned.chosen k ≡ Some t
+    pub is : IsTripOf points (travel_time times) settled good.graph good.chosen k t
 
-  has_trip : (k : ℕ) → k < length settled.vehicles → HasTrip k
+  pub has_trip : (k : ℕ) → k < length settled.vehicles → HasTrip k
   has_trip k h =
       let x = vehicle_of_number settings roads s stops b settled points times kept shows early limits table k h in
       let t = trip_of settings roads s stops b settled points times kept shows early limits table planned good k h in
@@ -174,7 +178,7 @@ module _ (settings : Settings) (roads : Roads) (s : State) (stops : ℕ → List
   trip_vehicle k own = own.is.vehicle ∙ (limits.placed k own.x own.at).id
 
   -- a rider of the trip is promised by it
-  member_promised : (k : ℕ) (own : HasTrip k) (i : ℕ) → (h : i < length (riders_at good.graph own.is.row)) → IsPickPromised (request_at b.riders (get_or (riders_at good.graph own.is.row) i 0)).id own.t.vehicle own.t.stops.items
+  pub member_promised : (k : ℕ) (own : HasTrip k) (i : ℕ) → (h : i < length (riders_at good.graph own.is.row)) → IsPickPromised (request_at b.riders (get_or (riders_at good.graph own.is.row) i 0)).id own.t.vehicle own.t.stops.items
   member_promised k own i h = one_promised (request_at b.riders (get_or (riders_at good.graph own.is.row) i 0)).id own.t.vehicle own.t.stops.items
       (member_calls settings roads s stops b settled points times kept shows early limits table planned good k own.within own.x own.at own.t own.is i h)
 
@@ -219,7 +223,7 @@ module _ (settings : Settings) (roads : Roads) (s : State) (stops : ℕ → List
       (λ j u e. out_of_trip j u r e low (λ row choose t. out j row (trip_back settings roads s stops b settled points times kept shows early limits table planned good j u e).0 choose t)))
 
   -- where a request is: in a trip, or in none
-  data IsPlaced' (r : ℕ) : Type 0 where
+  pub data IsPlaced' (r : ℕ) : Type 0 where
     rides : (k : ℕ) (own : HasTrip k) (i : ℕ) → i < length (riders_at good.graph own.is.row) → get_or (riders_at good.graph own.is.row) i 0 ≡ r → IsPlaced' r
     stays : ((k row : ℕ) → k < length settled.vehicles → choice_at good.chosen k ≡ Some row → has_node (riders_at good.graph row) r ≡ true → ⊥) → IsPlaced' r
 
@@ -234,7 +238,7 @@ module _ (settings : Settings) (roads : Roads) (s : State) (stops : ℕ → List
       let has : has_node (riders_at good.graph own.is.row) r ≡ true = subst (λ row. has_node (riders_at good.graph row) r ≡ true) same choice.2 in
       rides some.0 own (index_in (riders_at good.graph own.is.row) r) (has_index (riders_at good.graph own.is.row) r has) (name_at (riders_at good.graph own.is.row) r (has_index (riders_at good.graph own.is.row) r has))
 
-  where_is : (r : ℕ) → IsPlaced' r
+  pub where_is : (r : ℕ) → IsPlaced' r
   where_is r = elim (cases_lt 0 (times_chosen good.graph good.chosen r)) [
     | inl some ↦ rides_once r (omega (arith, some))
     | inr none ↦ stays (λ k row h choose has.
@@ -375,3 +379,204 @@ module _ (settings : Settings) (roads : Roads) (s : State) (stops : ℕ → List
               boards = λ second pick. absurd (false≢true pick);
               room = λ second room. ap (λ n. room + n) (same ∙ sym (party second));
             }
+
+    -- a told stop by the second at which it is in time
+    record IsMemberPickup (stop : PlannedStop) : Type 0 where
+      i : ℕ
+      within : i < length trip
+      rider : stop.rider ≡ (request_at b.riders (get_or trip i 0)).id
+      pick : stop.pick ≡ true
+      node : stop.node ≡ (member_leg i within).r.origin
+      in_time : stop.second ≤ (member_leg i within).r.time + settings.wait
+      in_limit : stop.second ≤ (rider_at settled (get_or trip i 0)).leg.latest_pickup
+
+    at_point : (o n : ℕ) → slice_get points o ≡ Some n → get_or points o 0 ≡ n
+    at_point o n e = get_or_from_slice_get points o n 0 e
+
+    member_drop_in_time : (n : ℕ) (leg : Leg) (second : ℕ) → (has : HasLeg n leg) → second ≤ leg.latest_dropoff → IsDroppedInTime roads settings.delay has.r second
+    member_drop_in_time n leg second has le = record {
+      seconds = travel_time times leg.origin leg.destination;
+      between = time_between roads points times table leg.origin leg.destination has.r.origin has.r.destination has.origin has.destination;
+      in_time = let a = has.latest_dropoff in let c : leg.ideal ≡ ideal_dropoff has.r.time (travel_time times leg.origin leg.destination) = has.ideal in subst (λ m. second ≤ m) (a ∙ ap (λ m. m + settings.delay) c) le;
+    }
+
+    all_told : AllByRecursion (λ stop. IsMemberPickup stop ⊎ ((stop.pick ≡ false) × IsRightDropoff roads settings.delay riders' own.x.id stop)) (told_from roads points times table riders' settled.dwell vis told (vehicle_at settled k).start (vehicle_at settled k).ready own.is.stops)
+    all_told = told_all roads points times table riders' settled.dwell vis told KnownStop (λ stop. IsMemberPickup stop ⊎ ((stop.pick ≡ false) × IsRightDropoff roads settings.delay riders' own.x.id stop)) by own.is.stops (vehicle_at settled k).start (vehicle_at settled k).ready (free_seats task) all_known own.is.serves.in_time
+      where
+        by : (stop : Stop) (second : ℕ) → KnownStop stop → second ≤ latest_of (vis stop) → IsMemberPickup (told (stop, second)) ⊎ ((told (stop, second)).pick ≡ false × IsRightDropoff roads settings.delay riders' own.x.id (told (stop, second)))
+        by (Pick i) second h le =
+            let leg = member_leg i h in
+            let same : (leg_at (map (λ r. (rider_at settled r).leg) trip) i).latest_pickup ≡ (rider_at settled (get_or trip i 0)).leg.latest_pickup = ap (λ (leg : Leg). leg.latest_pickup) (leg_is i h) in
+            let low = leg.latest_pickup in
+            inl (record {
+              i = i;
+              within = h;
+              rider = told_name i h;
+              pick = refl;
+              node = at_point (leg_at (map (λ r. (rider_at settled r).leg) trip) i).origin leg.r.origin leg.origin;
+              in_time = omega (arith, le, low);
+              in_limit = omega (arith, le, same);
+            })
+        by (Drop i) second h le =
+            let leg = member_leg i h in
+            inr (refl, record {
+              rider = with_status (planned_status (picks planned.chosen) (request_at b.riders (get_or trip i 0)).id) leg.r;
+              found = ap (λ z. find_rider z riders') (told_name i h) ∙ leg.now_found;
+              own = subst (IsOfVehicle own.x.id) (sym (member_status k own i h)) refl;
+              node = at_point (leg_at (map (λ r. (rider_at settled r).leg) trip) i).destination leg.r.destination leg.destination;
+              in_time = let d = member_drop_in_time (get_or trip i 0) (leg_at (map (λ r. (rider_at settled r).leg) trip) i) second leg le in record { seconds = d.seconds; between = d.between; in_time = d.in_time };
+            })
+        by (Alight j) second h le =
+            let of = aboard_at j h in
+            let leg = passenger_leg j h in
+            let z : ℕ = get_or (map (λ (p : Passenger). p.rider) own.x.aboard.items) j 0 in
+            inr (refl, record {
+              rider = of.rider;
+              found = ap (λ z. find_rider z riders') (told_aboard j) ∙ passenger_stays (get_or (map (λ (p : Passenger). p.rider) own.x.aboard.items) j 0) of.rider own.x.id of.found of.status;
+              own = subst (IsOfVehicle own.x.id) (sym of.status) refl;
+              node = at_point (leg_at (vehicle_at settled k).aboard.items j).destination of.rider.destination leg.destination_place;
+              in_time = record {
+                seconds = travel_time times (leg_at (vehicle_at settled k).aboard.items j).origin (leg_at (vehicle_at settled k).aboard.items j).destination;
+                between = time_between roads points times table (leg_at (vehicle_at settled k).aboard.items j).origin (leg_at (vehicle_at settled k).aboard.items j).destination of.rider.origin of.rider.destination leg.origin_place leg.destination_place;
+                in_time = let c : (leg_at (vehicle_at settled k).aboard.items j).ideal ≡ ideal_dropoff of.rider.time (travel_time times (leg_at (vehicle_at settled k).aboard.items j).origin (leg_at (vehicle_at settled k).aboard.items j).destination) = leg.ideal in
+                    subst (λ m. second ≤ m) (leg.latest_dropoff ∙ ap (λ m. m + settings.delay) c) le;
+              };
+            })
+
+    -- the same of the stops that the plan gives
+    items_told : AllByRecursion (λ stop. IsMemberPickup stop ⊎ ((stop.pick ≡ false) × IsRightDropoff roads settings.delay riders' own.x.id stop)) own.t.stops.items
+    items_told = subst (AllByRecursion (λ stop. IsMemberPickup stop ⊎ ((stop.pick ≡ false) × IsRightDropoff roads settings.delay riders' own.x.id stop))) (sym own.is.told) all_told
+
+    -- each pickup of a member is at the second that is promised
+    at_promised : AllByRecursion (λ (stop : PlannedStop). (m : (i : ℕ) × (i < length trip)) → stop.rider ≡ (request_at b.riders (get_or trip m.0 0)).id → stop.pick ≡ true → stop.second ≡ (member_promised k own m.0 m.1).second) own.t.stops.items
+    at_promised = all_each (λ (m : (i : ℕ) × (i < length trip)) (stop : PlannedStop). stop.rider ≡ (request_at b.riders (get_or trip m.0 0)).id → stop.pick ≡ true → stop.second ≡ (member_promised k own m.0 m.1).second) own.t.stops.items
+        (λ m. (member_promised k own m.0 m.1).at)
+
+    items_right : AllByRecursion (IsRightStop settings roads riders' own.x.id) own.t.stops.items
+    items_right = all_weaker (λ stop. (IsMemberPickup stop ⊎ ((stop.pick ≡ false) × IsRightDropoff roads settings.delay riders' own.x.id stop))
+        × ((m : (i : ℕ) × (i < length trip)) → stop.rider ≡ (request_at b.riders (get_or trip m.0 0)).id → stop.pick ≡ true → stop.second ≡ (member_promised k own m.0 m.1).second)) (IsRightStop settings roads riders' own.x.id)
+        (λ stop h. by stop h.0 h.1) own.t.stops.items (both (λ stop. IsMemberPickup stop ⊎ ((stop.pick ≡ false) × IsRightDropoff roads settings.delay riders' own.x.id stop))
+        (λ (stop : PlannedStop). (m : (i : ℕ) × (i < length trip)) → stop.rider ≡ (request_at b.riders (get_or trip m.0 0)).id → stop.pick ≡ true → stop.second ≡ (member_promised k own m.0 m.1).second) own.t.stops.items items_told at_promised)
+      where
+        by : (stop : PlannedStop) → IsMemberPickup stop ⊎ ((stop.pick ≡ false) × IsRightDropoff roads settings.delay riders' own.x.id stop)
+            → ((m : (i : ℕ) × (i < length trip)) → stop.rider ≡ (request_at b.riders (get_or trip m.0 0)).id → stop.pick ≡ true → stop.second ≡ (member_promised k own m.0 m.1).second) → IsRightStop settings roads riders' own.x.id stop
+        by stop (inl member) promised =
+            let leg = member_leg member.i member.within in
+            let second : stop.second ≡ (member_promised k own member.i member.within).second = promised (member.i, member.within) member.rider member.pick in
+            rw member.pick (record {
+              rider = with_status (planned_status (picks planned.chosen) (request_at b.riders (get_or trip member.i 0)).id) leg.r;
+              found = ap (λ z. find_rider z riders') member.rider ∙ leg.now_found;
+              status = member_status k own member.i member.within ∙ ap (λ n. Promised (record { vehicle = own.x.id; pickup = n })) (sym second);
+              node = member.node;
+              in_time = member.in_time;
+            })
+        by stop (inr drop) promised = rw drop.0 drop.1
+
+    -- a vehicle has one number
+    one_number : (j : ℕ) (other : HasTrip j) → other.x.id ≡ own.x.id → j ≡ k
+    one_number j other e =
+        let names : List ℕ = map (λ (v : Vehicle). v.id) b.vehicles in
+        let differ : KeysDiffer (λ (v : Vehicle). v.id) b.vehicles = subst (KeysDiffer (λ (v : Vehicle). v.id)) (sym shows.vehicles) (KeysDiffer-from_rise (λ (v : Vehicle). v.id) s.vehicles kept.state.consistent.vehicles_rise) in
+        let distinct : IsDistinct nat_eq (map (λ (v : Vehicle). v.id) b.vehicles) = distinct_from_differ (λ (v : Vehicle). v.id) b.vehicles differ in
+        let n : length (map (λ (v : Vehicle). v.id) b.vehicles) ≡ length b.vehicles = length-map b.vehicles (λ (v : Vehicle). v.id) in
+        let lj = slice_get_within b.vehicles j other.x other.at in
+        let lk = slice_get_within b.vehicles k own.x own.at in
+        let a : get_or (map (λ (v : Vehicle). v.id) b.vehicles) j 0 ≡ other.x.id = get_or-map (λ (v : Vehicle). v.id) b.vehicles j other.x 0 lj ∙ ap (λ (v : Vehicle). v.id) (get_or_from_slice_get b.vehicles j other.x other.x other.at) in
+        let c : get_or (map (λ (v : Vehicle). v.id) b.vehicles) k 0 ≡ own.x.id = get_or-map (λ (v : Vehicle). v.id) b.vehicles k own.x 0 lk ∙ ap (λ (v : Vehicle). v.id) (get_or_from_slice_get b.vehicles k own.x own.x own.at) in
+        sym (index_at (map (λ (v : Vehicle). v.id) b.vehicles) j distinct (omega (arith, lj, n))) ∙ ap (index_in (map (λ (v : Vehicle). v.id) b.vehicles)) (a ∙ e ∙ sym c) ∙ index_at (map (λ (v : Vehicle). v.id) b.vehicles) k distinct (omega (arith, lk, n))
+
+    same_trip : (j : ℕ) (other : HasTrip j) → j ≡ k → other.t ≡ own.t
+    same_trip j other e = let a : slice_get planned.chosen k ≡ Some other.t = subst (λ j. slice_get planned.chosen j ≡ Some other.t) e other.chosen in let c = own.chosen in cc
+
+    -- the calls of whoever is of the vehicle after the plan
+    batch_calls : (z : ℕ) (r : BookRider) → find_rider z s.riders ≡ Some r → in_batch b.riders r.id ≡ true → HasCalls own.x.id (planned_status (picks planned.chosen) r.id) (calls_of z own.t.stops.items)
+    batch_calls z r found among = by (look_up (λ (r : Rider). r.id) r.id b.riders) refl among
+      where
+        id : r.id ≡ z
+        id = found_id z s.riders r found
+
+        placed_calls : (n : ℕ) → n < length b.riders → (request_at b.riders n).id ≡ r.id → IsPlaced' n → HasCalls own.x.id (planned_status (picks planned.chosen) (request_at b.riders n).id) (calls_of z own.t.stops.items)
+        placed_calls n low e (stays out) = subst (λ t. HasCalls own.x.id t (calls_of z own.t.stops.items)) (sym (left_status n low out)) tt
+        placed_calls n low e (rides j other i h at) =
+            let status : planned_status (picks planned.chosen) (request_at b.riders n).id ≡ Promised (record { vehicle = other.x.id; pickup = (member_promised j other i h).second }) =
+            ap (λ m. planned_status (picks planned.chosen) (request_at b.riders m).id) (sym at) ∙ member_status j other i h in
+            let calls : calls_of (request_at b.riders (get_or (riders_at good.graph other.is.row) i 0)).id other.t.stops.items ≡ true ∷ false ∷ [] =
+            member_calls settings roads s stops b settled points times kept shows early limits table planned good j other.within other.x other.at other.t other.is i h in
+            let name : (request_at b.riders (get_or (riders_at good.graph other.is.row) i 0)).id ≡ z = ap (λ m. (request_at b.riders m).id) at ∙ e ∙ id in
+            subst (λ t. HasCalls own.x.id t (calls_of z own.t.stops.items)) (sym status)
+            (λ same. ap (λ (t : ChosenTrip). calls_of z t.stops.items) (sym (same_trip j other (one_number j other same))) ∙ ap (λ z. calls_of z other.t.stops.items) (sym name) ∙ calls)
+
+        by : (o : Option Rider) → look_up (λ (r : Rider). r.id) r.id b.riders ≡ o → is_some o ≡ true → HasCalls own.x.id (planned_status (picks planned.chosen) r.id) (calls_of z own.t.stops.items)
+        by None e some = absurd (false≢true some)
+        by (Some y) e some =
+            let place = found_at (λ (r : Rider). r.id) r.id b.riders y e in
+            let name : (request_at b.riders place.0).id ≡ r.id = ap (λ (r : Rider). r.id) (place.2 no_request) ∙ look_up-key (λ (r : Rider). r.id) r.id b.riders y e in
+            subst (λ n. HasCalls own.x.id (planned_status (picks planned.chosen) n) (calls_of z own.t.stops.items)) name
+            (placed_calls place.0 place.1 name (where_is place.0))
+
+    other_status_calls : (z : ℕ) (r : BookRider) → find_rider z s.riders ≡ Some r → (is_active r.status && in_batch b.riders r.id) ≡ false → HasCalls own.x.id r.status (calls_of z own.t.stops.items)
+    other_status_calls z r found out = by r.status refl
+      where
+        by : (t : Status) → r.status ≡ t → HasCalls own.x.id t (calls_of z own.t.stops.items)
+        by Waiting e = tt
+        by (Promised p) e =
+            let there = shows.promised z r p found e in
+            let id : r.id ≡ z = found_id z s.riders r found in
+            let among : in_batch b.riders r.id ≡ true = ap (λ z. is_some (look_up (λ (r : Rider). r.id) z b.riders)) id ∙ ap is_some there in
+            absurd (true≢false (sym (and_from (is_active r.status) (in_batch b.riders r.id) (ap is_active e) among) ∙ out))
+        by (Aboard u) e = λ same.
+            let found_x = vehicle_found settings roads s stops b settled points times kept shows early limits table k own.x own.at in
+            let at_z : find_passenger z own.x.aboard.items ≡ Some (passenger_of r) =
+            ap (option_and_then (λ (v : Vehicle). find_passenger z v.aboard.items)) (sym found_x) ∙ kept.state.consistent.aboard own.x.id z ∙ ap (option_and_then (seat_in own.x.id)) found ∙ rw (e, eq-eqb u own.x.id same) refl in
+            let place = found_at (λ (p : Passenger). p.rider) z own.x.aboard.items (passenger_of r) at_z in
+            let name : get_or (map (λ (p : Passenger). p.rider) own.x.aboard.items) place.0 0 ≡ z =
+            get_or-map (λ (p : Passenger). p.rider) own.x.aboard.items place.0 (record { rider = 0; origin = 0; destination = 0; time = 0; party = 0 }) 0 place.1 ∙ ap (λ (p : Passenger). p.rider) (place.2 (record { rider = 0; origin = 0; destination = 0; time = 0; party = 0 })) ∙ found_id z s.riders r found in
+            ap (λ z. calls_of z own.t.stops.items) (sym name) ∙ passenger_calls settings roads s stops b settled points times kept shows early limits table planned good k own.within own.x own.at own.t own.is place.0 place.1
+        by Cancelled e = tt
+        by Delivered e = tt
+        by Expired e = tt
+
+    items_calls : (z : ℕ) (q : BookRider) → find_rider z riders' ≡ Some q → HasCalls own.x.id q.status (calls_of z own.t.stops.items)
+    items_calls z q e = by (find_rider z s.riders) refl (sym (find_planned z) ∙ e)
+      where
+        with_r : (r : BookRider) → find_rider z s.riders ≡ Some r → (o : Bool) → (is_active r.status && in_batch b.riders r.id) ≡ o → cond o (with_status (planned_status (picks planned.chosen) r.id) r) r ≡ q → HasCalls own.x.id q.status (calls_of z own.t.stops.items)
+        with_r r f true g h = subst (λ (q : BookRider). HasCalls own.x.id q.status (calls_of z own.t.stops.items)) h (batch_calls z r f (and_parts (is_active r.status) (in_batch b.riders r.id) g).1)
+        with_r r f false g h = subst (λ (q : BookRider). HasCalls own.x.id q.status (calls_of z own.t.stops.items)) h (other_status_calls z r f g)
+
+        by : (o : Option BookRider) → find_rider z s.riders ≡ o → option_map (after_plan b.riders (picks planned.chosen)) o ≡ Some q → HasCalls own.x.id q.status (calls_of z own.t.stops.items)
+        by None f g = absurd cc
+        by (Some r) f g = with_r r f (is_active r.status && in_batch b.riders r.id) refl (let h : Some (after_plan b.riders (picks planned.chosen) r) ≡ Some q = g in cc)
+
+    few_items : length own.t.stops.items ≤ 2 * settings.trip + length own.x.aboard.items
+    few_items =
+        let a : length own.t.stops.items ≡ length own.is.stops = ap length own.is.told ∙ told_length roads points times table riders' settled.dwell vis told own.is.stops (vehicle_at settled k).start (vehicle_at settled k).ready in
+        let legs : length (map (λ r. (rider_at settled r).leg) trip) ≡ length trip = length-map trip (λ r. (rider_at settled r).leg) in
+        let size = (trip_is settings roads s stops b settled points times kept shows early limits table planned good k own.is.row own.within own.is.chooses).1 in
+        let row = row_of settings roads s stops b settled points times kept shows early limits table planned good k own.is.row own.within own.is.chooses in
+        let six = (good.exact.good.rows own.is.row row.within).few in
+        let l : length own.is.stops ≤ length (map (λ r. (rider_at settled r).leg) trip) * 2 + length (vehicle_at settled k).aboard.items = length-IsOrder (length (map (λ r. (rider_at settled r).leg) trip)) (length (vehicle_at settled k).aboard.items) own.is.stops (omega (arith, six, legs)) own.is.serves.order in
+        let c : length (vehicle_at settled k).aboard.items ≡ length own.x.aboard.items = placed.aboard.count in
+        omega (arith, a, legs, size, l, c)
+
+    -- the vehicle serves the stops that the plan gives it
+    pub serves_chosen : IsServing settings roads riders' own.x own.x.time own.t.stops.items
+    serves_chosen =
+        let found_x = vehicle_found settings roads s stops b settled points times kept shows early limits table k own.x own.at in
+        let ready : (vehicle_at settled k).ready ≡ own.x.time = (let a : (vehicle_at settled k).ready ≡ max own.x.time b.sealed_at = placed.ready in let e = early own.x.id own.x found_x in omega (arith, a, e)) in
+        let dwell : settled.dwell ≡ settings.dwell = limits.dwell in
+        let items : own.t.stops.items ≡ told_from roads points times table riders' settled.dwell vis told (vehicle_at settled k).start (vehicle_at settled k).ready own.is.stops = own.is.told in
+        let room : free_seats task ≡ own.x.seats - persons_aboard own.x =
+        (let a : persons (vehicle_at settled k).aboard.items ≡ persons_aboard own.x = same_persons (vehicle_at settled k).aboard.items own.x.aboard.items placed.aboard.count (λ k p e. (placed.aboard.each k p e).size) in
+        let c : (vehicle_at settled k).seats ≡ own.x.seats = placed.seats in
+        ap (λ n. n - persons (vehicle_at settled k).aboard.items) c ∙ ap (λ n. own.x.seats - n) a) in
+        let reached : AreReached roads settled.dwell own.x.node (vehicle_at settled k).ready own.t.stops.items =
+        subst (AreReached roads settled.dwell own.x.node (vehicle_at settled k).ready) (sym items) (told_reached roads points times table riders' settled.dwell vis told own.is.stops (vehicle_at settled k).start own.x.node (vehicle_at settled k).ready (free_seats task) are_told placed.start own.is.serves.in_time) in
+        let seats : HasSeatsFor riders' (free_seats task) own.t.stops.items =
+        subst (HasSeatsFor riders' (free_seats task)) (sym items) (told_seats roads points times table riders' settled.dwell vis told own.is.stops (vehicle_at settled k).start (vehicle_at settled k).ready (free_seats task) are_told own.is.serves.in_time) in
+        record {
+          reached = subst (λ d. AreReached roads d own.x.node own.x.time own.t.stops.items) dwell (subst (λ f. AreReached roads settled.dwell own.x.node f own.t.stops.items) ready reached);
+          seats = subst (λ n. HasSeatsFor riders' n own.t.stops.items) room seats;
+          right = items_right;
+          calls = items_calls;
+          few = few_items;
+        }

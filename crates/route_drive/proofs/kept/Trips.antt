@@ -108,7 +108,7 @@ range_within n k a e =
     (omega (arith, h, l), omega (arith, g, f))
 
 -- a name is met again only at its own number
-same_number : (names : List ℕ) (q i : ℕ) → IsDistinct nat_eq names → q < length names → i < length names → eqb (get_or names q 0) (get_or names i 0) ≡ eqb q i
+pub same_number : (names : List ℕ) (q i : ℕ) → IsDistinct nat_eq names → q < length names → i < length names → eqb (get_or names q 0) (get_or names i 0) ≡ eqb q i
 same_number names q i distinct lq li = elim (cases_eq q i) [
   | inl e ↦ eq-eqb (get_or names q 0) (get_or names i 0) (ap (λ k. get_or names k 0) e) ∙ sym (eq-eqb q i e)
   | inr ne ↦ ne_eqb (get_or names q 0) (get_or names i 0) (λ e. ne (sym (index_at names q distinct lq) ∙ ap (index_in names) e ∙ index_at names i distinct li)) ∙ sym (ne_eqb q i ne)
@@ -136,7 +136,7 @@ module _ (settings : Settings) (roads : Roads) (s : State) (stops : ℕ → List
   lawful : IsLawful good.graph good.chosen
   lawful = good.found.plan.lawful
 
-  row_of : (k row : ℕ) → k < length settled.vehicles → choice_at good.chosen k ≡ Some row → IsRowOf good.graph k row
+  pub row_of : (k row : ℕ) → k < length settled.vehicles → choice_at good.chosen k ≡ Some row → IsRowOf good.graph k row
   row_of k row h e = let c = good.exact.vehicle_total in plan_choice good.graph good.chosen k row lawful.plan (omega (arith, c, h)) e
 
   pub trip_is : (k row : ℕ) → k < length settled.vehicles → choice_at good.chosen k ≡ Some row → IsTrip (length b.riders) (riders_at good.graph row) × (length (riders_at good.graph row) ≤ settings.trip)
