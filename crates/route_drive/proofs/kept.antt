@@ -15,3 +15,4 @@ pub mod Told
 pub mod Trips
 pub mod Chosen
 pub mod Made
+pub mod Closed

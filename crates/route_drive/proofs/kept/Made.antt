@@ -79,7 +79,7 @@ use Rattle.request_book.specs.Rider.{pool_promise}
 use Rattle.request_book.specs.State.{find_passenger}
 use Rattle.stop_orders.specs.Task.{seconds_of}
 use Rattle.route_drive.proofs.kept.Trips.{trip_of, trip_back, trip_is, one_trip, names, names_distinct, told_id, other_id, same_number}
-use Rattle.std.specs.Prelude.{nat_lt}
+use Rattle.std.specs.Prelude.{nat_lt, MatchBool}
 use Rattle.std.proofs.lemmas.Bool.{lt-ltb, and_from, and_parts, MatchBool-at_false, cond-true}
 use Rattle.plan_rules.specs.Graph.{must_be_served}
 use Rattle.plan_rules.specs.Plan.{times_chosen}
@@ -119,10 +119,10 @@ in_points : (points : List ℕ) (o n : ℕ) → slice_get points o ≡ Some n �
 in_points points o n e = e ∙ ap Some (sym (get_or_from_slice_get points o n 0 e))
 
 -- whoever isn't of the batch, or isn't in the pool, stays; the others get what was planned
-after_is : (batch : List Rider) (ps : List PlanPick) (r : BookRider) → is_active r.status ≡ true → in_batch batch r.id ≡ true → after_plan batch ps r ≡ with_status (planned_status ps r.id) r
+pub after_is : (batch : List Rider) (ps : List PlanPick) (r : BookRider) → is_active r.status ≡ true → in_batch batch r.id ≡ true → after_plan batch ps r ≡ with_status (planned_status ps r.id) r
 after_is batch ps r active among = cond-true (is_active r.status && in_batch batch r.id) (with_status (planned_status ps r.id) r) r (and_from (is_active r.status) (in_batch batch r.id) active among)
 
-after_stays : (batch : List Rider) (ps : List PlanPick) (r : BookRider) → is_active r.status ≡ false → after_plan batch ps r ≡ r
+pub after_stays : (batch : List Rider) (ps : List PlanPick) (r : BookRider) → is_active r.status ≡ false → after_plan batch ps r ≡ r
 after_stays batch ps r active = rw active refl
 
 -- a plan changes the status alone
@@ -174,7 +174,7 @@ module _ (settings : Settings) (roads : Roads) (s : State) (stops : ℕ → List
       let t = trip_of settings roads s stops b settled points times kept shows early limits table planned good k h in
       record { within = h; x = x.0; at = x.1; t = t.0; chosen = t.1; is = t.2 }
 
-  trip_vehicle : (k : ℕ) (own : HasTrip k) → own.t.vehicle ≡ own.x.id
+  pub trip_vehicle : (k : ℕ) (own : HasTrip k) → own.t.vehicle ≡ own.x.id
   trip_vehicle k own = own.is.vehicle ∙ (limits.placed k own.x own.at).id
 
   -- a rider of the trip is promised by it
@@ -281,16 +281,16 @@ module _ (settings : Settings) (roads : Roads) (s : State) (stops : ℕ → List
     leg_is i h = get_or-map (λ r. (rider_at settled r).leg) trip i 0 no_leg h
 
     -- the leg of a member of the trip, for their rider
-    record HasLeg (n : ℕ) (leg : Leg) : Type 0 where
-      r : BookRider
-      found : find_rider (request_at b.riders n).id s.riders ≡ Some r
-      now_found : find_rider (request_at b.riders n).id riders' ≡ Some (with_status (planned_status (picks planned.chosen) (request_at b.riders n).id) r)
-      origin : slice_get points leg.origin ≡ Some r.origin
-      destination : slice_get points leg.destination ≡ Some r.destination
-      ideal : leg.ideal ≡ ideal_second (travel_time times) r.time leg.origin leg.destination
-      latest_dropoff : leg.latest_dropoff ≡ leg.ideal + settings.delay
-      party : leg.party ≡ r.party
-      latest_pickup : leg.latest_pickup ≤ r.time + settings.wait
+    pub record HasLeg (n : ℕ) (leg : Leg) : Type 0 where
+      pub r : BookRider
+      pub found : find_rider (request_at b.riders n).id s.riders ≡ Some r
+      pub now_found : find_rider (request_at b.riders n).id riders' ≡ Some (with_status (planned_status (picks planned.chosen) (request_at b.riders n).id) r)
+      pub origin : slice_get points leg.origin ≡ Some r.origin
+      pub destination : slice_get points leg.destination ≡ Some r.destination
+      pub ideal : leg.ideal ≡ ideal_second (travel_time times) r.time leg.origin leg.destination
+      pub latest_dropoff : leg.latest_dropoff ≡ leg.ideal + settings.delay
+      pub party : leg.party ≡ r.party
+      pub latest_pickup : leg.latest_pickup ≤ r.time + settings.wait
 
     limit_low : (n : ℕ) → n < length settled.riders → (rider_at settled n).leg.latest_pickup ≤ (request_at b.riders n).time + settings.wait
     limit_low n h = by (limits.limits n h)
@@ -303,7 +303,7 @@ module _ (settings : Settings) (roads : Roads) (s : State) (stops : ℕ → List
         by (inl live) = subst (λ m. m ≤ (request_at b.riders n).time + settings.wait) (sym live.1) (low (request_at b.riders n) (request_at b.riders n).promise)
         by (inr other) = let e = other.1 in omega (arith, e)
 
-    member_leg : (i : ℕ) → i < length trip → HasLeg (get_or trip i 0) (leg_at (map (λ r. (rider_at settled r).leg) trip) i)
+    pub member_leg : (i : ℕ) → i < length trip → HasLeg (get_or trip i 0) (leg_at (map (λ r. (rider_at settled r).leg) trip) i)
     member_leg i h =
         let n : ℕ = get_or trip i 0 in
         let low : get_or trip i 0 < length b.riders = member_low k own i h in
@@ -381,14 +381,14 @@ module _ (settings : Settings) (roads : Roads) (s : State) (stops : ℕ → List
             }
 
     -- a told stop by the second at which it is in time
-    record IsMemberPickup (stop : PlannedStop) : Type 0 where
-      i : ℕ
-      within : i < length trip
-      rider : stop.rider ≡ (request_at b.riders (get_or trip i 0)).id
-      pick : stop.pick ≡ true
-      node : stop.node ≡ (member_leg i within).r.origin
-      in_time : stop.second ≤ (member_leg i within).r.time + settings.wait
-      in_limit : stop.second ≤ (rider_at settled (get_or trip i 0)).leg.latest_pickup
+    pub record IsMemberPickup (stop : PlannedStop) : Type 0 where
+      pub i : ℕ
+      pub within : i < length trip
+      pub rider : stop.rider ≡ (request_at b.riders (get_or trip i 0)).id
+      pub pick : stop.pick ≡ true
+      pub node : stop.node ≡ (member_leg i within).r.origin
+      pub in_time : stop.second ≤ (member_leg i within).r.time + settings.wait
+      pub in_limit : stop.second ≤ (rider_at settled (get_or trip i 0)).leg.latest_pickup
 
     at_point : (o n : ℕ) → slice_get points o ≡ Some n → get_or points o 0 ≡ n
     at_point o n e = get_or_from_slice_get points o n 0 e
@@ -444,7 +444,7 @@ module _ (settings : Settings) (roads : Roads) (s : State) (stops : ℕ → List
             })
 
     -- the same of the stops that the plan gives
-    items_told : AllByRecursion (λ stop. IsMemberPickup stop ⊎ ((stop.pick ≡ false) × IsRightDropoff roads settings.delay riders' own.x.id stop)) own.t.stops.items
+    pub items_told : AllByRecursion (λ stop. IsMemberPickup stop ⊎ ((stop.pick ≡ false) × IsRightDropoff roads settings.delay riders' own.x.id stop)) own.t.stops.items
     items_told = subst (AllByRecursion (λ stop. IsMemberPickup stop ⊎ ((stop.pick ≡ false) × IsRightDropoff roads settings.delay riders' own.x.id stop))) (sym own.is.told) all_told
 
     -- each pickup of a member is at the second that is promised
@@ -470,10 +470,10 @@ module _ (settings : Settings) (roads : Roads) (s : State) (stops : ℕ → List
               node = member.node;
               in_time = member.in_time;
             })
-        by stop (inr drop) promised = rw drop.0 drop.1
+        by stop (inr drop) promised = subst (λ o. MatchBool o (IsRightPickup settings.wait riders' own.x.id stop) (IsRightDropoff roads settings.delay riders' own.x.id stop)) (sym drop.0) drop.1
 
     -- a vehicle has one number
-    one_number : (j : ℕ) (other : HasTrip j) → other.x.id ≡ own.x.id → j ≡ k
+    pub one_number : (j : ℕ) (other : HasTrip j) → other.x.id ≡ own.x.id → j ≡ k
     one_number j other e =
         let names : List ℕ = map (λ (v : Vehicle). v.id) b.vehicles in
         let differ : KeysDiffer (λ (v : Vehicle). v.id) b.vehicles = subst (KeysDiffer (λ (v : Vehicle). v.id)) (sym shows.vehicles) (KeysDiffer-from_rise (λ (v : Vehicle). v.id) s.vehicles kept.state.consistent.vehicles_rise) in
