@@ -16,3 +16,4 @@ pub mod Trips
 pub mod Chosen
 pub mod Made
 pub mod Closed
+pub mod Laws

@@ -1,95 +1,98 @@
--- On a driven day no promise lapses, and every rider who is picked up is served within the limits.
-use Rattle.std.specs.Prelude.{◌≡◌, ◌⊎◌, ℕ, ◌+◌, ◌≤◌, List, [], ◌∷◌, ◌++◌, None, Some, All}
-use Rattle.batch_snapshot.specs.Kept.{IsFleet}
-use Rattle.batch_snapshot.specs.declared.promise.Promise.{Promise}
+-- How a driven day keeps its promises, entry by entry: what is served goes on to be served, and a batch finds no vehicle
+-- late and no promise lapsed.
+use Rattle.std.specs.Prelude.{◌≡◌, ℕ, ◌+◌, ◌<◌, ◌≤◌, true, List, [], ◌∷◌, Option, None, Some, map, if◌then◌else◌}
+use Rattle.std.specs.List.{AllByRecursion}
+use Rattle.batch_snapshot.specs.Batch.{Batch}
 use Rattle.batch_snapshot.specs.declared.vehicle.Vehicle.{Vehicle}
-use Rattle.request_book.specs.Book.{opening}
-use Rattle.request_book.specs.Consistent.{IsNode}
-use Rattle.request_book.specs.State.{find_rider}
+use Rattle.batch_solver.specs.Outcome.{IsGoodOutcome}
+use Rattle.request_book.specs.Closing.{after_answer}
+use Rattle.request_book.specs.Refusals.{clock_back}
+use Rattle.request_book.specs.Sealing.{batch_of, sealed_state}
+use Rattle.request_book.specs.State.{find_vehicle}
 use Rattle.request_book.specs.Step.{step}
-use Rattle.request_book.specs.declared.command.Command.{Command}
-use Rattle.request_book.specs.declared.command.Command.TheVariants.{Pickup, Dropoff, Close}
-use Rattle.request_book.specs.declared.journal.Entry.{Entry}
+use Rattle.request_book.specs.declared.command.Command.TheVariants.{Submit, Report, Seal, Close}
 use Rattle.request_book.specs.declared.outcome.Answer.{Answer}
 use Rattle.request_book.specs.declared.outcome.Answer.TheVariants as answer
+use Rattle.request_book.specs.declared.outcome.Outcome.{Outcome}
+use Rattle.request_book.specs.declared.outcome.Planned.{Planned}
+use Rattle.request_book.specs.declared.outcome.PlannedStop.{PlannedStop}
 use Rattle.request_book.specs.declared.reply.Reply.{Reply}
-use Rattle.request_book.specs.declared.reply.Reply.TheVariants.{Picked, Dropped, Closed}
-use Rattle.request_book.specs.declared.rider.BookRider.{BookRider}
-use Rattle.request_book.specs.declared.rider.Status.TheVariants.{Promised}
+use Rattle.request_book.specs.declared.reply.Reply.TheVariants.{Placed, Picked, Dropped, Closed}
 use Rattle.request_book.specs.declared.state.State.{State}
 use Rattle.rider_limits.specs.declared.settings.Settings.{Settings}
-use Rattle.road_network.specs.Roads.{Roads, IsNetwork, index_in}
-use Rattle.road_network.specs.Walk.{IsTimeBetween}
-use Rattle.script_rows.specs.Round.{NumberedLanes, IsRound}
-use Rattle.route_drive.specs.declared.day_run.DayRound.{DayRound}
-use Rattle.route_drive.specs.Counts.{entries_of, ideal_dropoff}
-use Rattle.route_drive.specs.Day.{day_fault}
-use Rattle.route_drive.specs.Driven.{HasDriven, HasDrivenToTheEnd}
+use Rattle.road_network.specs.Roads.{Roads, IsNetwork, has_node}
+use Rattle.route_drive.specs.declared.course.Place.{Place}
+use Rattle.route_drive.specs.Entering.{IsReported, goal_of, stop_command}
+use Rattle.route_drive.specs.Serving.{IsServing, IsDayState, IsKept, IsDone, LeavesAll, KeepsBounds, ShowsRiders, chosen_stops}
+
+-- a vehicle's next stop is answered picked or dropped, and the vehicle then serves the stops after it, each at its
+-- second, while every other vehicle goes on as it was and no promised pickup is put off
+abbrev pub StopsAreAnswered : Type 0
+StopsAreAnswered = (settings : Settings) (roads : Roads) (s : State) (v : Vehicle) (free : ℕ) (stop : PlannedStop) (stops : List PlannedStop)
+    → IsDayState roads s → find_vehicle v.id s.vehicles ≡ Some v → v.time ≤ free → IsServing settings roads s.riders v free (stop ∷ stops)
+    → IsDone settings roads s (stop_command v.id stop) (if stop.pick then Picked else Dropped) v.id stop.node stop.second (stop.second + settings.dwell) stops
+
+-- these stops are nodes of the network, later than a second
+abbrev pub AreLater : Roads → ℕ → List PlannedStop → Type 0
+AreLater roads now stops = AllByRecursion (λ stop. (has_node roads.nodes stop.node ≡ true) × (now < stop.second)) stops
+
+-- a vehicle's report before a seal is answered placed, not before the seal's second; from there it serves the stops that
+-- are still to come, each at its second
+abbrev pub ReportsAreServed : Type 0
+ReportsAreServed = (settings : Settings) (roads : Roads) (s : State) (v : Vehicle) (free now : ℕ) (target : Option ℕ) (stops : List PlannedStop) (there : Place)
+    → IsNetwork roads → IsDayState roads s → find_vehicle v.id s.vehicles ≡ Some v → has_node roads.nodes v.node ≡ true → v.time ≤ free
+    → AreLater roads now stops → IsServing settings roads s.riders v free stops
+    → IsReported roads now (record { node = v.node; second = v.time; free = free }) (goal_of target stops) there
+    → (now ≤ there.second) × IsDone settings roads s (Report v.id there.node there.second) Placed v.id there.node there.second there.second stops
+
+-- a request, accepted or refused, leaves every vehicle as it was, and what it serves
+abbrev pub RequestsLeaveAll : Type 0
+RequestsLeaveAll = (settings : Settings) (roads : Roads) (s : State) (rider origin destination time party : ℕ) → IsDayState roads s
+    → LeavesAll settings roads s (step roads.nodes settings.wait s (Submit rider origin destination time party)).0
+
+-- a seal after which all stops come: every vehicle serves as before, since nobody promised or aboard expires, and the
+-- batch shows everybody who is promised
+pub record IsSealedOn (settings : Settings) (roads : Roads) (s : State) (stops : ℕ → List PlannedStop) (now : ℕ) : Type 0 where
+  pub kept : IsKept settings roads (sealed_state settings.wait s now) stops
+  pub shows : ShowsRiders (sealed_state settings.wait s now) (batch_of settings.wait s now)
+  pub bounds : KeepsBounds s (sealed_state settings.wait s now)
+
+abbrev pub SealsKeep : Type 0
+SealsKeep = (settings : Settings) (roads : Roads) (s : State) (stops : ℕ → List PlannedStop) (now : ℕ) (reply : Reply)
+    → IsKept settings roads s stops → ((id : ℕ) → AllByRecursion (λ stop. now < stop.second) (stops id)) → clock_back s.last_seal now ≡ None
+    → step roads.nodes settings.wait s (Seal now) ≡ (sealed_state settings.wait s now, reply) → IsSealedOn settings roads s stops now
+
+-- every vehicle was reported at a batch's second or later
+abbrev pub AreReported : State → Batch → Type 0
+AreReported s b = (id : ℕ) (v : Vehicle) → find_vehicle id s.vehicles ≡ Some v → b.sealed_at ≤ v.time
 
 -- no vehicle is late, and no promise lapses
 abbrev pub NothingLapses : Answer → Type 0
 NothingLapses answer.Overflow = Unit {0}
 NothingLapses (answer.Planned planned) = (planned.late ≡ []) × (planned.lapsed ≡ [])
 
--- the rider is promised a pickup
-pub record IsPromised (s : State) (rider : ℕ) (promise : Promise) : Type 0 where
-  pub of : BookRider
-  pub found : find_rider rider s.riders ≡ Some of
-  pub status : of.status ≡ Promised promise
-
--- a drop-off at a second is at most so much later than the ideal one
-pub record IsDroppedInTime (roads : Roads) (delay : ℕ) (r : BookRider) (second : ℕ) : Type 0 where
-  pub seconds : ℕ
-  pub between : IsTimeBetween roads.arcs (index_in roads.nodes r.origin) (index_in roads.nodes r.destination) seconds
-  pub in_time : second ≤ ideal_dropoff r.time seconds + delay
-
--- the rider is picked up within the wait
-pub record IsPickedInTime (wait : ℕ) (s : State) (rider second : ℕ) : Type 0 where
-  pub of : BookRider
-  pub found : find_rider rider s.riders ≡ Some of
-  pub in_wait : second ≤ of.time + wait
-
--- the rider is dropped within the delay
-pub record IsDroppedWithin (roads : Roads) (delay : ℕ) (s : State) (rider second : ℕ) : Type 0 where
-  pub of : BookRider
-  pub found : find_rider rider s.riders ≡ Some of
-  pub in_time : IsDroppedInTime roads delay of second
-
-module _ (settings : Settings) (roads : Roads) where
-  -- what a driven day promises of an entry, in the state before it
-  abbrev pub EntryKeeps : State → Command → Reply → Type 0
-  EntryKeeps s (Close batch outcome) Closed = NothingLapses outcome.answer
-  EntryKeeps s (Pickup vehicle rider second) reply = (reply ≡ Picked) × IsPickedInTime settings.wait s rider second
-  EntryKeeps s (Dropoff vehicle rider second) reply = (reply ≡ Dropped) × IsDroppedWithin roads settings.delay s rider second
-  EntryKeeps s command reply = Unit {0}
-
-  -- the state after a command
-  abbrev pub after : State → Command → State
-  after s command = (step roads.nodes settings.wait s command).0
-
-  -- a rider is picked up at most at this second
-  abbrev pub PicksUpBy : ℕ → ℕ → Command → Type 0
-  PicksUpBy rider latest (Pickup vehicle other second) = other ≡ rider → second ≤ latest
-  PicksUpBy rider latest command = Unit {0}
-
-  -- a pickup that was promised is not later in the end
-  abbrev pub PromiseHolds : State → List Entry → Type 0
-  PromiseHolds s entries = (rider : ℕ) (promise : Promise) → IsPromised s rider promise → All (λ e. PicksUpBy rider promise.pickup e.command) entries
-
-  -- every entry keeps what a driven day promises, and every promise holds for what comes after
-  abbrev pub EntriesKeep : State → List Entry → Type 0
-  EntriesKeep s [] = Unit {0}
-  EntriesKeep s (e ∷ entries) = EntryKeeps s e.command e.reply × PromiseHolds s (e ∷ entries) × EntriesKeep (after s e.command) entries
-
-  -- these journals are of a day's driven script, whole or in part, from vehicles without passengers
-  abbrev pub IsDayOf : List Vehicle → List NumberedLanes → List DayRound → Type 0
-  IsDayOf vehicles rounds made =
-      HasDriven settings roads (opening vehicles) rounds made ⊎ HasDrivenToTheEnd settings roads (opening vehicles) rounds made
-
--- on a driven day every batch with a plan has no late vehicle and no lapsed promise; every stop that is entered is
--- answered picked or dropped; whoever is picked up is so within the wait and not later than at first promised, and
--- dropped within the delay
+-- in a batch that is sealed while every vehicle serves its stops, no vehicle is late and no promise lapses
 abbrev pub NoPromiseLapses : Type 0
-NoPromiseLapses = (settings : Settings) (roads : Roads) (vehicles : List Vehicle) (rounds : List NumberedLanes) (made : List DayRound)
-    → IsNetwork roads → IsFleet vehicles → All (λ v. IsNode roads.nodes v.node) vehicles → All IsRound rounds → day_fault rounds ≡ None
-    → IsDayOf settings roads vehicles rounds made → EntriesKeep settings roads (opening vehicles) (entries_of made)
+NoPromiseLapses = (settings : Settings) (roads : Roads) (s : State) (stops : ℕ → List PlannedStop) (b : Batch) (outcome : Outcome)
+    → IsKept settings roads s stops → ShowsRiders s b → AreReported s b → IsGoodOutcome settings roads b outcome → NothingLapses outcome.answer
+
+-- the state after the close of a batch
+abbrev pub closed : State → Batch → Outcome → State
+closed s b outcome = record s { riders = after_answer b.riders outcome.answer s.riders; sealed = None }
+
+-- the stops that are on their way after an answer: a plan's in place of those before
+abbrev pub stops_after : Answer → (ℕ → List PlannedStop) → ℕ → List PlannedStop
+stops_after answer.Overflow stops = stops
+stops_after (answer.Planned planned) stops = chosen_stops planned
+
+-- the close of such a batch is answered closed; every vehicle then serves the stops of its chosen trip, or after an
+-- overflow those that it had, and nobody who had a promise is promised a later pickup
+pub record IsClosedOn (settings : Settings) (roads : Roads) (s : State) (stops : ℕ → List PlannedStop) (b : Batch) (outcome : Outcome) : Type 0 where
+  pub is : step roads.nodes settings.wait s (Close b.number outcome) ≡ (closed s b outcome, Closed)
+  pub kept : IsKept settings roads (closed s b outcome) (stops_after outcome.answer stops)
+  pub bounds : KeepsBounds s (closed s b outcome)
+
+abbrev pub ClosesKeep : Type 0
+ClosesKeep = (settings : Settings) (roads : Roads) (s : State) (stops : ℕ → List PlannedStop) (b : Batch) (outcome : Outcome)
+    → IsKept settings roads s stops → ShowsRiders s b → AreReported s b → s.sealed ≡ Some b → IsGoodOutcome settings roads b outcome
+    → IsClosedOn settings roads s stops b outcome

@@ -2,4 +2,3 @@ pub mod Tree
 pub mod Rounds
 pub mod Drive
 pub mod Counting
-pub mod Serving

@@ -51,8 +51,9 @@ use Rattle.stop_orders.specs.Settled.{vehicle_at, rider_at, no_rider, vehicle_ta
 use Rattle.stop_orders.specs.Task.{no_leg, leg_at, persons, visit_at, visits_of, free_seats, Serves, IsServable}
 use Rattle.stop_orders.specs.Visit.{ServesFrom}
 use Rattle.travel_times.specs.Table.{AreTravelTimes}
-use Rattle.route_drive.specs.Kept.{IsDroppedInTime, ideal_dropoff}
-use Rattle.route_drive.specs.work.Serving.{party_at, IsRightStop, IsRightPickup, IsRightDropoff, IsOfVehicle, IsServing, IsKept, HasCalls, calls_of}
+use Rattle.route_drive.specs.Counts.{ideal_dropoff}
+use Rattle.route_drive.specs.Serving.{IsDroppedInTime}
+use Rattle.route_drive.specs.Serving.{party_at, IsRightStop, IsRightPickup, IsRightDropoff, IsOfVehicle, IsServing, IsKept, HasCalls, calls_of}
 use Rattle.route_drive.proofs.kept.Lists.{all_weaker}
 use Rattle.route_drive.proofs.kept.Walks.{has_index, name_at, is_node_at}
 use Rattle.route_drive.proofs.kept.Riders.{found_id}

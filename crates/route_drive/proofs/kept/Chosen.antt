@@ -29,7 +29,7 @@ use Rattle.stop_orders.specs.declared.settled.Settled.{Settled}
 use Rattle.stop_orders.specs.Settled.{vehicle_at, rider_at, no_rider, vehicle_task}
 use Rattle.stop_orders.specs.Task.{IsServable}
 use Rattle.travel_times.specs.Table.{AreTravelTimes}
-use Rattle.route_drive.specs.work.Serving.{IsKept}
+use Rattle.route_drive.specs.Serving.{IsKept}
 use Rattle.route_drive.proofs.kept.Lists.{skips, all_from}
 use Rattle.route_drive.proofs.kept.Batches.{found_at, IsPromisedRider}
 use Rattle.route_drive.proofs.kept.Sealing.{ShowsRiders}
@@ -68,7 +68,7 @@ use Rattle.stop_orders.specs.declared.stop.Stop.TheVariants.{Pick, Drop, Alight}
 use Rattle.stop_orders.specs.Order.{is_of_rider, is_of_passenger, IsKnown}
 use Rattle.stop_orders.specs.Settled.{trip_task, IsTrip, IsRow}
 use Rattle.stop_orders.specs.Task.{no_leg, leg_at, visit_at, visits_of, free_seats, Serves}
-use Rattle.route_drive.specs.work.Serving.{is_stop_of, calls_of}
+use Rattle.route_drive.specs.Serving.{is_stop_of, calls_of}
 use Rattle.route_drive.proofs.kept.Batches.{rising_far, distinct_from_rising, distinct_from_differ, asking_is, IsAsking, IsRiderAboard}
 use Rattle.route_drive.proofs.kept.Lapse.{along_range, filter_none, vehicle_of_number, not_late, number_of_vehicle}
 use Rattle.route_drive.proofs.kept.Lists.{takes}

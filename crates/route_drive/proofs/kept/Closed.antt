@@ -29,7 +29,7 @@ use Rattle.stop_orders.specs.declared.settled.Settled.{Settled}
 use Rattle.stop_orders.specs.Settled.{vehicle_at, rider_at, no_rider, vehicle_task}
 use Rattle.stop_orders.specs.Task.{IsServable}
 use Rattle.travel_times.specs.Table.{AreTravelTimes}
-use Rattle.route_drive.specs.work.Serving.{IsKept}
+use Rattle.route_drive.specs.Serving.{IsKept}
 use Rattle.route_drive.proofs.kept.Lists.{skips, all_from}
 use Rattle.route_drive.proofs.kept.Batches.{found_at, IsPromisedRider}
 use Rattle.route_drive.proofs.kept.Sealing.{ShowsRiders}
@@ -68,7 +68,7 @@ use Rattle.stop_orders.specs.declared.stop.Stop.TheVariants.{Pick, Drop, Alight}
 use Rattle.stop_orders.specs.Order.{is_of_rider, is_of_passenger, IsKnown}
 use Rattle.stop_orders.specs.Settled.{trip_task, IsTrip, IsRow}
 use Rattle.stop_orders.specs.Task.{no_leg, leg_at, visit_at, visits_of, free_seats, Serves}
-use Rattle.route_drive.specs.work.Serving.{is_stop_of, calls_of}
+use Rattle.route_drive.specs.Serving.{is_stop_of, calls_of}
 use Rattle.route_drive.proofs.kept.Batches.{rising_far, distinct_from_rising, distinct_from_differ, asking_is, IsAsking, IsRiderAboard}
 use Rattle.route_drive.proofs.kept.Lapse.{along_range, filter_none, vehicle_of_number, not_late, number_of_vehicle}
 use Rattle.route_drive.proofs.kept.Lists.{takes}
@@ -95,8 +95,9 @@ use Rattle.stop_orders.proofs.lemmas.DoneLemmas.{length-IsOrder}
 use Rattle.stop_orders.specs.Visit.{place_of, latest_of, boarding_of, room_after}
 use Rattle.stop_orders.specs.declared.visit.Visit.{Visit}
 use Rattle.stop_orders.specs.declared.visit.Visit.TheVariants.{Pickup, Dropoff}
-use Rattle.route_drive.specs.Kept.{IsDroppedInTime, ideal_dropoff}
-use Rattle.route_drive.specs.work.Serving.{AreReached, party_at, seats_after, HasSeatsFor, IsRightPickup, IsRightDropoff, IsRightStop, IsOfVehicle, HasCalls, IsServing, IsPromiseKept, IsDayState}
+use Rattle.route_drive.specs.Counts.{ideal_dropoff}
+use Rattle.route_drive.specs.Serving.{IsDroppedInTime}
+use Rattle.route_drive.specs.Serving.{AreReached, party_at, seats_after, HasSeatsFor, IsRightPickup, IsRightDropoff, IsRightStop, IsOfVehicle, HasCalls, IsServing, IsPromiseKept, IsDayState}
 use Rattle.route_drive.proofs.kept.Lists.{all_weaker, both}
 use Rattle.route_drive.proofs.kept.Batches.{promise_status, same_persons}
 use Rattle.std.proofs.Common.{max}
@@ -121,6 +122,7 @@ use Rattle.std.specs.Prelude.{IsTrue, Contains}
 use Rattle.promise_check.specs.Settling.{HoldsPromised}
 use Rattle.trip_graph.specs.Answer.{IsRowWith}
 use Rattle.route_drive.proofs.kept.States.{KeepsBounds}
+use Rattle.route_drive.specs.Serving.{chosen_stops}
 use Rattle.route_drive.proofs.kept.Made.{HasTrip, has_trip, find_planned, planned_rider, member_promised, member_status, left_status, IsPlaced', where_is, rides_once, serves_chosen, items_told, trip_vehicle, one_number, IsMemberPickup, after_is, after_stays}
 
 -- the element of a key, where no other has it
@@ -128,10 +130,6 @@ look_up_only : {X : Type 0} (key : X → ℕ) (xs : List X) (i : ℕ) (x : X) �
 look_up_only key [] i x at only = absurd cc
 look_up_only key (y ∷ ys) zero x at only = let is : y ≡ x = cc in look_up-here key (key x) y ys (ap key is) ∙ ap Some is
 look_up_only key (y ∷ ys) (suc i) x at only = look_up-there key (key x) y ys (λ e. absurd (let h : 0 ≡ suc i = only 0 y refl e in omega arith)) ∙ look_up_only key ys i x at (λ j z e k. let h : suc j ≡ suc i = only (suc j) z e k in omega arith)
-
--- the stops that a plan gives a vehicle
-abbrev pub chosen_stops : Planned → ℕ → List PlannedStop
-chosen_stops planned id = option_map_or (λ (t : ChosenTrip). t.stops.items) (look_up (λ (t : ChosenTrip). t.vehicle) id planned.chosen) []
 
 module _ (settings : Settings) (roads : Roads) (s : State) (stops : ℕ → List PlannedStop) (b : Batch) (settled : Settled) (points : List ℕ) (times : Times)
     (kept : IsKept settings roads s stops) (shows : ShowsRiders s b) (early : (id : ℕ) (v : Vehicle) → find_vehicle id s.vehicles ≡ Some v → b.sealed_at ≤ v.time)

@@ -20,8 +20,8 @@ use Rattle.request_book.specs.declared.rider.Status.TheVariants.{Waiting, Promis
 use Rattle.request_book.proofs.KeyedLemmas.{look_up-here, look_up-there, look_up-nil, without_key-absent}
 use Rattle.rider_limits.specs.declared.settings.Settings.{Settings}
 use Rattle.road_network.specs.Roads.{Roads}
-use Rattle.route_drive.specs.Kept.{IsDroppedInTime}
-use Rattle.route_drive.specs.work.Serving.{AreReached, party_at, seats_after, HasSeatsFor, IsRightPickup, IsRightDropoff, IsRightStop, IsOfVehicle, is_stop_of, calls_of, HasCalls, IsServing}
+use Rattle.route_drive.specs.Serving.{IsDroppedInTime}
+use Rattle.route_drive.specs.Serving.{AreReached, party_at, seats_after, HasSeatsFor, IsRightPickup, IsRightDropoff, IsRightStop, IsOfVehicle, is_stop_of, calls_of, HasCalls, IsServing}
 use Rattle.route_drive.proofs.kept.Lists.{both, all_weaker, all_from}
 use Rattle.route_drive.proofs.kept.Riders.{changed, find_other, find_same, same_party, seats_by_party, calls_own, calls_other, no_pickup, no_stop, of_one, calls_of_others, right_elsewhere, serves_elsewhere}
 

@@ -29,7 +29,7 @@ use Rattle.stop_orders.specs.declared.settled.Settled.{Settled}
 use Rattle.stop_orders.specs.Settled.{vehicle_at, rider_at, no_rider, vehicle_task}
 use Rattle.stop_orders.specs.Task.{IsServable}
 use Rattle.travel_times.specs.Table.{AreTravelTimes}
-use Rattle.route_drive.specs.work.Serving.{IsKept}
+use Rattle.route_drive.specs.Serving.{IsKept}
 use Rattle.route_drive.proofs.kept.Lists.{skips, all_from}
 use Rattle.route_drive.proofs.kept.Batches.{found_at, IsPromisedRider}
 use Rattle.route_drive.proofs.kept.Sealing.{ShowsRiders}

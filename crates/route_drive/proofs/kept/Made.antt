@@ -29,7 +29,7 @@ use Rattle.stop_orders.specs.declared.settled.Settled.{Settled}
 use Rattle.stop_orders.specs.Settled.{vehicle_at, rider_at, no_rider, vehicle_task}
 use Rattle.stop_orders.specs.Task.{IsServable}
 use Rattle.travel_times.specs.Table.{AreTravelTimes}
-use Rattle.route_drive.specs.work.Serving.{IsKept}
+use Rattle.route_drive.specs.Serving.{IsKept}
 use Rattle.route_drive.proofs.kept.Lists.{skips, all_from}
 use Rattle.route_drive.proofs.kept.Batches.{found_at, IsPromisedRider}
 use Rattle.route_drive.proofs.kept.Sealing.{ShowsRiders}
@@ -68,7 +68,7 @@ use Rattle.stop_orders.specs.declared.stop.Stop.TheVariants.{Pick, Drop, Alight}
 use Rattle.stop_orders.specs.Order.{is_of_rider, is_of_passenger, IsKnown}
 use Rattle.stop_orders.specs.Settled.{trip_task, IsTrip, IsRow}
 use Rattle.stop_orders.specs.Task.{no_leg, leg_at, visit_at, visits_of, free_seats, Serves}
-use Rattle.route_drive.specs.work.Serving.{is_stop_of, calls_of}
+use Rattle.route_drive.specs.Serving.{is_stop_of, calls_of}
 use Rattle.route_drive.proofs.kept.Batches.{rising_far, distinct_from_rising, distinct_from_differ, asking_is, IsAsking, IsRiderAboard}
 use Rattle.route_drive.proofs.kept.Lapse.{along_range, filter_none, vehicle_of_number, not_late, number_of_vehicle}
 use Rattle.route_drive.proofs.kept.Lists.{takes}
@@ -95,8 +95,9 @@ use Rattle.stop_orders.proofs.lemmas.DoneLemmas.{length-IsOrder}
 use Rattle.stop_orders.specs.Visit.{place_of, latest_of, boarding_of, room_after}
 use Rattle.stop_orders.specs.declared.visit.Visit.{Visit}
 use Rattle.stop_orders.specs.declared.visit.Visit.TheVariants.{Pickup, Dropoff}
-use Rattle.route_drive.specs.Kept.{IsDroppedInTime, ideal_dropoff}
-use Rattle.route_drive.specs.work.Serving.{AreReached, party_at, seats_after, HasSeatsFor, IsRightPickup, IsRightDropoff, IsRightStop, IsOfVehicle, HasCalls, IsServing, IsPromiseKept, IsDayState}
+use Rattle.route_drive.specs.Counts.{ideal_dropoff}
+use Rattle.route_drive.specs.Serving.{IsDroppedInTime}
+use Rattle.route_drive.specs.Serving.{AreReached, party_at, seats_after, HasSeatsFor, IsRightPickup, IsRightDropoff, IsRightStop, IsOfVehicle, HasCalls, IsServing, IsPromiseKept, IsDayState}
 use Rattle.route_drive.proofs.kept.Lists.{all_weaker, both}
 use Rattle.route_drive.proofs.kept.Batches.{promise_status, same_persons}
 use Rattle.std.proofs.Common.{max}

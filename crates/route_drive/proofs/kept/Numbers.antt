@@ -8,7 +8,7 @@ use Rattle.road_network.specs.Roads.{index_in, has_node}
 use Rattle.stop_orders.specs.declared.stop.Stop.{Stop}
 use Rattle.stop_orders.specs.declared.stop.Stop.TheVariants.{Pick, Drop, Alight}
 use Rattle.stop_orders.specs.Order.{is_of_rider, is_of_passenger, IsKnown, IsOrder}
-use Rattle.route_drive.specs.work.Serving.{is_stop_of, calls_of}
+use Rattle.route_drive.specs.Serving.{is_stop_of, calls_of}
 use Rattle.route_drive.proofs.kept.Lists.{skips, takes, filter_renamed, filter_filter, all_filtered, all_mapped, all_weaker, many_apart}
 use Rattle.route_drive.proofs.kept.Walks.{has_index, index_at, name_at, is_node_at}
 

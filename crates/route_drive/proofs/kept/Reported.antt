@@ -13,7 +13,7 @@ use Rattle.route_drive.specs.declared.course.Standing.{Standing}
 use Rattle.route_drive.specs.declared.walk.WalkStep.{WalkStep}
 use Rattle.route_drive.specs.Entering.{IsReported, goal_of, walk_end, step_from}
 use Rattle.route_drive.specs.Walk.{steps_of, IsShortestWalk}
-use Rattle.route_drive.specs.work.Serving.{Leads, AreReached}
+use Rattle.route_drive.specs.Serving.{Leads, AreReached}
 use Rattle.route_drive.proofs.kept.Walks.{ends_within, rest_is_least, has_index, index_at, is_node_at, node_from_index, contains_node}
 
 -- a step of a walk parts it

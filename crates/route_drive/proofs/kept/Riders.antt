@@ -19,8 +19,8 @@ use Rattle.request_book.specs.declared.rider.Status.TheVariants.{Waiting, Promis
 use Rattle.request_book.proofs.KeyedLemmas.{look_up-key, look_up-here, look_up-there, look_up-nil, look_up-changed_here, look_up-changed_there, without_key-absent}
 use Rattle.rider_limits.specs.declared.settings.Settings.{Settings}
 use Rattle.road_network.specs.Roads.{Roads}
-use Rattle.route_drive.specs.Kept.{IsDroppedInTime}
-use Rattle.route_drive.specs.work.Serving.{AreReached, party_at, seats_after, HasSeatsFor, IsRightPickup, IsRightDropoff, IsRightStop, IsOfVehicle, is_stop_of, calls_of, HasCalls, IsServing}
+use Rattle.route_drive.specs.Serving.{IsDroppedInTime}
+use Rattle.route_drive.specs.Serving.{AreReached, party_at, seats_after, HasSeatsFor, IsRightPickup, IsRightDropoff, IsRightStop, IsOfVehicle, is_stop_of, calls_of, HasCalls, IsServing}
 use Rattle.route_drive.proofs.kept.Lists.{skips, takes, all_weaker}
 
 -- what is found has the id that was looked for

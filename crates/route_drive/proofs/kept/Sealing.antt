@@ -29,21 +29,13 @@ use Rattle.request_book.proofs.NamedLemmas.{step-named}
 use Rattle.request_book.proofs.KeyedLemmas.{look_up-key, look_up-map, look_up-push_there, look_up-push_here, look_up-push_found, look_up-filter_map, by_key-order, KeysDiffer-map, KeysDiffer-filter_map}
 use Rattle.rider_limits.specs.declared.settings.Settings.{Settings}
 use Rattle.road_network.specs.Roads.{Roads}
-use Rattle.route_drive.specs.work.Serving.{IsOfVehicle, IsRightStop, IsServing, IsPromiseKept, IsDayState, IsKept, HasCalls, calls_of}
+use Rattle.route_drive.specs.Serving.{IsOfVehicle, IsRightStop, IsServing, IsPromiseKept, IsDayState, IsKept, HasCalls, calls_of}
+pub use Rattle.route_drive.specs.Serving.{LeavesAll, ShowsRiders}
 use Rattle.route_drive.proofs.kept.Lists.{both}
 use Rattle.route_drive.proofs.kept.Riders.{found_id, calls_own, calls_other, serves_elsewhere}
 use Rattle.route_drive.proofs.kept.Enter.{picked_up_right}
 use Rattle.route_drive.proofs.kept.Replies.{submit_is}
 use Rattle.route_drive.proofs.kept.States.{IsBoundBy, IsBound, KeepsBounds}
-
--- what leaves all vehicles as they are, and everything that they serve
-pub record LeavesAll (settings : Settings) (roads : Roads) (s t : State) : Type 0 where
-  pub state : IsDayState roads t
-  pub vehicles : t.vehicles ≡ s.vehicles
-  pub serve : (id : ℕ) (w : Vehicle) (free : ℕ) (stops : List PlannedStop) → find_vehicle id s.vehicles ≡ Some w → IsServing settings roads s.riders w free stops → IsServing settings roads t.riders w free stops
-  pub bounds : KeepsBounds s t
-  pub sealed : t.sealed ≡ s.sealed
-  pub last : t.last_seal ≡ s.last_seal
 
 not_waiting : (w : ℕ) (status : Status) → status ≡ Waiting → IsOfVehicle w status → ⊥
 not_waiting w status e own = subst (IsOfVehicle w) e own
@@ -116,14 +108,6 @@ first_call P x b bs (stop ∷ stops) e all = elim (cases_eq stop.rider x) [
   | inl same ↦ let f : stop.pick ∷ calls_of x stops ≡ b ∷ bs = sym (calls_own x stop stops same) ∙ e in (stop, same, cc, all.0)
   | inr ne ↦ first_call P x b bs stops (sym (calls_other x stop stops ne) ∙ e) all.1
 ]
-
--- a sealed batch that isn't closed yet, in a state: whom it shows
-pub record ShowsRiders (s : State) (b : Batch) : Type 0 where
-  pub rise : KeysRise (λ r. r.id) b.riders
-  pub shows : (x : ℕ) (y : Rider) → look_up (λ r. r.id) x b.riders ≡ Some y → (r : BookRider) × (find_rider x s.riders ≡ Some r) × (asking b.sealed_at r ≡ Some y)
-  pub promised : (x : ℕ) (r : BookRider) (p : Promise) → find_rider x s.riders ≡ Some r → r.status ≡ Promised p → look_up (λ r. r.id) x b.riders ≡ Some (shown r (Some p))
-  pub vehicles : b.vehicles ≡ s.vehicles
-  pub last : s.last_seal ≡ Some b.sealed_at
 
 -- a seal on a driven day: all stops are later, and so nobody who is promised or aboard expires
 module _ (settings : Settings) (roads : Roads) (s : State) (stops : ℕ → List PlannedStop) (now : ℕ) (kept : IsKept settings roads s stops)

@@ -53,8 +53,9 @@ use Rattle.stop_orders.specs.Task.{no_leg, leg_at, persons, visit_at, visits_of,
 use Rattle.stop_orders.proofs.lemmas.ClockLemmas.{soon_there}
 use Rattle.stop_orders.specs.Visit.{ServesFrom, boarding_of}
 use Rattle.travel_times.specs.Table.{AreTravelTimes}
-use Rattle.route_drive.specs.Kept.{IsDroppedInTime, ideal_dropoff}
-use Rattle.route_drive.specs.work.Serving.{party_at, IsRightStop, IsRightPickup, IsRightDropoff, IsOfVehicle, IsServing, IsKept, HasCalls, calls_of}
+use Rattle.route_drive.specs.Counts.{ideal_dropoff}
+use Rattle.route_drive.specs.Serving.{IsDroppedInTime}
+use Rattle.route_drive.specs.Serving.{party_at, IsRightStop, IsRightPickup, IsRightDropoff, IsOfVehicle, IsServing, IsKept, HasCalls, calls_of}
 use Rattle.route_drive.proofs.kept.Lists.{all_weaker, both, map_agrees, all_filtered, all_from}
 use Rattle.route_drive.proofs.kept.Walks.{has_index, name_at, is_node_at}
 use Rattle.route_drive.proofs.kept.Riders.{found_id}

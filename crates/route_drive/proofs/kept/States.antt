@@ -27,43 +27,11 @@ use Rattle.request_book.proofs.NamedLemmas.{step-named}
 use Rattle.request_book.proofs.KeyedLemmas.{look_up-key, look_up-changed_here, look_up-changed_there, look_up-push_there, look_up-push_here, look_up-push_found, All-look_up, map-changed_at}
 use Rattle.rider_limits.specs.declared.settings.Settings.{Settings}
 use Rattle.road_network.specs.Roads.{Roads, has_node}
-use Rattle.route_drive.specs.work.Serving.{AreReached, party_at, IsOfVehicle, IsServing, IsPromiseKept, IsDayState, HasCalls, calls_of}
+use Rattle.route_drive.specs.Serving.{AreReached, party_at, IsOfVehicle, IsServing, IsPromiseKept, IsDayState, HasCalls, calls_of}
+pub use Rattle.route_drive.specs.Serving.{IsBoundBy, IsBound, KeepsBounds, LeavesOthers, Then, IsDone}
 use Rattle.route_drive.proofs.kept.Riders.{changed, find_other, find_same, found_id, of_one, serves_elsewhere}
 use Rattle.route_drive.proofs.kept.Enter.{others_serve, picked_up_right, dropped_right, serves_on_picked, dropped_is_aboard, serves_on_dropped}
 use Rattle.route_drive.proofs.kept.Replies.{pickup_is, dropoff_is, report_is, submit_is}
-
--- a rider was promised a pickup by a second, and will be picked up by it, or was
-abbrev pub IsBoundBy : ℕ → Status → Type 0
-IsBoundBy limit (Promised p) = p.pickup ≤ limit
-IsBoundBy limit (Aboard v) = Unit {0}
-IsBoundBy limit Delivered = Unit {0}
-IsBoundBy limit status = ⊥
-
-pub record IsBound (s : State) (rider limit : ℕ) : Type 0 where
-  pub of : BookRider
-  pub found : find_rider rider s.riders ≡ Some of
-  pub bound : IsBoundBy limit of.status
-
--- nobody's bound is lost between two states
-abbrev pub KeepsBounds : State → State → Type 0
-KeepsBounds s t = (rider limit : ℕ) → IsBound s rider limit → IsBound t rider limit
-
--- what a command of one vehicle leaves of the others
-pub record LeavesOthers (settings : Settings) (roads : Roads) (s t : State) (vehicle : ℕ) : Type 0 where
-  pub found : (id : ℕ) (w : Vehicle) → (vehicle ≡ id → ⊥) → find_vehicle id t.vehicles ≡ Some w → find_vehicle id s.vehicles ≡ Some w
-  pub serve : (id : ℕ) (w : Vehicle) (free : ℕ) (stops : List PlannedStop) → (vehicle ≡ id → ⊥) → find_vehicle id t.vehicles ≡ Some w
-      → IsServing settings roads s.riders w free stops → IsServing settings roads t.riders w free stops
-  pub ids : map (λ v. v.id) t.vehicles ≡ map (λ v. v.id) s.vehicles
-  pub sealed : t.sealed ≡ s.sealed
-  pub last : t.last_seal ≡ s.last_seal
-
--- what a vehicle has after one of its commands
-pub record Then (settings : Settings) (roads : Roads) (t : State) (vehicle node time free : ℕ) (stops : List PlannedStop) : Type 0 where
-  pub v : Vehicle
-  pub at : find_vehicle vehicle t.vehicles ≡ Some v
-  pub there : v.node ≡ node
-  pub by : v.time ≡ time
-  pub serves : IsServing settings roads t.riders v free stops
 
 pub vehicle_id : (id : ℕ) (vehicles : List Vehicle) (v : Vehicle) → find_vehicle id vehicles ≡ Some v → v.id ≡ id
 vehicle_id id vehicles v e = look_up-key (λ (v : Vehicle). v.id) id vehicles v e
@@ -117,15 +85,6 @@ module _ (settings : Settings) (roads : Roads) (s : State) (day : IsDayState roa
     sealed = refl;
     last = refl;
   }
-
--- a command of a vehicle that leaves it serving these stops, from a node that it leaves at a second
-pub record IsDone (settings : Settings) (roads : Roads) (s : State) (command : Command) (reply : Reply) (vehicle node time free : ℕ) (stops : List PlannedStop) : Type 0 where
-  pub t : State
-  pub is : step roads.nodes settings.wait s command ≡ (t, reply)
-  pub state : IsDayState roads t
-  pub own : Then settings roads t vehicle node time free stops
-  pub others : LeavesOthers settings roads s t vehicle
-  pub bounds : KeepsBounds s t
 
 stepped_consistent : (settings : Settings) (roads : Roads) (s t : State) (command : Command) (reply : Reply) → IsDayState roads s → step roads.nodes settings.wait s command ≡ (t, reply) → IsConsistent t
 stepped_consistent settings roads s t command reply day is = subst IsConsistent (ap (λ (p : State × Reply). p.0) is) (step-consistent roads.nodes settings.wait s command day.consistent)

@@ -19,8 +19,8 @@ use Rattle.stop_orders.specs.declared.visit.Visit.{Visit}
 use Rattle.stop_orders.specs.declared.visit.Visit.TheVariants.{Pickup, Dropoff}
 use Rattle.stop_orders.specs.Visit.{place_of, latest_of, boarding_of, room_after, ServesFrom}
 use Rattle.travel_times.specs.Table.{AreTravelTimes}
-use Rattle.route_drive.specs.Kept.{ideal_dropoff}
-use Rattle.route_drive.specs.work.Serving.{Leads, AreReached, party_at, seats_after, HasSeatsFor}
+use Rattle.route_drive.specs.Counts.{ideal_dropoff}
+use Rattle.route_drive.specs.Serving.{Leads, AreReached, party_at, seats_after, HasSeatsFor}
 use Rattle.route_drive.proofs.kept.Lists.{takes, skips}
 use Rattle.route_drive.proofs.kept.Walks.{least_unique, between_unique, least_between}
 

@@ -18,7 +18,7 @@ use Rattle.stop_orders.specs.declared.stop.Stop.TheVariants.{Pick as PickStop, D
 use Rattle.stop_orders.specs.declared.visit.Visit.{Visit}
 use Rattle.stop_orders.specs.Visit.{place_of, latest_of, boarding_of, room_after, seconds_from, ServesFrom}
 use Rattle.travel_times.specs.Table.{AreTravelTimes}
-use Rattle.route_drive.specs.work.Serving.{Leads, AreReached, party_at, seats_after, HasSeatsFor, is_stop_of, calls_of}
+use Rattle.route_drive.specs.Serving.{Leads, AreReached, party_at, seats_after, HasSeatsFor, is_stop_of, calls_of}
 use Rattle.route_drive.proofs.kept.Lists.{takes, skips, all_weaker}
 use Rattle.route_drive.proofs.kept.Walks.{least_between}
 use Rattle.route_drive.proofs.kept.Riders.{calls_own, calls_other, no_pickup}

@@ -14,20 +14,30 @@ use Rattle.std.specs.Prelude.{◌≡◌, ◌==◌, ℕ, ◌+◌, ◌*◌, ◌-�
 use Rattle.std.specs.List.{AllByRecursion}
 use Rattle.std.specs.Option.{option_map_or}
 use Rattle.pool_base.specs.TravelTime.{never}
+use Rattle.batch_snapshot.specs.Batch.{Batch}
 use Rattle.batch_snapshot.specs.Vehicle.{persons_aboard}
 use Rattle.batch_snapshot.specs.declared.promise.Promise.{Promise}
+use Rattle.batch_snapshot.specs.declared.rider.Rider.{Rider}
 use Rattle.batch_snapshot.specs.declared.vehicle.Vehicle.{Vehicle}
 use Rattle.request_book.specs.Consistent.{IsConsistent, NamesNodes}
+use Rattle.request_book.specs.Keyed.{look_up, KeysRise}
+use Rattle.request_book.specs.Rider.{shown}
+use Rattle.request_book.specs.Sealing.{asking}
 use Rattle.request_book.specs.State.{find_rider, find_vehicle}
+use Rattle.request_book.specs.Step.{step}
+use Rattle.request_book.specs.declared.command.Command.{Command}
+use Rattle.request_book.specs.declared.outcome.ChosenTrip.{ChosenTrip}
+use Rattle.request_book.specs.declared.outcome.Planned.{Planned}
 use Rattle.request_book.specs.declared.outcome.PlannedStop.{PlannedStop}
+use Rattle.request_book.specs.declared.reply.Reply.{Reply}
 use Rattle.request_book.specs.declared.rider.BookRider.{BookRider}
 use Rattle.request_book.specs.declared.rider.Status.{Status}
-use Rattle.request_book.specs.declared.rider.Status.TheVariants.{Promised, Aboard}
+use Rattle.request_book.specs.declared.rider.Status.TheVariants.{Promised, Aboard, Delivered}
 use Rattle.request_book.specs.declared.state.State.{State}
 use Rattle.rider_limits.specs.declared.settings.Settings.{Settings}
 use Rattle.road_network.specs.Roads.{Roads, index_in}
-use Rattle.road_network.specs.Walk.{IsLeastTime}
-use Rattle.route_drive.specs.Kept.{IsDroppedInTime}
+use Rattle.road_network.specs.Walk.{IsLeastTime, IsTimeBetween}
+use Rattle.route_drive.specs.Counts.{ideal_dropoff}
 
 -- whoever leaves a node at a second reaches another at a second, by a shortest walk
 pub record Leads (roads : Roads) (from left to second : ℕ) : Type 0 where
@@ -68,6 +78,12 @@ abbrev pub IsOfVehicle : ℕ → Status → Type 0
 IsOfVehicle vehicle (Promised promise) = promise.vehicle ≡ vehicle
 IsOfVehicle vehicle (Aboard other) = other ≡ vehicle
 IsOfVehicle vehicle status = ⊥
+
+-- a drop-off at a second is at most so much later than the ideal one
+pub record IsDroppedInTime (roads : Roads) (delay : ℕ) (r : BookRider) (second : ℕ) : Type 0 where
+  pub seconds : ℕ
+  pub between : IsTimeBetween roads.arcs (index_in roads.nodes r.origin) (index_in roads.nodes r.destination) seconds
+  pub in_time : second ≤ ideal_dropoff r.time seconds + delay
 
 -- a drop-off of a rider of the vehicle, in time
 pub record IsRightDropoff (roads : Roads) (delay : ℕ) (riders : List BookRider) (vehicle : ℕ) (stop : PlannedStop) : Type 0 where
@@ -122,3 +138,66 @@ pub record IsDayState (roads : Roads) (s : State) : Type 0 where
 pub record IsKept (settings : Settings) (roads : Roads) (s : State) (stops : ℕ → List PlannedStop) : Type 0 where
   pub state : IsDayState roads s
   pub each : (id : ℕ) (v : Vehicle) → find_vehicle id s.vehicles ≡ Some v → IsServing settings roads s.riders v v.time (stops id)
+
+-- a rider was promised a pickup by a second, and will be picked up by it, or was
+abbrev pub IsBoundBy : ℕ → Status → Type 0
+IsBoundBy limit (Promised p) = p.pickup ≤ limit
+IsBoundBy limit (Aboard v) = Unit {0}
+IsBoundBy limit Delivered = Unit {0}
+IsBoundBy limit status = ⊥
+
+pub record IsBound (s : State) (rider limit : ℕ) : Type 0 where
+  pub of : BookRider
+  pub found : find_rider rider s.riders ≡ Some of
+  pub bound : IsBoundBy limit of.status
+
+-- nobody's bound is lost between two states
+abbrev pub KeepsBounds : State → State → Type 0
+KeepsBounds s t = (rider limit : ℕ) → IsBound s rider limit → IsBound t rider limit
+
+-- what a command of one vehicle leaves of the others
+pub record LeavesOthers (settings : Settings) (roads : Roads) (s t : State) (vehicle : ℕ) : Type 0 where
+  pub found : (id : ℕ) (w : Vehicle) → (vehicle ≡ id → ⊥) → find_vehicle id t.vehicles ≡ Some w → find_vehicle id s.vehicles ≡ Some w
+  pub serve : (id : ℕ) (w : Vehicle) (free : ℕ) (stops : List PlannedStop) → (vehicle ≡ id → ⊥) → find_vehicle id t.vehicles ≡ Some w
+      → IsServing settings roads s.riders w free stops → IsServing settings roads t.riders w free stops
+  pub ids : map (λ v. v.id) t.vehicles ≡ map (λ v. v.id) s.vehicles
+  pub sealed : t.sealed ≡ s.sealed
+  pub last : t.last_seal ≡ s.last_seal
+
+-- what a vehicle has after one of its commands
+pub record Then (settings : Settings) (roads : Roads) (t : State) (vehicle node time free : ℕ) (stops : List PlannedStop) : Type 0 where
+  pub v : Vehicle
+  pub at : find_vehicle vehicle t.vehicles ≡ Some v
+  pub there : v.node ≡ node
+  pub by : v.time ≡ time
+  pub serves : IsServing settings roads t.riders v free stops
+
+-- a command of a vehicle that leaves it serving these stops, from a node that it leaves at a second
+pub record IsDone (settings : Settings) (roads : Roads) (s : State) (command : Command) (reply : Reply) (vehicle node time free : ℕ) (stops : List PlannedStop) : Type 0 where
+  pub t : State
+  pub is : step roads.nodes settings.wait s command ≡ (t, reply)
+  pub state : IsDayState roads t
+  pub own : Then settings roads t vehicle node time free stops
+  pub others : LeavesOthers settings roads s t vehicle
+  pub bounds : KeepsBounds s t
+
+-- what leaves all vehicles as they are, and everything that they serve
+pub record LeavesAll (settings : Settings) (roads : Roads) (s t : State) : Type 0 where
+  pub state : IsDayState roads t
+  pub vehicles : t.vehicles ≡ s.vehicles
+  pub serve : (id : ℕ) (w : Vehicle) (free : ℕ) (stops : List PlannedStop) → find_vehicle id s.vehicles ≡ Some w → IsServing settings roads s.riders w free stops → IsServing settings roads t.riders w free stops
+  pub bounds : KeepsBounds s t
+  pub sealed : t.sealed ≡ s.sealed
+  pub last : t.last_seal ≡ s.last_seal
+
+-- a sealed batch that isn't closed yet, in a state: whom it shows
+pub record ShowsRiders (s : State) (b : Batch) : Type 0 where
+  pub rise : KeysRise (λ r. r.id) b.riders
+  pub shows : (x : ℕ) (y : Rider) → look_up (λ r. r.id) x b.riders ≡ Some y → (r : BookRider) × (find_rider x s.riders ≡ Some r) × (asking b.sealed_at r ≡ Some y)
+  pub promised : (x : ℕ) (r : BookRider) (p : Promise) → find_rider x s.riders ≡ Some r → r.status ≡ Promised p → look_up (λ r. r.id) x b.riders ≡ Some (shown r (Some p))
+  pub vehicles : b.vehicles ≡ s.vehicles
+  pub last : s.last_seal ≡ Some b.sealed_at
+
+-- the stops that a plan gives a vehicle
+abbrev pub chosen_stops : Planned → ℕ → List PlannedStop
+chosen_stops planned id = option_map_or (λ (t : ChosenTrip). t.stops.items) (look_up (λ (t : ChosenTrip). t.vehicle) id planned.chosen) []
