@@ -17,3 +17,5 @@ pub mod Chosen
 pub mod Made
 pub mod Closed
 pub mod Laws
+pub mod Pending
+pub mod Sequence

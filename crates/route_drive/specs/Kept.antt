@@ -1,6 +1,6 @@
 -- How a driven day keeps its promises, entry by entry: what is served goes on to be served, and a batch finds no vehicle
 -- late and no promise lapsed.
-use Rattle.std.specs.Prelude.{◌≡◌, ℕ, ◌+◌, ◌<◌, ◌≤◌, true, List, [], ◌∷◌, Option, None, Some, map, if◌then◌else◌}
+use Rattle.std.specs.Prelude.{◌≡◌, ◌==◌, ℕ, ◌+◌, ◌<◌, ◌≤◌, true, List, [], ◌∷◌, Option, None, Some, map, length, if◌then◌else◌}
 use Rattle.std.specs.List.{AllByRecursion}
 use Rattle.batch_snapshot.specs.Batch.{Batch}
 use Rattle.batch_snapshot.specs.declared.vehicle.Vehicle.{Vehicle}
@@ -10,7 +10,8 @@ use Rattle.request_book.specs.Refusals.{clock_back}
 use Rattle.request_book.specs.Sealing.{batch_of, sealed_state}
 use Rattle.request_book.specs.State.{find_vehicle}
 use Rattle.request_book.specs.Step.{step}
-use Rattle.request_book.specs.declared.command.Command.TheVariants.{Submit, Report, Seal, Close}
+use Rattle.request_book.specs.declared.command.Command.{Command}
+use Rattle.request_book.specs.declared.command.Command.TheVariants.{Submit, Report, Pickup, Dropoff, Seal, Close}
 use Rattle.request_book.specs.declared.outcome.Answer.{Answer}
 use Rattle.request_book.specs.declared.outcome.Answer.TheVariants as answer
 use Rattle.request_book.specs.declared.outcome.Outcome.{Outcome}
@@ -21,8 +22,9 @@ use Rattle.request_book.specs.declared.reply.Reply.TheVariants.{Placed, Picked, 
 use Rattle.request_book.specs.declared.state.State.{State}
 use Rattle.rider_limits.specs.declared.settings.Settings.{Settings}
 use Rattle.road_network.specs.Roads.{Roads, IsNetwork, has_node}
+use Rattle.route_drive.specs.declared.course.Course.{Course}
 use Rattle.route_drive.specs.declared.course.Place.{Place}
-use Rattle.route_drive.specs.Entering.{IsReported, goal_of, stop_command}
+use Rattle.route_drive.specs.Entering.{AreEntered, IsReported, goal_of, stop_command, to_come}
 use Rattle.route_drive.specs.Serving.{IsServing, IsDayState, IsKept, IsDone, LeavesAll, KeepsBounds, ShowsRiders, chosen_stops}
 
 -- a vehicle's next stop is answered picked or dropped, and the vehicle then serves the stops after it, each at its
@@ -50,6 +52,37 @@ abbrev pub RequestsLeaveAll : Type 0
 RequestsLeaveAll = (settings : Settings) (roads : Roads) (s : State) (rider origin destination time party : ℕ) → IsDayState roads s
     → LeavesAll settings roads s (step roads.nodes settings.wait s (Submit rider origin destination time party)).0
 
+-- what is on its way for the vehicle of an id
+abbrev pub course_of : List Vehicle → List Course → ℕ → Course
+course_of (v ∷ vehicles) (course ∷ courses) id = if v.id == id then course else course_of vehicles courses id
+course_of vehicles courses id = record { stops = record { items = [] }; target = None }
+
+-- commands as they came: those that were entered, in their order, with requests between
+abbrev pub CameIn : List Command → List Command → Type 0
+CameIn entered [] = entered ≡ []
+CameIn entered (Submit rider origin destination time party ∷ came) = CameIn entered came
+CameIn [] (command ∷ came) = ⊥
+CameIn (next ∷ entered) (command ∷ came) = (next ≡ command) × CameIn entered came
+
+-- the state after commands
+abbrev pub after_all : List ℕ → ℕ → State → List Command → State
+after_all nodes wait s [] = s
+after_all nodes wait s (command ∷ commands) = after_all nodes wait (step nodes wait s command).0 commands
+
+-- a state before a seal: every vehicle is reported by its second or later, and serves stops that are all later
+pub record IsReadyForSeal (settings : Settings) (roads : Roads) (now : ℕ) (s : State) (stops : ℕ → List PlannedStop) : Type 0 where
+  pub kept : IsKept settings roads s stops
+  pub reported : (id : ℕ) (v : Vehicle) → find_vehicle id s.vehicles ≡ Some v → now ≤ v.time
+  pub later : (id : ℕ) (v : Vehicle) → find_vehicle id s.vehicles ≡ Some v → AllByRecursion (λ stop. now < stop.second) (stops id)
+
+-- once everything is entered before a seal, whatever requests came between, every vehicle serves its stops to come
+abbrev pub EnteringKeeps : Type 0
+EnteringKeeps = (settings : Settings) (roads : Roads) (s : State) (courses : List Course) (now : ℕ) (entered came : List Command)
+    → IsNetwork roads → IsKept settings roads s (λ id. (course_of s.vehicles courses id).stops.items)
+    → length courses ≡ length s.vehicles → AreEntered roads settings.dwell now s.vehicles courses entered → CameIn entered came
+    → IsReadyForSeal settings roads now (after_all roads.nodes settings.wait s came) (λ id. to_come now (course_of s.vehicles courses id).stops.items)
+    × KeepsBounds s (after_all roads.nodes settings.wait s came)
+
 -- a seal after which all stops come: every vehicle serves as before, since nobody promised or aboard expires, and the
 -- batch shows everybody who is promised
 pub record IsSealedOn (settings : Settings) (roads : Roads) (s : State) (stops : ℕ → List PlannedStop) (now : ℕ) : Type 0 where
@@ -59,7 +92,7 @@ pub record IsSealedOn (settings : Settings) (roads : Roads) (s : State) (stops :
 
 abbrev pub SealsKeep : Type 0
 SealsKeep = (settings : Settings) (roads : Roads) (s : State) (stops : ℕ → List PlannedStop) (now : ℕ) (reply : Reply)
-    → IsKept settings roads s stops → ((id : ℕ) → AllByRecursion (λ stop. now < stop.second) (stops id)) → clock_back s.last_seal now ≡ None
+    → IsKept settings roads s stops → ((id : ℕ) (v : Vehicle) → find_vehicle id s.vehicles ≡ Some v → AllByRecursion (λ stop. now < stop.second) (stops id)) → clock_back s.last_seal now ≡ None
     → step roads.nodes settings.wait s (Seal now) ≡ (sealed_state settings.wait s now, reply) → IsSealedOn settings roads s stops now
 
 -- every vehicle was reported at a batch's second or later

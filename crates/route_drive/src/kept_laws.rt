@@ -1,7 +1,7 @@
 //! How a driven day keeps its promises, entry by entry. Each call does nothing; its contract is the law. Vehicles
 //! that serve their stops go on to serve them through every entry of a day, and then no batch finds a vehicle late
 //! or a promise lapsed.
-ghost use Rattle.route_drive.specs.Kept.{ClosesKeep, NoPromiseLapses, ReportsAreServed, RequestsLeaveAll, SealsKeep, StopsAreAnswered};
+ghost use Rattle.route_drive.specs.Kept.{ClosesKeep, EnteringKeeps, NoPromiseLapses, ReportsAreServed, RequestsLeaveAll, SealsKeep, StopsAreAnswered};
 
 /// A stop that is due is answered `picked` or `dropped`, and the stops after it are still served at their seconds.
 pub fn stops_are_answered()
@@ -17,6 +17,12 @@ pub fn reports_are_served()
 /// A request, accepted or refused, changes nothing of what the vehicles serve.
 pub fn requests_leave_all()
     ensures { RequestsLeaveAll }
+{}
+
+/// Once everything is entered before a seal, with requests of any lanes between, every vehicle serves its stops to
+/// come, all of them later than the seal, and is reported at its second or later.
+pub fn entering_keeps()
+    ensures { EnteringKeeps }
 {}
 
 /// A seal lets nobody expire who is promised or aboard.

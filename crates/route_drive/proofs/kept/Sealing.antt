@@ -111,7 +111,7 @@ first_call P x b bs (stop ∷ stops) e all = elim (cases_eq stop.rider x) [
 
 -- a seal on a driven day: all stops are later, and so nobody who is promised or aboard expires
 module _ (settings : Settings) (roads : Roads) (s : State) (stops : ℕ → List PlannedStop) (now : ℕ) (kept : IsKept settings roads s stops)
-    (later : (id : ℕ) → AllByRecursion (λ (stop : PlannedStop). now < stop.second) (stops id)) (on : clock_back s.last_seal now ≡ None) where
+    (later : (id : ℕ) (v : Vehicle) → find_vehicle id s.vehicles ≡ Some v → AllByRecursion (λ (stop : PlannedStop). now < stop.second) (stops id)) (on : clock_back s.last_seal now ≡ None) where
   not_over : (x : ℕ) (r : BookRider) (w : ℕ) (v : Vehicle) → find_rider x s.riders ≡ Some r → find_vehicle w s.vehicles ≡ Some v → IsOfVehicle w r.status → after_seal settings.wait now r ≡ r
   not_over x r w v e at own = by r.status refl own
     where
@@ -126,7 +126,7 @@ module _ (settings : Settings) (roads : Roads) (s : State) (stops : ℕ → List
       by (Promised p) f h =
           let calls = subst (λ t. HasCalls v.id t (calls_of x (stops w))) f (serves.calls x r e) in
           let first = first_call (λ stop. IsRightStop settings roads s.riders v.id stop × (now < stop.second)) x true (false ∷ []) (stops w) (calls (h ∙ sym id))
-          (both (IsRightStop settings roads s.riders v.id) (λ (stop : PlannedStop). now < stop.second) (stops w) serves.right (later w)) in
+          (both (IsRightStop settings roads s.riders v.id) (λ (stop : PlannedStop). now < stop.second) (stops w) serves.right (later w v at)) in
           let right = picked_up_right settings roads s.riders v.id first.0 first.2 first.3.0 in
           let same : find_rider x s.riders ≡ Some right.rider = subst (λ k. find_rider k s.riders ≡ Some right.rider) first.1 right.found in
           let is : right.rider ≡ r = cc in
