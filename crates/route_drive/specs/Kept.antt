@@ -1,6 +1,6 @@
 -- How a driven day keeps its promises, entry by entry: what is served goes on to be served, and a batch finds no vehicle
 -- late and no promise lapsed.
-use Rattle.std.specs.Prelude.{◌≡◌, ◌==◌, ℕ, ◌+◌, ◌<◌, ◌≤◌, true, List, [], ◌∷◌, Option, None, Some, map, length, if◌then◌else◌}
+use Rattle.std.specs.Prelude.{◌≡◌, ◌==◌, ℕ, ◌+◌, ◌<◌, ◌≤◌, true, List, [], ◌∷◌, Option, None, Some, length, if◌then◌else◌}
 use Rattle.std.specs.List.{AllByRecursion}
 use Rattle.batch_snapshot.specs.Batch.{Batch}
 use Rattle.batch_snapshot.specs.declared.vehicle.Vehicle.{Vehicle}
@@ -11,11 +11,10 @@ use Rattle.request_book.specs.Sealing.{batch_of, sealed_state}
 use Rattle.request_book.specs.State.{find_vehicle}
 use Rattle.request_book.specs.Step.{step}
 use Rattle.request_book.specs.declared.command.Command.{Command}
-use Rattle.request_book.specs.declared.command.Command.TheVariants.{Submit, Report, Pickup, Dropoff, Seal, Close}
+use Rattle.request_book.specs.declared.command.Command.TheVariants.{Submit, Report, Seal, Close}
 use Rattle.request_book.specs.declared.outcome.Answer.{Answer}
 use Rattle.request_book.specs.declared.outcome.Answer.TheVariants as answer
 use Rattle.request_book.specs.declared.outcome.Outcome.{Outcome}
-use Rattle.request_book.specs.declared.outcome.Planned.{Planned}
 use Rattle.request_book.specs.declared.outcome.PlannedStop.{PlannedStop}
 use Rattle.request_book.specs.declared.reply.Reply.{Reply}
 use Rattle.request_book.specs.declared.reply.Reply.TheVariants.{Placed, Picked, Dropped, Closed}

@@ -10,7 +10,7 @@
 --   a seal keeps it: nobody promised is over, since a promised pickup is later than the seal and within the wait;
 --   the batch of a seal then has no late vehicle and no lapsed promise: the stops serve by the batch's table;
 --   a close with a good plan makes it anew from the chosen trips; after an overflow it stays.
-use Rattle.std.specs.Prelude.{◌≡◌, ◌==◌, ℕ, ◌+◌, ◌*◌, ◌-◌, ◌<◌, ◌≤◌, Bool, true, false, MatchBool, List, [], ◌∷◌, Option, None, Some, map, filter, length, if◌then◌else◌}
+use Rattle.std.specs.Prelude.{◌≡◌, ◌==◌, ℕ, ◌+◌, ◌*◌, ◌-◌, ◌<◌, ◌≤◌, Bool, true, false, MatchBool, List, [], ◌∷◌, Some, map, filter, length, if◌then◌else◌}
 use Rattle.std.specs.List.{AllByRecursion}
 use Rattle.std.specs.Option.{option_map_or}
 use Rattle.pool_base.specs.TravelTime.{never}

@@ -1,66 +1,27 @@
 -- At a seal the stops of each vehicle serve, by the batch's table, its passengers and the riders promised to it.
-use Rattle.std.proofs.Common.{◌≡◌, ◌⊎◌, ℕ, zero, suc, ◌+◌, ◌-◌, ◌*◌, ◌<◌, ◌≤◌, Bool, true, false, cond, eqb, leb, nat_eq, List, [], ◌∷◌, length, get_or, map, filter, max, min, Option, Some, None, refl, sym, ap, ◌∙◌, subst, arith, inl, inr}
-use Rattle.std.specs.Prelude.{option_map, option_and_then, slice_get, All, Contains}
-use Rattle.std.specs.Option.{option_map_or}
-use Rattle.std.specs.List.{AllByRecursion, IsDistinct, sum_by, range_with_len}
+use Rattle.std.proofs.Common.{◌≡◌, ℕ, zero, suc, ◌+◌, ◌<◌, ◌≤◌, Bool, true, false, cond, eqb, leb, nat_eq, List, [], ◌∷◌, length, get_or, map, Option, Some, None, refl, sym, ap, ◌∙◌, subst, arith, inl, inr}
+use Rattle.std.specs.Prelude.{option_map, option_and_then, slice_get}
+use Rattle.std.specs.List.{AllByRecursion, IsDistinct, sum_by}
 use Rattle.std.specs.List.Sorted.{IsStrictlyIncreasing}
-use Rattle.std.proofs.lemmas.Bool.{cases_Bool, cases_eq, cases_lt, eq-eqb, ne_eqb, eqb-true, leb-true, true≢false, false≢true, MatchBool-at_true, MatchBool-at_false}
-use Rattle.std.proofs.lemmas.List.{get_or-map, length-map, get_or_default}
-use Rattle.std.proofs.lemmas.List.Elements.{filter_passes}
+use Rattle.std.proofs.lemmas.Bool.{cases_eq, cases_lt, ne_eqb, eqb-true, leb-true}
+use Rattle.std.proofs.lemmas.List.{get_or_default}
 use Rattle.std.proofs.lemmas.List.Sums.{sum_by-cons}
 use Rattle.std.proofs.lemmas.Map.Keys.{IsDistinct-from_apart}
-use Rattle.std.proofs.lemmas.Option.{slice_get_within, get_or_from_slice_get, slice_get-get_or}
-use Rattle.pool_base.specs.TravelTime.{never, IsTravelTime}
-use Rattle.pool_base.specs.Times.{travel_time}
-use Rattle.pool_base.specs.declared.times.Times.{Times}
-use Rattle.batch_snapshot.specs.Batch.{Batch}
-use Rattle.batch_snapshot.specs.Vehicle.{persons_aboard}
 use Rattle.batch_snapshot.specs.declared.passenger.Passenger.{Passenger}
 use Rattle.batch_snapshot.specs.declared.promise.Promise.{Promise}
 use Rattle.batch_snapshot.specs.declared.rider.Rider.{Rider}
-use Rattle.batch_snapshot.specs.declared.vehicle.Vehicle.{Vehicle}
-use Rattle.promise_check.specs.Requests.{IsLegOf, request_at, no_request, ideal_second}
-use Rattle.promise_check.specs.Promised.{promised_limit, is_promised_to, promised_to, kept_leg, kept_legs}
-use Rattle.promise_check.specs.Settling.{AreLegsOf, IsPlaced, IsSettled}
-use Rattle.promise_check.proofs.lemmas.Promises.{filter_range_has, promised_trip}
 use Rattle.request_book.specs.Consistent.{seat_in}
-use Rattle.request_book.specs.Keyed.{look_up, KeysDiffer, KeysRise}
+use Rattle.request_book.specs.Keyed.{look_up, KeysDiffer}
 use Rattle.request_book.specs.Rider.{shown, pool_promise, passenger_of, vehicle_of}
 use Rattle.request_book.specs.Sealing.{asking}
-use Rattle.request_book.specs.State.{find_rider, find_vehicle, find_passenger}
-use Rattle.request_book.specs.declared.outcome.PlannedStop.{PlannedStop}
+use Rattle.request_book.specs.State.{find_rider}
 use Rattle.request_book.specs.declared.rider.BookRider.{BookRider}
 use Rattle.request_book.specs.declared.rider.Status.{Status}
 use Rattle.request_book.specs.declared.rider.Status.TheVariants.{Waiting, Promised, Aboard, Cancelled, Delivered, Expired}
 use Rattle.request_book.specs.declared.state.State.{State}
-use Rattle.request_book.proofs.BatchLemmas.{increasing_from_rise}
-use Rattle.request_book.proofs.KeyedLemmas.{look_up-here, look_up-there, look_up-nil, look_up-key, look_up-at, KeysDiffer-from_rise, All-look_up}
-use Rattle.rider_limits.specs.declared.settings.Settings.{Settings}
-use Rattle.road_network.specs.Roads.{Roads, index_in, has_node}
+use Rattle.request_book.proofs.KeyedLemmas.{look_up-here, look_up-there, look_up-nil}
 use Rattle.stop_orders.specs.declared.leg.Leg.{Leg}
-use Rattle.stop_orders.specs.declared.settled.Settled.{Settled}
-use Rattle.stop_orders.specs.declared.settled_rider.SettledRider.{SettledRider}
-use Rattle.stop_orders.specs.declared.settled_vehicle.SettledVehicle.{SettledVehicle}
-use Rattle.stop_orders.specs.declared.stop.Stop.{Stop}
-use Rattle.stop_orders.specs.declared.stop.Stop.TheVariants.{Pick, Drop, Alight}
-use Rattle.stop_orders.specs.declared.task.Task.{Task}
-use Rattle.stop_orders.specs.declared.visit.Visit.{Visit}
-use Rattle.stop_orders.specs.declared.visit.Visit.TheVariants.{Pickup, Dropoff}
-use Rattle.stop_orders.specs.Order.{IsOrder}
-use Rattle.stop_orders.specs.Settled.{vehicle_at, rider_at, no_rider, vehicle_task, IsTrip}
-use Rattle.stop_orders.specs.Task.{no_leg, leg_at, persons, visit_at, visits_of, free_seats, Serves, IsServable}
-use Rattle.stop_orders.specs.Visit.{ServesFrom}
-use Rattle.travel_times.specs.Table.{AreTravelTimes}
-use Rattle.route_drive.specs.Counts.{ideal_dropoff}
-use Rattle.route_drive.specs.Serving.{IsDroppedInTime}
-use Rattle.route_drive.specs.Serving.{party_at, IsRightStop, IsRightPickup, IsRightDropoff, IsOfVehicle, IsServing, IsKept, HasCalls, calls_of}
-use Rattle.route_drive.proofs.kept.Lists.{all_weaker}
-use Rattle.route_drive.proofs.kept.Walks.{has_index, name_at, is_node_at}
-use Rattle.route_drive.proofs.kept.Riders.{found_id}
-use Rattle.route_drive.proofs.kept.Enter.{picked_up_right, dropped_right}
-use Rattle.route_drive.proofs.kept.Sealing.{ShowsRiders}
-use Rattle.route_drive.proofs.kept.Numbers.{number_of, IsNumbered, number_picks, number_drops, number_alights, numbers_are_order, alights_only, passengers_order, order_length}
-use Rattle.route_drive.proofs.kept.Tables.{IsSeen, ideal_is, serves_by_table, sub_serves}
+use Rattle.stop_orders.specs.Task.{leg_at, persons}
 
 -- where a list has what is looked up
 pub found_at : {X : Type 0} (key : X → ℕ) (k : ℕ) (xs : List X) (x : X) → look_up key k xs ≡ Some x → (i : ℕ) × (i < length xs) × ((d : X) → get_or xs i d ≡ x)

@@ -1,24 +1,14 @@
 -- A chosen trip on a driven day: whose its stops are.
-use Rattle.std.proofs.Common.{◌≡◌, ◌⊎◌, ℕ, zero, suc, ◌+◌, ◌<◌, ◌≤◌, Bool, true, false, cond, not, eqb, List, [], ◌∷◌, length, get_or, map, filter, Option, Some, None, refl, sym, ap, ◌∙◌, subst, arith, inl, inr}
-use Rattle.std.specs.Prelude.{slice_get, is_some}
-use Rattle.std.specs.List.{AllByRecursion, AllZip, range_with_len}
-use Rattle.std.proofs.lemmas.Bool.{cases_Bool, eq-eqb, MatchBool-at_true}
-use Rattle.std.proofs.lemmas.List.{get_or_default}
-use Rattle.std.proofs.lemmas.List.Elements.{recursion_from_All, All-from_get_or}
-use Rattle.std.proofs.lemmas.List.FromFn.{length-range_with_len, get_or-range_with_len}
-use Rattle.std.proofs.lemmas.Option.{slice_get_within, get_or_from_slice_get, slice_get-get_or, slice_get_cases}
+use Rattle.std.proofs.Common.{◌≡◌, ℕ, ◌<◌, ◌≤◌, Bool, true, false, eqb, List, [], ◌∷◌, length, get_or, map, filter, Some, refl, sym, ap, ◌∙◌, subst, arith}
+use Rattle.std.specs.Prelude.{slice_get}
+use Rattle.std.specs.List.{AllByRecursion}
 use Rattle.pool_base.specs.Times.{travel_time}
 use Rattle.pool_base.specs.declared.times.Times.{Times}
 use Rattle.batch_snapshot.specs.Batch.{Batch}
-use Rattle.batch_snapshot.specs.declared.promise.Promise.{Promise}
-use Rattle.batch_snapshot.specs.declared.rider.Rider.{Rider}
 use Rattle.batch_snapshot.specs.declared.vehicle.Vehicle.{Vehicle}
 use Rattle.batch_solver.specs.Outcome.{IsGoodPlan}
-use Rattle.batch_solver.specs.Trips.{IsLate, AreLate}
 use Rattle.promise_check.specs.Requests.{request_at}
-use Rattle.promise_check.specs.Promised.{is_promised_to, IsLive}
-use Rattle.promise_check.specs.Settling.{IsSettled, IsLiveRider, IsLateRight, HasRightLimit}
-use Rattle.request_book.specs.Rider.{shown}
+use Rattle.promise_check.specs.Settling.{IsSettled}
 use Rattle.request_book.specs.State.{find_rider, find_vehicle}
 use Rattle.request_book.specs.declared.outcome.PlannedStop.{PlannedStop}
 use Rattle.request_book.specs.declared.outcome.Planned.{Planned}
@@ -26,59 +16,38 @@ use Rattle.request_book.specs.declared.state.State.{State}
 use Rattle.rider_limits.specs.declared.settings.Settings.{Settings}
 use Rattle.road_network.specs.Roads.{Roads, index_in}
 use Rattle.stop_orders.specs.declared.settled.Settled.{Settled}
-use Rattle.stop_orders.specs.Settled.{vehicle_at, rider_at, no_rider, vehicle_task}
-use Rattle.stop_orders.specs.Task.{IsServable}
+use Rattle.stop_orders.specs.Settled.{vehicle_at, rider_at}
 use Rattle.travel_times.specs.Table.{AreTravelTimes}
 use Rattle.route_drive.specs.Serving.{IsKept}
-use Rattle.route_drive.proofs.kept.Lists.{skips, all_from}
-use Rattle.route_drive.proofs.kept.Batches.{found_at, IsPromisedRider}
 use Rattle.route_drive.proofs.kept.Sealing.{ShowsRiders}
-use Rattle.route_drive.proofs.kept.States.{vehicle_id}
-use Rattle.route_drive.proofs.kept.Served.{request_rider, promised_request, promised_served, passengers_served, few_promised}
-use Rattle.std.specs.Prelude.{option_map, option_and_then, unwrap_or, ◌&&◌, min}
-use Rattle.std.specs.List.{IsDistinct, zip}
-use Rattle.std.specs.Option.{option_map_or}
-use Rattle.std.proofs.Common.{nat_eq, ◌-◌, ◌*◌}
-use Rattle.std.proofs.lemmas.Bool.{cases_eq, cases_lt, ne_eqb, eqb-true, false≢true, true≢false}
+use Rattle.route_drive.proofs.kept.Served.{request_rider}
+use Rattle.std.specs.List.{IsDistinct}
+use Rattle.std.proofs.Common.{nat_eq}
+use Rattle.std.proofs.lemmas.Bool.{ne_eqb, false≢true}
 use Rattle.std.proofs.lemmas.List.{get_or-map, length-map}
-use Rattle.batch_snapshot.specs.Vehicle.{persons_aboard}
 use Rattle.batch_snapshot.specs.declared.passenger.Passenger.{Passenger}
-use Rattle.batch_solver.specs.Told.{vehicle_id as told_vehicle, rider_id, told_stop, told_stops}
-use Rattle.batch_solver.specs.Trips.{IsTripOf, AreTrips}
-use Rattle.plan_rules.proofs.lemmas.GraphLemmas.{times_served_some, times_served_found, times_served_as_count, in_choice}
-use Rattle.plan_rules.proofs.lemmas.PlanLemmas.{plan_choice}
-use Rattle.plan_rules.proofs.lemmas.SumLemmas.{count_below_two}
-use Rattle.plan_rules.specs.Graph.{Graph, choice_at, riders_at, row_at, no_row, is_in, IsRowOf}
-use Rattle.plan_rules.specs.Plan.{IsLawful}
-use Rattle.promise_check.specs.Requests.{IsLegOf, no_request}
-use Rattle.promise_check.specs.Settling.{IsPlaced, IsRiderOf}
-use Rattle.request_book.specs.Closing.{picks, trip_picks, planned_status, in_batch, after_plan}
-use Rattle.request_book.specs.Keyed.{look_up, KeysDiffer}
-use Rattle.request_book.specs.Rider.{with_status, passenger_of, is_active}
+use Rattle.batch_solver.specs.Told.{rider_id, told_stop}
+use Rattle.batch_solver.specs.Trips.{IsTripOf}
+use Rattle.plan_rules.specs.Graph.{riders_at}
+use Rattle.promise_check.specs.Settling.{IsPlaced}
 use Rattle.request_book.specs.declared.outcome.ChosenTrip.{ChosenTrip}
 use Rattle.request_book.specs.declared.rider.BookRider.{BookRider}
-use Rattle.request_book.specs.declared.rider.Status.{Status}
-use Rattle.request_book.specs.declared.rider.Status.TheVariants.{Waiting, Promised, Aboard, Cancelled, Delivered, Expired}
-use Rattle.request_book.proofs.BatchLemmas.{increasing_from_rise}
-use Rattle.request_book.proofs.KeyedLemmas.{look_up-at, KeysDiffer-from_rise}
+use Rattle.request_book.specs.declared.rider.Status.TheVariants.{Aboard}
+use Rattle.request_book.proofs.KeyedLemmas.{look_up-at}
 use Rattle.road_network.specs.Roads.{has_node}
-use Rattle.stop_orders.specs.declared.leg.Leg.{Leg}
 use Rattle.stop_orders.specs.declared.stop.Stop.{Stop}
 use Rattle.stop_orders.specs.declared.stop.Stop.TheVariants.{Pick, Drop, Alight}
 use Rattle.stop_orders.specs.Order.{is_of_rider, is_of_passenger, IsKnown}
-use Rattle.stop_orders.specs.Settled.{trip_task, IsTrip, IsRow}
-use Rattle.stop_orders.specs.Task.{no_leg, leg_at, visit_at, visits_of, free_seats, Serves}
+use Rattle.stop_orders.specs.Settled.{trip_task, IsTrip}
+use Rattle.stop_orders.specs.Task.{visit_at}
 use Rattle.route_drive.specs.Serving.{is_stop_of, calls_of}
-use Rattle.route_drive.proofs.kept.Batches.{rising_far, distinct_from_rising, distinct_from_differ, asking_is, IsAsking, IsRiderAboard}
-use Rattle.route_drive.proofs.kept.Lapse.{along_range, filter_none, vehicle_of_number, not_late, number_of_vehicle}
-use Rattle.route_drive.proofs.kept.Lists.{takes}
-use Rattle.route_drive.proofs.kept.Served.{passenger_rider, vehicle_found, passengers_differ}
-use Rattle.route_drive.proofs.kept.Told.{is_pick, told_from, told_calls, none_promised, one_promised, IsPickPromised, found_among, none_among}
-use Rattle.route_drive.proofs.kept.Walks.{has_index, index_at, name_at, is_node_at}
+use Rattle.route_drive.proofs.kept.Batches.{distinct_from_differ, IsRiderAboard}
+use Rattle.route_drive.proofs.kept.Served.{passenger_rider, passengers_differ}
+use Rattle.route_drive.proofs.kept.Told.{is_pick, told_calls}
+use Rattle.route_drive.proofs.kept.Walks.{is_node_at}
 use Rattle.request_book.specs.Rider.{pool_promise}
 use Rattle.request_book.specs.State.{find_passenger}
-use Rattle.stop_orders.specs.Task.{seconds_of}
-use Rattle.route_drive.proofs.kept.Trips.{trip_of, trip_back, trip_is, one_trip, names, names_distinct, told_id, other_id, same_number}
+use Rattle.route_drive.proofs.kept.Trips.{trip_is, names_distinct, told_id, other_id, same_number}
 
 none_filtered : {X : Type 0} (xs : List X) → filter (λ (x : X). false) xs ≡ []
 none_filtered [] = refl

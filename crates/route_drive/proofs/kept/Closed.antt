@@ -1,12 +1,8 @@
 -- The state after a close with a good plan on a driven day.
-use Rattle.std.proofs.Common.{◌≡◌, ◌⊎◌, ℕ, zero, suc, ◌+◌, ◌<◌, ◌≤◌, Bool, true, false, cond, not, eqb, List, [], ◌∷◌, length, get_or, map, filter, Option, Some, None, refl, sym, ap, ◌∙◌, subst, arith, inl, inr}
+use Rattle.std.proofs.Common.{◌≡◌, ◌⊎◌, ℕ, zero, suc, ◌+◌, ◌<◌, ◌≤◌, Bool, true, false, cond, List, [], ◌∷◌, length, get_or, map, Option, Some, None, refl, sym, ap, ◌∙◌, subst, arith, inl, inr}
 use Rattle.std.specs.Prelude.{slice_get, is_some}
-use Rattle.std.specs.List.{AllByRecursion, AllZip, range_with_len}
-use Rattle.std.proofs.lemmas.Bool.{cases_Bool, eq-eqb, MatchBool-at_true}
+use Rattle.std.proofs.lemmas.Bool.{eq-eqb}
 use Rattle.std.proofs.lemmas.List.{get_or_default}
-use Rattle.std.proofs.lemmas.List.Elements.{recursion_from_All, All-from_get_or}
-use Rattle.std.proofs.lemmas.List.FromFn.{length-range_with_len, get_or-range_with_len}
-use Rattle.std.proofs.lemmas.Option.{slice_get_within, get_or_from_slice_get, slice_get-get_or, slice_get_cases}
 use Rattle.pool_base.specs.Times.{travel_time}
 use Rattle.pool_base.specs.declared.times.Times.{Times}
 use Rattle.batch_snapshot.specs.Batch.{Batch}
@@ -14,10 +10,9 @@ use Rattle.batch_snapshot.specs.declared.promise.Promise.{Promise}
 use Rattle.batch_snapshot.specs.declared.rider.Rider.{Rider}
 use Rattle.batch_snapshot.specs.declared.vehicle.Vehicle.{Vehicle}
 use Rattle.batch_solver.specs.Outcome.{IsGoodPlan}
-use Rattle.batch_solver.specs.Trips.{IsLate, AreLate}
 use Rattle.promise_check.specs.Requests.{request_at}
 use Rattle.promise_check.specs.Promised.{is_promised_to, IsLive}
-use Rattle.promise_check.specs.Settling.{IsSettled, IsLiveRider, IsLateRight, HasRightLimit}
+use Rattle.promise_check.specs.Settling.{IsSettled, HasRightLimit}
 use Rattle.request_book.specs.Rider.{shown}
 use Rattle.request_book.specs.State.{find_rider, find_vehicle}
 use Rattle.request_book.specs.declared.outcome.PlannedStop.{PlannedStop}
@@ -26,91 +21,45 @@ use Rattle.request_book.specs.declared.state.State.{State}
 use Rattle.rider_limits.specs.declared.settings.Settings.{Settings}
 use Rattle.road_network.specs.Roads.{Roads, index_in}
 use Rattle.stop_orders.specs.declared.settled.Settled.{Settled}
-use Rattle.stop_orders.specs.Settled.{vehicle_at, rider_at, no_rider, vehicle_task}
-use Rattle.stop_orders.specs.Task.{IsServable}
+use Rattle.stop_orders.specs.Settled.{vehicle_at, rider_at}
 use Rattle.travel_times.specs.Table.{AreTravelTimes}
 use Rattle.route_drive.specs.Serving.{IsKept}
-use Rattle.route_drive.proofs.kept.Lists.{skips, all_from}
-use Rattle.route_drive.proofs.kept.Batches.{found_at, IsPromisedRider}
+use Rattle.route_drive.proofs.kept.Batches.{found_at}
 use Rattle.route_drive.proofs.kept.Sealing.{ShowsRiders}
 use Rattle.route_drive.proofs.kept.States.{vehicle_id}
-use Rattle.route_drive.proofs.kept.Served.{request_rider, promised_request, promised_served, passengers_served, few_promised}
-use Rattle.std.specs.Prelude.{option_map, option_and_then, unwrap_or, ◌&&◌, min}
-use Rattle.std.specs.List.{IsDistinct, zip}
+use Rattle.std.specs.Prelude.{option_map, ◌&&◌, min}
 use Rattle.std.specs.Option.{option_map_or}
-use Rattle.std.proofs.Common.{nat_eq, ◌-◌, ◌*◌}
-use Rattle.std.proofs.lemmas.Bool.{cases_eq, cases_lt, ne_eqb, eqb-true, false≢true, true≢false}
-use Rattle.std.proofs.lemmas.List.{get_or-map, length-map}
-use Rattle.batch_snapshot.specs.Vehicle.{persons_aboard}
-use Rattle.batch_snapshot.specs.declared.passenger.Passenger.{Passenger}
-use Rattle.batch_solver.specs.Told.{vehicle_id as told_vehicle, rider_id, told_stop, told_stops}
-use Rattle.batch_solver.specs.Trips.{IsTripOf, AreTrips}
-use Rattle.plan_rules.proofs.lemmas.GraphLemmas.{times_served_some, times_served_found, times_served_as_count, in_choice}
-use Rattle.plan_rules.proofs.lemmas.PlanLemmas.{plan_choice}
-use Rattle.plan_rules.proofs.lemmas.SumLemmas.{count_below_two}
-use Rattle.plan_rules.specs.Graph.{Graph, choice_at, riders_at, row_at, no_row, is_in, IsRowOf}
-use Rattle.plan_rules.specs.Plan.{IsLawful}
-use Rattle.promise_check.specs.Requests.{IsLegOf, no_request}
-use Rattle.promise_check.specs.Settling.{IsPlaced, IsRiderOf}
-use Rattle.request_book.specs.Closing.{picks, trip_picks, planned_status, in_batch, after_plan}
-use Rattle.request_book.specs.Keyed.{look_up, KeysDiffer}
-use Rattle.request_book.specs.Rider.{with_status, passenger_of, is_active}
+use Rattle.std.proofs.lemmas.Bool.{false≢true, true≢false}
+use Rattle.plan_rules.proofs.lemmas.GraphLemmas.{times_served_some, times_served_found, in_choice}
+use Rattle.plan_rules.specs.Graph.{choice_at, riders_at, is_in}
+use Rattle.promise_check.specs.Requests.{no_request}
+use Rattle.request_book.specs.Closing.{picks, planned_status, in_batch, after_plan}
+use Rattle.request_book.specs.Keyed.{look_up}
+use Rattle.request_book.specs.Rider.{with_status, is_active}
 use Rattle.request_book.specs.declared.outcome.ChosenTrip.{ChosenTrip}
 use Rattle.request_book.specs.declared.rider.BookRider.{BookRider}
 use Rattle.request_book.specs.declared.rider.Status.{Status}
 use Rattle.request_book.specs.declared.rider.Status.TheVariants.{Waiting, Promised, Aboard, Cancelled, Delivered, Expired}
-use Rattle.request_book.proofs.BatchLemmas.{increasing_from_rise}
 use Rattle.request_book.proofs.KeyedLemmas.{look_up-at, KeysDiffer-from_rise}
 use Rattle.road_network.specs.Roads.{has_node}
-use Rattle.stop_orders.specs.declared.leg.Leg.{Leg}
-use Rattle.stop_orders.specs.declared.stop.Stop.{Stop}
-use Rattle.stop_orders.specs.declared.stop.Stop.TheVariants.{Pick, Drop, Alight}
-use Rattle.stop_orders.specs.Order.{is_of_rider, is_of_passenger, IsKnown}
-use Rattle.stop_orders.specs.Settled.{trip_task, IsTrip, IsRow}
-use Rattle.stop_orders.specs.Task.{no_leg, leg_at, visit_at, visits_of, free_seats, Serves}
-use Rattle.route_drive.specs.Serving.{is_stop_of, calls_of}
-use Rattle.route_drive.proofs.kept.Batches.{rising_far, distinct_from_rising, distinct_from_differ, asking_is, IsAsking, IsRiderAboard}
-use Rattle.route_drive.proofs.kept.Lapse.{along_range, filter_none, vehicle_of_number, not_late, number_of_vehicle}
-use Rattle.route_drive.proofs.kept.Lists.{takes}
-use Rattle.route_drive.proofs.kept.Served.{passenger_rider, vehicle_found, passengers_differ}
-use Rattle.route_drive.proofs.kept.Told.{is_pick, told_from, told_calls, none_promised, one_promised, IsPickPromised, found_among, none_among}
-use Rattle.route_drive.proofs.kept.Walks.{has_index, index_at, name_at, is_node_at}
-use Rattle.request_book.specs.Rider.{pool_promise}
-use Rattle.request_book.specs.State.{find_passenger}
-use Rattle.stop_orders.specs.Task.{seconds_of}
-use Rattle.route_drive.proofs.kept.Trips.{trip_of, trip_back, trip_is, one_trip, names, names_distinct, told_id, other_id, same_number}
-use Rattle.std.specs.Prelude.{nat_lt}
-use Rattle.std.proofs.lemmas.Bool.{lt-ltb, and_from, and_parts, MatchBool-at_false, cond-true}
+use Rattle.route_drive.specs.Serving.{calls_of}
+use Rattle.route_drive.proofs.kept.Lapse.{vehicle_of_number, not_late, number_of_vehicle}
+use Rattle.route_drive.proofs.kept.Served.{vehicle_found}
+use Rattle.route_drive.proofs.kept.Walks.{is_node_at}
+use Rattle.route_drive.proofs.kept.Trips.{trip_back, trip_is, other_id}
+use Rattle.std.proofs.lemmas.Bool.{lt-ltb, and_from, and_parts, MatchBool-at_false}
 use Rattle.plan_rules.specs.Graph.{must_be_served}
 use Rattle.plan_rules.specs.Plan.{times_chosen}
 use Rattle.promise_check.specs.Promised.{promised_limit, promised_to}
-use Rattle.promise_check.specs.Requests.{ideal_second}
-use Rattle.stop_orders.specs.declared.task.Task.{Task}
 use Rattle.promise_check.proofs.lemmas.Promises.{filter_range_has}
-use Rattle.request_book.specs.Closing.{after_answer, Pick as PlanPick}
-use Rattle.request_book.specs.Rider.{vehicle_of}
-use Rattle.request_book.proofs.CloseLemmas.{after_plan-id}
-use Rattle.request_book.proofs.KeyedLemmas.{look_up-map, look_up-key}
-use Rattle.stop_orders.proofs.lemmas.DoneLemmas.{length-IsOrder}
-use Rattle.stop_orders.specs.Visit.{place_of, latest_of, boarding_of, room_after}
-use Rattle.stop_orders.specs.declared.visit.Visit.{Visit}
-use Rattle.stop_orders.specs.declared.visit.Visit.TheVariants.{Pickup, Dropoff}
-use Rattle.route_drive.specs.Counts.{ideal_dropoff}
-use Rattle.route_drive.specs.Serving.{IsDroppedInTime}
-use Rattle.route_drive.specs.Serving.{AreReached, party_at, seats_after, HasSeatsFor, IsRightPickup, IsRightDropoff, IsRightStop, IsOfVehicle, HasCalls, IsServing, IsPromiseKept, IsDayState}
-use Rattle.route_drive.proofs.kept.Lists.{all_weaker, both}
-use Rattle.route_drive.proofs.kept.Batches.{promise_status, same_persons}
-use Rattle.std.proofs.Common.{max}
-use Rattle.request_book.specs.Consistent.{seat_in}
-use Rattle.stop_orders.specs.Task.{persons}
-use Rattle.route_drive.proofs.kept.Trips.{row_of}
+use Rattle.request_book.proofs.KeyedLemmas.{look_up-key}
+use Rattle.route_drive.specs.Serving.{IsRightDropoff, IsServing, IsPromiseKept}
+use Rattle.route_drive.proofs.kept.Lists.{both}
 use Rattle.route_drive.proofs.kept.Lapse.{promise_is_live}
 use Rattle.route_drive.proofs.kept.Riders.{found_id}
 use Rattle.route_drive.proofs.kept.Sealing.{first_call}
 use Rattle.route_drive.proofs.kept.States.{IsBoundBy, IsBound}
-use Rattle.route_drive.proofs.kept.Tables.{time_between}
-use Rattle.route_drive.proofs.kept.Told.{IsTold, told_reached, told_seats, told_all, told_length}
-use Rattle.route_drive.proofs.kept.Chosen.{rider_aboard, known, member_calls, passenger_calls, other_calls}
+use Rattle.route_drive.proofs.kept.Chosen.{member_calls}
 use Rattle.request_book.specs.Consistent.{IsConsistent, NamesNodes}
 use Rattle.request_book.specs.Step.{step}
 use Rattle.request_book.specs.declared.command.Command.{Command}
@@ -118,12 +67,12 @@ use Rattle.request_book.specs.declared.reply.Reply.{Reply}
 use Rattle.request_book.proofs.ConsistentLemmas.{step-consistent}
 use Rattle.request_book.proofs.NamedLemmas.{step-named}
 use Rattle.request_book.proofs.KeyedLemmas.{look_up-here, look_up-there}
-use Rattle.std.specs.Prelude.{IsTrue, Contains}
+use Rattle.std.specs.Prelude.{Contains}
 use Rattle.promise_check.specs.Settling.{HoldsPromised}
 use Rattle.trip_graph.specs.Answer.{IsRowWith}
 use Rattle.route_drive.proofs.kept.States.{KeepsBounds}
 use Rattle.route_drive.specs.Serving.{chosen_stops}
-use Rattle.route_drive.proofs.kept.Made.{HasTrip, has_trip, find_planned, planned_rider, member_promised, member_status, left_status, IsPlaced', where_is, rides_once, serves_chosen, items_told, trip_vehicle, one_number, IsMemberPickup, after_is, after_stays}
+use Rattle.route_drive.proofs.kept.Made.{HasTrip, has_trip, find_planned, planned_rider, member_promised, member_status, left_status, IsPlaced', where_is, serves_chosen, items_told, trip_vehicle, one_number, IsMemberPickup, after_is, after_stays}
 
 -- the element of a key, where no other has it
 look_up_only : {X : Type 0} (key : X → ℕ) (xs : List X) (i : ℕ) (x : X) → slice_get xs i ≡ Some x → ((j : ℕ) (y : X) → slice_get xs j ≡ Some y → key y ≡ key x → j ≡ i) → look_up key (key x) xs ≡ Some x

@@ -1,18 +1,16 @@
 -- Stops that are entered: what each leaves of what the vehicles have to do.
-use Rattle.std.proofs.Common.{◌≡◌, ◌⊎◌, ℕ, ◌+◌, ◌-◌, ◌*◌, ◌<◌, ◌≤◌, Bool, true, false, cond, eqb, List, [], ◌∷◌, ◌++◌, length, map, filter, Option, Some, None, refl, sym, ap, ◌∙◌, subst, arith, inl, inr, length-append}
-use Rattle.std.specs.Prelude.{option_map, option_and_then, MatchBool}
+use Rattle.std.proofs.Common.{◌≡◌, ℕ, ◌+◌, ◌-◌, ◌≤◌, Bool, true, false, List, [], ◌∷◌, ◌++◌, length, Some, None, refl, sym, ap, ◌∙◌, subst, arith, inl, inr, length-append}
 use Rattle.std.specs.List.{AllByRecursion, sum_by}
 use Rattle.std.specs.Option.{option_map_or}
-use Rattle.std.proofs.lemmas.Bool.{cases_Bool, cases_eq, eq-eqb, ne_eqb, eqb-true, true≢false, MatchBool-at_true, MatchBool-at_false}
+use Rattle.std.proofs.lemmas.Bool.{cases_eq, eq-eqb, ne_eqb, MatchBool-at_true, MatchBool-at_false}
 use Rattle.std.proofs.lemmas.List.Sums.{sum_by-cons, sum_by_push}
 use Rattle.batch_snapshot.specs.Vehicle.{persons_aboard}
 use Rattle.batch_snapshot.specs.declared.passenger.Passenger.{Passenger}
-use Rattle.batch_snapshot.specs.declared.promise.Promise.{Promise}
 use Rattle.batch_snapshot.specs.declared.vehicle.Vehicle.{Vehicle}
-use Rattle.request_book.specs.Keyed.{look_up, changed_at, without, KeysDiffer}
+use Rattle.request_book.specs.Keyed.{look_up, without, KeysDiffer}
 use Rattle.request_book.specs.Rider.{with_status, passenger_of}
-use Rattle.request_book.specs.State.{find_rider, find_vehicle, find_passenger}
-use Rattle.request_book.specs.Step.{takes_in, lets_out, stands_at}
+use Rattle.request_book.specs.State.{find_rider, find_passenger}
+use Rattle.request_book.specs.Step.{takes_in, lets_out}
 use Rattle.request_book.specs.declared.outcome.PlannedStop.{PlannedStop}
 use Rattle.request_book.specs.declared.rider.BookRider.{BookRider}
 use Rattle.request_book.specs.declared.rider.Status.{Status}
@@ -21,9 +19,9 @@ use Rattle.request_book.proofs.KeyedLemmas.{look_up-here, look_up-there, look_up
 use Rattle.rider_limits.specs.declared.settings.Settings.{Settings}
 use Rattle.road_network.specs.Roads.{Roads}
 use Rattle.route_drive.specs.Serving.{IsDroppedInTime}
-use Rattle.route_drive.specs.Serving.{AreReached, party_at, seats_after, HasSeatsFor, IsRightPickup, IsRightDropoff, IsRightStop, IsOfVehicle, is_stop_of, calls_of, HasCalls, IsServing}
+use Rattle.route_drive.specs.Serving.{AreReached, party_at, seats_after, IsRightPickup, IsRightDropoff, IsRightStop, IsOfVehicle, calls_of, HasCalls, IsServing}
 use Rattle.route_drive.proofs.kept.Lists.{both, all_weaker, all_from}
-use Rattle.route_drive.proofs.kept.Riders.{changed, find_other, find_same, same_party, seats_by_party, calls_own, calls_other, no_pickup, no_stop, of_one, calls_of_others, right_elsewhere, serves_elsewhere}
+use Rattle.route_drive.proofs.kept.Riders.{changed, find_other, find_same, same_party, seats_by_party, calls_own, calls_other, no_pickup, no_stop, right_elsewhere, serves_elsewhere}
 
 -- a passenger who gets out leaves one passenger less, and the seats of their party
 fewer_passengers : (x : ℕ) (ps : List Passenger) (p : Passenger) → KeysDiffer (λ p. p.rider) ps → find_passenger x ps ≡ Some p → length (without (λ p. p.rider) x ps) + 1 ≡ length ps

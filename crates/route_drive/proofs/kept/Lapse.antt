@@ -1,25 +1,22 @@
 -- On a driven day a good plan has no late vehicle and no lapsed promise.
-use Rattle.std.proofs.Common.{◌≡◌, ◌⊎◌, ℕ, zero, suc, ◌+◌, ◌<◌, ◌≤◌, Bool, true, false, cond, not, eqb, List, [], ◌∷◌, length, get_or, map, filter, Option, Some, None, refl, sym, ap, ◌∙◌, subst, arith, inl, inr}
+use Rattle.std.proofs.Common.{◌≡◌, ◌⊎◌, ℕ, ◌+◌, ◌<◌, ◌≤◌, Bool, true, false, not, List, [], ◌∷◌, length, get_or, map, filter, Option, Some, None, refl, sym, ap, ◌∙◌, subst, arith, inl, inr}
 use Rattle.std.specs.Prelude.{slice_get, is_some}
 use Rattle.std.specs.List.{AllByRecursion, AllZip, range_with_len}
 use Rattle.std.proofs.lemmas.Bool.{cases_Bool, eq-eqb, MatchBool-at_true}
-use Rattle.std.proofs.lemmas.List.{get_or_default}
 use Rattle.std.proofs.lemmas.List.Elements.{recursion_from_All, All-from_get_or}
 use Rattle.std.proofs.lemmas.List.FromFn.{length-range_with_len, get_or-range_with_len}
-use Rattle.std.proofs.lemmas.Option.{slice_get_within, get_or_from_slice_get, slice_get-get_or, slice_get_cases}
+use Rattle.std.proofs.lemmas.Option.{slice_get_within, slice_get-get_or, slice_get_cases}
 use Rattle.pool_base.specs.Times.{travel_time}
 use Rattle.pool_base.specs.declared.times.Times.{Times}
 use Rattle.batch_snapshot.specs.Batch.{Batch}
 use Rattle.batch_snapshot.specs.declared.promise.Promise.{Promise}
-use Rattle.batch_snapshot.specs.declared.rider.Rider.{Rider}
 use Rattle.batch_snapshot.specs.declared.vehicle.Vehicle.{Vehicle}
 use Rattle.batch_solver.specs.Outcome.{IsGoodPlan}
-use Rattle.batch_solver.specs.Trips.{IsLate, AreLate}
+use Rattle.batch_solver.specs.Trips.{IsLate}
 use Rattle.promise_check.specs.Requests.{request_at}
 use Rattle.promise_check.specs.Promised.{is_promised_to, IsLive}
-use Rattle.promise_check.specs.Settling.{IsSettled, IsLiveRider, IsLateRight, HasRightLimit}
-use Rattle.request_book.specs.Rider.{shown}
-use Rattle.request_book.specs.State.{find_rider, find_vehicle}
+use Rattle.promise_check.specs.Settling.{IsSettled, IsLiveRider, HasRightLimit}
+use Rattle.request_book.specs.State.{find_vehicle}
 use Rattle.request_book.specs.declared.outcome.PlannedStop.{PlannedStop}
 use Rattle.request_book.specs.declared.outcome.Planned.{Planned}
 use Rattle.request_book.specs.declared.state.State.{State}
@@ -30,11 +27,11 @@ use Rattle.stop_orders.specs.Settled.{vehicle_at, rider_at, no_rider, vehicle_ta
 use Rattle.stop_orders.specs.Task.{IsServable}
 use Rattle.travel_times.specs.Table.{AreTravelTimes}
 use Rattle.route_drive.specs.Serving.{IsKept}
-use Rattle.route_drive.proofs.kept.Lists.{skips, all_from}
-use Rattle.route_drive.proofs.kept.Batches.{found_at, IsPromisedRider}
+use Rattle.route_drive.proofs.kept.Lists.{skips}
+use Rattle.route_drive.proofs.kept.Batches.{found_at}
 use Rattle.route_drive.proofs.kept.Sealing.{ShowsRiders}
 use Rattle.route_drive.proofs.kept.States.{vehicle_id}
-use Rattle.route_drive.proofs.kept.Served.{request_rider, promised_request, promised_served, passengers_served, few_promised}
+use Rattle.route_drive.proofs.kept.Served.{promised_request, promised_served, passengers_served, few_promised}
 
 pub filter_none : {X : Type 0} (p : X → Bool) (xs : List X) → AllByRecursion (λ x. p x ≡ false) xs → filter p xs ≡ []
 filter_none p [] all = refl
@@ -127,7 +124,7 @@ module _ (settings : Settings) (roads : Roads) (s : State) (stops : ℕ → List
   pub nothing_lapses : (planned : Planned) → IsGoodPlan settings points (travel_time times) settled planned → (planned.late ≡ []) × (planned.lapsed ≡ [])
   nothing_lapses planned good = (
     none_zip (IsLate points (travel_time times) settled) (filter (λ v. (vehicle_at settled v).late) (range_with_len 0 (length settled.vehicles))) planned.late
-    (filter_none (λ v. (vehicle_at settled v).late) (range_with_len 0 (length settled.vehicles)) (along_range (λ v. (vehicle_at settled v).late ≡ false) (length settled.vehicles) not_late)) good.late,
+        (filter_none (λ v. (vehicle_at settled v).late) (range_with_len 0 (length settled.vehicles)) (along_range (λ v. (vehicle_at settled v).late ≡ false) (length settled.vehicles) not_late)) good.late,
     good.lapsed ∙ ap (map (λ r. r.id)) (filter_none (λ r. r.lapsed) settled.riders
-    (recursion_from_All (λ r. r.lapsed ≡ false) settled.riders (All-from_get_or (λ r. r.lapsed ≡ false) settled.riders no_rider not_lapsed))),
+        (recursion_from_All (λ r. r.lapsed ≡ false) settled.riders (All-from_get_or (λ r. r.lapsed ≡ false) settled.riders no_rider not_lapsed))),
   )

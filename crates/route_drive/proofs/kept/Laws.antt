@@ -1,35 +1,23 @@
 -- The laws of driven days.
-use Rattle.std.proofs.Common.{◌≡◌, ◌⊎◌, ℕ, ◌+◌, ◌<◌, ◌≤◌, Bool, true, false, cond, List, [], ◌∷◌, map, Option, Some, None, refl, sym, ap, ◌∙◌, subst, inl, inr}
-use Rattle.std.specs.List.{AllByRecursion}
-use Rattle.std.proofs.lemmas.Bool.{cases_Bool}
+use Rattle.std.proofs.Common.{◌≡◌, ◌+◌, ◌<◌, Bool, true, false, cond, map, None, refl, sym, ap, ◌∙◌, subst}
 use Rattle.pool_base.specs.Times.{travel_time}
-use Rattle.pool_base.specs.declared.times.Times.{Times}
-use Rattle.batch_snapshot.specs.Batch.{Batch}
-use Rattle.batch_snapshot.specs.declared.vehicle.Vehicle.{Vehicle}
-use Rattle.batch_solver.specs.Outcome.{IsGoodAnswer, IsGoodOutcome, IsPosed}
+use Rattle.batch_solver.specs.Outcome.{IsGoodAnswer}
 use Rattle.request_book.specs.Closing.{after_answer, after_plan, picks}
 use Rattle.request_book.specs.Consistent.{IsConsistent, NamesNodes}
-use Rattle.request_book.specs.Refusals.{clock_back}
-use Rattle.request_book.specs.Sealing.{sealed_state}
-use Rattle.request_book.specs.State.{find_vehicle}
 use Rattle.request_book.specs.Step.{step}
-use Rattle.request_book.specs.declared.command.Command.TheVariants.{Report, Pickup, Dropoff, Seal, Close}
+use Rattle.request_book.specs.declared.command.Command.TheVariants.{Pickup, Dropoff, Close}
 use Rattle.request_book.specs.declared.outcome.Answer.{Answer}
 use Rattle.request_book.specs.declared.outcome.Answer.TheVariants as answer
-use Rattle.request_book.specs.declared.outcome.Outcome.{Outcome}
 use Rattle.request_book.specs.declared.outcome.Planned.{Planned}
 use Rattle.request_book.specs.declared.outcome.PlannedStop.{PlannedStop}
 use Rattle.request_book.specs.declared.reply.Reply.{Reply}
-use Rattle.request_book.specs.declared.reply.Reply.TheVariants.{Placed, Picked, Dropped, Closed}
+use Rattle.request_book.specs.declared.reply.Reply.TheVariants.{Picked, Dropped, Closed}
 use Rattle.request_book.specs.declared.state.State.{State}
 use Rattle.request_book.proofs.ConsistentLemmas.{step-consistent}
 use Rattle.request_book.proofs.NamedLemmas.{step-named}
-use Rattle.rider_limits.specs.declared.settings.Settings.{Settings}
-use Rattle.road_network.specs.Roads.{Roads, has_node}
-use Rattle.stop_orders.specs.declared.settled.Settled.{Settled}
-use Rattle.route_drive.specs.Entering.{stop_command}
-use Rattle.route_drive.specs.Serving.{IsServing, IsDayState, IsKept, IsDone, KeepsBounds, ShowsRiders, IsBound}
-use Rattle.route_drive.specs.Kept.{StopsAreAnswered, ReportsAreServed, RequestsLeaveAll, SealsKeep, NoPromiseLapses, ClosesKeep, AreLater, AreReported, NothingLapses, IsClosedOn, closed, stops_after}
+use Rattle.road_network.specs.Roads.{has_node}
+use Rattle.route_drive.specs.Serving.{IsKept, IsDone, IsBound}
+use Rattle.route_drive.specs.Kept.{StopsAreAnswered, ReportsAreServed, RequestsLeaveAll, SealsKeep, NoPromiseLapses, ClosesKeep, NothingLapses, IsClosedOn, closed, stops_after}
 use Rattle.route_drive.proofs.kept.Lists.{all_weaker}
 use Rattle.route_drive.proofs.kept.Replies.{close_is}
 use Rattle.route_drive.proofs.kept.States.{pickup_done, dropoff_done, report_done}

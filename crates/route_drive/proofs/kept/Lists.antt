@@ -1,5 +1,5 @@
 -- Filters, and lists whose parts are counted.
-use Rattle.std.proofs.Common.{◌≡◌, ℕ, zero, suc, ◌+◌, ◌*◌, ◌<◌, ◌≤◌, Bool, true, false, cond, not, List, [], ◌∷◌, length, map, filter, refl, sym, ap, ◌∙◌, subst, arith, inl, inr}
+use Rattle.std.proofs.Common.{◌≡◌, ℕ, zero, suc, ◌+◌, ◌*◌, ◌<◌, ◌≤◌, Bool, true, false, not, List, [], ◌∷◌, length, map, filter, refl, sym, ap, ◌∙◌, subst, arith, inl, inr}
 use Rattle.std.specs.List.{AllByRecursion}
 use Rattle.std.proofs.lemmas.Bool.{cases_Bool, cond-true, cond-false, false≢true}
 use Rattle.std.proofs.lemmas.List.Filters.{length-filter_both}
@@ -56,7 +56,7 @@ filter_filter p q le (x ∷ xs) = elim (cases_Bool (q x)) [
     | inl h ↦ takes p x (filter q xs) h ∙ ap (λ ss. x ∷ ss) (filter_filter p q le xs) ∙ sym (takes p x xs h)
     | inr h ↦ skips p x (filter q xs) h ∙ filter_filter p q le xs ∙ sym (skips p x xs h)
   ]
-  | inr k ↦ ap (λ ss. filter p ss) (skips q x xs k) ∙ filter_filter p q le xs ∙ sym (skips p x xs (elim (cases_Bool (p x)) [ | inl h ↦ absurd (false≢true (sym k ∙ le x h)) | inr h ↦ h ]))
+  | inr k ↦ ap (λ ss. filter p ss) (skips q x xs k) ∙ filter_filter p q le xs ∙ sym (skips p x xs (elim (cases_Bool (p x)) [ inl h ↦ absurd (false≢true (sym k ∙ le x h)) | inr h ↦ h ]))
 ]
 
 -- tests of which no two hold at once, each of so many elements, take so many elements together
@@ -65,7 +65,7 @@ many_apart p c apart zero xs each = omega arith
 many_apart {X} p c apart (suc n) xs each =
     let others : List X = filter (λ x. not (p n x)) xs in
     let ih : n * c ≤ length others = many_apart p c apart n others (λ i h.
-    ap length (filter_filter (p i) (λ x. not (p n x)) (λ x e. elim (cases_Bool (p n x)) [ | inl k ↦ absurd (let same : i ≡ n = apart i n x e k in omega arith) | inr k ↦ ap not k ]) xs) ∙ each i (omega arith)) in
+    ap length (filter_filter (p i) (λ x. not (p n x)) (λ x e. elim (cases_Bool (p n x)) [ inl k ↦ absurd (let same : i ≡ n = apart i n x e k in omega arith) | inr k ↦ ap not k ]) xs) ∙ each i (omega arith)) in
     let whole : length (filter (p n) xs) + length others ≡ length xs = length-filter_both (p n) (λ x. not (p n x)) (λ x. refl) xs in
     let own : length (filter (p n) xs) ≡ c = each n (omega arith) in
     let product : suc n * c ≡ n * c + c = omega arith in

@@ -1,12 +1,9 @@
 -- A close with a good plan on a driven day: the chosen trips are what the vehicles now serve.
-use Rattle.std.proofs.Common.{◌≡◌, ◌⊎◌, ℕ, zero, suc, ◌+◌, ◌<◌, ◌≤◌, Bool, true, false, cond, not, eqb, List, [], ◌∷◌, length, get_or, map, filter, Option, Some, None, refl, sym, ap, ◌∙◌, subst, arith, inl, inr}
+use Rattle.std.proofs.Common.{◌≡◌, ◌⊎◌, ℕ, ◌+◌, ◌<◌, ◌≤◌, Bool, true, false, cond, List, [], ◌∷◌, length, get_or, map, Option, Some, None, refl, sym, ap, ◌∙◌, subst, arith, inl, inr}
 use Rattle.std.specs.Prelude.{slice_get, is_some}
-use Rattle.std.specs.List.{AllByRecursion, AllZip, range_with_len}
-use Rattle.std.proofs.lemmas.Bool.{cases_Bool, eq-eqb, MatchBool-at_true}
-use Rattle.std.proofs.lemmas.List.{get_or_default}
-use Rattle.std.proofs.lemmas.List.Elements.{recursion_from_All, All-from_get_or}
-use Rattle.std.proofs.lemmas.List.FromFn.{length-range_with_len, get_or-range_with_len}
-use Rattle.std.proofs.lemmas.Option.{slice_get_within, get_or_from_slice_get, slice_get-get_or, slice_get_cases}
+use Rattle.std.specs.List.{AllByRecursion}
+use Rattle.std.proofs.lemmas.Bool.{cases_Bool, eq-eqb}
+use Rattle.std.proofs.lemmas.Option.{slice_get_within, get_or_from_slice_get, slice_get-get_or}
 use Rattle.pool_base.specs.Times.{travel_time}
 use Rattle.pool_base.specs.declared.times.Times.{Times}
 use Rattle.batch_snapshot.specs.Batch.{Batch}
@@ -14,10 +11,8 @@ use Rattle.batch_snapshot.specs.declared.promise.Promise.{Promise}
 use Rattle.batch_snapshot.specs.declared.rider.Rider.{Rider}
 use Rattle.batch_snapshot.specs.declared.vehicle.Vehicle.{Vehicle}
 use Rattle.batch_solver.specs.Outcome.{IsGoodPlan}
-use Rattle.batch_solver.specs.Trips.{IsLate, AreLate}
 use Rattle.promise_check.specs.Requests.{request_at}
-use Rattle.promise_check.specs.Promised.{is_promised_to, IsLive}
-use Rattle.promise_check.specs.Settling.{IsSettled, IsLiveRider, IsLateRight, HasRightLimit}
+use Rattle.promise_check.specs.Settling.{IsSettled, HasRightLimit}
 use Rattle.request_book.specs.Rider.{shown}
 use Rattle.request_book.specs.State.{find_rider, find_vehicle}
 use Rattle.request_book.specs.declared.outcome.PlannedStop.{PlannedStop}
@@ -26,32 +21,26 @@ use Rattle.request_book.specs.declared.state.State.{State}
 use Rattle.rider_limits.specs.declared.settings.Settings.{Settings}
 use Rattle.road_network.specs.Roads.{Roads, index_in}
 use Rattle.stop_orders.specs.declared.settled.Settled.{Settled}
-use Rattle.stop_orders.specs.Settled.{vehicle_at, rider_at, no_rider, vehicle_task}
-use Rattle.stop_orders.specs.Task.{IsServable}
+use Rattle.stop_orders.specs.Settled.{vehicle_at, rider_at}
 use Rattle.travel_times.specs.Table.{AreTravelTimes}
 use Rattle.route_drive.specs.Serving.{IsKept}
-use Rattle.route_drive.proofs.kept.Lists.{skips, all_from}
-use Rattle.route_drive.proofs.kept.Batches.{found_at, IsPromisedRider}
+use Rattle.route_drive.proofs.kept.Batches.{found_at}
 use Rattle.route_drive.proofs.kept.Sealing.{ShowsRiders}
-use Rattle.route_drive.proofs.kept.States.{vehicle_id}
-use Rattle.route_drive.proofs.kept.Served.{request_rider, promised_request, promised_served, passengers_served, few_promised}
+use Rattle.route_drive.proofs.kept.Served.{request_rider}
 use Rattle.std.specs.Prelude.{option_map, option_and_then, unwrap_or, ◌&&◌, min}
-use Rattle.std.specs.List.{IsDistinct, zip}
+use Rattle.std.specs.List.{IsDistinct}
 use Rattle.std.specs.Option.{option_map_or}
 use Rattle.std.proofs.Common.{nat_eq, ◌-◌, ◌*◌}
-use Rattle.std.proofs.lemmas.Bool.{cases_eq, cases_lt, ne_eqb, eqb-true, false≢true, true≢false}
+use Rattle.std.proofs.lemmas.Bool.{cases_lt, false≢true, true≢false}
 use Rattle.std.proofs.lemmas.List.{get_or-map, length-map}
 use Rattle.batch_snapshot.specs.Vehicle.{persons_aboard}
 use Rattle.batch_snapshot.specs.declared.passenger.Passenger.{Passenger}
-use Rattle.batch_solver.specs.Told.{vehicle_id as told_vehicle, rider_id, told_stop, told_stops}
-use Rattle.batch_solver.specs.Trips.{IsTripOf, AreTrips}
-use Rattle.plan_rules.proofs.lemmas.GraphLemmas.{times_served_some, times_served_found, times_served_as_count, in_choice}
-use Rattle.plan_rules.proofs.lemmas.PlanLemmas.{plan_choice}
-use Rattle.plan_rules.proofs.lemmas.SumLemmas.{count_below_two}
-use Rattle.plan_rules.specs.Graph.{Graph, choice_at, riders_at, row_at, no_row, is_in, IsRowOf}
-use Rattle.plan_rules.specs.Plan.{IsLawful}
+use Rattle.batch_solver.specs.Told.{rider_id, told_stop}
+use Rattle.batch_solver.specs.Trips.{IsTripOf}
+use Rattle.plan_rules.proofs.lemmas.GraphLemmas.{times_served_some, times_served_found, in_choice}
+use Rattle.plan_rules.specs.Graph.{choice_at, riders_at, is_in}
 use Rattle.promise_check.specs.Requests.{IsLegOf, no_request}
-use Rattle.promise_check.specs.Settling.{IsPlaced, IsRiderOf}
+use Rattle.promise_check.specs.Settling.{IsPlaced}
 use Rattle.request_book.specs.Closing.{picks, trip_picks, planned_status, in_batch, after_plan}
 use Rattle.request_book.specs.Keyed.{look_up, KeysDiffer}
 use Rattle.request_book.specs.Rider.{with_status, passenger_of, is_active}
@@ -59,55 +48,43 @@ use Rattle.request_book.specs.declared.outcome.ChosenTrip.{ChosenTrip}
 use Rattle.request_book.specs.declared.rider.BookRider.{BookRider}
 use Rattle.request_book.specs.declared.rider.Status.{Status}
 use Rattle.request_book.specs.declared.rider.Status.TheVariants.{Waiting, Promised, Aboard, Cancelled, Delivered, Expired}
-use Rattle.request_book.proofs.BatchLemmas.{increasing_from_rise}
 use Rattle.request_book.proofs.KeyedLemmas.{look_up-at, KeysDiffer-from_rise}
 use Rattle.road_network.specs.Roads.{has_node}
 use Rattle.stop_orders.specs.declared.leg.Leg.{Leg}
 use Rattle.stop_orders.specs.declared.stop.Stop.{Stop}
 use Rattle.stop_orders.specs.declared.stop.Stop.TheVariants.{Pick, Drop, Alight}
-use Rattle.stop_orders.specs.Order.{is_of_rider, is_of_passenger, IsKnown}
-use Rattle.stop_orders.specs.Settled.{trip_task, IsTrip, IsRow}
-use Rattle.stop_orders.specs.Task.{no_leg, leg_at, visit_at, visits_of, free_seats, Serves}
-use Rattle.route_drive.specs.Serving.{is_stop_of, calls_of}
-use Rattle.route_drive.proofs.kept.Batches.{rising_far, distinct_from_rising, distinct_from_differ, asking_is, IsAsking, IsRiderAboard}
-use Rattle.route_drive.proofs.kept.Lapse.{along_range, filter_none, vehicle_of_number, not_late, number_of_vehicle}
-use Rattle.route_drive.proofs.kept.Lists.{takes}
-use Rattle.route_drive.proofs.kept.Served.{passenger_rider, vehicle_found, passengers_differ}
-use Rattle.route_drive.proofs.kept.Told.{is_pick, told_from, told_calls, none_promised, one_promised, IsPickPromised, found_among, none_among}
+use Rattle.stop_orders.specs.Order.{IsKnown}
+use Rattle.stop_orders.specs.Settled.{trip_task}
+use Rattle.stop_orders.specs.Task.{no_leg, leg_at, visit_at, free_seats}
+use Rattle.route_drive.specs.Serving.{calls_of}
+use Rattle.route_drive.proofs.kept.Batches.{distinct_from_differ, IsAsking, IsRiderAboard}
+use Rattle.route_drive.proofs.kept.Lapse.{vehicle_of_number}
+use Rattle.route_drive.proofs.kept.Served.{vehicle_found}
+use Rattle.route_drive.proofs.kept.Told.{told_from, none_promised, one_promised, IsPickPromised, found_among, none_among}
 use Rattle.route_drive.proofs.kept.Walks.{has_index, index_at, name_at, is_node_at}
-use Rattle.request_book.specs.Rider.{pool_promise}
 use Rattle.request_book.specs.State.{find_passenger}
-use Rattle.stop_orders.specs.Task.{seconds_of}
-use Rattle.route_drive.proofs.kept.Trips.{trip_of, trip_back, trip_is, one_trip, names, names_distinct, told_id, other_id, same_number}
-use Rattle.std.specs.Prelude.{nat_lt, MatchBool}
-use Rattle.std.proofs.lemmas.Bool.{lt-ltb, and_from, and_parts, MatchBool-at_false, cond-true}
-use Rattle.plan_rules.specs.Graph.{must_be_served}
+use Rattle.route_drive.proofs.kept.Trips.{trip_of, trip_back, trip_is, one_trip, told_id}
+use Rattle.std.specs.Prelude.{MatchBool}
+use Rattle.std.proofs.lemmas.Bool.{and_from, and_parts, cond-true}
 use Rattle.plan_rules.specs.Plan.{times_chosen}
-use Rattle.promise_check.specs.Promised.{promised_limit, promised_to}
 use Rattle.promise_check.specs.Requests.{ideal_second}
 use Rattle.stop_orders.specs.declared.task.Task.{Task}
-use Rattle.promise_check.proofs.lemmas.Promises.{filter_range_has}
-use Rattle.request_book.specs.Closing.{after_answer, Pick as PlanPick}
-use Rattle.request_book.specs.Rider.{vehicle_of}
+use Rattle.request_book.specs.Closing.{Pick as PlanPick}
 use Rattle.request_book.proofs.CloseLemmas.{after_plan-id}
 use Rattle.request_book.proofs.KeyedLemmas.{look_up-map, look_up-key}
 use Rattle.stop_orders.proofs.lemmas.DoneLemmas.{length-IsOrder}
-use Rattle.stop_orders.specs.Visit.{place_of, latest_of, boarding_of, room_after}
+use Rattle.stop_orders.specs.Visit.{latest_of}
 use Rattle.stop_orders.specs.declared.visit.Visit.{Visit}
-use Rattle.stop_orders.specs.declared.visit.Visit.TheVariants.{Pickup, Dropoff}
 use Rattle.route_drive.specs.Counts.{ideal_dropoff}
 use Rattle.route_drive.specs.Serving.{IsDroppedInTime}
-use Rattle.route_drive.specs.Serving.{AreReached, party_at, seats_after, HasSeatsFor, IsRightPickup, IsRightDropoff, IsRightStop, IsOfVehicle, HasCalls, IsServing, IsPromiseKept, IsDayState}
+use Rattle.route_drive.specs.Serving.{AreReached, party_at, HasSeatsFor, IsRightPickup, IsRightDropoff, IsRightStop, IsOfVehicle, HasCalls, IsServing}
 use Rattle.route_drive.proofs.kept.Lists.{all_weaker, both}
-use Rattle.route_drive.proofs.kept.Batches.{promise_status, same_persons}
+use Rattle.route_drive.proofs.kept.Batches.{same_persons}
 use Rattle.std.proofs.Common.{max}
 use Rattle.request_book.specs.Consistent.{seat_in}
 use Rattle.stop_orders.specs.Task.{persons}
 use Rattle.route_drive.proofs.kept.Trips.{row_of}
-use Rattle.route_drive.proofs.kept.Lapse.{promise_is_live}
 use Rattle.route_drive.proofs.kept.Riders.{found_id}
-use Rattle.route_drive.proofs.kept.Sealing.{first_call}
-use Rattle.route_drive.proofs.kept.States.{IsBoundBy, IsBound}
 use Rattle.route_drive.proofs.kept.Tables.{time_between}
 use Rattle.route_drive.proofs.kept.Told.{IsTold, told_reached, told_seats, told_all, told_length}
 use Rattle.route_drive.proofs.kept.Chosen.{rider_aboard, known, member_calls, passenger_calls, other_calls}
@@ -155,10 +132,13 @@ module _ (settings : Settings) (roads : Roads) (s : State) (stops : ℕ → List
       let id : of.0.id ≡ (request_at b.riders n).id = found_id (request_at b.riders n).id s.riders of.0 of.1 in
       let active : is_active of.0.status ≡ true = ap is_some of.2.pool in
       let at : look_up (λ (r : Rider). r.id) (request_at b.riders n).id b.riders ≡ Some (request_at b.riders n) = look_up-at (λ (r : Rider). r.id) n b.riders no_request (KeysDiffer-from_rise (λ (r : Rider). r.id) b.riders shows.rise) h in
-      let among : in_batch b.riders of.0.id ≡ true = ap is_some (ap (λ z. look_up (λ (r : Rider). r.id) z b.riders) id ∙ at) in
-      (of.0, of.1, of.2,
-      find_planned (request_at b.riders n).id ∙ ap (option_map (after_plan b.riders (picks planned.chosen))) of.1
-      ∙ ap Some (after_is b.riders (picks planned.chosen) of.0 active among ∙ ap (λ z. with_status (planned_status (picks planned.chosen) z) of.0) id))
+      let among : in_batch b.riders of.0.id ≡ true = ap is_some (ap (λ z. look_up (λ (r : Rider). r.id) z b.riders) id ∙ at) in (
+        of.0,
+        of.1,
+        of.2,
+        find_planned (request_at b.riders n).id ∙ ap (option_map (after_plan b.riders (picks planned.chosen))) of.1
+            ∙ ap Some (after_is b.riders (picks planned.chosen) of.0 active among ∙ ap (λ z. with_status (planned_status (picks planned.chosen) z) of.0) id),
+      )
 
   -- a vehicle of a number, with its trip
   pub record HasTrip (k : ℕ) : Type 0 where
@@ -206,7 +186,7 @@ module _ (settings : Settings) (roads : Roads) (s : State) (stops : ℕ → List
       let one = member_promised k own i h in
       let has : has_node (riders_at good.graph own.is.row) (get_or (riders_at good.graph own.is.row) i 0) ≡ true = is_node_at (riders_at good.graph own.is.row) i h in
       let found : look_up (λ (p : PlanPick). p.rider) (request_at b.riders (get_or (riders_at good.graph own.is.row) i 0)).id (picks planned.chosen)
-          ≡ Some (record { rider = (request_at b.riders (get_or (riders_at good.graph own.is.row) i 0)).id; promise = record { vehicle = own.t.vehicle; pickup = (member_promised k own i h).second } }) =
+      ≡ Some (record { rider = (request_at b.riders (get_or (riders_at good.graph own.is.row) i 0)).id; promise = record { vehicle = own.t.vehicle; pickup = (member_promised k own i h).second } }) =
       found_among (λ (p : PlanPick). p.rider) (request_at b.riders (get_or (riders_at good.graph own.is.row) i 0)).id (λ (t : ChosenTrip). trip_picks t.vehicle t.stops.items) planned.chosen k own.t own.chosen
       (λ j u e ne. out_of_trip j u (get_or (riders_at good.graph own.is.row) i 0) e low (λ row choose t.
       let back = trip_back settings roads s stops b settled points times kept shows early limits table planned good j u e in
@@ -420,29 +400,35 @@ module _ (settings : Settings) (roads : Roads) (s : State) (stops : ℕ → List
             })
         by (Drop i) second h le =
             let leg = member_leg i h in
-            inr (refl, record {
-              rider = with_status (planned_status (picks planned.chosen) (request_at b.riders (get_or trip i 0)).id) leg.r;
-              found = ap (λ z. find_rider z riders') (told_name i h) ∙ leg.now_found;
-              own = subst (IsOfVehicle own.x.id) (sym (member_status k own i h)) refl;
-              node = at_point (leg_at (map (λ r. (rider_at settled r).leg) trip) i).destination leg.r.destination leg.destination;
-              in_time = let d = member_drop_in_time (get_or trip i 0) (leg_at (map (λ r. (rider_at settled r).leg) trip) i) second leg le in record { seconds = d.seconds; between = d.between; in_time = d.in_time };
-            })
+            inr (
+              refl,
+              record {
+                rider = with_status (planned_status (picks planned.chosen) (request_at b.riders (get_or trip i 0)).id) leg.r;
+                found = ap (λ z. find_rider z riders') (told_name i h) ∙ leg.now_found;
+                own = subst (IsOfVehicle own.x.id) (sym (member_status k own i h)) refl;
+                node = at_point (leg_at (map (λ r. (rider_at settled r).leg) trip) i).destination leg.r.destination leg.destination;
+                in_time = let d = member_drop_in_time (get_or trip i 0) (leg_at (map (λ r. (rider_at settled r).leg) trip) i) second leg le in record { seconds = d.seconds; between = d.between; in_time = d.in_time };
+              },
+            )
         by (Alight j) second h le =
             let of = aboard_at j h in
             let leg = passenger_leg j h in
             let z : ℕ = get_or (map (λ (p : Passenger). p.rider) own.x.aboard.items) j 0 in
-            inr (refl, record {
-              rider = of.rider;
-              found = ap (λ z. find_rider z riders') (told_aboard j) ∙ passenger_stays (get_or (map (λ (p : Passenger). p.rider) own.x.aboard.items) j 0) of.rider own.x.id of.found of.status;
-              own = subst (IsOfVehicle own.x.id) (sym of.status) refl;
-              node = at_point (leg_at (vehicle_at settled k).aboard.items j).destination of.rider.destination leg.destination_place;
-              in_time = record {
-                seconds = travel_time times (leg_at (vehicle_at settled k).aboard.items j).origin (leg_at (vehicle_at settled k).aboard.items j).destination;
-                between = time_between roads points times table (leg_at (vehicle_at settled k).aboard.items j).origin (leg_at (vehicle_at settled k).aboard.items j).destination of.rider.origin of.rider.destination leg.origin_place leg.destination_place;
-                in_time = let c : (leg_at (vehicle_at settled k).aboard.items j).ideal ≡ ideal_dropoff of.rider.time (travel_time times (leg_at (vehicle_at settled k).aboard.items j).origin (leg_at (vehicle_at settled k).aboard.items j).destination) = leg.ideal in
-                    subst (λ m. second ≤ m) (leg.latest_dropoff ∙ ap (λ m. m + settings.delay) c) le;
-              };
-            })
+            inr (
+              refl,
+              record {
+                rider = of.rider;
+                found = ap (λ z. find_rider z riders') (told_aboard j) ∙ passenger_stays (get_or (map (λ (p : Passenger). p.rider) own.x.aboard.items) j 0) of.rider own.x.id of.found of.status;
+                own = subst (IsOfVehicle own.x.id) (sym of.status) refl;
+                node = at_point (leg_at (vehicle_at settled k).aboard.items j).destination of.rider.destination leg.destination_place;
+                in_time = record {
+                  seconds = travel_time times (leg_at (vehicle_at settled k).aboard.items j).origin (leg_at (vehicle_at settled k).aboard.items j).destination;
+                  between = time_between roads points times table (leg_at (vehicle_at settled k).aboard.items j).origin (leg_at (vehicle_at settled k).aboard.items j).destination of.rider.origin of.rider.destination leg.origin_place leg.destination_place;
+                  in_time = let c : (leg_at (vehicle_at settled k).aboard.items j).ideal ≡ ideal_dropoff of.rider.time (travel_time times (leg_at (vehicle_at settled k).aboard.items j).origin (leg_at (vehicle_at settled k).aboard.items j).destination) = leg.ideal in
+                      subst (λ m. second ≤ m) (leg.latest_dropoff ∙ ap (λ m. m + settings.delay) c) le;
+                };
+              },
+            )
 
     -- the same of the stops that the plan gives
     pub items_told : AllByRecursion (λ stop. IsMemberPickup stop ⊎ ((stop.pick ≡ false) × IsRightDropoff roads settings.delay riders' own.x.id stop)) own.t.stops.items

@@ -1,7 +1,7 @@
 -- Stops by riders' ids, as an order of numbered riders and passengers.
-use Rattle.std.proofs.Common.{◌≡◌, ◌⊎◌, ℕ, zero, suc, ◌+◌, ◌*◌, ◌<◌, ◌≤◌, Bool, true, false, cond, not, eqb, nat_eq, List, [], ◌∷◌, length, get_or, map, filter, Option, Some, None, refl, sym, ap, ◌∙◌, subst, arith, inl, inr}
+use Rattle.std.proofs.Common.{◌≡◌, ℕ, ◌+◌, ◌*◌, ◌<◌, ◌≤◌, Bool, true, false, cond, not, eqb, nat_eq, List, [], ◌∷◌, length, get_or, map, filter, refl, sym, ap, ◌∙◌, subst, arith, inl, inr}
 use Rattle.std.specs.List.{AllByRecursion, IsDistinct}
-use Rattle.std.proofs.lemmas.Bool.{cases_Bool, cases_eq, eq-eqb, ne_eqb, eqb-true, true≢false, false≢true}
+use Rattle.std.proofs.lemmas.Bool.{cases_eq, eq-eqb, ne_eqb, eqb-true, false≢true}
 use Rattle.std.proofs.lemmas.List.Filters.{length-filter_both}
 use Rattle.request_book.specs.declared.outcome.PlannedStop.{PlannedStop}
 use Rattle.road_network.specs.Roads.{index_in, has_node}
@@ -9,7 +9,7 @@ use Rattle.stop_orders.specs.declared.stop.Stop.{Stop}
 use Rattle.stop_orders.specs.declared.stop.Stop.TheVariants.{Pick, Drop, Alight}
 use Rattle.stop_orders.specs.Order.{is_of_rider, is_of_passenger, IsKnown, IsOrder}
 use Rattle.route_drive.specs.Serving.{is_stop_of, calls_of}
-use Rattle.route_drive.proofs.kept.Lists.{skips, takes, filter_renamed, filter_filter, all_filtered, all_mapped, all_weaker, many_apart}
+use Rattle.route_drive.proofs.kept.Lists.{filter_renamed, filter_filter, all_filtered, all_mapped, all_weaker, many_apart}
 use Rattle.route_drive.proofs.kept.Walks.{has_index, index_at, name_at, is_node_at}
 
 -- the stop of a task that is meant: riders and passengers are numbered by their ids

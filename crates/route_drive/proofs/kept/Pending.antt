@@ -1,12 +1,12 @@
 -- What is entered of a vehicle before a seal, command by command.
-use Rattle.std.proofs.Common.{◌≡◌, ◌⊎◌, ℕ, ◌+◌, ◌<◌, ◌≤◌, Bool, true, false, cond, leb, ltb, eqb, List, [], ◌∷◌, ◌++◌, map, filter, Option, Some, None, refl, sym, ap, ◌∙◌, subst, arith, inl, inr}
+use Rattle.std.proofs.Common.{◌≡◌, ◌⊎◌, ℕ, ◌+◌, ◌<◌, ◌≤◌, true, false, cond, leb, ltb, List, [], ◌∷◌, ◌++◌, map, Option, Some, refl, sym, ap, ◌∙◌, subst, arith, inl, inr}
 use Rattle.std.specs.List.{AllByRecursion}
-use Rattle.std.proofs.lemmas.Bool.{cases_Bool, cases_lt, lt-ltb, le-ltb, le-leb, lt-leb, MatchBool-at_true, MatchBool-at_false}
+use Rattle.std.proofs.lemmas.Bool.{cases_Bool, cases_lt, lt-ltb, le-ltb, le-leb, lt-leb}
 use Rattle.batch_snapshot.specs.declared.vehicle.Vehicle.{Vehicle}
 use Rattle.request_book.specs.Consistent.{IsNode}
 use Rattle.request_book.specs.State.{find_rider, find_vehicle}
 use Rattle.request_book.specs.declared.command.Command.{Command}
-use Rattle.request_book.specs.declared.command.Command.TheVariants.{Report, Pickup, Dropoff}
+use Rattle.request_book.specs.declared.command.Command.TheVariants.{Report}
 use Rattle.request_book.specs.declared.outcome.PlannedStop.{PlannedStop}
 use Rattle.request_book.specs.declared.reply.Reply.{Reply}
 use Rattle.request_book.specs.declared.reply.Reply.TheVariants.{Placed, Picked, Dropped}
@@ -16,10 +16,8 @@ use Rattle.request_book.proofs.KeyedLemmas.{All-look_up}
 use Rattle.rider_limits.specs.declared.settings.Settings.{Settings}
 use Rattle.road_network.specs.Roads.{Roads, IsNetwork, has_node}
 use Rattle.route_drive.specs.declared.course.Place.{Place}
-use Rattle.route_drive.specs.declared.course.Standing.{Standing}
 use Rattle.route_drive.specs.Entering.{IsReported, due, goal_of, standing_after, stop_command, to_come}
-use Rattle.route_drive.specs.Serving.{AreReached, IsRightPickup, IsRightDropoff, IsRightStop, IsServing, IsDayState, IsDone}
-use Rattle.route_drive.specs.Kept.{AreLater}
+use Rattle.route_drive.specs.Serving.{AreReached, IsRightStop, IsServing, IsDayState, IsDone}
 use Rattle.route_drive.proofs.kept.Lists.{takes, skips, all_weaker, both}
 use Rattle.route_drive.proofs.kept.Enter.{picked_up_right, dropped_right}
 use Rattle.route_drive.proofs.kept.States.{vehicle_id}
@@ -46,9 +44,10 @@ later_from roads dwell now node free stop stops late reached = (late, all_later 
 none_due : (now : ℕ) (stops : List PlannedStop) → AllByRecursion (λ stop. now < stop.second) stops → (due now stops ≡ []) × (to_come now stops ≡ stops)
 none_due now [] all = (refl, refl)
 none_due now (stop ∷ stops) all =
-    let rest = none_due now stops all.1 in
-    (skips (λ (stop : PlannedStop). leb stop.second now) stop stops (lt-leb stop.second now all.0) ∙ rest.0,
-    takes (λ (stop : PlannedStop). ltb now stop.second) stop stops (lt-ltb now stop.second all.0) ∙ ap (λ ss. stop ∷ ss) rest.1)
+    let rest = none_due now stops all.1 in (
+      skips (λ (stop : PlannedStop). leb stop.second now) stop stops (lt-leb stop.second now all.0) ∙ rest.0,
+      takes (λ (stop : PlannedStop). ltb now stop.second) stop stops (lt-ltb now stop.second all.0) ∙ ap (λ ss. stop ∷ ss) rest.1,
+    )
 
 first_due : (now : ℕ) (stop : PlannedStop) (stops : List PlannedStop) → stop.second ≤ now → (due now (stop ∷ stops) ≡ stop ∷ due now stops) × (to_come now (stop ∷ stops) ≡ to_come now stops)
 first_due now stop stops le = (
@@ -98,7 +97,11 @@ module _ (settings : Settings) (roads : Roads) (net : IsNetwork roads) (now : �
       let by : done.own.v.time ≡ there.second = done.own.by in
       let same : stops ≡ left = sym (left_is ∙ none.1) in
       subst (λ command. IsEnteredOne v target command commands left) one (record {
-        reply = Placed; node = there.node; time = there.second; free = there.second; stops = stops;
+        reply = Placed;
+        node = there.node;
+        time = there.second;
+        free = there.second;
+        stops = stops;
         done = done;
         pending = subst (IsPending settings roads now done.t.riders done.own.v target commands) same (IsPending.over (let h = served.0 in omega (arith, h, by)) (subst (λ f. IsServing settings roads done.t.riders done.own.v f stops) (sym by) done.own.serves) later rest);
       })
@@ -124,7 +127,11 @@ module _ (settings : Settings) (roads : Roads) (net : IsNetwork roads) (now : �
         let by : done.own.v.time ≡ stop.second = done.own.by in
         let id : done.own.v.id ≡ v.id = vehicle_id v.id done.t.vehicles done.own.v done.own.at in
         subst (λ command. IsEnteredOne v target command commands left) one (record {
-          reply = cond stop.pick Picked Dropped; node = stop.node; time = stop.second; free = stop.second + settings.dwell; stops = stops;
+          reply = cond stop.pick Picked Dropped;
+          node = stop.node;
+          time = stop.second;
+          free = stop.second + settings.dwell;
+          stops = stops;
           done = done;
           pending = IsPending.waits (stop.second + settings.dwell) stops there (omega (arith, by)) done.own.serves there_is
               (rest ∙ ap (λ n. map (stop_command n) (due now stops) ++ Report n there.node there.second ∷ []) (sym id)) (left_is ∙ first.1);

@@ -1,26 +1,22 @@
 -- How the book answers what is entered on a driven day.
-use Rattle.std.proofs.Common.{◌≡◌, ◌⊎◌, ℕ, ◌+◌, ◌-◌, ◌<◌, ◌≤◌, Bool, true, false, cond, eqb, ltb, leb, List, [], ◌∷◌, ◌++◌, Option, Some, None, refl, sym, ap, ◌∙◌, subst, arith, inl, inr}
-use Rattle.std.specs.Prelude.{option_map, option_and_then}
-use Rattle.std.proofs.lemmas.Bool.{cases_Bool, eq-eqb, le-ltb, le-leb}
+use Rattle.std.proofs.Common.{◌≡◌, ◌⊎◌, ℕ, ◌+◌, ◌≤◌, true, List, [], ◌∷◌, ◌++◌, Option, Some, None, refl, ap, ◌∙◌, inl, inr}
+use Rattle.std.proofs.lemmas.Bool.{eq-eqb, le-ltb, le-leb}
 use Rattle.batch_snapshot.specs.Batch.{Batch}
 use Rattle.batch_snapshot.specs.Vehicle.{persons_aboard}
 use Rattle.batch_snapshot.specs.declared.promise.Promise.{Promise}
 use Rattle.batch_snapshot.specs.declared.vehicle.Vehicle.{Vehicle}
 use Rattle.pool_io.specs.Faults.{one_more}
 use Rattle.request_book.specs.Closing.{closed_state, after_answer}
-use Rattle.request_book.specs.Refusals.{first_of, duplicate_rider, unknown_node, same_place, pool_full, book_full, unknown_rider, is_aboard, has_ended, unknown_vehicle, time_back, not_promised, vehicle_full, not_aboard, batch_open, clock_back, not_this_batch}
+use Rattle.request_book.specs.Refusals.{first_of, duplicate_rider, unknown_node, unknown_rider, is_aboard, has_ended, unknown_vehicle, time_back, not_promised, vehicle_full, not_aboard, batch_open, clock_back, not_this_batch}
 use Rattle.request_book.specs.Sealing.{sealed_state}
 use Rattle.request_book.specs.State.{find_rider, find_vehicle}
 use Rattle.request_book.specs.Step.{answer, step, submit_step, submit_refusal, report_step, pickup_step, dropoff_step, seal_step, seal_refusal, close_step, rider_becomes, vehicle_becomes, takes_in, lets_out, stands_at}
-use Rattle.request_book.specs.declared.command.Command.{Command}
 use Rattle.request_book.specs.declared.command.Command.TheVariants.{Submit, Report, Pickup, Dropoff, Seal, Close}
-use Rattle.request_book.specs.declared.outcome.Answer.{Answer}
 use Rattle.request_book.specs.declared.outcome.Outcome.{Outcome}
 use Rattle.request_book.specs.declared.reply.BookRefusal.{BookRefusal}
 use Rattle.request_book.specs.declared.reply.Reply.{Reply}
 use Rattle.request_book.specs.declared.reply.Reply.TheVariants.{Accepted, Placed, Picked, Dropped, Sealed, Closed, Refused}
 use Rattle.request_book.specs.declared.rider.BookRider.{BookRider}
-use Rattle.request_book.specs.declared.rider.Status.{Status}
 use Rattle.request_book.specs.declared.rider.Status.TheVariants.{Waiting, Promised, Aboard, Delivered}
 use Rattle.request_book.specs.declared.state.State.{State}
 use Rattle.request_book.proofs.StepLemmas.{first_of-none, closed-some}

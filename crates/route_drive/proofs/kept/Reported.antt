@@ -1,5 +1,5 @@
 -- Where a vehicle is reported at a seal, its stops to come are still reached at their seconds.
-use Rattle.std.proofs.Common.{◌≡◌, ◌⊎◌, ℕ, zero, suc, ◌+◌, ◌<◌, ◌≤◌, Bool, true, false, cond, leb, List, [], ◌∷◌, ◌++◌, length, get_or, max, find, Contains, Option, Some, None, refl, sym, ap, ◌∙◌, subst, arith, inl, inr}
+use Rattle.std.proofs.Common.{◌≡◌, ℕ, ◌+◌, ◌<◌, ◌≤◌, Bool, true, false, cond, leb, List, [], ◌∷◌, length, get_or, max, find, Contains, Option, Some, None, refl, sym, ap, ◌∙◌, subst, arith}
 use Rattle.std.specs.List.{AllByRecursion}
 use Rattle.std.proofs.lemmas.Bool.{leb-true}
 use Rattle.std.proofs.lemmas.List.Sums.{sum_by-cons}
@@ -11,9 +11,9 @@ use Rattle.road_network.specs.Walk.{IsWalk, walk_seconds, IsLeastTime}
 use Rattle.route_drive.specs.declared.course.Place.{Place}
 use Rattle.route_drive.specs.declared.course.Standing.{Standing}
 use Rattle.route_drive.specs.declared.walk.WalkStep.{WalkStep}
-use Rattle.route_drive.specs.Entering.{IsReported, goal_of, walk_end, step_from}
-use Rattle.route_drive.specs.Walk.{steps_of, IsShortestWalk}
-use Rattle.route_drive.specs.Serving.{Leads, AreReached}
+use Rattle.route_drive.specs.Entering.{IsReported, goal_of, walk_end}
+use Rattle.route_drive.specs.Walk.{steps_of}
+use Rattle.route_drive.specs.Serving.{AreReached}
 use Rattle.route_drive.proofs.kept.Walks.{ends_within, rest_is_least, has_index, index_at, is_node_at, node_from_index, contains_node}
 
 -- a step of a walk parts it
@@ -117,13 +117,16 @@ module _ (roads : Roads) (net : IsNetwork roads) (dwell now : ℕ) (at : Standin
       let rest : IsLeastTime roads.arcs way.0.via (index_in roads.nodes to) (walk_seconds way.0.rest) =
       rest_is_least roads.arcs way.0.before way.0.rest (index_in roads.nodes at.node) way.0.via (index_in roads.nodes to) way.0.there way.0.onward (λ other walks. let o = shortest.least other walks in omega (arith, o, whole)) in
       subst (IsThere roads dwell now at (s ∷ stops)) (sym is) (record {
-        reached = (record {
-          seconds = walk_seconds way.0.rest;
-          least = subst (λ n. IsLeastTime roads.arcs (index_in roads.nodes step.node) (index_in roads.nodes n) (walk_seconds way.0.rest)) (sym e)
-              (subst (λ i. IsLeastTime roads.arcs i (index_in roads.nodes to) (walk_seconds way.0.rest)) (sym index) rest);
-          short = omega (arith, a, b, takes, whole, short);
-          reached = omega (arith, a, b, takes, whole, gone, second);
-        }, reached.1);
+        reached = (
+          record {
+            seconds = walk_seconds way.0.rest;
+            least = subst (λ n. IsLeastTime roads.arcs (index_in roads.nodes step.node) (index_in roads.nodes n) (walk_seconds way.0.rest)) (sym e)
+                (subst (λ i. IsLeastTime roads.arcs i (index_in roads.nodes to) (walk_seconds way.0.rest)) (sym index) rest);
+            short = omega (arith, a, b, takes, whole, short);
+            reached = omega (arith, a, b, takes, whole, gone, second);
+          },
+          reached.1,
+        );
         named = subst (λ n. has_node roads.nodes n ≡ true) (sym way.0.node) (is_node_at roads.nodes way.0.via l);
         by = t;
         later = omega arith;

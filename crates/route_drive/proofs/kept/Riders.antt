@@ -1,26 +1,22 @@
 -- What a change of one rider's status, or of one vehicle, leaves.
-use Rattle.std.proofs.Common.{◌≡◌, ◌⊎◌, ℕ, ◌+◌, ◌-◌, ◌*◌, ◌<◌, ◌≤◌, Bool, true, false, cond, eqb, List, [], ◌∷◌, ◌++◌, length, map, filter, Option, Some, None, refl, sym, ap, ◌∙◌, subst, arith, inl, inr}
-use Rattle.std.specs.Prelude.{option_map, option_and_then, MatchBool}
-use Rattle.std.specs.List.{AllByRecursion, sum_by}
+use Rattle.std.proofs.Common.{◌≡◌, ◌⊎◌, ℕ, ◌-◌, ◌≤◌, Bool, true, false, List, [], ◌∷◌, map, Option, Some, None, refl, sym, ap, ◌∙◌, subst, arith, inl, inr}
+use Rattle.std.specs.Prelude.{option_map, MatchBool}
+use Rattle.std.specs.List.{AllByRecursion}
 use Rattle.std.specs.Option.{option_map_or}
-use Rattle.std.proofs.lemmas.Bool.{cases_Bool, cases_eq, eq-eqb, ne_eqb, eqb-true, true≢false, MatchBool-at_true, MatchBool-at_false}
-use Rattle.std.proofs.lemmas.List.Sums.{sum_by-cons}
+use Rattle.std.proofs.lemmas.Bool.{cases_Bool, cases_eq, eq-eqb, ne_eqb, MatchBool-at_true, MatchBool-at_false}
 use Rattle.batch_snapshot.specs.Vehicle.{persons_aboard}
-use Rattle.batch_snapshot.specs.declared.passenger.Passenger.{Passenger}
-use Rattle.batch_snapshot.specs.declared.promise.Promise.{Promise}
 use Rattle.batch_snapshot.specs.declared.vehicle.Vehicle.{Vehicle}
-use Rattle.request_book.specs.Keyed.{look_up, changed_at, without, KeysDiffer}
+use Rattle.request_book.specs.Keyed.{changed_at}
 use Rattle.request_book.specs.Rider.{with_status}
-use Rattle.request_book.specs.State.{find_rider, find_vehicle, find_passenger}
+use Rattle.request_book.specs.State.{find_rider}
 use Rattle.request_book.specs.declared.outcome.PlannedStop.{PlannedStop}
 use Rattle.request_book.specs.declared.rider.BookRider.{BookRider}
 use Rattle.request_book.specs.declared.rider.Status.{Status}
 use Rattle.request_book.specs.declared.rider.Status.TheVariants.{Waiting, Promised, Aboard, Cancelled, Delivered, Expired}
-use Rattle.request_book.proofs.KeyedLemmas.{look_up-key, look_up-here, look_up-there, look_up-nil, look_up-changed_here, look_up-changed_there, without_key-absent}
+use Rattle.request_book.proofs.KeyedLemmas.{look_up-key, look_up-changed_here, look_up-changed_there}
 use Rattle.rider_limits.specs.declared.settings.Settings.{Settings}
 use Rattle.road_network.specs.Roads.{Roads}
-use Rattle.route_drive.specs.Serving.{IsDroppedInTime}
-use Rattle.route_drive.specs.Serving.{AreReached, party_at, seats_after, HasSeatsFor, IsRightPickup, IsRightDropoff, IsRightStop, IsOfVehicle, is_stop_of, calls_of, HasCalls, IsServing}
+use Rattle.route_drive.specs.Serving.{party_at, seats_after, HasSeatsFor, IsRightPickup, IsRightDropoff, IsRightStop, IsOfVehicle, is_stop_of, calls_of, HasCalls, IsServing}
 use Rattle.route_drive.proofs.kept.Lists.{skips, takes, all_weaker}
 
 -- what is found has the id that was looked for
@@ -53,9 +49,10 @@ module _ (riders : List BookRider) (x : ℕ) (status : Status) where
 pub seats_by_party : (riders others : List BookRider) (room more : ℕ) → room ≤ more → (stops : List PlannedStop) → AllByRecursion (λ stop. party_at others stop ≡ party_at riders stop) stops
     → HasSeatsFor riders room stops → HasSeatsFor others more stops
 seats_by_party riders others room more le [] same has = tt
-seats_by_party riders others room more le (stop ∷ stops) same has =
-    (λ pick. let h : party_at riders stop ≤ room = has.0 pick in let e : party_at others stop ≡ party_at riders stop = same.0 in omega arith,
-    seats_by_party riders others (seats_after riders stop room) (seats_after others stop more) (on (cases_Bool stop.pick)) stops same.1 has.1)
+seats_by_party riders others room more le (stop ∷ stops) same has = (
+  λ pick. let h : party_at riders stop ≤ room = has.0 pick in let e : party_at others stop ≡ party_at riders stop = same.0 in omega arith,
+  seats_by_party riders others (seats_after riders stop room) (seats_after others stop more) (on (cases_Bool stop.pick)) stops same.1 has.1,
+)
   where
     on : (stop.pick ≡ true) ⊎ (stop.pick ≡ false) → seats_after riders stop room ≤ seats_after others stop more
     on (inl e) = let p : party_at others stop ≡ party_at riders stop = same.0 in rw e (omega (arith, p, le))

@@ -1,16 +1,15 @@
 -- Requests and seals: what they leave of the riders on a driven day, and whom the batch shows.
-use Rattle.std.proofs.Common.{◌≡◌, ◌⊎◌, ℕ, ◌+◌, ◌-◌, ◌<◌, ◌≤◌, Bool, true, false, cond, eqb, leb, ltb, ◌&&◌, List, [], ◌∷◌, ◌++◌, length, map, Option, Some, None, refl, sym, ap, ◌∙◌, subst, arith, inl, inr}
+use Rattle.std.proofs.Common.{◌≡◌, ◌⊎◌, ℕ, ◌+◌, ◌<◌, ◌≤◌, Bool, true, false, cond, leb, ltb, List, [], ◌∷◌, ◌++◌, map, Option, Some, None, refl, sym, ap, ◌∙◌, subst, arith, inl, inr}
 use Rattle.std.specs.Prelude.{option_map, option_and_then}
 use Rattle.std.specs.List.{AllByRecursion, filter_map}
-use Rattle.std.proofs.lemmas.Bool.{cases_Bool, cases_eq, eq-eqb, le-ltb, le-leb, ltb-false, true≢false}
-use Rattle.batch_snapshot.specs.Batch.{Batch}
+use Rattle.std.proofs.lemmas.Bool.{cases_eq, le-ltb, le-leb, ltb-false}
 use Rattle.batch_snapshot.specs.declared.promise.Promise.{Promise}
 use Rattle.batch_snapshot.specs.declared.rider.Rider.{Rider}
 use Rattle.batch_snapshot.specs.declared.vehicle.Vehicle.{Vehicle}
 use Rattle.request_book.specs.Consistent.{IsConsistent, NamesNodes}
-use Rattle.request_book.specs.Keyed.{look_up, by_key, KeysDiffer, KeysRise}
+use Rattle.request_book.specs.Keyed.{look_up, by_key, KeysDiffer}
 use Rattle.request_book.specs.Refusals.{clock_back}
-use Rattle.request_book.specs.Rider.{with_status, shown, pool_promise, is_active}
+use Rattle.request_book.specs.Rider.{with_status, shown, pool_promise}
 use Rattle.request_book.specs.Sealing.{is_over, after_seal, asking, batch_of, sealed_state}
 use Rattle.request_book.specs.State.{find_rider, find_vehicle}
 use Rattle.request_book.specs.Step.{step}
@@ -23,16 +22,16 @@ use Rattle.request_book.specs.declared.rider.BookRider.{BookRider}
 use Rattle.request_book.specs.declared.rider.Status.{Status}
 use Rattle.request_book.specs.declared.rider.Status.TheVariants.{Waiting, Promised, Aboard, Cancelled, Delivered, Expired}
 use Rattle.request_book.specs.declared.state.State.{State}
-use Rattle.request_book.proofs.BatchLemmas.{after_seal-id, shown-is, IsShown}
+use Rattle.request_book.proofs.BatchLemmas.{after_seal-id}
 use Rattle.request_book.proofs.ConsistentLemmas.{step-consistent}
 use Rattle.request_book.proofs.NamedLemmas.{step-named}
 use Rattle.request_book.proofs.KeyedLemmas.{look_up-key, look_up-map, look_up-push_there, look_up-push_here, look_up-push_found, look_up-filter_map, by_key-order, KeysDiffer-map, KeysDiffer-filter_map}
 use Rattle.rider_limits.specs.declared.settings.Settings.{Settings}
 use Rattle.road_network.specs.Roads.{Roads}
-use Rattle.route_drive.specs.Serving.{IsOfVehicle, IsRightStop, IsServing, IsPromiseKept, IsDayState, IsKept, HasCalls, calls_of}
+use Rattle.route_drive.specs.Serving.{IsOfVehicle, IsRightStop, IsServing, IsDayState, IsKept, HasCalls, calls_of}
 pub use Rattle.route_drive.specs.Serving.{LeavesAll, ShowsRiders}
 use Rattle.route_drive.proofs.kept.Lists.{both}
-use Rattle.route_drive.proofs.kept.Riders.{found_id, calls_own, calls_other, serves_elsewhere}
+use Rattle.route_drive.proofs.kept.Riders.{calls_own, calls_other, serves_elsewhere}
 use Rattle.route_drive.proofs.kept.Enter.{picked_up_right}
 use Rattle.route_drive.proofs.kept.Replies.{submit_is}
 use Rattle.route_drive.proofs.kept.States.{IsBoundBy, IsBound, KeepsBounds}

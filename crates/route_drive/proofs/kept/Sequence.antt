@@ -1,12 +1,12 @@
 -- All that is entered before a seal, with requests of any lanes between.
-use Rattle.std.proofs.Common.{◌≡◌, ◌⊎◌, ℕ, ◌+◌, ◌<◌, ◌≤◌, Bool, true, false, cond, leb, ltb, eqb, List, [], ◌∷◌, ◌++◌, length, map, filter, Option, Some, None, refl, sym, ap, ◌∙◌, subst, arith, inl, inr}
+use Rattle.std.proofs.Common.{◌≡◌, ℕ, ◌<◌, ◌≤◌, Bool, true, false, cond, eqb, List, [], ◌∷◌, ◌++◌, length, map, filter, Option, Some, None, refl, sym, ap, ◌∙◌, subst, arith, inl, inr}
 use Rattle.std.specs.List.{AllByRecursion}
-use Rattle.std.proofs.lemmas.Bool.{cases_Bool, cases_eq, eq-eqb, ne_eqb, cond-true, cond-false}
+use Rattle.std.proofs.lemmas.Bool.{cases_eq, eq-eqb, ne_eqb, cond-true, cond-false}
 use Rattle.std.specs.Option.{option_map_or}
 use Rattle.std.proofs.lemmas.List.{append-nil}
 use Rattle.std.proofs.lemmas.List.Elements.{filter-append, recursion_from_All}
 use Rattle.batch_snapshot.specs.declared.vehicle.Vehicle.{Vehicle}
-use Rattle.request_book.specs.Keyed.{look_up, KeysDiffer}
+use Rattle.request_book.specs.Keyed.{KeysDiffer}
 use Rattle.request_book.specs.State.{find_vehicle}
 use Rattle.request_book.specs.Step.{step}
 use Rattle.request_book.specs.declared.command.Command.{Command}
@@ -15,12 +15,12 @@ use Rattle.request_book.specs.declared.outcome.PlannedStop.{PlannedStop}
 use Rattle.request_book.specs.declared.reply.Reply.{Reply}
 use Rattle.request_book.specs.declared.rider.BookRider.{BookRider}
 use Rattle.request_book.specs.declared.state.State.{State}
-use Rattle.request_book.proofs.KeyedLemmas.{look_up-here, look_up-there, look_up-nil, look_up-key, look_up-at, KeysDiffer-from_rise}
+use Rattle.request_book.proofs.KeyedLemmas.{look_up-here, look_up-there, look_up-nil, look_up-at, KeysDiffer-from_rise}
 use Rattle.rider_limits.specs.declared.settings.Settings.{Settings}
 use Rattle.road_network.specs.Roads.{Roads, IsNetwork}
 use Rattle.route_drive.specs.declared.course.Course.{Course}
 use Rattle.route_drive.specs.Entering.{AreEntered, IsEntered, due, stop_command, to_come}
-use Rattle.route_drive.specs.Serving.{IsServing, IsDayState, IsKept, IsDone, KeepsBounds}
+use Rattle.route_drive.specs.Serving.{IsServing, IsDayState, KeepsBounds}
 use Rattle.route_drive.specs.Kept.{CameIn, course_of, after_all, EnteringKeeps, IsReadyForSeal}
 use Rattle.route_drive.proofs.kept.Lists.{skips, takes, all_weaker}
 use Rattle.route_drive.proofs.kept.States.{vehicle_id}

@@ -1,17 +1,13 @@
 -- At a seal the stops of a vehicle serve, by the batch's table, its passengers and the riders promised to it.
-use Rattle.std.proofs.Common.{◌≡◌, ◌⊎◌, ℕ, zero, suc, ◌+◌, ◌-◌, ◌*◌, ◌<◌, ◌≤◌, Bool, true, false, cond, eqb, leb, nat_eq, List, [], ◌∷◌, length, get_or, map, filter, max, min, Option, Some, None, refl, sym, ap, ◌∙◌, subst, arith, inl, inr}
-use Rattle.std.specs.Prelude.{option_map, option_and_then, slice_get, All, Contains}
+use Rattle.std.proofs.Common.{◌≡◌, ◌⊎◌, ℕ, ◌+◌, ◌-◌, ◌*◌, ◌<◌, ◌≤◌, true, false, eqb, nat_eq, List, [], ◌∷◌, length, get_or, map, filter, max, min, Option, Some, None, refl, sym, ap, ◌∙◌, subst, arith, inl, inr}
+use Rattle.std.specs.Prelude.{option_and_then, slice_get, Contains}
 use Rattle.std.specs.Option.{option_map_or}
-use Rattle.std.specs.List.{AllByRecursion, IsDistinct, sum_by, range_with_len}
-use Rattle.std.specs.List.Sorted.{IsStrictlyIncreasing}
-use Rattle.std.proofs.lemmas.Bool.{cases_Bool, cases_eq, cases_lt, eq-eqb, ne_eqb, eqb-true, leb-true, true≢false, false≢true, MatchBool-at_true, MatchBool-at_false}
+use Rattle.std.specs.List.{AllByRecursion, IsDistinct, range_with_len}
+use Rattle.std.proofs.lemmas.Bool.{cases_Bool, eq-eqb, eqb-true, false≢true}
 use Rattle.std.proofs.lemmas.List.{get_or-map, length-map, get_or_default}
 use Rattle.std.proofs.lemmas.List.Elements.{filter_passes}
-use Rattle.std.proofs.lemmas.List.Sums.{sum_by-cons}
 use Rattle.std.proofs.lemmas.Simd.{map-map}
-use Rattle.std.proofs.lemmas.Map.Keys.{IsDistinct-from_apart}
 use Rattle.std.proofs.lemmas.Option.{slice_get_within, get_or_from_slice_get, slice_get-get_or}
-use Rattle.pool_base.specs.TravelTime.{never, IsTravelTime}
 use Rattle.pool_base.specs.Times.{travel_time}
 use Rattle.pool_base.specs.declared.times.Times.{Times}
 use Rattle.batch_snapshot.specs.Batch.{Batch}
@@ -22,12 +18,11 @@ use Rattle.batch_snapshot.specs.declared.rider.Rider.{Rider}
 use Rattle.batch_snapshot.specs.declared.vehicle.Vehicle.{Vehicle}
 use Rattle.promise_check.specs.Requests.{IsLegOf, request_at, no_request, ideal_second}
 use Rattle.promise_check.specs.Promised.{promised_limit, is_promised_to, promised_to, kept_leg, kept_legs}
-use Rattle.promise_check.specs.Settling.{AreLegsOf, IsPlaced, IsSettled}
+use Rattle.promise_check.specs.Settling.{IsPlaced, IsSettled}
 use Rattle.promise_check.proofs.lemmas.Promises.{filter_range_has, promised_trip}
 use Rattle.request_book.specs.Consistent.{seat_in}
-use Rattle.request_book.specs.Keyed.{look_up, KeysDiffer, KeysRise}
-use Rattle.request_book.specs.Rider.{shown, pool_promise, passenger_of, vehicle_of}
-use Rattle.request_book.specs.Sealing.{asking}
+use Rattle.request_book.specs.Keyed.{look_up, KeysDiffer}
+use Rattle.request_book.specs.Rider.{shown, passenger_of}
 use Rattle.request_book.specs.State.{find_rider, find_vehicle, find_passenger}
 use Rattle.request_book.specs.declared.outcome.PlannedStop.{PlannedStop}
 use Rattle.request_book.specs.declared.rider.BookRider.{BookRider}
@@ -35,12 +30,11 @@ use Rattle.request_book.specs.declared.rider.Status.{Status}
 use Rattle.request_book.specs.declared.rider.Status.TheVariants.{Waiting, Promised, Aboard, Cancelled, Delivered, Expired}
 use Rattle.request_book.specs.declared.state.State.{State}
 use Rattle.request_book.proofs.BatchLemmas.{increasing_from_rise}
-use Rattle.request_book.proofs.KeyedLemmas.{look_up-here, look_up-there, look_up-nil, look_up-key, look_up-at, KeysDiffer-from_rise, All-look_up}
+use Rattle.request_book.proofs.KeyedLemmas.{look_up-at, KeysDiffer-from_rise, All-look_up}
 use Rattle.rider_limits.specs.declared.settings.Settings.{Settings}
 use Rattle.road_network.specs.Roads.{Roads, index_in, has_node}
 use Rattle.stop_orders.specs.declared.leg.Leg.{Leg}
 use Rattle.stop_orders.specs.declared.settled.Settled.{Settled}
-use Rattle.stop_orders.specs.declared.settled_rider.SettledRider.{SettledRider}
 use Rattle.stop_orders.specs.declared.settled_vehicle.SettledVehicle.{SettledVehicle}
 use Rattle.stop_orders.specs.declared.stop.Stop.{Stop}
 use Rattle.stop_orders.specs.declared.stop.Stop.TheVariants.{Pick, Drop, Alight}
@@ -49,7 +43,7 @@ use Rattle.stop_orders.specs.declared.visit.Visit.{Visit}
 use Rattle.stop_orders.specs.declared.visit.Visit.TheVariants.{Pickup, Dropoff}
 use Rattle.stop_orders.specs.Order.{IsOrder}
 use Rattle.stop_orders.specs.Settled.{vehicle_at, rider_at, no_rider, vehicle_task, IsTrip}
-use Rattle.stop_orders.specs.Task.{no_leg, leg_at, persons, visit_at, visits_of, free_seats, Serves, IsServable}
+use Rattle.stop_orders.specs.Task.{no_leg, leg_at, persons, visit_at, visits_of, free_seats, IsServable}
 use Rattle.stop_orders.proofs.lemmas.ClockLemmas.{soon_there}
 use Rattle.stop_orders.specs.Visit.{ServesFrom, boarding_of}
 use Rattle.travel_times.specs.Table.{AreTravelTimes}
@@ -417,12 +411,15 @@ module _ (settings : Settings) (roads : Roads) (s : State) (stops : ℕ → List
     -- and, without their stops, the passengers alone
     pub passengers_served : IsServable (travel_time times) (vehicle_task settings.dwell (vehicle_at settled k) [])
     unfolding alights_only
-    passengers_served = (filter alights_only order, record {
-      order = passengers_order (length (kept_legs settings.wait b.riders settled.riders numbers)) (length (vehicle_at settled k).aboard.items) order is_order;
-      in_time = subst (λ vs. ServesFrom (travel_time times) settings.dwell (vehicle_at settled k).start (vehicle_at settled k).ready (free_seats task) vs) alone
-          (sub_serves times.points (travel_time times) settings.dwell (visit_at task) alights_only times.table.times nobody order (vehicle_at settled k).start (vehicle_at settled k).ready (free_seats task) (vehicle_at settled k).start (vehicle_at settled k).ready (free_seats task)
-          (soon_there (travel_time times) (vehicle_at settled k).start (vehicle_at settled k).ready (vehicle_at settled k).ready (omega arith)) in_time);
-    })
+    passengers_served = (
+      filter alights_only order,
+      record {
+        order = passengers_order (length (kept_legs settings.wait b.riders settled.riders numbers)) (length (vehicle_at settled k).aboard.items) order is_order;
+        in_time = subst (λ vs. ServesFrom (travel_time times) settings.dwell (vehicle_at settled k).start (vehicle_at settled k).ready (free_seats task) vs) alone
+            (sub_serves times.points (travel_time times) settings.dwell (visit_at task) alights_only times.table.times nobody order (vehicle_at settled k).start (vehicle_at settled k).ready (free_seats task) (vehicle_at settled k).start (vehicle_at settled k).ready (free_seats task)
+            (soon_there (travel_time times) (vehicle_at settled k).start (vehicle_at settled k).ready (vehicle_at settled k).ready (omega arith)) in_time);
+      },
+    )
       where
         nobody : (stop : Stop) → alights_only stop ≡ true → boarding_of (visit_at task stop) ≡ 0
         nobody (Pick i) e = absurd (false≢true e)

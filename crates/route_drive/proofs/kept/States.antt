@@ -1,37 +1,36 @@
 -- What an entry of a driven day leaves of a state: a stop that is entered, a report, a request.
-use Rattle.std.proofs.Common.{◌≡◌, ◌⊎◌, ℕ, ◌+◌, ◌-◌, ◌<◌, ◌≤◌, Bool, true, false, cond, eqb, List, [], ◌∷◌, ◌++◌, length, map, Option, Some, None, refl, sym, ap, ◌∙◌, subst, arith, inl, inr}
+use Rattle.std.proofs.Common.{◌≡◌, ℕ, ◌+◌, ◌-◌, ◌≤◌, true, false, List, ◌∷◌, map, Some, refl, sym, ap, ◌∙◌, subst, arith, inl, inr}
 use Rattle.std.specs.Prelude.{option_map, option_and_then}
 use Rattle.std.specs.Option.{option_map_or}
-use Rattle.std.proofs.lemmas.Bool.{cases_Bool, cases_eq, eq-eqb}
-use Rattle.batch_snapshot.specs.Batch.{Batch}
+use Rattle.std.proofs.lemmas.Bool.{cases_eq, eq-eqb}
 use Rattle.batch_snapshot.specs.Vehicle.{persons_aboard, HasSeats}
 use Rattle.batch_snapshot.specs.declared.passenger.Passenger.{Passenger}
 use Rattle.batch_snapshot.specs.declared.promise.Promise.{Promise}
 use Rattle.batch_snapshot.specs.declared.vehicle.Vehicle.{Vehicle}
 use Rattle.request_book.specs.Consistent.{IsConsistent, NamesNodes, seat_in}
-use Rattle.request_book.specs.Keyed.{look_up, changed_at, KeysDiffer}
-use Rattle.request_book.specs.Rider.{with_status, passenger_of, vehicle_of}
+use Rattle.request_book.specs.Keyed.{KeysDiffer}
+use Rattle.request_book.specs.Rider.{with_status, passenger_of}
 use Rattle.request_book.specs.State.{find_rider, find_vehicle, find_passenger}
 use Rattle.request_book.specs.Step.{step, rider_becomes, vehicle_becomes, takes_in, lets_out, stands_at}
 use Rattle.request_book.specs.declared.command.Command.{Command}
-use Rattle.request_book.specs.declared.command.Command.TheVariants.{Submit, Report, Pickup, Dropoff}
+use Rattle.request_book.specs.declared.command.Command.TheVariants.{Report, Pickup, Dropoff}
 use Rattle.request_book.specs.declared.outcome.PlannedStop.{PlannedStop}
 use Rattle.request_book.specs.declared.reply.Reply.{Reply}
 use Rattle.request_book.specs.declared.reply.Reply.TheVariants.{Placed, Picked, Dropped}
 use Rattle.request_book.specs.declared.rider.BookRider.{BookRider}
 use Rattle.request_book.specs.declared.rider.Status.{Status}
-use Rattle.request_book.specs.declared.rider.Status.TheVariants.{Waiting, Promised, Aboard, Cancelled, Delivered, Expired}
+use Rattle.request_book.specs.declared.rider.Status.TheVariants.{Promised, Aboard, Delivered}
 use Rattle.request_book.specs.declared.state.State.{State}
 use Rattle.request_book.proofs.ConsistentLemmas.{step-consistent}
 use Rattle.request_book.proofs.NamedLemmas.{step-named}
-use Rattle.request_book.proofs.KeyedLemmas.{look_up-key, look_up-changed_here, look_up-changed_there, look_up-push_there, look_up-push_here, look_up-push_found, All-look_up, map-changed_at}
+use Rattle.request_book.proofs.KeyedLemmas.{look_up-key, look_up-changed_here, look_up-changed_there, All-look_up, map-changed_at}
 use Rattle.rider_limits.specs.declared.settings.Settings.{Settings}
 use Rattle.road_network.specs.Roads.{Roads, has_node}
-use Rattle.route_drive.specs.Serving.{AreReached, party_at, IsOfVehicle, IsServing, IsPromiseKept, IsDayState, HasCalls, calls_of}
+use Rattle.route_drive.specs.Serving.{AreReached, party_at, IsOfVehicle, IsServing, IsPromiseKept, IsDayState}
 pub use Rattle.route_drive.specs.Serving.{IsBoundBy, IsBound, KeepsBounds, LeavesOthers, Then, IsDone}
-use Rattle.route_drive.proofs.kept.Riders.{changed, find_other, find_same, found_id, of_one, serves_elsewhere}
+use Rattle.route_drive.proofs.kept.Riders.{changed, find_other, find_same, found_id, of_one}
 use Rattle.route_drive.proofs.kept.Enter.{others_serve, picked_up_right, dropped_right, serves_on_picked, dropped_is_aboard, serves_on_dropped}
-use Rattle.route_drive.proofs.kept.Replies.{pickup_is, dropoff_is, report_is, submit_is}
+use Rattle.route_drive.proofs.kept.Replies.{pickup_is, dropoff_is, report_is}
 
 pub vehicle_id : (id : ℕ) (vehicles : List Vehicle) (v : Vehicle) → find_vehicle id vehicles ≡ Some v → v.id ≡ id
 vehicle_id id vehicles v e = look_up-key (λ (v : Vehicle). v.id) id vehicles v e

@@ -1,5 +1,5 @@
 -- Stops that are reached by shortest walks, as visits of a task over a table of travel times.
-use Rattle.std.proofs.Common.{◌≡◌, ◌⊎◌, ℕ, zero, suc, ◌+◌, ◌-◌, ◌<◌, ◌≤◌, Bool, true, false, cond, ltb, List, [], ◌∷◌, length, get_or, map, filter, Option, Some, None, refl, sym, ap, ◌∙◌, subst, arith, inl, inr}
+use Rattle.std.proofs.Common.{◌≡◌, ℕ, ◌+◌, ◌<◌, ◌≤◌, Bool, true, false, cond, ltb, List, [], ◌∷◌, length, get_or, map, filter, Some, refl, sym, ap, ◌∙◌, subst, arith, inl, inr}
 use Rattle.std.specs.Prelude.{slice_get}
 use Rattle.std.specs.List.{AllByRecursion}
 use Rattle.std.proofs.lemmas.Bool.{cases_Bool}
@@ -12,17 +12,17 @@ use Rattle.promise_check.specs.Requests.{ideal_second}
 use Rattle.request_book.specs.declared.outcome.PlannedStop.{PlannedStop}
 use Rattle.request_book.specs.declared.rider.BookRider.{BookRider}
 use Rattle.road_network.specs.Roads.{Roads, index_in}
-use Rattle.road_network.specs.Walk.{IsLeastTime, IsTimeBetween}
-use Rattle.stop_orders.proofs.lemmas.ClockLemmas.{AtLeastAsSoon, soon_over, soon_trans, soon_there}
+use Rattle.road_network.specs.Walk.{IsTimeBetween}
+use Rattle.stop_orders.proofs.lemmas.ClockLemmas.{AtLeastAsSoon, soon_over, soon_there}
 use Rattle.stop_orders.specs.declared.stop.Stop.{Stop}
 use Rattle.stop_orders.specs.declared.visit.Visit.{Visit}
 use Rattle.stop_orders.specs.declared.visit.Visit.TheVariants.{Pickup, Dropoff}
 use Rattle.stop_orders.specs.Visit.{place_of, latest_of, boarding_of, room_after, ServesFrom}
 use Rattle.travel_times.specs.Table.{AreTravelTimes}
 use Rattle.route_drive.specs.Counts.{ideal_dropoff}
-use Rattle.route_drive.specs.Serving.{Leads, AreReached, party_at, seats_after, HasSeatsFor}
+use Rattle.route_drive.specs.Serving.{AreReached, party_at, seats_after, HasSeatsFor}
 use Rattle.route_drive.proofs.kept.Lists.{takes, skips}
-use Rattle.route_drive.proofs.kept.Walks.{least_unique, between_unique, least_between}
+use Rattle.route_drive.proofs.kept.Walks.{between_unique}
 
 -- a visit that is a stop over these points: at its node, not after its latest second, of its party
 pub record IsSeen (points : List ℕ) (riders : List BookRider) (stop : PlannedStop) (visit : Visit) : Type 0 where
@@ -67,12 +67,15 @@ module _ (roads : Roads) (points : List ℕ) (times : Times) (table : AreTravelT
       let hop : travel_time times place (place_of (vis stop)) ≡ reached.0.seconds = ap (travel_time times place) where_ ∙ tau in
       let second : stop.second ≡ free + reached.0.seconds = reached.0.reached in
       let then : free + travel_time times place (place_of (vis stop)) + dwell ≡ stop.second + dwell = omega (arith, hop, second) in
-      let in_time = seen.0.in_time in
-      (omega (arith, hop, short), omega (arith, hop, second, in_time, late), fits stop.pick refl seen.0.is,
-      subst (λ p. ServesFrom (travel_time times) dwell p (free + travel_time times place (place_of (vis stop)) + dwell) (room_after (vis stop) room) (map vis stops)) (sym where_)
-      (subst (λ f. ServesFrom (travel_time times) dwell seen.0.place f (room_after (vis stop) room) (map vis stops)) (sym then)
-      (subst (λ r. ServesFrom (travel_time times) dwell seen.0.place (stop.second + dwell) r (map vis stops)) (sym (after stop.pick refl seen.0.is))
-      (serves_by_table riders dwell vis stops seen.0.place stop.node (stop.second + dwell) (seats_after riders stop room) seen.0.node reached.1 seats.1 seen.1))))
+      let in_time = seen.0.in_time in (
+        omega (arith, hop, short),
+        omega (arith, hop, second, in_time, late),
+        fits stop.pick refl seen.0.is,
+        subst (λ p. ServesFrom (travel_time times) dwell p (free + travel_time times place (place_of (vis stop)) + dwell) (room_after (vis stop) room) (map vis stops)) (sym where_)
+            (subst (λ f. ServesFrom (travel_time times) dwell seen.0.place f (room_after (vis stop) room) (map vis stops)) (sym then)
+            (subst (λ r. ServesFrom (travel_time times) dwell seen.0.place (stop.second + dwell) r (map vis stops)) (sym (after stop.pick refl seen.0.is))
+            (serves_by_table riders dwell vis stops seen.0.place stop.node (stop.second + dwell) (seats_after riders stop room) seen.0.node reached.1 seats.1 seen.1))),
+      )
     where
       of_place : (b : Bool) → vis stop ≡ cond b (Pickup seen.0.place seen.0.latest (party_at riders stop)) (Dropoff seen.0.place seen.0.latest seen.0.ideal (party_at riders stop)) → place_of (vis stop) ≡ seen.0.place
       of_place true e = ap place_of e
@@ -99,10 +102,13 @@ sub_serves points tau dwell vis keep travel nobody (s ∷ stops) p f room q g ot
       let sooner = soon.soon (place_of (vis s)) serves.0 in
       let late = serves.1 in
       let none = nobody s k in
-      subst (λ ss. ServesFrom tau dwell p f room (map vis ss)) (sym (takes keep s stops k))
-      (sooner.0, omega (arith, sooner.1, late), omega (arith, none),
-      sub_serves points tau dwell vis keep travel nobody stops (place_of (vis s)) (f + tau p (place_of (vis s)) + dwell) (room_after (vis s) room) (place_of (vis s)) (g + tau q (place_of (vis s)) + dwell) (room_after (vis s) other)
-      (soon_there tau (place_of (vis s)) (f + tau p (place_of (vis s)) + dwell) (g + tau q (place_of (vis s)) + dwell) (omega (arith, sooner.1))) serves.3)
+      subst (λ ss. ServesFrom tau dwell p f room (map vis ss)) (sym (takes keep s stops k)) (
+        sooner.0,
+        omega (arith, sooner.1, late),
+        omega (arith, none),
+        sub_serves points tau dwell vis keep travel nobody stops (place_of (vis s)) (f + tau p (place_of (vis s)) + dwell) (room_after (vis s) room) (place_of (vis s)) (g + tau q (place_of (vis s)) + dwell) (room_after (vis s) other)
+            (soon_there tau (place_of (vis s)) (f + tau p (place_of (vis s)) + dwell) (g + tau q (place_of (vis s)) + dwell) (omega (arith, sooner.1))) serves.3,
+      )
   | inr k ↦
       let sooner = soon.soon (place_of (vis s)) serves.0 in
       subst (λ ss. ServesFrom tau dwell p f room (map vis ss)) (sym (skips keep s stops k))

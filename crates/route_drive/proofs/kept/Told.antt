@@ -1,13 +1,11 @@
 -- The stops that a plan tells of a serving order: their seconds, their seats, whose they are, and what they promise.
-use Rattle.std.proofs.Common.{◌≡◌, ◌⊎◌, ℕ, zero, suc, ◌+◌, ◌-◌, ◌<◌, ◌≤◌, Bool, true, false, cond, eqb, List, [], ◌∷◌, ◌++◌, length, get_or, map, filter, Option, Some, None, refl, sym, ap, ◌∙◌, subst, arith, inl, inr}
+use Rattle.std.proofs.Common.{◌≡◌, ℕ, zero, suc, ◌+◌, ◌≤◌, Bool, true, false, List, [], ◌∷◌, ◌++◌, length, map, filter, Some, None, refl, sym, ap, ◌∙◌, subst, arith, inl, inr}
 use Rattle.std.specs.Prelude.{slice_get}
-use Rattle.std.specs.List.{AllByRecursion, AllZip, zip, flat_map}
+use Rattle.std.specs.List.{AllByRecursion, zip, flat_map}
 use Rattle.std.proofs.lemmas.Bool.{cases_Bool, cases_eq, true≢false}
-use Rattle.pool_base.specs.TravelTime.{never}
 use Rattle.pool_base.specs.Times.{travel_time}
 use Rattle.pool_base.specs.declared.times.Times.{Times}
-use Rattle.batch_snapshot.specs.declared.promise.Promise.{Promise}
-use Rattle.request_book.specs.Closing.{Pick, trip_picks, picks}
+use Rattle.request_book.specs.Closing.{Pick, trip_picks}
 use Rattle.request_book.specs.Keyed.{look_up}
 use Rattle.request_book.specs.declared.outcome.PlannedStop.{PlannedStop}
 use Rattle.request_book.specs.declared.rider.BookRider.{BookRider}
@@ -18,7 +16,7 @@ use Rattle.stop_orders.specs.declared.stop.Stop.TheVariants.{Pick as PickStop, D
 use Rattle.stop_orders.specs.declared.visit.Visit.{Visit}
 use Rattle.stop_orders.specs.Visit.{place_of, latest_of, boarding_of, room_after, seconds_from, ServesFrom}
 use Rattle.travel_times.specs.Table.{AreTravelTimes}
-use Rattle.route_drive.specs.Serving.{Leads, AreReached, party_at, seats_after, HasSeatsFor, is_stop_of, calls_of}
+use Rattle.route_drive.specs.Serving.{AreReached, party_at, seats_after, HasSeatsFor, is_stop_of, calls_of}
 use Rattle.route_drive.proofs.kept.Lists.{takes, skips, all_weaker}
 use Rattle.route_drive.proofs.kept.Walks.{least_between}
 use Rattle.route_drive.proofs.kept.Riders.{calls_own, calls_other, no_pickup}
@@ -50,32 +48,35 @@ module _ (roads : Roads) (points : List ℕ) (times : Times) (table : AreTravelT
       let second : ℕ = free + travel_time times place (place_of (vis s)) in
       let is : (told (s, free + travel_time times place (place_of (vis s)))).second ≡ free + travel_time times place (place_of (vis s)) = are.0.second (free + travel_time times place (place_of (vis s))) in
       let there = are.0.node (free + travel_time times place (place_of (vis s))) in
-      let between = time_between roads points times table place (place_of (vis s)) node (told (s, free + travel_time times place (place_of (vis s)))).node at there in
-      (record {
-        seconds = travel_time times place (place_of (vis s));
-        least = least_between roads.arcs (index_in roads.nodes node) (index_in roads.nodes (told (s, free + travel_time times place (place_of (vis s)))).node) (travel_time times place (place_of (vis s))) between serves.0;
-        short = serves.0;
-        reached = is;
-      },
-      subst (λ f. AreReached roads dwell (told (s, free + travel_time times place (place_of (vis s)))).node f (told_from (place_of (vis s)) (free + travel_time times place (place_of (vis s)) + dwell) stops)) (ap (λ n. n + dwell) (sym is))
-      (told_reached stops (place_of (vis s)) (told (s, free + travel_time times place (place_of (vis s)))).node (free + travel_time times place (place_of (vis s)) + dwell) (room_after (vis s) room) are.1 there serves.3))
+      let between = time_between roads points times table place (place_of (vis s)) node (told (s, free + travel_time times place (place_of (vis s)))).node at there in (
+        record {
+          seconds = travel_time times place (place_of (vis s));
+          least = least_between roads.arcs (index_in roads.nodes node) (index_in roads.nodes (told (s, free + travel_time times place (place_of (vis s)))).node) (travel_time times place (place_of (vis s))) between serves.0;
+          short = serves.0;
+          reached = is;
+        },
+        subst (λ f. AreReached roads dwell (told (s, free + travel_time times place (place_of (vis s)))).node f (told_from (place_of (vis s)) (free + travel_time times place (place_of (vis s)) + dwell) stops)) (ap (λ n. n + dwell) (sym is))
+            (told_reached stops (place_of (vis s)) (told (s, free + travel_time times place (place_of (vis s)))).node (free + travel_time times place (place_of (vis s)) + dwell) (room_after (vis s) room) are.1 there serves.3),
+      )
 
   pub told_seats : (stops : List Stop) (place free room : ℕ) → AllByRecursion (IsTold points riders vis told) stops
       → ServesFrom (travel_time times) dwell place free room (map vis stops) → HasSeatsFor riders room (told_from place free stops)
   told_seats [] place free room are serves = tt
   told_seats (s ∷ stops) place free room are serves =
-      let second : ℕ = free + travel_time times place (place_of (vis s)) in
-      (λ pick. let e = are.0.boards (free + travel_time times place (place_of (vis s))) pick in let h = serves.2 in omega (arith, e, h),
-      subst (λ r. HasSeatsFor riders r (told_from (place_of (vis s)) (free + travel_time times place (place_of (vis s)) + dwell) stops)) (are.0.room (free + travel_time times place (place_of (vis s))) room)
-      (told_seats stops (place_of (vis s)) (free + travel_time times place (place_of (vis s)) + dwell) (room_after (vis s) room) are.1 serves.3))
+      let second : ℕ = free + travel_time times place (place_of (vis s)) in (
+        λ pick. let e = are.0.boards (free + travel_time times place (place_of (vis s))) pick in let h = serves.2 in omega (arith, e, h),
+        subst (λ r. HasSeatsFor riders r (told_from (place_of (vis s)) (free + travel_time times place (place_of (vis s)) + dwell) stops)) (are.0.room (free + travel_time times place (place_of (vis s))) room)
+            (told_seats stops (place_of (vis s)) (free + travel_time times place (place_of (vis s)) + dwell) (room_after (vis s) room) are.1 serves.3),
+      )
 
   -- what holds of each stop that is told at a second in time holds of all that are told
   pub told_all : (P : Stop → Type 0) (Q : PlannedStop → Type 0) → ((s : Stop) (second : ℕ) → P s → second ≤ latest_of (vis s) → Q (told (s, second)))
       → (stops : List Stop) (place free room : ℕ) → AllByRecursion P stops → ServesFrom (travel_time times) dwell place free room (map vis stops) → AllByRecursion Q (told_from place free stops)
   told_all P Q each [] place free room all serves = tt
-  told_all P Q each (s ∷ stops) place free room all serves =
-      (each s (free + travel_time times place (place_of (vis s))) all.0 serves.1,
-      told_all P Q each stops (place_of (vis s)) (free + travel_time times place (place_of (vis s)) + dwell) (room_after (vis s) room) all.1 serves.3)
+  told_all P Q each (s ∷ stops) place free room all serves = (
+    each s (free + travel_time times place (place_of (vis s))) all.0 serves.1,
+    told_all P Q each stops (place_of (vis s)) (free + travel_time times place (place_of (vis s)) + dwell) (room_after (vis s) room) all.1 serves.3,
+  )
 
   pub told_length : (stops : List Stop) (place free : ℕ) → length (told_from place free stops) ≡ length stops
   told_length [] place free = refl
@@ -145,8 +146,11 @@ one_promised x vehicle (stop ∷ stops) e = elim (cases_eq stop.rider x) [
         found =
             ap (look_up (λ (p : Pick). p.rider) x) (picks_take vehicle stop stops pick) ∙ look_up-here (λ (p : Pick). p.rider) x (pick_of vehicle stop) (trip_picks vehicle stops) same
             ∙ ap (λ n. Some (record { rider = n; promise = record { vehicle = vehicle; pickup = stop.second } })) same;
-        at = (λ a b. refl, all_weaker (λ (s : PlannedStop). s.rider ≡ x → s.pick ≡ false) (λ (s : PlannedStop). s.rider ≡ x → s.pick ≡ true → s.second ≡ stop.second)
-            (λ s h a b. absurd (true≢false (sym b ∙ h a))) stops (no_pickup x stops (subst (λ bs. AllByRecursion (λ b. b ≡ false) bs) (sym rest) (refl, tt))));
+        at = (
+          λ a b. refl,
+          all_weaker (λ (s : PlannedStop). s.rider ≡ x → s.pick ≡ false) (λ (s : PlannedStop). s.rider ≡ x → s.pick ≡ true → s.second ≡ stop.second)
+              (λ s h a b. absurd (true≢false (sym b ∙ h a))) stops (no_pickup x stops (subst (λ bs. AllByRecursion (λ b. b ≡ false) bs) (sym rest) (refl, tt))),
+        );
       }
   | inr ne ↦
       let rest = one_promised x vehicle stops (sym (calls_other x stop stops ne) ∙ e) in
