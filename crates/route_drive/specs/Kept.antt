@@ -1,11 +1,14 @@
 -- How a driven day keeps its promises, entry by entry: what is served goes on to be served, and a batch finds no vehicle
 -- late and no promise lapsed.
-use Rattle.std.specs.Prelude.{◌≡◌, ◌==◌, ℕ, ◌+◌, ◌<◌, ◌≤◌, true, List, [], ◌∷◌, Option, None, Some, length, if◌then◌else◌}
+use Rattle.std.specs.Prelude.{◌≡◌, ◌==◌, ℕ, ◌+◌, ◌<◌, ◌≤◌, true, List, [], ◌∷◌, Option, None, Some, length, if◌then◌else◌, All}
 use Rattle.std.specs.List.{AllByRecursion}
 use Rattle.batch_snapshot.specs.Batch.{Batch}
+use Rattle.batch_snapshot.specs.Kept.{IsFleet}
 use Rattle.batch_snapshot.specs.declared.vehicle.Vehicle.{Vehicle}
 use Rattle.batch_solver.specs.Outcome.{IsGoodOutcome}
+use Rattle.request_book.specs.Book.{opening}
 use Rattle.request_book.specs.Closing.{after_answer}
+use Rattle.request_book.specs.Consistent.{IsNode}
 use Rattle.request_book.specs.Refusals.{clock_back}
 use Rattle.request_book.specs.Sealing.{batch_of, sealed_state}
 use Rattle.request_book.specs.State.{find_vehicle}
@@ -18,13 +21,25 @@ use Rattle.request_book.specs.declared.outcome.Outcome.{Outcome}
 use Rattle.request_book.specs.declared.outcome.PlannedStop.{PlannedStop}
 use Rattle.request_book.specs.declared.reply.Reply.{Reply}
 use Rattle.request_book.specs.declared.reply.Reply.TheVariants.{Placed, Picked, Dropped, Closed}
+use Rattle.request_book.specs.declared.rider.BookRider.{BookRider}
 use Rattle.request_book.specs.declared.state.State.{State}
 use Rattle.rider_limits.specs.declared.settings.Settings.{Settings}
 use Rattle.road_network.specs.Roads.{Roads, IsNetwork, has_node}
 use Rattle.route_drive.specs.declared.course.Course.{Course}
 use Rattle.route_drive.specs.declared.course.Place.{Place}
 use Rattle.route_drive.specs.Entering.{AreEntered, IsReported, goal_of, stop_command, to_come}
-use Rattle.route_drive.specs.Serving.{IsServing, IsDayState, IsKept, IsDone, LeavesAll, KeepsBounds, ShowsRiders, chosen_stops}
+use Rattle.route_drive.specs.Serving.{IsRightStop, IsServing, IsDayState, IsKept, IsDone, LeavesAll, KeepsBounds, ShowsRiders, chosen_stops}
+
+-- the state with which a day begins: nothing is on its way, nobody is promised or aboard
+abbrev pub OpeningIsKept : Type 0
+OpeningIsKept = (settings : Settings) (roads : Roads) (vehicles : List Vehicle) → IsFleet vehicles → All (λ v. IsNode roads.nodes v.node) vehicles
+    → IsKept settings roads (opening vehicles) (λ id. [])
+
+-- a vehicle's next stop, where it is a pickup, is that of a rider to whom this second is promised, within the wait; and
+-- where it is a drop-off, it comes within the delay after the ideal second
+abbrev pub StopsAreInTime : Type 0
+StopsAreInTime = (settings : Settings) (roads : Roads) (riders : List BookRider) (v : Vehicle) (free : ℕ) (stop : PlannedStop) (stops : List PlannedStop)
+    → IsServing settings roads riders v free (stop ∷ stops) → IsRightStop settings roads riders v.id stop
 
 -- a vehicle's next stop is answered picked or dropped, and the vehicle then serves the stops after it, each at its
 -- second, while every other vehicle goes on as it was and no promised pickup is put off

@@ -1,7 +1,17 @@
 //! How a driven day keeps its promises, entry by entry. Each call does nothing; its contract is the law. Vehicles
 //! that serve their stops go on to serve them through every entry of a day, and then no batch finds a vehicle late
 //! or a promise lapsed.
-ghost use Rattle.route_drive.specs.Kept.{ClosesKeep, EnteringKeeps, NoPromiseLapses, ReportsAreServed, RequestsLeaveAll, SealsKeep, StopsAreAnswered};
+ghost use Rattle.route_drive.specs.Kept.{ClosesKeep, EnteringKeeps, NoPromiseLapses, OpeningIsKept, ReportsAreServed, RequestsLeaveAll, SealsKeep, StopsAreAnswered, StopsAreInTime};
+
+/// A day begins with vehicles that serve nothing yet.
+pub fn opening_is_kept()
+    ensures { OpeningIsKept }
+{}
+
+/// Each pickup is at the second that its rider was promised, within the wait, and each drop-off within the delay.
+pub fn stops_are_in_time()
+    ensures { StopsAreInTime }
+{}
 
 /// A stop that is due is answered `picked` or `dropped`, and the stops after it are still served at their seconds.
 pub fn stops_are_answered()

@@ -15,9 +15,16 @@ use Rattle.request_book.specs.declared.reply.Reply.TheVariants.{Picked, Dropped,
 use Rattle.request_book.specs.declared.state.State.{State}
 use Rattle.request_book.proofs.ConsistentLemmas.{step-consistent}
 use Rattle.request_book.proofs.NamedLemmas.{step-named}
+use Rattle.request_book.proofs.KeyedLemmas.{look_up-nil}
+use Rattle.request_book.proofs.LawLemmas.{reached-consistent}
+use Rattle.request_book.specs.Consistent.{IsNode}
+use Rattle.request_book.specs.Replay.{state_after}
+use Rattle.request_book.specs.declared.rider.BookRider.{BookRider}
+use Rattle.std.proofs.Common.{arith}
+use Rattle.std.proofs.lemmas.List.Elements.{All-nil}
 use Rattle.road_network.specs.Roads.{has_node}
 use Rattle.route_drive.specs.Serving.{IsKept, IsDone, IsBound}
-use Rattle.route_drive.specs.Kept.{StopsAreAnswered, ReportsAreServed, RequestsLeaveAll, SealsKeep, NoPromiseLapses, ClosesKeep, NothingLapses, IsClosedOn, closed, stops_after}
+use Rattle.route_drive.specs.Kept.{StopsAreAnswered, ReportsAreServed, RequestsLeaveAll, SealsKeep, NoPromiseLapses, ClosesKeep, NothingLapses, IsClosedOn, closed, stops_after, OpeningIsKept, StopsAreInTime}
 use Rattle.route_drive.proofs.kept.Lists.{all_weaker}
 use Rattle.route_drive.proofs.kept.Replies.{close_is}
 use Rattle.route_drive.proofs.kept.States.{pickup_done, dropoff_done, report_done}
@@ -92,3 +99,23 @@ closes_keep settings roads s stops b outcome kept shows early sealed good = by o
           (closed_kept settings roads s stops b good.settled good.points good.times kept shows early good.posed.limits good.posed.table planned good_plan (Close b.number outcome) Closed (is ∙ ap (λ (t : State). (t, Closed)) (plan planned e))));
       bounds = λ x limit was. subst (λ t. IsBound t x limit) (sym (plan planned e)) (closed_bounds settings roads s stops b good.settled good.points good.times kept shows early good.posed.limits good.posed.table planned good_plan x limit was);
     }
+
+pub opening_is_kept : OpeningIsKept
+unfolding state_after
+opening_is_kept settings roads vehicles fleet named = record {
+  state = record {
+    consistent = reached-consistent roads.nodes settings.wait vehicles [] fleet;
+    named = record { riders = All-nil (λ (r : BookRider). IsNode roads.nodes r.origin × IsNode roads.nodes r.destination); vehicles = named; sealed = λ b e. absurd cc };
+    promises = λ x r p found status. absurd (let none = look_up-nil (λ (r : BookRider). r.id) x in cc);
+  };
+  each = λ id v found. record {
+    reached = tt;
+    seats = tt;
+    right = tt;
+    calls = λ x r at. absurd (let none = look_up-nil (λ (r : BookRider). r.id) x in cc);
+    few = omega arith;
+  };
+}
+
+pub stops_are_in_time : StopsAreInTime
+stops_are_in_time settings roads riders v free stop stops serves = serves.right.0
