@@ -1,5 +1,5 @@
 -- The laws of driven days.
-use Rattle.std.proofs.Common.{◌≡◌, ◌+◌, ◌<◌, Bool, true, false, cond, map, None, refl, sym, ap, ◌∙◌, subst}
+use Rattle.std.proofs.Common.{[], arith, ◌≡◌, ◌+◌, ◌<◌, Bool, true, false, cond, map, None, refl, sym, ap, ◌∙◌, subst}
 use Rattle.pool_base.specs.Times.{travel_time}
 use Rattle.batch_solver.specs.Outcome.{IsGoodAnswer}
 use Rattle.request_book.specs.Closing.{after_answer, after_plan, picks}
@@ -20,7 +20,6 @@ use Rattle.request_book.proofs.LawLemmas.{reached-consistent}
 use Rattle.request_book.specs.Consistent.{IsNode}
 use Rattle.request_book.specs.Replay.{state_after}
 use Rattle.request_book.specs.declared.rider.BookRider.{BookRider}
-use Rattle.std.proofs.Common.{arith}
 use Rattle.std.proofs.lemmas.List.Elements.{All-nil}
 use Rattle.road_network.specs.Roads.{has_node}
 use Rattle.route_drive.specs.Serving.{IsKept, IsDone, IsBound}
