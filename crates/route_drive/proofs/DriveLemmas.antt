@@ -1,6 +1,6 @@
 -- A day under way, round by round.
 use Rattle.std.proofs.Common.{◌≡◌, ◌≢◌, ℕ, zero, suc, ◌+◌, ◌-◌, ◌<◌, ◌≤◌, List, [], ◌∷◌, ◌++◌, length, get_or, map, take, drop, replicate, Option, None, Some, Result, Ok, Err, inl, inr, refl, sym, ap, ◌∙◌, subst, arith, append-nil}
-use Rattle.std.specs.Prelude.{IfOk, IfErr}
+use Rattle.std.specs.Prelude.{All, IfOk, IfErr}
 use Rattle.std.specs.List.{Any}
 use Rattle.std.specs.Option.{option_map_or}
 use Rattle.std.proofs.lemmas.Bool.{cases_lt}
@@ -21,12 +21,12 @@ use Rattle.route_drive.specs.declared.course.Course.{Course}
 use Rattle.route_drive.specs.declared.day_run.DayRound.{DayRound}
 use Rattle.route_drive.specs.declared.day_run.DriveFault.{DriveFault}
 use Rattle.route_drive.specs.declared.day_run.DriveFault.TheVariants as fault
-use Rattle.route_drive.specs.Driven.{AreDriven, HasDriven, HasDrivenToTheEnd, IsDrivenDay, IsDrivenRound, IsLateAnswer, IsTooLateDay, courses_after, courses_from, courses_left, first_courses, left_course, left_state, number_after, plan_in, planned_course, state_left}
+use Rattle.route_drive.specs.Driven.{AreDriven, HasDriven, HasDrivenToTheEnd, IsDrivenDay, IsDrivenRound, IsLateAnswer, IsNewBook, IsTooLateDay, courses_after, courses_from, courses_left, first_courses, left_course, left_state, number_after, plan_in, planned_course, state_left}
 use Rattle.route_drive.specs.Day.{seal_of}
-use Rattle.route_drive.specs.Entering.{EntersTooLate, IsTooLate, left_commands}
+use Rattle.route_drive.specs.Entering.{EntersTooLate, IsInTime, IsTooLate, left_commands}
 use Rattle.route_drive.specs.declared.entering.Stopped.{Stopped}
 use Rattle.route_drive.specs.declared.entering.Stopped.TheVariants as stop
-use Rattle.route_drive.specs.work.Drive.{IsUnderWay, IsRoundMade, IsRoundOn, IsRoundLate, IsLastOn, IsLastLate, IsStoppedAt, IsTaken}
+use Rattle.route_drive.specs.work.Drive.{IsUnderWay, IsRoundMade, IsRoundOn, IsRoundLate, IsLastOn, IsLastLate, IsEnd, IsEndLate, IsStoppedAt, IsTaken}
 
 map-last : {X Y : Type 0} (f : X → Y) (xs : List X) (x : X) → map f (xs ++ x ∷ []) ≡ map f xs ++ f x ∷ []
 map-last f [] x = refl
@@ -99,25 +99,26 @@ module _ (settings : Settings) (roads : Roads) where
   courses-more courses (q ∷ rs) (e ∷ ds) (k ∷ js) r j driven = courses-more (courses_after (left_state settings roads k) q k.entries courses) rs ds js r j driven.1
 
   -- a day begins
-  pub under_way_none : (book : BookView) (courses : List Course) (made : List DayRound) → IsReady settings roads book → book.entries ≡ [] → book.base ≡ book.state → book.first ≡ 0
-      → courses ≡ first_courses settings roads book.state → made ≡ [] → IsUnderWay settings roads book.state [] book courses made
-  under_way_none book courses made ready entries base first are none =
+  pub under_way_none : (new book : BookView) (courses : List Course) (made : List DayRound) → IsNewBook settings roads new → book ≡ new
+      → courses ≡ first_courses settings roads new.state → made ≡ [] → IsUnderWay settings roads new.state [] book courses made
+  under_way_none new book courses made is same are none =
       let js : map (λ (r : DayRound). r.journal) made ≡ [] = ap (map (λ (r : DayRound). r.journal)) none in
-      record {
+      let way : IsUnderWay settings roads new.state [] new courses made = record {
         driven = record {
           script = [];
           driven = rw js tt;
           numbers = ap (map (λ (r : DayRound). r.number)) none;
           run = rw js tt;
         };
-        ready = ready;
-        entries = entries;
-        base = base;
+        ready = record { nodes = is.nodes; wait = is.wait; closed = ap (λ (s : State). s.sealed) is.state };
+        entries = is.entries;
+        base = is.base ∙ sym is.state;
         state = rw js refl;
-        first = rw js first;
-        courses_are = are;
-        each = ap length are ∙ length-map _ book.state.vehicles;
-      }
+        first = rw js is.first;
+        courses_are = rw js are;
+        each = ap length are ∙ length-map _ new.state.vehicles;
+      } in
+      subst (λ (b : BookView). IsUnderWay settings roads new.state [] b courses made) (sym same) way
 
   -- one more round is driven
   module _ (s : State) (rounds : List NumberedLanes) (book : BookView) (courses : List Course) (made : List DayRound) (way : IsUnderWay settings roads s rounds book courses made) where
@@ -165,15 +166,16 @@ module _ (settings : Settings) (roads : Roads) where
         }
 
     -- the last round is driven
-    pub day_done : (number : ℕ) (made' : List DayRound) → number ≡ number_after rounds → IsLastOn settings roads number book courses made made' → HasDrivenToTheEnd settings roads s rounds made'
-    day_done number made' is on =
+    day_done : (book' : BookView) (made' : List DayRound) → IsLastOn settings roads (number_after rounds) book courses made book' made' → HasDrivenToTheEnd settings roads s rounds made'
+    day_done book' made' on =
         let j : Journal = on.round_made.journal in
-        let end : NumberedLanes = record on.driven { number = number_after rounds } in
+        let number = number_after rounds in
+        let end : NumberedLanes = record on.driven { number = number } in
         let run : IsRoundRun settings roads end j = record { replies = on.round_made.run.replies; closes = on.round_made.run.closes; lanes = on.round_made.run.lanes } in
         let more = made_more on.driven number made' on.round_made in
         let from : book.state ≡ on.round_made.journal.base = sym way.base ∙ sym on.round_made.base in
-        let own : lane_at end 0 ≡ left_commands j.base.vehicles (courses_from settings roads s rounds made) =
-        on.own ∙ ap (λ (t : State). left_commands t.vehicles courses) from ∙ ap (left_commands j.base.vehicles) way.courses_are in
+        let left : left_commands book.state.vehicles courses ≡ left_commands j.base.vehicles (courses_from settings roads s rounds made) =
+        ap (λ (t : State). left_commands t.vehicles courses) from ∙ ap (left_commands j.base.vehicles) way.courses_are in
         record {
           first = made;
           last = record { number = number; journal = j };
@@ -183,24 +185,32 @@ module _ (settings : Settings) (roads : Roads) where
           driven = way.driven.driven;
           left = record {
             number = refl;
-            first = own ∙ sym (ap (λ (l : List Command). left_commands j.base.vehicles (courses_from settings roads s rounds made) ++ l) (nothing_at (number_after rounds) 0) ∙ append-nil _);
-            others = λ lane ne. on.others lane ne ∙ sym (nothing_at (number_after rounds) lane);
+            first = on.own ∙ left ∙ sym (ap (λ (l : List Command). left_commands j.base.vehicles (courses_from settings roads s rounds made) ++ l) (nothing_at number 0) ∙ append-nil _);
+            others = λ lane ne. on.others lane ne ∙ sym (nothing_at number lane);
           };
-          numbers = numbers_more on.driven number made' on.round_made ∙ ap (λ (n : ℕ). map (λ (r : NumberedLanes). r.number) rounds ++ n ∷ []) is;
+          in_time = subst (All IsInTime) left on.in_time;
+          numbers = numbers_more on.driven number made' on.round_made;
           run = rw more (run-more s 0 way.driven.script js end j way.driven.run (on.round_made.base ∙ way.base ∙ way.state) (on.round_made.first ∙ way.first) run);
         }
 
+    -- the book is left in the state that the journals lead to
+    state_done : (book' : BookView) (made' : List DayRound) → IsLastOn settings roads (number_after rounds) book courses made book' made' → book'.state ≡ state_left settings roads s (map (λ (r : DayRound). r.journal) made')
+    state_done book' made' on =
+        let j : Journal = on.round_made.journal in
+        on.state ∙ ap (λ (t : State). state_after roads.nodes settings.wait t j.entries) (sym on.round_made.base) ∙ sym (state_left-more s js j)
+        ∙ sym (ap (state_left settings roads s) (made_more on.driven (number_after rounds) made' on.round_made))
+
     -- the last round is too late
-    pub last_late : (number : ℕ) (answer : DriveFault) → number ≡ number_after rounds → IsLastLate number book courses made answer → IsLateAnswer settings roads s rounds answer
-    last_late number (fault.TooLate n rs) is late = record {
+    pub end_late : (answer : DriveFault) → IsEndLate rounds book courses made answer → IsLateAnswer settings roads s rounds answer
+    end_late (fault.TooLate n rs) late = record {
       before = rounds;
       rest = [];
       parts = sym (append-nil rounds);
       driven = rw late.1 way.driven;
       late = rw (late.1, ← way.state, ← way.courses_are) late.2;
-      end = λ _. late.0 ∙ is;
+      end = λ _. late.0;
     }
-    last_late number fault.OutOfMemory is late = tt
+    end_late fault.OutOfMemory late = tt
 
     -- a round is too late
     pub round_late : (all rest : List NumberedLanes) (round : NumberedLanes) (answer : DriveFault) → all ≡ rounds ++ round ∷ rest → IsRoundLate settings roads round book courses made answer → IsLateAnswer settings roads s all answer
@@ -214,11 +224,6 @@ module _ (settings : Settings) (roads : Roads) where
     }
     round_late all rest round fault.OutOfMemory parts late = tt
 
-  -- a day that isn't empty
-  pub whole_day : (s : State) (rounds : List NumberedLanes) (made : List DayRound) → (rounds ≡ [] → ⊥) → HasDrivenToTheEnd settings roads s rounds made → IsDrivenDay settings roads s rounds made
-  whole_day s [] made some done = absurd (some refl)
-  whole_day s (r ∷ rounds) made some done = done
-
 -- a list at the round of a number
 pub rounds_at : (rounds : List NumberedLanes) (i : ℕ) (r : NumberedLanes) → i < length rounds → r ≡ get_or rounds i r → rounds ≡ take i rounds ++ r ∷ drop (suc i) rounds
 rounds_at [] i r h is = absurd (omega arith)
@@ -230,13 +235,33 @@ no_map : (made : List DayRound) → map (λ (r : DayRound). r.number) made ≡ [
 no_map [] none = refl
 no_map (r ∷ made) none = absurd (let e : suc (length (map (λ (r : DayRound). r.number) made)) ≡ 0 = ap length none in omega (arith, e))
 
-no_take : (i : ℕ) → map (λ (r : NumberedLanes). r.number) (take i []) ≡ []
-no_take zero = refl
-no_take (suc i) = refl
+-- a day came to its end
+pub day_ends : (settings : Settings) (roads : Roads) (s : State) (rounds : List NumberedLanes) (book book' : BookView) (courses : List Course) (made made' : List DayRound)
+    → IsUnderWay settings roads s rounds book courses made → IsEnd settings roads rounds book courses made book' made' → IsDrivenDay settings roads s rounds made'
+day_ends settings roads s [] book book' courses made made' way end = end.1 ∙ no_map made way.driven.numbers
+day_ends settings roads s (r ∷ rounds) book book' courses made made' way end = day_done settings roads s (r ∷ rounds) book courses made way book' made' end
 
-pub empty_day : (settings : Settings) (roads : Roads) (s : State) (rounds : List NumberedLanes) (i : ℕ) (made : List DayRound) → length rounds ≡ 0 → HasDriven settings roads s (take i rounds) made → IsDrivenDay settings roads s rounds made
-empty_day settings roads s [] i made none driven = no_map made (driven.numbers ∙ no_take i)
-empty_day settings roads s (r ∷ rounds) i made none driven = absurd (omega (arith, none))
+pub state_ends : (settings : Settings) (roads : Roads) (s : State) (rounds : List NumberedLanes) (book book' : BookView) (courses : List Course) (made made' : List DayRound)
+    → IsUnderWay settings roads s rounds book courses made → IsEnd settings roads rounds book courses made book' made' → book'.state ≡ state_left settings roads s (map (λ (r : DayRound). r.journal) made')
+state_ends settings roads s [] book book' courses made made' way end =
+    ap (λ (b : BookView). b.state) end.0 ∙ way.state ∙ sym (ap (λ (l : List DayRound). state_left settings roads s (map (λ (r : DayRound). r.journal) l)) end.1)
+state_ends settings roads s (r ∷ rounds) book book' courses made made' way end = state_done settings roads s (r ∷ rounds) book courses made way book' made' end
+
+pub nodes_end : (settings : Settings) (roads : Roads) (s : State) (rounds : List NumberedLanes) (book book' : BookView) (courses : List Course) (made made' : List DayRound)
+    → IsUnderWay settings roads s rounds book courses made → IsEnd settings roads rounds book courses made book' made' → book'.nodes ≡ roads.nodes
+nodes_end settings roads s [] book book' courses made made' way end = ap (λ (b : BookView). b.nodes) end.0 ∙ way.ready.nodes
+nodes_end settings roads s (r ∷ rounds) book book' courses made made' way end = end.nodes
+
+-- a day that isn't empty ends with its last round
+pub end_of : (settings : Settings) (roads : Roads) (rounds : List NumberedLanes) (number : ℕ) (book book' : BookView) (courses : List Course) (made made' : List DayRound)
+    → 0 < length rounds → number ≡ number_after rounds → IsLastOn settings roads number book courses made book' made' → IsEnd settings roads rounds book courses made book' made'
+end_of settings roads [] number book book' courses made made' some is on = absurd (omega arith)
+end_of settings roads (r ∷ rounds) number book book' courses made made' some is on = subst (λ (n : ℕ). IsLastOn settings roads n book courses made book' made') is on
+
+-- an empty day has come to its end
+pub end_at_once : (settings : Settings) (roads : Roads) (rounds : List NumberedLanes) (book : BookView) (courses : List Course) (made : List DayRound) → length rounds ≡ 0 → IsEnd settings roads rounds book courses made book made
+end_at_once settings roads [] book courses made none = (refl, refl)
+end_at_once settings roads (r ∷ rounds) book courses made none = absurd (omega (arith, none))
 
 -- what follows from two facts of what is given
 pub if_ok_both : {X E : Type 0} (r : Result X E) (A B C : X → Type 0) → IfOk r A → IfOk r B → ((x : X) → A x → B x → C x) → IfOk r C
@@ -314,10 +339,17 @@ if_ok_map (Ok x) A B a b = b x a
 if_ok_map (Err e) A B a b = tt
 
 -- the last round was run and stands last
-pub made_last : (settings : Settings) (roads : Roads) (driven : NumberedLanes) (number : ℕ) (book next : BookView) (journal : Journal) (made made' : List DayRound)
-    → IsTaken settings roads driven book next journal → made' ≡ made ++ (record { number = number; journal = journal }) ∷ [] → IsRoundMade settings roads driven number book made made'
-made_last settings roads driven number book next journal made made' taken is = record { journal = journal; run = taken.run; base = taken.base; first = taken.first; made_is = is }
-
-pub last_on : (settings : Settings) (roads : Roads) (driven : NumberedLanes) (number : ℕ) (book : BookView) (courses : List Course) (made made' : List DayRound)
-    → lane_at driven 0 ≡ left_commands book.state.vehicles courses → ((lane : ℕ) → lane ≢ 0 → lane_at driven lane ≡ []) → IsRoundMade settings roads driven number book made made' → IsLastOn settings roads number book courses made made'
-last_on settings roads driven number book courses made made' own others made_is = record { driven = driven; own = own; others = others; round_made = made_is }
+pub last_on : (settings : Settings) (roads : Roads) (driven : NumberedLanes) (number : ℕ) (book next kept : BookView) (journal : Journal) (courses : List Course) (made made' : List DayRound)
+    → lane_at driven 0 ≡ left_commands book.state.vehicles courses → ((lane : ℕ) → lane ≢ 0 → lane_at driven lane ≡ []) → All IsInTime (left_commands book.state.vehicles courses)
+    → IsTaken settings roads driven book next journal → kept ≡ next → made' ≡ made ++ (record { number = number; journal = journal }) ∷ []
+    → IsLastOn settings roads number book courses made kept made'
+last_on settings roads driven number book next kept journal courses made made' own others in_time taken same made_is =
+    subst (λ (b : BookView). IsLastOn settings roads number book courses made b made') (sym same) (record {
+      driven = driven;
+      own = own;
+      others = others;
+      in_time = in_time;
+      round_made = record { journal = journal; run = taken.run; base = taken.base; first = taken.first; made_is = made_is };
+      nodes = taken.ready.nodes;
+      state = taken.state;
+    })

@@ -1,11 +1,11 @@
 -- What is entered, stop by stop and vehicle by vehicle.
 use Rattle.std.proofs.Common.{◌≡◌, ◌≢◌, ℕ, zero, suc, ◌+◌, ◌<◌, ◌≤◌, ◌⊎◌, Bool, true, false, leb, ltb, List, [], ◌∷◌, ◌++◌, length, get_or, set, map, filter, take, drop, Option, None, Some, refl, sym, ap, ◌∙◌, inl, inr, subst, arith, append_assoc, append-nil, add-one, length-append}
-use Rattle.std.specs.Prelude.{IsSome, find}
+use Rattle.std.specs.Prelude.{IsSome, All, find}
 use Rattle.std.specs.List.{Any}
 use Rattle.std.proofs.lemmas.Bool.{cases_Bool, cases_eq, cond-true, cond-false, leb-true, le-leb}
 use Rattle.std.proofs.lemmas.Bool.Decides.{leb_tells}
 use Rattle.std.proofs.lemmas.List.{take_more, length-set, get_or-set_same, get_or-set_other, get_or_append_left}
-use Rattle.std.proofs.lemmas.List.Elements.{filter-append}
+use Rattle.std.proofs.lemmas.List.Elements.{filter-append, All-nil, All-cons}
 use Rattle.std.proofs.Math.Seq.{drop-cons, get_or-append_seam}
 use Rattle.batch_snapshot.specs.declared.vehicle.Vehicle.{Vehicle}
 use Rattle.request_book.specs.declared.command.Command.{Command}
@@ -17,7 +17,7 @@ use Rattle.route_drive.specs.declared.course.Standing.{Standing}
 use Rattle.route_drive.specs.declared.walk.WalkStep.{WalkStep}
 use Rattle.pool_base.specs.TravelTime.{longest}
 use Rattle.request_book.specs.declared.command.Command.TheVariants.{Pickup, Dropoff}
-use Rattle.route_drive.specs.Entering.{AreEntered, EntersTooLate, IsEntered, IsTooLate, due, left_commands, standing_after, step_from, stop_command, walk_end}
+use Rattle.route_drive.specs.Entering.{AreEntered, EntersTooLate, IsEntered, IsInTime, IsTooLate, due, left_commands, standing_after, step_from, stop_command, walk_end}
 use Rattle.route_drive.specs.work.Rounds.{Adds, EntersLate}
 
 module _ {X : Type 0} where
@@ -182,4 +182,19 @@ pub late_stop : (vehicle : ℕ) (s : PlannedStop) → longest < s.second → IsT
 late_stop vehicle s late = elim (cases_Bool s.pick) [
   | inl e ↦ subst IsTooLate (sym (cond-true s.pick (Pickup vehicle s.rider s.second) (Dropoff vehicle s.rider s.second) e)) late
   | inr e ↦ subst IsTooLate (sym (cond-false s.pick (Pickup vehicle s.rider s.second) (Dropoff vehicle s.rider s.second) e)) late
+]
+
+-- a stop that comes in time is entered in time
+pub stop_in_time : (vehicle : ℕ) (s : PlannedStop) → s.second ≤ longest → IsInTime (stop_command vehicle s)
+stop_in_time vehicle s le = elim (cases_Bool s.pick) [
+  | inl e ↦ subst IsInTime (sym (cond-true s.pick (Pickup vehicle s.rider s.second) (Dropoff vehicle s.rider s.second) e)) le
+  | inr e ↦ subst IsInTime (sym (cond-false s.pick (Pickup vehicle s.rider s.second) (Dropoff vehicle s.rider s.second) e)) le
+]
+
+-- what is due comes in time
+pub due_in_time : (vehicle now : ℕ) (stops : List PlannedStop) → now ≤ longest → All IsInTime (map (stop_command vehicle) (due now stops))
+due_in_time vehicle now [] h = All-nil IsInTime
+due_in_time vehicle now (s ∷ stops) h = elim (leb_tells s.second now) [
+  | inl t ↦ rw t.0 (All-cons IsInTime (stop_command vehicle s) (map (stop_command vehicle) (due now stops)) (stop_in_time vehicle s (let le = t.1 in omega (arith, le, h))) (due_in_time vehicle now stops h))
+  | inr f ↦ rw f.0 (due_in_time vehicle now stops h)
 ]

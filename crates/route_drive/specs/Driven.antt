@@ -2,6 +2,7 @@
 use Rattle.std.specs.Prelude.{◌≡◌, ◌≢◌, ℕ, ◌+◌, List, [], ◌∷◌, ◌++◌, Option, None, Some, MatchOption, All, map, option_map, option_and_then}
 use Rattle.std.specs.List.{Any}
 use Rattle.std.specs.Option.{option_or, option_map_or}
+use Rattle.batch_snapshot.specs.Kept.{IsFleet}
 use Rattle.batch_snapshot.specs.declared.vehicle.Vehicle.{Vehicle}
 use Rattle.request_book.specs.Book.{BookView, opening}
 use Rattle.request_book.specs.Keyed.{look_up}
@@ -77,9 +78,10 @@ number_after (round ∷ []) = round.number + 1
 number_after (round ∷ rounds) = number_after rounds
 
 module _ (settings : Settings) (roads : Roads) where
-  -- a book before its first round, over these roads and with this longest wait
+  -- the book of a fleet before its first round, over these roads and with this longest wait
   pub record IsNewBook (b : BookView) : Type 0 where
     pub vehicles : List Vehicle
+    pub fleet : IsFleet vehicles
     pub nodes : b.nodes ≡ roads.nodes
     pub wait : b.wait ≡ settings.wait
     pub first : b.first ≡ 0

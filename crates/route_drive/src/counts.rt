@@ -1,10 +1,8 @@
 //! What is counted of a driven day.
-ghost use Rattle.std.specs.Prelude.{◌≡◌, ◌-◌, ◌×◌, All, IfOk, IfSome, IfNone, None, Some};
+ghost use Rattle.std.specs.Prelude.{◌≡◌, ◌==◌, All, IfOk, IfSome, IfNone, None, Some, find};
 ghost use Rattle.request_book.specs.Consistent.{IsNode};
-ghost use Rattle.request_book.specs.State.{find_rider};
 ghost use Rattle.road_network.specs.Roads.{index_in};
 ghost use Rattle.road_network.specs.Walk.{IsTimeBetween};
-ghost use Rattle.std.specs.Thread.{IsSync};
 ghost use Rattle.route_drive.specs.Counts.{AreCounts, IsDelayOf, entries_of, ideal_dropoff, rider_of, wait_of};
 ghost use Rattle.route_drive.specs.Entering.{second_of};
 ghost use Rattle.route_drive.specs.work.Counting.{AddsCounts, AddsEntry};
@@ -146,8 +144,8 @@ fn visit_of(command: &Command) -> (RiderId, Second)
 
 /// The rider of this id.
 pub(crate) fn rider_in(riders: &[BookRider], id: RiderId) -> Option<&BookRider>
-    ensures some { IfSome result (λ rider. find_rider id riders.now ≡ Some rider.now) }
-    ensures none { IfNone result (find_rider id riders.now ≡ None) }
+    ensures some { IfSome result (λ rider. find (λ r. r.id == id) riders.now ≡ Some rider.now) }
+    ensures none { IfNone result (find (λ r. r.id == id) riders.now ≡ None) }
 {
     for rider in riders {
         if rider.id == id {

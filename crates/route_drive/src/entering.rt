@@ -32,6 +32,7 @@ pub enum Stopped {
 fn standing(dwell: u16, now: Second, vehicle: &Vehicle, stops: &[PlannedStop]) -> Standing
     ensures after { result ≡ standing_after dwell (reported_place vehicle.now) (due now stops.now) }
     ensures short { result.free ≤ longest + dwell }
+    ensures in_time { now ≤ longest }
 {
     let time = vehicle.time.get() as u64;
     let mut at = Standing {

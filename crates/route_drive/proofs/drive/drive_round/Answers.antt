@@ -6,11 +6,11 @@ use Rattle.route_drive.proofs.DriveLemmas.{if_err_map, stopped_late}
 use Rattle.route_drive.proofs.drive.drive_round.Goals as goal
 
 pub returns-in-Ok-clause-late : goal.returns-in-Ok-clause-late
-returns-in-Ok-clause-late c =
-    let P : DriveFault → Type 0 = IsRoundLate c.args.settings.now c.args.network.now c.args.round.now c.args.drive.book c.args.drive.courses.items c.args.drive.made.items in
+returns-in-Ok-clause-late g c =
+    let P : DriveFault → Type 0 = IsRoundLate c.args.setup.now.settings.now c.args.setup.now.network.now c.args.round.now c.args.drive.book c.args.drive.courses.items c.args.drive.made.items in
     if_err_map c.run_driven.result (λ (f : DriveFault). f ≡ OutOfMemory) P c.run_driven.ensures.late (λ f is. subst P (sym is) tt)
 
 pub returns-in-Err-clause-late : goal.returns-in-Err-clause-late
-returns-in-Err-clause-late c =
-    stopped_late c.args.settings.now c.args.network.now c.args.round.now c.args.drive.book c.args.drive.courses.items c.args.drive.made.items c.in-Err.stopped c.stopped_at.result
+returns-in-Err-clause-late g c =
+    stopped_late c.args.setup.now.settings.now c.args.setup.now.network.now c.args.round.now c.args.drive.book c.args.drive.courses.items c.args.drive.made.items c.in-Err.stopped c.stopped_at.result
     (rw c.number.ensures.value at c.stopped_at.ensures) (rw c.deref.ensures.value at (λ is. c.in-Err.ensures.late (ap Err is)))

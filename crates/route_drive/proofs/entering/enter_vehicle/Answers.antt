@@ -1,11 +1,12 @@
 use Rattle.std.proofs.Common.{◌≡◌, ℕ, ◌<◌, ◌≤◌, List, ◌∷◌, [], ◌++◌, map, Option, inl, inr, refl, sym, ap, ◌∙◌, arith, subst}
 use Rattle.std.proofs.lemmas.Bool.{cases_lt, false≢true}
+use Rattle.std.proofs.lemmas.List.Elements.{All-push}
 use Rattle.pool_base.specs.TravelTime.{longest}
 use Rattle.request_book.specs.declared.command.Command.{Command}
 use Rattle.request_book.specs.declared.command.Command.TheVariants.{Report}
 use Rattle.route_drive.specs.declared.course.Standing.{Standing}
-use Rattle.route_drive.specs.Entering.{IsEntered, IsReported, IsTooLate, due, goal_of, reported_place, standing_after, stop_command, to_come}
-use Rattle.route_drive.proofs.EnterLemmas.{any_last}
+use Rattle.route_drive.specs.Entering.{IsEntered, IsInTime, IsReported, IsTooLate, due, goal_of, reported_place, standing_after, stop_command, to_come}
+use Rattle.route_drive.proofs.EnterLemmas.{any_last, due_in_time}
 use Rattle.route_drive.proofs.entering.enter_vehicle.Goals as goal
 
 pub returns-in_default-new-clause-late : goal.returns-in_default-new-clause-late
@@ -34,4 +35,5 @@ returns-in-Ok-enter_commands-clause-entered c =
     let report : Command = Report v.id c.in-Ok.there.node c.in-Ok.there.second in
     let time : c.in-Some.time ≡ c.in-Ok.there.second = c.in-Some.ensures.value in
     (before ++ report ∷ [], record { there = c.in-Ok.there; reported = reported; told = refl },
+    All-push IsInTime before report (due_in_time v.id c.args.now stops c.standing-at.ensures.in_time) (c.in-Some.ensures.valid.0 refl),
     rw (c.as_slice-2.ensures.value, time) at c.in-Ok-enter_commands.ensures)

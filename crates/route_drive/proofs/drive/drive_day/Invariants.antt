@@ -1,6 +1,0 @@
-use Rattle.std.proofs.Common.{take}
-use Rattle.route_drive.specs.work.Drive.{IsUnderWay}
-use Rattle.route_drive.proofs.drive.drive_day.Given as goal
-
-abbrev pub invariant-loop-round : goal.invariant-loop-round
-invariant-loop-round l = IsUnderWay l.settings l.network l.fn.book.state (take l.round-index l.rounds) l.drive.book l.drive.courses.items l.drive.made.items
