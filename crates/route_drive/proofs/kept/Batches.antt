@@ -19,7 +19,7 @@ use Rattle.request_book.specs.declared.rider.BookRider.{BookRider}
 use Rattle.request_book.specs.declared.rider.Status.{Status}
 use Rattle.request_book.specs.declared.rider.Status.TheVariants.{Waiting, Promised, Aboard, Cancelled, Delivered, Expired}
 use Rattle.request_book.specs.declared.state.State.{State}
-use Rattle.request_book.proofs.KeyedLemmas.{look_up-here, look_up-there, look_up-nil}
+use Rattle.request_book.proofs.lemmas.KeyedLemmas.{look_up-here, look_up-there, look_up-nil}
 use Rattle.stop_orders.specs.declared.leg.Leg.{Leg}
 use Rattle.stop_orders.specs.Task.{leg_at, persons}
 

@@ -33,7 +33,7 @@ use Rattle.promise_check.specs.Settling.{IsPlaced}
 use Rattle.request_book.specs.declared.outcome.ChosenTrip.{ChosenTrip}
 use Rattle.request_book.specs.declared.rider.BookRider.{BookRider}
 use Rattle.request_book.specs.declared.rider.Status.TheVariants.{Aboard}
-use Rattle.request_book.proofs.KeyedLemmas.{look_up-at}
+use Rattle.request_book.proofs.lemmas.KeyedLemmas.{look_up-at}
 use Rattle.road_network.specs.Roads.{has_node}
 use Rattle.stop_orders.specs.declared.stop.Stop.{Stop}
 use Rattle.stop_orders.specs.declared.stop.Stop.TheVariants.{Pick, Drop, Alight}

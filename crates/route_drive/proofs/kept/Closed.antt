@@ -40,7 +40,7 @@ use Rattle.request_book.specs.declared.outcome.ChosenTrip.{ChosenTrip}
 use Rattle.request_book.specs.declared.rider.BookRider.{BookRider}
 use Rattle.request_book.specs.declared.rider.Status.{Status}
 use Rattle.request_book.specs.declared.rider.Status.TheVariants.{Waiting, Promised, Aboard, Cancelled, Delivered, Expired}
-use Rattle.request_book.proofs.KeyedLemmas.{look_up-at, KeysDiffer-from_rise}
+use Rattle.request_book.proofs.lemmas.KeyedLemmas.{look_up-at, KeysDiffer-from_rise}
 use Rattle.road_network.specs.Roads.{has_node}
 use Rattle.route_drive.specs.Serving.{calls_of}
 use Rattle.route_drive.proofs.kept.Lapse.{vehicle_of_number, not_late, number_of_vehicle}
@@ -52,7 +52,7 @@ use Rattle.plan_rules.specs.Graph.{must_be_served}
 use Rattle.plan_rules.specs.Plan.{times_chosen}
 use Rattle.promise_check.specs.Promised.{promised_limit, promised_to}
 use Rattle.promise_check.proofs.lemmas.Promises.{filter_range_has}
-use Rattle.request_book.proofs.KeyedLemmas.{look_up-key}
+use Rattle.request_book.proofs.lemmas.KeyedLemmas.{look_up-key}
 use Rattle.route_drive.specs.Serving.{IsRightDropoff, IsServing, IsPromiseKept}
 use Rattle.route_drive.proofs.kept.Lists.{both}
 use Rattle.route_drive.proofs.kept.Lapse.{promise_is_live}
@@ -64,9 +64,9 @@ use Rattle.request_book.specs.Consistent.{IsConsistent, NamesNodes}
 use Rattle.request_book.specs.Step.{step}
 use Rattle.request_book.specs.declared.command.Command.{Command}
 use Rattle.request_book.specs.declared.reply.Reply.{Reply}
-use Rattle.request_book.proofs.ConsistentLemmas.{step-consistent}
-use Rattle.request_book.proofs.NamedLemmas.{step-named}
-use Rattle.request_book.proofs.KeyedLemmas.{look_up-here, look_up-there}
+use Rattle.request_book.proofs.lemmas.ConsistentLemmas.{step-consistent}
+use Rattle.request_book.proofs.lemmas.NamedLemmas.{step-named}
+use Rattle.request_book.proofs.lemmas.KeyedLemmas.{look_up-here, look_up-there}
 use Rattle.std.specs.Prelude.{Contains}
 use Rattle.promise_check.specs.Settling.{HoldsPromised}
 use Rattle.trip_graph.specs.Answer.{IsRowWith}

@@ -13,10 +13,10 @@ use Rattle.request_book.specs.declared.outcome.PlannedStop.{PlannedStop}
 use Rattle.request_book.specs.declared.reply.Reply.{Reply}
 use Rattle.request_book.specs.declared.reply.Reply.TheVariants.{Picked, Dropped, Closed}
 use Rattle.request_book.specs.declared.state.State.{State}
-use Rattle.request_book.proofs.ConsistentLemmas.{step-consistent}
-use Rattle.request_book.proofs.NamedLemmas.{step-named}
-use Rattle.request_book.proofs.KeyedLemmas.{look_up-nil}
-use Rattle.request_book.proofs.LawLemmas.{reached-consistent}
+use Rattle.request_book.proofs.lemmas.ConsistentLemmas.{step-consistent}
+use Rattle.request_book.proofs.lemmas.NamedLemmas.{step-named}
+use Rattle.request_book.proofs.lemmas.KeyedLemmas.{look_up-nil}
+use Rattle.request_book.proofs.lemmas.LawLemmas.{reached-consistent}
 use Rattle.request_book.specs.Consistent.{IsNode}
 use Rattle.request_book.specs.Replay.{state_after}
 use Rattle.request_book.specs.declared.rider.BookRider.{BookRider}

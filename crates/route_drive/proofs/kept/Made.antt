@@ -48,7 +48,7 @@ use Rattle.request_book.specs.declared.outcome.ChosenTrip.{ChosenTrip}
 use Rattle.request_book.specs.declared.rider.BookRider.{BookRider}
 use Rattle.request_book.specs.declared.rider.Status.{Status}
 use Rattle.request_book.specs.declared.rider.Status.TheVariants.{Waiting, Promised, Aboard, Cancelled, Delivered, Expired}
-use Rattle.request_book.proofs.KeyedLemmas.{look_up-at, KeysDiffer-from_rise}
+use Rattle.request_book.proofs.lemmas.KeyedLemmas.{look_up-at, KeysDiffer-from_rise}
 use Rattle.road_network.specs.Roads.{has_node}
 use Rattle.stop_orders.specs.declared.leg.Leg.{Leg}
 use Rattle.stop_orders.specs.declared.stop.Stop.{Stop}
@@ -70,8 +70,8 @@ use Rattle.plan_rules.specs.Plan.{times_chosen}
 use Rattle.promise_check.specs.Requests.{ideal_second}
 use Rattle.stop_orders.specs.declared.task.Task.{Task}
 use Rattle.request_book.specs.Closing.{Pick as PlanPick}
-use Rattle.request_book.proofs.CloseLemmas.{after_plan-id}
-use Rattle.request_book.proofs.KeyedLemmas.{look_up-map, look_up-key}
+use Rattle.request_book.proofs.lemmas.CloseLemmas.{after_plan-id}
+use Rattle.request_book.proofs.lemmas.KeyedLemmas.{look_up-map, look_up-key}
 use Rattle.stop_orders.proofs.lemmas.DoneLemmas.{length-IsOrder}
 use Rattle.stop_orders.specs.Visit.{latest_of}
 use Rattle.stop_orders.specs.declared.visit.Visit.{Visit}

@@ -12,7 +12,7 @@ use Rattle.request_book.specs.declared.reply.Reply.{Reply}
 use Rattle.request_book.specs.declared.reply.Reply.TheVariants.{Placed, Picked, Dropped}
 use Rattle.request_book.specs.declared.rider.BookRider.{BookRider}
 use Rattle.request_book.specs.declared.state.State.{State}
-use Rattle.request_book.proofs.KeyedLemmas.{All-look_up}
+use Rattle.request_book.proofs.lemmas.KeyedLemmas.{All-look_up}
 use Rattle.rider_limits.specs.declared.settings.Settings.{Settings}
 use Rattle.road_network.specs.Roads.{Roads, IsNetwork, has_node}
 use Rattle.route_drive.specs.declared.course.Place.{Place}

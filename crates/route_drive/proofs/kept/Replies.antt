@@ -19,7 +19,7 @@ use Rattle.request_book.specs.declared.reply.Reply.TheVariants.{Accepted, Placed
 use Rattle.request_book.specs.declared.rider.BookRider.{BookRider}
 use Rattle.request_book.specs.declared.rider.Status.TheVariants.{Waiting, Promised, Aboard, Delivered}
 use Rattle.request_book.specs.declared.state.State.{State}
-use Rattle.request_book.proofs.StepLemmas.{first_of-none, closed-some}
+use Rattle.request_book.proofs.lemmas.StepLemmas.{first_of-none, closed-some}
 use Rattle.road_network.specs.Roads.{has_node}
 
 -- nothing speaks against a pickup, a drop-off, a report

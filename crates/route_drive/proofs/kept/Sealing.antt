@@ -22,10 +22,10 @@ use Rattle.request_book.specs.declared.rider.BookRider.{BookRider}
 use Rattle.request_book.specs.declared.rider.Status.{Status}
 use Rattle.request_book.specs.declared.rider.Status.TheVariants.{Waiting, Promised, Aboard, Cancelled, Delivered, Expired}
 use Rattle.request_book.specs.declared.state.State.{State}
-use Rattle.request_book.proofs.BatchLemmas.{after_seal-id}
-use Rattle.request_book.proofs.ConsistentLemmas.{step-consistent}
-use Rattle.request_book.proofs.NamedLemmas.{step-named}
-use Rattle.request_book.proofs.KeyedLemmas.{look_up-key, look_up-map, look_up-push_there, look_up-push_here, look_up-push_found, look_up-filter_map, by_key-order, KeysDiffer-map, KeysDiffer-filter_map}
+use Rattle.request_book.proofs.lemmas.BatchLemmas.{after_seal-id}
+use Rattle.request_book.proofs.lemmas.ConsistentLemmas.{step-consistent}
+use Rattle.request_book.proofs.lemmas.NamedLemmas.{step-named}
+use Rattle.request_book.proofs.lemmas.KeyedLemmas.{look_up-key, look_up-map, look_up-push_there, look_up-push_here, look_up-push_found, look_up-filter_map, by_key-order, KeysDiffer-map, KeysDiffer-filter_map}
 use Rattle.rider_limits.specs.declared.settings.Settings.{Settings}
 use Rattle.road_network.specs.Roads.{Roads}
 use Rattle.route_drive.specs.Serving.{IsOfVehicle, IsRightStop, IsServing, IsDayState, IsKept, HasCalls, calls_of}

@@ -15,7 +15,7 @@ use Rattle.request_book.specs.declared.outcome.PlannedStop.{PlannedStop}
 use Rattle.request_book.specs.declared.reply.Reply.{Reply}
 use Rattle.request_book.specs.declared.rider.BookRider.{BookRider}
 use Rattle.request_book.specs.declared.state.State.{State}
-use Rattle.request_book.proofs.KeyedLemmas.{look_up-here, look_up-there, look_up-nil, look_up-at, KeysDiffer-from_rise}
+use Rattle.request_book.proofs.lemmas.KeyedLemmas.{look_up-here, look_up-there, look_up-nil, look_up-at, KeysDiffer-from_rise}
 use Rattle.rider_limits.specs.declared.settings.Settings.{Settings}
 use Rattle.road_network.specs.Roads.{Roads, IsNetwork}
 use Rattle.route_drive.specs.declared.course.Course.{Course}

@@ -29,8 +29,8 @@ use Rattle.request_book.specs.declared.rider.BookRider.{BookRider}
 use Rattle.request_book.specs.declared.rider.Status.{Status}
 use Rattle.request_book.specs.declared.rider.Status.TheVariants.{Waiting, Promised, Aboard, Cancelled, Delivered, Expired}
 use Rattle.request_book.specs.declared.state.State.{State}
-use Rattle.request_book.proofs.BatchLemmas.{increasing_from_rise}
-use Rattle.request_book.proofs.KeyedLemmas.{look_up-at, KeysDiffer-from_rise, All-look_up}
+use Rattle.request_book.proofs.lemmas.BatchLemmas.{increasing_from_rise}
+use Rattle.request_book.proofs.lemmas.KeyedLemmas.{look_up-at, KeysDiffer-from_rise, All-look_up}
 use Rattle.rider_limits.specs.declared.settings.Settings.{Settings}
 use Rattle.road_network.specs.Roads.{Roads, index_in, has_node}
 use Rattle.stop_orders.specs.declared.leg.Leg.{Leg}

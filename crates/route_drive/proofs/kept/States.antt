@@ -21,9 +21,9 @@ use Rattle.request_book.specs.declared.rider.BookRider.{BookRider}
 use Rattle.request_book.specs.declared.rider.Status.{Status}
 use Rattle.request_book.specs.declared.rider.Status.TheVariants.{Promised, Aboard, Delivered}
 use Rattle.request_book.specs.declared.state.State.{State}
-use Rattle.request_book.proofs.ConsistentLemmas.{step-consistent}
-use Rattle.request_book.proofs.NamedLemmas.{step-named}
-use Rattle.request_book.proofs.KeyedLemmas.{look_up-key, look_up-changed_here, look_up-changed_there, All-look_up, map-changed_at}
+use Rattle.request_book.proofs.lemmas.ConsistentLemmas.{step-consistent}
+use Rattle.request_book.proofs.lemmas.NamedLemmas.{step-named}
+use Rattle.request_book.proofs.lemmas.KeyedLemmas.{look_up-key, look_up-changed_here, look_up-changed_there, All-look_up, map-changed_at}
 use Rattle.rider_limits.specs.declared.settings.Settings.{Settings}
 use Rattle.road_network.specs.Roads.{Roads, has_node}
 use Rattle.route_drive.specs.Serving.{AreReached, party_at, IsOfVehicle, IsServing, IsPromiseKept, IsDayState}

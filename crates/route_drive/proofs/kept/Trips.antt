@@ -37,8 +37,8 @@ use Rattle.plan_rules.specs.Graph.{choice_at, riders_at, no_row, is_in, IsRowOf}
 use Rattle.plan_rules.specs.Plan.{IsLawful}
 use Rattle.promise_check.specs.Requests.{no_request}
 use Rattle.request_book.specs.declared.outcome.ChosenTrip.{ChosenTrip}
-use Rattle.request_book.proofs.BatchLemmas.{increasing_from_rise}
-use Rattle.request_book.proofs.KeyedLemmas.{KeysDiffer-from_rise}
+use Rattle.request_book.proofs.lemmas.BatchLemmas.{increasing_from_rise}
+use Rattle.request_book.proofs.lemmas.KeyedLemmas.{KeysDiffer-from_rise}
 use Rattle.road_network.specs.Roads.{has_node}
 use Rattle.stop_orders.specs.Settled.{IsTrip}
 use Rattle.route_drive.proofs.kept.Batches.{rising_far, distinct_from_rising}

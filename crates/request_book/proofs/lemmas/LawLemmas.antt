@@ -28,7 +28,7 @@ use Rattle.pool_io.specs.Faults.{one_more}
 use Rattle.request_book.specs.State.{find_rider}
 use Rattle.request_book.specs.Step.{answer, rider_becomes, vehicle_becomes, stands_at, picked_up, dropped_off, submit_step, cancel_step, report_step, pickup_step, dropoff_step, seal_step, close_step, step}
 use Rattle.request_book.proofs.BookLemmas.{opening-consistent}
-use Rattle.request_book.proofs.ConsistentLemmas.{step-consistent}
+use Rattle.request_book.proofs.lemmas.ConsistentLemmas.{step-consistent}
 
 -- a refused command changes nothing
 answer-refused : (s : State) (o : Option BookRefusal) (reply : Reply) (next : State) → ((refusal : BookRefusal) → reply ≡ Refused refusal → ⊥) → (refusal : BookRefusal) → (answer s o reply next).1 ≡ Refused refusal → (answer s o reply next).0 ≡ s
