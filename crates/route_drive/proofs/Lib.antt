@@ -5,3 +5,4 @@ pub mod EnterLemmas
 pub mod CountLemmas
 pub mod EntryLemmas
 pub mod DriveLemmas
+pub mod kept

@@ -5,3 +5,5 @@ pub mod Entering
 pub mod Driven
 pub mod Counts
 pub mod work
+pub mod Serving
+pub mod Kept

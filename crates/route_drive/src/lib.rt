@@ -10,6 +10,7 @@ mod day;
 mod day_run;
 mod drive;
 mod entering;
+pub mod kept_laws;
 pub mod laws;
 mod plan;
 mod rounds;

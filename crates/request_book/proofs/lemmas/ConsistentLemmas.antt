@@ -33,11 +33,11 @@ use Rattle.pool_io.specs.Faults.{one_more}
 use Rattle.request_book.specs.State.{find_rider, find_vehicle, find_passenger, pool_count}
 use Rattle.request_book.specs.Step.{rider_becomes, vehicle_becomes, stands_at, takes_in, lets_out, step}
 use Rattle.request_book.specs.work.Table.{answer, picked_up, dropped_off, submit_refusal, submit_step, cancel_step, report_step, pickup_step, dropoff_step, seal_refusal, seal_step, close_step, table_step}
-use Rattle.request_book.proofs.BatchLemmas.{after_seal-id}
-use Rattle.request_book.proofs.CloseLemmas.{after_plan-id, after_plan-active}
-use Rattle.request_book.proofs.KeyedLemmas.{look_up-key, look_up-map, look_up-changed_here, look_up-changed_there, look_up-push_here, look_up-push_there, look_up-without_here, look_up-without_there, KeysDiffer-push, KeysDiffer-map, KeysDiffer-changed_at, KeysDiffer-from_rise, KeysRise-changed_at, All-changed_at, length-changed_at}
+use Rattle.request_book.proofs.lemmas.BatchLemmas.{after_seal-id}
+use Rattle.request_book.proofs.lemmas.CloseLemmas.{after_plan-id, after_plan-active}
+use Rattle.request_book.proofs.lemmas.KeyedLemmas.{look_up-key, look_up-map, look_up-changed_here, look_up-changed_there, look_up-push_here, look_up-push_there, look_up-without_here, look_up-without_there, KeysDiffer-push, KeysDiffer-map, KeysDiffer-changed_at, KeysDiffer-from_rise, KeysRise-changed_at, All-changed_at, length-changed_at}
 use Rattle.request_book.proofs.lemmas.StepTable.{step-table}
-use Rattle.request_book.proofs.StepLemmas.{first_of-none, active_left, submit-fits, closed-some}
+use Rattle.request_book.proofs.lemmas.StepLemmas.{first_of-none, active_left, submit-fits, closed-some}
 
 -- an answer keeps what the old state keeps, and the new one where nothing is refused
 pub answer-keeps : (P : State → Type 0) (s : State) (o : Option BookRefusal) (reply : Reply) (next : State) → P s → (o ≡ None → P next) → P (answer s o reply next).0

@@ -11,7 +11,7 @@ use Rattle.request_book.specs.work.Register.{pool_id, HasRoom}
 use Rattle.request_book.specs.Rider.{is_active, with_status}
 use Rattle.request_book.specs.State.{find_rider, find_vehicle, pool_count}
 use Rattle.batch_snapshot.specs.declared.vehicle.Vehicle.{Vehicle}
-use Rattle.request_book.proofs.KeyedLemmas.{set-changed_at, look_up-changed_here, look_up-changed_there, look_up-without_here, look_up-without_there, look_up-placed_here, look_up-placed_there, look_up-push_here, look_up-push_there, look_up-map, look_up-key, look_up-filter_map, KeysDiffer-filter_map, KeysDiffer-from_rise, KeysRise-placed, by_key-order, same_from_look_up, length-by_key, length-filter_map}
+use Rattle.request_book.proofs.lemmas.KeyedLemmas.{set-changed_at, look_up-changed_here, look_up-changed_there, look_up-without_here, look_up-without_there, look_up-placed_here, look_up-placed_there, look_up-push_here, look_up-push_there, look_up-map, look_up-key, look_up-filter_map, KeysDiffer-filter_map, KeysDiffer-from_rise, KeysRise-placed, by_key-order, same_from_look_up, length-by_key, length-filter_map}
 
 -- the pool is the ids of the active riders
 abbrev pub IsPool : List ℕ → List BookRider → Type 0

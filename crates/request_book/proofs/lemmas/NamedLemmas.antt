@@ -28,11 +28,11 @@ use Rattle.request_book.specs.State.{find_rider, find_vehicle, find_passenger}
 use Rattle.road_network.specs.Roads.{has_node}
 use Rattle.request_book.specs.Step.{rider_becomes, vehicle_becomes, stands_at, takes_in, lets_out, step}
 use Rattle.request_book.specs.work.Table.{picked_up, dropped_off, submit_refusal, submit_step, cancel_step, report_step, pickup_step, dropoff_step, seal_refusal, seal_step, close_step, table_step}
-use Rattle.request_book.proofs.BatchLemmas.{batch-each}
-use Rattle.request_book.proofs.ConsistentLemmas.{answer-keeps, close-keeps}
-use Rattle.request_book.proofs.KeyedLemmas.{All-changed_at, All-look_up, All-from_look_up, KeysDiffer-from_rise}
+use Rattle.request_book.proofs.lemmas.BatchLemmas.{batch-each}
+use Rattle.request_book.proofs.lemmas.ConsistentLemmas.{answer-keeps, close-keeps}
+use Rattle.request_book.proofs.lemmas.KeyedLemmas.{All-changed_at, All-look_up, All-from_look_up, KeysDiffer-from_rise}
 use Rattle.request_book.proofs.lemmas.StepTable.{step-table}
-use Rattle.request_book.proofs.StepLemmas.{first_of-none}
+use Rattle.request_book.proofs.lemmas.StepLemmas.{first_of-none}
 
 All-flat_map : {X Y : Type 0} (P : Y → Type 0) (f : X → List Y) (xs : List X) → All (λ x. All P (f x)) xs → All P (flat_map f xs)
 All-flat_map P f [] h = All-nil P

@@ -22,9 +22,9 @@ use Rattle.request_book.specs.work.Register.{pool_id}
 use Rattle.request_book.specs.Rider.{is_active, pool_promise, vehicle_of, shown, with_status, passenger_of}
 use Rattle.request_book.specs.Sealing.{is_over, after_seal, over_id, asking, batch_of}
 use Rattle.request_book.specs.State.{find_rider, find_vehicle, find_passenger}
-use Rattle.request_book.proofs.IndexLemmas.{IsPool, pool_id-keeps}
-use Rattle.request_book.proofs.SealLemmas.{changed_in_turn-marked, marked, map-agree}
-use Rattle.request_book.proofs.KeyedLemmas.{IsOrderOf, look_up-here, look_up-there, look_up-nil, look_up-key, look_up-at, look_up-filter_map, KeysDiffer-filter_map, KeysDiffer-from_rise, by_key-order, filter_map-by_key, made-rise, made-found, look_up-map, length-by_key, length-filter_map, All-from_look_up, All-look_up}
+use Rattle.request_book.proofs.lemmas.IndexLemmas.{IsPool, pool_id-keeps}
+use Rattle.request_book.proofs.lemmas.SealLemmas.{changed_in_turn-marked, marked, map-agree}
+use Rattle.request_book.proofs.lemmas.KeyedLemmas.{IsOrderOf, look_up-here, look_up-there, look_up-nil, look_up-key, look_up-at, look_up-filter_map, KeysDiffer-filter_map, KeysDiffer-from_rise, by_key-order, filter_map-by_key, made-rise, made-found, look_up-map, length-by_key, length-filter_map, All-from_look_up, All-look_up}
 
 -- what is made of changed elements
 filter_map-map : {X Y Z : Type 0} (h : Y → Option Z) (g : X → Y) (xs : List X) → filter_map h (map g xs) ≡ filter_map (λ x. h (g x)) xs

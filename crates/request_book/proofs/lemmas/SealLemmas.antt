@@ -8,7 +8,7 @@ use Rattle.std.proofs.lemmas.List.{take_more, at_drop_more, drop_all}
 use Rattle.std.proofs.lemmas.List.Elements.{filter_map-append}
 use Rattle.request_book.specs.Keyed.{look_up, changed_at, KeysDiffer}
 use Rattle.request_book.specs.work.Keyed.{changed_in_turn}
-use Rattle.request_book.proofs.KeyedLemmas.{look_up-here, look_up-there, look_up-nil}
+use Rattle.request_book.proofs.lemmas.KeyedLemmas.{look_up-here, look_up-there, look_up-nil}
 
 pub filter_map-more : {X Y : Type 0} (h : X → Option Y) (xs : List X) (i : ℕ) (d : X) → i < length xs → filter_map h (take (i + 1) xs) ≡ filter_map h (take i xs) ++ option_to_list (h (get_or xs i d))
 filter_map-more {Y = Y} h xs i d in' =

@@ -10,7 +10,7 @@ use Rattle.std.proofs.lemmas.List.Sorted.{searched}
 use Rattle.request_book.specs.Keyed.{look_up, placed, without, KeysRise, KeysDiffer}
 use Rattle.request_book.specs.work.Refusals.{first_of}
 use Rattle.request_book.specs.declared.reply.BookRefusal.{BookRefusal}
-use Rattle.request_book.proofs.KeyedLemmas.{look_up-position, look_up-list_any, nondecreasing_from_rise, insert-placed, remove-without, look_up-at, look_up-nil, look_up-there, without_key-absent, look_up-nowhere, KeysDiffer-from_rise, without-absent}
+use Rattle.request_book.proofs.lemmas.KeyedLemmas.{look_up-position, look_up-list_any, nondecreasing_from_rise, insert-placed, remove-without, look_up-at, look_up-nil, look_up-there, without_key-absent, look_up-nowhere, KeysDiffer-from_rise, without-absent}
 
 -- the first refusal is the first of the rest after one that doesn't hold
 pub first_of-more : (xs : List (Option BookRefusal)) (i : ℕ) (d : Option BookRefusal) → i < length xs → get_or xs i d ≡ None → first_of (drop (i + 1) xs) ≡ first_of (drop i xs)

@@ -19,13 +19,13 @@ use Rattle.request_book.specs.work.Closing.{waits_again, takes_promise, promised
 use Rattle.request_book.specs.declared.outcome.Answer.{Answer}
 use Rattle.request_book.specs.declared.outcome.Answer.TheVariants.{Overflow, Planned as Plan}
 use Rattle.request_book.specs.work.Register.{pool_id}
-use Rattle.request_book.proofs.IndexLemmas.{IsPool, IsPool-map}
+use Rattle.request_book.proofs.lemmas.IndexLemmas.{IsPool, IsPool-map}
 use Rattle.request_book.specs.Keyed.{look_up, changed_at, KeysRise, KeysDiffer, AllAbove}
 use Rattle.request_book.specs.work.Keyed.{changed_in_turn}
 use Rattle.request_book.specs.Rider.{is_active, with_status}
 use Rattle.request_book.specs.work.Closing.{is_waiting}
-use Rattle.request_book.proofs.KeyedLemmas.{look_up-here, look_up-there, look_up-nil, look_up-at, look_up-push_here, look_up-push_there, look_up-push_found, KeysDiffer-map, map-keys, KeysDiffer-from_rise}
-use Rattle.request_book.proofs.SealLemmas.{changed_in_turn-marked, marked}
+use Rattle.request_book.proofs.lemmas.KeyedLemmas.{look_up-here, look_up-there, look_up-nil, look_up-at, look_up-push_here, look_up-push_there, look_up-push_found, KeysDiffer-map, map-keys, KeysDiffer-from_rise}
+use Rattle.request_book.proofs.lemmas.SealLemmas.{changed_in_turn-marked, marked}
 
 same_by_cmp : (a b : ℕ) → nat_cmp a b ≡ Equal → a ≡ b
 same_by_cmp a b e = grind (arith, nat_tests)

@@ -1,0 +1,112 @@
+-- How the book answers what is entered on a driven day.
+use Rattle.std.proofs.Common.{◌≡◌, ◌⊎◌, ℕ, ◌+◌, ◌≤◌, true, List, [], ◌∷◌, ◌++◌, Option, Some, None, refl, ap, ◌∙◌, inl, inr}
+use Rattle.std.proofs.lemmas.Bool.{eq-eqb, le-ltb, le-leb}
+use Rattle.batch_snapshot.specs.Batch.{Batch}
+use Rattle.batch_snapshot.specs.Vehicle.{persons_aboard}
+use Rattle.batch_snapshot.specs.declared.promise.Promise.{Promise}
+use Rattle.batch_snapshot.specs.declared.vehicle.Vehicle.{Vehicle}
+use Rattle.pool_io.specs.Faults.{one_more}
+use Rattle.request_book.specs.Closing.{closed_state, after_answer}
+use Rattle.request_book.specs.Refusals.{first_of, duplicate_rider, unknown_node, unknown_rider, is_aboard, has_ended, unknown_vehicle, time_back, not_promised, vehicle_full, not_aboard, batch_open, clock_back, not_this_batch}
+use Rattle.request_book.specs.Sealing.{sealed_state}
+use Rattle.request_book.specs.State.{find_rider, find_vehicle}
+use Rattle.request_book.specs.Step.{answer, step, submit_step, submit_refusal, report_step, pickup_step, dropoff_step, seal_step, seal_refusal, close_step, rider_becomes, vehicle_becomes, takes_in, lets_out, stands_at}
+use Rattle.request_book.specs.declared.command.Command.TheVariants.{Submit, Report, Pickup, Dropoff, Seal, Close}
+use Rattle.request_book.specs.declared.outcome.Outcome.{Outcome}
+use Rattle.request_book.specs.declared.reply.BookRefusal.{BookRefusal}
+use Rattle.request_book.specs.declared.reply.Reply.{Reply}
+use Rattle.request_book.specs.declared.reply.Reply.TheVariants.{Accepted, Placed, Picked, Dropped, Sealed, Closed, Refused}
+use Rattle.request_book.specs.declared.rider.BookRider.{BookRider}
+use Rattle.request_book.specs.declared.rider.Status.TheVariants.{Waiting, Promised, Aboard, Delivered}
+use Rattle.request_book.specs.declared.state.State.{State}
+use Rattle.request_book.proofs.lemmas.StepLemmas.{first_of-none, closed-some}
+use Rattle.road_network.specs.Roads.{has_node}
+
+-- nothing speaks against a pickup, a drop-off, a report
+pickup_free : (v : Vehicle) (r : BookRider) (promise : Promise) (vehicle time : ℕ) → r.status ≡ Promised promise → promise.vehicle ≡ vehicle → v.time ≤ time → persons_aboard v + r.party ≤ v.seats
+    → first_of (unknown_vehicle (Some v) ∷ unknown_rider (Some r) ∷ is_aboard (Some r) ∷ has_ended (Some r) ∷ not_promised (Some r) vehicle ∷ time_back (Some v) time ∷ vehicle_full (Some v) (Some r) ∷ []) ≡ None
+unfolding first_of
+pickup_free v r promise vehicle time status own back fits =
+    rw (status, eq-eqb promise.vehicle vehicle own, le-ltb time v.time back, le-leb (persons_aboard v + r.party) v.seats fits) refl
+
+dropoff_free : (v : Vehicle) (r : BookRider) (vehicle time : ℕ) → r.status ≡ Aboard vehicle → v.time ≤ time
+    → first_of (unknown_vehicle (Some v) ∷ unknown_rider (Some r) ∷ not_aboard (Some r) vehicle ∷ time_back (Some v) time ∷ []) ≡ None
+unfolding first_of
+dropoff_free v r vehicle time status back = rw (status, eq-eqb vehicle vehicle refl, le-ltb time v.time back) refl
+
+report_free : (nodes : List ℕ) (v : Vehicle) (node time : ℕ) → has_node nodes node ≡ true → v.time ≤ time
+    → first_of (unknown_vehicle (Some v) ∷ unknown_node nodes node ∷ time_back (Some v) time ∷ []) ≡ None
+unfolding first_of
+report_free nodes v node time named back = rw (named, le-ltb time v.time back) refl
+
+close_free : (o : Option Batch) (b : Batch) → o ≡ Some b → first_of (not_this_batch o b.number ∷ []) ≡ None
+unfolding first_of
+close_free o b e = rw (e, eq-eqb b.number b.number refl) refl
+
+-- the answer where nothing speaks against it
+answered : (s : State) (o : Option BookRefusal) (reply : Reply) (next : State) → o ≡ None → answer s o reply next ≡ (next, reply)
+answered s o reply next none = ap (λ p. answer s p reply next) none
+
+module _ (nodes : List ℕ) (wait : ℕ) (s : State) where
+  pub pickup_is : (vehicle rider time : ℕ) (v : Vehicle) (r : BookRider) (promise : Promise) → find_vehicle vehicle s.vehicles ≡ Some v → find_rider rider s.riders ≡ Some r
+      → r.status ≡ Promised promise → promise.vehicle ≡ vehicle → v.time ≤ time → persons_aboard v + r.party ≤ v.seats
+      → step nodes wait s (Pickup vehicle rider time) ≡ (vehicle_becomes (rider_becomes s r.id (Aboard vehicle)) vehicle (takes_in r time), Picked)
+  unfolding step pickup_step
+  pickup_is vehicle rider time v r promise at found status own back fits =
+      rw (at, found) (answered s _ Picked (vehicle_becomes (rider_becomes s r.id (Aboard vehicle)) vehicle (takes_in r time)) (pickup_free v r promise vehicle time status own back fits))
+
+  pub dropoff_is : (vehicle rider time : ℕ) (v : Vehicle) (r : BookRider) → find_vehicle vehicle s.vehicles ≡ Some v → find_rider rider s.riders ≡ Some r
+      → r.status ≡ Aboard vehicle → v.time ≤ time
+      → step nodes wait s (Dropoff vehicle rider time) ≡ (vehicle_becomes (rider_becomes s r.id Delivered) vehicle (lets_out r time), Dropped)
+  unfolding step dropoff_step
+  dropoff_is vehicle rider time v r at found status back =
+      rw (at, found) (answered s _ Dropped (vehicle_becomes (rider_becomes s r.id Delivered) vehicle (lets_out r time)) (dropoff_free v r vehicle time status back))
+
+  pub report_is : (vehicle node time : ℕ) (v : Vehicle) → find_vehicle vehicle s.vehicles ≡ Some v → has_node nodes node ≡ true → v.time ≤ time
+      → step nodes wait s (Report vehicle node time) ≡ (vehicle_becomes s vehicle (stands_at node time), Placed)
+  unfolding step report_step
+  report_is vehicle node time v at named back =
+      rw at (answered s _ Placed (vehicle_becomes s vehicle (stands_at node time)) (report_free nodes v node time named back))
+
+  -- a request changes nothing, or its rider is new and waits
+  pub submit_is : (rider origin destination time party : ℕ)
+      → ((step nodes wait s (Submit rider origin destination time party)).0 ≡ s)
+      ⊎ ((find_rider rider s.riders ≡ None)
+      × ((step nodes wait s (Submit rider origin destination time party)).0 ≡ record s { riders = s.riders ++ (record { id = rider; origin = origin; destination = destination; time = time; party = party; status = Waiting }) ∷ [] }))
+  unfolding step submit_step
+  submit_is rider origin destination time party = by (submit_refusal nodes s r) refl
+    where
+      r : BookRider
+      r = record { id = rider; origin = origin; destination = destination; time = time; party = party; status = Waiting }
+
+      fresh : (o : Option BookRider) → duplicate_rider o ≡ None → o ≡ None
+      fresh None e = refl
+      fresh (Some x) e = absurd cc
+
+      by : (o : Option BookRefusal) → submit_refusal nodes s r ≡ o
+          → ((answer s o Accepted (record s { riders = s.riders ++ r ∷ [] })).0 ≡ s) ⊎ ((find_rider rider s.riders ≡ None) × ((answer s o Accepted (record s { riders = s.riders ++ r ∷ [] })).0 ≡ record s { riders = s.riders ++ r ∷ [] }))
+      by (Some refusal) e = inl refl
+      by None e = inr (fresh (find_rider rider s.riders) (first_of-none _ _ e).0, refl)
+
+  -- a seal is refused, or seals
+  pub seal_is : (now : ℕ) → ((refusal : BookRefusal) × (step nodes wait s (Seal now) ≡ (s, Refused refusal)))
+      ⊎ ((s.sealed ≡ None) × (clock_back s.last_seal now ≡ None) × (step nodes wait s (Seal now) ≡ (sealed_state wait s now, Sealed (one_more s.batches))))
+  unfolding step seal_step
+  seal_is now = by (seal_refusal s now) refl
+    where
+      closed : (o : Option Batch) → batch_open o ≡ None → o ≡ None
+      closed None e = refl
+      closed (Some b) e = absurd cc
+
+      by : (o : Option BookRefusal) → seal_refusal s now ≡ o
+          → ((refusal : BookRefusal) × (answer s o (Sealed (one_more s.batches)) (sealed_state wait s now) ≡ (s, Refused refusal)))
+          ⊎ ((s.sealed ≡ None) × (clock_back s.last_seal now ≡ None) × (answer s o (Sealed (one_more s.batches)) (sealed_state wait s now) ≡ (sealed_state wait s now, Sealed (one_more s.batches))))
+      by (Some refusal) e = inl (refusal, refl)
+      by None e = let a = first_of-none _ _ e in inr (closed s.sealed a.0, (first_of-none _ _ a.1).0, refl)
+
+  -- the close of the sealed batch
+  pub close_is : (b : Batch) (outcome : Outcome) → s.sealed ≡ Some b
+      → step nodes wait s (Close b.number outcome) ≡ (record s { riders = after_answer b.riders outcome.answer s.riders; sealed = None }, Closed)
+  unfolding step close_step
+  close_is b outcome sealed =
+      answered s _ Closed (closed_state s outcome.answer) (close_free s.sealed b sealed) ∙ ap (λ (t : State). (t, Closed)) (closed-some s b outcome.answer sealed)

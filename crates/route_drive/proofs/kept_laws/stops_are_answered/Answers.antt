@@ -1,0 +1,5 @@
+use Rattle.route_drive.proofs.kept.Laws.{stops_are_answered}
+use Rattle.route_drive.proofs.kept_laws.stops_are_answered.Goals as goal
+
+pub returns : goal.returns
+returns c = stops_are_answered
