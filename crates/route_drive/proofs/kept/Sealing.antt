@@ -8,7 +8,7 @@ use Rattle.batch_snapshot.specs.declared.rider.Rider.{Rider}
 use Rattle.batch_snapshot.specs.declared.vehicle.Vehicle.{Vehicle}
 use Rattle.request_book.specs.Consistent.{IsConsistent, NamesNodes}
 use Rattle.request_book.specs.Keyed.{look_up, by_key, KeysDiffer}
-use Rattle.request_book.specs.Refusals.{clock_back}
+use Rattle.request_book.specs.work.Refusals.{clock_back}
 use Rattle.request_book.specs.Rider.{with_status, shown, pool_promise}
 use Rattle.request_book.specs.Sealing.{is_over, after_seal, asking, batch_of, sealed_state}
 use Rattle.request_book.specs.State.{find_rider, find_vehicle}
