@@ -7,13 +7,16 @@ use Rattle.std.specs.Option.{option_map_or}
 use Rattle.batch_snapshot.specs.Batch.{Batch}
 use Rattle.batch_snapshot.specs.declared.rider.Rider.{Rider}
 use Rattle.request_book.proofs.KeyedLemmas.{look_up-here, look_up-there, look_up-nil}
-use Rattle.request_book.specs.Closing.{Pick, after_answer, after_plan, closed_state, in_batch, picks, planned_status}
+use Rattle.request_book.specs.Closing.{Pick, after_answer, after_plan, in_batch, picks, planned_status}
+use Rattle.request_book.specs.work.Closing.{closed_state}
 use Rattle.request_book.specs.Keyed.{changed_at, look_up}
 use Rattle.request_book.specs.Replay.{RepliesAreSteps, state_after}
 use Rattle.request_book.specs.Rider.{is_active, with_status}
 use Rattle.request_book.specs.Sealing.{sealed_state, after_seal, is_over}
 use Rattle.request_book.specs.State.{find_rider}
-use Rattle.request_book.specs.Step.{answer, picked_up, dropped_off, rider_becomes, step, submit_step, cancel_step, report_step, pickup_step, dropoff_step, seal_step, close_step}
+use Rattle.request_book.specs.Step.{rider_becomes, step}
+use Rattle.request_book.specs.work.Table.{answer, picked_up, dropped_off, submit_step, cancel_step, report_step, pickup_step, dropoff_step, seal_step, close_step, table_step}
+use Rattle.request_book.proofs.lemmas.StepTable.{by-table}
 use Rattle.request_book.specs.declared.command.Command.{Command}
 use Rattle.request_book.specs.declared.command.Command.TheVariants.{Submit, Cancel, Report, Pickup, Dropoff, Seal, Close}
 use Rattle.request_book.specs.declared.outcome.Answer.{Answer}
@@ -167,15 +170,18 @@ close-keeps : (s : State) (batch : ℕ) (a : Answer) → Keeps s.riders (close_s
 unfolding close_step
 close-keeps s batch a = answer-keeps s _ _ _ (closed-keeps s a)
 
+table-step-keeps : (nodes : List ℕ) (wait : ℕ) (s : State) (c : Command) → Keeps s.riders (table_step nodes wait s c).0.riders
+unfolding table_step
+table-step-keeps nodes wait s (Submit rider origin destination time party) = submit-keeps nodes s _
+table-step-keeps nodes wait s (Cancel rider) = cancel-keeps s rider
+table-step-keeps nodes wait s (Report vehicle node time) = report-keeps nodes s vehicle node time
+table-step-keeps nodes wait s (Pickup vehicle rider time) = pickup-keeps s vehicle rider time
+table-step-keeps nodes wait s (Dropoff vehicle rider time) = dropoff-keeps s vehicle rider time
+table-step-keeps nodes wait s (Seal now) = seal-keeps wait s now
+table-step-keeps nodes wait s (Close batch outcome) = close-keeps s batch outcome.answer
+
 step-keeps : (nodes : List ℕ) (wait : ℕ) (s : State) (c : Command) → Keeps s.riders (step nodes wait s c).0.riders
-unfolding step
-step-keeps nodes wait s (Submit rider origin destination time party) = submit-keeps nodes s _
-step-keeps nodes wait s (Cancel rider) = cancel-keeps s rider
-step-keeps nodes wait s (Report vehicle node time) = report-keeps nodes s vehicle node time
-step-keeps nodes wait s (Pickup vehicle rider time) = pickup-keeps s vehicle rider time
-step-keeps nodes wait s (Dropoff vehicle rider time) = dropoff-keeps s vehicle rider time
-step-keeps nodes wait s (Seal now) = seal-keeps wait s now
-step-keeps nodes wait s (Close batch outcome) = close-keeps s batch outcome.answer
+step-keeps nodes wait s (Submit rider origin destination time party) = by-table (λ p. Keeps s.riders p.0.riders) nodes wait s c (table-step-keeps nodes wait s (Submit rider origin destination time party))
 
 pub riders_stay : (nodes : List ℕ) (wait : ℕ) (s : State) (es : List Entry) → Keeps s.riders (state_after nodes wait s es).riders
 unfolding state_after
@@ -196,25 +202,31 @@ abbrev IsDropoff : Command → Type 0
 IsDropoff (Dropoff vehicle rider time) = Unit {0}
 IsDropoff command = ⊥
 
+table-picked_by : (nodes : List ℕ) (wait : ℕ) (s : State) (c : Command) → is_picked (table_step nodes wait s c).1 ≡ true → IsPickup c
+unfolding table_step submit_step cancel_step report_step dropoff_step seal_step close_step
+table-picked_by nodes wait s (Submit rider origin destination time party) holds = absurd (true≢false (sym holds ∙ not_told is_picked (λ why. refl) s _ _ Accepted refl))
+table-picked_by nodes wait s (Cancel rider) holds = absurd (true≢false (sym holds ∙ not_told is_picked (λ why. refl) s _ _ Cancelled refl))
+table-picked_by nodes wait s (Report vehicle node time) holds = absurd (true≢false (sym holds ∙ not_told is_picked (λ why. refl) s _ _ Placed refl))
+table-picked_by nodes wait s (Pickup vehicle rider time) holds = tt
+table-picked_by nodes wait s (Dropoff vehicle rider time) holds = absurd (true≢false (sym holds ∙ not_told is_picked (λ why. refl) s _ _ Dropped refl))
+table-picked_by nodes wait s (Seal now) holds = absurd (true≢false (sym holds ∙ not_told is_picked (λ why. refl) s _ _ (Sealed _) refl))
+table-picked_by nodes wait s (Close batch outcome) holds = absurd (true≢false (sym holds ∙ not_told is_picked (λ why. refl) s _ _ Closed refl))
+
 picked_by : (nodes : List ℕ) (wait : ℕ) (s : State) (c : Command) → is_picked (step nodes wait s c).1 ≡ true → IsPickup c
-unfolding step submit_step cancel_step report_step dropoff_step seal_step close_step
-picked_by nodes wait s (Submit rider origin destination time party) holds = absurd (true≢false (sym holds ∙ not_told is_picked (λ why. refl) s _ _ Accepted refl))
-picked_by nodes wait s (Cancel rider) holds = absurd (true≢false (sym holds ∙ not_told is_picked (λ why. refl) s _ _ Cancelled refl))
-picked_by nodes wait s (Report vehicle node time) holds = absurd (true≢false (sym holds ∙ not_told is_picked (λ why. refl) s _ _ Placed refl))
-picked_by nodes wait s (Pickup vehicle rider time) holds = tt
-picked_by nodes wait s (Dropoff vehicle rider time) holds = absurd (true≢false (sym holds ∙ not_told is_picked (λ why. refl) s _ _ Dropped refl))
-picked_by nodes wait s (Seal now) holds = absurd (true≢false (sym holds ∙ not_told is_picked (λ why. refl) s _ _ (Sealed _) refl))
-picked_by nodes wait s (Close batch outcome) holds = absurd (true≢false (sym holds ∙ not_told is_picked (λ why. refl) s _ _ Closed refl))
+picked_by nodes wait s (Submit rider origin destination time party) holds = by-table (λ p. IsPickup c) nodes wait s c (table-picked_by nodes wait s (Submit rider origin destination time party) holds)
+
+table-dropped_by : (nodes : List ℕ) (wait : ℕ) (s : State) (c : Command) → is_dropped (table_step nodes wait s c).1 ≡ true → IsDropoff c
+unfolding table_step submit_step cancel_step report_step pickup_step seal_step close_step
+table-dropped_by nodes wait s (Submit rider origin destination time party) holds = absurd (true≢false (sym holds ∙ not_told is_dropped (λ why. refl) s _ _ Accepted refl))
+table-dropped_by nodes wait s (Cancel rider) holds = absurd (true≢false (sym holds ∙ not_told is_dropped (λ why. refl) s _ _ Cancelled refl))
+table-dropped_by nodes wait s (Report vehicle node time) holds = absurd (true≢false (sym holds ∙ not_told is_dropped (λ why. refl) s _ _ Placed refl))
+table-dropped_by nodes wait s (Pickup vehicle rider time) holds = absurd (true≢false (sym holds ∙ not_told is_dropped (λ why. refl) s _ _ Picked refl))
+table-dropped_by nodes wait s (Dropoff vehicle rider time) holds = tt
+table-dropped_by nodes wait s (Seal now) holds = absurd (true≢false (sym holds ∙ not_told is_dropped (λ why. refl) s _ _ (Sealed _) refl))
+table-dropped_by nodes wait s (Close batch outcome) holds = absurd (true≢false (sym holds ∙ not_told is_dropped (λ why. refl) s _ _ Closed refl))
 
 dropped_by : (nodes : List ℕ) (wait : ℕ) (s : State) (c : Command) → is_dropped (step nodes wait s c).1 ≡ true → IsDropoff c
-unfolding step submit_step cancel_step report_step pickup_step seal_step close_step
-dropped_by nodes wait s (Submit rider origin destination time party) holds = absurd (true≢false (sym holds ∙ not_told is_dropped (λ why. refl) s _ _ Accepted refl))
-dropped_by nodes wait s (Cancel rider) holds = absurd (true≢false (sym holds ∙ not_told is_dropped (λ why. refl) s _ _ Cancelled refl))
-dropped_by nodes wait s (Report vehicle node time) holds = absurd (true≢false (sym holds ∙ not_told is_dropped (λ why. refl) s _ _ Placed refl))
-dropped_by nodes wait s (Pickup vehicle rider time) holds = absurd (true≢false (sym holds ∙ not_told is_dropped (λ why. refl) s _ _ Picked refl))
-dropped_by nodes wait s (Dropoff vehicle rider time) holds = tt
-dropped_by nodes wait s (Seal now) holds = absurd (true≢false (sym holds ∙ not_told is_dropped (λ why. refl) s _ _ (Sealed _) refl))
-dropped_by nodes wait s (Close batch outcome) holds = absurd (true≢false (sym holds ∙ not_told is_dropped (λ why. refl) s _ _ Closed refl))
+dropped_by nodes wait s (Submit rider origin destination time party) holds = by-table (λ p. IsDropoff c) nodes wait s c (table-dropped_by nodes wait s (Submit rider origin destination time party) holds)
 
 -- there is one travel time
 one_time : (arcs : List Arc) (a b s t : ℕ) → IsTimeBetween arcs a b s → IsTimeBetween arcs a b t → s ≡ t
