@@ -48,6 +48,9 @@ impl Guide {
     ) -> Result<Option<Plan>, OutOfMemory>
         ensures { IfOk result (λ found. IfSome found (λ plan. IsLawful graph.now plan × (cost_of graph.now plan < limit))) }
     {
+        if self.draft.cost.max(0).unsigned_abs() >= limit {
+            return Ok(None);
+        }
         let plan = Plan::of(Vec::from_slice(alloc, &self.draft.plan)?);
         if is_lawful(graph, &plan) && cost_of(graph, &plan) < limit {
             Ok(Some(plan))

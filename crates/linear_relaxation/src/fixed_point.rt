@@ -59,11 +59,21 @@ pub fn times(number: i64, factor: i64) -> i64 {
 
 /// The quotient of two numbers in units of 2^-32, 0 where the divisor is.
 pub fn quotient(number: i64, divisor: i64) -> i64 {
-    if divisor == ONE {
+    if divisor == ONE || number == 0 {
         return number;
+    }
+    if divisor == -ONE {
+        return number.wrapping_neg();
     }
     let wide = i128::from(number).wrapping_mul(i128::from(ONE));
     narrowed(wide.checked_div(i128::from(divisor)).unwrap_or(0))
+}
+
+/// Whether the quotient of a number and a divisor above 0 is greater than this.
+pub fn is_quotient_above(number: i64, divisor: i64, bound: i64) -> bool {
+    let wide = i128::from(number).wrapping_mul(i128::from(ONE));
+    let next = i128::from(bound).wrapping_add(1);
+    wide >= next.wrapping_mul(i128::from(divisor))
 }
 
 /// The nearest number of 64 bits.

@@ -67,6 +67,8 @@ pub struct Relaxation {
     scale: u32,
     /// The column that comes in, over the places.
     entering: Vec<i64>,
+    /// How the prices change as a column comes in, for each second by which that lowers the cost of one of it.
+    changes: Vec<i64>,
     /// What each place costs, and how much of it is chosen.
     costs: Vec<i64>,
     parts: Vec<i64>,
@@ -101,6 +103,7 @@ impl Relaxation {
             prices: Vec::new(alloc),
             scale: scale_of(table),
             entering: Vec::new(alloc),
+            changes: Vec::new(alloc),
             costs: Vec::new(alloc),
             parts: Vec::new(alloc),
             candidates: Vec::new(alloc),
@@ -127,6 +130,7 @@ impl Relaxation {
         reset(&mut self.left_costs, table.rider_count(), 0)?;
         reset(&mut self.prices, count, 0)?;
         reset(&mut self.entering, count, 0)?;
+        reset(&mut self.changes, count, 0)?;
         reset(&mut self.costs, count, 0)?;
         reset(&mut self.parts, count, 0)?;
         reset(&mut self.multipliers, table.rider_count(), 0)?;
@@ -193,14 +197,20 @@ impl Relaxation {
     /// Puts all rows into the pool.
     pub fn fill_pool_whole(&mut self, table: &RowTable) -> Result<(), OutOfMemory> {
         for row in 0..table.row_count() {
-            self.pool.add(row)?;
+            let cost = at(&self.row_costs, row);
+            self.pool.add(table, row, cost)?;
         }
         Ok(())
     }
 
     /// Takes the rows out of the pool whose reduced cost lies so much above their vehicle's least one, in
     /// 1/1024 second.
-    pub fn shrink_pool(&mut self, table: &RowTable, multipliers: &[i64], most: i64) {
+    pub fn shrink_pool(
+        &mut self,
+        table: &RowTable,
+        multipliers: &[i64],
+        most: i64,
+    ) -> Result<(), OutOfMemory> {
         for vehicle in 0..table.vehicle_count() {
             let least = self.least_reduced_cost(table, multipliers, vehicle);
             if vehicle < self.least.len() {
@@ -208,7 +218,7 @@ impl Relaxation {
             }
         }
         self.pool
-            .keep(table, multipliers, &self.least, most, &self.basis);
+            .keep(table, multipliers, &self.least, most, &self.basis)
     }
 
     /// Has these count as the best multipliers, with this value.
@@ -271,8 +281,10 @@ impl Relaxation {
     pub fn go_to(&mut self, table: &RowTable, columns: &[u32]) -> Result<(), OutOfMemory> {
         self.basis.go_to(columns)?;
         for column in columns {
-            if (*column as usize) < table.row_count() {
-                self.pool.add(*column as usize)?;
+            let row = *column as usize;
+            if row < table.row_count() {
+                let cost = at(&self.row_costs, row);
+                self.pool.add(table, row, cost)?;
             }
         }
         Ok(())

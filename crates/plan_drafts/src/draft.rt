@@ -39,6 +39,9 @@ const STEPS: u32 = 500;
 
 const MORE_STEPS: u32 = 2000;
 
+/// After so many rounds in a row that saved nothing no more are made, where annealing doesn't help.
+const MOST_IDLE_ROUNDS: u32 = 3;
+
 /// How many moves an annealing has.
 const MOVES: u64 = 2_000_000;
 
@@ -81,7 +84,7 @@ pub fn make_draft(
     let mut tree = drafting.quick_tree(table, budget)?;
     if drafting.is_open() {
         drafting.make_more_plans(table)?;
-        if drafting.is_open() && !drafting.is_near(2000) {
+        if drafting.is_open() && drafting.is_worth_trials(table) {
             let other = drafting.strong_tree(table, budget)?;
             if other.bound >= tree.bound {
                 tree = other;
@@ -133,6 +136,17 @@ impl Drafting {
     /// Whether the gap is no more than this part of the cost.
     fn is_near(&self, part: i64) -> bool {
         self.cost.saturating_sub(self.bound).saturating_mul(part) <= self.cost
+    }
+
+    /// Whether the gap is so wide that a rider more might be served.
+    fn is_wide(&self, table: &RowTable) -> bool {
+        self.cost.saturating_sub(self.bound) >= table.penalty() / 4
+    }
+
+    /// Whether a tree whose branches are tried for longer is worth its time: not where the gap is very small,
+    /// nor small in a large graph, where it closes a hundredth of it in most of the time.
+    fn is_worth_trials(&self, table: &RowTable) -> bool {
+        !self.is_near(2000) && (self.is_wide(table) || !is_large(table))
     }
 
     /// Keeps the plan at hand where it is the best so far.
@@ -225,7 +239,7 @@ impl Drafting {
         self.relaxation.go_to(table, &self.basis)?;
         self.relaxation.pivot_on(table, u64::MAX)?;
         let gap = self.cost.saturating_mul(1024).saturating_sub(self.value);
-        self.relaxation.shrink_pool(table, &self.multipliers, gap);
+        self.relaxation.shrink_pool(table, &self.multipliers, gap)?;
         self.relaxation.set_best(&self.multipliers, self.value);
         let mut tree = DraftTree::new(
             self.alloc,
@@ -248,21 +262,28 @@ impl Drafting {
 
     /// Rounds of annealing, drawn dives and merges: annealing where more riders might be served.
     fn make_more_plans(&mut self, table: &RowTable) -> Result<(), OutOfMemory> {
-        let gap = self.cost.saturating_sub(self.bound);
-        let is_wide = gap >= table.penalty() / 4;
-        let rounds = if is_wide {
-            4
-        } else if self.is_near(2000) {
+        let is_wide = self.is_wide(table);
+        let rounds = if self.is_near(2000) {
             2
+        } else if is_wide || is_large(table) {
+            4
         } else {
             8
         };
         let mut optima: Vec<Vec<Option<u32>>> = Vec::new(self.alloc);
         optima.push(Vec::from_slice(self.alloc, &self.plan)?)?;
+        let mut idle: u32 = 0;
         for round in 0..rounds {
-            if self.is_open() {
-                self.make_round(table, round, is_wide, &mut optima)?;
+            if !self.is_open() || idle >= MOST_IDLE_ROUNDS {
+                return Ok(());
             }
+            let before = self.cost;
+            self.make_round(table, round, is_wide, &mut optima)?;
+            idle = if self.cost < before {
+                0
+            } else {
+                idle.saturating_add(1)
+            };
         }
         Ok(())
     }

@@ -1,5 +1,5 @@
 //! A basis of the relaxation, with how much of each column it takes.
-use crate::fixed_point::{ONE, at, copy, item, quotient, set_at, times};
+use crate::fixed_point::{ONE, at, copy, is_quotient_above, item, quotient, set_at, times};
 use crate::relaxation::elimination::{Elimination, reset};
 use crate::relaxation::factors::Factors;
 use crate::relaxation::lists::{Lists, short};
@@ -251,7 +251,7 @@ impl Basis {
         let mut divisor = 0;
         for place in 0..entering.len() {
             let value = entering[place];
-            if value > LEAST_PIVOT {
+            if value > LEAST_PIVOT && !is_quotient_above(at(&self.levels, place), value, least) {
                 let ratio = quotient(at(&self.levels, place), value);
                 if best.is_none() || ratio < least || (ratio == least && value > divisor) {
                     best = Some((place, ratio));

@@ -61,13 +61,14 @@ impl Elimination {
         self.count_conditions(columns);
         self.take_single_conditions(columns, factors)?;
         self.order_rest(columns)?;
-        let first = factors.pivot_count();
+        let first = factors.lower_count();
         for place in 0..self.rest.len() {
             let place = (item(&self.rest, place, 0) & 0xffff_ffff) as usize;
             if !self.take_place(columns, place, first, factors)? {
                 return Ok(false);
             }
         }
+        factors.finish()?;
         Ok(true)
     }
 
@@ -238,7 +239,8 @@ impl Elimination {
         Ok(())
     }
 
-    /// Divides a place of the rest, whose first pivot has this number.
+    /// Divides a place of the rest. The first pivot of the rest with something below it has this number among
+    /// those that have.
     fn take_place(
         &mut self,
         columns: &Lists,
@@ -251,8 +253,8 @@ impl Elimination {
             self.touch(*condition)?;
             set_at(&mut self.column, *condition as usize, ONE);
         }
-        for number in first..factors.pivot_count() {
-            self.eliminate(factors, number)?;
+        for place in first..factors.lower_count() {
+            self.eliminate(factors, factors.lower_pivot(place))?;
         }
         match self.emptiest_condition() {
             None => Ok(false),

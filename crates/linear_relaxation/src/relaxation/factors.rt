@@ -6,6 +6,7 @@
 use crate::fixed_point::{
     at, is_noise, item, less_products, part, quotient, set_at, take_products,
 };
+use crate::relaxation::elimination::reset;
 use crate::relaxation::lists::short;
 use pool_base::OutOfMemory;
 use std::alloc::Global;
@@ -77,6 +78,48 @@ impl Entries {
         less_products(start, numbers, self.places(number), self.values(number))
     }
 
+    /// Makes these the other ones, whose parts are those of pivots over conditions, by condition: its values
+    /// over the places of the pivots.
+    fn transpose(&mut self, others: &Entries, pivots: &[Pivot]) -> Result<(), OutOfMemory> {
+        reset(&mut self.ends, pivots.len(), 0)?;
+        reset(&mut self.places, others.places.len(), 0)?;
+        reset(&mut self.values, others.places.len(), 0)?;
+        for condition in &others.places {
+            let condition = *condition as usize;
+            if condition < self.ends.len() {
+                self.ends[condition] = self.ends[condition].wrapping_add(1);
+            }
+        }
+        self.end_before_each();
+        for number in 0..pivots.len() {
+            self.put_part(others, number, pivots[number].place);
+        }
+        Ok(())
+    }
+
+    /// Makes each part, which ends at its size, end where it starts.
+    fn end_before_each(&mut self) {
+        let mut sum: u32 = 0;
+        for end in self.ends.iter_mut() {
+            let size = *end;
+            *end = sum;
+            sum = sum.wrapping_add(size);
+        }
+    }
+
+    /// Puts the values of another part at the ends of the parts of their conditions.
+    fn put_part(&mut self, others: &Entries, number: usize, place: u32) {
+        for (condition, value) in others.places(number).iter().zip(others.values(number)) {
+            let condition = *condition as usize;
+            if condition < self.ends.len() {
+                let end = self.ends[condition];
+                set_at(&mut self.places, end as usize, place);
+                set_at(&mut self.values, end as usize, *value);
+                self.ends[condition] = end.wrapping_add(1);
+            }
+        }
+    }
+
     fn copy_from(&mut self, other: &Entries) -> Result<(), OutOfMemory> {
         self.clear();
         self.ends.extend_from_slice(&other.ends)?;
@@ -104,6 +147,8 @@ pub struct Factors {
     lower_pivots: Vec<u32>,
     /// Above each pivot, in its column.
     upper: Entries,
+    /// The same by condition, over the places.
+    upper_rows: Entries,
     /// For each exchange its place and the entering column, over the places.
     exchanges: Vec<Pivot>,
     columns: Entries,
@@ -116,6 +161,7 @@ impl Factors {
             lower: Entries::new(alloc),
             lower_pivots: Vec::new(alloc),
             upper: Entries::new(alloc),
+            upper_rows: Entries::new(alloc),
             exchanges: Vec::new(alloc),
             columns: Entries::new(alloc),
         }
@@ -126,6 +172,7 @@ impl Factors {
         self.lower.clear();
         self.lower_pivots.clear();
         self.upper.clear();
+        self.upper_rows.clear();
         self.exchanges.clear();
         self.columns.clear();
     }
@@ -137,6 +184,7 @@ impl Factors {
         self.lower_pivots.clear();
         self.lower_pivots.extend_from_slice(&other.lower_pivots)?;
         self.upper.copy_from(&other.upper)?;
+        self.upper_rows.copy_from(&other.upper_rows)?;
         self.exchanges.clear();
         self.exchanges.extend_from_slice(&other.exchanges)?;
         self.columns.copy_from(&other.columns)
@@ -178,6 +226,21 @@ impl Factors {
         self.upper.end()?;
         self.pivots.push(pivot)?;
         Ok(())
+    }
+
+    /// Ends a factorisation: lists what is above the pivots by condition.
+    pub fn finish(&mut self) -> Result<(), OutOfMemory> {
+        self.upper_rows.transpose(&self.upper, &self.pivots)
+    }
+
+    /// How many pivots have something below them.
+    pub fn lower_count(&self) -> usize {
+        self.lower_pivots.len()
+    }
+
+    /// One of the pivots that have something below them, by its number among those.
+    pub fn lower_pivot(&self, place: usize) -> usize {
+        item(&self.lower_pivots, place, u32::MAX) as usize
     }
 
     /// The conditions below a pivot.
@@ -256,16 +319,13 @@ impl Factors {
                 set_at(costs, place, quotient(rest, exchange.value));
             }
         }
-        for number in 0..self.pivots.len() {
-            let pivot = self.pivots[number];
-            let rest = self
-                .upper
-                .less(number, at(costs, pivot.place as usize), prices);
-            set_at(
-                prices,
-                pivot.condition as usize,
-                quotient(rest, pivot.value),
-            );
+        for pivot in &self.pivots {
+            let condition = pivot.condition as usize;
+            let price = quotient(at(costs, pivot.place as usize), pivot.value);
+            set_at(prices, condition, price);
+            if price != 0 {
+                self.upper_rows.take_from(condition, costs, price);
+            }
         }
         for number in self.lower_pivots.iter().rev() {
             let condition = self.condition(*number as usize);

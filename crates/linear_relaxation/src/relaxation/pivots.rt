@@ -1,5 +1,5 @@
 //! The primal simplex over the pool.
-use crate::fixed_point::{at, item, set_at};
+use crate::fixed_point::{ONE, at, copy, item, set_at, times};
 use crate::relaxation::lists::short;
 use crate::relaxation::pool::{Candidate, offer};
 use crate::relaxation::row_table::RowTable;
@@ -18,11 +18,24 @@ const LEAST_LOOK: usize = 1000;
 /// A reduced cost counts from here on, in units of 2^-32.
 const LEAST_GAIN: i64 = 1 << 24;
 
+/// So far may prices that were changed lie from exact ones, in units of 2^-32: far less than what counts.
+const MOST_DRIFT: u64 = 1 << 20;
+
 /// How often a basis without factors is left for the last good one before a solution is broken off.
 const MOST_FAILURES: u32 = 3;
 
 /// What a forbidden row costs, in the units of prices: more than any other column.
 const FORBIDDEN: i64 = MOST_COST << 32;
+
+/// What came of a column that came in.
+enum Entry {
+    /// The prices changed with it.
+    Repriced,
+    /// The factors and the prices were made anew.
+    Factored,
+    /// It can't come in, or its basis isn't one: another was gone back to.
+    Failed,
+}
 
 impl Relaxation {
     /// Takes columns in until the solution over the pool is the best, or so many came in.
@@ -32,19 +45,28 @@ impl Relaxation {
         }
         self.candidates.clear();
         self.turns = 0;
+        self.reprice(table);
+        let mut is_exact = true;
         let mut failures: u32 = 0;
         for _ in 0..most.min(self.most_pivots.saturating_sub(self.pivots)) {
-            self.reprice(table);
             match self.next_column(table)? {
-                None => return Ok(()),
-                Some(column) => {
-                    if !self.enter(table, column)? {
+                Some(candidate) => match self.enter(table, candidate)? {
+                    Entry::Repriced => is_exact = false,
+                    Entry::Factored => is_exact = true,
+                    Entry::Failed => {
+                        is_exact = true;
                         failures = failures.saturating_add(1);
-                        if failures >= MOST_FAILURES {
-                            return Ok(());
-                        }
                     }
+                },
+                None => {
+                    if is_exact || self.settle(table) {
+                        return Ok(());
+                    }
+                    is_exact = true;
                 }
+            }
+            if failures >= MOST_FAILURES {
+                return Ok(());
             }
         }
         Ok(())
@@ -57,6 +79,18 @@ impl Relaxation {
             set_at(&mut self.costs, place, cost);
         }
         self.basis.find_prices(&mut self.costs, &mut self.prices);
+    }
+
+    /// Computes the prices from the basis. Whether they were nearly right.
+    fn settle(&mut self, table: &RowTable) -> bool {
+        copy(&self.prices, &mut self.changes);
+        self.reprice(table);
+        for (price, other) in self.prices.iter().zip(&self.changes) {
+            if price.wrapping_sub(*other).unsigned_abs() > MOST_DRIFT {
+                return false;
+            }
+        }
+        true
     }
 
     /// What a column costs.
@@ -90,7 +124,7 @@ impl Relaxation {
     }
 
     /// The column to come in next.
-    fn next_column(&mut self, table: &RowTable) -> Result<Option<usize>, OutOfMemory> {
+    fn next_column(&mut self, table: &RowTable) -> Result<Option<Candidate>, OutOfMemory> {
         self.reprice_candidates(table);
         if self.turns == 0 || self.candidates.is_empty() {
             self.turns = MOST_CANDIDATES as u32;
@@ -122,13 +156,13 @@ impl Relaxation {
         self.candidates.truncate(count);
     }
 
-    fn best_candidate(&self) -> Option<usize> {
+    fn best_candidate(&self) -> Option<Candidate> {
         let mut least = 0;
         let mut best = None;
         for candidate in &self.candidates {
             if candidate.cost < least {
                 least = candidate.cost;
-                best = Some(candidate.column as usize);
+                best = Some(*candidate);
             }
         }
         best
@@ -138,7 +172,9 @@ impl Relaxation {
         self.candidates.clear();
         let rows = table.row_count();
         for rider in 0..table.rider_count() {
-            self.look_at(table, rows.saturating_add(rider))?;
+            let price = at(&self.prices, table.vehicle_count().saturating_add(rider));
+            let cost = at(&self.left_costs, rider).wrapping_sub(price);
+            self.look_at(rows.saturating_add(rider), cost)?;
         }
         let count = self.pool.len();
         let look = (count / 4).max(LEAST_LOOK).min(count);
@@ -147,7 +183,7 @@ impl Relaxation {
             if seen >= count {
                 return Ok(());
             }
-            self.look_at_rows(table, look.min(count - seen))?;
+            self.look_at_rows(look.min(count - seen))?;
             if self.candidates.len() >= ENOUGH_CANDIDATES {
                 return Ok(());
             }
@@ -155,22 +191,23 @@ impl Relaxation {
         Ok(())
     }
 
-    fn look_at_rows(&mut self, table: &RowTable, count: usize) -> Result<(), OutOfMemory> {
+    fn look_at_rows(&mut self, count: usize) -> Result<(), OutOfMemory> {
         for _ in 0..count {
-            let row = self.pool.next();
-            if !item(&self.is_forbidden, row, true) {
-                self.look_at(table, row)?;
+            let place = self.pool.next();
+            let cost = self.pool.reduced_cost(place, &self.prices);
+            if cost < -LEAST_GAIN {
+                let row = self.pool.row(place);
+                if !item(&self.is_forbidden, row, true) {
+                    self.look_at(row, cost)?;
+                }
             }
         }
         Ok(())
     }
 
-    fn look_at(&mut self, table: &RowTable, column: usize) -> Result<(), OutOfMemory> {
-        if self.basis.has(column) {
-            return Ok(());
-        }
-        let cost = self.reduced_cost(table, column);
-        if cost < -LEAST_GAIN {
+    /// Takes a column among the candidates, where this is what it costs less prices, and better than theirs.
+    fn look_at(&mut self, column: usize, cost: i64) -> Result<(), OutOfMemory> {
+        if cost < -LEAST_GAIN && !self.basis.has(column) {
             let candidate = Candidate {
                 cost,
                 column: short(column),
@@ -180,21 +217,42 @@ impl Relaxation {
         Ok(())
     }
 
-    /// Takes a column in. False where the basis isn't one and another was gone back to.
-    fn enter(&mut self, table: &RowTable, column: usize) -> Result<bool, OutOfMemory> {
+    /// Takes a column in.
+    fn enter(&mut self, table: &RowTable, candidate: Candidate) -> Result<Entry, OutOfMemory> {
+        let column = candidate.column as usize;
         self.basis.find_column(table, column, &mut self.entering);
         self.pivots = self.pivots.saturating_add(1);
-        match self.basis.leaving_place(&self.entering) {
+        let is_good = match self.basis.leaving_place(&self.entering) {
             None => {
                 self.candidates.clear();
                 self.basis.factor(table)?;
-                Ok(false)
+                false
             }
             Some((place, level)) => {
                 if self.basis.exchange(place, column, level, &self.entering)? {
-                    return Ok(true);
+                    self.change_prices(place, candidate.cost);
+                    return Ok(Entry::Repriced);
                 }
-                self.basis.factor(table)
+                self.basis.factor(table)?
+            }
+        };
+        self.reprice(table);
+        if is_good {
+            Ok(Entry::Factored)
+        } else {
+            Ok(Entry::Failed)
+        }
+    }
+
+    /// Changes the prices so that the column that came in at this place, which cost this less the old ones,
+    /// costs as much as the new ones.
+    fn change_prices(&mut self, place: usize, cost: i64) {
+        self.costs.as_mut_slice().fill(0);
+        set_at(&mut self.costs, place, ONE);
+        self.basis.find_prices(&mut self.costs, &mut self.changes);
+        for (price, change) in self.prices.iter_mut().zip(&self.changes) {
+            if *change != 0 {
+                *price = (*price).wrapping_add(times(*change, cost));
             }
         }
     }

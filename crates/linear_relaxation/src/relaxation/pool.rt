@@ -1,8 +1,8 @@
 //! The rows over which a solution is sought.
-use crate::fixed_point::{item, set_at};
+use crate::fixed_point::{at, item, set_at};
 use crate::relaxation::basis::Basis;
 use crate::relaxation::elimination::reset;
-use crate::relaxation::lists::short;
+use crate::relaxation::lists::{Lists, short};
 use crate::relaxation::pricing::reduced_cost;
 use crate::relaxation::row_table::RowTable;
 use pool_base::OutOfMemory;
@@ -15,10 +15,14 @@ pub struct Candidate {
     pub column: u32,
 }
 
-/// Some rows of a table.
+/// Some rows of a table, each at a place of its own.
 #[derive(Debug, Drop)]
 pub struct Pool {
     rows: Vec<u32>,
+    /// For each place what its row costs and its conditions: they lie side by side, unlike those of a table,
+    /// of which a pool has few rows.
+    costs: Vec<i64>,
+    conditions: Lists,
     is_in: Vec<bool>,
     /// Where the next look at the rows starts.
     cursor: usize,
@@ -29,6 +33,8 @@ impl Pool {
     pub fn new(alloc: Global, table: &RowTable) -> Result<Self, OutOfMemory> {
         let mut pool = Pool {
             rows: Vec::new(alloc),
+            costs: Vec::new(alloc),
+            conditions: Lists::new(alloc)?,
             is_in: Vec::new(alloc),
             cursor: 0,
         };
@@ -44,22 +50,49 @@ impl Pool {
         item(&self.is_in, row, false)
     }
 
-    pub fn add(&mut self, row: usize) -> Result<(), OutOfMemory> {
+    /// Takes in a row, where it isn't in yet.
+    pub fn add(&mut self, table: &RowTable, row: usize, cost: i64) -> Result<(), OutOfMemory> {
         if !item(&self.is_in, row, true) {
             set_at(&mut self.is_in, row, true);
-            self.rows.push(short(row))?;
+            self.push(table, row, cost)?;
         }
         Ok(())
     }
 
-    /// The row at the cursor, which moves on, from the last row to the first.
+    fn push(&mut self, table: &RowTable, row: usize, cost: i64) -> Result<(), OutOfMemory> {
+        self.rows.push(short(row))?;
+        self.costs.push(cost)?;
+        self.conditions.push(table.vehicle(row))?;
+        for rider in table.riders_of(row) {
+            self.conditions
+                .push(table.vehicle_count().saturating_add(*rider as usize))?;
+        }
+        self.conditions.end()
+    }
+
+    /// The place at the cursor, which moves on, from the last place to the first.
     pub fn next(&mut self) -> usize {
         if self.cursor >= self.rows.len() {
             self.cursor = 0;
         }
-        let row = item(&self.rows, self.cursor, u32::MAX);
-        self.cursor = self.cursor.saturating_add(1);
-        row as usize
+        let place = self.cursor;
+        self.cursor = place.saturating_add(1);
+        place
+    }
+
+    /// The row at a place.
+    pub fn row(&self, place: usize) -> usize {
+        item(&self.rows, place, u32::MAX) as usize
+    }
+
+    /// What the row at a place costs, less the prices of its conditions.
+    #[inline]
+    pub fn reduced_cost(&self, place: usize, prices: &[i64]) -> i64 {
+        let mut rest = at(&self.costs, place);
+        for condition in self.conditions.list(place) {
+            rest = rest.wrapping_sub(at(prices, *condition as usize));
+        }
+        rest
     }
 
     /// Keeps the rows of the basis and those whose reduced cost lies at most so much above their vehicle's
@@ -71,7 +104,7 @@ impl Pool {
         least: &[i64],
         most: i64,
         basis: &Basis,
-    ) {
+    ) -> Result<(), OutOfMemory> {
         let mut count = 0;
         for place in 0..self.rows.len() {
             let row = item(&self.rows, place, u32::MAX);
@@ -82,14 +115,33 @@ impl Pool {
                 0,
             ));
             if above <= most || basis.has(number) {
+                let cost = at(&self.costs, place);
                 set_at(&mut self.rows, count, row);
+                set_at(&mut self.costs, count, cost);
                 count = count.wrapping_add(1);
             } else {
                 set_at(&mut self.is_in, number, false);
             }
         }
         self.rows.truncate(count);
+        self.costs.truncate(count);
         self.cursor = 0;
+        self.list_conditions(table)
+    }
+
+    /// Lists the conditions of the rows that are in.
+    fn list_conditions(&mut self, table: &RowTable) -> Result<(), OutOfMemory> {
+        self.conditions.clear();
+        for row in &self.rows {
+            let row = *row as usize;
+            self.conditions.push(table.vehicle(row))?;
+            for rider in table.riders_of(row) {
+                let condition = table.vehicle_count().saturating_add(*rider as usize);
+                self.conditions.push(condition)?;
+            }
+            self.conditions.end()?;
+        }
+        Ok(())
     }
 }
 

@@ -66,9 +66,7 @@ impl Relaxation {
                 offer(&mut self.offers, most_rows, (cost, short(row)))?;
             }
         }
-        for offered in &self.offers {
-            self.pool.add(offered.1 as usize)?;
-        }
+        self.add_offers(table)?;
         if least < i64::MAX {
             Ok(least)
         } else if table.rows_of(vehicle).is_empty() {
@@ -94,8 +92,15 @@ impl Relaxation {
                 offer(&mut self.offers, most_rows, (cost, short(row)))?;
             }
         }
+        self.add_offers(table)
+    }
+
+    /// Puts the rows that are offered into the pool.
+    fn add_offers(&mut self, table: &RowTable) -> Result<(), OutOfMemory> {
         for offered in &self.offers {
-            self.pool.add(offered.1 as usize)?;
+            let row = offered.1 as usize;
+            let cost = at(&self.row_costs, row);
+            self.pool.add(table, row, cost)?;
         }
         Ok(())
     }

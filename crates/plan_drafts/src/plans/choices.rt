@@ -9,6 +9,7 @@ use crate::plans::present::Present;
 use crate::plans::regrets::Regrets;
 use pool_base::OutOfMemory;
 use std::alloc::Global;
+use std::ops::Range;
 
 /// How many vehicles choose at most.
 pub const MOST_VEHICLES: usize = 16;
@@ -26,18 +27,22 @@ struct State {
 /// A search, and the work space for the next one.
 #[derive(Drop)]
 pub struct Choices {
-    /// For each vehicle at hand the places that fit, by rising regret.
+    /// For each vehicle at hand the places that fit, by rising regret; and for each of these entries its regret
+    /// and riders, side by side.
     fits: Groups,
+    above: Vec<i64>,
+    trips: Groups,
     /// Which of those lists each depth takes, the shortest first.
     turns: [usize; MOST_VEHICLES],
-    /// For each depth, the last first, the riders whom no later vehicle could serve.
-    closing: Groups,
-    /// For each rider whether she is in such a list, and whether a choice serves her.
+    /// For each rider the last depth that could serve her, and whether there is one and a choice serves her.
+    closings: Vec<u32>,
     is_listed: Vec<bool>,
     is_served: Vec<bool>,
+    /// For each depth what it costs to leave out the riders whom it could serve last and no choice serves.
+    left: [i64; MOST_VEHICLES],
     /// For each depth the least regret from there on.
     least: [i64; MOST_VEHICLES + 1],
-    /// For each depth the regret of the choices before it, and which row of its list comes next.
+    /// For each depth the regret of the choices before it, and which entry comes next.
     sums: [i64; MOST_VEHICLES + 1],
     nexts: [usize; MOST_VEHICLES],
     picks: [usize; MOST_VEHICLES],
@@ -48,10 +53,13 @@ impl Choices {
     pub fn new(alloc: Global, riders: usize) -> Result<Self, OutOfMemory> {
         Ok(Choices {
             fits: Groups::new(alloc),
+            above: Vec::new(alloc),
+            trips: Groups::new(alloc),
             turns: [0; MOST_VEHICLES],
-            closing: Groups::new(alloc),
+            closings: vec![in alloc; NONE; riders]?,
             is_listed: vec![in alloc; false; riders]?,
             is_served: vec![in alloc; false; riders]?,
+            left: [0; MOST_VEHICLES],
             least: [0; MOST_VEHICLES + 1],
             sums: [0; MOST_VEHICLES + 1],
             nexts: [0; MOST_VEHICLES],
@@ -74,8 +82,8 @@ impl Choices {
         }
         self.find_fits(regrets, present, vehicles)?;
         self.order_turns();
-        self.find_closing(regrets)?;
-        self.find_least(regrets);
+        self.find_closings(regrets);
+        self.find_least();
         let before = self.regret_of(regrets, present, vehicles);
         let after = self.search(regrets, before.saturating_add(1), most_steps);
         if after > before {
@@ -87,7 +95,8 @@ impl Choices {
             return Ok(0);
         }
         for depth in 0..self.depths() {
-            present.give(regrets, at(&self.best, depth, 0));
+            let entry = at(&self.best, depth, 0);
+            present.give(regrets, self.fits.member(entry) as usize);
         }
         Ok(before.saturating_sub(after))
     }
@@ -104,16 +113,27 @@ impl Choices {
         vehicles: &[u32],
     ) -> Result<(), OutOfMemory> {
         self.fits.clear();
+        self.above.clear();
+        self.trips.clear();
         for vehicle in vehicles {
             let (start, end) = regrets.places_of(*vehicle as usize);
             for place in start..end {
                 if present.are_free(regrets.riders(place)) {
-                    self.fits.push(narrow(place))?;
+                    self.add_fit(regrets, place)?;
                 }
             }
             self.fits.close()?;
         }
         Ok(())
+    }
+
+    fn add_fit(&mut self, regrets: &Regrets, place: usize) -> Result<(), OutOfMemory> {
+        self.fits.push(narrow(place))?;
+        self.above.push(regrets.above(place))?;
+        for rider in regrets.riders(place) {
+            self.trips.push(*rider)?;
+        }
+        self.trips.close()
     }
 
     /// Puts the shorter lists first.
@@ -133,70 +153,68 @@ impl Choices {
         }
     }
 
-    /// The places that this depth may take.
+    /// The entries that this depth may take.
     #[inline]
-    fn fits_at(&self, depth: usize) -> &[u32] {
-        self.fits.of(at(&self.turns, depth, 0))
+    fn entries_at(&self, depth: usize) -> Range<usize> {
+        let list = at(&self.turns, depth, 0);
+        self.fits.start(list)..self.fits.start(list.saturating_add(1))
     }
 
-    fn find_closing(&mut self, regrets: &Regrets) -> Result<(), OutOfMemory> {
-        self.closing.clear();
+    /// Finds for each depth, the last first, the riders whom no later one could serve.
+    fn find_closings(&mut self, regrets: &Regrets) {
+        self.left = [0; MOST_VEHICLES];
         let depths = self.depths();
         for later in 0..depths {
-            let list = at(&self.turns, depths - 1 - later, 0);
-            list_riders(
-                regrets,
-                &self.fits,
-                list,
-                &mut self.is_listed,
-                &mut self.closing,
-            )?;
+            let depth = depths - 1 - later;
+            for entry in self.entries_at(depth) {
+                self.close_riders(regrets, depth, entry);
+            }
         }
         self.is_listed.as_mut_slice().fill(false);
-        Ok(())
     }
 
-    fn find_least(&mut self, regrets: &Regrets) {
+    /// Has this depth be the last that could serve the riders of its entry whom no later one could.
+    fn close_riders(&mut self, regrets: &Regrets, depth: usize, entry: usize) {
+        for rider in self.trips.of(entry) {
+            let number = *rider as usize;
+            if !at(&self.is_listed, number, true) {
+                put(&mut self.is_listed, number, true);
+                put(&mut self.closings, number, narrow(depth));
+                let left = at(&self.left, depth, 0);
+                put(
+                    &mut self.left,
+                    depth,
+                    left.saturating_add(regrets.left(number)),
+                );
+            }
+        }
+    }
+
+    fn find_least(&mut self) {
         let depths = self.depths();
         put(&mut self.least, depths, 0);
         for later in 0..depths {
             let depth = depths - 1 - later;
-            let first = at(self.fits_at(depth), 0, NONE);
+            let entries = self.entries_at(depth);
+            let first = if entries.is_empty() {
+                0
+            } else {
+                at(&self.above, entries.start, 0)
+            };
             let sum = at(&self.least, depth.saturating_add(1), 0);
-            put(
-                &mut self.least,
-                depth,
-                sum.saturating_add(regrets.above(first as usize)),
-            );
+            put(&mut self.least, depth, sum.saturating_add(first));
         }
     }
 
     /// The regret of the present rows of these vehicles, and of the riders whom they could serve and don't.
-    fn regret_of(&mut self, regrets: &Regrets, present: &Present, vehicles: &[u32]) -> i64 {
+    fn regret_of(&self, regrets: &Regrets, present: &Present, vehicles: &[u32]) -> i64 {
         let mut regret: i64 = 0;
-        for vehicle in vehicles {
-            if let Some(place) = present.place(*vehicle as usize) {
-                regret = regret.saturating_add(regrets.above(place));
-                mark(&mut self.is_served, regrets.riders(place), true);
-            }
-        }
-        for later in 0..self.closing.count() {
-            regret = regret.saturating_add(self.regret_of_left(regrets, later));
+        for left in &self.left {
+            regret = regret.saturating_add(*left);
         }
         for vehicle in vehicles {
             if let Some(place) = present.place(*vehicle as usize) {
-                mark(&mut self.is_served, regrets.riders(place), false);
-            }
-        }
-        regret
-    }
-
-    /// The regret of the riders of this closing list whom no choice serves.
-    fn regret_of_left(&self, regrets: &Regrets, later: usize) -> i64 {
-        let mut regret: i64 = 0;
-        for rider in self.closing.of(later) {
-            if !at(&self.is_served, *rider as usize, true) {
-                regret = regret.saturating_add(regrets.left(*rider as usize));
+                regret = regret.saturating_add(regret_at(regrets, place));
             }
         }
         regret
@@ -209,7 +227,7 @@ impl Choices {
         let mut steps: u32 = 0;
         self.enter(0, 0);
         for _ in 0..u64::from(most_steps).saturating_mul(MOST_TRIES) {
-            match self.next_place(regrets, state) {
+            match self.next_entry(state) {
                 None => {
                     if state.depth == 0 {
                         return state.limit;
@@ -217,8 +235,8 @@ impl Choices {
                     state.depth -= 1;
                     self.leave(regrets, state.depth);
                 }
-                Some(place) => {
-                    if self.descend(regrets, place, &mut state) {
+                Some(entry) => {
+                    if self.descend(regrets, entry, &mut state) {
                         steps = steps.saturating_add(1);
                         if steps > most_steps {
                             break;
@@ -234,10 +252,10 @@ impl Choices {
     }
 
     /// Chooses the row and goes on below it, if a better choice may be there. Whether it may.
-    fn descend(&mut self, regrets: &Regrets, place: usize, state: &mut State) -> bool {
+    fn descend(&mut self, regrets: &Regrets, entry: usize, state: &mut State) -> bool {
         let depth = state.depth;
         let below = depth.saturating_add(1);
-        let sum = self.take(regrets, depth, place);
+        let sum = self.take(regrets, depth, entry);
         if sum.saturating_add(at(&self.least, below, 0)) >= state.limit {
             self.leave(regrets, depth);
             return false;
@@ -255,84 +273,75 @@ impl Choices {
 
     fn enter(&mut self, depth: usize, sum: i64) {
         put(&mut self.sums, depth, sum);
-        put(&mut self.nexts, depth, 0);
+        let first = self.entries_at(depth).start;
+        put(&mut self.nexts, depth, first);
     }
 
     /// The next row at this depth that fits, if its regret leaves a choice below the limit.
-    fn next_place(&mut self, regrets: &Regrets, state: State) -> Option<usize> {
+    fn next_entry(&mut self, state: State) -> Option<usize> {
         let depth = state.depth;
         let rest = at(&self.least, depth.saturating_add(1), 0);
         let room = state
             .limit
             .saturating_sub(at(&self.sums, depth, 0))
             .saturating_sub(rest);
-        let next = at(&self.nexts, depth, 0);
-        let (next, place) = self.first_fit(regrets, depth, next, room)?;
-        put(&mut self.nexts, depth, next.saturating_add(1));
-        Some(place)
+        let entry = self.first_fit(at(&self.nexts, depth, 0), self.entries_at(depth).end, room)?;
+        put(&mut self.nexts, depth, entry.saturating_add(1));
+        Some(entry)
     }
 
-    /// The first row of this depth's list from here on that fits and has less regret than this.
-    fn first_fit(
-        &self,
-        regrets: &Regrets,
-        depth: usize,
-        from: usize,
-        room: i64,
-    ) -> Option<(usize, usize)> {
-        let list = self.fits_at(depth);
-        for next in from..list.len() {
-            let place = list[next] as usize;
-            if regrets.above(place) >= room {
+    /// The first of these entries that fits, if it has less regret than this.
+    fn first_fit(&self, from: usize, end: usize, room: i64) -> Option<usize> {
+        for entry in from..end {
+            if at(&self.above, entry, i64::MAX) >= room {
                 return None;
             }
-            if !is_any_marked(&self.is_served, regrets.riders(place)) {
-                return Some((next, place));
+            if !is_any_marked(&self.is_served, self.trips.of(entry)) {
+                return Some(entry);
             }
         }
         None
     }
 
     /// Chooses the row; the regret so far, with the riders who can't be served any more.
-    fn take(&mut self, regrets: &Regrets, depth: usize, place: usize) -> i64 {
-        put(&mut self.picks, depth, place);
-        mark(&mut self.is_served, regrets.riders(place), true);
-        let later = self.depths().saturating_sub(depth).saturating_sub(1);
+    fn take(&mut self, regrets: &Regrets, depth: usize, entry: usize) -> i64 {
+        put(&mut self.picks, depth, entry);
+        self.mark(regrets, entry, true);
         at(&self.sums, depth, 0)
-            .saturating_add(regrets.above(place))
-            .saturating_add(self.regret_of_left(regrets, later))
+            .saturating_add(at(&self.above, entry, 0))
+            .saturating_add(at(&self.left, depth, 0))
     }
 
     fn leave(&mut self, regrets: &Regrets, depth: usize) {
-        let place = at(&self.picks, depth, 0);
-        mark(&mut self.is_served, regrets.riders(place), false);
+        let entry = at(&self.picks, depth, 0);
+        self.mark(regrets, entry, false);
     }
-}
 
-/// Lists and marks the riders of this list's places who aren't marked yet.
-fn list_riders(
-    regrets: &Regrets,
-    fits: &Groups,
-    list: usize,
-    marks: &mut [bool],
-    listed: &mut Groups,
-) -> Result<(), OutOfMemory> {
-    for place in fits.of(list) {
-        for rider in regrets.riders(*place as usize) {
-            if !at(marks, *rider as usize, true) {
-                put(marks, *rider as usize, true);
-                listed.push(*rider)?;
-            }
+    /// Has the riders of an entry be served or not.
+    fn mark(&mut self, regrets: &Regrets, entry: usize, is_served: bool) {
+        for rider in self.trips.of(entry) {
+            let number = *rider as usize;
+            put(&mut self.is_served, number, is_served);
+            let depth = at(&self.closings, number, NONE) as usize;
+            let left = at(&self.left, depth, 0);
+            let regret = regrets.left(number);
+            let change = if is_served {
+                regret.wrapping_neg()
+            } else {
+                regret
+            };
+            put(&mut self.left, depth, left.wrapping_add(change));
         }
     }
-    listed.close()
 }
 
-#[inline]
-fn mark(marks: &mut [bool], riders: &[u32], value: bool) {
-    for rider in riders {
-        put(marks, *rider as usize, value);
+/// The regret of a row, less that of leaving out its riders.
+fn regret_at(regrets: &Regrets, place: usize) -> i64 {
+    let mut regret = regrets.above(place);
+    for rider in regrets.riders(place) {
+        regret = regret.saturating_sub(regrets.left(*rider as usize));
     }
+    regret
 }
 
 #[inline]

@@ -94,6 +94,12 @@ impl Groups {
         }
     }
 
+    /// The number at this place in all lists, one behind the other.
+    #[inline]
+    pub fn member(&self, place: usize) -> u32 {
+        at(&self.members, place, NONE)
+    }
+
     /// The numbers of this list.
     #[inline]
     pub fn of(&self, group: usize) -> &[u32] {
