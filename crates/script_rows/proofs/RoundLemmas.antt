@@ -5,7 +5,7 @@ use Rattle.std.proofs.lemmas.List.{length-set, get_or-set_same, get_or-set_other
 use Rattle.std.proofs.lemmas.List.Elements.{All-push, All-nil}
 use Rattle.request_book.specs.declared.command.Command.{Command}
 use Rattle.script_rows.specs.Round.{NumberedLanes, IsRound, MayStand, lane_at}
-use Rattle.script_rows.specs.work.Building.{empty_round, with_command}
+use Rattle.script_rows.specs.Round.{empty_round, with_command}
 
 -- one more command keeps a round's rules
 pub IsRound-with_command : (round : NumberedLanes) (lane : ℕ) (command : Command) → IsRound round → lane < 16 → MayStand lane command → IsRound (with_command round lane command)

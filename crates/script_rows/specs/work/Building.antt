@@ -1,7 +1,6 @@
-use Rattle.std.specs.Prelude.{ℕ, ◌-◌, ◌<◌, ◌≤◌, Bool, ◌&&◌, List, [], ◌∷◌, ◌++◌, length, replicate, nat_lt, ◌==◌, slice_index_or, slice_set, if◌then◌else◌}
-use Rattle.request_book.specs.declared.command.Command.{Command}
+use Rattle.std.specs.Prelude.{ℕ, ◌-◌, ◌<◌, ◌≤◌, Bool, ◌&&◌, List, ◌∷◌, [], ◌++◌, length, nat_lt, ◌==◌, slice_index_or, slice_set, if◌then◌else◌}
 use Rattle.script_rows.specs.declared.line.Line.{Line}
-use Rattle.script_rows.specs.Round.{NumberedLanes, lane_at, MayStand}
+use Rattle.script_rows.specs.Round.{NumberedLanes, MayStand, empty_round, with_command}
 
 -- what a row keeps that stands behind a row of a round
 pub record IsBehind (last : ℕ) (line : Line) : Type 0 where
@@ -9,14 +8,6 @@ pub record IsBehind (last : ℕ) (line : Line) : Type 0 where
   pub number : line.round ≤ 1000000000
   pub lane : line.lane < 16
   pub stands : MayStand line.lane line.command
-
--- a round with one more command at the end of a lane
-abbrev pub with_command : NumberedLanes → ℕ → Command → NumberedLanes
-with_command round lane command = record round { lanes = slice_set round.lanes lane (lane_at round lane ++ command ∷ []) }
-
--- the round of a number, without commands
-abbrev pub empty_round : ℕ → NumberedLanes
-empty_round number = record { number = number; lanes = replicate 16 [] }
 
 -- the last round, or one without commands
 abbrev pub last_round : List NumberedLanes → NumberedLanes

@@ -1,0 +1,4 @@
+pub mod Rest
+pub mod Walk
+pub mod Day
+pub mod work
