@@ -12,8 +12,8 @@ use Rattle.road_network.specs.declared.arc.Arc.{Arc}
 use Rattle.road_network.specs.declared.hop.Hop.{Hop}
 use Rattle.road_network.specs.Roads.{Roads, IsArcAmong, IsNetwork, hop_of, leaving, index_in}
 use Rattle.road_network.specs.Walk.{IsWalk, walk_seconds, HasNoWalk, IsTimeBetween, IsLeastTime}
-use Rattle.travel_times.proofs.WalkLemmas.{IsWalk-append, walk_seconds-append, short_walk}
-use Rattle.travel_times.proofs.SearchLemmas.{arc_of_hop, hop_of_arc, hops_among}
+use Rattle.travel_times.proofs.lemmas.WalkLemmas.{IsWalk-append, walk_seconds-append, short_walk}
+use Rattle.travel_times.proofs.lemmas.SearchLemmas.{arc_of_hop, hop_of_arc, hops_among}
 use Rattle.route_drive.specs.declared.tree.Found.{Found}
 use Rattle.route_drive.specs.declared.walk.WalkStep.{WalkStep}
 use Rattle.route_drive.specs.Walk.{steps_of, IsShortestWalk}
