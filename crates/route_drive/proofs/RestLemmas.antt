@@ -65,7 +65,7 @@ filter_filter p q le (x ∷ xs) = elim (cases_Bool (q x)) [
     | inl h ↦ takes p x (filter q xs) h ∙ ap (λ ss. x ∷ ss) (filter_filter p q le xs) ∙ sym (takes p x xs h)
     | inr h ↦ skips p x (filter q xs) h ∙ filter_filter p q le xs ∙ sym (skips p x xs h)
   ]
-  | inr k ↦ ap (λ ss. filter p ss) (skips q x xs k) ∙ filter_filter p q le xs ∙ sym (skips p x xs (elim (cases_Bool (p x)) [ | inl h ↦ absurd (false≢true (sym k ∙ le x h)) | inr h ↦ h ]))
+  | inr k ↦ ap (λ ss. filter p ss) (skips q x xs k) ∙ filter_filter p q le xs ∙ sym (skips p x xs (elim (cases_Bool (p x)) [ inl h ↦ absurd (false≢true (sym k ∙ le x h)) | inr h ↦ h ]))
 ]
 
 -- the number that has a new number
@@ -426,10 +426,24 @@ goes_on : (points : ℕ) (tau : ℕ → ℕ → ℕ) (dwell : ℕ) (k : ℕ) (ta
     → ServesFrom tau dwell place free (free_seats task) (visits_of task stops)
     → GoesOn points tau dwell (drop k (visits_of task stops)) (drop k (seconds_from tau dwell place free (visits_of task stops))) (rest_of k task stops)
 goes_on points tau dwell zero task place free stops same valid order serves = record {
-  valid = valid; order = order; visits_are = refl; dwell_is = same; place = place; free = free; serves = serves; seconds_are = refl;
+  valid = valid;
+  order = order;
+  visits_are = refl;
+  dwell_is = same;
+  place = place;
+  free = free;
+  serves = serves;
+  seconds_are = refl;
 }
 goes_on points tau dwell (suc k) task place free [] same valid order serves = record {
-  valid = valid; order = order; visits_are = refl; dwell_is = same; place = place; free = free; serves = serves; seconds_are = refl;
+  valid = valid;
+  order = order;
+  visits_are = refl;
+  dwell_is = same;
+  place = place;
+  free = free;
+  serves = serves;
+  seconds_are = refl;
 }
 goes_on points tau dwell (suc k) task place free (stop ∷ stops) same valid order serves =
     let v : Visit = visit_at task stop in

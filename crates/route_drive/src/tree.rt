@@ -82,12 +82,7 @@ pub(crate) fn shortest_tree(
 }
 
 /// Finds the nodes to which the arcs of one that was found lead, if the time rises by the arc's seconds.
-fn open(
-    network: &Network,
-    times: &[u32],
-    tree: &mut Tree,
-    next: usize,
-) -> Result<(), OutOfMemory>
+fn open(network: &Network, times: &[u32], tree: &mut Tree, next: usize) -> Result<(), OutOfMemory>
     requires size { length times.now ≡ length network.now.nodes }
     requires next { next < length tree.old.found.items }
     requires tree { IsTree network.now.arcs times.now tree.old.seen.items tree.old.found.items }
@@ -100,10 +95,7 @@ fn open(
     let here = times[node] as u64;
     for hop in network.arcs_from(node) {
         let there = times[hop.to];
-        if there < Times::NEVER
-            && here + hop.seconds as u64 == there as u64
-            && !tree.seen[hop.to]
-        {
+        if there < Times::NEVER && here + hop.seconds as u64 == there as u64 && !tree.seen[hop.to] {
             tree.mark(hop.to, next)?;
         }
     }
