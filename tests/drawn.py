@@ -3,8 +3,8 @@
     drawn.py PROGRAM [RUNS [SEED]]      so many seeds, from this one on
     drawn.py inputs SEED FOLDER         writes a seed's files and words into a folder
 
-Most seeds draw a script of some rounds; of ten, one draws a crowd, and one a made workload: the report of its three texts
-is judged, and the summary that `load` prints, on another number of workers, has to say the same. Too few kinds of lines
+Most seeds draw a script of some rounds; of ten, one draws a crowd, two a driven day, and one a made workload: the report of
+its three texts is judged, and the summary that `load` prints, on another number of workers, has to say the same. Too few kinds of lines
 in many runs count as a failure, too. The last line is `N passed, M failed`.
 """
 
@@ -19,12 +19,12 @@ from pathlib import Path
 
 sys.path.append(str(Path(__file__).resolve().parent.parent / "bench"))
 
-from draws import Crowd, Draw
+from draws import Crowd, Draw, DrivenDay
 from inputs import Run
 from judge import Wrong, judge
 from made_texts import texts
 
-SHOWN = "expired overflow lapsed late rv rr row trip out move cost bound nodes leaf branch dead".split()
+SHOWN = "expired overflow lapsed late rv rr row trip out move cost bound nodes day leaf branch dead".split()
 WANTED = SHOWN[:-2]  # whether a tree branches is the search's affair
 ENOUGH = 250  # so many runs have to show each wanted line
 
@@ -47,7 +47,7 @@ class MadeWorkload:
 
 def inputs_of(seed):
     """What the seed draws; every third run goes by labels."""
-    drawn = {0: MadeWorkload, 5: Crowd}.get(seed % 10, Draw)(seed)
+    drawn = {0: MadeWorkload, 2: DrivenDay, 5: Crowd, 7: DrivenDay}.get(seed % 10, Draw)(seed)
     drawn.words += ["times=labels"] * (seed % 3 == 0)
     return drawn
 

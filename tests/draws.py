@@ -136,3 +136,27 @@ class Crowd(Draw):
         riders = range(1, self.rng.randint(SUBMITS, SUBMITS + 2) + 1)
         rows = [(0, 0, "submit", it, *self.rng.sample(self.nodes, 2), 0) for it in riders]
         return table("round,lane,command,a,b,c,d", [*rows, (0, 0, "seal", 0, "", "", "")])
+
+
+class DrivenDay(Draw):
+    """A day: riders ask in any lane, and seals come often, so that they catch vehicles between stops and at dwells."""
+
+    choices = {**Draw.choices, "wait": [100, 200, 300, 600], "delay": [100, 250, 400, 600], "dwell": [1, 5, 10, 45, 600]}
+    shares = {**Draw.shares, "wait": 0.8, "delay": 0.8, "pairs": 0.15, "dwell": 0.5}
+
+    def __init__(self, seed):
+        super().__init__(seed)
+        self.words[0] = "drive"
+
+    def script(self):
+        rows, number = [], self.rng.choice([0, 0, 7])
+        for k in range(self.rng.randint(2, 8)):
+            if self.chance(0.85):
+                self.now += self.rng.choice([0, 0, 1, 1, 5, 15, 30, 60, 150])
+                rows.append((number, 0, "seal", self.now))
+            asks = self.asks(self.rng.choice([0, 1, 1, 2] if k else [1, 2, 3, 4]))
+            rows += [(number, self.rng.choice([0, 0, 1, 2, 15]), word, *numbers) for word, *numbers in asks]
+            number += self.rng.choice([1, 1, 5])
+        header = "round,lane,command,a,b,c,d" + ",e" * self.has_parties
+        columns = header.count(",") + 1
+        return table(header, [[*row, *[""] * (columns - len(row))] for row in rows])

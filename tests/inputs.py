@@ -57,6 +57,7 @@ class Run:
     """What a run is given: its settings, streets, fleet and rounds."""
 
     def __init__(self, folder, words):
+        self.is_day = words[0] == "drive"
         self.settings = settings_of(words)
         files = {key: folder / name for key, name in self.settings.files.items()}
         self.arcs = arcs_of(files["network"])
@@ -66,3 +67,11 @@ class Run:
     @cached_property
     def drive(self):
         return travel_times(self.arcs)
+
+    @cached_property
+    def arcs_to(self):
+        """By node: whence streets lead to it, each with its seconds."""
+        found = {node: [] for arc in self.arcs for node in arc[:2]}
+        for before, node, seconds in self.arcs:
+            found[node].append((before, seconds))
+        return found

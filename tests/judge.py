@@ -5,6 +5,7 @@ order or plan of several, which tree), what was chosen has to be allowed, and ev
 """
 
 from book import Book
+from day import Day, Reported
 from rules import Batch, NEVER, Plans, Stop, best_matching, best_order, rounded_up
 
 
@@ -99,8 +100,9 @@ def judge(run, text):
         raise lines.wrong(f"it can't be read ({error!r})")
 
 
-def judge_lines(run, lines):
-    settings = run.settings
+def judge_lines(run, lines, closing=None):
+    """With `closing` a batch's block is read by that, and by no rule."""
+    closing, settings = closing or judge_close, run.settings
     nodes = {node for arc in run.arcs for node in arc[:2]}
     book = Book(nodes, run.fleet, settings.wait)
     named = "wait delay trip penalty budget pairs proof".split() + ["dwell"] * (settings.dwell != 0)
@@ -108,16 +110,21 @@ def judge_lines(run, lines):
     lines.take("settings " + " ".join(f"{key}={getattr(settings, key)}" for key in named))
     lines.take(f"network nodes={len(nodes)} arcs={len(run.arcs)}")
     lines.take(f"fleet vehicles={len(run.fleet)}")
-    position = 0
+    position, day = 0, Day(run, book) if run.is_day else None
     for number, lanes in run.rounds:
         lines.take(f"round {number}")
-        position = judge_round(lines, book, lanes, position, run)
+        position = judge_round(lines, book, day.driven(lanes) if day else lanes, position, run, day, closing)
+    if day and run.rounds:
+        lines.take(f"round {run.rounds[-1][0] + 1}")
+        position = judge_round(lines, book, [day.last_lane()], position, run, day, closing)
+    if day:
+        lines.take(day.line())
     lines.take(f"done {position}")
     lines.need(lines.at == len(lines.lines), "nothing comes after the end")
     return book
 
 
-def judge_round(lines, book, lanes, position, run):
+def judge_round(lines, book, lanes, position, run, day, closing):
     """Each line is the next command of its lane; behind a seal that was answered with a batch, the close of that."""
     left = [list(lane) for lane in lanes]
     while any(left):
@@ -126,17 +133,31 @@ def judge_round(lines, book, lanes, position, run):
         lane = int(words[1])
         lines.need(left[lane], f"lane {lane} has no command left")
         command = left[lane].pop(0)
+        if isinstance(command, Reported):
+            command = command.printed(lines)
         head = f"{position} {lane} {text_of(command)}"
         if command[0] == "close":
             lines.take(f"{head} closed")
-            book.close(command[1], judge_block(lines, Batch(book.sealed, run.settings, run.drive)))
+            closing(lines, book, run, day)
         else:
             reply = book.step(command)
             lines.take(f"{head} {reply}")
             if reply.startswith("sealed"):
                 left[lane].insert(0, ("close", book.sealed.batch))
+            if day:
+                day.note(lines, command, reply)
         position += 1
     return position
+
+
+def judge_close(lines, book, run, day):
+    batch = Batch(book.sealed, run.settings, run.drive)
+    if day:
+        day.sealed(lines, batch)
+    trips, moves = judge_block(lines, batch)
+    book.close(batch.snapshot.batch, trips)
+    if day:
+        day.closed(trips, moves)
 
 
 def text_of(command):
@@ -147,14 +168,14 @@ def text_of(command):
 
 
 def judge_block(lines, batch):
-    """The lines of a closed batch. Gives its trips, or None after an overflow."""
+    """The lines of a closed batch. Gives its trips, or None after an overflow, and its moves."""
     snapshot = batch.snapshot
     lines.take(f"batch {snapshot.batch}")
     lines.take_all([f"expired {it}" for it in snapshot.expired], "expired")
     if len(batch.rows) > batch.settings.pairs:
         lines.take("overflow")
         lines.take("end")
-        return None
+        return None, []
     lines.take_all([f"lapsed {it}" for it in batch.lapsed], "lapsed")
     for vehicle in snapshot.vehicles:
         if vehicle.id in batch.late:
@@ -168,9 +189,9 @@ def judge_block(lines, batch):
             stops, number = judge_trip(lines, batch, vehicle)
             trips.append((vehicle.id, stops))
             plan.append(number)
-    judge_plan(lines, batch, plan)
+    moves = judge_plan(lines, batch, plan)
     lines.take("end")
-    return trips
+    return trips, moves
 
 
 def stops_in(lines, words):
@@ -240,14 +261,14 @@ def judge_trip(lines, batch, vehicle):
 
 
 def judge_plan(lines, batch, plan):
-    """The plan as a whole, who is left out, the moves, the cost, the bound and the tree that shows it."""
+    """The plan as a whole, who is left out, the moves, which it gives, the cost, the bound and the tree that shows it."""
     plans = Plans(batch)
     lines.need(plans.is_lawful(plan), "the plan isn't lawful: a rider is in two trips, or a live rider in none")
     served = {name for number in plan for name in batch.rows[number][1]}
     left = [name for name in batch.legs if name not in served]
     lines.take_all([f"out {it}" for it in left], "out")
     idle = [it for it, number in zip(plans.of, plan) if not batch.rows[number][1] and not batch.aboard[it]]
-    judge_moves(lines, batch, idle, left)
+    moves = judge_moves(lines, batch, idle, left)
     cost = plans.cost(plan)
     lines.take(f"cost {cost}", "the cost")
     lines.need(cost <= plans.cost(plans.held), "the plan costs more than the one that only keeps promises")
@@ -259,6 +280,7 @@ def judge_plan(lines, batch, plan):
             better = plans.is_lawful(changed) and plans.cost(changed) < cost
             lines.need(not better, f"the plan is better with row {other}")
     judge_bound(lines, batch.settings, plans, cost)
+    return moves
 
 
 def judge_moves(lines, batch, idle, left):
@@ -277,6 +299,7 @@ def judge_moves(lines, batch, idle, left):
     most, least = best_matching(pairs)
     lines.need(len(moves) == most, f"{most} moves can be made")
     lines.need(sum(it[2] for it in moves) == least, f"moves of {least} seconds in all can be made")
+    return moves
 
 
 def judge_bound(lines, settings, plans, cost):

@@ -115,6 +115,10 @@ def entry(reply, by):
     return changed(rf"^(\d+ \d+ .* ){reply}$", rf"\g<1>{by}")
 
 
+def one_more(match):
+    return f"{match[1]}{int(match[2]) + 1}{match[3]}"
+
+
 CUT = "a last line left out"  # which makes a report a beginning
 WAYS = {
     "another setting": changed(r"^(settings .* penalty=)(\d+)", r"\g<1>1\2"),
@@ -175,6 +179,14 @@ WAYS = {
     "a branch left out": left_out("branch"),
     "a branch of another row": number_plus("branch", 2, 1000),
     "a branch of another vehicle": number_plus("branch", 1, 1000),
+    "a stop of a day one second later": changed(r"^(\d+ \d+ (?:pickup|dropoff) \d+ \d+ )(\d+)( (?:picked|dropped))$", one_more),
+    "a vehicle one second later": changed(r"^(\d+ \d+ report \d+ \d+ )(\d+)( placed)$", one_more),
+    "a vehicle elsewhere": changed(r"^(\d+ \d+ report \d+ )(\d+)( \d+ placed)$", r"\g<1>1\2\3"),
+    "one more picked": number_plus("day", 2, 1),
+    "one dropped less": number_plus("day", 4, -1),
+    "another worst wait": number_plus("day", 6, 1),
+    "another worst delay": number_plus("day", 8, 1),
+    "the counts of a day left out": left_out("day"),
     "another number of entries": number_plus("done", 1, 1),
     CUT: left_out("done"),
     "a line behind the last": twice("done"),

@@ -4,7 +4,7 @@ pub mod CountLemmas
 pub mod FixedLemmas
 pub mod ExchangeLemmas
 pub mod ChangeLemmas
-pub mod UniqueLemmas
+pub mod lemmas
 pub mod LeafLemmas
 pub mod StandingLemmas
 pub mod EditLemmas

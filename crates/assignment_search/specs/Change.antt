@@ -7,6 +7,12 @@ abbrev pub HasNoBetterChange : Graph → List (Option ℕ) → Type 0
 HasNoBetterChange g chosen =
     (v : ℕ) (other : Option ℕ) → IsLawful g (slice_set chosen v other) → cost_of g chosen ≤ cost_of g (slice_set chosen v other)
 
+-- a plan is another one with another row for one vehicle
+pub record IsChangeOf (chosen other : List (Option ℕ)) : Type 0 where
+  pub vehicle : ℕ
+  pub row : ℕ
+  pub is : other ≡ slice_set chosen vehicle (Some row)
+
 -- to give the vehicle this row betters nothing
 abbrev pub BettersNothing : Graph → List (Option ℕ) → ℕ → ℕ → Type 0
 BettersNothing g chosen v k = IsLawful g (slice_set chosen v (Some k)) → cost_of g chosen ≤ cost_of g (slice_set chosen v (Some k))

@@ -3,7 +3,7 @@ ghost use Rattle.std.specs.Prelude.{◌≡◌, ◌==◌, ◌+◌, ◌*◌, ◌<�
 ghost use Rattle.std.specs.List.{list_any};
 ghost use Rattle.plan_rules.specs.Graph.{IsRowOf, choice_at, ChoosesRows, cost_at, riders_at, has_rider, must_be_served};
 ghost use Rattle.plan_rules.specs.Plan.{IsLawful, cost_of};
-ghost use Rattle.assignment_search.specs.Change.{HasNoBetterChange, BettersNothing, IsShared};
+ghost use Rattle.assignment_search.specs.Change.{HasNoBetterChange, BettersNothing, IsChangeOf, IsShared};
 
 use plan_rules::{Plan, TripGraph, TripRow, cost_of, is_lawful};
 use pool_base::OutOfMemory;
@@ -26,10 +26,14 @@ pub fn exchange(alloc: Global, graph: &TripGraph, plan: Plan) -> Result<Plan, Ou
 }
 
 /// A lawful plan that gives one vehicle another row and costs less.
-fn better_change(alloc: Global, graph: &TripGraph, plan: &Plan) -> Result<Option<Plan>, OutOfMemory>
+pub fn better_change(
+    alloc: Global,
+    graph: &TripGraph,
+    plan: &Plan,
+) -> Result<Option<Plan>, OutOfMemory>
     requires { IsLawful graph.now plan.now }
     ensures { IfOk result (λ found. MatchOption found (HasNoBetterChange graph.now plan.now)
-        (λ better. IsLawful graph.now better × (cost_of graph.now better < cost_of graph.now plan.now))) }
+        (λ better. IsLawful graph.now better × (cost_of graph.now better < cost_of graph.now plan.now) × IsChangeOf plan.now better)) }
 {
     let cost = cost_of(graph, plan);
     let servers = servers_of(alloc, graph, plan.chosen())?;
@@ -80,7 +84,7 @@ fn change_of(
     requires cost { cost ≡ cost_of graph.now chosen.now }
     requires vehicle { vehicle < graph.now.vehicles }
     ensures { IfOk result (λ found. MatchOption found ((k : ℕ) → IsRowOf graph.now vehicle k → BettersNothing graph.now chosen.now vehicle k)
-        (λ better. IsLawful graph.now better × (cost_of graph.now better < cost))) }
+        (λ better. IsLawful graph.now better × (cost_of graph.now better < cost) × IsChangeOf chosen.now better)) }
 {
     let count = graph.vehicle_count();
     prove!(vehicle < count);
@@ -107,7 +111,7 @@ fn change_to(
     requires vehicle { vehicle < graph.now.vehicles }
     requires row { IsRowOf graph.now vehicle row }
     ensures { IfOk result (λ found. MatchOption found (BettersNothing graph.now chosen.now vehicle row)
-        (λ better. IsLawful graph.now better × (cost_of graph.now better < cost))) }
+        (λ better. IsLawful graph.now better × (cost_of graph.now better < cost) × IsChangeOf chosen.now better)) }
 {
     let size = graph.rows().len();
     prove!(row < size);

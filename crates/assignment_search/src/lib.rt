@@ -22,4 +22,5 @@ mod step;
 mod tests;
 
 pub use branch_and_bound::search;
+pub use exchange::better_change;
 pub use found::Found;

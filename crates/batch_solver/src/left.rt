@@ -9,7 +9,7 @@ use pool_base::OutOfMemory;
 use std::alloc::Global;
 
 /// The numbers of the riders in no chosen row, rising.
-pub(crate) fn left_riders(
+pub fn left_riders(
     alloc: Global,
     graph: &TripGraph,
     chosen: &[Option<u32>],

@@ -15,4 +15,8 @@ mod tests;
 mod told;
 mod trips;
 
+pub use left::left_riders;
+pub use lines::{rider_ids, row_lines, rr_lines, rv_lines};
+pub use moves::idle_vehicles;
 pub use solving::solve_batch;
+pub use told::tell_stops;

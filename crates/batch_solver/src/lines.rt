@@ -24,7 +24,7 @@ pub(crate) fn lapsed_ids(alloc: Global, settled: &Settled) -> Result<Vec<RiderId
 }
 
 /// The ids of riders, given by their numbers.
-pub(crate) fn rider_ids(
+pub fn rider_ids(
     alloc: Global,
     settled: &Settled,
     riders: &[usize],
@@ -40,7 +40,7 @@ pub(crate) fn rider_ids(
 }
 
 /// The edges between vehicles and riders, by their ids.
-pub(crate) fn rv_lines(
+pub fn rv_lines(
     alloc: Global,
     settled: &Settled,
     edges: &[RvEdge],
@@ -59,7 +59,7 @@ pub(crate) fn rv_lines(
 }
 
 /// The edges between riders, by their ids.
-pub(crate) fn rr_lines(
+pub fn rr_lines(
     alloc: Global,
     settled: &Settled,
     pairs: &[(usize, usize)],
@@ -78,7 +78,7 @@ pub(crate) fn rr_lines(
 }
 
 /// The rows of a trip graph, by their ids.
-pub(crate) fn row_lines(
+pub fn row_lines(
     alloc: Global,
     settled: &Settled,
     rows: &[TripRow],

@@ -39,7 +39,7 @@ pub(crate) fn move_lines(
 }
 
 /// The vehicles in which nobody is or will be, and that aren't late.
-fn idle_vehicles(
+pub fn idle_vehicles(
     alloc: Global,
     settled: &Settled,
     graph: &TripGraph,

@@ -13,7 +13,7 @@ use stop_orders::{Settled, Stop, Task, visit_of};
 
 /// Tells the stops of a vehicle's order for a trip, each with its second. The task is the vehicle's with
 /// the trip.
-pub(crate) fn tell_stops<const N: usize>(
+pub fn tell_stops<const N: usize>(
     points: &Points,
     times: &Times,
     settled: &Settled,

@@ -1,6 +1,5 @@
 -- The first lines of a report.
 use Rattle.std.specs.Prelude.{ℕ, ◌==◌, List, [], ◌∷◌, ◌++◌, length, codes, if◌then◌else◌}
-use Rattle.batch_snapshot.specs.declared.vehicle.Vehicle.{Vehicle}
 use Rattle.dispatch_report.specs.Lines.{lines_text}
 use Rattle.dispatch_report.specs.Words.{numbered}
 use Rattle.rider_limits.specs.declared.settings.Settings.{Settings}
@@ -15,10 +14,10 @@ settings_line s =
     ++ (if s.dwell == 0 then [] else numbered (codes " dwell=") s.dwell)
 
 -- the name of a report, the settings, and how large network and fleet are
-unfoldable pub head_text : Settings → Roads → List Vehicle → List ℕ
+unfoldable pub head_text : Settings → Roads → ℕ → List ℕ
 head_text settings roads vehicles =
     lines_text
     ((codes "ridepool report 1" ∷ [])
     ++ (settings_line settings ∷ [])
     ++ ((numbered (codes "network nodes=") (length roads.nodes) ++ numbered (codes " arcs=") (length roads.arcs)) ∷ [])
-    ++ (numbered (codes "fleet vehicles=") (length vehicles) ∷ []))
+    ++ (numbered (codes "fleet vehicles=") vehicles ∷ []))

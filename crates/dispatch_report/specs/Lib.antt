@@ -5,5 +5,6 @@ pub mod Entry
 pub mod Block
 pub mod Round
 pub mod Head
+pub mod Day
 pub mod Summary
 pub mod work

@@ -4,18 +4,17 @@ ghost use Rattle.dispatch_report.specs.Words.{numbered};
 ghost use Rattle.dispatch_report.specs.Written.{sink_seen, WritesText};
 ghost use Rattle.dispatch_report.specs.work.Lines.{WritesLines};
 
-use crate::block::write_words;
+use crate::block::{write_number, write_words};
 use crate::fault::ReportFault;
 use crate::lines::write_line;
 use crate::words::put_numbered;
-use batch_snapshot::Fleet;
 use pool_base::{OutOfMemory, put_bytes};
 use pool_io::Sink;
 use rider_limits::Settings;
 use road_network::Network;
 use std::alloc::Global;
 
-/// Writes the first lines of a report: its name, the settings, and the sizes of network and fleet.
+/// Writes the first lines of a report: its name, the settings, the size of the network and the number of vehicles.
 ///
 /// After either fault a part of the text was written, from its front and not the whole.
 #[tactic(auto, unfolding(crate::specs::Head::head_text))]
@@ -24,16 +23,15 @@ pub fn write_head<K: Sink>(
     sink: &mut K,
     settings: &Settings,
     network: &Network,
-    fleet: &Fleet,
+    vehicles: usize,
 ) -> Result<(), ReportFault>
-    ensures { WritesText (sink_seen K.written K.faults sink.old sink.new) (head_text settings.now network.now fleet.now) result }
+    ensures { WritesText (sink_seen K.written K.faults sink.old sink.new) (head_text settings.now network.now vehicles) result }
 {
     let mut line = Vec::new(alloc);
     write_words(sink, &mut line, b"ridepool report 1")?;
     write_settings(sink, &mut line, settings)?;
     write_network(sink, &mut line, network)?;
-    write_fleet(sink, &mut line, fleet)?;
-    Ok(())
+    write_number(sink, &mut line, b"fleet vehicles=", vehicles as u64)
 }
 
 fn write_settings<K: Sink>(
@@ -57,14 +55,6 @@ fn write_network<K: Sink>(
 {
     line.clear();
     put_network(line, network)?;
-    write_line(sink, line)
-}
-
-fn write_fleet<K: Sink>(sink: &mut K, line: &mut Vec<u8>, fleet: &Fleet) -> Result<(), ReportFault>
-    ensures { WritesLines (sink_seen K.written K.faults sink.old sink.new) (numbered (codes "fleet vehicles=") (length fleet.now) ∷ []) result }
-{
-    line.clear();
-    put_fleet(line, fleet)?;
     write_line(sink, line)
 }
 
@@ -130,16 +120,4 @@ fn arc_count(network: &Network) -> u64
     ensures { result ≡ length network.now.arcs }
 {
     network.arc_count() as u64
-}
-
-fn put_fleet(line: &mut Vec<u8>, fleet: &Fleet) -> Result<(), OutOfMemory>
-    ensures { OnOk result (line.new.items ≡ line.old.items ++ numbered (codes "fleet vehicles=") (length fleet.now)) }
-{
-    put_numbered(line, b"fleet vehicles=", vehicle_count(fleet))
-}
-
-fn vehicle_count(fleet: &Fleet) -> u64
-    ensures { result ≡ length fleet.now }
-{
-    fleet.vehicles().len() as u64
 }

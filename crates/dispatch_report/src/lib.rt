@@ -6,6 +6,7 @@
 #![tactic(auto)]
 
 mod block;
+mod day;
 mod entry;
 mod fault;
 mod head;
@@ -17,6 +18,7 @@ mod summary;
 mod tests;
 mod words;
 
+pub use day::{DayCounts, write_day_end};
 pub use fault::ReportFault;
 pub use head::write_head;
 pub use round::{write_end, write_round};

@@ -1,7 +1,8 @@
 //! Each text once, on values with something in every list.
-use crate::{write_end, write_head, write_load, write_round, write_summary};
+use crate::{
+    DayCounts, write_day_end, write_end, write_head, write_load, write_round, write_summary,
+};
 use arrayvec::ArrayVec;
-use batch_snapshot::Fleet;
 use plan_rules::{Multipliers, Node, Tree};
 use pool_base::{NodeId, RiderId, Second, Sequence, VehicleId};
 use pool_io::{MemorySink, rows};
@@ -198,6 +199,19 @@ fn writes_end(alloc: Global) -> bool {
     write_end(alloc, &mut out, 6).is_ok() && out.written() == b"done 6\n".as_slice()
 }
 
+fn writes_day_end(alloc: Global) -> bool {
+    let counts = DayCounts {
+        picked: 3,
+        dropped: 2,
+        worst_wait: 90,
+        worst_delay: 0,
+    };
+    let mut out = sink(alloc);
+    write_day_end(alloc, &mut out, &counts, 6).is_ok()
+        && out.written()
+            == b"day picked 3 dropped 2 worst-wait 90 worst-delay 0\ndone 6\n".as_slice()
+}
+
 fn writes_load(alloc: Global) -> bool {
     let shape = LoadShape {
         seed: 7,
@@ -237,14 +251,13 @@ fn writes_head(alloc: Global) -> bool {
     let Some(network) = network(alloc) else {
         return false;
     };
-    let fleet = Fleet::of(Vec::new(alloc));
     let mut out = sink(alloc);
-    write_head(alloc, &mut out, &settings(), &network, &fleet).is_ok()
+    write_head(alloc, &mut out, &settings(), &network, 12).is_ok()
         && out.written()
             == b"ridepool report 1\n\
 settings wait=120 delay=180 trip=4 penalty=10000 budget=200 pairs=200000 proof=1 dwell=5\n\
 network nodes=2 arcs=1\n\
-fleet vehicles=0\n"
+fleet vehicles=12\n"
                 .as_slice()
 }
 
@@ -253,6 +266,7 @@ fn answers_with_memory(rt: HostRuntime) {
     assert!(rt; writes_head(rt.alloc()));
     assert!(rt; writes_round(rt.alloc()));
     assert!(rt; writes_end(rt.alloc()));
+    assert!(rt; writes_day_end(rt.alloc()));
     assert!(rt; writes_load(rt.alloc()));
     assert!(rt; writes_summary(rt.alloc()));
 }

@@ -5,7 +5,7 @@ use Rattle.pair_graph.specs.declared.rv_edge.RvEdge.{RvEdge}
 use Rattle.pair_graph.specs.RvGraph.{pair_of, no_edge}
 use Rattle.pair_graph.specs.work.RvGraph.{IsRvGraphUpTo}
 use Rattle.pair_graph.specs.work.RrGraph.{IsRrGraphUpTo}
-use Rattle.pair_graph.proofs.Listing.{ListsBefore}
+use Rattle.pair_graph.proofs.lemmas.Listing.{ListsBefore}
 
 abbrev pub RvLists : (ℕ → ℕ → ℕ) → Settled → ℕ → ℕ → List RvEdge → Type 0
 RvLists tau settled a b xs = ListsBefore RvEdge pair_of (λ v r. record { vehicle = v; rider = r }) no_edge (IsRvEdge tau settled) a b xs

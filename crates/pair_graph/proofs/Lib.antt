@@ -1,3 +1,3 @@
-pub mod Listing
+pub mod lemmas
 pub mod Graphs
 pub mod PairTasks

@@ -4,7 +4,7 @@ ghost use Rattle.stop_orders.specs.Task.{IsTask, IsServable};
 ghost use Rattle.stop_orders.specs.Settled.{IsRrEdge, rider_at, pair_task};
 ghost use Rattle.stop_orders.specs.Sound.{IsSound};
 ghost use Rattle.pair_graph.specs.RrGraph.{IsRrGraph};
-ghost use Rattle.pair_graph.specs.work.RrGraph.{IsRrGraphUpTo};
+ghost use Rattle.pair_graph.specs.work.RrGraph.{IsRrGraphUpTo, IsTaskOfFirst, IsTaskOfPair};
 
 use arrayvec::ArrayVec;
 use pool_base::{OutOfMemory, Steps, Times};
@@ -67,8 +67,11 @@ fn add_first<L: Ledger>(
     requires upto { IsRrGraphUpTo (travel_time times.now) settled.now first 0 pairs.old.items }
     ensures { OnOk result (IsRrGraphUpTo (travel_time times.entry.now) settled.entry.now (first + 1) 0 pairs.new.items) }
 {
+    let mut task = task_of_first(settled, first);
     for second in first + 1..settled.riders.as_slice().len() {
-        add_pair(workspace, settled, times, first, second, pairs, steps)?;
+        add_pair(
+            workspace, settled, times, &mut task, first, second, pairs, steps,
+        )?;
     }
     Ok(())
 }
@@ -78,6 +81,7 @@ fn add_pair<L: Ledger>(
     workspace: &mut Workspace,
     settled: &Settled,
     times: &Times,
+    task: &mut Task,
     first: usize,
     second: usize,
     pairs: &mut Vec<(usize, usize)>,
@@ -86,10 +90,12 @@ fn add_pair<L: Ledger>(
     requires sound { IsSound 6 (point_count times.now) (travel_time times.now) settled.now }
     requires below { first < second }
     requires within { second < length settled.now.riders }
+    requires task { IsTaskOfFirst settled.now first task.old }
     requires upto { IsRrGraphUpTo (travel_time times.now) settled.now first second pairs.old.items }
-    ensures { OnOk result (IsRrGraphUpTo (travel_time times.entry.now) settled.entry.now first (second + 1) pairs.new.items) }
+    ensures upto { OnOk result (IsRrGraphUpTo (travel_time times.entry.now) settled.entry.now first (second + 1) pairs.new.items) }
+    ensures task { OnOk result (IsTaskOfFirst settled.entry.now first task.new) }
 {
-    if !is_edge(workspace, settled, times, first, second, steps)? {
+    if !is_edge(workspace, settled, times, task, first, second, steps)? {
         return Ok(());
     }
     pairs.push((first, second))?;
@@ -101,6 +107,7 @@ fn is_edge<L: Ledger>(
     workspace: &mut Workspace,
     settled: &Settled,
     times: &Times,
+    task: &mut Task,
     first: usize,
     second: usize,
     steps: &mut Steps<L>,
@@ -108,19 +115,22 @@ fn is_edge<L: Ledger>(
     requires sound { IsSound 6 (point_count times.now) (travel_time times.now) settled.now }
     requires below { first < second }
     requires within { second < length settled.now.riders }
-    ensures { IfOk result (λ edge. MatchBool edge (IsRrEdge (travel_time times.entry.now) settled.entry.now first second)
+    requires task { IsTaskOfFirst settled.now first task.old }
+    ensures edge { IfOk result (λ edge. MatchBool edge (IsRrEdge (travel_time times.entry.now) settled.entry.now first second)
         (IsRrEdge (travel_time times.entry.now) settled.entry.now first second → ⊥)) }
+    ensures task { OnOk result (IsTaskOfFirst settled.entry.now first task.new) }
 {
     // Whoever gets in first finds seats in an empty vehicle, or nobody does.
     if settled.most_seats < smaller_party(settled, first, second) {
         return Ok(false);
     }
+    set_second(task, settled, first, second);
     let one = settled.riders.as_slice()[first].leg.origin;
-    if starts_at(workspace, settled, times, one, first, second, steps)? {
+    if starts_at(workspace, settled, times, task, one, first, second, steps)? {
         return Ok(true);
     }
     let other = settled.riders.as_slice()[second].leg.origin;
-    starts_at(workspace, settled, times, other, first, second, steps)
+    starts_at(workspace, settled, times, task, other, first, second, steps)
 }
 
 /// How many persons the smaller party of two riders has.
@@ -135,42 +145,52 @@ fn smaller_party(settled: &Settled, first: usize, second: usize) -> u8
     one.get().min(other.get())
 }
 
-/// Whether an empty vehicle that is ready now at this place serves both.
+/// Whether an empty vehicle that is ready now at this place serves both, whose task this is at another place.
 fn starts_at<L: Ledger>(
     workspace: &mut Workspace,
     settled: &Settled,
     times: &Times,
+    task: &mut Task,
     place: usize,
     first: usize,
     second: usize,
     steps: &mut Steps<L>,
 ) -> Result<bool, OutOfMemory>
     requires valid { IsTask (point_count times.now) (pair_task settled.now place first second) }
-    requires below { first < second }
-    requires within { second < length settled.now.riders }
-    ensures { IfOk result (λ serves. MatchBool serves (IsServable (travel_time times.entry.now) (pair_task settled.entry.now place first second))
+    requires task { IsTaskOfPair settled.now first second task.old }
+    ensures serves { IfOk result (λ serves. MatchBool serves (IsServable (travel_time times.entry.now) (pair_task settled.entry.now place first second))
         (IsServable (travel_time times.entry.now) (pair_task settled.entry.now place first second) → ⊥)) }
+    ensures task { OnOk result (IsTaskOfPair settled.entry.now first second task.new) }
 {
-    let task = task_of_pair(settled, place, first, second);
-    let route = least_delay_with(workspace, &task, times, steps)?;
+    task.start = place;
+    let route = least_delay_with(workspace, task, times, steps)?;
     Ok(route.is_some())
 }
 
-/// The task of the two riders, and an empty vehicle that is ready now at this place.
-fn task_of_pair(settled: &Settled, place: usize, first: usize, second: usize) -> Task
-    requires below { first < second }
-    requires within { second < length settled.now.riders }
-    ensures { result ≡ pair_task settled.entry.now place first second }
+/// The task of a rider and an empty vehicle that is ready now at the rider's origin; there is room for another rider.
+fn task_of_first(settled: &Settled, first: usize) -> Task
+    requires { first < length settled.now.riders }
+    ensures { IsTaskOfFirst settled.entry.now first result }
 {
+    let start = settled.riders.as_slice()[first].leg.origin;
     let mut riders = ArrayVec::new();
     riders.push(settled.riders.as_slice()[first].leg);
-    riders.push(settled.riders.as_slice()[second].leg);
     Task {
-        start: place,
+        start,
         ready: settled.now,
         dwell: settled.dwell,
         seats: settled.most_seats,
         aboard: ArrayVec::new(),
         riders,
     }
+}
+
+/// Puts this rider in the place of the other one behind the first.
+fn set_second(task: &mut Task, settled: &Settled, first: usize, second: usize)
+    requires second { second < length settled.now.riders }
+    requires task { IsTaskOfFirst settled.now first task.old }
+    ensures { IsTaskOfPair settled.entry.now first second task.new }
+{
+    task.riders.truncate(1);
+    task.riders.push(settled.riders.as_slice()[second].leg);
 }

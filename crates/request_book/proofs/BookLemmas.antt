@@ -16,9 +16,9 @@ use Rattle.request_book.specs.Keyed.{look_up, KeysRise, KeysDiffer}
 use Rattle.request_book.specs.Replay.{state_after, RepliesAreSteps}
 use Rattle.request_book.specs.State.{find_vehicle, find_passenger}
 use Rattle.request_book.specs.Step.{step}
-use Rattle.request_book.proofs.ConsistentLemmas.{step-consistent}
-use Rattle.request_book.proofs.KeyedLemmas.{look_up-nil, All-look_up, rise_from_increasing}
-use Rattle.request_book.proofs.NamedLemmas.{step-named}
+use Rattle.request_book.proofs.lemmas.ConsistentLemmas.{step-consistent}
+use Rattle.request_book.proofs.lemmas.KeyedLemmas.{look_up-nil, All-look_up, rise_from_increasing}
+use Rattle.request_book.proofs.lemmas.NamedLemmas.{step-named}
 
 -- one more entry
 module _ (nodes : List ℕ) (wait : ℕ) where

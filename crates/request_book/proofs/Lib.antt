@@ -1,12 +1,2 @@
 pub mod lemmas
-pub mod KeyedLemmas
-pub mod RegisterLemmas
-pub mod StepLemmas
-pub mod IndexLemmas
-pub mod SealLemmas
-pub mod CloseLemmas
-pub mod BatchLemmas
-pub mod ConsistentLemmas
-pub mod NamedLemmas
 pub mod BookLemmas
-pub mod LawLemmas

@@ -1,1 +1,11 @@
+pub mod KeyedLemmas
+pub mod RegisterLemmas
+pub mod StepLemmas
+pub mod IndexLemmas
+pub mod SealLemmas
+pub mod CloseLemmas
+pub mod BatchLemmas
+pub mod ConsistentLemmas
+pub mod NamedLemmas
+pub mod LawLemmas
 pub mod StepTable

@@ -6,7 +6,7 @@ ghost use Rattle.batch_snapshot.specs.Kept.{IsFleet};
 ghost use Rattle.batch_snapshot.specs.Vehicle.{HasSeats};
 ghost use Rattle.batch_snapshot.specs.declared.vehicle.Vehicle.{Vehicle};
 ghost use Rattle.request_book.specs.Book.{next_position, opening};
-ghost use Rattle.request_book.specs.Consistent.{IsPassenger, status_in};
+ghost use Rattle.request_book.specs.Consistent.{IsConsistent, IsPassenger, status_in};
 ghost use Rattle.request_book.specs.Keyed.{KeysDiffer};
 ghost use Rattle.request_book.specs.Replay.{state_after};
 ghost use Rattle.request_book.specs.Step.{step};
@@ -51,4 +51,11 @@ pub fn rounds_join()
 /// Positions count the entries over rounds.
 pub fn positions_count_entries()
     ensures { (first : ℕ) (round later : List Entry) → next_position (next_position first round) later ≡ next_position first (round ++ later) }
+{}
+
+/// Every state of a run is consistent: riders and vehicles stand once, and each rider is in the list of exactly the
+/// vehicle that their status names.
+pub fn states_are_consistent()
+    ensures { (nodes : List ℕ) (wait : ℕ) (vehicles : List Vehicle) (entries : List Entry) → IsFleet vehicles
+        → IsConsistent (state_after nodes wait (opening vehicles) entries) }
 {}

@@ -29,7 +29,7 @@ pub use command::Command;
 pub use journal::{Entry, Journal};
 pub use laws::{
     passengers_are_who_is_aboard, positions_count_entries, refused_commands_change_nothing,
-    riders_have_one_status, rounds_join, seats_always_suffice,
+    riders_have_one_status, rounds_join, seats_always_suffice, states_are_consistent,
 };
 pub use outcome::{
     Answer, ChosenTrip, LateVehicle, MoveLine, Outcome, Planned, PlannedStop, RowLine,

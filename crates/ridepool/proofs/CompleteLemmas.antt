@@ -1,23 +1,25 @@
--- Where nothing is wrong, a call is done or out of memory.
-use Rattle.std.proofs.Common.{◌≡◌, ℕ, ◌<◌, ◌≤◌, List, Option, Some, None, Result, Ok, Err, length, refl, sym, subst, ap, ◌∙◌, inl, inr, arith}
+-- Where nothing is wrong, a call is done or out of memory, or a day comes too late.
+use Rattle.std.proofs.Common.{◌≡◌, ℕ, true, false, ◌<◌, List, Option, Some, None, Result, Ok, Err, length, refl, sym, subst, ap, ◌∙◌, inl, inr, arith}
 use Rattle.std.specs.Prelude.{◌⊎◌, IfSome}
 use Rattle.pool_base.specs.declared.which.Which.{Which}
 use Rattle.pool_base.specs.declared.which.Which.TheVariants as file
-use Rattle.rider_limits.proofs.lemmas.ModeLemmas.{both_run}
+use Rattle.rider_limits.proofs.lemmas.ModeLemmas.{command_in, one_command}
+use Rattle.rider_limits.specs.Key.{command_name, reads_files}
+use Rattle.rider_limits.specs.declared.settings.Mode.{Mode}
+use Rattle.rider_limits.specs.declared.settings.Mode.TheVariants.{Run, Load, Drive}
 use Rattle.rider_limits.specs.Words.{fault_of}
 use Rattle.rider_limits.specs.declared.word_fault.WordFault.{WordFault}
 use Rattle.road_network.specs.Roads.{Roads}
-use Rattle.ridepool.specs.Explained.{AreForRun, AreForLoad, StopsRun, Tells, IsFaultlessRun, IsFaultless, Explains}
-use Rattle.ridepool.specs.Inputs.{Reads, IsSourceTooLong, IsStop}
+use Rattle.route_drive.specs.Day.{day_fault}
+use Rattle.route_drive.specs.declared.day.DayFault.{DayFault}
+use Rattle.script_rows.specs.Round.{NumberedLanes}
+use Rattle.ridepool.specs.Explained.{AreForSources, AreForLoad, StopsRun, IsNoDay, Tells, IsFaultlessRun, IsFaultless, IsFaultlessEnd, Explains}
+use Rattle.ridepool.specs.Inputs.{Reads, IsSourceTooLong, IsStop, ReadsSources, IsDayFor}
 use Rattle.ridepool.specs.Reading.{network_in, vehicles_in, script_in}
 use Rattle.dispatch_report.specs.Written.{Change}
 use Rattle.ridepool.specs.Seen.{SourceView, Seen, source_at}
 use Rattle.ridepool.specs.declared.status.RunStatus.{RunStatus}
-use Rattle.ridepool.specs.declared.status.RunStatus.TheVariants.{Done, Words, Network, Fleet, Script, TooLong, ReadFault, WriteFault, OutOfMemory}
-
--- all is done, or there is no memory
-abbrev IsDoneOrMemory : RunStatus → Type 0
-IsDoneOrMemory e = (e ≡ Done) ⊎ (e ≡ OutOfMemory)
+use Rattle.ridepool.specs.declared.status.RunStatus.TheVariants.{Done, Words, Network, Fleet, Script, TooLong, ReadFault, WriteFault, OutOfMemory, Day, TooLate}
 
 -- what holds of the bytes that a source tells
 of_told : (o : Option (List ℕ)) (bytes : List ℕ) (P : List ℕ → Type 0) → o ≡ Some bytes → IfSome o P → P bytes
@@ -44,8 +46,8 @@ tells_at seen f file.Fleet = (f.texts.fleet, f.fleet)
 tells_at seen f file.Script = (f.texts.script, f.script)
 
 -- a source of a run with no fault stops it for want of memory alone
-stops : (seen : Seen) (e : RunStatus) → IsFaultlessRun seen → IsStop seen.sources e → IsDoneOrMemory e
-stops seen OutOfMemory f why = inr refl
+stops : (seen : Seen) (e : RunStatus) → IsFaultlessRun seen → IsStop seen.sources e → IsFaultlessEnd e
+stops seen OutOfMemory f why = tt
 stops seen (Network fault) f why =
     absurd (ok_is_no_err (network_in f.texts.network) f.inputs.roads fault f.give.network (read_of seen.sources.network f.texts.network (λ b. network_in b ≡ Err fault) f.network why.1))
 stops seen (Fleet fault) f why =
@@ -61,30 +63,59 @@ stops seen (ReadFault w) f why = let t = tells_at seen f w in absurd (t.1.faultl
 stops seen Done f why = absurd why
 stops seen (Words fault) f why = absurd why
 stops seen WriteFault f why = absurd why
-
--- words are good for one command
-one_command : (words : List (List ℕ)) → AreForRun words → AreForLoad words → ⊥
-one_command words run load = load.2 (both_run words run.0 load.0 run.1.given run.2 load.1.given)
-
-stops_run : (seen : Seen) (e : RunStatus) → IsFaultlessRun seen ⊎ AreForLoad seen.words → StopsRun seen e → IsDoneOrMemory e
-stops_run seen e (inl run) why = stops seen e run why.1
-stops_run seen e (inr load) why = absurd (one_command seen.words why.0 load)
+stops seen (Day fault) f why = absurd why
+stops seen (TooLate round made) f why = absurd why
 
 none_is_no_some : {A : Type 0} (o : Option A) (x : A) → o ≡ None → o ≡ Some x → ⊥
 none_is_no_some o x none some = cc (none, some)
+
+-- words are good for one command
+reads_alike : (m n : Mode) → command_in m ≡ command_in n → ReadsSources m → ReadsSources n
+reads_alike m Run same reads = tt
+reads_alike m Drive same reads = tt
+reads_alike Run (Load shape) same reads = absurd (let e : true ≡ false = ap reads_files same in cc)
+reads_alike Drive (Load shape) same reads = absurd (let e : true ≡ false = ap reads_files same in cc)
+reads_alike (Load other) (Load shape) same reads = absurd reads
+
+not_both : (words : List (List ℕ)) → AreForSources words → AreForLoad words → ⊥
+not_both words reads load = load.2 (reads_alike reads.0.mode load.0.mode (one_command words reads.0 load.0 reads.1.given load.1.given) reads.2)
+
+driven_alike : (m n : Mode) → command_in m ≡ command_in n → m ≡ Drive → n ≡ Drive
+driven_alike m Drive same is = refl
+driven_alike m Run same is = absurd (let e : 5 ≡ 3 = ap (λ c. length (command_name c)) (sym (ap command_in is) ∙ same) in cc)
+driven_alike m (Load shape) same is = absurd (let e : true ≡ false = ap reads_files (sym (ap command_in is) ∙ same) in cc)
+
+-- the script of a day with no fault is a day
+is_day : (rounds : List NumberedLanes) (m : Mode) → m ≡ Drive → IsDayFor m rounds → day_fault rounds ≡ None
+is_day rounds m is day = subst (λ n. IsDayFor n rounds) is day
+
+no_day_fault : (seen : Seen) (fault : DayFault) → IsFaultlessRun seen ⊎ AreForLoad seen.words → IsNoDay seen fault → ⊥
+no_day_fault seen fault (inl f) why =
+    let driven : f.inputs.settings.mode ≡ Drive =
+    driven_alike why.inputs.settings.mode f.inputs.settings.mode (one_command seen.words why.inputs.settings f.inputs.settings why.words.given f.words.given) why.mode in
+    let same : why.inputs.rounds ≡ f.inputs.rounds =
+    same_value (script_in f.texts.script) why.inputs.rounds f.inputs.rounds (read_of seen.sources.script f.texts.script (λ b. script_in b ≡ Ok why.inputs.rounds) f.script why.read.script) f.give.script in
+    none_is_no_some (day_fault f.inputs.rounds) fault (is_day f.inputs.rounds f.inputs.settings.mode driven f.day) (subst (λ rs. day_fault rs ≡ Some fault) same why.refused)
+no_day_fault seen fault (inr load) why = not_both seen.words (why.inputs.settings, why.words, subst ReadsSources (sym why.mode) tt) load
+
+stops_run : (seen : Seen) (e : RunStatus) → IsFaultlessRun seen ⊎ AreForLoad seen.words → StopsRun seen e → IsFaultlessEnd e
+stops_run seen e (inl run) why = stops seen e run why.1
+stops_run seen e (inr load) why = absurd (not_both seen.words why.0 load)
 
 no_words_fault : (seen : Seen) (fault : WordFault) → IsFaultlessRun seen ⊎ AreForLoad seen.words → fault_of seen.words ≡ Some fault → ⊥
 no_words_fault seen fault (inl run) why = none_is_no_some (fault_of seen.words) fault run.words.faultless why
 no_words_fault seen fault (inr load) why = none_is_no_some (fault_of seen.words) fault load.1.faultless why
 
--- a call in which nothing is wrong is done or out of memory
-pub complete : (seen : Seen) (e : RunStatus) → IsFaultless seen → Explains seen e → (e ≡ Done) ⊎ (e ≡ OutOfMemory)
-complete seen Done f why = inl refl
-complete seen OutOfMemory f why = inr refl
+-- a call in which nothing is wrong is done or out of memory, or a day comes too late
+pub complete : (seen : Seen) (e : RunStatus) → IsFaultless seen → Explains seen e → IsFaultlessEnd e
+complete seen Done f why = tt
+complete seen OutOfMemory f why = tt
+complete seen (TooLate round made) f why = tt
 complete seen (Words fault) f why = absurd (no_words_fault seen fault f.inputs why.0)
 complete seen (Network fault) f why = stops_run seen (Network fault) f.inputs why
 complete seen (Fleet fault) f why = stops_run seen (Fleet fault) f.inputs why
 complete seen (Script fault) f why = stops_run seen (Script fault) f.inputs why
 complete seen (TooLong w) f why = stops_run seen (TooLong w) f.inputs why
 complete seen (ReadFault w) f why = stops_run seen (ReadFault w) f.inputs why
+complete seen (Day fault) f why = absurd (no_day_fault seen fault f.inputs why.0)
 complete seen WriteFault f why = absurd (f.sink why.1)

@@ -1,5 +1,5 @@
 -- What is said of the inputs of a call, from what the readers say of sources and of made texts.
-use Rattle.std.proofs.Common.{◌≡◌, ℕ, List, Result, Ok, Err, MatchResult, refl, sym, ap, subst, ◌∙◌, arith}
+use Rattle.std.proofs.Common.{◌≡◌, ℕ, List, Some, None, Result, Ok, Err, sym, ap, subst, ◌∙◌}
 use Rattle.std.specs.Prelude.{IfOk, IfErr}
 use Rattle.batch_snapshot.specs.declared.vehicle.Vehicle.{Vehicle}
 use Rattle.fleet_state.specs.Fleet.{vehicles_of}
@@ -9,24 +9,22 @@ use Rattle.pool_base.specs.declared.which.Which.{Which}
 use Rattle.pool_io.specs.declared.input.Input.{Input}
 use Rattle.pool_base.specs.declared.which.Which.TheVariants as file
 use Rattle.rider_limits.specs.declared.load_shape.LoadShape.{LoadShape}
-use Rattle.rider_limits.specs.declared.settings.Mode.{Mode}
-use Rattle.rider_limits.specs.declared.settings.Mode.TheVariants.{Run, Load}
+use Rattle.rider_limits.specs.declared.settings.Mode.TheVariants.{Run, Load, Drive}
 use Rattle.rider_limits.specs.declared.settings.Settings.{Settings}
 use Rattle.road_network.specs.Roads.{Roads}
 use Rattle.road_network.specs.Reading.{network_of}
+use Rattle.route_drive.specs.Day.{day_fault}
+use Rattle.route_drive.specs.declared.day.DayFault.{DayFault}
 use Rattle.script_rows.specs.Round.{NumberedLanes}
-use Rattle.script_rows.specs.Script.{script_of}
-use Rattle.script_rows.specs.declared.version.ScriptVersion.TheVariants.{One}
 use Rattle.ridepool.specs.Explained.{HidesNoMemory}
-use Rattle.ridepool.specs.Inputs.{Inputs, IsWithin, IsSourceTooLong, Reads, AreReadFrom, AreTexts, AreUntouched, AreInputs, CameTo, IsStop}
+use Rattle.ridepool.specs.Inputs.{Inputs, AreTexts, AreUntouched, AreInputs, CameTo, IsStop}
 use Rattle.ridepool.specs.Reading.{own_fault, in_rows, first_version, network_in, vehicles_in, IsFleetIn, script_in}
 use Rattle.dispatch_report.specs.Written.{Change}
 use Rattle.ridepool.specs.Seen.{SourceView, Sources, source_at}
 use Rattle.ridepool.specs.declared.inputs.ReadInputs.{ReadInputs}
 use Rattle.ridepool.specs.declared.status.RunStatus.{RunStatus}
-use Rattle.ridepool.specs.declared.status.RunStatus.TheVariants.{Done, Words, Network, Fleet, Script, TooLong, ReadFault, WriteFault, OutOfMemory}
-use Rattle.ridepool.specs.work.Reading.{IsUnread, StopsAt, IsNoInput, GotInputs}
-use Rattle.ridepool.proofs.ReadingLemmas.{reads_within}
+use Rattle.ridepool.specs.declared.status.RunStatus.TheVariants.{Done, Words, Network, Fleet, Script, TooLong, ReadFault, WriteFault, OutOfMemory, Day, TooLate}
+use Rattle.ridepool.specs.work.Reading.{IsUnread, StopsAt, ReadSources, IsNoInput, GotInputs}
 
 -- a text that is read as a network, a fleet, a script
 network_made : (text : List ℕ) (roads : Roads) → IsNetworkText text roads → network_in text ≡ Ok roads
@@ -73,15 +71,39 @@ pub stop_hides : {A F : Type 0} (s : Change SourceView) (w : Which) (refusal : I
 stop_hides s w refusal read _ (StopsAt.unread e why) = unread_hides s w e why
 stop_hides s w refusal read _ (StopsAt.refused fault reads hides) = hides
 
--- what came of a run's inputs
-pub got_stop : (settings : Settings) (s : Sources) (e : RunStatus) → settings.mode ≡ Run → IsStop s e → HidesNoMemory e → GotInputs settings s (Err e)
-got_stop settings s e is stop hides = record { inputs = subst (λ m. IsNoInput m s e) (sym is) stop; refused = hides }
-
-pub got_read : (settings : Settings) (s : Sources) (got : ReadInputs) → settings.mode ≡ Run
-    → AreReadFrom s (record { settings = settings; roads = got.network; vehicles = got.fleet; rounds = got.script }) → GotInputs settings s (Ok got)
-got_read settings s got is read =
+-- what came of the inputs of a run, and of a day's
+pub got_run : (settings : Settings) (s : Sources) (r : Result ReadInputs RunStatus) → settings.mode ≡ Run → ReadSources s r → GotInputs settings s r
+got_run settings s (Ok got) is read =
     let i : Inputs = record { settings = settings; roads = got.network; vehicles = got.fleet; rounds = got.script } in
-    record { inputs = subst (λ m. AreInputs m s i) (sym is) read; refused = tt }
+    record { inputs = subst (λ m. AreInputs m s i) (sym is) (read.inputs settings, tt); refused = tt }
+got_run settings s (Err e) is read = record { inputs = subst (λ m. IsNoInput m s e) (sym is) read.inputs; refused = read.refused }
+
+pub got_day : (settings : Settings) (s : Sources) (got : ReadInputs) → settings.mode ≡ Drive → ReadSources s (Ok got) → day_fault got.script ≡ None → GotInputs settings s (Ok got)
+got_day settings s got is read day =
+    let i : Inputs = record { settings = settings; roads = got.network; vehicles = got.fleet; rounds = got.script } in
+    record { inputs = subst (λ m. AreInputs m s i) (sym is) (read.inputs settings, day); refused = tt }
+
+pub got_no_day : (settings : Settings) (s : Sources) (got : ReadInputs) (fault : DayFault) → settings.mode ≡ Drive → ReadSources s (Ok got) → day_fault got.script ≡ Some fault
+    → GotInputs settings s (Err (Day fault))
+got_no_day settings s got fault is read refused =
+    record { inputs = subst (λ m. IsNoInput m s (Day fault)) (sym is) (_, read.inputs settings, refused); refused = tt }
+
+-- a source that stops a call stops it as well where vehicles are driven
+stops_day : (s : Sources) (e : RunStatus) → IsStop s e → IsNoInput Drive s e
+stops_day s (Network fault) stop = stop
+stops_day s (Fleet fault) stop = stop
+stops_day s (Script fault) stop = stop
+stops_day s (TooLong w) stop = stop
+stops_day s (ReadFault w) stop = stop
+stops_day s OutOfMemory stop = stop
+stops_day s Done stop = absurd stop
+stops_day s (Words fault) stop = absurd stop
+stops_day s WriteFault stop = absurd stop
+stops_day s (Day fault) stop = absurd stop
+stops_day s (TooLate round made) stop = absurd stop
+
+pub got_stop : (settings : Settings) (s : Sources) (e : RunStatus) → settings.mode ≡ Drive → ReadSources s (Err e) → GotInputs settings s (Err e)
+got_stop settings s e is read = record { inputs = subst (λ m. IsNoInput m s e) (sym is) (stops_day s e read.inputs); refused = read.refused }
 
 -- what came of a made workload's
 pub got_made : (settings : Settings) (s : Sources) (shape : LoadShape) (r : Result ReadInputs RunStatus) → settings.mode ≡ Load shape → AreUntouched s

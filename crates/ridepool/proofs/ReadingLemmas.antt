@@ -1,5 +1,5 @@
 -- Why a source stopped a run, from why it wasn't read to its end and from why its bytes are refused.
-use Rattle.std.proofs.Common.{◌≡◌, ℕ, ◌+◌, ◌≤◌, List, Option, Some, None, Result, Ok, Err, IfSome, IfOk, IfErr, MatchResult, length, refl, sym, ap, subst, ◌∙◌, arith, length-append}
+use Rattle.std.proofs.Common.{◌≡◌, ℕ, ◌+◌, ◌≤◌, List, Option, Some, None, Result, Ok, Err, IfSome, IfOk, IfErr, MatchResult, length, sym, ap, subst, ◌∙◌, arith, length-append}
 use Rattle.std.specs.Prelude.{◌<◌, ◌↔◌}
 use Rattle.batch_snapshot.specs.declared.vehicle.Vehicle.{Vehicle}
 use Rattle.pool_base.specs.declared.which.Which.{Which}
@@ -17,7 +17,7 @@ use Rattle.ridepool.specs.Reading.{network_in, vehicles_in, IsFleetIn, script_in
 use Rattle.dispatch_report.specs.Written.{Change}
 use Rattle.ridepool.specs.Seen.{SourceView}
 use Rattle.ridepool.specs.declared.status.RunStatus.{RunStatus}
-use Rattle.ridepool.specs.declared.status.RunStatus.TheVariants.{Done, Words, Network, Fleet, Script, TooLong, ReadFault, WriteFault, OutOfMemory}
+use Rattle.ridepool.specs.declared.status.RunStatus.TheVariants.{Done, Words, Network, Fleet, Script, TooLong, ReadFault, WriteFault, OutOfMemory, Day, TooLate}
 use Rattle.ridepool.specs.work.Reading.{IsUnread, StopsAt, RefusesNetwork, RefusesFleet, RefusesRounds}
 
 -- bytes that were lost were told, where any were
@@ -73,6 +73,8 @@ module _ (s : Change SourceView) where
   network_stops bytes (TooLong w) whole why hides = absurd why
   network_stops bytes (ReadFault w) whole why hides = absurd why
   network_stops bytes WriteFault whole why hides = absurd why
+  network_stops bytes (Day fault) whole why hides = absurd why
+  network_stops bytes (TooLate round made) whole why hides = absurd why
 
   pub fleet_stops : (nodes bytes : List ℕ) (status : RunStatus) → Reads s (λ came. came ≡ bytes) → RefusesFleet nodes bytes status → HidesNoMemory status
       → StopsAt s file.Fleet Fleet (vehicles_in nodes) status
@@ -85,6 +87,8 @@ module _ (s : Change SourceView) where
   fleet_stops nodes bytes (TooLong w) whole why hides = absurd why
   fleet_stops nodes bytes (ReadFault w) whole why hides = absurd why
   fleet_stops nodes bytes WriteFault whole why hides = absurd why
+  fleet_stops nodes bytes (Day fault) whole why hides = absurd why
+  fleet_stops nodes bytes (TooLate round made) whole why hides = absurd why
 
   pub script_stops : (bytes : List ℕ) (status : RunStatus) → Reads s (λ came. came ≡ bytes) → RefusesRounds (script_in bytes) status → HidesNoMemory status
       → StopsAt s file.Script Script script_in status
@@ -97,6 +101,8 @@ module _ (s : Change SourceView) where
   script_stops bytes (TooLong w) whole why hides = absurd why
   script_stops bytes (ReadFault w) whole why hides = absurd why
   script_stops bytes WriteFault whole why hides = absurd why
+  script_stops bytes (Day fault) whole why hides = absurd why
+  script_stops bytes (TooLate round made) whole why hides = absurd why
 
 -- what came of an input, from what came of its bytes
 pub network_read : (s : Change SourceView) (items bytes : List ℕ) (r : Result Roads RunStatus) → Reads s (λ came. came ≡ items) → bytes ≡ items

@@ -1,56 +1,49 @@
 -- Texts of rounds, one after the other, and what stands where the last isn't whole.
-use Rattle.std.proofs.Common.{◌≡◌, ℕ, Bool, ◌+◌, ◌-◌, ◌^◌, ◌<◌, ◌≤◌, List, [], ◌∷◌, ◌++◌, length, take, drop, get_or, Option, Result, Ok, Err, MatchResult, refl, sym, subst, ap, ◌∙◌, append_assoc, append-nil, add-one, arith, inl, inr}
-use Rattle.std.specs.Prelude.{◌⊎◌, IfErr}
+use Rattle.std.proofs.Common.{◌≡◌, ℕ, ◌+◌, ◌-◌, ◌^◌, ◌<◌, ◌≤◌, List, [], ◌∷◌, ◌++◌, length, take, drop, get_or, Option, Result, Ok, Err, MatchResult, refl, sym, subst, ap, ◌∙◌, append_assoc, append-nil, add-one, arith, inl, inr}
 use Rattle.std.specs.Io.KnownBytes.{Appends, Keeps}
+use Rattle.std.specs.List.{All, flat_map}
 use Rattle.std.proofs.KnownBytes.{Appends-nil, Appends-trans, Appends-kept}
-use Rattle.std.proofs.lemmas.List.{take-append-drop, length-append, length-drop}
+use Rattle.std.proofs.lemmas.Grind.{flat_map-append}
+use Rattle.std.proofs.lemmas.List.Elements.{All-cons}
+use Rattle.std.proofs.lemmas.List.{take-append-drop, length-append, length-drop, map-append}
 use Rattle.std.proofs.Math.Seq.{take-suc, take-length}
+use Rattle.batch_snapshot.specs.Kept.{IsFleet}
 use Rattle.pool_io.specs.Sink.{AppendsPart}
 use Rattle.dispatch_engine.specs.Run.{IsReady, IsRoundRun, IsRun, IsSameRun, position_after_run, journal_of}
 use Rattle.dispatch_engine.specs.work.Run.{state_after_run}
-use Rattle.dispatch_report.specs.Head.{head_text}
-use Rattle.dispatch_report.specs.Round.{round_text, end_text}
-use Rattle.dispatch_report.specs.Summary.{load_text, summary_text}
-use Rattle.dispatch_report.specs.Written.{Change, SinkView, WritesText}
+use Rattle.dispatch_report.specs.Day.{day_end_text}
+use Rattle.dispatch_report.specs.Round.{end_text}
+use Rattle.dispatch_report.specs.declared.day.DayCounts.{DayCounts}
 use Rattle.dispatch_report.specs.declared.fault.ReportFault.{ReportFault}
 use Rattle.dispatch_report.specs.declared.fault.ReportFault.TheVariants as report
 use Rattle.pool_io.specs.Faults.{Rose}
 use Rattle.request_book.specs.Book.{BookView, IsBook, next_position, opening}
+use Rattle.request_book.specs.Consistent.{IsConsistent}
 use Rattle.request_book.specs.Replay.{state_after}
+use Rattle.request_book.specs.Step.{step}
+use Rattle.request_book.specs.declared.journal.Entry.{Entry}
 use Rattle.request_book.specs.declared.journal.Journal.{Journal}
 use Rattle.request_book.specs.declared.state.State.{State}
-use Rattle.batch_snapshot.specs.declared.vehicle.Vehicle.{Vehicle}
 use Rattle.rider_limits.specs.declared.settings.Mode.{Mode}
-use Rattle.rider_limits.specs.declared.load_shape.LoadShape.{LoadShape}
-use Rattle.rider_limits.specs.declared.settings.Mode.TheVariants.{Run, Load}
+use Rattle.rider_limits.specs.declared.settings.Mode.TheVariants.{Run, Load, Drive}
 use Rattle.rider_limits.specs.declared.settings.Settings.{Settings}
 use Rattle.road_network.specs.Roads.{Roads}
+use Rattle.route_drive.specs.Counts.{AreCounts, entries_of}
+use Rattle.route_drive.specs.Driven.{IsDrivenDay, IsLateAnswer, IsNewBook, IsTooLateDay, state_left}
+use Rattle.route_drive.specs.Promises.{EntriesKeep}
+use Rattle.route_drive.specs.declared.day_run.DayRound.{DayRound}
+use Rattle.route_drive.specs.declared.day_run.DayRun.{DayRun}
+use Rattle.route_drive.specs.declared.day_run.DriveFault.{DriveFault}
+use Rattle.route_drive.specs.declared.day_run.DriveFault.TheVariants as drive
 use Rattle.script_rows.specs.Round.{NumberedLanes}
 use Rattle.ridepool.specs.Inputs.{Inputs}
 use Rattle.rider_notices.specs.Notices.{notices}
 use Rattle.rider_notices.specs.Told.{NotifierView, HaveHeard}
 use Rattle.rider_notices.proofs.lemmas.HeardLemmas.{all-heard-nothing, all-heard-more}
-use Rattle.ridepool.specs.Report.{RunsRounds, first_text, added_text, rounds_text, run_notices, begun_text, report_text, Begins, IsWhole, IsPart}
-use Rattle.ridepool.specs.work.Writing.{NextJournal, WritesRound, WritesPart, WritesRounds, IsRoundsPart, IsTextFault, IsFlushed, IsRoundFault, IsRoundsFault, IsWritingFault, status_of}
+use Rattle.ridepool.specs.Report.{AreAll, AreFirst, IsDayEnd, IsEnd, RunsDay, Runs, IsReport, first_text, added_text, begun_text, journals_of, rounds_text, rounds_notices, Begins, IsWhole, IsPart}
+use Rattle.ridepool.specs.work.Writing.{BeginsRounds, EndsRounds, NextJournal, HasPut, PutsRound, IsUnput, StopsIn, RunsAll, RunsFirst, RunsFrom, WritesReport, WritesRound, WritesRounds, IsReportFault, IsRoundsPart, IsTextFault, IsFlushed, IsRoundFault, IsRoundsFault, IsWritingFault, day_counts, day_ending, late_status, made_of, status_of}
 use Rattle.ridepool.specs.declared.status.RunStatus.{RunStatus}
-use Rattle.ridepool.specs.declared.status.RunStatus.TheVariants.{Done, Words, Network, Fleet, Script, TooLong, ReadFault, WriteFault, OutOfMemory}
-
--- the same text
-pub text_is : {sink : Change SinkView} {r : Result (Unit {0}) ReportFault} (t u : List ℕ) → t ≡ u → WritesText sink t r → WritesText sink u r
-text_is {sink} {r} t u is w = subst (λ x. WritesText sink x r) is w
-
--- the first lines, and what a round adds, by the command
-pub first_of_run : (m : Mode) (settings : Settings) (roads : Roads) (vehicles : List Vehicle) → m ≡ Run → head_text settings roads vehicles ≡ first_text m settings roads vehicles
-first_of_run m settings roads vehicles is = ap (λ x. first_text x settings roads vehicles) (sym is)
-
-pub first_of_load : (m : Mode) (shape : LoadShape) (settings : Settings) (roads : Roads) (vehicles : List Vehicle) → m ≡ Load shape → load_text shape ≡ first_text m settings roads vehicles
-first_of_load m shape settings roads vehicles is = ap (λ x. first_text x settings roads vehicles) (sym is)
-
-pub added_of_run : (m : Mode) (proof : Bool) (number : ℕ) (journal : Journal) → m ≡ Run → round_text number proof journal ≡ added_text m proof number journal
-added_of_run m proof number journal is = ap (λ x. added_text x proof number journal) (sym is)
-
-pub added_of_load : (m : Mode) (shape : LoadShape) (proof : Bool) (number : ℕ) (journal : Journal) → m ≡ Load shape → summary_text journal ≡ added_text m proof number journal
-added_of_load m shape proof number journal is = ap (λ x. added_text x proof number journal) (sym is)
+use Rattle.ridepool.specs.declared.status.RunStatus.TheVariants.{Done, Words, Network, Fleet, Script, TooLong, ReadFault, WriteFault, OutOfMemory, Day, TooLate}
 
 -- positions of runs
 pub position_after_run-more : (position : ℕ) (js : List Journal) (j : Journal) → position_after_run position (js ++ j ∷ []) ≡ next_position (position_after_run position js) j.entries
@@ -92,9 +85,20 @@ begins_kept a b c text x keeps = record { written = x.written; unwritten = x.unw
 pub begins_whole : (a b : Option (List ℕ)) (text : List ℕ) → Appends a b text → Begins a b text
 begins_whole a b text h = record { written = text; unwritten = []; whole = append-nil text; appends = h }
 
+-- a list up to the next item
+take_next : {X : Type 0} (xs : List X) (i : ℕ) (x : X) → i < length xs → x ≡ get_or xs i x → take i xs ++ x ∷ [] ≡ take (i + 1) xs
+take_next xs i x within is = ap (λ y. take i xs ++ y ∷ []) is ∙ sym (rw add-one (take-suc xs i x within))
+
+-- journals, numbers, texts and notices of rounds, and of one more
+journals_more : (made : List DayRound) (r : DayRound) → journals_of (made ++ r ∷ []) ≡ journals_of made ++ r.journal ∷ []
+journals_more made r = map-append (λ (x : DayRound). x.journal) made (r ∷ [])
+
+flat_more : {X A : Type 0} (f : X → List A) (xs : List X) (x : X) → flat_map f (xs ++ x ∷ []) ≡ flat_map f xs ++ f x
+flat_more f xs x = flat_map-append f xs (x ∷ []) ∙ ap (λ t. flat_map f xs ++ t) (append-nil (f x))
+
 module _ (settings : Settings) (roads : Roads) where
   -- a run of rounds, and a run of one more
-  pub run-more : (s : State) (position : ℕ) (rs : List NumberedLanes) (js : List Journal) (r : NumberedLanes) (j : Journal)
+  run-more : (s : State) (position : ℕ) (rs : List NumberedLanes) (js : List Journal) (r : NumberedLanes) (j : Journal)
       → IsRun settings roads s position rs js → j.base ≡ state_after_run roads.nodes settings.wait s js → j.first ≡ position_after_run position js → IsRoundRun settings roads r j
       → IsRun settings roads s position (rs ++ r ∷ []) (js ++ j ∷ [])
   run-more s position [] [] r j run base first round = (base, first, round, tt)
@@ -107,73 +111,113 @@ module _ (settings : Settings) (roads : Roads) where
   state_after_run-more s [] j = refl
   state_after_run-more s (k ∷ js) j = state_after_run-more (state_after roads.nodes settings.wait s k.entries) js j
 
-  -- the texts of rounds, and of one more
-  pub rounds_text-more : (s : State) (position : ℕ) (rs : List NumberedLanes) (js : List Journal) (r : NumberedLanes) (j : Journal)
-      → IsRun settings roads s position rs js → rounds_text settings (rs ++ r ∷ []) (js ++ j ∷ []) ≡ rounds_text settings rs js ++ added_text settings.mode settings.proof r.number j
-  rounds_text-more s position [] [] r j run = append-nil (added_text settings.mode settings.proof r.number j)
-  rounds_text-more s position [] (k ∷ js) r j run = absurd run
-  rounds_text-more s position (q ∷ rs) [] r j run = absurd run
-  rounds_text-more s position (q ∷ rs) (k ∷ js) r j run =
-      ap (λ t. added_text settings.mode settings.proof q.number k ++ t) (rounds_text-more (state_after roads.nodes settings.wait s k.entries) (next_position position k.entries) rs js r j run.3)
-      ∙ sym (append_assoc (added_text settings.mode settings.proof q.number k) (rounds_text settings rs js) (added_text settings.mode settings.proof r.number j))
+  -- no round, and one round more
+  pub put_none : (a : Option (List ℕ)) (n : List NotifierView) → HasPut settings roads [] a a n n
+  put_none a n = record { text = Appends-nil a; told = all-heard-nothing n }
 
-  -- the notices of a run, and of one more journal
-  pub run_notices-more : (js : List Journal) (j : Journal) → run_notices settings roads (js ++ j ∷ []) ≡ run_notices settings roads js ++ notices roads.nodes settings.wait j
-  run_notices-more [] j = append-nil (notices roads.nodes settings.wait j)
-  run_notices-more (k ∷ js) j =
-      ap (λ ns. notices roads.nodes settings.wait k ++ ns) (run_notices-more js j)
-      ∙ sym (append_assoc (notices roads.nodes settings.wait k) (run_notices settings roads js) (notices roads.nodes settings.wait j))
+  pub put_more : (made : List DayRound) (r : DayRound) (a b c : Option (List ℕ)) (n m k : List NotifierView) → HasPut settings roads made a b n m → PutsRound settings roads r b c m k → HasPut settings roads (made ++ r ∷ []) a c n k
+  put_more made r a b c n m k w x =
+      record {
+        text =
+            subst (λ t. Appends a c t) (sym (flat_more (added_text settings.mode settings.proof) made r))
+            (Appends-trans a b c (rounds_text settings made) (added_text settings.mode settings.proof r) w.text x.text);
+        told =
+            subst (λ t. HaveHeard t n k) (sym (flat_more (λ (x : DayRound). notices roads.nodes settings.wait x.journal) made r))
+            (all-heard-more (rounds_notices settings roads made) (notices roads.nodes settings.wait r.journal) n m k w.told x.told);
+      }
 
-  -- what stands after some rounds: their journals, texts and notices, and the book that comes next
+  -- a round that is put out next, and one that isn't
+  pub put_next : (rounds : List DayRound) (i : ℕ) (r : DayRound) (a b c : Option (List ℕ)) (n m k : List NotifierView) → i < length rounds → r ≡ get_or rounds i r
+      → HasPut settings roads (take i rounds) a b n m → PutsRound settings roads r b c m k → HasPut settings roads (take (i + 1) rounds) a c n k
+  put_next rounds i r a b c n m k within is w x =
+      subst (λ rs. HasPut settings roads rs a c n k) (take_next rounds i r within is) (put_more (take i rounds) r a b c n m k w x)
+
+  pub stops_next : (rounds : List DayRound) (i : ℕ) (r : DayRound) (a b c : Option (List ℕ)) (n m k : List NotifierView) (low middle high : ℕ) (s : RunStatus) → i < length rounds → r ≡ get_or rounds i r
+      → low ≤ middle → HasPut settings roads (take i rounds) a b n m → IsUnput settings roads r b c m k middle high s → StopsIn settings roads rounds a c n k low high s
+  stops_next rounds i r a b c n m k low middle high s within is up w why =
+      record {
+        made = take i rounds;
+        next = r;
+        first = (drop (i + 1) rounds, ap (λ xs. xs ++ drop (i + 1) rounds) (take_next rounds i r within is) ∙ take-append-drop (i + 1) rounds);
+        here = b;
+        heard = m;
+        faults = middle;
+        puts = w;
+        up = up;
+        why = why;
+      }
+
+  pub position_next : (rounds : List DayRound) (i : ℕ) (r : DayRound) (p q : ℕ) → i < length rounds → r ≡ get_or rounds i r
+      → p ≡ position_after_run 0 (journals_of (take i rounds)) → q ≡ next_position p r.journal.entries → q ≡ position_after_run 0 (journals_of (take (i + 1) rounds))
+  position_next rounds i r p q within is at step =
+      step ∙ ap (λ x. next_position x r.journal.entries) at ∙ sym (position_after_run-more 0 (journals_of (take i rounds)) r.journal)
+      ∙ ap (position_after_run 0) (sym (journals_more (take i rounds) r)) ∙ ap (λ rs. position_after_run 0 (journals_of rs)) (take_next rounds i r within is)
+
+  -- all rounds are put out
+  pub put_whole : (rounds : List DayRound) (i : ℕ) (a b : Option (List ℕ)) (n m : List NotifierView) (p : ℕ) → i ≡ length rounds
+      → HasPut settings roads (take i rounds) a b n m → p ≡ position_after_run 0 (journals_of (take i rounds))
+      → HasPut settings roads rounds a b n m × (p ≡ position_after_run 0 (journals_of rounds))
+  put_whole rounds i a b n m p end w at =
+      let all : take i rounds ≡ rounds = ap (λ k. take k rounds) end ∙ take-length rounds in
+      (subst (λ rs. HasPut settings roads rs a b n m) all w, at ∙ ap (λ rs. position_after_run 0 (journals_of rs)) all)
+
+  -- what stands before the last lines of a day, and that they are its last lines
+  pub day_end : (run : DayRun) (rounds : List DayRound) (a b : Option (List ℕ)) (n m : List NotifierView) (p : ℕ) (counts : DayCounts) → rounds ≡ run.rounds → counts ≡ day_counts run
+      → HasPut settings roads rounds a b n m × (p ≡ position_after_run 0 (journals_of rounds))
+      → HasPut settings roads run.rounds a b n m × (day_end_text counts p ≡ day_ending run)
+  day_end run rounds a b n m p counts same counted (w, at) = (
+    subst (λ rs. HasPut settings roads rs a b n m) same w,
+    ap (λ k. day_end_text k p) counted ∙ ap (day_end_text (day_counts run)) (at ∙ ap (λ rs. position_after_run 0 (journals_of rs)) same),
+  )
+
+  -- what stands after some rounds of a run: those that were made, and the book that comes next
   pub record HasWritten (book : BookView) (rounds : List NumberedLanes) (before after : Option (List ℕ)) (notifiers left : List NotifierView) (current : BookView) : Type 0 where
-    pub journals : List Journal
-    pub run : IsRun settings roads book.base book.first rounds journals
-    pub text : Appends before after (rounds_text settings rounds journals)
-    pub told : HaveHeard (run_notices settings roads journals) notifiers left
+    pub made : List DayRound
+    pub runs : RunsFrom settings roads book rounds made
+    pub puts : HasPut settings roads made before after notifiers left
     pub ready : IsReady settings roads current
-    pub base : current.base ≡ state_after_run roads.nodes settings.wait book.base journals
-    pub first : current.first ≡ position_after_run book.first journals
+    pub base : current.base ≡ state_after_run roads.nodes settings.wait book.base (journals_of made)
+    pub first : current.first ≡ position_after_run book.first (journals_of made)
     pub entries : current.entries ≡ []
 
   pub written_none : (book : BookView) (a : Option (List ℕ)) (n : List NotifierView) → book.entries ≡ [] → IsReady settings roads book → HasWritten book [] a a n n book
   written_none book a n empty ready =
-      record { journals = []; run = tt; text = Appends-nil a; told = all-heard-nothing n; ready = ready; base = refl; first = refl; entries = empty }
-
-  -- of no round anything is written
-  pub nothing_written : (book : BookView) (rounds : List NumberedLanes) (a : Option (List ℕ)) (n : List NotifierView) → IsRoundsPart settings roads book rounds a a n n
-  nothing_written book rounds a n = IsRoundsPart.whole 0 [] tt (Appends-nil a) (all-heard-nothing n)
+      record { made = []; runs = record { numbers = refl; run = tt }; puts = put_none a n; ready = ready; base = refl; first = refl; entries = empty }
 
   -- a journal of the round that comes next, seen from the book of the first
   next_run : (book current : BookView) (rounds : List NumberedLanes) (r : NumberedLanes) (a b : Option (List ℕ)) (n m : List NotifierView) (j : Journal)
       → (w : HasWritten book rounds a b n m current) → NextJournal settings roads current r j
-      → IsRun settings roads book.base book.first (rounds ++ r ∷ []) (w.journals ++ j ∷ [])
+      → RunsFrom settings roads book (rounds ++ r ∷ []) (w.made ++ made_of settings roads r j ∷ [])
   next_run book current rounds r a b n m j w is =
-      run-more book.base book.first rounds w.journals r j w.run (is.base ∙ w.base) (is.first ∙ w.first) is.run
+      record {
+        numbers =
+            map-append (λ (x : DayRound). x.number) w.made (made_of settings roads r j ∷ [])
+            ∙ ap (λ ns. ns ++ r.number ∷ []) w.runs.numbers ∙ sym (map-append (λ (x : NumberedLanes). x.number) rounds (r ∷ []));
+        run =
+            subst (IsRun settings roads book.base book.first (rounds ++ r ∷ [])) (sym (journals_more w.made (made_of settings roads r j)))
+            (run-more book.base book.first rounds (journals_of w.made) r j w.runs.run (is.base ∙ w.base) (is.first ∙ w.first) is.run);
+      }
 
-  pub written_more : (book current next : BookView) (rounds : List NumberedLanes) (r : NumberedLanes) (a b c : Option (List ℕ)) (n m k : List NotifierView)
+  written_more : (book current next : BookView) (rounds : List NumberedLanes) (r : NumberedLanes) (a b c : Option (List ℕ)) (n m k : List NotifierView)
       → HasWritten book rounds a b n m current → WritesRound settings roads current r b c m k next → HasWritten book (rounds ++ r ∷ []) a c n k next
   written_more book current next rounds r a b c n m k w x =
+      let made = made_of settings roads r x.journal in
+      let js = journals_of w.made in
       record {
-        journals = w.journals ++ x.journal ∷ [];
-        run = next_run book current rounds r a b n m x.journal w x.is;
-        text =
-            subst (λ t. Appends a c t) (sym (rounds_text-more book.base book.first rounds w.journals r x.journal w.run))
-            (Appends-trans a b c (rounds_text settings rounds w.journals) (added_text settings.mode settings.proof r.number x.journal) w.text x.text);
-        told =
-            subst (λ t. HaveHeard t n k) (sym (run_notices-more w.journals x.journal))
-            (all-heard-more (run_notices settings roads w.journals) (notices roads.nodes settings.wait x.journal) n m k w.told x.told);
+        made = w.made ++ made ∷ [];
+        runs = next_run book current rounds r a b n m x.journal w x.is;
+        puts = put_more w.made made a b c n m k w.puts x.puts;
         ready = x.ready;
         base =
             x.base
             ∙ ap (λ s. state_after roads.nodes settings.wait s x.journal.entries) w.base
-            ∙ sym (state_after_run-more book.base w.journals x.journal);
-        first = x.first ∙ ap (λ p. next_position p x.journal.entries) w.first ∙ sym (position_after_run-more book.first w.journals x.journal);
+            ∙ sym (state_after_run-more book.base js x.journal)
+            ∙ ap (state_after_run roads.nodes settings.wait book.base) (sym (journals_more w.made made));
+        first =
+            x.first ∙ ap (λ p. next_position p x.journal.entries) w.first ∙ sym (position_after_run-more book.first js x.journal)
+            ∙ ap (position_after_run book.first) (sym (journals_more w.made made));
         entries = x.entries;
       }
-
-  -- rounds up to the next one
-  take_next : (rounds : List NumberedLanes) (i : ℕ) (r : NumberedLanes) → i < length rounds → r ≡ get_or rounds i r → take i rounds ++ r ∷ [] ≡ take (i + 1) rounds
-  take_next rounds i r within is = ap (λ y. take i rounds ++ y ∷ []) is ∙ sym (rw add-one (take-suc rounds i r within))
 
   pub written_next : (book current next : BookView) (rounds : List NumberedLanes) (i : ℕ) (r : NumberedLanes) (a b c : Option (List ℕ)) (n m k : List NotifierView)
       → i < length rounds → r ≡ get_or rounds i r
@@ -185,97 +229,131 @@ module _ (settings : Settings) (roads : Roads) where
       → HasWritten book (take i rounds) a b n m current → HasWritten book rounds a b n m current
   written_whole book current rounds i a b n m end w = subst (λ rs. HasWritten book rs a b n m current) (ap (λ k. take k rounds) end ∙ take-length rounds) w
 
-  -- nothing of a round's text, and some of it
-  stays_part : (book current : BookView) (rounds : List NumberedLanes) (i : ℕ) (a b c : Option (List ℕ)) (n m : List NotifierView)
-      → HasWritten book (take i rounds) a b n m current → Keeps b c → IsRoundsPart settings roads book rounds a c n m
-  stays_part book current rounds i a b c n m w keeps =
-      IsRoundsPart.whole i w.journals w.run (Appends-kept a b c (rounds_text settings (take i rounds) w.journals) w.text keeps) w.told
+  module _ (P : List DayRound → Type 0) (Q : List DayRound → List ℕ → Type 0) where
+    -- nothing of a round's text, and some of it
+    stays_part : (made : List DayRound) (a b c : Option (List ℕ)) (n m : List NotifierView) → P made → HasPut settings roads made a b n m → Keeps b c → IsRoundsPart settings roads P Q a c n m
+    stays_part made a b c n m first w keeps = IsRoundsPart.whole made first (Appends-kept a b c (rounds_text settings made) w.text keeps) w.told
 
-  next_part : (book current : BookView) (rounds : List NumberedLanes) (i : ℕ) (r : NumberedLanes) (a b c : Option (List ℕ)) (n m : List NotifierView)
-      → i < length rounds → r ≡ get_or rounds i r
-      → HasWritten book (take i rounds) a b n m current → WritesPart settings roads current r b c → IsRoundsPart settings roads book rounds a c n m
-  unfolding begins_after begins_as
-  next_part book current rounds i r a b c n m within is w x =
-      let js = w.journals ++ x.journal ∷ [] in
-      let front = rounds_text settings (take i rounds) w.journals in
-      let back = added_text settings.mode settings.proof r.number x.journal in
-      let same : front ++ back ≡ rounds_text settings (take (i + 1) rounds) js =
-      sym (rounds_text-more book.base book.first (take i rounds) w.journals r x.journal w.run) ∙ ap (λ rs. rounds_text settings rs js) (take_next rounds i r within is) in
-      IsRoundsPart.next_round i w.journals x.journal
-      (subst (λ rs. IsRun settings roads book.base book.first rs js) (take_next rounds i r within is) (next_run book current (take i rounds) r a b n m x.journal w x.is))
-      (begins_as a c (front ++ back) (rounds_text settings (take (i + 1) rounds) js) same (begins_after a b c front back w.text x.part))
-      (omega (arith, length-append front x.part.written))
-      w.told
+    next_part : (made : List DayRound) (r : DayRound) (a b c : Option (List ℕ)) (n m : List NotifierView) → P (made ++ r ∷ []) → HasPut settings roads made a b n m
+        → Begins b c (added_text settings.mode settings.proof r) → IsRoundsPart settings roads P Q a c n m
+    unfolding begins_after begins_as
+    next_part made r a b c n m first w part =
+        let front = rounds_text settings made in
+        let back = added_text settings.mode settings.proof r in
+        IsRoundsPart.next_round made r first
+        (begins_as a c (front ++ back) (rounds_text settings (made ++ r ∷ [])) (sym (flat_more (added_text settings.mode settings.proof) made r)) (begins_after a b c front back w.text part))
+        (omega (arith, length-append front part.written))
+        w.told
 
-  -- the same of other notifiers
-  left_as : (book : BookView) (rounds : List NumberedLanes) (a b : Option (List ℕ)) (n m k : List NotifierView) → k ≡ m → IsRoundsPart settings roads book rounds a b n m → IsRoundsPart settings roads book rounds a b n k
-  left_as book rounds a b n m k same part = subst (IsRoundsPart settings roads book rounds a b n) (sym same) part
+    -- the same of other notifiers
+    left_as : (a b : Option (List ℕ)) (n m k : List NotifierView) → k ≡ m → IsRoundsPart settings roads P Q a b n m → IsRoundsPart settings roads P Q a b n k
+    left_as a b n m k same part = subst (IsRoundsPart settings roads P Q a b n) (sym same) part
 
-  -- a round that wasn't written whole
+    -- a round that wasn't written whole
+    unput_by : (made : List DayRound) (r : DayRound) (a b c : Option (List ℕ)) (n m k : List NotifierView) (low middle high : ℕ) (s : RunStatus)
+        → P (made ++ r ∷ []) → HasPut settings roads made a b n m → low ≤ middle → IsTextFault (added_text settings.mode settings.proof r) b c middle high s → k ≡ m
+        → IsRoundsFault settings roads P Q a c n k low high s
+    unput_by made r a b c n m k low middle high WriteFault first w up why same =
+        (omega (arith, why.0, up), inl (left_as a c n m k same (next_part made r a b c n m first w why.1)))
+    unput_by made r a b c n m k low middle high OutOfMemory first w up why same = left_as a c n m k same (next_part made r a b c n m first w why)
+    unput_by made r a b c n m k low middle high Done first w up why same = absurd why
+    unput_by made r a b c n m k low middle high (Words fault) first w up why same = absurd why
+    unput_by made r a b c n m k low middle high (Network fault) first w up why same = absurd why
+    unput_by made r a b c n m k low middle high (Fleet fault) first w up why same = absurd why
+    unput_by made r a b c n m k low middle high (Script fault) first w up why same = absurd why
+    unput_by made r a b c n m k low middle high (TooLong f) first w up why same = absurd why
+    unput_by made r a b c n m k low middle high (ReadFault f) first w up why same = absurd why
+    unput_by made r a b c n m k low middle high (Day fault) first w up why same = absurd why
+    unput_by made r a b c n m k low middle high (TooLate round late) first w up why same = absurd why
+
+    pub unput_fault : (made : List DayRound) (r : DayRound) (a b c : Option (List ℕ)) (n m k : List NotifierView) (low middle high : ℕ) (s : RunStatus)
+        → P (made ++ r ∷ []) → HasPut settings roads made a b n m → low ≤ middle → IsUnput settings roads r b c m k middle high s → IsRoundsFault settings roads P Q a c n k low high s
+    unput_fault made r a b c n m k low middle high s first w up why = unput_by made r a b c n m k low middle high s first w up why.part why.told
+
+    pub stops_fault : (rounds : List DayRound) (a b : Option (List ℕ)) (n m : List NotifierView) (low high : ℕ) (s : RunStatus) → ((made : List DayRound) → BeginsRounds rounds made → P made)
+        → StopsIn settings roads rounds a b n m low high s → IsRoundsFault settings roads P Q a b n m low high s
+    stops_fault rounds a b n m low high s firsts stop =
+        unput_fault stop.made stop.next a stop.here b n stop.heard m low stop.faults high s (firsts (stop.made ++ stop.next ∷ []) stop.first) stop.puts stop.up stop.why
+
+    -- all rounds and the last lines are written
+    pub written_all : (made : List DayRound) (end : List ℕ) (a b c : Option (List ℕ)) (n m : List NotifierView) → Q made end → HasPut settings roads made a b n m → Appends b c end → WritesRounds settings roads P Q a c n m
+    written_all made end a b c n m report w last =
+        record { made = made; end = end; report = report; text = Appends-trans a b c (rounds_text settings made) end w.text last; told = w.told }
+
+    pub lacks_end : (made : List DayRound) (end : List ℕ) (a b c : Option (List ℕ)) (n m : List NotifierView) → Q made end → HasPut settings roads made a b n m → AppendsPart b c end → IsRoundsPart settings roads P Q a c n m
+    unfolding begins_after
+    lacks_end made end a b c n m report w part =
+        let front = rounds_text settings made in
+        let x = begins_part b c end part in
+        IsRoundsPart.last_lines made end report (begins_after a b c front end w.text x.0) (omega (arith, length-append front x.0.written)) x.1 w.told
+
+    -- a text that wasn't written whole, as that of the last lines
+    pub end_unwritten : (a b : Option (List ℕ)) (n m : List NotifierView) (low middle high : ℕ) (fault : ReportFault) (s : RunStatus)
+        → s ≡ status_of fault → IsRoundsPart settings roads P Q a b n m → low ≤ middle → (fault ≡ report.WriteFault → Rose middle high) → IsRoundsFault settings roads P Q a b n m low high s
+    end_unwritten a b n m low middle high report.WriteFault s is lacks up rose =
+        let rises : Rose middle high = rose refl in
+        subst (IsRoundsFault settings roads P Q a b n m low high) (sym is) (omega (arith, rises, up), inl lacks)
+    end_unwritten a b n m low middle high report.OutOfMemory s is lacks up rose = subst (IsRoundsFault settings roads P Q a b n m low high) (sym is) lacks
+
+    kept_rounds : (a b c : Option (List ℕ)) (n m : List NotifierView) → WritesRounds settings roads P Q a b n m → Keeps b c → WritesRounds settings roads P Q a c n m
+    kept_rounds a b c n m w keeps =
+        record { made = w.made; end = w.end; report = w.report; text = Appends-kept a b c (rounds_text settings w.made ++ w.end) w.text keeps; told = w.told }
+
+    -- the last lines were written, and flushed or not
+    pub flushed_end : (a b c : Option (List ℕ)) (n m : List NotifierView) (low middle high : ℕ) (r : Result (Unit {0}) RunStatus)
+        → low ≤ middle → WritesRounds settings roads P Q a b n m → IsFlushed b c middle high r
+        → MatchResult r (λ _. WritesRounds settings roads P Q a c n m) (IsRoundsFault settings roads P Q a c n m low high)
+    flushed_end a b c n m low middle high (Ok x) up w f = kept_rounds a b c n m w f.bytes
+    flushed_end a b c n m low middle high (Err s) up w f =
+        subst (IsRoundsFault settings roads P Q a c n m low high) (sym f.fault.0)
+        (omega (arith, f.fault.1, up), inr (kept_rounds a b c n m w f.bytes))
+
+    -- the first lines, and what became of the rounds behind them
+    pub behind_head : (head : List ℕ) (a b c : Option (List ℕ)) (n m : List NotifierView) (low middle high : ℕ) (r : Result (Unit {0}) RunStatus) → Appends a b head → low ≤ middle
+        → MatchResult r (λ _. WritesRounds settings roads P Q b c n m) (IsRoundsFault settings roads P Q b c n m middle high)
+        → MatchResult r (λ _. WritesReport settings roads P Q head a c n m) (IsReportFault settings roads P Q head a c n m low high)
+    behind_head head a b c n m low middle high (Ok x) first up w = record { here = b; first = first; rounds = w }
+    behind_head head a b c n m low middle high (Err s) first up why = IsReportFault.behind s b middle first up why
+
+  -- the first rounds of a run, and all of them with the last line
+  abbrev pub RunPart : BookView → List NumberedLanes → Option (List ℕ) → Option (List ℕ) → List NotifierView → List NotifierView → Type 0
+  RunPart book rounds a b n m = IsRoundsPart settings roads (RunsFirst settings roads book rounds) (RunsAll settings roads book rounds) a b n m
+
+  abbrev pub RunFault : BookView → List NumberedLanes → Option (List ℕ) → Option (List ℕ) → List NotifierView → List NotifierView → ℕ → ℕ → RunStatus → Type 0
+  RunFault book rounds a b n m low high s = IsRoundsFault settings roads (RunsFirst settings roads book rounds) (RunsAll settings roads book rounds) a b n m low high s
+
+  abbrev pub WritesRun : BookView → List NumberedLanes → Option (List ℕ) → Option (List ℕ) → List NotifierView → List NotifierView → Type 0
+  WritesRun book rounds a b n m = WritesRounds settings roads (RunsFirst settings roads book rounds) (RunsAll settings roads book rounds) a b n m
+
+  -- a round of a run that wasn't run or written whole
   pub round_fault : (book current : BookView) (rounds : List NumberedLanes) (i : ℕ) (r : NumberedLanes) (a b c : Option (List ℕ)) (n m k : List NotifierView) (low middle high : ℕ) (s : RunStatus)
       → i < length rounds → r ≡ get_or rounds i r → low ≤ middle
-      → HasWritten book (take i rounds) a b n m current → IsRoundFault settings roads current r b c m k middle high s → IsRoundsFault settings roads book rounds a c n k low high s
-  round_fault book current rounds i r a b c n m k low middle high WriteFault within is up w why =
-      (omega (arith, why.0, up), inl (left_as book rounds a c n m k why.2 (next_part book current rounds i r a b c n m within is w why.1)))
-  round_fault book current rounds i r a b c n m k low middle high OutOfMemory within is up w (inl keeps, same) =
-      left_as book rounds a c n m k same (stays_part book current rounds i a b c n m w keeps)
-  round_fault book current rounds i r a b c n m k low middle high OutOfMemory within is up w (inr part, same) =
-      left_as book rounds a c n m k same (next_part book current rounds i r a b c n m within is w part)
-  round_fault book current rounds i r a b c n m k low middle high Done within is up w why = absurd why
-  round_fault book current rounds i r a b c n m k low middle high (Words fault) within is up w why = absurd why
-  round_fault book current rounds i r a b c n m k low middle high (Network fault) within is up w why = absurd why
-  round_fault book current rounds i r a b c n m k low middle high (Fleet fault) within is up w why = absurd why
-  round_fault book current rounds i r a b c n m k low middle high (Script fault) within is up w why = absurd why
-  round_fault book current rounds i r a b c n m k low middle high (TooLong f) within is up w why = absurd why
-  round_fault book current rounds i r a b c n m k low middle high (ReadFault f) within is up w why = absurd why
+      → HasWritten book (take i rounds) a b n m current → IsRoundFault settings roads current r b c m k middle high s → RunFault book rounds a c n k low high s
+  round_fault book current rounds i r a b c n m k low middle high _ within is up w (IsRoundFault.unrun keeps same) =
+      let P = RunsFirst settings roads book rounds in
+      let Q = RunsAll settings roads book rounds in
+      left_as P Q a c n m k same (stays_part P Q w.made a b c n m (i, w.runs) w.puts keeps)
+  round_fault book current rounds i r a b c n m k low middle high _ within is up w (IsRoundFault.unput j s next why) =
+      let made = made_of settings roads r j in
+      unput_fault (RunsFirst settings roads book rounds) (RunsAll settings roads book rounds) w.made made a b c n m k low middle high s
+      (i + 1, subst (λ rs. RunsFrom settings roads book rs (w.made ++ made ∷ [])) (take_next rounds i r within is) (next_run book current (take i rounds) r a b n m j w next))
+      w.puts up why
 
-  -- the last line's number, from the book behind all rounds
-  last_number : (book current : BookView) (rounds : List NumberedLanes) (a b : Option (List ℕ)) (n m : List NotifierView) → (w : HasWritten book rounds a b n m current)
-      → next_position current.first current.entries ≡ next_position (position_after_run book.first w.journals) []
-  last_number book current rounds a b n m w = ap (λ p. next_position p current.entries) w.first ∙ ap (λ es. next_position (position_after_run book.first w.journals) es) w.entries
+  -- the last line, from the book behind all rounds
+  runs_all : (book current : BookView) (rounds : List NumberedLanes) (a b : Option (List ℕ)) (n m : List NotifierView) (number : ℕ)
+      → (w : HasWritten book rounds a b n m current) → number ≡ next_position current.first current.entries → RunsAll settings roads book rounds w.made (end_text number)
+  runs_all book current rounds a b n m number w is =
+      (w.runs, ap end_text (is ∙ ap (λ p. next_position p current.entries) w.first ∙ ap (λ es. next_position (position_after_run book.first (journals_of w.made)) es) w.entries))
 
-  pub written_all : (book current : BookView) (rounds : List NumberedLanes) (a b c : Option (List ℕ)) (n m : List NotifierView) (number : ℕ)
-      → HasWritten book rounds a b n m current → number ≡ next_position current.first current.entries → Appends b c (end_text number) → WritesRounds settings roads book rounds a c n m
-  written_all book current rounds a b c n m number w is last =
-      record {
-        journals = w.journals;
-        run = w.run;
-        text =
-            Appends-trans a b c (rounds_text settings rounds w.journals) (end_text (next_position (position_after_run book.first w.journals) [])) w.text
-            (subst (λ x. Appends b c (end_text x)) (is ∙ last_number book current rounds a b n m w) last);
-        told = w.told;
-      }
+  pub run_written : (book current : BookView) (rounds : List NumberedLanes) (a b c : Option (List ℕ)) (n m : List NotifierView) (number : ℕ)
+      → HasWritten book rounds a b n m current → number ≡ next_position current.first current.entries → Appends b c (end_text number) → WritesRun book rounds a c n m
+  run_written book current rounds a b c n m number w is last =
+      written_all (RunsFirst settings roads book rounds) (RunsAll settings roads book rounds) w.made (end_text number) a b c n m (runs_all book current rounds a b n m number w is) w.puts last
 
-  pub lacks_end : (book current : BookView) (rounds : List NumberedLanes) (a b c : Option (List ℕ)) (n m : List NotifierView) (number : ℕ)
-      → HasWritten book rounds a b n m current → number ≡ next_position current.first current.entries → AppendsPart b c (end_text number) → IsRoundsPart settings roads book rounds a c n m
-  unfolding begins_after
-  lacks_end book current rounds a b c n m number w is part =
-      let front = rounds_text settings rounds w.journals in
-      let line = end_text (next_position (position_after_run book.first w.journals) []) in
-      let x = begins_part b c line (subst (λ k. AppendsPart b c (end_text k)) (is ∙ last_number book current rounds a b n m w) part) in
-      IsRoundsPart.last_line w.journals w.run (begins_after a b c front line w.text x.0) (omega (arith, length-append front x.0.written)) x.1 w.told
-
-  -- a text that wasn't written whole, as the last line's
-  pub end_unwritten : (book : BookView) (rounds : List NumberedLanes) (a b : Option (List ℕ)) (n m : List NotifierView) (low middle high : ℕ) (fault : ReportFault) (s : RunStatus)
-      → s ≡ status_of fault → IsRoundsPart settings roads book rounds a b n m → low ≤ middle → (fault ≡ report.WriteFault → Rose middle high) → IsRoundsFault settings roads book rounds a b n m low high s
-  end_unwritten book rounds a b n m low middle high report.WriteFault s is lacks up rose =
-      let rises : Rose middle high = rose refl in
-      subst (IsRoundsFault settings roads book rounds a b n m low high) (sym is) (omega (arith, rises, up), inl lacks)
-  end_unwritten book rounds a b n m low middle high report.OutOfMemory s is lacks up rose = subst (IsRoundsFault settings roads book rounds a b n m low high) (sym is) lacks
-
-  kept_rounds : (book : BookView) (rounds : List NumberedLanes) (a b c : Option (List ℕ)) (n m : List NotifierView) → WritesRounds settings roads book rounds a b n m → Keeps b c → WritesRounds settings roads book rounds a c n m
-  kept_rounds book rounds a b c n m w keeps =
-      let text = rounds_text settings rounds w.journals ++ end_text (next_position (position_after_run book.first w.journals) []) in
-      record { journals = w.journals; run = w.run; text = Appends-kept a b c text w.text keeps; told = w.told }
-
-  -- the last line was written, and flushed or not
-  pub flushed_end : (book : BookView) (rounds : List NumberedLanes) (a b c : Option (List ℕ)) (n m : List NotifierView) (low middle high : ℕ) (r : Result (Unit {0}) RunStatus)
-      → low ≤ middle → WritesRounds settings roads book rounds a b n m → IsFlushed b c middle high r
-      → MatchResult r (λ _. WritesRounds settings roads book rounds a c n m) (IsRoundsFault settings roads book rounds a c n m low high)
-  flushed_end book rounds a b c n m low middle high (Ok x) up w f = kept_rounds book rounds a b c n m w f.bytes
-  flushed_end book rounds a b c n m low middle high (Err s) up w f =
-      subst (IsRoundsFault settings roads book rounds a c n m low high) (sym f.fault.0)
-      (omega (arith, f.fault.1, up), inr (kept_rounds book rounds a b c n m w f.bytes))
+  pub run_lacks_end : (book current : BookView) (rounds : List NumberedLanes) (a b c : Option (List ℕ)) (n m : List NotifierView) (number : ℕ)
+      → HasWritten book rounds a b n m current → number ≡ next_position current.first current.entries → AppendsPart b c (end_text number) → RunPart book rounds a c n m
+  run_lacks_end book current rounds a b c n m number w is part =
+      lacks_end (RunsFirst settings roads book rounds) (RunsAll settings roads book rounds) w.made (end_text number) a b c n m (runs_all book current rounds a b n m number w is) w.puts part
 
   -- the journal that a round's book gives up, seen from the book before the round
   pub next_journal : (book after : BookView) (r : NumberedLanes) (j : Journal) → IsRoundRun settings roads r (journal_of after) → IsSameRun book after → j ≡ journal_of after → NextJournal settings roads book r j
@@ -286,17 +364,25 @@ module _ (settings : Settings) (roads : Roads) where
         base = ap (λ k. k.base) is ∙ same.base;
       }
 
+  -- the same of a round whose number is another's
+  pub puts_numbered : (p q : ℕ) (j : Journal) (a b : Option (List ℕ)) (n m : List NotifierView) → p ≡ q
+      → PutsRound settings roads (record { number = p; journal = j }) a b n m → PutsRound settings roads (record { number = q; journal = j }) a b n m
+  puts_numbered p q j a b n m same w = subst (λ k. PutsRound settings roads (record { number = k; journal = j }) a b n m) same w
+
+  pub unput_numbered : (p q : ℕ) (j : Journal) (a b : Option (List ℕ)) (n m : List NotifierView) (low high : ℕ) (s : RunStatus) → p ≡ q
+      → IsUnput settings roads (record { number = p; journal = j }) a b n m low high s → IsUnput settings roads (record { number = q; journal = j }) a b n m low high s
+  unput_numbered p q j a b n m low high s same why = subst (λ k. IsUnput settings roads (record { number = k; journal = j }) a b n m low high s) same why
+
   -- a round, run and written
   pub wrote_round : (book after next : BookView) (r : NumberedLanes) (a b : Option (List ℕ)) (n m : List NotifierView) (j : Journal)
       → IsRoundRun settings roads r (journal_of after) → IsSameRun book after → IsBook after → IsReady settings roads after → j ≡ journal_of after
       → next ≡ record { nodes = after.nodes; wait = after.wait; first = next_position after.first after.entries; base = after.state; entries = []; state = after.state; spare = 0 }
-      → Appends a b (added_text settings.mode settings.proof r.number j) → HaveHeard (notices roads.nodes settings.wait j) n m → WritesRound settings roads book r a b n m next
-  wrote_round book after next r a b n m j run same kept ready is emptied text told =
+      → PutsRound settings roads (made_of settings roads r j) a b n m → WritesRound settings roads book r a b n m next
+  wrote_round book after next r a b n m j run same kept ready is emptied puts =
       record {
         journal = j;
         is = next_journal book after r j run same is;
-        text = text;
-        told = told;
+        puts = puts;
         ready = record {
           nodes = ap (λ k. k.nodes) emptied ∙ ready.nodes;
           wait = ap (λ k. k.wait) emptied ∙ ready.wait;
@@ -312,25 +398,6 @@ module _ (settings : Settings) (roads : Roads) where
         entries = ap (λ k. k.entries) emptied;
       }
 
-  -- a round that was written, and whose notices weren't told
-  pub round_untold : (book : BookView) (r : NumberedLanes) (a b : Option (List ℕ)) (n m : List NotifierView) (low high : ℕ) (j : Journal) → NextJournal settings roads book r j
-      → Appends a b (added_text settings.mode settings.proof r.number j) → m ≡ n → IsRoundFault settings roads book r a b n m low high OutOfMemory
-  round_untold book r a b n m low high j is text same =
-      (inr (record { journal = j; is = is; part = begins_whole a b (added_text settings.mode settings.proof r.number j) text }), same)
-
-  -- a round that was run, and whose text wasn't written and flushed
-  pub round_unwritten : (book : BookView) (r : NumberedLanes) (a b : Option (List ℕ)) (n : List NotifierView) (low high : ℕ) (j : Journal) (s : RunStatus) → NextJournal settings roads book r j
-      → IsTextFault (added_text settings.mode settings.proof r.number j) a b low high s → IsRoundFault settings roads book r a b n n low high s
-  round_unwritten book r a b n low high j WriteFault is why = (why.0, record { journal = j; is = is; part = why.1 }, refl)
-  round_unwritten book r a b n low high j OutOfMemory is why = (inr (record { journal = j; is = is; part = why }), refl)
-  round_unwritten book r a b n low high j Done is why = absurd why
-  round_unwritten book r a b n low high j (Words fault) is why = absurd why
-  round_unwritten book r a b n low high j (Network fault) is why = absurd why
-  round_unwritten book r a b n low high j (Fleet fault) is why = absurd why
-  round_unwritten book r a b n low high j (Script fault) is why = absurd why
-  round_unwritten book r a b n low high j (TooLong f) is why = absurd why
-  round_unwritten book r a b n low high j (ReadFault f) is why = absurd why
-
 -- a text that was written, and flushed or not
 pub text_flushed : (text : List ℕ) (a b c : Option (List ℕ)) (low middle high : ℕ) (r : Result (Unit {0}) RunStatus) → low ≤ middle → Appends a b text → IsFlushed b c middle high r
     → MatchResult r (λ _. Appends a c text) (IsTextFault text a c low high)
@@ -345,19 +412,13 @@ text_unwritten text a b low high report.OutOfMemory s is part rose = subst (IsTe
 
 -- the text before the first round
 abbrev pub head_of : Inputs → List ℕ
-head_of i = first_text i.settings.mode i.settings i.roads i.vehicles
+head_of i = first_text i.settings.mode i.settings i.roads (length i.vehicles)
 
-pub head_unwritten : (i : Inputs) (a b : Option (List ℕ)) (n : List NotifierView) (low high : ℕ) (fault : ReportFault) (s : RunStatus)
-    → s ≡ status_of fault → AppendsPart a b (head_of i) → (fault ≡ report.WriteFault → Rose low high) → IsWritingFault i a b n n low high s
-head_unwritten i a b n low high report.WriteFault s is part rose =
-    subst (IsWritingFault i a b n n low high) (sym is) (rose refl, inl (IsPart.head (begins_part a b (head_of i) part).0 refl))
-head_unwritten i a b n low high report.OutOfMemory s is part rose =
-    subst (IsWritingFault i a b n n low high) (sym is) (IsPart.head (begins_part a b (head_of i) part).0 refl)
+-- nothing is written
+pub nothing_written : (i : Inputs) (a : Option (List ℕ)) (n : List NotifierView) → IsPart i a a n n
+nothing_written i a n = IsPart.head (record { written = []; unwritten = head_of i; whole = refl; appends = Appends-nil a }) refl
 
-pub head_alone : (i : Inputs) (a b : Option (List ℕ)) (n : List NotifierView) → Appends a b (head_of i) → IsPart i a b n n
-head_alone i a b n whole = IsPart.head (begins_whole a b (head_of i) whole) refl
-
--- the book of a run before its first round
+-- the book of a call before its first round
 abbrev pub opened : Inputs → BookView
 opened i = record { nodes = i.roads.nodes; wait = i.settings.wait; first = 0; base = opening i.vehicles; entries = []; state = opening i.vehicles; spare = 0 }
 
@@ -365,60 +426,192 @@ opened i = record { nodes = i.roads.nodes; wait = i.settings.wait; first = 0; ba
 last_position : (js : List Journal) → next_position (position_after_run 0 js) [] ≡ position_after_run 0 js
 last_position js = omega (arith, position_after_run-most 0 js (omega arith))
 
-pub report_whole : (i : Inputs) (a b c : Option (List ℕ)) (n m : List NotifierView) → Appends a b (head_of i) → WritesRounds i.settings i.roads (opened i) i.rounds b c n m → IsWhole i a c n m
-report_whole i a b c n m head w =
-    let texts = rounds_text i.settings i.rounds w.journals in
+-- where rounds are the first of those of a call, and are all of them with the last lines
+pub record Serves (i : Inputs) (P : List DayRound → Type 0) (Q : List DayRound → List ℕ → Type 0) : Type 0 where
+  pub first : (made : List DayRound) → P made → AreFirst i.settings.mode i made
+  pub all : (made : List DayRound) (end : List ℕ) → Q made end → IsReport i made end
+
+module _ (i : Inputs) (P : List DayRound → Type 0) (Q : List DayRound → List ℕ → Type 0) (serves : Serves i P Q) where
+  report_whole : (a b c : Option (List ℕ)) (n m : List NotifierView) → Appends a b (head_of i) → WritesRounds i.settings i.roads P Q b c n m → IsWhole i a c n m
+  report_whole a b c n m head w =
+      let texts = rounds_text i.settings w.made in
+      record {
+        made = w.made;
+        end = w.end;
+        report = serves.all w.made w.end w.report;
+        text = subst (Appends a c) (sym (append_assoc (head_of i) texts w.end)) (Appends-trans a b c (head_of i) (texts ++ w.end) head w.text);
+        told = w.told;
+      }
+
+  part_of_rounds : (a b c : Option (List ℕ)) (n m : List NotifierView) → Appends a b (head_of i) → IsRoundsPart i.settings i.roads P Q b c n m → IsPart i a c n m
+  unfolding begins_after begins_as
+  part_of_rounds a b c n m head (IsRoundsPart.whole made first text told) =
+      IsPart.rounds made (serves.first made first) (Appends-trans a b c (head_of i) (rounds_text i.settings made) head text) told
+  part_of_rounds a b c n m head (IsRoundsPart.next_round made next first text front told) =
+      IsPart.next_round made next (serves.first (made ++ next ∷ []) first) (begins_after a b c (head_of i) (rounds_text i.settings (made ++ next ∷ [])) head text)
+      (omega (arith, length-append (head_of i) (rounds_text i.settings made), length-append (head_of i) text.written, front)) told
+  part_of_rounds a b c n m head (IsRoundsPart.last_lines made end report text front lacks told) =
+      let texts = rounds_text i.settings made in
+      IsPart.last_lines made end (serves.all made end report)
+      (begins_as a c (head_of i ++ (texts ++ end)) (begun_text i made ++ end) (sym (append_assoc (head_of i) texts end)) (begins_after a b c (head_of i) (texts ++ end) head text))
+      (omega (arith, length-append (head_of i) texts, length-append (head_of i) text.written, front)) lacks told
+
+  rounds_unwritten : (a b c : Option (List ℕ)) (n m : List NotifierView) (low middle high : ℕ) (s : RunStatus) → Appends a b (head_of i) → low ≤ middle
+      → IsRoundsFault i.settings i.roads P Q b c n m middle high s → IsWritingFault i a c n m low high s
+  rounds_unwritten a b c n m low middle high WriteFault head up (rose, inl part) = (omega (arith, rose, up), inl (part_of_rounds a b c n m head part))
+  rounds_unwritten a b c n m low middle high WriteFault head up (rose, inr all) = (omega (arith, rose, up), inr (report_whole a b c n m head all))
+  rounds_unwritten a b c n m low middle high OutOfMemory head up why = part_of_rounds a b c n m head why
+  rounds_unwritten a b c n m low middle high Done head up why = absurd why
+  rounds_unwritten a b c n m low middle high (Words fault) head up why = absurd why
+  rounds_unwritten a b c n m low middle high (Network fault) head up why = absurd why
+  rounds_unwritten a b c n m low middle high (Fleet fault) head up why = absurd why
+  rounds_unwritten a b c n m low middle high (Script fault) head up why = absurd why
+  rounds_unwritten a b c n m low middle high (TooLong f) head up why = absurd why
+  rounds_unwritten a b c n m low middle high (ReadFault f) head up why = absurd why
+  rounds_unwritten a b c n m low middle high (Day fault) head up why = absurd why
+  rounds_unwritten a b c n m low middle high (TooLate round made) head up why = absurd why
+
+  -- first lines that weren't written
+  unbegun_head : (a b : Option (List ℕ)) (n m : List NotifierView) (low high : ℕ) (s : RunStatus) → IsTextFault (head_of i) a b low high s → m ≡ n → IsWritingFault i a b n m low high s
+  unbegun_head a b n m low high WriteFault why same = (why.0, inl (IsPart.head why.1 same))
+  unbegun_head a b n m low high OutOfMemory why same = IsPart.head why same
+  unbegun_head a b n m low high Done why same = absurd why
+  unbegun_head a b n m low high (Words fault) why same = absurd why
+  unbegun_head a b n m low high (Network fault) why same = absurd why
+  unbegun_head a b n m low high (Fleet fault) why same = absurd why
+  unbegun_head a b n m low high (Script fault) why same = absurd why
+  unbegun_head a b n m low high (TooLong f) why same = absurd why
+  unbegun_head a b n m low high (ReadFault f) why same = absurd why
+  unbegun_head a b n m low high (Day fault) why same = absurd why
+  unbegun_head a b n m low high (TooLate round made) why same = absurd why
+
+  report_fault : (a c : Option (List ℕ)) (n m : List NotifierView) (low high : ℕ) (s : RunStatus) → IsReportFault i.settings i.roads P Q (head_of i) a c n m low high s → IsWritingFault i a c n m low high s
+  report_fault a c n m low high _ (IsReportFault.unbegun s why same) = unbegun_head a c n m low high s why same
+  report_fault a c n m low high _ (IsReportFault.behind s b middle head up why) = rounds_unwritten a b c n m low middle high s head up why
+
+  -- the report, from what became of its parts
+  report_from : (a c : Option (List ℕ)) (n m : List NotifierView) (low high : ℕ) (r : Result (Unit {0}) RunStatus)
+      → MatchResult r (λ _. WritesReport i.settings i.roads P Q (head_of i) a c n m) (IsReportFault i.settings i.roads P Q (head_of i) a c n m low high)
+      → MatchResult r (λ _. IsWhole i a c n m) (IsWritingFault i a c n m low high)
+  report_from a c n m low high (Ok x) w = report_whole a w.here c n m w.first w.rounds
+  report_from a c n m low high (Err s) why = report_fault a c n m low high s why
+
+  -- the same with a count of the vehicles
+  pub report_counted : (count : ℕ) (a c : Option (List ℕ)) (n m : List NotifierView) (low high : ℕ) (r : Result (Unit {0}) RunStatus) → count ≡ length i.vehicles
+      → MatchResult r (λ _. WritesReport i.settings i.roads P Q (first_text i.settings.mode i.settings i.roads count) a c n m)
+      (IsReportFault i.settings i.roads P Q (first_text i.settings.mode i.settings i.roads count) a c n m low high)
+      → MatchResult r (λ _. IsWhole i a c n m) (IsWritingFault i a c n m low high)
+  report_counted count a c n m low high r is h =
+      report_from a c n m low high r
+      (subst (λ k. MatchResult r (λ _. WritesReport i.settings i.roads P Q (first_text i.settings.mode i.settings i.roads k) a c n m)
+      (IsReportFault i.settings i.roads P Q (first_text i.settings.mode i.settings i.roads k) a c n m low high)) is h)
+
+-- a run's rounds
+first_run : (m : Mode) (i : Inputs) (made : List DayRound) → (m ≡ Drive → ⊥) → (count : ℕ) × Runs i (take count i.rounds) made → AreFirst m i made
+first_run Run i made undriven first = first
+first_run (Load shape) i made undriven first = first
+first_run Drive i made undriven first = absurd (undriven refl)
+
+runs_of : (i : Inputs) (book : BookView) (rounds : List NumberedLanes) (made : List DayRound) → book ≡ opened i → RunsFrom i.settings i.roads book rounds made → Runs i rounds made
+runs_of i book rounds made is runs =
+    record { numbers = runs.numbers; run = subst (λ b. IsRun i.settings i.roads b.base b.first rounds (journals_of made)) is runs.run }
+
+all_run : (m : Mode) (i : Inputs) (made : List DayRound) (end : List ℕ) → m ≡ i.settings.mode → (m ≡ Drive → ⊥) → Runs i i.rounds made → end ≡ end_text (position_after_run 0 (journals_of made)) → IsReport i made end
+all_run Run i made end is undriven runs ends =
+    record { all = subst (λ m. AreAll m i made) is runs; ends = subst (λ m. IsEnd m i made end) is ends }
+all_run (Load shape) i made end is undriven runs ends =
+    record { all = subst (λ m. AreAll m i made) is runs; ends = subst (λ m. IsEnd m i made end) is ends }
+all_run Drive i made end is undriven runs ends = absurd (undriven refl)
+
+pub run_serves : (i : Inputs) (book : BookView) (rounds : List NumberedLanes) → (i.settings.mode ≡ Drive → ⊥) → book ≡ opened i → rounds ≡ i.rounds
+    → Serves i (RunsFirst i.settings i.roads book rounds) (RunsAll i.settings i.roads book rounds)
+run_serves i book rounds undriven is all =
     record {
-      journals = w.journals;
-      run = w.run;
-      text =
-          subst (Appends a c) (sym (append_assoc (head_of i) texts (end_text (position_after_run 0 w.journals))))
-          (Appends-trans a b c (head_of i) (texts ++ end_text (position_after_run 0 w.journals)) head
-          (subst (λ k. Appends b c (texts ++ end_text k)) (last_position w.journals) w.text));
-      told = w.told;
+      first = λ made first.
+          first_run i.settings.mode i made undriven
+          (first.0, subst (λ rs. Runs i (take first.0 rs) made) all (runs_of i book (take first.0 rounds) made is first.1));
+      all = λ made end report.
+          all_run i.settings.mode i made end refl undriven (subst (λ rs. Runs i rs made) all (runs_of i book rounds made is report.0))
+          (report.1 ∙ ap (λ b. end_text (next_position (position_after_run b.first (journals_of made)) [])) is ∙ ap end_text (last_position (journals_of made)));
     }
 
-part_of_rounds : (i : Inputs) (a b c : Option (List ℕ)) (n m : List NotifierView) → Appends a b (head_of i) → IsRoundsPart i.settings i.roads (opened i) i.rounds b c n m → IsPart i a c n m
-unfolding begins_after begins_as
-part_of_rounds i a b c n m head (IsRoundsPart.whole count js run text told) =
-    IsPart.rounds count js run (Appends-trans a b c (head_of i) (rounds_text i.settings (take count i.rounds) js) head text) told
-part_of_rounds i a b c n m head (IsRoundsPart.next_round count js next run text front told) =
-    IsPart.next_round count js next run (begins_after a b c (head_of i) (rounds_text i.settings (take (count + 1) i.rounds) (js ++ next ∷ [])) head text)
-    (omega (arith, length-append (head_of i) (rounds_text i.settings (take count i.rounds) js), length-append (head_of i) text.written, front)) told
-part_of_rounds i a b c n m head (IsRoundsPart.last_line js run text front lacks told) =
-    let texts = rounds_text i.settings i.rounds js in
-    let line = end_text (next_position (position_after_run 0 js) []) in
-    let whole : head_of i ++ (texts ++ line) ≡ report_text i js =
-    sym (append_assoc (head_of i) texts line) ∙ ap (λ k. (head_of i ++ texts) ++ end_text k) (last_position js) in
-    IsPart.last_line js run (begins_as a c (head_of i ++ (texts ++ line)) (report_text i js) whole (begins_after a b c (head_of i) (texts ++ line) head text))
-    (omega (arith, length-append (head_of i) texts, length-append (head_of i) text.written, front)) lacks told
+-- a driven day's rounds
+pub day_serves : (i : Inputs) (book : BookView) (run : DayRun) → i.settings.mode ≡ Drive → book ≡ opened i
+    → IsDrivenDay i.settings i.roads book.state i.rounds run.rounds
+    → AreCounts i.roads (state_left i.settings i.roads book.state (journals_of run.rounds)).riders (entries_of run.rounds) run.picked run.dropped run.worst_wait run.worst_delay
+    → EntriesKeep i.settings i.roads book.state (entries_of run.rounds)
+    → (run.worst_wait ≤ i.settings.wait) × (run.worst_delay ≤ i.settings.delay)
+    → Serves i (BeginsRounds run.rounds) (EndsRounds run.rounds (day_ending run))
+day_serves i book run driven is day counts keeps worst =
+    let whole : RunsDay i run.rounds = record {
+      driven = subst (λ b. IsDrivenDay i.settings i.roads b.state i.rounds run.rounds) is day;
+      keeps = subst (λ b. EntriesKeep i.settings i.roads b.state (entries_of run.rounds)) is keeps;
+    } in
+    let ending : IsDayEnd i run.rounds (day_ending run) = record {
+      counts = day_counts run;
+      counted = subst (λ b. AreCounts i.roads (state_left i.settings i.roads b.state (journals_of run.rounds)).riders (entries_of run.rounds) run.picked run.dropped run.worst_wait run.worst_delay) is counts;
+      in_wait = worst.0;
+      in_delay = worst.1;
+      text_is = refl;
+    } in
+    record {
+      first = λ made first. subst (λ m. AreFirst m i made) (sym driven) (first.0, subst (RunsDay i) (sym first.1) whole);
+      all = λ made end report.
+          record {
+            all = subst (λ m. AreAll m i made) (sym driven) (subst (RunsDay i) (sym report.0) whole);
+            ends = subst (λ m. IsEnd m i made end) (sym driven) (subst (λ rs. IsDayEnd i rs end) (sym report.0) (subst (IsDayEnd i run.rounds) (sym report.1) ending));
+          };
+    }
 
-pub rounds_unwritten : (i : Inputs) (a b c : Option (List ℕ)) (n m : List NotifierView) (low middle high : ℕ) (s : RunStatus) → Appends a b (head_of i) → low ≤ middle
-    → IsRoundsFault i.settings i.roads (opened i) i.rounds b c n m middle high s → IsWritingFault i a c n m low high s
-rounds_unwritten i a b c n m low middle high WriteFault head up (rose, inl part) = (omega (arith, rose, up), inl (part_of_rounds i a b c n m head part))
-rounds_unwritten i a b c n m low middle high WriteFault head up (rose, inr all) = (omega (arith, rose, up), inr (report_whole i a b c n m head all))
-rounds_unwritten i a b c n m low middle high OutOfMemory head up why = part_of_rounds i a b c n m head why
-rounds_unwritten i a b c n m low middle high Done head up why = absurd why
-rounds_unwritten i a b c n m low middle high (Words fault) head up why = absurd why
-rounds_unwritten i a b c n m low middle high (Network fault) head up why = absurd why
-rounds_unwritten i a b c n m low middle high (Fleet fault) head up why = absurd why
-rounds_unwritten i a b c n m low middle high (Script fault) head up why = absurd why
-rounds_unwritten i a b c n m low middle high (TooLong f) head up why = absurd why
-rounds_unwritten i a b c n m low middle high (ReadFault f) head up why = absurd why
+-- the states of a run are consistent, and so are those from which the rounds of a day begin
+abbrev pub AreConsistentFrom : (i : Inputs) → Type 0
+AreConsistentFrom i = (entries : List Entry) → IsConsistent (state_after i.roads.nodes i.settings.wait (opening i.vehicles) entries)
 
--- the report, from its head and from what became of the rounds
-pub report_from : (i : Inputs) (a b c : Option (List ℕ)) (n m : List NotifierView) (low middle high : ℕ) (r : Result (Unit {0}) RunStatus) → Appends a b (head_of i) → low ≤ middle
-    → MatchResult r (λ _. WritesRounds i.settings i.roads (opened i) i.rounds b c n m) (IsRoundsFault i.settings i.roads (opened i) i.rounds b c n m middle high)
-    → MatchResult r (λ _. IsWhole i a c n m) (IsWritingFault i a c n m low high)
-report_from i a b c n m low middle high (Ok x) head up h = report_whole i a b c n m head h
-report_from i a b c n m low middle high (Err s) head up h = rounds_unwritten i a b c n m low middle high s head up h
+state_after-more : (nodes : List ℕ) (wait : ℕ) (s : State) (es fs : List Entry) → state_after nodes wait (state_after nodes wait s es) fs ≡ state_after nodes wait s (es ++ fs)
+unfolding state_after
+state_after-more nodes wait s [] fs = refl
+state_after-more nodes wait s (e ∷ es) fs = state_after-more nodes wait (step nodes wait s e.command).0 es fs
 
--- the same of a book and rounds that are those of the inputs
-pub report_of : (i : Inputs) (book : BookView) (rounds : List NumberedLanes) (a b c : Option (List ℕ)) (n m : List NotifierView) (low middle high : ℕ) (r : Result (Unit {0}) RunStatus)
-    → book ≡ opened i → rounds ≡ i.rounds → Appends a b (head_of i) → low ≤ middle
-    → MatchResult r (λ _. WritesRounds i.settings i.roads book rounds b c n m) (IsRoundsFault i.settings i.roads book rounds b c n m middle high)
-    → MatchResult r (λ _. IsWhole i a c n m) (IsWritingFault i a c n m low high)
-report_of i book rounds a b c n m low middle high r first all head up h =
-    report_from i a b c n m low middle high r head up
-    (subst (λ rs. MatchResult r (λ _. WritesRounds i.settings i.roads (opened i) rs b c n m) (IsRoundsFault i.settings i.roads (opened i) rs b c n m middle high)) all
-    (subst (λ k. MatchResult r (λ _. WritesRounds i.settings i.roads k rounds b c n m) (IsRoundsFault i.settings i.roads k rounds b c n m middle high)) first h))
+run_bases : (i : Inputs) → AreConsistentFrom i → (s : State) (es : List Entry) → s ≡ state_after i.roads.nodes i.settings.wait (opening i.vehicles) es
+    → (p : ℕ) (rounds : List NumberedLanes) (made : List DayRound) → IsRun i.settings i.roads s p rounds (journals_of made) → All (λ r. IsConsistent r.journal.base) made
+run_bases i law s es at p [] [] run = λ k d within. absurd (omega (arith, within))
+run_bases i law s es at p [] (m ∷ made) run = absurd run
+run_bases i law s es at p (r ∷ rounds) [] run = absurd run
+run_bases i law s es at p (r ∷ rounds) (m ∷ made) run =
+    All-cons (λ (x : DayRound). IsConsistent x.journal.base) m made (subst IsConsistent (sym (run.0 ∙ at)) (law es))
+    (run_bases i law (state_after i.roads.nodes i.settings.wait s m.journal.entries) (es ++ m.journal.entries)
+    (ap (λ x. state_after i.roads.nodes i.settings.wait x m.journal.entries) at ∙ state_after-more i.roads.nodes i.settings.wait (opening i.vehicles) es m.journal.entries)
+    (next_position p m.journal.entries) rounds made run.3)
+
+driven_bases : (i : Inputs) → AreConsistentFrom i → (rounds : List NumberedLanes) (made : List DayRound) → IsDrivenDay i.settings i.roads (opening i.vehicles) rounds made → All (λ r. IsConsistent r.journal.base) made
+unfolding state_after
+driven_bases i law [] made day = subst (All (λ (x : DayRound). IsConsistent x.journal.base)) (sym day) (λ k d within. absurd (omega (arith, within)))
+driven_bases i law (r ∷ rounds) made day = run_bases i law (opening i.vehicles) [] refl 0 (day.script ++ day.end ∷ []) made day.run
+
+pub day_bases : (i : Inputs) (book : BookView) (made : List DayRound) → book ≡ opened i → AreConsistentFrom i → IsDrivenDay i.settings i.roads book.state i.rounds made → All (λ r. IsConsistent r.journal.base) made
+day_bases i book made is law day = driven_bases i law i.rounds made (subst (λ b. IsDrivenDay i.settings i.roads b.state i.rounds made) is day)
+
+-- the book of a call is new
+pub new_book : (i : Inputs) (book : BookView) → IsFleet i.vehicles → book ≡ opened i → IsNewBook i.settings i.roads book
+new_book i book fleet is =
+    record {
+      vehicles = i.vehicles;
+      fleet = fleet;
+      nodes = ap (λ b. b.nodes) is;
+      wait = ap (λ b. b.wait) is;
+      first = ap (λ b. b.first) is;
+      entries = ap (λ b. b.entries) is;
+      base = ap (λ b. b.base) is;
+      state = ap (λ b. b.state) is;
+    }
+
+pub ready_book : (i : Inputs) (book : BookView) → book ≡ opened i → IsReady i.settings i.roads book
+ready_book i book is = record { nodes = ap (λ b. b.nodes) is; wait = ap (λ b. b.wait) is; closed = ap (λ b. b.state.sealed) is }
+
+-- a day that comes too late, or lacks memory
+pub day_fault : (i : Inputs) (book : BookView) (a : Option (List ℕ)) (n : List NotifierView) (low : ℕ) (fault : DriveFault) (s : RunStatus) → i.settings.mode ≡ Drive → book ≡ opened i
+    → s ≡ late_status fault → IsLateAnswer i.settings i.roads book.state i.rounds fault → IsWritingFault i a a n n low low s
+day_fault i book a n low (drive.TooLate round made) s driven is named late =
+    subst (IsWritingFault i a a n n low low) (sym named)
+    (driven, subst (λ b. IsTooLateDay i.settings i.roads b.state i.rounds round made) is late, refl, refl, refl)
+day_fault i book a n low drive.OutOfMemory s driven is named late = subst (IsWritingFault i a a n n low low) (sym named) (nothing_written i a n)

@@ -1,5 +1,5 @@
 -- How a call ends, and what stands then.
-use Rattle.std.specs.Prelude.{◌≡◌, ◌≢◌, ℕ, ◌≤◌, List, Option, Some, None, length, ◌⊎◌}
+use Rattle.std.specs.Prelude.{◌≡◌, ◌≢◌, ℕ, ◌≤◌, List, Some, None, length, ◌⊎◌}
 use Rattle.fleet_state.specs.declared.fault.FleetFault.TheVariants as fleet
 use Rattle.load_maker.specs.Texts.{Texts}
 use Rattle.pool_base.specs.declared.which.Which.{Which}
@@ -8,44 +8,64 @@ use Rattle.pool_io.specs.declared.input.Input.TheVariants.{Rows, Own}
 use Rattle.pool_io.specs.declared.records.RowFault.TheVariants as row
 use Rattle.rider_limits.specs.Settings.{AreGiven}
 use Rattle.rider_limits.specs.Words.{fault_of}
-use Rattle.rider_limits.specs.declared.settings.Mode.TheVariants.{Run}
+use Rattle.rider_limits.specs.declared.settings.Mode.TheVariants.{Drive}
 use Rattle.rider_limits.specs.declared.settings.Settings.{Settings}
 use Rattle.road_network.specs.declared.fault.NetworkFault.TheVariants as network
+use Rattle.request_book.specs.Book.{opening}
+use Rattle.route_drive.specs.Day.{day_fault}
+use Rattle.route_drive.specs.Driven.{IsTooLateDay}
+use Rattle.route_drive.specs.declared.day.DayFault.{DayFault}
+use Rattle.route_drive.specs.declared.day_run.DayRound.{DayRound}
 use Rattle.script_rows.specs.declared.fault.ScriptFault.TheVariants as script
-use Rattle.ridepool.specs.Inputs.{Inputs, AreInputs, AreTexts, AreUntouched, IsStop, IsWithin}
+use Rattle.ridepool.specs.Inputs.{Inputs, AreInputs, AreReadFrom, AreTexts, AreUntouched, IsDayFor, IsStop, IsWithin, ReadsSources}
 use Rattle.ridepool.specs.Report.{IsWhole, IsPart}
 use Rattle.dispatch_report.specs.Written.{Change}
 use Rattle.ridepool.specs.Seen.{Seen, Sources, SourceView, IsSilent, source_at}
 use Rattle.ridepool.specs.declared.status.RunStatus.{RunStatus}
-use Rattle.ridepool.specs.declared.status.RunStatus.TheVariants.{Done, Words, Network, Fleet, Script, TooLong, WriteFault, OutOfMemory}
+use Rattle.ridepool.specs.declared.status.RunStatus.TheVariants.{Done, Words, Network, Fleet, Script, TooLong, WriteFault, OutOfMemory, Day, TooLate}
 
 -- the words are good, and give these settings
 pub record AreGood (words : List (List ℕ)) (settings : Settings) : Type 0 where
   pub faultless : fault_of words ≡ None
   pub given : AreGiven words settings
 
--- the words are good for a run
-abbrev pub AreForRun : List (List ℕ) → Type 0
-AreForRun words = (s : Settings) × AreGood words s × (s.mode ≡ Run)
+-- the words are good for a call that reads its sources
+abbrev pub AreForSources : List (List ℕ) → Type 0
+AreForSources words = (s : Settings) × AreGood words s × ReadsSources s.mode
 
 -- the words are good for a made workload
 abbrev pub AreForLoad : List (List ℕ) → Type 0
-AreForLoad words = (s : Settings) × AreGood words s × (s.mode ≢ Run)
+AreForLoad words = (s : Settings) × AreGood words s × (ReadsSources s.mode → ⊥)
 
 -- the words are good, all inputs pass, and are these
 pub record AreAccepted (seen : Seen) (i : Inputs) : Type 0 where
   pub words : AreGood seen.words i.settings
   pub inputs : AreInputs i.settings.mode seen.sources i
 
--- a run stopped at a source, with nothing written and nobody told
+-- a call stopped at a source, with nothing written and nobody told
 abbrev pub StopsRun : Seen → RunStatus → Type 0
-StopsRun seen status = AreForRun seen.words × IsStop seen.sources status × IsSilent seen
+StopsRun seen status = AreForSources seen.words × IsStop seen.sources status × IsSilent seen
 
--- the inputs pass, the report of a run of the whole script is written, and its notices were told
+-- the sources pass, and their script is no day
+pub record IsNoDay (seen : Seen) (fault : DayFault) : Type 0 where
+  pub inputs : Inputs
+  pub words : AreGood seen.words inputs.settings
+  pub mode : inputs.settings.mode ≡ Drive
+  pub read : AreReadFrom seen.sources inputs
+  pub refused : day_fault inputs.rounds ≡ Some fault
+
+-- the inputs pass, and something too late is entered of this round; these are the rounds before it
+pub record IsLate (seen : Seen) (round : ℕ) (made : List DayRound) : Type 0 where
+  pub inputs : Inputs
+  pub accepted : AreAccepted seen inputs
+  pub mode : inputs.settings.mode ≡ Drive
+  pub late : IsTooLateDay inputs.settings inputs.roads (opening inputs.vehicles) inputs.rounds round made
+
+-- the inputs pass, all is written, and its notices were told
 abbrev pub WritesAll : Seen → Type 0
 WritesAll seen = (i : Inputs) × AreAccepted seen i × IsWhole i seen.out.before.written seen.out.after.written seen.notifiers.before seen.notifiers.after
 
--- the inputs pass, and the report of the first rounds stands in part
+-- the inputs pass, and the first rounds stand in part
 abbrev pub WritesPart : Seen → Type 0
 WritesPart seen = (i : Inputs) × AreAccepted seen i × IsPart i seen.out.before.written seen.out.after.written seen.notifiers.before seen.notifiers.after
 
@@ -57,6 +77,8 @@ Explains seen (Words fault) = (fault_of seen.words ≡ Some fault) × AreUntouch
 Explains seen WriteFault = (WritesPart seen ⊎ WritesAll seen) × Rose seen.out.before.faults seen.out.after.faults
 Explains seen OutOfMemory =
     StopsRun seen OutOfMemory ⊎ (AreForLoad seen.words × AreUntouched seen.sources × IsSilent seen) ⊎ WritesPart seen
+Explains seen (Day fault) = IsNoDay seen fault × IsSilent seen
+Explains seen (TooLate round made) = IsLate seen round made × IsSilent seen
 Explains seen status = StopsRun seen status
 
 -- a source tells these bytes at entry, at most 67,108,864, and no read of it fails
@@ -65,18 +87,19 @@ pub record Tells (s : Change SourceView) (bytes : List ℕ) : Type 0 where
   pub short : length bytes ≤ 67108864
   pub faultless : Rose s.before.faults s.after.faults → ⊥
 
--- the words are good for a run, the sources tell texts that give inputs, and no read fails
+-- the words are good for a call that reads its sources, these tell texts that give inputs, and no read fails
 pub record IsFaultlessRun (seen : Seen) : Type 0 where
   pub inputs : Inputs
   pub words : AreGood seen.words inputs.settings
-  pub run : inputs.settings.mode ≡ Run
+  pub reads : ReadsSources inputs.settings.mode
+  pub day : IsDayFor inputs.settings.mode inputs.rounds
   pub texts : Texts
   pub give : AreTexts texts inputs
   pub network : Tells seen.sources.network texts.network
   pub fleet : Tells seen.sources.fleet texts.fleet
   pub script : Tells seen.sources.script texts.script
 
--- so is a run, or the words are good for a made workload; and no write fails
+-- so is a call, or the words are good for a made workload; and no write fails
 pub record IsFaultless (seen : Seen) : Type 0 where
   pub inputs : IsFaultlessRun seen ⊎ AreForLoad seen.words
   pub sink : Rose seen.out.before.faults seen.out.after.faults → ⊥
@@ -95,13 +118,20 @@ HidesNoMemory (Script (Rows fault)) = fault ≢ row.OutOfMemory
 HidesNoMemory (Script (Own fault)) = fault ≢ script.OutOfMemory
 HidesNoMemory _ = Unit {0}
 
+-- all is done, or there is no memory, or a day comes too late
+abbrev pub IsFaultlessEnd : RunStatus → Type 0
+IsFaultlessEnd Done = Unit {0}
+IsFaultlessEnd OutOfMemory = Unit {0}
+IsFaultlessEnd (TooLate round made) = Unit {0}
+IsFaultlessEnd _ = ⊥
+
 -- what a call's answer says
 pub record Answers (seen : Seen) (status : RunStatus) : Type 0 where
   -- its cause, and what is written
   pub explained : Explains seen status
-  -- where nothing is wrong, all is done or there is no memory
-  pub complete : IsFaultless seen → (status ≡ Done) ⊎ (status ≡ OutOfMemory)
-  -- only a run touches its sources
-  pub untouched : AreForRun seen.words ⊎ AreUntouched seen.sources
+  -- where nothing is wrong, all is done or there is no memory, or a day comes too late
+  pub complete : IsFaultless seen → IsFaultlessEnd status
+  -- a made workload's call touches no source
+  pub untouched : AreForSources seen.words ⊎ AreUntouched seen.sources
   pub limited : IsLimited seen.sources status
   pub refused : HidesNoMemory status

@@ -1,5 +1,5 @@
 -- Where the inputs of a call come from, and where a run can stop at them.
-use Rattle.std.specs.Prelude.{◌≡◌, ℕ, ◌+◌, ◌<◌, ◌≤◌, List, length, Ok, Err, IfSome}
+use Rattle.std.specs.Prelude.{◌≡◌, ℕ, ◌+◌, ◌<◌, ◌≤◌, List, None, length, Ok, Err, IfSome}
 use Rattle.std.specs.Io.KnownBytes.{IsAtEnd}
 use Rattle.batch_snapshot.specs.declared.vehicle.Vehicle.{Vehicle}
 use Rattle.load_maker.specs.Texts.{Texts, texts_of}
@@ -7,9 +7,10 @@ use Rattle.pool_base.specs.declared.which.Which.{Which}
 use Rattle.pool_base.specs.declared.which.Which.TheVariants as file
 use Rattle.pool_io.specs.Faults.{Rose}
 use Rattle.rider_limits.specs.declared.settings.Mode.{Mode}
-use Rattle.rider_limits.specs.declared.settings.Mode.TheVariants.{Run, Load}
+use Rattle.rider_limits.specs.declared.settings.Mode.TheVariants.{Load, Drive}
 use Rattle.rider_limits.specs.declared.settings.Settings.{Settings}
 use Rattle.road_network.specs.Roads.{Roads}
+use Rattle.route_drive.specs.Day.{day_fault}
 use Rattle.script_rows.specs.Round.{NumberedLanes}
 use Rattle.ridepool.specs.Reading.{network_in, vehicles_in, IsFleetIn, script_in}
 use Rattle.dispatch_report.specs.Written.{Change}
@@ -60,12 +61,22 @@ pub record AreUntouched (s : Sources) : Type 0 where
   pub fleet : IsUntouched s.fleet
   pub script : IsUntouched s.script
 
--- the inputs by the command: of a run what its sources were read as; of a made workload what its texts give
-abbrev pub AreInputs : Mode → Sources → Inputs → Type 0
-AreInputs Run s i = AreReadFrom s i
-AreInputs (Load shape) s i = AreTexts (texts_of shape) i × AreUntouched s
+-- a command reads its sources, if it makes no workload
+abbrev pub ReadsSources : Mode → Type 0
+ReadsSources (Load shape) = ⊥
+ReadsSources _ = Unit {0}
 
--- a run came to a source: those before it were read and pass, those behind it are untouched
+-- where vehicles are driven, these rounds are a day
+abbrev pub IsDayFor : Mode → List NumberedLanes → Type 0
+IsDayFor Drive rounds = day_fault rounds ≡ None
+IsDayFor _ rounds = Unit {0}
+
+-- the inputs by the command: of a made workload what its texts give, else what the sources were read as
+abbrev pub AreInputs : Mode → Sources → Inputs → Type 0
+AreInputs (Load shape) s i = AreTexts (texts_of shape) i × AreUntouched s
+AreInputs mode s i = AreReadFrom s i × IsDayFor mode i.rounds
+
+-- a call came to a source: those before it were read and pass, those behind it are untouched
 abbrev pub CameTo : Sources → Which → Type 0
 CameTo s file.Network = IsUntouched s.fleet × IsUntouched s.script
 CameTo s file.Fleet = (roads : Roads) × Reads s.network (λ bytes. network_in bytes ≡ Ok roads) × IsUntouched s.script
@@ -73,7 +84,7 @@ CameTo s file.Script =
     (roads : Roads) × (vehicles : List Vehicle) × Reads s.network (λ bytes. network_in bytes ≡ Ok roads)
     × Reads s.fleet (λ bytes. IsFleetIn roads.nodes bytes vehicles)
 
--- why a run stopped at a source: what was read is refused, or there was more than may be, or a read failed, or there was no memory
+-- why a call stopped at a source: what was read is refused, or there was more than may be, or a read failed, or there was no memory
 abbrev pub IsStop : Sources → RunStatus → Type 0
 IsStop s (Network fault) = CameTo s file.Network × Reads s.network (λ bytes. network_in bytes ≡ Err fault)
 IsStop s (Fleet fault) = (came : CameTo s file.Fleet) × Reads s.fleet (λ bytes. vehicles_in came.0.nodes bytes ≡ Err fault)

@@ -1,6 +1,6 @@
 use Rattle.std.specs.Prelude.{ℕ}
 use Rattle.ridepool.specs.declared.status.RunStatus.{RunStatus}
-use Rattle.ridepool.specs.declared.status.RunStatus.TheVariants.{Done, Words, Network, Fleet, Script, TooLong, ReadFault, WriteFault, OutOfMemory}
+use Rattle.ridepool.specs.declared.status.RunStatus.TheVariants.{Done, Words, Network, Fleet, Script, TooLong, ReadFault, WriteFault, OutOfMemory, Day, TooLate}
 
 -- the exit status
 abbrev pub code_of : RunStatus → ℕ
@@ -13,3 +13,5 @@ code_of (TooLong which) = 6
 code_of (ReadFault which) = 7
 code_of WriteFault = 8
 code_of OutOfMemory = 9
+code_of (Day fault) = 11
+code_of (TooLate round made) = 12

@@ -12,10 +12,12 @@ use Rattle.rider_limits.specs.declared.word_fault.WordFault.{WordFault}
 use Rattle.rider_limits.specs.declared.word_fault.WordFault.TheVariants as word
 use Rattle.road_network.specs.declared.fault.NetworkFault.{NetworkFault}
 use Rattle.road_network.specs.declared.fault.NetworkFault.TheVariants as network
+use Rattle.route_drive.specs.declared.day.DayFault.{DayFault}
+use Rattle.route_drive.specs.declared.day.DayFault.TheVariants as day
 use Rattle.script_rows.specs.declared.fault.ScriptFault.{ScriptFault}
 use Rattle.script_rows.specs.declared.fault.ScriptFault.TheVariants as script
 use Rattle.ridepool.specs.declared.status.RunStatus.{RunStatus}
-use Rattle.ridepool.specs.declared.status.RunStatus.TheVariants.{Done, Words, Network, Fleet, Script, TooLong, ReadFault, WriteFault, OutOfMemory}
+use Rattle.ridepool.specs.declared.status.RunStatus.TheVariants.{Done, Words, Network, Fleet, Script, TooLong, ReadFault, WriteFault, OutOfMemory, Day, TooLate}
 
 -- a number that isn't one, by its row and its column
 unfoldable pub at_place : ℕ → ℕ → List ℕ
@@ -64,6 +66,12 @@ script_text (script.SealLane r) = numbered (codes "seal outside lane 0 at row ")
 script_text (script.Party r) = numbered (codes "bad party at row ") r
 script_text script.OutOfMemory = codes "out of memory"
 
+-- why a script is no day
+abbrev pub day_text : DayFault → List ℕ
+day_text (day.Command round lane) = numbered (codes "command at round ") round ++ numbered (codes " lane ") lane
+day_text (day.Seals round) = numbered (codes "seals at round ") round
+day_text (day.SealBack round) = numbered (codes "seal goes back at round ") round
+
 -- the fault of an input: of its rows, or of what they say
 abbrev pub input_text : {F : Type 0} → (F → List ℕ) → Input F → List ℕ
 input_text own (Rows fault) = row_text fault
@@ -80,3 +88,5 @@ status_text (TooLong w) = file_name w ++ codes ": longer than 67108864 bytes"
 status_text (ReadFault w) = file_name w ++ codes ": read failed"
 status_text WriteFault = codes "report: write failed"
 status_text OutOfMemory = codes "out of memory"
+status_text (Day fault) = codes "script: " ++ day_text fault
+status_text (TooLate round made) = numbered (codes "script: day too late at round ") round

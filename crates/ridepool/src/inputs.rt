@@ -3,7 +3,7 @@ ghost use Rattle.made_inputs.specs.Accepted.{AreRead};
 ghost use Rattle.load_maker.specs.Texts.{texts_of};
 ghost use Rattle.request_book.specs.Consistent.{IsNode};
 ghost use Rattle.ridepool.specs.Seen.{source_seen};
-ghost use Rattle.ridepool.specs.work.Reading.{GotInputs};
+ghost use Rattle.ridepool.specs.work.Reading.{GotInputs, ReadSources};
 
 use crate::reading::{fleet_from, network_from, script_from};
 use crate::status::RunStatus;
@@ -12,6 +12,7 @@ use made_inputs::{MadeInputs, make_inputs};
 use pool_io::Source;
 use rider_limits::{LoadShape, Mode, Settings};
 use road_network::Network;
+use route_drive::is_day;
 use script_rows::Script;
 use std::alloc::Global;
 
@@ -23,8 +24,9 @@ pub(crate) struct ReadInputs {
     pub(crate) script: Script,
 }
 
-/// The inputs by the command: those of the sources, in the order network, fleet, script, each to its end;
-/// or a made workload's, which touches no source and fails for want of memory alone.
+/// The inputs by the command: those of the sources, in the order network, fleet, script, each to its end, and
+/// where vehicles are driven the script must be a day; or a made workload's, which touches no source and fails
+/// for want of memory alone.
 pub(crate) fn inputs_from<N: Source, F: Source, S: Source>(
     alloc: Global,
     settings: &Settings,
@@ -41,17 +43,39 @@ pub(crate) fn inputs_from<N: Source, F: Source, S: Source>(
 {
     match &settings.mode {
         Mode::Load(shape) => made_inputs(alloc, shape),
-        Mode::Run => {
-            let network = network_from(alloc, network)?;
-            let fleet = fleet_from(alloc, fleet, &network)?;
-            let script = script_from(alloc, script)?;
-            Ok(ReadInputs {
-                network,
-                fleet,
-                script,
-            })
-        }
+        Mode::Run => read_inputs(alloc, network, fleet, script),
+        Mode::Drive => match read_inputs(alloc, network, fleet, script) {
+            Ok(inputs) => match is_day(&inputs.script) {
+                Ok(()) => Ok(inputs),
+                Err(fault) => Err(RunStatus::Day(fault)),
+            },
+            Err(status) => Err(status),
+        },
     }
+}
+
+/// The inputs of the sources.
+fn read_inputs<N: Source, F: Source, S: Source>(
+    alloc: Global,
+    network: &mut N,
+    fleet: &mut F,
+    script: &mut S,
+) -> Result<ReadInputs, RunStatus>
+    ensures read { ReadSources (record {
+      network = source_seen N.left N.taken N.faults network.old network.new;
+      fleet = source_seen F.left F.taken F.faults fleet.old fleet.new;
+      script = source_seen S.left S.taken S.faults script.old script.new;
+    }) result }
+    ensures named { IfOk result (λ got. All (λ vehicle. IsNode got.network.nodes vehicle.node) got.fleet) }
+{
+    let network = network_from(alloc, network)?;
+    let fleet = fleet_from(alloc, fleet, &network)?;
+    let script = script_from(alloc, script)?;
+    Ok(ReadInputs {
+        network,
+        fleet,
+        script,
+    })
 }
 
 /// The inputs of a made workload.

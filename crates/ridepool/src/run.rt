@@ -16,12 +16,16 @@ use std::sync::Wait;
 use std::thread::Threads;
 use worker_gate::Gate;
 
-/// Reads the words and the inputs, runs the script, and writes the report, or of a made workload its
-/// summary.
+/// Reads the words and the inputs, runs the script or drives the day, and writes the report, or of a made
+/// workload its summary.
 ///
-/// The words are those behind the program's name: the command and its keys. For `run` the inputs are read
-/// from the sources and judged in the order network, fleet, script, each to its end, and only then is
+/// The words are those behind the program's name: the command and its keys. For `run` and `drive` the inputs
+/// are read from the sources and judged in the order network, fleet, script, each to its end, and only then is
 /// anything written. For `load` they are made of the shape that the words give, and no source is touched.
+///
+/// For `drive` the script must be a day. Before each seal the stops that came due are entered, and then where each
+/// vehicle is; the report is that of the script with all this, has the day's counts before its last line, and is
+/// begun only where the whole day was driven.
 ///
 /// The gate hears of each piece of growth and of each receipt of a lane.
 ///
@@ -31,10 +35,12 @@ use worker_gate::Gate;
 ///
 /// `Done` says that the report of a run of the whole script is written, and that each notifier that is left
 /// was told exactly the notices of that run. `Words` comes exactly where the
-/// words are refused. For `run` alone, `Network`, `Fleet` and `Script` come exactly where that input is
+/// words are refused. For `run` and `drive`, `Network`, `Fleet` and `Script` come exactly where that input is
 /// refused and the earlier ones pass; `TooLong` exactly where 67,108,865 bytes were taken from that source;
 /// `ReadFault` only where that source's count of faults rose. Sources behind the one that is named are
-/// untouched, and those before it were read to their ends. `WriteFault` comes only where the sink's count
+/// untouched, and those before it were read to their ends. For `drive` alone, `Day` comes exactly where the three
+/// pass and the script is no day, and `TooLate` exactly where a second above 1,000,000,000 would be entered; it
+/// has the rounds before that. `WriteFault` comes only where the sink's count
 /// of faults rose. Where nothing of this is so, the answer is `Done` or `OutOfMemory`. After all of these
 /// but `WriteFault` nothing is written and nobody was told anything; after `WriteFault` and `OutOfMemory` a
 /// beginning of the report of a run of the script's first rounds stands, and the notices told are those of

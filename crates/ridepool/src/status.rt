@@ -1,14 +1,15 @@
 ghost use Rattle.std.specs.Prelude.{◌≡◌};
 
 use fleet_state::FleetFault;
-use pool_base::Which;
+use pool_base::{Sequence, Which};
 use pool_io::Input;
 use rider_limits::WordFault;
 use road_network::NetworkFault;
+use route_drive::{DayFault, DayRound};
 use script_rows::ScriptFault;
 
 /// How a call ended.
-#[derive(Debug, Drop)]
+#[derive(Drop)]
 pub enum RunStatus {
     /// Everything was read, run and written.
     Done,
@@ -28,6 +29,13 @@ pub enum RunStatus {
     WriteFault,
     /// There was no memory.
     OutOfMemory,
+    /// The script is no day.
+    Day(DayFault),
+    /// A second above 1,000,000,000 would be entered into this round of a day; these are the rounds before it.
+    TooLate {
+        round: u32,
+        rounds: Sequence<DayRound>,
+    },
 }
 
 impl RunStatus {
@@ -47,6 +55,8 @@ impl RunStatus {
             RunStatus::ReadFault(_) => 7,
             RunStatus::WriteFault => 8,
             RunStatus::OutOfMemory => 9,
+            RunStatus::Day(_) => 11,
+            RunStatus::TooLate { .. } => 12,
         }
     }
 }

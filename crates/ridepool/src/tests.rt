@@ -36,6 +36,10 @@ done 4\n";
 
 const RUN: &str = "run network=n fleet=f script=s";
 
+const DRIVE: &str = "drive network=n fleet=f script=s";
+
+const CANCEL: &[u8] = b"round,lane,command,a,b,c,d\n0,0,submit,1,2,4,0\n0,3,cancel,1,,,\n";
+
 const LOAD: &str = "load side=2 vehicles=1 riders=1 rounds=1";
 
 // Which calls fail in a run, by number: of the three sources, of the sink, and of the second of three notifiers.
@@ -247,6 +251,20 @@ fn the_smallest_workload_is_summed_up_and_touches_no_source(rt: HostRuntime) -> 
         let left = ran(&rt, rt.alloc(), LOAD, b"", pieces, failing)?;
         assert_eq!(rt; left.shown.as_slice(), summary.as_slice());
     }
+    Ok(())
+}
+
+#[test]
+fn a_day_is_driven_or_refused(rt: HostRuntime) -> Result<(), Fail> {
+    let left = ran(&rt, rt.alloc(), DRIVE, BATCH, 7, NOTHING)?;
+    assert!(rt;
+        left.shown.as_slice().ends_with(
+            b"\nround 2\nday picked 0 dropped 0 worst-wait 0 worst-delay 0\ndone 4\n"
+        )
+    );
+    assert!(rt; left.told == 6 && left.notifiers == 3);
+    let left = ran(&rt, rt.alloc(), DRIVE, CANCEL, 7, NOTHING)?;
+    assert!(rt; is_untouched(&left, b"script: command at round 0 lane 3|"));
     Ok(())
 }
 

@@ -1,6 +1,6 @@
 ghost use Rattle.std.specs.Prelude.{◌≡◌, ◌++◌, IfOk, OnOk};
 ghost use Rattle.dispatch_report.specs.Words.{numbered};
-ghost use Rattle.ridepool.specs.Text.{at_place, word_text, row_text, network_text, fleet_text, script_text, input_text, status_text};
+ghost use Rattle.ridepool.specs.Text.{at_place, word_text, row_text, network_text, fleet_text, script_text, day_text, input_text, status_text};
 
 use crate::status::RunStatus;
 use fleet_state::FleetFault;
@@ -8,6 +8,7 @@ use pool_base::{OutOfMemory, put_bytes, put_number};
 use pool_io::{Input, RowFault};
 use rider_limits::WordFault;
 use road_network::NetworkFault;
+use route_drive::DayFault;
 use script_rows::ScriptFault;
 use std::alloc::Global;
 
@@ -52,6 +53,13 @@ fn put_status(text: &mut Vec<u8>, status: &RunStatus) -> Result<(), OutOfMemory>
         }
         RunStatus::WriteFault => put_bytes(text, b"report: write failed"),
         RunStatus::OutOfMemory => put_bytes(text, b"out of memory"),
+        RunStatus::Day(fault) => {
+            put_bytes(text, b"script: ")?;
+            put_day_fault(text, *fault)
+        }
+        RunStatus::TooLate { round, .. } => {
+            put_at(text, b"script: day too late at round ", u64::from(*round))
+        }
     }
 }
 
@@ -167,5 +175,20 @@ fn put_script_fault(text: &mut Vec<u8>, fault: ScriptFault) -> Result<(), OutOfM
         ScriptFault::SealLane { row } => put_at(text, b"seal outside lane 0 at row ", row),
         ScriptFault::Party { row } => put_at(text, b"bad party at row ", row),
         ScriptFault::OutOfMemory => put_bytes(text, b"out of memory"),
+    }
+}
+
+fn put_day_fault(text: &mut Vec<u8>, fault: DayFault) -> Result<(), OutOfMemory>
+    ensures { OnOk result (text.new.items ≡ text.old.items ++ day_text fault) }
+{
+    match fault {
+        DayFault::Command { round, lane } => {
+            put_at(text, b"command at round ", u64::from(round))?;
+            put_at(text, b" lane ", u64::from(lane))
+        }
+        DayFault::Seals { round } => put_at(text, b"seals at round ", u64::from(round)),
+        DayFault::SealBack { round } => {
+            put_at(text, b"seal goes back at round ", u64::from(round))
+        }
     }
 }

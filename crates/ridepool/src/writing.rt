@@ -1,38 +1,46 @@
 ghost use Rattle.std.specs.Prelude.{◌≡◌, ◌≤◌, [], List, map, MatchResult};
 ghost use Rattle.std.specs.Io.KnownBytes.{Appends};
 ghost use Rattle.std.specs.List.{All};
-ghost use Rattle.dispatch_engine.specs.Run.{IsReady};
+ghost use Rattle.dispatch_engine.specs.Run.{IsReady, position_after_run};
 ghost use Rattle.request_book.specs.Consistent.{IsConsistent, IsNode};
 ghost use Rattle.rider_notices.specs.Notices.{notices};
 ghost use Rattle.rider_notices.specs.Seen.{notifier_seen};
 ghost use Rattle.rider_notices.specs.Told.{HaveHeard};
 ghost use Rattle.dispatch_report.specs.Written.{sink_seen, WritesText};
-ghost use Rattle.ridepool.specs.Inputs.{Inputs};
-ghost use Rattle.ridepool.specs.Report.{first_text, added_text, IsWhole};
-ghost use Rattle.ridepool.specs.work.Writing.{IsWritingFault, IsRoundsFault, IsRoundFault, IsTextFault, IsFlushed, WritesRound, WritesRounds, status_of};
+ghost use Rattle.request_book.specs.Book.{next_position};
+ghost use Rattle.ridepool.specs.Inputs.{Inputs, IsDayFor};
+ghost use Rattle.ridepool.specs.Report.{first_text, added_text, journals_of, IsWhole};
+ghost use Rattle.ridepool.specs.work.Writing.{BeginsRounds, EndsRounds, IsWritingFault, IsRoundsFault, IsReportFault, IsRoundFault, IsTextFault, IsFlushed, IsUnput, HasPut, PutsRound, StopsIn, RunsAll, RunsFirst, WritesReport, WritesRound, WritesRounds, day_counts, day_ending, late_status, status_of};
 
 use crate::inputs::ReadInputs;
 use crate::setup::Setup;
 use crate::status::RunStatus;
 use batch_snapshot::Fleet;
 use dispatch_engine::run_round;
-use dispatch_report::{ReportFault, write_end, write_head, write_load, write_round, write_summary};
+use dispatch_report::{
+    DayCounts, ReportFault, write_day_end, write_end, write_head, write_load, write_round,
+    write_summary,
+};
 use hub_labels::{LabelWays, Labels};
 use pool_base::OutOfMemory;
 use pool_io::{Failed, Sink};
-use request_book::{Book, Journal};
+use request_book::{Book, Journal, states_are_consistent};
 use rider_limits::{Mode, Settings, TimesWay};
 use rider_notices::{Notifier, notices_of, tell_all};
 use road_network::Network;
-use script_rows::Round;
+use route_drive::{DayRound, DayRun, DriveFault, drive_day};
+use script_rows::{Round, Script};
 use std::alloc::Global;
 use std::sync::Wait;
 use std::thread::Threads;
 use travel_times::{NetworkWays, Ways};
 use worker_gate::Gate;
 
-/// Runs the script and writes its report, or a made workload's summary, round by round; after each round
-/// its text is flushed and its notices are told.
+/// Runs the script, or drives the vehicles through its day, and writes the report, or a made workload's summary;
+/// after each round its text is flushed and its notices are told. Travel times come in the way that the settings
+/// name.
+///
+/// A script is run and written round by round; a day is driven to its end before anything of it is written.
 pub(crate) fn write_report<K: Sink, G: Gate>(
     rt: &(impl Threads + Wait + Sync),
     alloc: Global,
@@ -43,6 +51,7 @@ pub(crate) fn write_report<K: Sink, G: Gate>(
     gate: &G,
 ) -> Result<(), RunStatus>
     requires named { All (λ vehicle. IsNode inputs.network.nodes vehicle.node) inputs.fleet }
+    requires day { IsDayFor settings.now.mode inputs.script }
     ensures report { let i : Inputs = record { settings = settings.now; roads = inputs.network; vehicles = inputs.fleet; rounds = inputs.script } in
         let all = map (λ n. notifier_seen (⟦<dyn Notifier as Notifier>⟧ n.vtable) n.value) notifiers.old.items in
         let left = map (λ n. notifier_seen (⟦<dyn Notifier as Notifier>⟧ n.vtable) n.value) notifiers.new.items in
@@ -56,63 +65,147 @@ pub(crate) fn write_report<K: Sink, G: Gate>(
         fleet,
         script,
     } = inputs;
-    if let Err(fault) = write_first(alloc, out, settings, &network, &fleet) {
-        return Err(status_of(fault));
+    match settings.times {
+        TimesWay::Rows => {
+            let ways = NetworkWays { network: &network };
+            let setup = Setup {
+                network: &network,
+                ways: &ways,
+                settings,
+                gate,
+            };
+            write_by(rt, alloc, out, fleet, &script, &setup, notifiers)
+        }
+        TimesWay::Labels => {
+            let Ok(labels) = Labels::build(alloc, &network) else {
+                return Err(RunStatus::OutOfMemory);
+            };
+            let ways = LabelWays::of(&network, labels);
+            let setup = Setup {
+                network: &network,
+                ways: &ways,
+                settings,
+                gate,
+            };
+            write_by(rt, alloc, out, fleet, &script, &setup, notifiers)
+        }
     }
-    let Ok(book) = Book::new(alloc, &network, fleet, settings.wait) else {
-        return Err(RunStatus::OutOfMemory);
-    };
-    let rounds = script.rounds();
-    write_rounds(
-        rt, alloc, out, book, rounds, &network, settings, notifiers, gate,
-    )
 }
 
-/// Runs rounds one after the other, by the way to tell travel times that the settings name.
-fn write_rounds<K: Sink, G: Gate>(
+/// The same, with what its rounds share together.
+fn write_by<K: Sink, W: Ways, G: Gate>(
     rt: &(impl Threads + Wait + Sync),
     alloc: Global,
     out: &mut K,
-    book: Book,
-    rounds: &[Round],
-    network: &Network,
-    settings: &Settings,
+    fleet: Fleet,
+    script: &Script,
+    setup: &Setup<'_, W, G>,
     notifiers: &mut Vec<Box<dyn Notifier>>,
-    gate: &G,
 ) -> Result<(), RunStatus>
-    requires ready { IsReady settings.now network.now book }
-    requires empty { book.entries ≡ [] }
-    ensures rounds { let all = map (λ n. notifier_seen (⟦<dyn Notifier as Notifier>⟧ n.vtable) n.value) notifiers.old.items in
+    requires named { All (λ vehicle. IsNode setup.now.network.now.nodes vehicle.node) fleet }
+    requires day { IsDayFor setup.now.settings.now.mode script.now }
+    ensures report { let i : Inputs = record { settings = setup.now.settings.now; roads = setup.now.network.now; vehicles = fleet; rounds = script.now } in
+        let all = map (λ n. notifier_seen (⟦<dyn Notifier as Notifier>⟧ n.vtable) n.value) notifiers.old.items in
         let left = map (λ n. notifier_seen (⟦<dyn Notifier as Notifier>⟧ n.vtable) n.value) notifiers.new.items in
         MatchResult result
-        (λ _. WritesRounds settings.now network.now book rounds.now (K.written out.old) (K.written out.new) all left)
-        (IsRoundsFault settings.now network.now book rounds.now (K.written out.old) (K.written out.new) all left (K.faults out.old) (K.faults out.new)) }
+        (λ _. IsWhole i (K.written out.old) (K.written out.new) all left)
+        (IsWritingFault i (K.written out.old) (K.written out.new) all left (K.faults out.old) (K.faults out.new)) }
     ensures never_falls { K.faults out.old ≤ K.faults out.new }
 {
-    match settings.times {
-        TimesWay::Rows => {
-            let ways = NetworkWays { network };
-            let setup = Setup {
-                network,
-                ways: &ways,
-                settings,
-                gate,
-            };
-            write_each(rt, alloc, out, book, rounds, &setup, notifiers)
+    states_are_consistent();
+    let vehicles = fleet.vehicles().len();
+    let Ok(book) = Book::new(alloc, setup.network, fleet, setup.settings.wait) else {
+        return Err(RunStatus::OutOfMemory);
+    };
+    match setup.settings.mode {
+        Mode::Drive => {
+            let driven = drive_day(
+                rt,
+                alloc,
+                book,
+                script,
+                setup.network,
+                setup.ways,
+                setup.settings,
+                setup.gate,
+            );
+            match driven {
+                Ok(run) => write_day(
+                    alloc,
+                    out,
+                    vehicles,
+                    &run,
+                    setup.settings,
+                    setup.network,
+                    notifiers,
+                ),
+                Err(fault) => Err(late_status(fault)),
+            }
         }
-        TimesWay::Labels => {
-            let Ok(labels) = Labels::build(alloc, network) else {
-                return Err(RunStatus::OutOfMemory);
-            };
-            let ways = LabelWays::of(network, labels);
-            let setup = Setup {
-                network,
-                ways: &ways,
-                settings,
-                gate,
-            };
-            write_each(rt, alloc, out, book, rounds, &setup, notifiers)
-        }
+        _ => write_run(
+            rt,
+            alloc,
+            out,
+            vehicles,
+            book,
+            script.rounds(),
+            setup,
+            notifiers,
+        ),
+    }
+}
+
+/// Writes the report of a day that was driven.
+fn write_day<K: Sink>(
+    alloc: Global,
+    out: &mut K,
+    vehicles: usize,
+    run: &DayRun,
+    settings: &Settings,
+    network: &Network,
+    notifiers: &mut Vec<Box<dyn Notifier>>,
+) -> Result<(), RunStatus>
+    requires { All (λ r. IsConsistent r.journal.base) run.now.rounds }
+    ensures report { let head = first_text settings.now.mode settings.now network.now vehicles in
+        let end = day_ending run.now in
+        let all = map (λ n. notifier_seen (⟦<dyn Notifier as Notifier>⟧ n.vtable) n.value) notifiers.old.items in
+        let left = map (λ n. notifier_seen (⟦<dyn Notifier as Notifier>⟧ n.vtable) n.value) notifiers.new.items in
+        MatchResult result
+        (λ _. WritesReport settings.now network.now (BeginsRounds run.now.rounds) (EndsRounds run.now.rounds end) head (K.written out.old) (K.written out.new) all left)
+        (IsReportFault settings.now network.now (BeginsRounds run.now.rounds) (EndsRounds run.now.rounds end) head (K.written out.old) (K.written out.new) all left (K.faults out.old) (K.faults out.new)) }
+    ensures never_falls { K.faults out.old ≤ K.faults out.new }
+{
+    match write_first(alloc, out, settings, network, vehicles) {
+        Ok(()) => write_driven(alloc, out, run, settings, network, notifiers),
+        Err(fault) => Err(status_of(fault)),
+    }
+}
+
+/// Runs rounds and writes their report, or a made workload's summary.
+fn write_run<K: Sink, W: Ways, G: Gate>(
+    rt: &(impl Threads + Wait + Sync),
+    alloc: Global,
+    out: &mut K,
+    vehicles: usize,
+    book: Book,
+    rounds: &[Round],
+    setup: &Setup<'_, W, G>,
+    notifiers: &mut Vec<Box<dyn Notifier>>,
+) -> Result<(), RunStatus>
+    requires ready { IsReady setup.now.settings.now setup.now.network.now book }
+    requires empty { book.entries ≡ [] }
+    ensures report { let s = setup.now.settings.now in let roads = setup.now.network.now in
+        let head = first_text s.mode s roads vehicles in
+        let all = map (λ n. notifier_seen (⟦<dyn Notifier as Notifier>⟧ n.vtable) n.value) notifiers.old.items in
+        let left = map (λ n. notifier_seen (⟦<dyn Notifier as Notifier>⟧ n.vtable) n.value) notifiers.new.items in
+        MatchResult result
+        (λ _. WritesReport s roads (RunsFirst s roads book rounds.now) (RunsAll s roads book rounds.now) head (K.written out.old) (K.written out.new) all left)
+        (IsReportFault s roads (RunsFirst s roads book rounds.now) (RunsAll s roads book rounds.now) head (K.written out.old) (K.written out.new) all left (K.faults out.old) (K.faults out.new)) }
+    ensures never_falls { K.faults out.old ≤ K.faults out.new }
+{
+    match write_first(alloc, out, setup.settings, setup.network, vehicles) {
+        Ok(()) => write_each(rt, alloc, out, book, rounds, setup, notifiers),
+        Err(fault) => Err(status_of(fault)),
     }
 }
 
@@ -128,11 +221,12 @@ fn write_each<K: Sink, W: Ways, G: Gate>(
 ) -> Result<(), RunStatus>
     requires ready { IsReady setup.now.settings.now setup.now.network.now book }
     requires empty { book.entries ≡ [] }
-    ensures rounds { let all = map (λ n. notifier_seen (⟦<dyn Notifier as Notifier>⟧ n.vtable) n.value) notifiers.old.items in
+    ensures rounds { let s = setup.now.settings.now in let roads = setup.now.network.now in
+        let all = map (λ n. notifier_seen (⟦<dyn Notifier as Notifier>⟧ n.vtable) n.value) notifiers.old.items in
         let left = map (λ n. notifier_seen (⟦<dyn Notifier as Notifier>⟧ n.vtable) n.value) notifiers.new.items in
         MatchResult result
-        (λ _. WritesRounds setup.now.settings.now setup.now.network.now book rounds.now (K.written out.old) (K.written out.new) all left)
-        (IsRoundsFault setup.now.settings.now setup.now.network.now book rounds.now (K.written out.old) (K.written out.new) all left (K.faults out.old) (K.faults out.new)) }
+        (λ _. WritesRounds s roads (RunsFirst s roads book rounds.now) (RunsAll s roads book rounds.now) (K.written out.old) (K.written out.new) all left)
+        (IsRoundsFault s roads (RunsFirst s roads book rounds.now) (RunsAll s roads book rounds.now) (K.written out.old) (K.written out.new) all left (K.faults out.old) (K.faults out.new)) }
     ensures never_falls { K.faults out.old ≤ K.faults out.new }
 {
     let mut current = book;
@@ -145,7 +239,7 @@ fn write_each<K: Sink, W: Ways, G: Gate>(
     }
 }
 
-/// Runs a round, writes its text, flushes it, tells its notices, and gives its journal up.
+/// Runs a round, puts it out, and gives its journal up.
 fn write_next<K: Sink, W: Ways, G: Gate>(
     rt: &(impl Threads + Wait + Sync),
     alloc: Global,
@@ -176,9 +270,109 @@ fn write_next<K: Sink, W: Ways, G: Gate>(
     let Ok(journal) = book.take_round() else {
         return Err(RunStatus::OutOfMemory);
     };
-    match write_flushed(alloc, out, settings, round.number(), &journal) {
-        Ok(()) => match tell_journal(alloc, notifiers, &journal, network, settings.wait) {
-            Ok(()) => Ok(book),
+    let made = DayRound {
+        number: round.number(),
+        journal,
+    };
+    match put_round(alloc, out, &made, settings, network, notifiers) {
+        Ok(()) => Ok(book),
+        Err(status) => Err(status),
+    }
+}
+
+/// Writes the rounds of a day that was driven, and then the last lines.
+fn write_driven<K: Sink>(
+    alloc: Global,
+    out: &mut K,
+    run: &DayRun,
+    settings: &Settings,
+    network: &Network,
+    notifiers: &mut Vec<Box<dyn Notifier>>,
+) -> Result<(), RunStatus>
+    requires { All (λ r. IsConsistent r.journal.base) run.now.rounds }
+    ensures rounds { let end = day_ending run.now in
+        let all = map (λ n. notifier_seen (⟦<dyn Notifier as Notifier>⟧ n.vtable) n.value) notifiers.old.items in
+        let left = map (λ n. notifier_seen (⟦<dyn Notifier as Notifier>⟧ n.vtable) n.value) notifiers.new.items in
+        MatchResult result
+        (λ _. WritesRounds settings.now network.now (BeginsRounds run.now.rounds) (EndsRounds run.now.rounds end) (K.written out.old) (K.written out.new) all left)
+        (IsRoundsFault settings.now network.now (BeginsRounds run.now.rounds) (EndsRounds run.now.rounds end) (K.written out.old) (K.written out.new) all left (K.faults out.old) (K.faults out.new)) }
+    ensures never_falls { K.faults out.old ≤ K.faults out.new }
+{
+    let rounds = run.rounds.as_slice();
+    let position = match write_made(alloc, out, rounds, settings, network, notifiers) {
+        Ok(position) => position,
+        Err(status) => return Err(status),
+    };
+    let counts = counts_of(run);
+    match write_day_end(alloc, out, &counts, position) {
+        Ok(()) => flush(out),
+        Err(fault) => Err(status_of(fault)),
+    }
+}
+
+/// Writes rounds, each flushed and its notices told, and gives the position behind their entries.
+fn write_made<K: Sink>(
+    alloc: Global,
+    out: &mut K,
+    rounds: &[DayRound],
+    settings: &Settings,
+    network: &Network,
+    notifiers: &mut Vec<Box<dyn Notifier>>,
+) -> Result<u64, RunStatus>
+    requires { All (λ r. IsConsistent r.journal.base) rounds.now }
+    ensures rounds { let all = map (λ n. notifier_seen (⟦<dyn Notifier as Notifier>⟧ n.vtable) n.value) notifiers.old.items in
+        let left = map (λ n. notifier_seen (⟦<dyn Notifier as Notifier>⟧ n.vtable) n.value) notifiers.new.items in
+        MatchResult result
+        (λ position. HasPut settings.now network.now rounds.now (K.written out.old) (K.written out.new) all left × (position ≡ position_after_run 0 (journals_of rounds.now)))
+        (StopsIn settings.now network.now rounds.now (K.written out.old) (K.written out.new) all left (K.faults out.old) (K.faults out.new)) }
+    ensures never_falls { K.faults out.old ≤ K.faults out.new }
+{
+    let mut position = 0;
+    for made in rounds {
+        put_round(alloc, out, made, settings, network, notifiers)?;
+        position = position_after(position, &made.journal);
+    }
+    Ok(position)
+}
+
+/// The position behind the entries of a journal.
+fn position_after(position: u64, journal: &Journal) -> u64
+    ensures { result ≡ next_position position journal.now.entries }
+{
+    position.saturating_add(journal.entries.len() as u64)
+}
+
+fn counts_of(run: &DayRun) -> DayCounts
+    ensures { result ≡ day_counts run.now }
+{
+    DayCounts {
+        picked: run.picked,
+        dropped: run.dropped,
+        worst_wait: run.worst_wait,
+        worst_delay: run.worst_delay,
+    }
+}
+
+/// Writes what a round adds, flushes it, and tells its notices.
+fn put_round<K: Sink>(
+    alloc: Global,
+    out: &mut K,
+    made: &DayRound,
+    settings: &Settings,
+    network: &Network,
+    notifiers: &mut Vec<Box<dyn Notifier>>,
+) -> Result<(), RunStatus>
+    requires { IsConsistent made.now.journal.base }
+    ensures round { let all = map (λ n. notifier_seen (⟦<dyn Notifier as Notifier>⟧ n.vtable) n.value) notifiers.old.items in
+        let left = map (λ n. notifier_seen (⟦<dyn Notifier as Notifier>⟧ n.vtable) n.value) notifiers.new.items in
+        MatchResult result
+        (λ _. PutsRound settings.now network.now made.now (K.written out.old) (K.written out.new) all left)
+        (IsUnput settings.now network.now made.now (K.written out.old) (K.written out.new) all left (K.faults out.old) (K.faults out.new)) }
+    ensures never_falls { K.faults out.old ≤ K.faults out.new }
+{
+    match write_flushed(alloc, out, settings, made) {
+        Ok(()) => match tell_journal(alloc, notifiers, &made.journal, network, settings.wait) {
+            Ok(()) => Ok(()),
             Err(OutOfMemory) => Err(RunStatus::OutOfMemory),
         },
         Err(status) => Err(status),
@@ -211,15 +405,14 @@ fn write_flushed<K: Sink>(
     alloc: Global,
     out: &mut K,
     settings: &Settings,
-    number: u32,
-    journal: &Journal,
+    made: &DayRound,
 ) -> Result<(), RunStatus>
-    ensures text { let text = added_text settings.now.mode settings.now.proof number journal.now in
+    ensures text { let text = added_text settings.now.mode settings.now.proof made.now in
         MatchResult result (λ _. Appends (K.written out.old) (K.written out.new) text)
         (IsTextFault text (K.written out.old) (K.written out.new) (K.faults out.old) (K.faults out.new)) }
     ensures never_falls { K.faults out.old ≤ K.faults out.new }
 {
-    match write_added(alloc, out, settings, number, journal) {
+    match write_added(alloc, out, settings, made) {
         Ok(()) => flush(out),
         Err(fault) => Err(status_of(fault)),
     }
@@ -240,13 +433,13 @@ fn write_first<K: Sink>(
     out: &mut K,
     settings: &Settings,
     network: &Network,
-    fleet: &Fleet,
+    vehicles: usize,
 ) -> Result<(), ReportFault>
-    ensures { WritesText (sink_seen K.written K.faults out.old out.new) (first_text settings.now.mode settings.now network.now fleet.now) result }
+    ensures { WritesText (sink_seen K.written K.faults out.old out.new) (first_text settings.now.mode settings.now network.now vehicles) result }
 {
     match &settings.mode {
-        Mode::Run => write_head(alloc, out, settings, network, fleet),
         Mode::Load(shape) => write_load(alloc, out, shape),
+        _ => write_head(alloc, out, settings, network, vehicles),
     }
 }
 
@@ -255,14 +448,13 @@ fn write_added<K: Sink>(
     alloc: Global,
     out: &mut K,
     settings: &Settings,
-    number: u32,
-    journal: &Journal,
+    made: &DayRound,
 ) -> Result<(), ReportFault>
-    ensures { WritesText (sink_seen K.written K.faults out.old out.new) (added_text settings.now.mode settings.now.proof number journal.now) result }
+    ensures { WritesText (sink_seen K.written K.faults out.old out.new) (added_text settings.now.mode settings.now.proof made.now) result }
 {
     match &settings.mode {
-        Mode::Run => write_round(alloc, out, number, journal, settings.proof),
-        Mode::Load(_) => write_summary(alloc, out, journal),
+        Mode::Load(_) => write_summary(alloc, out, &made.journal),
+        _ => write_round(alloc, out, made.number, &made.journal, settings.proof),
     }
 }
 
@@ -272,5 +464,15 @@ fn status_of(fault: ReportFault) -> RunStatus
     match fault {
         ReportFault::WriteFault => RunStatus::WriteFault,
         ReportFault::OutOfMemory => RunStatus::OutOfMemory,
+    }
+}
+
+/// The end of a call whose day isn't driven to its end.
+fn late_status(fault: DriveFault) -> RunStatus
+    ensures { result ≡ late_status fault }
+{
+    match fault {
+        DriveFault::TooLate { round, rounds } => RunStatus::TooLate { round, rounds },
+        DriveFault::OutOfMemory => RunStatus::OutOfMemory,
     }
 }

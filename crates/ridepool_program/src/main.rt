@@ -20,13 +20,16 @@ use worker_gate::FreeGate;
 
 const HELP: &str = "\
 usage: ridepool run network=FILE fleet=FILE script=FILE [KEY=VALUE ..]
+       ridepool drive network=FILE fleet=FILE script=FILE [KEY=VALUE ..]
        ridepool load [KEY=VALUE ..]
 
 `run` reads a road network, a fleet and a script of commands as CSV, runs the script, and prints its
 report. Where an input is refused, one line on standard error names the file, the row and the column.
+`drive` reads a day, a script of requests and seals alone, lets the vehicles follow their plans, and
+prints the report with all that is entered of them, and how the riders were served.
 `load` makes these three from a seed, runs them the same way, and prints one line for each batch.
 
-For `run`:
+For `run` and `drive`:
   network=FILE   streets: from,to,seconds
   fleet=FILE     vehicles: vehicle,seats,node,second
   script=FILE    commands: round,lane,command,a,b,c,d and, for parties, e
@@ -40,7 +43,7 @@ For `load`:
   riders=N       requests of each batch, 1 to 1000 (150)
   rounds=N       batches, 1 to 100 (4)
 
-For both:
+For all:
   wait=S         longest wait for the pickup, 0 to 7200 seconds (120)
   delay=S        longest delay of the arrival, 0 to 7200 seconds (180)
   trip=N         most riders of a trip, 1 to 6 (4)
@@ -55,7 +58,7 @@ For both:
   --version      the version
 
 Exit status: 0 done; 2 words; 3 network; 4 fleet; 5 script; 6 input too long; 7 read failed;
-8 write failed; 9 out of memory.
+8 write failed; 9 out of memory; 11 the script is no day; 12 the day comes too late.
 ";
 
 const VERSION: &str = "ridepool 0.1.0\n";
@@ -106,7 +109,7 @@ fn page_of(words: &[String]) -> Option<&'static str> {
     match first.as_str() {
         "--help" | "-h" => Some(HELP),
         "--version" => Some(VERSION),
-        "run" | "load" => {
+        "run" | "drive" | "load" => {
             let second = words.get(1)?;
             match second.as_str() {
                 "--help" | "-h" => Some(HELP),

@@ -9,7 +9,7 @@ use Rattle.pool_base.specs.Numeral.{is_numeral, number_up_to}
 use Rattle.pool_base.proofs.lemmas.InOrderLemmas.{first_fault-each}
 use Rattle.pool_base.proofs.lemmas.NumeralLemmas.{number_up_to-some}
 use Rattle.rider_limits.specs.declared.command.Command.{Command}
-use Rattle.rider_limits.specs.declared.command.Command.TheVariants.{Run, Load}
+use Rattle.rider_limits.specs.declared.command.Command.TheVariants.{Run, Load, Drive}
 use Rattle.rider_limits.specs.declared.key.Key.{Key}
 use Rattle.rider_limits.specs.declared.key.Key.TheVariants.{Input, Notices, Wait, Delay, Trip, Penalty, Budget, Pairs, Workers, Proof, Dwell, Times, Seed, Side, Vehicles, Riders, Rounds}
 use Rattle.rider_limits.specs.declared.key.Takes.TheVariants.{Number}
@@ -90,6 +90,25 @@ key_of-name Load Side = refl
 key_of-name Load Vehicles = refl
 key_of-name Load Riders = refl
 key_of-name Load Rounds = refl
+key_of-name Drive (Input Network) = refl
+key_of-name Drive (Input Fleet) = refl
+key_of-name Drive (Input Script) = refl
+key_of-name Drive Notices = refl
+key_of-name Drive Wait = refl
+key_of-name Drive Delay = refl
+key_of-name Drive Trip = refl
+key_of-name Drive Penalty = refl
+key_of-name Drive Budget = refl
+key_of-name Drive Pairs = refl
+key_of-name Drive Workers = refl
+key_of-name Drive Proof = refl
+key_of-name Drive Dwell = refl
+key_of-name Drive Times = refl
+key_of-name Drive Seed = refl
+key_of-name Drive Side = refl
+key_of-name Drive Vehicles = refl
+key_of-name Drive Riders = refl
+key_of-name Drive Rounds = refl
 
 -- a word of a key's name, `=` and a text gives that key and text, where the command has the key
 option_of-named : (command : Command) (key : Key) (word text : List ℕ) → word ≡ (about key).name ++ 61 ∷ text → option_of command word ≡ option_map (λ k. (k, text)) (cond ((about key).has command) (Some key) None)

@@ -6,7 +6,7 @@ use Rattle.pool_base.specs.Numeral.{number_up_to}
 use Rattle.pool_base.specs.Which as file
 use Rattle.pool_base.specs.declared.which.Which.TheVariants.{Network, Fleet, Script}
 use Rattle.rider_limits.specs.declared.command.Command.{Command}
-use Rattle.rider_limits.specs.declared.command.Command.TheVariants.{Run, Load}
+use Rattle.rider_limits.specs.declared.command.Command.TheVariants.{Run, Load, Drive}
 use Rattle.rider_limits.specs.declared.key.Key.{Key}
 use Rattle.rider_limits.specs.declared.key.Key.TheVariants.{Input, Notices, Wait, Delay, Trip, Penalty, Budget, Pairs, Workers, Proof, Dwell, Times, Seed, Side, Vehicles, Riders, Rounds}
 use Rattle.rider_limits.specs.declared.key.Takes.{Takes}
@@ -16,15 +16,16 @@ use Rattle.rider_limits.specs.declared.key.Takes.TheVariants.{FileName, Number, 
 abbrev pub command_name : Command → List ℕ
 command_name Run = codes "run"
 command_name Load = codes "load"
+command_name Drive = codes "drive"
 
 -- the command of a word
 abbrev pub command_of : List ℕ → Option Command
-command_of word = find (λ command. bytes_eq (command_name command) word) (Run ∷ Load ∷ [])
+command_of word = find (λ command. bytes_eq (command_name command) word) (Run ∷ Load ∷ Drive ∷ [])
 
 -- a command reads its inputs from files
 abbrev pub reads_files : Command → Bool
-reads_files Run = true
 reads_files Load = false
+reads_files _ = true
 
 -- a command makes its inputs from a seed
 abbrev pub makes_inputs : Command → Bool

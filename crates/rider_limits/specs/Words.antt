@@ -6,7 +6,7 @@ use Rattle.pool_base.specs.Which as file
 use Rattle.pool_base.specs.declared.which.Which.{Which}
 use Rattle.pool_base.specs.declared.which.Which.TheVariants.{Network, Fleet, Script}
 use Rattle.rider_limits.specs.declared.command.Command.{Command}
-use Rattle.rider_limits.specs.declared.command.Command.TheVariants.{Run, Load}
+use Rattle.rider_limits.specs.declared.command.Command.TheVariants.{Load}
 use Rattle.rider_limits.specs.declared.key.Key.{Key}
 use Rattle.rider_limits.specs.declared.word_fault.WordFault.{WordFault}
 use Rattle.rider_limits.specs.declared.word_fault.WordFault.TheVariants.{NoCommand, UnknownKey, Repeated, BadValue, MissingFile}
@@ -50,8 +50,8 @@ is_missing words which = is_none (text_given (file.file_name which) words)
 
 -- the first file that a command needs and these words don't name
 abbrev pub missing_file : Command → List (List ℕ) → Option Which
-missing_file Run words = find (is_missing words) (Network ∷ Fleet ∷ Script ∷ [])
 missing_file Load words = None
+missing_file _ words = find (is_missing words) (Network ∷ Fleet ∷ Script ∷ [])
 
 -- why the words behind a command are refused, if they are
 abbrev pub fault_behind : Option Command → List (List ℕ) → Option WordFault

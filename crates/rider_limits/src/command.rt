@@ -1,10 +1,12 @@
 ghost use Rattle.std.specs.Prelude.{◌≡◌};
+ghost use Rattle.std.specs.Str.{bytes_eq};
 
 /// What the program is told to do: the first word.
 #[derive(Clone, Copy, Debug, PartialEq, Eq)]
 pub(crate) enum Command {
     Run,
     Load,
+    Drive,
 }
 
 impl Command {
@@ -16,15 +18,22 @@ impl Command {
         match self {
             Command::Run => "run",
             Command::Load => "load",
+            Command::Drive => "drive",
         }
+    }
+
+    fn is_named(self, word: &str) -> bool
+        ensures { result ≡ bytes_eq (command_name self) word.now }
+    {
+        self.word() == word
     }
 
     /// The command of a word; `None` where there is none.
     pub(crate) fn of(word: &str) -> Option<Command>
         ensures { result ≡ command_of word.now }
     {
-        [Command::Run, Command::Load]
+        [Command::Run, Command::Load, Command::Drive]
             .into_iter()
-            .find(|command| command.word() == word)
+            .find(|command| command.is_named(word))
     }
 }

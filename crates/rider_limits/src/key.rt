@@ -67,7 +67,7 @@ impl Key {
         ensures { result ≡ (about self).has command }
     {
         match self {
-            Key::Input(_) | Key::Notices | Key::Proof => command == Command::Run,
+            Key::Input(_) | Key::Notices | Key::Proof => command != Command::Load,
             Key::Seed | Key::Side | Key::Vehicles | Key::Riders | Key::Rounds => command
                 == Command::Load,
             _ => true,

@@ -52,6 +52,7 @@ fn settings(command: Command, options: &[String]) -> Settings
         mode: match command {
             Command::Run => Mode::Run,
             Command::Load => Mode::Load(shape(options)),
+            Command::Drive => Mode::Drive,
         },
         wait: number(command, options, Key::Wait) as u32,
         delay: number(command, options, Key::Delay) as u32,
@@ -76,11 +77,11 @@ fn way(options: &[String]) -> TimesWay
     }
 }
 
-/// The settings that words give: a command, `run` or `load`, then `key=value` in any order, each key
+/// The settings that words give: a command, `run`, `drive` or `load`, then `key=value` in any order, each key
 /// once. Words count from 1.
 ///
-/// `run` needs the keys `network`, `fleet` and `script`, takes `notices` and `proof`, and `load` takes
-/// `seed`, `side`, `vehicles`, `riders` and `rounds`; both take the others. It takes no memory.
+/// `run` and `drive` need the keys `network`, `fleet` and `script`, and take `notices` and `proof`; `load` takes
+/// `seed`, `side`, `vehicles`, `riders` and `rounds`; all take the others. It takes no memory.
 ///
 /// The first fault is given: no command, then word for word an unknown key, a repeated key, a bad value,
 /// and after the last word the first missing file.

@@ -9,6 +9,9 @@ pub enum Mode {
     Run,
     /// It makes a workload of this shape, and sums up each batch.
     Load(LoadShape),
+    /// It reads a network, a fleet and a day of requests and seals, drives the vehicles by the plans, and reports
+    /// each batch and what is entered.
+    Drive,
 }
 
 /// How a batch comes by its travel times.

@@ -1,4 +1,6 @@
-ghost use Rattle.std.specs.Prelude.{◌≡◌, None, Some, map, MatchOption};
+ghost use Rattle.std.specs.Prelude.{◌≡◌, ◌∷◌, [], None, Some, map, MatchOption};
+ghost use Rattle.std.specs.List.{find};
+ghost use Rattle.pool_base.specs.declared.which.Which.TheVariants.{Network, Fleet, Script};
 ghost use Rattle.std.specs.String.{string_bytes};
 ghost use Rattle.std.specs.Option.{option_copied};
 ghost use Rattle.rider_limits.specs.Words.{after_key, text_given, option_of, option_fault, words_fault, is_missing, missing_file};
@@ -77,14 +79,22 @@ fn is_missing(options: &[String], which: Which) -> bool
     value_of(options, which.name()).is_none()
 }
 
+/// The first of the three files that these words don't name.
+fn first_missing(options: &[String]) -> Option<Which>
+    ensures { result ≡ find (is_missing (map string_bytes options.now)) (Network ∷ Fleet ∷ Script ∷ []) }
+{
+    [Which::Network, Which::Fleet, Which::Script]
+        .into_iter()
+        .find(|which| is_missing(options, *which))
+}
+
 /// The first file that a command needs and these words don't name.
 pub(crate) fn missing_file(command: Command, options: &[String]) -> Option<Which>
     ensures { result ≡ missing_file command (map string_bytes options.now) }
 {
     match command {
-        Command::Run => [Which::Network, Which::Fleet, Which::Script]
-            .into_iter()
-            .find(|which| is_missing(options, *which)),
+        Command::Run => first_missing(options),
+        Command::Drive => first_missing(options),
         Command::Load => None,
     }
 }

@@ -7,7 +7,8 @@ use Rattle.std.proofs.lemmas.List.Elements.{All-head, All-tail, filter-append}
 use Rattle.request_book.specs.declared.command.Command.{Command}
 use Rattle.script_rows.specs.declared.line.Line.{Line}
 use Rattle.script_rows.specs.Round.{NumberedLanes}
-use Rattle.script_rows.specs.work.Building.{commands_of, empty_round, with_command}
+use Rattle.script_rows.specs.work.Building.{commands_of}
+use Rattle.script_rows.specs.Round.{empty_round, with_command}
 use Rattle.script_rows.specs.Script.{round_of}
 
 -- two functions that agree on a list map it alike

@@ -1,4 +1,4 @@
-use Rattle.std.specs.Prelude.{◌≡◌, ℕ, ◌≤◌, List, [], length, slice_index_or}
+use Rattle.std.specs.Prelude.{◌≡◌, ℕ, ◌≤◌, List, [], ◌∷◌, ◌++◌, length, replicate, slice_index_or, slice_set}
 use Rattle.std.specs.List.{All}
 use Rattle.request_book.specs.declared.command.Command.{Command}
 use Rattle.request_book.specs.declared.command.Command.TheVariants.{Seal, Close}
@@ -11,6 +11,14 @@ pub record NumberedLanes : Type 0 where
 -- the commands of a lane
 abbrev pub lane_at : NumberedLanes → ℕ → List Command
 lane_at round lane = slice_index_or round.lanes lane []
+
+-- the round of a number, without commands
+abbrev pub empty_round : ℕ → NumberedLanes
+empty_round number = record { number = number; lanes = replicate 16 [] }
+
+-- a round with one more command at the end of a lane
+abbrev pub with_command : NumberedLanes → ℕ → Command → NumberedLanes
+with_command round lane command = record round { lanes = slice_set round.lanes lane (lane_at round lane ++ command ∷ []) }
 
 -- a command may stand in a lane: a seal in lane 0 alone, and a close in none
 abbrev pub MayStand : ℕ → Command → Type 0

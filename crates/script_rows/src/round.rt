@@ -51,8 +51,7 @@ impl Model for Round {
 }
 
 impl Round {
-    ghost use Rattle.script_rows.specs.Round.{IsRound, MayStand, lane_at};
-    ghost use Rattle.script_rows.specs.work.Building.{empty_round, with_command};
+    ghost use Rattle.script_rows.specs.Round.{IsRound, MayStand, empty_round, lane_at, with_command};
 
     /// How many lanes a round has.
     pub const LANES: usize = 16;
@@ -74,8 +73,8 @@ impl Round {
         self.lanes[lane].commands.as_slice()
     }
 
-    // The round of a number, without commands.
-    pub(crate) fn new(alloc: Global, number: u32) -> Result<Round, ScriptFault>
+    /// The round of a number, without commands. It fails only for want of memory.
+    pub fn new(alloc: Global, number: u32) -> Result<Round, ScriptFault>
         requires { number ≤ 1000000000 }
         ensures empty { IfOk result (λ round. round ≡ empty_round number) }
         ensures refused { IfErr result (λ fault. fault ≡ ScriptFault.OutOfMemory) }
@@ -89,8 +88,8 @@ impl Round {
         Ok(Round { number, lanes })
     }
 
-    // One more command at the end of a lane.
-    pub(crate) fn add(&mut self, lane: u8, command: Command) -> Result<(), ScriptFault>
+    /// Puts a command at the end of a lane. It fails only for want of memory.
+    pub fn add(&mut self, lane: u8, command: Command) -> Result<(), ScriptFault>
         requires lane { lane < 16 }
         requires stands { MayStand lane command }
         ensures added { OnOk result (self.new ≡ with_command self.old lane command) }

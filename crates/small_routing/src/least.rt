@@ -7,7 +7,7 @@ ghost use Rattle.small_routing.specs.work.Label.{IsRoutable};
 use crate::Workspace;
 use crate::kept::Kept;
 use crate::label::Label;
-use crate::search::search;
+use crate::search::{is_hopeless, try_all};
 use arrayvec::ArrayVec;
 use pool_base::{OutOfMemory, Steps, Times};
 use std::alloc::Global;
@@ -73,8 +73,11 @@ pub(crate) fn least_route(
         room: free_seats_of(task),
         delay: 0,
     };
-    let mut path = ArrayVec::new();
     let mut best = None;
-    search(task, times, &label, &mut path, &mut best, kept)?;
+    if is_hopeless(task, times, &label, &best, kept) {
+        return Ok(None);
+    }
+    let mut path = ArrayVec::new();
+    try_all(task, times, &label, &mut path, &mut best, kept)?;
     Ok(best)
 }

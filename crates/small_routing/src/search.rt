@@ -16,33 +16,8 @@ use pool_base::{OutOfMemory, Times};
 use stop_orders::{Route, Stop, Task};
 
 /// Tries all ways on from a label, depth first and the soonest stop first, but for those from labels that
-/// are hopeless.
-pub(crate) fn search(
-    task: &Task,
-    times: &Times,
-    label: &Label,
-    path: &mut ArrayVec<Stop, 22>,
-    best: &mut Option<Route>,
-    kept: &mut Kept,
-) -> Result<(), OutOfMemory>
-    requires valid { IsRoutable (point_count times.now) task.now }
-    requires leads { LeadsTo (travel_time times.now) task.now path.old.items label.now }
-    requires small { IsSmallLabel (point_count times.now) (left_count (task_riders task.now) (task_passengers task.now) label.now.done) label.now }
-    requires room { length path.old.items + left_count (task_riders task.now) (task_passengers task.now) label.now.done ≤ 22 }
-    requires found { IsFound (travel_time times.now) task.now best.old }
-    requires settled { All (IsLabelDone (point_count times.now) (travel_time times.now) task.now best.old) (labels_of kept.old) }
-    ensures path { OnOk result (path.new.items ≡ path.old.items) }
-    ensures searched { OnOk result (Searched (point_count times.now) (travel_time times.now) task.now label.now best.old best.new (labels_of kept.new)) }
-{
-    if is_hopeless(task, times, label, best, kept) {
-        return Ok(());
-    }
-    try_all(task, times, label, path, best, kept)
-}
-
-/// Tries all ways on from a label. Its candidates take much room on the stack, so a label is judged before
-/// the call and not in it.
-fn try_all(
+/// are hopeless. Its candidates take much room on the stack, so a label is judged before the call and not in it.
+pub(crate) fn try_all(
     task: &Task,
     times: &Times,
     label: &Label,
@@ -89,7 +64,13 @@ fn try_all(
 
 /// Whether it is seen at once that no way on from a label is better than what was found: someone can't be
 /// served any more, or not with less delay, or a label from which all ways on were tried dominates it.
-fn is_hopeless(task: &Task, times: &Times, label: &Label, best: &Option<Route>, kept: &Kept) -> bool
+pub(crate) fn is_hopeless(
+    task: &Task,
+    times: &Times,
+    label: &Label,
+    best: &Option<Route>,
+    kept: &Kept,
+) -> bool
     requires valid { IsRoutable (point_count times.now) task.now }
     requires small { IsSmallLabel (point_count times.now) (left_count (task_riders task.now) (task_passengers task.now) label.now.done) label.now }
     requires settled { All (IsLabelDone (point_count times.now) (travel_time times.now) task.now best.now) (labels_of kept.now) }

@@ -10,6 +10,7 @@ mod ring;
 mod rows;
 mod search;
 mod short_hop;
+mod single;
 mod table;
 #[cfg(test)]
 mod tests;
@@ -18,5 +19,6 @@ mod ways;
 pub use plain::times_by_repeated_relaxation;
 pub use ring::Ring;
 pub use short_hop::ShortHop;
+pub use single::times_from;
 pub use table::{are_known, indexes_of, table_of_times, times_between};
 pub use ways::{NetworkWays, Ways};

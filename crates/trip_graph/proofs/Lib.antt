@@ -4,3 +4,4 @@ pub mod MoreRows
 pub mod LevelSteps
 pub mod Runs
 pub mod GraphFaults
+pub mod SingleEdges

@@ -8,9 +8,10 @@ ghost use Rattle.trip_graph.specs.Answer.{IsAnswer, IsTripGraphOf, HoldRows};
 use crate::all_levels::all_levels;
 use crate::answer::GraphAnswer;
 use crate::batch_growth::BatchGrowth;
+use crate::edges::edges_of;
 use crate::rows::{add_vehicle, held_row};
 use crate::workers::Workers;
-use pair_graph::{rider_rider, rider_vehicle};
+use pair_graph::rider_rider;
 use plan_rules::{GraphFault, TripGraph, TripRow};
 use pool_base::{OutOfMemory, Sequence, Times};
 use rider_limits::Settings;
@@ -53,7 +54,7 @@ pub fn grow_graph<G: Gate>(
     let Some(levels) = all_levels(alloc, &workers, &growth, settings.trip, room)? else {
         return Ok(GraphAnswer::Overflow);
     };
-    let rv = rider_vehicle(alloc, settled, times)?;
+    let rv = edges_of(alloc, levels[1].as_slice())?;
     let graph = graph_of(alloc, settled, times, settings, &levels)?;
     Ok(GraphAnswer::Graph {
         graph,

@@ -8,6 +8,7 @@
 mod all_levels;
 mod answer;
 mod batch_growth;
+mod edges;
 mod graph_growth;
 mod level_rows;
 mod level_run;

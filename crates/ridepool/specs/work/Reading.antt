@@ -1,21 +1,23 @@
 -- What the readers of sources and of bytes say.
-use Rattle.std.specs.Prelude.{◌≡◌, ℕ, List, Result, Err, IfErr, MatchResult}
+use Rattle.std.specs.Prelude.{◌≡◌, ℕ, List, Some, Result, Err, IfErr, MatchResult}
 use Rattle.pool_base.specs.declared.which.Which.{Which}
 use Rattle.pool_io.specs.Faults.{Rose}
 use Rattle.pool_io.specs.declared.input.Input.{Input}
 use Rattle.rider_limits.specs.declared.settings.Mode.{Mode}
-use Rattle.rider_limits.specs.declared.settings.Mode.TheVariants.{Run, Load}
+use Rattle.rider_limits.specs.declared.settings.Mode.TheVariants.{Load, Drive}
 use Rattle.rider_limits.specs.declared.settings.Settings.{Settings}
+use Rattle.route_drive.specs.Day.{day_fault}
+use Rattle.route_drive.specs.declared.day.DayFault.{DayFault}
 use Rattle.script_rows.specs.Round.{NumberedLanes}
 use Rattle.script_rows.specs.declared.fault.ScriptFault.{ScriptFault}
 use Rattle.ridepool.specs.Explained.{HidesNoMemory}
-use Rattle.ridepool.specs.Inputs.{IsWithin, IsSourceTooLong, Reads, AreInputs, AreUntouched, IsStop}
+use Rattle.ridepool.specs.Inputs.{Inputs, IsWithin, IsSourceTooLong, Reads, AreInputs, AreReadFrom, AreUntouched, IsStop}
 use Rattle.ridepool.specs.Reading.{network_in, vehicles_in}
 use Rattle.dispatch_report.specs.Written.{Change}
 use Rattle.ridepool.specs.Seen.{SourceView, Sources}
 use Rattle.ridepool.specs.declared.inputs.ReadInputs.{ReadInputs}
 use Rattle.ridepool.specs.declared.status.RunStatus.{RunStatus}
-use Rattle.ridepool.specs.declared.status.RunStatus.TheVariants.{Network, Fleet, Script, TooLong, ReadFault, OutOfMemory}
+use Rattle.ridepool.specs.declared.status.RunStatus.TheVariants.{Network, Fleet, Script, TooLong, ReadFault, OutOfMemory, Day}
 
 -- why a source wasn't read to its end
 pub data IsUnread (s : Change SourceView) (which : Which) : RunStatus → Type 0 where
@@ -44,10 +46,22 @@ RefusesRounds read (Script fault) = read ≡ Err fault
 RefusesRounds read OutOfMemory = Unit {0}
 RefusesRounds read _ = ⊥
 
+-- what came of the sources
+pub record ReadSources (s : Sources) (result : Result ReadInputs RunStatus) : Type 0 where
+  pub inputs : MatchResult result
+      (λ got. (settings : Settings) → AreReadFrom s (record { settings = settings; roads = got.network; vehicles = got.fleet; rounds = got.script }))
+      (IsStop s)
+  pub refused : IfErr result HidesNoMemory
+
+-- the sources were read, and their script is no day
+abbrev pub IsReadAsNoDay : Sources → DayFault → Type 0
+IsReadAsNoDay s fault = (i : Inputs) × AreReadFrom s i × (day_fault i.rounds ≡ Some fault)
+
 -- why there are no inputs, by the command
 abbrev pub IsNoInput : Mode → Sources → RunStatus → Type 0
-IsNoInput Run s status = IsStop s status
 IsNoInput (Load shape) s status = AreUntouched s × (status ≡ OutOfMemory)
+IsNoInput Drive s (Day fault) = IsReadAsNoDay s fault
+IsNoInput mode s status = IsStop s status
 
 -- what came of the inputs
 pub record GotInputs (settings : Settings) (s : Sources) (result : Result ReadInputs RunStatus) : Type 0 where

@@ -1,28 +1,48 @@
 -- What stands where the report, or a part of it, was or wasn't written.
-use Rattle.std.specs.Prelude.{◌≡◌, ℕ, ◌+◌, ◌<◌, ◌≤◌, List, [], ◌∷◌, ◌++◌, length, take, Option, Result, Err, IfErr, ◌⊎◌}
+use Rattle.std.specs.Prelude.{◌≡◌, ℕ, ◌<◌, ◌≤◌, List, [], ◌∷◌, ◌++◌, length, map, take, Option, Result, IfErr, ◌⊎◌}
 use Rattle.std.specs.Io.KnownBytes.{Appends, Keeps}
 use Rattle.dispatch_engine.specs.Run.{IsReady, IsRoundRun, IsRun, position_after_run}
+use Rattle.dispatch_report.specs.Day.{day_end_text}
 use Rattle.dispatch_report.specs.Round.{end_text}
+use Rattle.dispatch_report.specs.declared.day.DayCounts.{DayCounts}
 use Rattle.pool_io.specs.Faults.{Rose}
-use Rattle.request_book.specs.Book.{BookView, next_position}
+use Rattle.request_book.specs.Book.{BookView, next_position, opening}
 use Rattle.request_book.specs.Replay.{state_after}
 use Rattle.request_book.specs.declared.journal.Journal.{Journal}
+use Rattle.rider_limits.specs.declared.settings.Mode.TheVariants.{Drive}
 use Rattle.rider_limits.specs.declared.settings.Settings.{Settings}
 use Rattle.rider_notices.specs.Notices.{notices}
 use Rattle.rider_notices.specs.Told.{NotifierView, HaveHeard}
 use Rattle.road_network.specs.Roads.{Roads}
+use Rattle.route_drive.specs.Driven.{IsTooLateDay}
+use Rattle.route_drive.specs.declared.day_run.DayRound.{DayRound}
+use Rattle.route_drive.specs.declared.day_run.DayRun.{DayRun}
+use Rattle.route_drive.specs.declared.day_run.DriveFault.{DriveFault}
+use Rattle.route_drive.specs.declared.day_run.DriveFault.TheVariants as drive
 use Rattle.script_rows.specs.Round.{NumberedLanes}
 use Rattle.ridepool.specs.Inputs.{Inputs}
-use Rattle.ridepool.specs.Report.{added_text, rounds_text, run_notices, Begins, IsWhole, IsPart}
+use Rattle.ridepool.specs.Report.{added_text, journals_of, rounds_text, rounds_notices, Begins, IsWhole, IsPart}
 use Rattle.dispatch_report.specs.declared.fault.ReportFault.{ReportFault}
 use Rattle.dispatch_report.specs.declared.fault.ReportFault.TheVariants as report
 use Rattle.ridepool.specs.declared.status.RunStatus.{RunStatus}
-use Rattle.ridepool.specs.declared.status.RunStatus.TheVariants.{WriteFault, OutOfMemory}
+use Rattle.ridepool.specs.declared.status.RunStatus.TheVariants.{WriteFault, OutOfMemory, TooLate}
 
 -- the end of a run whose text wasn't written whole
 abbrev pub status_of : ReportFault → RunStatus
 status_of report.WriteFault = WriteFault
 status_of report.OutOfMemory = OutOfMemory
+
+-- the end of a call whose day isn't driven to its end
+abbrev pub late_status : DriveFault → RunStatus
+late_status (drive.TooLate round made) = TooLate round made
+late_status drive.OutOfMemory = OutOfMemory
+
+-- the counts of a day, and its last lines
+abbrev pub day_counts : DayRun → DayCounts
+day_counts run = record { picked = run.picked; dropped = run.dropped; worst_wait = run.worst_wait; worst_delay = run.worst_delay }
+
+abbrev pub day_ending : DayRun → List ℕ
+day_ending run = day_end_text (day_counts run) (position_after_run 0 (journals_of run.rounds))
 
 -- a text was written and flushed, or a beginning of it stands
 abbrev pub IsTextFault : List ℕ → Option (List ℕ) → Option (List ℕ) → ℕ → ℕ → RunStatus → Type 0
@@ -36,66 +56,126 @@ pub record IsFlushed (before after : Option (List ℕ)) (low high : ℕ) (result
   pub fault : IfErr result (λ status. (status ≡ WriteFault) × Rose low high)
   pub never_falls : low ≤ high
 
+-- these are the first of some rounds
+abbrev pub BeginsRounds : List DayRound → List DayRound → Type 0
+BeginsRounds rounds made = (rest : List DayRound) × (made ++ rest ≡ rounds)
+
 module _ (settings : Settings) (roads : Roads) where
+  -- what a round adds is written, and its notices were told
+  pub record PutsRound (r : DayRound) (before after : Option (List ℕ)) (notifiers left : List NotifierView) : Type 0 where
+    pub text : Appends before after (added_text settings.mode settings.proof r)
+    pub told : HaveHeard (notices roads.nodes settings.wait r.journal) notifiers left
+
+  -- why a round wasn't written whole, flushed and told; nobody was told anything of it
+  pub record IsUnput (r : DayRound) (before after : Option (List ℕ)) (notifiers left : List NotifierView) (low high : ℕ) (status : RunStatus) : Type 0 where
+    pub part : IsTextFault (added_text settings.mode settings.proof r) before after low high status
+    pub told : left ≡ notifiers
+
+  -- what rounds add is written, and their notices were told
+  pub record HasPut (made : List DayRound) (before after : Option (List ℕ)) (notifiers left : List NotifierView) : Type 0 where
+    pub text : Appends before after (rounds_text settings made)
+    pub told : HaveHeard (rounds_notices settings roads made) notifiers left
+
+  -- of some rounds the first were put out, and the next wasn't
+  pub record StopsIn (rounds : List DayRound) (before after : Option (List ℕ)) (notifiers left : List NotifierView) (low high : ℕ) (status : RunStatus) : Type 0 where
+    pub made : List DayRound
+    pub next : DayRound
+    pub first : BeginsRounds rounds (made ++ next ∷ [])
+    pub here : Option (List ℕ)
+    pub heard : List NotifierView
+    pub faults : ℕ
+    pub puts : HasPut made before here notifiers heard
+    pub up : low ≤ faults
+    pub why : IsUnput next here after heard left faults high status
+
   -- a journal is a run of the round that a book comes to
   pub record NextJournal (book : BookView) (round : NumberedLanes) (journal : Journal) : Type 0 where
     pub run : IsRoundRun settings roads round journal
     pub first : journal.first ≡ book.first
     pub base : journal.base ≡ book.base
 
+  -- the round of a journal
+  abbrev pub made_of : NumberedLanes → Journal → DayRound
+  made_of round journal = record { number = round.number; journal = journal }
+
   -- the round was run, its text written and its notices told; the book stands behind it
   pub record WritesRound (book : BookView) (round : NumberedLanes) (before after : Option (List ℕ)) (notifiers left : List NotifierView) (next : BookView) : Type 0 where
     pub journal : Journal
     pub is : NextJournal book round journal
-    pub text : Appends before after (added_text settings.mode settings.proof round.number journal)
-    pub told : HaveHeard (notices roads.nodes settings.wait journal) notifiers left
+    pub puts : PutsRound (made_of round journal) before after notifiers left
     pub ready : IsReady settings roads next
     pub first : next.first ≡ next_position book.first journal.entries
     pub base : next.base ≡ state_after roads.nodes settings.wait book.base journal.entries
     pub entries : next.entries ≡ []
 
-  -- a beginning of the round's text was written
-  pub record WritesPart (book : BookView) (round : NumberedLanes) (before after : Option (List ℕ)) : Type 0 where
-    pub journal : Journal
-    pub is : NextJournal book round journal
-    pub part : Begins before after (added_text settings.mode settings.proof round.number journal)
+  -- why a round wasn't run, written whole, flushed and told
+  pub data IsRoundFault (book : BookView) (round : NumberedLanes) (before after : Option (List ℕ)) (notifiers left : List NotifierView) (low high : ℕ) : RunStatus → Type 0 where
+    unrun : Keeps before after → left ≡ notifiers → IsRoundFault book round before after notifiers left low high OutOfMemory
+    unput : (journal : Journal) (status : RunStatus) → NextJournal book round journal
+        → IsUnput (made_of round journal) before after notifiers left low high status → IsRoundFault book round before after notifiers left low high status
 
-  -- why a round wasn't written whole, flushed and told; nobody was told anything of it
-  abbrev pub IsRoundFault : BookView → NumberedLanes → Option (List ℕ) → Option (List ℕ) → List NotifierView → List NotifierView → ℕ → ℕ → RunStatus → Type 0
-  IsRoundFault book round before after notifiers left low high WriteFault = Rose low high × WritesPart book round before after × (left ≡ notifiers)
-  IsRoundFault book round before after notifiers left low high OutOfMemory = (Keeps before after ⊎ WritesPart book round before after) × (left ≡ notifiers)
-  IsRoundFault book round before after notifiers left low high _ = ⊥
+  -- what was made is a run of some rounds from a book
+  pub record RunsFrom (book : BookView) (rounds : List NumberedLanes) (made : List DayRound) : Type 0 where
+    pub numbers : map (λ r. r.number) made ≡ map (λ r. r.number) rounds
+    pub run : IsRun settings roads book.base book.first rounds (journals_of made)
 
-  -- rounds were run and written, and the last line, and their notices were told
-  pub record WritesRounds (book : BookView) (rounds : List NumberedLanes) (before after : Option (List ℕ)) (notifiers left : List NotifierView) : Type 0 where
-    pub journals : List Journal
-    pub run : IsRun settings roads book.base book.first rounds journals
-    pub text : Appends before after (rounds_text settings rounds journals ++ end_text (next_position (position_after_run book.first journals) []))
-    pub told : HaveHeard (run_notices settings roads journals) notifiers left
+  -- of the first of them
+  abbrev pub RunsFirst : BookView → List NumberedLanes → List DayRound → Type 0
+  RunsFirst book rounds made = (count : ℕ) × RunsFrom book (take count rounds) made
 
-  -- a run of the first rounds stands in part, without the first lines
-  pub data IsRoundsPart (book : BookView) (rounds : List NumberedLanes) (before after : Option (List ℕ)) (notifiers left : List NotifierView) : Type 0 where
-    whole : (count : ℕ) (journals : List Journal) → IsRun settings roads book.base book.first (take count rounds) journals
-        → Appends before after (rounds_text settings (take count rounds) journals)
-        → HaveHeard (run_notices settings roads journals) notifiers left → IsRoundsPart book rounds before after notifiers left
-    next_round : (count : ℕ) (journals : List Journal) (next : Journal) → IsRun settings roads book.base book.first (take (count + 1) rounds) (journals ++ next ∷ [])
-        → (b : Begins before after (rounds_text settings (take (count + 1) rounds) (journals ++ next ∷ [])))
-        → length (rounds_text settings (take count rounds) journals) ≤ length b.written
-        → HaveHeard (run_notices settings roads journals) notifiers left → IsRoundsPart book rounds before after notifiers left
-    last_line : (journals : List Journal) → IsRun settings roads book.base book.first rounds journals
-        → (b : Begins before after (rounds_text settings rounds journals ++ end_text (next_position (position_after_run book.first journals) [])))
-        → length (rounds_text settings rounds journals) ≤ length b.written → 0 < length b.unwritten
-        → HaveHeard (run_notices settings roads journals) notifiers left → IsRoundsPart book rounds before after notifiers left
+  -- of all of them, and these are its last lines
+  abbrev pub RunsAll : BookView → List NumberedLanes → List DayRound → List ℕ → Type 0
+  RunsAll book rounds made end = RunsFrom book rounds made × (end ≡ end_text (next_position (position_after_run book.first (journals_of made)) []))
 
-  -- why rounds weren't written whole, or the last flush failed
-  abbrev pub IsRoundsFault : BookView → List NumberedLanes → Option (List ℕ) → Option (List ℕ) → List NotifierView → List NotifierView → ℕ → ℕ → RunStatus → Type 0
-  IsRoundsFault book rounds before after notifiers left low high WriteFault =
-      Rose low high × (IsRoundsPart book rounds before after notifiers left ⊎ WritesRounds book rounds before after notifiers left)
-  IsRoundsFault book rounds before after notifiers left low high OutOfMemory = IsRoundsPart book rounds before after notifiers left
-  IsRoundsFault book rounds before after notifiers left low high _ = ⊥
+  module _ (AreFirst : List DayRound → Type 0) (IsReport : List DayRound → List ℕ → Type 0) where
+    -- all rounds and the last lines are written behind the first lines, and the notices were told
+    pub record WritesRounds (before after : Option (List ℕ)) (notifiers left : List NotifierView) : Type 0 where
+      pub made : List DayRound
+      pub end : List ℕ
+      pub report : IsReport made end
+      pub text : Appends before after (rounds_text settings made ++ end)
+      pub told : HaveHeard (rounds_notices settings roads made) notifiers left
 
--- why the report of these inputs wasn't written whole, or the last flush failed
+    -- the first rounds stand in part behind the first lines
+    pub data IsRoundsPart (before after : Option (List ℕ)) (notifiers left : List NotifierView) : Type 0 where
+      whole : (made : List DayRound) → AreFirst made → Appends before after (rounds_text settings made)
+          → HaveHeard (rounds_notices settings roads made) notifiers left → IsRoundsPart before after notifiers left
+      next_round : (made : List DayRound) (next : DayRound) → AreFirst (made ++ next ∷ [])
+          → (b : Begins before after (rounds_text settings (made ++ next ∷ []))) → length (rounds_text settings made) ≤ length b.written
+          → HaveHeard (rounds_notices settings roads made) notifiers left → IsRoundsPart before after notifiers left
+      last_lines : (made : List DayRound) (end : List ℕ) → IsReport made end
+          → (b : Begins before after (rounds_text settings made ++ end)) → length (rounds_text settings made) ≤ length b.written → 0 < length b.unwritten
+          → HaveHeard (rounds_notices settings roads made) notifiers left → IsRoundsPart before after notifiers left
+
+    -- why rounds weren't written whole, or the last flush failed
+    abbrev pub IsRoundsFault : Option (List ℕ) → Option (List ℕ) → List NotifierView → List NotifierView → ℕ → ℕ → RunStatus → Type 0
+    IsRoundsFault before after notifiers left low high WriteFault =
+        Rose low high × (IsRoundsPart before after notifiers left ⊎ WritesRounds before after notifiers left)
+    IsRoundsFault before after notifiers left low high OutOfMemory = IsRoundsPart before after notifiers left
+    IsRoundsFault before after notifiers left low high _ = ⊥
+
+    -- the first lines, all rounds and the last lines are written
+    pub record WritesReport (head : List ℕ) (before after : Option (List ℕ)) (notifiers left : List NotifierView) : Type 0 where
+      pub here : Option (List ℕ)
+      pub first : Appends before here head
+      pub rounds : WritesRounds here after notifiers left
+
+    -- why not: the first lines weren't, or behind them the rounds weren't
+    pub data IsReportFault (head : List ℕ) (before after : Option (List ℕ)) (notifiers left : List NotifierView) (low high : ℕ) : RunStatus → Type 0 where
+      unbegun : (status : RunStatus) → IsTextFault head before after low high status → left ≡ notifiers → IsReportFault head before after notifiers left low high status
+      behind : (status : RunStatus) (here : Option (List ℕ)) (middle : ℕ) → Appends before here head → low ≤ middle → IsRoundsFault here after notifiers left middle high status
+          → IsReportFault head before after notifiers left low high status
+
+-- these are the rounds, and these the last lines
+abbrev pub EndsRounds : List DayRound → List ℕ → List DayRound → List ℕ → Type 0
+EndsRounds rounds last made end = (made ≡ rounds) × (end ≡ last)
+
+-- why the report of these inputs wasn't written whole, or the last flush failed; or a day comes too late, and nothing is
+-- written
 abbrev pub IsWritingFault : Inputs → Option (List ℕ) → Option (List ℕ) → List NotifierView → List NotifierView → ℕ → ℕ → RunStatus → Type 0
 IsWritingFault i before after notifiers left low high WriteFault = Rose low high × (IsPart i before after notifiers left ⊎ IsWhole i before after notifiers left)
 IsWritingFault i before after notifiers left low high OutOfMemory = IsPart i before after notifiers left
+IsWritingFault i before after notifiers left low high (TooLate round made) =
+    (i.settings.mode ≡ Drive) × IsTooLateDay i.settings i.roads (opening i.vehicles) i.rounds round made
+    × (after ≡ before) × (high ≡ low) × (left ≡ notifiers)
 IsWritingFault i before after notifiers left low high _ = ⊥

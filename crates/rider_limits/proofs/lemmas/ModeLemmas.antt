@@ -1,20 +1,34 @@
--- Words give one mode.
-use Rattle.std.proofs.Common.{◌≡◌, ℕ, List, [], ◌∷◌, Option, Some, None, refl, subst}
+-- Words give one command.
+use Rattle.std.proofs.Common.{◌≡◌, ℕ, List, [], ◌∷◌, Option, Some, None, refl, sym, ◌∙◌}
 use Rattle.rider_limits.specs.declared.command.Command.{Command}
 use Rattle.rider_limits.specs.declared.command.Command.TheVariants as command
 use Rattle.rider_limits.specs.declared.settings.Mode.{Mode}
-use Rattle.rider_limits.specs.declared.settings.Mode.TheVariants.{Run, Load}
+use Rattle.rider_limits.specs.declared.settings.Mode.TheVariants.{Run, Load, Drive}
 use Rattle.rider_limits.specs.declared.settings.Settings.{Settings}
 use Rattle.rider_limits.specs.Key.{command_of}
 use Rattle.rider_limits.specs.Settings.{AreGiven, IsModeGiven}
 
-one_mode : (c : Option Command) (words : List (List ℕ)) (m : Mode) → IsModeGiven c words Run → IsModeGiven c words m → m ≡ Run
-one_mode (Some command.Run) words Run p q = refl
-one_mode (Some command.Run) words (Load shape) p q = absurd q
-one_mode (Some command.Load) words m p q = absurd p
-one_mode None words m p q = absurd p
+-- the command of a mode
+abbrev pub command_in : Mode → Command
+command_in Run = command.Run
+command_in (Load shape) = command.Load
+command_in Drive = command.Drive
 
--- of two settings that words give, both are for a run or none is
-pub both_run : (words : List (List ℕ)) (s t : Settings) → AreGiven words s → s.mode ≡ Run → AreGiven words t → t.mode ≡ Run
-both_run [] s t p run q = absurd p
-both_run (w ∷ ws) s t p run q = one_mode (command_of w) ws t.mode (subst (IsModeGiven (command_of w) ws) run p.mode) q.mode
+mode_command : (c : Option Command) (words : List (List ℕ)) (m : Mode) → IsModeGiven c words m → c ≡ Some (command_in m)
+mode_command (Some command.Run) words Run given = refl
+mode_command (Some command.Run) words (Load shape) given = absurd given
+mode_command (Some command.Run) words Drive given = absurd given
+mode_command (Some command.Load) words Run given = absurd given
+mode_command (Some command.Load) words (Load shape) given = refl
+mode_command (Some command.Load) words Drive given = absurd given
+mode_command (Some command.Drive) words Run given = absurd given
+mode_command (Some command.Drive) words (Load shape) given = absurd given
+mode_command (Some command.Drive) words Drive given = refl
+mode_command None words m given = absurd given
+
+-- two settings that words give are for one command
+pub one_command : (words : List (List ℕ)) (s t : Settings) → AreGiven words s → AreGiven words t → command_in s.mode ≡ command_in t.mode
+one_command [] s t p q = absurd p
+one_command (w ∷ ws) s t p q =
+    let same : Some (command_in s.mode) ≡ Some (command_in t.mode) = sym (mode_command (command_of w) ws s.mode p.mode) ∙ mode_command (command_of w) ws t.mode q.mode in
+    cc

@@ -1,8 +1,8 @@
-use Rattle.std.specs.Prelude.{ℕ, ◌-◌, ◌<◌, ◌≤◌, Bool, ◌&&◌, List, [], ◌∷◌, ◌++◌, length, map, replicate, nat_lt, ◌==◌, slice_index_or, slice_set, if◌then◌else◌}
+use Rattle.std.specs.Prelude.{ℕ, ◌-◌, ◌<◌, ◌≤◌, Bool, ◌&&◌, List, [], ◌∷◌, ◌++◌, length, map, nat_lt, ◌==◌, slice_index_or, slice_set, if◌then◌else◌}
 use Rattle.std.specs.List.{filter}
 use Rattle.request_book.specs.declared.command.Command.{Command}
 use Rattle.script_rows.specs.declared.line.Line.{Line}
-use Rattle.script_rows.specs.Round.{NumberedLanes, lane_at, MayStand}
+use Rattle.script_rows.specs.Round.{NumberedLanes, MayStand, empty_round, with_command}
 
 -- what a row keeps that stands behind a row of a round
 pub record IsBehind (last : ℕ) (line : Line) : Type 0 where
@@ -11,17 +11,9 @@ pub record IsBehind (last : ℕ) (line : Line) : Type 0 where
   pub lane : line.lane < 16
   pub stands : MayStand line.lane line.command
 
--- a round with one more command at the end of a lane
-abbrev pub with_command : NumberedLanes → ℕ → Command → NumberedLanes
-with_command round lane command = record round { lanes = slice_set round.lanes lane (lane_at round lane ++ command ∷ []) }
-
 -- the commands of a round's lane, in the order of the rows
 abbrev pub commands_of : List Line → ℕ → ℕ → List Command
 commands_of lines number lane = map (λ l. l.command) (filter (λ l. l.round == number && l.lane == lane) lines)
-
--- the round of a number, without commands
-abbrev pub empty_round : ℕ → NumberedLanes
-empty_round number = record { number = number; lanes = replicate 16 [] }
 
 -- the last round, or one without commands
 abbrev pub last_round : List NumberedLanes → NumberedLanes

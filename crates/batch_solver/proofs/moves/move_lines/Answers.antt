@@ -4,7 +4,7 @@ use Rattle.plan_rules.specs.Plan.{times_chosen}
 use Rattle.pool_base.specs.Times.{point_count, travel_time}
 use Rattle.batch_solver.specs.Moves.{idle_vehicles}
 use Rattle.batch_solver.proofs.LeftLemmas.{kept_below, kept_few}
-use Rattle.batch_solver.proofs.MoveLemmas.{has_places, no_moves}
+use Rattle.batch_solver.proofs.lemmas.MoveLemmas.{has_places, no_moves}
 use Rattle.batch_solver.proofs.moves.move_lines.Goals as goal
 
 pub returns-then-is_empty : goal.returns-then-is_empty

@@ -2,7 +2,7 @@ use Rattle.std.proofs.Common.{ℕ, List, All, Contains, map, sym, ap, ◌∙◌,
 use Rattle.batch_snapshot.specs.Batch.{Batch}
 use Rattle.road_network.specs.Roads.{Roads, index_in}
 use Rattle.travel_times.specs.Table.{AreTravelTimes}
-use Rattle.batch_solver.proofs.PointLemmas.{points_known}
+use Rattle.batch_solver.proofs.lemmas.PointLemmas.{points_known}
 use Rattle.batch_solver.proofs.solving.solve_batch.Goals as goal
 
 pub table-requires-clause-known : goal.table-requires-clause-known

@@ -14,7 +14,7 @@ use Rattle.plan_rules.proofs.lemmas.ReadLemmas.{reads_push}
 use Rattle.plan_rules.proofs.lemmas.TreeLemmas.{tree_value_bounds}
 use Rattle.plan_rules.proofs.lemmas.SearchTreeLemmas.{tree_of_value}
 use Rattle.bound_checker.specs.Visit.{coming_of}
-use Rattle.bound_checker.proofs.WalkLemmas.{coming_start, path_none, fault_here, least_more}
+use Rattle.bound_checker.proofs.lemmas.WalkLemmas.{coming_start, path_none, fault_here, least_more}
 use Rattle.bound_checker.proofs.checker.check.Goals as goal
 
 pub loop-place-init : goal.loop-place-init

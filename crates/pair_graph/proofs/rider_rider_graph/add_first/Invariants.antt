@@ -1,6 +1,9 @@
 use Rattle.pool_base.specs.Times.{travel_time}
-use Rattle.pair_graph.specs.work.RrGraph.{IsRrGraphUpTo}
+use Rattle.pair_graph.specs.work.RrGraph.{IsRrGraphUpTo, IsTaskOfFirst}
 use Rattle.pair_graph.proofs.rider_rider_graph.add_first.Given as goal
 
 abbrev pub invariant-loop-second : goal.invariant-loop-second
-invariant-loop-second g l = IsRrGraphUpTo (travel_time l.times) l.settled l.first l.second l.pairs.items
+invariant-loop-second g l = record {
+  upto : IsRrGraphUpTo (travel_time l.times) l.settled l.first l.second l.pairs.items;
+  task : IsTaskOfFirst l.settled l.first l.task;
+}

@@ -1,6 +1,6 @@
 use Rattle.std.proofs.Common.{◌∙◌, rules}
 use Rattle.std.proofs.lemmas.List.Sorted.{answers_always}
-use Rattle.request_book.proofs.CloseLemmas.{keyed_sought}
+use Rattle.request_book.proofs.lemmas.CloseLemmas.{keyed_sought}
 use Rattle.request_book.proofs.closing.in_batch.Goals as goal
 
 pub returns : goal.returns

@@ -5,8 +5,8 @@ use Rattle.request_book.specs.Closing.{Pick}
 use Rattle.request_book.specs.work.Closing.{takes_promise}
 use Rattle.request_book.specs.Rider.{with_status}
 use Rattle.request_book.specs.work.Closing.{is_waiting}
-use Rattle.request_book.proofs.KeyedLemmas.{set-changed_at, changed_at-absent}
-use Rattle.request_book.proofs.RegisterLemmas.{found_by_keys, named_by_keys, eqb_comm}
+use Rattle.request_book.proofs.lemmas.KeyedLemmas.{set-changed_at, changed_at-absent}
+use Rattle.request_book.proofs.lemmas.RegisterLemmas.{found_by_keys, named_by_keys, eqb_comm}
 use Rattle.request_book.proofs.closing.promise_one.Goals as goal
 
 pub returns-in-Some-clause-changed : goal.returns-in-Some-clause-changed

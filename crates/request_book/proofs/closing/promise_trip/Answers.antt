@@ -4,8 +4,8 @@ use Rattle.request_book.specs.declared.outcome.PlannedStop.{PlannedStop}
 use Rattle.request_book.specs.Closing.{Pick, trip_picks}
 use Rattle.request_book.specs.work.Closing.{promised_in_turn, takes_promise}
 use Rattle.request_book.specs.Keyed.{changed_at, KeysDiffer}
-use Rattle.request_book.proofs.CloseLemmas.{stops-pick, stops-drop, stops-all, takes_promise-id}
-use Rattle.request_book.proofs.KeyedLemmas.{KeysDiffer-changed_at, map-changed_at}
+use Rattle.request_book.proofs.lemmas.CloseLemmas.{stops-pick, stops-drop, stops-all, takes_promise-id}
+use Rattle.request_book.proofs.lemmas.KeyedLemmas.{KeysDiffer-changed_at, map-changed_at}
 use Rattle.request_book.proofs.closing.promise_trip.Goals as goal
 use Rattle.request_book.proofs.closing.promise_trip.Goals.{then-stop, else-stop}
 

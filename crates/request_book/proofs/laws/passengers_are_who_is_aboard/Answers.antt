@@ -1,6 +1,6 @@
 use Rattle.request_book.specs.Book.{opening}
 use Rattle.request_book.specs.Replay.{state_after}
-use Rattle.request_book.proofs.LawLemmas.{reached-consistent, passengers-exactly}
+use Rattle.request_book.proofs.lemmas.LawLemmas.{reached-consistent, passengers-exactly}
 use Rattle.request_book.proofs.laws.passengers_are_who_is_aboard.Goals as goal
 
 pub returns : goal.returns

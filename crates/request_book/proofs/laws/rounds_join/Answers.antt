@@ -1,4 +1,4 @@
-use Rattle.request_book.proofs.LawLemmas.{rounds-join}
+use Rattle.request_book.proofs.lemmas.LawLemmas.{rounds-join}
 use Rattle.request_book.proofs.laws.rounds_join.Goals as goal
 
 pub returns : goal.returns

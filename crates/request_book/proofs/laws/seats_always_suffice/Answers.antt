@@ -1,4 +1,4 @@
-use Rattle.request_book.proofs.LawLemmas.{reached-consistent}
+use Rattle.request_book.proofs.lemmas.LawLemmas.{reached-consistent}
 use Rattle.request_book.proofs.laws.seats_always_suffice.Goals as goal
 
 pub returns : goal.returns

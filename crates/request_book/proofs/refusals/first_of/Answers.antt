@@ -2,7 +2,7 @@ use Rattle.std.proofs.Common.{◌≡◌, true, false, Option, Some, None, get_or
 use Rattle.std.specs.Prelude.{is_some}
 use Rattle.std.proofs.lemmas.Bool.{true≢false}
 use Rattle.request_book.specs.declared.reply.BookRefusal.{BookRefusal}
-use Rattle.request_book.proofs.RegisterLemmas.{first_of-more, first_of-here, first_of-all}
+use Rattle.request_book.proofs.lemmas.RegisterLemmas.{first_of-more, first_of-here, first_of-all}
 use Rattle.request_book.proofs.refusals.first_of.Goals as goal
 
 none_from : (o : Option BookRefusal) → is_some o ≡ false → o ≡ None

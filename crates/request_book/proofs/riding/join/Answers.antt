@@ -4,7 +4,7 @@ use Rattle.std.specs.List.{insert}
 use Rattle.std.specs.List.Sorted.{IsBinarySearchResult}
 use Rattle.std.specs.Ordering.{nat_cmp}
 use Rattle.std.proofs.lemmas.Bool.{cond-true}
-use Rattle.request_book.proofs.RegisterLemmas.{insert_sought, present_sought}
+use Rattle.request_book.proofs.lemmas.RegisterLemmas.{insert_sought, present_sought}
 use Rattle.request_book.proofs.riding.join.Goals as goal
 use Rattle.request_book.proofs.riding.join.Goals.{in-Ok, in-Err}
 

@@ -1,7 +1,7 @@
 use Rattle.std.proofs.Common.{ℕ, List, Result, Ok, Err, subst, sym, ◌∙◌}
 use Rattle.std.specs.List.Sorted.{IsBinarySearchResult}
 use Rattle.std.specs.Ordering.{nat_cmp}
-use Rattle.request_book.proofs.RegisterLemmas.{remove_sought, without_sought}
+use Rattle.request_book.proofs.lemmas.RegisterLemmas.{remove_sought, without_sought}
 use Rattle.request_book.proofs.riding.leave.Goals as goal
 
 pub returns-in-Ok-clause-items : goal.returns-in-Ok-clause-items

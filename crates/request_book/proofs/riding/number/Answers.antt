@@ -2,7 +2,7 @@ use Rattle.std.proofs.Common.{◌≡◌, ◌++◌, ◌∷◌, [], false, eqb, Re
 use Rattle.std.specs.Prelude.{IsOk, IfOk}
 use Rattle.std.specs.List.{list_any}
 use Rattle.std.proofs.lemmas.Bool.{cond-false, false≢true}
-use Rattle.request_book.proofs.RegisterLemmas.{eqb_comm, list_any-agree}
+use Rattle.request_book.proofs.lemmas.RegisterLemmas.{eqb_comm, list_any-agree}
 use Rattle.request_book.proofs.riding.number.Goals as goal
 
 -- what holds of the value of an `Ok`, where it doesn't speak of that value

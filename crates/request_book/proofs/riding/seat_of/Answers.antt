@@ -1,6 +1,6 @@
 use Rattle.std.proofs.Common.{◌≡◌, eqb, false, sym, ap, ◌∙◌, arith}
 use Rattle.std.proofs.lemmas.Bool.{eqb-false}
-use Rattle.request_book.proofs.RegisterLemmas.{look_up-drop_more, look_up-drop_all}
+use Rattle.request_book.proofs.lemmas.RegisterLemmas.{look_up-drop_more, look_up-drop_all}
 use Rattle.request_book.proofs.riding.seat_of.Goals as goal
 
 pub loop-seat-preserved : goal.loop-seat-preserved

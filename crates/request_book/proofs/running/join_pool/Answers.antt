@@ -2,7 +2,7 @@ use Rattle.std.proofs.Common.{◌≡◌, ℕ, List, Result, Ok, Err, ap, ◌∙�
 use Rattle.std.specs.List.{insert}
 use Rattle.std.specs.List.Sorted.{IsBinarySearchResult}
 use Rattle.std.specs.Ordering.{nat_cmp}
-use Rattle.request_book.proofs.RegisterLemmas.{insert_sought, present_sought}
+use Rattle.request_book.proofs.lemmas.RegisterLemmas.{insert_sought, present_sought}
 use Rattle.request_book.proofs.running.join_pool.Goals as goal
 use Rattle.request_book.proofs.running.join_pool.Goals.{in-Ok, in-Err}
 

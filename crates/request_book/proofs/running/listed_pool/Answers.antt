@@ -6,8 +6,8 @@ use Rattle.request_book.specs.Keyed.{look_up, KeysRise}
 use Rattle.request_book.specs.Rider.{is_active}
 use Rattle.request_book.specs.State.{find_rider}
 use Rattle.request_book.specs.work.Register.{pool_id}
-use Rattle.request_book.proofs.KeyedLemmas.{look_up-nil, look_up-take}
-use Rattle.request_book.proofs.IndexLemmas.{IsPool-entered, IsPool-same, rise-entered}
+use Rattle.request_book.proofs.lemmas.KeyedLemmas.{look_up-nil, look_up-take}
+use Rattle.request_book.proofs.lemmas.IndexLemmas.{IsPool-entered, IsPool-same, rise-entered}
 use Rattle.request_book.proofs.running.listed_pool.Goals as goal
 
 nothing-rises : KeysRise (λ (n : ℕ). n) []

@@ -1,7 +1,7 @@
 use Rattle.std.proofs.Common.{◌≤◌, take}
 use Rattle.std.specs.Prelude.{vec_capacity}
 use Rattle.request_book.specs.Keyed.{KeysRise}
-use Rattle.request_book.proofs.IndexLemmas.{IsPool}
+use Rattle.request_book.proofs.lemmas.IndexLemmas.{IsPool}
 use Rattle.request_book.proofs.running.listed_pool.Given as goal
 
 abbrev pub invariant-loop-rider : goal.invariant-loop-rider

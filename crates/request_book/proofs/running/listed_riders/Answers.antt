@@ -4,7 +4,7 @@ use Rattle.std.specs.List.{list_any}
 use Rattle.std.proofs.lemmas.List.{take_more, take_all, map-append}
 use Rattle.request_book.specs.declared.rider.BookRider.{BookRider}
 use Rattle.request_book.specs.Keyed.{look_up}
-use Rattle.request_book.proofs.KeyedLemmas.{look_up-list_any, look_up-take}
+use Rattle.request_book.proofs.lemmas.KeyedLemmas.{look_up-list_any, look_up-take}
 use Rattle.request_book.proofs.running.listed_riders.Goals as goal
 
 pub list_rider-requires : goal.list_rider-requires

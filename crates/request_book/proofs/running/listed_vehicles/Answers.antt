@@ -4,7 +4,7 @@ use Rattle.std.specs.List.{list_any}
 use Rattle.std.proofs.lemmas.List.{take_more, take_all, map-append}
 use Rattle.batch_snapshot.specs.declared.vehicle.Vehicle.{Vehicle}
 use Rattle.request_book.specs.Keyed.{look_up}
-use Rattle.request_book.proofs.KeyedLemmas.{look_up-list_any, look_up-take}
+use Rattle.request_book.proofs.lemmas.KeyedLemmas.{look_up-list_any, look_up-take}
 use Rattle.request_book.proofs.running.listed_vehicles.Goals as goal
 
 pub list_vehicle-requires : goal.list_vehicle-requires

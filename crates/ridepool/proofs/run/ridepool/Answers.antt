@@ -1,5 +1,5 @@
 use Rattle.std.proofs.Common.{refl}
-use Rattle.ridepool.proofs.ExitLemmas.{words_answer, input_answer, done_answer, written_answer}
+use Rattle.ridepool.proofs.ExitLemmas.{words_answer, input_answer, done_answer, written_answer, got_is_day}
 use Rattle.ridepool.proofs.run.ridepool.Goals as goal
 
 pub returns-in-Err : goal.returns-in-Err
@@ -13,3 +13,6 @@ returns-in-Ok-write_report g c = done_answer _ c.in-Ok.settings c.in-Ok-inputs_f
 
 pub returns-in-Err-write_report : goal.returns-in-Err-write_report
 returns-in-Err-write_report g c = written_answer _ c.in-Ok.settings c.in-Ok-inputs_from.inputs c.in-Err-write_report.status (record { faultless = c.in-Ok.ensures.accepted.0; given = c.in-Ok.ensures.accepted.1 }) c.in-Ok-inputs_from.ensures.got c.in-Err-write_report.ensures.report
+
+pub write_report-requires-clause-day : goal.write_report-requires-clause-day
+write_report-requires-clause-day g c κs within = got_is_day c.in-Ok.settings _ c.in-Ok-inputs_from.inputs c.in-Ok-inputs_from.ensures.got

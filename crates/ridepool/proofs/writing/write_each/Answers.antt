@@ -1,6 +1,7 @@
 use Rattle.std.proofs.Common.{◌<◌, ◌≡◌, Err, length, ap, arith}
 use Rattle.std.proofs.lemmas.Result.{err_from_is_err_and}
-use Rattle.ridepool.proofs.WriteLemmas.{written_none, written_next, written_whole, written_all, round_fault, end_unwritten, lacks_end, flushed_end}
+use Rattle.ridepool.specs.work.Writing.{RunsAll, RunsFirst}
+use Rattle.ridepool.proofs.WriteLemmas.{written_none, written_next, written_whole, round_fault, run_written, run_lacks_end, end_unwritten, flushed_end}
 use Rattle.ridepool.proofs.writing.write_each.Goals as goal
 
 pub loop-round-init : goal.loop-round-init
@@ -31,28 +32,33 @@ returns-in_err-current-clause-rounds g c =
 
 pub returns-in-Ok-clause-rounds : goal.returns-in-Ok-clause-rounds
 returns-in-Ok-clause-rounds g c =
+    let s = c.args.setup.now.settings.now in
+    let roads = c.args.setup.now.network.now in
     let rounds = c.args.rounds.now in
     let i = c.loop-round.round-index in
     let before = g.K.Sink.written c.args.out.now in
     let here = g.K.Sink.written c.loop-round.out in
     let end : i ≡ length rounds = omega arith in
-    flushed_end c.args.setup.now.settings.now c.args.setup.now.network.now c.args.book rounds before (g.K.Sink.written c.write_end.new.sink) (g.K.Sink.written c.flush.new.out) _ _
+    flushed_end s roads (RunsFirst s roads c.args.book rounds) (RunsAll s roads c.args.book rounds) before (g.K.Sink.written c.write_end.new.sink) (g.K.Sink.written c.flush.new.out) _ _
     (g.K.Sink.faults c.args.out.now) (g.K.Sink.faults c.write_end.new.sink) (g.K.Sink.faults c.flush.new.out) c.flush.result
     (omega (arith, c.loop-round.invariant.1, c.write_end.ensures.never_falls))
-    (written_all c.args.setup.now.settings.now c.args.setup.now.network.now c.args.book c.loop-round.current rounds before here (g.K.Sink.written c.write_end.new.sink) _ _ c.next_position.result
-    (written_whole c.args.setup.now.settings.now c.args.setup.now.network.now c.args.book c.loop-round.current rounds i before here _ _ end c.loop-round.invariant.0) c.next_position.ensures c.in-Ok.ensures.bytes)
+    (run_written s roads c.args.book c.loop-round.current rounds before here (g.K.Sink.written c.write_end.new.sink) _ _ c.next_position.result
+    (written_whole s roads c.args.book c.loop-round.current rounds i before here _ _ end c.loop-round.invariant.0) c.next_position.ensures c.in-Ok.ensures.bytes)
     c.flush.ensures
 
 pub returns-clause-rounds : goal.returns-clause-rounds
 returns-clause-rounds g c =
+    let s = c.args.setup.now.settings.now in
+    let roads = c.args.setup.now.network.now in
     let rounds = c.args.rounds.now in
     let i = c.loop-round.round-index in
     let before = g.K.Sink.written c.args.out.now in
     let here = g.K.Sink.written c.loop-round.out in
     let after = g.K.Sink.written c.write_end.new.sink in
     let end : i ≡ length rounds = omega arith in
-    end_unwritten c.args.setup.now.settings.now c.args.setup.now.network.now c.args.book rounds before after _ _ (g.K.Sink.faults c.args.out.now) (g.K.Sink.faults c.loop-round.out) (g.K.Sink.faults c.write_end.new.sink)
+    end_unwritten s roads (RunsFirst s roads c.args.book rounds) (RunsAll s roads c.args.book rounds) before after _ _
+    (g.K.Sink.faults c.args.out.now) (g.K.Sink.faults c.loop-round.out) (g.K.Sink.faults c.write_end.new.sink)
     c.in-Err.fault c.status_of.result c.status_of.ensures
-    (lacks_end c.args.setup.now.settings.now c.args.setup.now.network.now c.args.book c.loop-round.current rounds before here after _ _ c.next_position.result
-    (written_whole c.args.setup.now.settings.now c.args.setup.now.network.now c.args.book c.loop-round.current rounds i before here _ _ end c.loop-round.invariant.0) c.next_position.ensures c.in-Err.ensures.bytes)
+    (run_lacks_end s roads c.args.book c.loop-round.current rounds before here after _ _ c.next_position.result
+    (written_whole s roads c.args.book c.loop-round.current rounds i before here _ _ end c.loop-round.invariant.0) c.next_position.ensures c.in-Err.ensures.bytes)
     c.loop-round.invariant.1 (λ is. c.in-Err.ensures.fault (ap Err is))

@@ -20,17 +20,24 @@ none_of : (tau : ℕ → ℕ → ℕ) (task : Task) (best : Option Route) → ((
 none_of tau task None h = h
 none_of tau task (Some route) h = tt
 
-pub search-requires-clause-leads : goal.search-requires-clause-leads
-search-requires-clause-leads c = leads_first (point_count c.args.times.now) (travel_time c.args.times.now) c.args.times.now.table.times c.args.task.now c.requires.valid c.none.result c.free_seats_of.result c.new-path.result.items c.none.ensures c.free_seats_of.ensures c.new-path.ensures
+pub try_all-requires-clause-leads : goal.try_all-requires-clause-leads
+try_all-requires-clause-leads c = leads_first (point_count c.args.times.now) (travel_time c.args.times.now) c.args.times.now.table.times c.args.task.now c.requires.valid c.none.result c.free_seats_of.result c.new-path.result.items c.none.ensures c.free_seats_of.ensures c.new-path.ensures
 
-pub search-requires-clause-small : goal.search-requires-clause-small
-search-requires-clause-small c = small_first (point_count c.args.times.now) (travel_time c.args.times.now) c.args.times.now.table.times c.args.task.now c.requires.valid c.none.result c.free_seats_of.result c.none.ensures c.free_seats_of.ensures
+pub is_hopeless-requires-clause-small : goal.is_hopeless-requires-clause-small
+is_hopeless-requires-clause-small c = small_first (point_count c.args.times.now) (travel_time c.args.times.now) c.args.times.now.table.times c.args.task.now c.requires.valid c.none.result c.free_seats_of.result c.none.ensures c.free_seats_of.ensures
 
-pub search-requires-clause-room : goal.search-requires-clause-room
-search-requires-clause-room c = left_first (point_count c.args.times.now) (travel_time c.args.times.now) c.args.times.now.table.times c.args.task.now c.requires.valid c.none.result c.new-path.result.items c.new-path.ensures
+pub returns-then-is_hopeless-clause-none : goal.returns-then-is_hopeless-clause-none
+returns-then-is_hopeless-clause-none c = λ stops serves.
+    least_none (point_count c.args.times.now) (travel_time c.args.times.now) c.args.task.now c.none.result c.free_seats_of.result None c.none.ensures c.free_seats_of.ensures (c.is_hopeless.ensures c.if-is_hopeless.true) stops serves
+
+pub try_all-requires-clause-small : goal.try_all-requires-clause-small
+try_all-requires-clause-small c = small_first (point_count c.args.times.now) (travel_time c.args.times.now) c.args.times.now.table.times c.args.task.now c.requires.valid c.none.result c.free_seats_of.result c.none.ensures c.free_seats_of.ensures
+
+pub try_all-requires-clause-room : goal.try_all-requires-clause-room
+try_all-requires-clause-room c = left_first (point_count c.args.times.now) (travel_time c.args.times.now) c.args.times.now.table.times c.args.task.now c.requires.valid c.none.result c.new-path.result.items c.new-path.ensures
 
 pub returns-clause-least : goal.returns-clause-least
-returns-clause-least c = least_of _ _ _ (least_none (point_count c.args.times.now) (travel_time c.args.times.now) c.args.task.now c.none.result c.free_seats_of.result c.search.new.best c.none.ensures c.free_seats_of.ensures c.in_ok-search.ensures.searched.exhausted)
+returns-clause-least c = least_of _ _ _ (least_none (point_count c.args.times.now) (travel_time c.args.times.now) c.args.task.now c.none.result c.free_seats_of.result c.try_all.new.best c.none.ensures c.free_seats_of.ensures c.in_ok-try_all.ensures.searched.exhausted)
 
 pub returns-clause-none : goal.returns-clause-none
-returns-clause-none c = none_of _ _ _ (least_none (point_count c.args.times.now) (travel_time c.args.times.now) c.args.task.now c.none.result c.free_seats_of.result c.search.new.best c.none.ensures c.free_seats_of.ensures c.in_ok-search.ensures.searched.exhausted)
+returns-clause-none c = none_of _ _ _ (least_none (point_count c.args.times.now) (travel_time c.args.times.now) c.args.task.now c.none.result c.free_seats_of.result c.try_all.new.best c.none.ensures c.free_seats_of.ensures c.in_ok-try_all.ensures.searched.exhausted)

@@ -5,7 +5,7 @@ use Rattle.request_book.specs.declared.state.State.{State}
 use Rattle.request_book.specs.Book.{BookView, IsBook}
 use Rattle.request_book.specs.work.Register.{state_of}
 use Rattle.request_book.proofs.BookLemmas.{round-book}
-use Rattle.request_book.proofs.IndexLemmas.{no-room}
+use Rattle.request_book.proofs.lemmas.IndexLemmas.{no-room}
 use Rattle.request_book.proofs.book.Book.take_round.Goals as goal
 
 pub invariant_of-self : goal.invariant_of-self

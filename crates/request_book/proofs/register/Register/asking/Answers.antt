@@ -6,7 +6,7 @@ use Rattle.std.proofs.lemmas.List.{take_all}
 use Rattle.batch_snapshot.specs.declared.rider.Rider.{Rider}
 use Rattle.request_book.specs.Sealing.{asking, after_seal}
 use Rattle.request_book.specs.State.{find_rider}
-use Rattle.request_book.proofs.SealLemmas.{filter_map-more}
+use Rattle.request_book.proofs.lemmas.SealLemmas.{filter_map-more}
 use Rattle.request_book.proofs.register.Register.asking.Goals as goal
 
 pub loop-id-preserved : goal.loop-id-preserved

@@ -4,7 +4,7 @@ use Rattle.request_book.specs.declared.reply.Reply.TheVariants.{Cancelled}
 use Rattle.request_book.specs.declared.state.State.{State}
 use Rattle.request_book.specs.work.Refusals.{first_of, aboard_refusal, ended_refusal}
 use Rattle.request_book.specs.work.Register.{state_of}
-use Rattle.request_book.proofs.StepLemmas.{cancel-unknown, cancel-known}
+use Rattle.request_book.proofs.lemmas.StepLemmas.{cancel-unknown, cancel-known}
 use Rattle.request_book.proofs.register.Register.cancel.Goals as goal
 
 pub returns-in_default-clause-stepped : goal.returns-in_default-clause-stepped

@@ -10,10 +10,10 @@ use Rattle.request_book.specs.Closing.{after_answer}
 use Rattle.request_book.specs.Keyed.{KeysDiffer, KeysRise}
 use Rattle.request_book.specs.work.Refusals.{not_this_batch}
 use Rattle.request_book.specs.work.Register.{state_of, IsIndexed}
-use Rattle.request_book.proofs.CloseLemmas.{answer-settled}
-use Rattle.request_book.proofs.IndexLemmas.{IsPool-same}
-use Rattle.request_book.proofs.KeyedLemmas.{rise_from_increasing}
-use Rattle.request_book.proofs.StepLemmas.{close-known, closed-some}
+use Rattle.request_book.proofs.lemmas.CloseLemmas.{answer-settled}
+use Rattle.request_book.proofs.lemmas.IndexLemmas.{IsPool-same}
+use Rattle.request_book.proofs.lemmas.KeyedLemmas.{rise_from_increasing}
+use Rattle.request_book.proofs.lemmas.StepLemmas.{close-known, closed-some}
 use Rattle.request_book.proofs.register.Register.close.Goals as goal
 use Rattle.request_book.proofs.register.Register.close.Goals.{in-Some-take, in_default-take}
 

@@ -4,8 +4,8 @@ use Rattle.batch_snapshot.specs.declared.vehicle.Vehicle.{Vehicle}
 use Rattle.request_book.specs.declared.rider.BookRider.{BookRider}
 use Rattle.request_book.specs.declared.state.State.{State}
 use Rattle.request_book.specs.Keyed.{KeysDiffer, KeysRise}
-use Rattle.request_book.proofs.IndexLemmas.{IsPool-same}
-use Rattle.request_book.proofs.KeyedLemmas.{KeysDiffer-from_rise}
+use Rattle.request_book.proofs.lemmas.IndexLemmas.{IsPool-same}
+use Rattle.request_book.proofs.lemmas.KeyedLemmas.{KeysDiffer-from_rise}
 use Rattle.request_book.proofs.register.Register.holding.Goals as goal
 
 pub listed_riders-requires : goal.listed_riders-requires

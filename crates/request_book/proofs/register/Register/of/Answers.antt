@@ -5,7 +5,7 @@ use Rattle.request_book.specs.declared.rider.BookRider.{BookRider}
 use Rattle.request_book.specs.Keyed.{look_up, KeysRise, KeysDiffer}
 use Rattle.request_book.specs.work.Register.{pool_id}
 use Rattle.request_book.specs.State.{find_rider}
-use Rattle.request_book.proofs.KeyedLemmas.{look_up-nil, KeysDiffer-from_rise}
+use Rattle.request_book.proofs.lemmas.KeyedLemmas.{look_up-nil, KeysDiffer-from_rise}
 use Rattle.request_book.proofs.register.Register.of.Goals as goal
 
 pub listed_vehicles-requires : goal.listed_vehicles-requires

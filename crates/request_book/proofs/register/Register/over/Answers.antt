@@ -5,7 +5,7 @@ use Rattle.std.specs.Option.{option_to_list}
 use Rattle.std.proofs.lemmas.List.{take_all}
 use Rattle.request_book.specs.Sealing.{over_id}
 use Rattle.request_book.specs.State.{find_rider}
-use Rattle.request_book.proofs.SealLemmas.{filter_map-more}
+use Rattle.request_book.proofs.lemmas.SealLemmas.{filter_map-more}
 use Rattle.request_book.proofs.register.Register.over.Goals as goal
 
 pub loop-id-preserved : goal.loop-id-preserved

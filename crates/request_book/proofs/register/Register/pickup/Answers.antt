@@ -14,9 +14,9 @@ use Rattle.request_book.specs.work.Register.{state_of}
 use Rattle.request_book.specs.Rider.{with_status}
 use Rattle.request_book.specs.State.{find_rider, find_vehicle}
 use Rattle.request_book.specs.Step.{takes_in}
-use Rattle.request_book.proofs.KeyedLemmas.{KeysRise-changed_at, KeysDiffer-changed_at, KeysRise-without, map-changed_at}
-use Rattle.request_book.proofs.IndexLemmas.{vehicle-set, IsPool-without, IsPool-same}
-use Rattle.request_book.proofs.StepLemmas.{pickup-no_vehicle, pickup-no_rider_at, pickup-known, fifth-none}
+use Rattle.request_book.proofs.lemmas.KeyedLemmas.{KeysRise-changed_at, KeysDiffer-changed_at, KeysRise-without, map-changed_at}
+use Rattle.request_book.proofs.lemmas.IndexLemmas.{vehicle-set, IsPool-without, IsPool-same}
+use Rattle.request_book.proofs.lemmas.StepLemmas.{pickup-no_vehicle, pickup-no_rider_at, pickup-known, fifth-none}
 use Rattle.request_book.proofs.register.Register.pickup.Goals as goal
 
 pub returns-in_default-clause-stepped : goal.returns-in_default-clause-stepped

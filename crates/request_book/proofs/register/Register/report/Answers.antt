@@ -8,9 +8,9 @@ use Rattle.request_book.specs.work.Refusals.{first_of, unknown_node, time_back}
 use Rattle.request_book.specs.work.Register.{state_of}
 use Rattle.request_book.specs.State.{find_vehicle}
 use Rattle.request_book.specs.Step.{stands_at}
-use Rattle.request_book.proofs.KeyedLemmas.{KeysRise-changed_at, map-changed_at}
-use Rattle.request_book.proofs.IndexLemmas.{vehicle-set}
-use Rattle.request_book.proofs.StepLemmas.{report-unknown, report-known}
+use Rattle.request_book.proofs.lemmas.KeyedLemmas.{KeysRise-changed_at, map-changed_at}
+use Rattle.request_book.proofs.lemmas.IndexLemmas.{vehicle-set}
+use Rattle.request_book.proofs.lemmas.StepLemmas.{report-unknown, report-known}
 use Rattle.request_book.proofs.register.Register.report.Goals as goal
 
 pub returns-in_default-clause-stepped : goal.returns-in_default-clause-stepped

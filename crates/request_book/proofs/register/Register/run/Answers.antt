@@ -7,7 +7,7 @@ use Rattle.request_book.specs.work.Register.{state_of}
 use Rattle.request_book.specs.Step.{step}
 use Rattle.request_book.specs.work.Table.{table_step}
 use Rattle.request_book.proofs.lemmas.StepTable.{step-is}
-use Rattle.request_book.proofs.IndexLemmas.{less-room}
+use Rattle.request_book.proofs.lemmas.IndexLemmas.{less-room}
 use Rattle.request_book.proofs.register.Register.run.Goals as goal
 
 pub returns-in-Submit-clause-ok : goal.returns-in-Submit-clause-ok

@@ -11,10 +11,10 @@ use Rattle.request_book.specs.work.Register.{state_of}
 use Rattle.request_book.specs.Rider.{with_status}
 use Rattle.request_book.specs.Sealing.{after_seal, batch_of, sealed_state}
 use Rattle.pool_io.specs.Faults.{one_more}
-use Rattle.request_book.proofs.BatchLemmas.{expired-map, after_seal-id, staying-rise, staying-pool}
-use Rattle.request_book.proofs.IndexLemmas.{IsPool-same}
-use Rattle.request_book.proofs.KeyedLemmas.{KeysDiffer-map, map-keys}
-use Rattle.request_book.proofs.StepLemmas.{seal-known}
+use Rattle.request_book.proofs.lemmas.BatchLemmas.{expired-map, after_seal-id, staying-rise, staying-pool}
+use Rattle.request_book.proofs.lemmas.IndexLemmas.{IsPool-same}
+use Rattle.request_book.proofs.lemmas.KeyedLemmas.{KeysDiffer-map, map-keys}
+use Rattle.request_book.proofs.lemmas.StepLemmas.{seal-known}
 use Rattle.request_book.proofs.register.Register.seal.Goals as goal
 use Rattle.request_book.proofs.register.Register.seal.Goals.{Joined-self}
 

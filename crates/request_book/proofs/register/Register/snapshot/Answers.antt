@@ -8,7 +8,7 @@ use Rattle.std.specs.List.{filter_map}
 use Rattle.request_book.specs.Keyed.{by_key}
 use Rattle.request_book.specs.Sealing.{batch_of, asking, after_seal}
 use Rattle.pool_io.specs.Faults.{one_more}
-use Rattle.request_book.proofs.BatchLemmas.{batch-riders, batch-expired, batch-kept}
+use Rattle.request_book.proofs.lemmas.BatchLemmas.{batch-riders, batch-expired, batch-kept}
 use Rattle.request_book.proofs.register.Register.snapshot.Goals as goal
 use Rattle.request_book.proofs.register.Register.snapshot.Goals.{After-of-3}
 

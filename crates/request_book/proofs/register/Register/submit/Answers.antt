@@ -9,9 +9,9 @@ use Rattle.request_book.specs.declared.state.State.{State}
 use Rattle.request_book.specs.Keyed.{KeysDiffer, KeysRise}
 use Rattle.request_book.specs.work.Register.{state_of, pool_id}
 use Rattle.request_book.specs.Rider.{is_active}
-use Rattle.request_book.proofs.KeyedLemmas.{look_up-list_any, KeysDiffer-push, KeysRise-placed}
-use Rattle.request_book.proofs.IndexLemmas.{IsPool-placed, IsPool-same, length-pool}
-use Rattle.request_book.proofs.StepLemmas.{submit-fits, submit-known}
+use Rattle.request_book.proofs.lemmas.KeyedLemmas.{look_up-list_any, KeysDiffer-push, KeysRise-placed}
+use Rattle.request_book.proofs.lemmas.IndexLemmas.{IsPool-placed, IsPool-same, length-pool}
+use Rattle.request_book.proofs.lemmas.StepLemmas.{submit-fits, submit-known}
 use Rattle.request_book.proofs.register.Register.submit.Goals as goal
 
 pub number-requires-clause-new : goal.number-requires-clause-new

@@ -5,7 +5,7 @@ use Rattle.request_book.specs.Consistent.{IsConsistent}
 use Rattle.request_book.specs.Step.{step}
 use Rattle.request_book.specs.declared.reply.Reply.{Reply}
 use Rattle.request_book.specs.work.Register.{state_of}
-use Rattle.request_book.proofs.ConsistentLemmas.{step-consistent}
+use Rattle.request_book.proofs.lemmas.ConsistentLemmas.{step-consistent}
 use Rattle.request_book.proofs.replay.Replay.run.Goals as goal
 
 pub invariant_of-self-2 : goal.invariant_of-self-2

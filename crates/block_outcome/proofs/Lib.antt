@@ -1,0 +1,4 @@
+pub mod PartLemmas
+pub mod ExactLemmas
+pub mod PlanLemmas
+pub mod AnswerLemmas

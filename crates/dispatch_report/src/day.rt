@@ -1,0 +1,72 @@
+ghost use Rattle.std.specs.Prelude.{◌≡◌, ◌++◌, ◌∷◌, [], OnOk, codes};
+ghost use Rattle.dispatch_report.specs.Day.{day_line, day_end_text};
+ghost use Rattle.dispatch_report.specs.Words.{numbered};
+ghost use Rattle.dispatch_report.specs.Written.{sink_seen, WritesText};
+ghost use Rattle.dispatch_report.specs.work.Lines.{WritesLines};
+
+use crate::block::write_number;
+use crate::fault::ReportFault;
+use crate::lines::write_line;
+use crate::words::put_numbered;
+use pool_base::OutOfMemory;
+use pool_io::Sink;
+use std::alloc::Global;
+
+/// What is counted of a driven day. Times are whole seconds.
+#[derive(Clone, Copy)]
+pub struct DayCounts {
+    pub picked: u64,
+    pub dropped: u64,
+    pub worst_wait: u64,
+    pub worst_delay: u64,
+}
+
+/// Writes the last lines of a driven day's report: its counts, and how many entries there were.
+///
+/// After either fault a part of the text was written, from its front and not the whole.
+#[tactic(auto, unfolding(crate::specs::Day::day_end_text))]
+pub fn write_day_end<K: Sink>(
+    alloc: Global,
+    sink: &mut K,
+    counts: &DayCounts,
+    entries: u64,
+) -> Result<(), ReportFault>
+    ensures { WritesText (sink_seen K.written K.faults sink.old sink.new) (day_end_text counts.now entries) result }
+{
+    let mut line = Vec::new(alloc);
+    write_counts(sink, &mut line, counts)?;
+    write_number(sink, &mut line, b"done ", entries)
+}
+
+fn write_counts<K: Sink>(
+    sink: &mut K,
+    line: &mut Vec<u8>,
+    counts: &DayCounts,
+) -> Result<(), ReportFault>
+    ensures { WritesLines (sink_seen K.written K.faults sink.old sink.new) (day_line counts.now ∷ []) result }
+{
+    line.clear();
+    put_counts(line, counts)?;
+    write_line(sink, line)
+}
+
+fn put_counts(line: &mut Vec<u8>, counts: &DayCounts) -> Result<(), OutOfMemory>
+    ensures { OnOk result (line.new.items ≡ line.old.items ++ day_line counts.now) }
+{
+    put_riders_served(line, counts)?;
+    put_worst(line, counts)
+}
+
+fn put_riders_served(line: &mut Vec<u8>, counts: &DayCounts) -> Result<(), OutOfMemory>
+    ensures { OnOk result (line.new.items ≡ line.old.items ++ (numbered (codes "day picked ") counts.now.picked ++ numbered (codes " dropped ") counts.now.dropped)) }
+{
+    put_numbered(line, b"day picked ", counts.picked)?;
+    put_numbered(line, b" dropped ", counts.dropped)
+}
+
+fn put_worst(line: &mut Vec<u8>, counts: &DayCounts) -> Result<(), OutOfMemory>
+    ensures { OnOk result (line.new.items ≡ line.old.items ++ (numbered (codes " worst-wait ") counts.now.worst_wait ++ numbered (codes " worst-delay ") counts.now.worst_delay)) }
+{
+    put_numbered(line, b" worst-wait ", counts.worst_wait)?;
+    put_numbered(line, b" worst-delay ", counts.worst_delay)
+}

@@ -1,0 +1,132 @@
+//! The lanes of a round, as entries come.
+ghost use Rattle.std.specs.Prelude.{◌≡◌, ◌↔◌, ◌<◌, ◌++◌, ◌∷◌, [], None, Some, ℕ, List, IfOk, IsTrue, MatchOption, length, slice_get};
+ghost use Rattle.lane_progress.specs.Stand.{AreDone, HaveCome, IsNext, IsRest, stand_after, stand_at};
+ghost use Rattle.request_book.specs.declared.command.Command.{Command as OneCommand};
+ghost use Rattle.request_book.specs.declared.journal.Entry.{Entry as OneEntry};
+ghost use Rattle.script_rows.specs.Round.{NumberedLanes, lane_at};
+ghost use Rattle.shared_book.specs.Locked.{sealed_by};
+
+use crate::stand::LaneStand;
+use pool_base::OutOfMemory;
+use request_book::{Command, Reply};
+use script_rows::Round;
+use std::alloc::Global;
+use std::marker::Model;
+
+/// How far the sixteen lanes of a round have come.
+#[derive(Drop)]
+pub struct Progress {
+    lanes: Vec<LaneStand>,
+}
+
+impl Model for Progress {
+    ghost use Rattle.std.specs.Prelude.{◌≡◌, List, length};
+    ghost use Rattle.lane_progress.specs.declared.stand.LaneStand.{LaneStand as Stand};
+
+    ghost Value = { List Stand };
+
+    ghost view = { λ p. p.lanes.items };
+
+    ghost invariant = { λ p. length p.lanes.items ≡ 16 };
+}
+
+impl Progress {
+    /// No lane has begun.
+    pub fn at_start(alloc: Global) -> Result<Progress, OutOfMemory>
+        ensures { IfOk result (λ lanes. (round : NumberedLanes) → HaveCome round lanes []) }
+    {
+        let lanes = vec![in alloc; LaneStand {
+            taken: 0,
+            pending: None
+        }; 16]?;
+        Ok(Progress { lanes })
+    }
+
+    /// How far a lane has come.
+    pub fn stand(&self, lane: usize) -> LaneStand
+        requires { lane < 16 }
+        ensures { result ≡ stand_at self.now lane }
+    {
+        self.lanes[lane]
+    }
+
+    /// The command of a lane that is to be taken next, where no batch waits for its close.
+    pub fn command<'a>(&self, round: &'a Round, lane: usize) -> Option<&'a Command>
+        requires { lane < 16 }
+        ensures { MatchOption result (slice_get (lane_at round.entry.now lane) (stand_at self.entry.now lane).taken ≡ None)
+            (λ command. slice_get (lane_at round.entry.now lane) (stand_at self.entry.now lane).taken ≡ Some command.now) }
+    {
+        round.lane(lane).get(self.lanes[lane].taken)
+    }
+
+    /// Notes an entry of this lane with this reply. Its command is the one with which the lane goes on.
+    pub fn take(&mut self, round: &Round, lane: usize, reply: Reply)
+        requires { lane < 16 }
+        ensures { (entries : List OneEntry) (command : OneCommand) → HaveCome round.now self.old entries → IsNext (lane_at round.now lane) (stand_at self.old lane) command
+            → HaveCome round.now self.new (entries ++ record { lane = lane; command = command; reply = reply } ∷ []) }
+    {
+        let stand = self.lanes[lane];
+        self.lanes[lane] = behind(stand, round.lane(lane), reply);
+    }
+
+    /// Whether each lane is at its end.
+    pub fn are_done(&self, round: &Round) -> bool
+        ensures { IsTrue result ↔ AreDone round.now self.now }
+    {
+        are_done(&self.lanes, round)
+    }
+}
+
+/// How far a lane has come with one more entry.
+fn behind(stand: LaneStand, commands: &[Command], reply: Reply) -> LaneStand
+    ensures { (command : OneCommand) → IsNext commands.now stand command → result ≡ stand_after stand reply }
+{
+    match stand.pending {
+        None => {
+            if stand.taken >= commands.len() {
+                return stand;
+            }
+            LaneStand {
+                taken: stand.taken + 1,
+                pending: sealed_by(reply),
+            }
+        }
+        Some(_batch) => LaneStand {
+            taken: stand.taken,
+            pending: None,
+        },
+    }
+}
+
+fn are_done(lanes: &[LaneStand], round: &Round) -> bool
+    requires { length lanes.now ≡ 16 }
+    ensures { IsTrue result ↔ AreDone round.now lanes.now }
+{
+    let _first = round.lane(0);
+    for lane in 0..16 {
+        if !is_done(lanes[lane], round.lane(lane)) {
+            return false;
+        }
+    }
+    true
+}
+
+/// Whether all commands were taken and no batch waits for its close.
+fn is_done(stand: LaneStand, commands: &[Command]) -> bool
+    ensures { IsTrue result ↔ IsRest commands.now stand [] }
+{
+    match stand.pending {
+        Some(_batch) => false,
+        None => stand.taken >= commands.len(),
+    }
+}
+
+/// The batch that a seal put up, by its reply.
+fn sealed_by(reply: Reply) -> Option<u64>
+    ensures { result ≡ sealed_by reply }
+{
+    match reply {
+        Reply::Sealed { batch } => Some(batch),
+        _ => None,
+    }
+}

@@ -1,0 +1,6 @@
+/// How many commands of a lane were taken, and the batch that it sealed and hasn't closed.
+#[derive(Clone, Copy, Debug, PartialEq, Eq)]
+pub struct LaneStand {
+    pub taken: usize,
+    pub pending: Option<u64>,
+}

@@ -1,0 +1,8 @@
+use Rattle.std.proofs.Common.{ℕ, ◌<◌, get_or}
+use Rattle.pool_base.specs.Times.{travel_time}
+use Rattle.batch_solver.specs.Trips.{IsLate}
+use Rattle.outcome_check.proofs.lemmas.LateLemmas.{no_late}
+use Rattle.outcome_check.proofs.late.are_late.Given as goal
+
+abbrev pub invariant-loop-place : goal.invariant-loop-place
+invariant-loop-place l = (k : ℕ) → k < l.place → IsLate l.points (travel_time l.times) l.settled (get_or l.vehicles.items k 0) (get_or l.late k no_late)

@@ -1,0 +1,64 @@
+use Rattle.std.proofs.Common.{◌≡◌, true, false, List, refl, ap, ◌∙◌, subst}
+use Rattle.std.proofs.lemmas.Bool.{eq-eqb, eqb-true}
+use Rattle.pool_base.specs.Times.{point_count, travel_time}
+use Rattle.stop_orders.specs.declared.stop.Stop.{Stop}
+use Rattle.stop_orders.specs.declared.task.Task.{Task}
+use Rattle.stop_orders.specs.declared.settled_vehicle.SettledVehicle.{SettledVehicle}
+use Rattle.stop_orders.specs.Task.{IsOrderOf, ReachesAll}
+use Rattle.batch_solver.specs.Trips.{HasNoOrder, IsLateOrder}
+use Rattle.outcome_check.proofs.lemmas.LateLemmas.{same_id, valid_task, late_order_of, late_reaches, one_late_delay}
+use Rattle.outcome_check.proofs.lemmas.OrderLemmas.{vehicle_read}
+use Rattle.outcome_check.proofs.late.is_late.Goals as goal
+
+pub least_delay_unlimited-requires-clause-valid : goal.least_delay_unlimited-requires-clause-valid
+least_delay_unlimited-requires-clause-valid c =
+    valid_task c.args.settled.now c.args.vehicle (point_count c.args.times.now) (travel_time c.args.times.now) c.task_of-task.result c.requires.sound c.requires.vehicle c.task_of-task.ensures
+
+pub is_late_order-requires-clause-valid : goal.is_late_order-requires-clause-valid
+is_late_order-requires-clause-valid c =
+    valid_task c.args.settled.now c.args.vehicle (point_count c.args.times.now) (travel_time c.args.times.now) c.task_of-task.result c.requires.sound c.requires.vehicle c.task_of-task.ensures
+
+pub returns-then-late-route : goal.returns-then-late-route
+returns-then-late-route c =
+    let points = c.args.points.now in let tau = travel_time c.args.times.now in let settled = c.args.settled.now in let v = c.args.vehicle in let task = c.task_of-task.result in
+    let found = c.in_ok-least_delay_unlimited.ensures in (
+      λ no. absurd (let f : false ≡ true = no in cc),
+      λ late.
+          let order : IsLateOrder points tau settled v c.args.late.now.delay c.in-Some-stops-2.told.items = rw c.in-Some-stops-2.is at late.stops in
+          absurd (c.if-late-route.true (one_late_delay points tau settled v task c.task_of-task.ensures c.args.late.now.delay c.in-Some-stops-2.told.items order
+          c.in-Some.route.delay c.in-Some.route.stops.items (rw c.in-Some.is at found.order) (rw c.in-Some.is at found.reaches) (rw c.in-Some.is at found.delay) (rw c.in-Some.is at found.least))),
+    )
+
+pub returns-in-None-stops : goal.returns-in-None-stops
+returns-in-None-stops c =
+    let points = c.args.points.now in let tau = travel_time c.args.times.now in let settled = c.args.settled.now in let v = c.args.vehicle in
+    let none = rw c.in-None.is at c.in_ok-least_delay_unlimited.ensures.none in
+    let nowhere : HasNoOrder tau settled v = subst (λ (t : Task). (others : List Stop) → IsOrderOf t others → ReachesAll tau t others → ⊥) c.task_of-task.ensures none in (
+      λ is. record {
+        vehicle = same_id c.args.late.now.vehicle _ c.if-ne.ensures ∙ ap (λ (one : SettledVehicle). one.id) (vehicle_read settled c.as_slice.result.now v _ c.as_slice.ensures c.requires.vehicle);
+        stops = rw c.in-None-stops.is (nowhere, eqb-true c.args.late.now.delay 0 is);
+      },
+      λ late. let told = rw c.in-None-stops.is at late.stops in eq-eqb c.args.late.now.delay 0 told.1,
+    )
+
+pub returns-in-Some-stops : goal.returns-in-Some-stops
+returns-in-Some-stops c =
+    let points = c.args.points.now in let tau = travel_time c.args.times.now in let settled = c.args.settled.now in let v = c.args.vehicle in let task = c.task_of-task.result in
+    let none = rw c.in-None.is at c.in_ok-least_delay_unlimited.ensures.none in (
+      λ no. absurd (let f : false ≡ true = no in cc),
+      λ late.
+          let order : IsLateOrder points tau settled v c.args.late.now.delay c.in-Some-stops._told.items = rw c.in-Some-stops.is at late.stops in
+          absurd (none order.stops (late_order_of points tau settled v task c.task_of-task.ensures c.args.late.now.delay c.in-Some-stops._told.items order)
+          (late_reaches points tau settled v task c.task_of-task.ensures c.args.late.now.delay c.in-Some-stops._told.items order order.stops refl)),
+    )
+
+pub returns-in-None-stops-2 : goal.returns-in-None-stops-2
+returns-in-None-stops-2 c =
+    let tau = travel_time c.args.times.now in let settled = c.args.settled.now in let v = c.args.vehicle in
+    let found = c.in_ok-least_delay_unlimited.ensures in (
+      λ no. absurd (let f : false ≡ true = no in cc),
+      λ late.
+          let told = rw c.in-None-stops-2.is at late.stops in
+          absurd (told.0 c.in-Some.route.stops.items (subst (λ (t : Task). IsOrderOf t c.in-Some.route.stops.items) c.task_of-task.ensures (rw c.in-Some.is at found.order))
+          (subst (λ (t : Task). ReachesAll tau t c.in-Some.route.stops.items) c.task_of-task.ensures (rw c.in-Some.is at found.reaches))),
+    )

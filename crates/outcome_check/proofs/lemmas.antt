@@ -1,0 +1,11 @@
+pub mod OrderLemmas
+pub mod TripLemmas
+pub mod LateLemmas
+pub mod TellsLemmas
+pub mod MatchLemmas
+pub mod GivenLemmas
+pub mod IdleLemmas
+pub mod VerdictLemmas
+pub mod GoodLemmas
+pub mod IdLemmas
+pub mod PosedLemmas

@@ -1,0 +1,59 @@
+-- Idle vehicles and riders who are left out stand at places of the table, each once.
+use Rattle.std.proofs.Common.{◌≡◌, ℕ, ◌<◌, ◌≤◌, Bool, List, [], ◌∷◌, length, get_or, map, filter, All, refl, sym, ap, ◌∙◌, subst, arith}
+use Rattle.std.specs.List.{range_with_len}
+use Rattle.std.specs.List.Sorted.{IsStrictlyIncreasing}
+use Rattle.std.proofs.lemmas.List.{length-map, get_or-map}
+use Rattle.std.proofs.lemmas.List.FromFn.{length-range_with_len}
+use Rattle.std.proofs.lemmas.List.Sums.{length-filter, count_by-le-length}
+use Rattle.rebalancing.specs.Matching.{IsMatching}
+use Rattle.request_book.specs.declared.outcome.MoveLine.{MoveLine}
+use Rattle.stop_orders.specs.declared.settled.Settled.{Settled}
+use Rattle.stop_orders.specs.declared.settled_rider.SettledRider.{SettledRider}
+use Rattle.stop_orders.specs.declared.settled_vehicle.SettledVehicle.{SettledVehicle}
+use Rattle.stop_orders.specs.Settled.{rider_at, no_rider, no_vehicle}
+use Rattle.stop_orders.specs.Sound.{IsSound}
+use Rattle.batch_solver.specs.Moves.{AreMoves, move_line}
+use Rattle.batch_solver.specs.Told.{rider_id, vehicle_id}
+use Rattle.batch_solver.proofs.lemmas.MoveLemmas.{has_places}
+use Rattle.outcome_check.specs.work.Moves.{HaveOwnPlaces}
+use Rattle.outcome_check.proofs.lemmas.OrderLemmas.{rising_once}
+
+-- rising ids tell riders and vehicles apart
+pub one_rider : (settled : Settled) → IsStrictlyIncreasing (map (λ (r : SettledRider). r.id) settled.riders) → (r s : ℕ) → r < length settled.riders → s < length settled.riders → rider_id settled r ≡ rider_id settled s → r ≡ s
+one_rider settled rising r s a b e =
+    let long = length-map settled.riders (λ (x : SettledRider). x.id) in
+    rising_once (map (λ (x : SettledRider). x.id) settled.riders) rising r s (omega (arith, long, a)) (omega (arith, long, b))
+    (get_or-map (λ (x : SettledRider). x.id) settled.riders r no_rider 0 a ∙ e ∙ sym (get_or-map (λ (x : SettledRider). x.id) settled.riders s no_rider 0 b))
+
+pub one_vehicle : (settled : Settled) → IsStrictlyIncreasing (map (λ (v : SettledVehicle). v.id) settled.vehicles) → (v w : ℕ) → v < length settled.vehicles → w < length settled.vehicles → vehicle_id settled v ≡ vehicle_id settled w → v ≡ w
+one_vehicle settled rising v w a b e =
+    let long = length-map settled.vehicles (λ (x : SettledVehicle). x.id) in
+    rising_once (map (λ (x : SettledVehicle). x.id) settled.vehicles) rising v w (omega (arith, long, a)) (omega (arith, long, b))
+    (get_or-map (λ (x : SettledVehicle). x.id) settled.vehicles v no_vehicle 0 a ∙ e ∙ sym (get_or-map (λ (x : SettledVehicle). x.id) settled.vehicles w no_vehicle 0 b))
+
+pub own_places : (k points : ℕ) (tau : ℕ → ℕ → ℕ) (settled : Settled) (idle left : List ℕ) → IsSound k points tau settled → 0 < length settled.vehicles → All (λ v. v < length settled.vehicles) idle → All (λ r. r < length settled.riders) left
+    → IsStrictlyIncreasing idle → IsStrictlyIncreasing left → HaveOwnPlaces points settled idle left
+own_places k points tau settled idle left sound some vehicles riders up vp =
+    let places = has_places k points tau settled sound some in
+    record {
+      vehicles = vehicles;
+      riders = riders;
+      starts = λ i d h. places.vehicles (get_or idle i d) (vehicles i d h);
+      origins = λ i d h. places.riders (get_or left i d) (riders i d h);
+      own_vehicles = λ i j a b e. rising_once idle up i j a b (one_vehicle settled sound.vehicle_ids (get_or idle i 0) (get_or idle j 0) (vehicles i 0 a) (vehicles j 0 b) e);
+      own_riders = λ i j a b e. rising_once left vp i j a b (one_rider settled sound.rider_ids (get_or left i 0) (get_or left j 0) (riders i 0 a) (riders j 0 b) e);
+    }
+
+-- no more pass than there are
+pub kept_few : (p : ℕ → Bool) (n : ℕ) → length (filter p (range_with_len 0 n)) ≤ n
+kept_few p n = let e = length-range_with_len 0 n in let few = count_by-le-length p (range_with_len 0 n) in rw (length-filter p (range_with_len 0 n)) (omega arith)
+
+-- without vehicles there is no move
+none_matched : (tau : ℕ → ℕ → ℕ) (to : List ℕ) (pairs : List (ℕ × ℕ)) → IsMatching tau [] to pairs → pairs ≡ []
+none_matched tau to [] m = refl
+none_matched tau to (p ∷ ps) m = let w = m.within 0 p (omega arith) in absurd (omega (arith, w.0))
+
+pub none_move : (tau : ℕ → ℕ → ℕ) (settled : Settled) (idle left : List ℕ) (moves : List MoveLine) → idle ≡ [] → AreMoves tau settled idle left moves → moves ≡ []
+none_move tau settled idle left moves none are =
+    let same : AreMoves tau settled [] left moves = subst (λ (vs : List ℕ). AreMoves tau settled vs left moves) none are in
+    same.told ∙ ap (λ (ps : List (ℕ × ℕ)). map (move_line tau settled [] left) ps) (none_matched tau (map (λ r. (rider_at settled r).leg.origin) left) same.pairs same.best.matching)

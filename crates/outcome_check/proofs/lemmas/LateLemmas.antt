@@ -1,0 +1,62 @@
+-- Late vehicles, and orders of their passengers.
+use Rattle.std.proofs.Common.{◌≡◌, ℕ, ◌<◌, true, false, not, eqb, ⊎_elim, List, [], length, None, refl, sym, ap, ◌∙◌, subst, arith}
+use Rattle.std.proofs.lemmas.Bool.Decides.{eqb_tells}
+use Rattle.request_book.specs.declared.outcome.LateVehicle.{LateVehicle}
+use Rattle.request_book.specs.declared.outcome.PlannedStop.{PlannedStop}
+use Rattle.stop_orders.specs.declared.settled.Settled.{Settled}
+use Rattle.stop_orders.specs.declared.stop.Stop.{Stop}
+use Rattle.stop_orders.specs.declared.task.Task.{Task}
+use Rattle.stop_orders.specs.Settled.{IsTrip, trip_task}
+use Rattle.stop_orders.specs.Sound.{IsSound}
+use Rattle.stop_orders.specs.Task.{IsTask, IsOrderOf, ReachesAll, order_delay}
+use Rattle.batch_solver.specs.Told.{told_stops}
+use Rattle.batch_solver.specs.Trips.{IsLateOrder}
+use Rattle.outcome_check.specs.work.Trips.{IsLeast}
+
+-- the late vehicle that is read where there is none
+abbrev pub no_late : LateVehicle
+no_late = record { vehicle = 0; delay = 0; stops = None }
+
+-- ids that don't differ are the same
+pub same_id : (a b : ℕ) → false ≡ not (eqb a b) → a ≡ b
+same_id a b e = ⊎_elim (λ yes. yes.1) (λ no. absurd (let f : false ≡ true = e ∙ ap not no.0 in cc)) (eqb_tells a b)
+
+-- a trip of nobody
+pub no_trip : (riders : ℕ) → IsTrip riders []
+no_trip riders = record { rising = λ i lt. absurd (omega arith); within = λ i d lt. absurd (omega arith) }
+
+pub valid_task : (settled : Settled) (v points : ℕ) (tau : ℕ → ℕ → ℕ) (task : Task) → ((k : ℕ) × IsSound k points tau settled) → v < length settled.vehicles → task ≡ trip_task settled v [] → IsTask points task
+valid_task settled v points tau task sound within same = subst (IsTask points) (sym same) ((sound.1.each v within).tasks [] (no_trip (length settled.riders)) (omega arith))
+
+module _ (points : List ℕ) (tau : ℕ → ℕ → ℕ) (settled : Settled) (v : ℕ) (task : Task) (same : task ≡ trip_task settled v []) where
+  pub late_order_of : (delay : ℕ) (lines : List PlannedStop) (late : IsLateOrder points tau settled v delay lines) → IsOrderOf task late.stops
+  late_order_of delay lines late = subst (λ (t : Task). IsOrderOf t late.stops) (sym same) late.order
+
+  pub late_reaches : (delay : ℕ) (lines : List PlannedStop) (late : IsLateOrder points tau settled v delay lines) → (order : List Stop) → order ≡ late.stops → ReachesAll tau task order
+  late_reaches delay lines late order e =
+      subst (λ (t : Task). ReachesAll tau t order) (sym same) (subst (λ (stops : List Stop). ReachesAll tau (trip_task settled v []) stops) (sym e) late.reaches)
+
+  pub late_delay : (delay : ℕ) (lines : List PlannedStop) (late : IsLateOrder points tau settled v delay lines) → (order : List Stop) → order ≡ late.stops → order_delay tau task order ≡ delay
+  late_delay delay lines late order e =
+      ap (λ (t : Task). order_delay tau t order) same ∙ ap (λ (stops : List Stop). order_delay tau (trip_task settled v []) stops) e ∙ late.has_delay
+
+  pub late_from : (delay : ℕ) (lines : List PlannedStop) (order : List Stop) → IsOrderOf task order → ReachesAll tau task order → order_delay tau task order ≡ delay → IsLeast tau task delay
+      → lines ≡ told_stops points tau settled v [] order → IsLateOrder points tau settled v delay lines
+  late_from delay lines order is reaches has least told = record {
+    stops = order;
+    order = subst (λ (t : Task). IsOrderOf t order) same is;
+    reaches = subst (λ (t : Task). ReachesAll tau t order) same reaches;
+    has_delay = sym (ap (λ (t : Task). order_delay tau t order) same) ∙ has;
+    least = subst (λ (t : Task). IsLeast tau t delay) same least;
+    told = told;
+  }
+
+  -- orders of least delay have one delay
+  pub one_late_delay : (delay : ℕ) (lines : List PlannedStop) → IsLateOrder points tau settled v delay lines → (least : ℕ) (order : List Stop) → IsOrderOf task order → ReachesAll tau task order
+      → least ≡ order_delay tau task order → IsLeast tau task least → delay ≡ least
+  one_late_delay delay lines late least order is reaches has none_less =
+      let low = late.least order (subst (λ (t : Task). IsOrderOf t order) same is) (subst (λ (t : Task). ReachesAll tau t order) same reaches) in
+      let here : order_delay tau (trip_task settled v []) order ≡ least = sym (ap (λ (t : Task). order_delay tau t order) same) ∙ sym has in
+      let high = none_less late.stops (late_order_of delay lines late) (late_reaches delay lines late late.stops refl) in
+      let there : order_delay tau task late.stops ≡ delay = late_delay delay lines late late.stops refl in
+      omega (arith, low, here, high, there)

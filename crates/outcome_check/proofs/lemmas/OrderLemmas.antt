@@ -1,0 +1,172 @@
+-- Orders are read back from what is told of them.
+use Rattle.std.proofs.Common.{◌≡◌, ℕ, zero, suc, ◌+◌, ◌<◌, ◌≤◌, inl, inr, true, false, List, [], ◌∷◌, ◌++◌, length, get_or, map, zip, take, refl, sym, ap, ◌∙◌, subst, arith}
+use Rattle.std.specs.List.{AllByRecursion}
+use Rattle.std.specs.List.Sorted.{IsStrictlyIncreasing}
+use Rattle.std.proofs.lemmas.Bool.{cases_lt}
+use Rattle.std.proofs.lemmas.List.{get_or_default, take_more, take_all, length_push}
+use Rattle.request_book.specs.declared.outcome.PlannedStop.{PlannedStop}
+use Rattle.stop_orders.specs.declared.settled.Settled.{Settled}
+use Rattle.stop_orders.specs.declared.settled_rider.SettledRider.{SettledRider}
+use Rattle.stop_orders.specs.declared.settled_vehicle.SettledVehicle.{SettledVehicle}
+use Rattle.stop_orders.specs.declared.stop.Stop.{Stop}
+use Rattle.stop_orders.specs.declared.stop.Stop.TheVariants.{Pick, Drop, Alight}
+use Rattle.stop_orders.specs.declared.visit.Visit.{Visit}
+use Rattle.stop_orders.specs.Order.{IsKnown}
+use Rattle.stop_orders.specs.Settled.{IsTrip, trip_task, vehicle_at, rider_at, no_rider, no_vehicle}
+use Rattle.stop_orders.specs.Task.{IsOrderOf, visit_at, visits_of, seconds_of}
+use Rattle.stop_orders.specs.Visit.{place_of, seconds_from}
+use Rattle.stop_orders.proofs.lemmas.DoneLemmas.{length-IsOrder}
+use Rattle.batch_solver.specs.Told.{rider_id, told_stop, told_stops}
+use Rattle.batch_laws.proofs.lemmas.SortedLemmas.{in_order, neighbours_from, nat_strict}
+use Rattle.outcome_check.specs.work.Orders.{HasOwnIds}
+
+-- a rising list has a number at one place
+pub rising_once : (xs : List ℕ) → IsStrictlyIncreasing xs → (i j : ℕ) → i < length xs → j < length xs → get_or xs i 0 ≡ get_or xs j 0 → i ≡ j
+rising_once xs up i j a b e =
+    let far = in_order (λ (x y : ℕ). x < y) nat_strict xs (neighbours_from (λ (x y : ℕ). x < y) xs 0 up) in
+    elim (cases_lt i j) as (λ _. i ≡ j) [
+      | inl less ↦ absurd (let below = far i j 0 less b in omega (arith, below, e))
+      | inr ge ↦ elim (cases_lt j i) as (λ _. i ≡ j) [
+        | inl less ↦ absurd (let below = far j i 0 less a in omega (arith, below, e))
+        | inr le ↦ omega arith
+      ]
+    ]
+
+-- the rider read at a number
+pub rider_read : (settled : Settled) (riders : List SettledRider) (r : ℕ) (x : SettledRider) → riders ≡ settled.riders → r < length settled.riders → get_or riders r x ≡ rider_at settled r
+rider_read settled riders r x e h = ap (λ (list : List SettledRider). get_or list r x) e ∙ get_or_default settled.riders r x no_rider h
+
+-- .. and the vehicle
+pub vehicle_read : (settled : Settled) (vehicles : List SettledVehicle) (v : ℕ) (x : SettledVehicle) → vehicles ≡ settled.vehicles → v < length settled.vehicles → get_or vehicles v x ≡ vehicle_at settled v
+vehicle_read settled vehicles v x e h = ap (λ (list : List SettledVehicle). get_or list v x) e ∙ get_or_default settled.vehicles v x no_vehicle h
+
+module _ (settled : Settled) (v : ℕ) (trip : List ℕ) (own : HasOwnIds settled) (there : v < length settled.vehicles) (is_trip : IsTrip (length settled.riders) trip) where
+  inside : (i : ℕ) → i < length trip → get_or trip i 0 < length settled.riders
+  inside i h = is_trip.within i 0 h
+
+  same_number : (i j id : ℕ) → i < length trip → j < length trip → rider_id settled (get_or trip i 0) ≡ id → rider_id settled (get_or trip j 0) ≡ id → i ≡ j
+  same_number i j id a b e f = rising_once trip is_trip.rising i j a b (own.riders (get_or trip i 0) (get_or trip j 0) (inside i a) (inside j b) (e ∙ sym f))
+
+  pub read_pick : (number : ℕ) (told : PlannedStop) → told.pick ≡ true → number < length trip → rider_id settled (get_or trip number 0) ≡ told.rider
+      → (points : List ℕ) (stop : Stop) (second : ℕ) → IsKnown (length trip) (length (vehicle_at settled v).aboard.items) stop → told ≡ told_stop points settled v trip (stop, second) → Pick number ≡ stop
+  read_pick number told pick h e points (Pick i) second known is = ap (λ (n : ℕ). Pick n) (same_number number i told.rider h known e (sym (ap (λ (s : PlannedStop). s.rider) is)))
+  read_pick number told pick h e points (Drop i) second known is = absurd (let f : told.pick ≡ false = ap (λ (s : PlannedStop). s.pick) is in let no : true ≡ false = sym pick ∙ f in cc)
+  read_pick number told pick h e points (Alight i) second known is = absurd (let f : told.pick ≡ false = ap (λ (s : PlannedStop). s.pick) is in let no : true ≡ false = sym pick ∙ f in cc)
+
+  pub read_drop : (number : ℕ) (told : PlannedStop) → told.pick ≡ false → number < length trip → rider_id settled (get_or trip number 0) ≡ told.rider
+      → (points : List ℕ) (stop : Stop) (second : ℕ) → IsKnown (length trip) (length (vehicle_at settled v).aboard.items) stop → told ≡ told_stop points settled v trip (stop, second) → Drop number ≡ stop
+  read_drop number told pick h e points (Pick i) second known is = absurd (let f : told.pick ≡ true = ap (λ (s : PlannedStop). s.pick) is in let no : true ≡ false = sym f ∙ pick in cc)
+  read_drop number told pick h e points (Drop i) second known is = ap (λ (n : ℕ). Drop n) (same_number number i told.rider h known e (sym (ap (λ (s : PlannedStop). s.rider) is)))
+  read_drop number told pick h e points (Alight j) second known is =
+      let f : told.rider ≡ get_or (vehicle_at settled v).aboard_ids.items j 0 = ap (λ (s : PlannedStop). s.rider) is in
+      absurd (own.apart v (get_or trip number 0) j there (inside number h) (let n = own.counts v there in omega (arith, n, known)) (e ∙ f))
+
+  pub read_alight : (number : ℕ) (told : PlannedStop) → ((i : ℕ) → i < length trip → rider_id settled (get_or trip i 0) ≡ told.rider → ⊥)
+      → number < length (vehicle_at settled v).aboard_ids.items → get_or (vehicle_at settled v).aboard_ids.items number 0 ≡ told.rider
+      → (points : List ℕ) (stop : Stop) (second : ℕ) → IsKnown (length trip) (length (vehicle_at settled v).aboard.items) stop → told ≡ told_stop points settled v trip (stop, second) → Alight number ≡ stop
+  read_alight number told none h e points (Pick i) second known is = absurd (none i known (sym (ap (λ (s : PlannedStop). s.rider) is)))
+  read_alight number told none h e points (Drop i) second known is = absurd (none i known (sym (ap (λ (s : PlannedStop). s.rider) is)))
+  read_alight number told none h e points (Alight j) second known is =
+      let f : told.rider ≡ get_or (vehicle_at settled v).aboard_ids.items j 0 = ap (λ (s : PlannedStop). s.rider) is in
+      ap (λ (n : ℕ). Alight n) (own.passengers v number j there h (let n = own.counts v there in omega (arith, n, known)) (e ∙ f))
+
+  pub read_nobody : (told : PlannedStop) → ((i : ℕ) → i < length trip → rider_id settled (get_or trip i 0) ≡ told.rider → ⊥)
+      → ((j : ℕ) → j < length (vehicle_at settled v).aboard_ids.items → get_or (vehicle_at settled v).aboard_ids.items j 0 ≡ told.rider → ⊥)
+      → (points : List ℕ) (stop : Stop) (second : ℕ) → IsKnown (length trip) (length (vehicle_at settled v).aboard.items) stop → told ≡ told_stop points settled v trip (stop, second) → ⊥
+  read_nobody told none nor points (Pick i) second known is = none i known (sym (ap (λ (s : PlannedStop). s.rider) is))
+  read_nobody told none nor points (Drop i) second known is = none i known (sym (ap (λ (s : PlannedStop). s.rider) is))
+  read_nobody told none nor points (Alight j) second known is = nor j (let n = own.counts v there in omega (arith, n, known)) (sym (ap (λ (s : PlannedStop). s.rider) is))
+
+zip_at : {A B C : Type 0} (f : A × B → C) (xs : List A) (ys : List B) (k : ℕ) (a : A) (b : B) (d : C) → k < length xs → length ys ≡ length xs → get_or (map f (zip xs ys)) k d ≡ f (get_or xs k a, get_or ys k b)
+zip_at f [] ys k a b d h e = absurd (omega arith)
+zip_at f (x ∷ xs) [] k a b d h e = absurd (omega arith)
+zip_at f (x ∷ xs) (y ∷ ys) zero a b d h e = refl
+zip_at f (x ∷ xs) (y ∷ ys) (suc k) a b d h e = zip_at f xs ys k a b d (omega arith) (omega arith)
+
+zip_long : {A B C : Type 0} (f : A × B → C) (xs : List A) (ys : List B) → length ys ≡ length xs → length (map f (zip xs ys)) ≡ length xs
+zip_long f [] ys e = refl
+zip_long f (x ∷ xs) [] e = absurd (omega arith)
+zip_long f (x ∷ xs) (y ∷ ys) e = let rest = zip_long f xs ys (omega arith) in omega (arith, rest)
+
+seconds_long : (tau : ℕ → ℕ → ℕ) (dwell place free : ℕ) (vs : List Visit) → length (seconds_from tau dwell place free vs) ≡ length vs
+seconds_long tau dwell place free [] = refl
+seconds_long tau dwell place free (v ∷ vs) = let rest = seconds_long tau dwell (place_of v) (free + tau place (place_of v) + dwell) vs in omega (arith, rest)
+
+pub map_long : {A B : Type 0} (f : A → B) (xs : List A) → length (map f xs) ≡ length xs
+map_long f [] = refl
+map_long f (x ∷ xs) = let rest = map_long f xs in omega (arith, rest)
+
+pub known_at : (riders passengers : ℕ) (stops : List Stop) (k : ℕ) (d : Stop) → AllByRecursion (IsKnown riders passengers) stops → k < length stops → IsKnown riders passengers (get_or stops k d)
+known_at riders passengers [] k d all h = absurd (omega arith)
+known_at riders passengers (s ∷ stops) zero d all h = all.0
+known_at riders passengers (s ∷ stops) (suc k) d all h = known_at riders passengers stops k d all.1 (omega arith)
+
+module _ (points : List ℕ) (tau : ℕ → ℕ → ℕ) (settled : Settled) (v : ℕ) (trip : List ℕ) (stops : List Stop) where
+  seconds_as_long : length (seconds_of tau (trip_task settled v trip) stops) ≡ length stops
+  seconds_as_long =
+      let task = trip_task settled v trip in
+      seconds_long tau task.dwell task.start task.ready (visits_of task stops) ∙ map_long (visit_at task) stops
+
+  pub told_long : length (told_stops points tau settled v trip stops) ≡ length stops
+  told_long = zip_long (told_stop points settled v trip) stops (seconds_of tau (trip_task settled v trip) stops) seconds_as_long
+
+  pub told_at : (k : ℕ) (d : PlannedStop) (s : Stop) → k < length stops → get_or (told_stops points tau settled v trip stops) k d ≡ told_stop points settled v trip (get_or stops k s, get_or (seconds_of tau (trip_task settled v trip) stops) k 0)
+  told_at k d s h = zip_at (told_stop points settled v trip) stops (seconds_of tau (trip_task settled v trip) stops) k s 0 d h seconds_as_long
+
+-- what was read so far of the told stops
+pub record ReadsBack (settled : Settled) (v : ℕ) (trip : List ℕ) (told : List PlannedStop) (k : ℕ) (order : List Stop) : Type 0 where
+  pub long : length order ≡ k
+  pub back : (points : List ℕ) (tau : ℕ → ℕ → ℕ) (stops : List Stop) → IsOrderOf (trip_task settled v trip) stops → told ≡ told_stops points tau settled v trip stops → order ≡ take k stops
+
+module _ (settled : Settled) (v : ℕ) (trip : List ℕ) (told : List PlannedStop) where
+  pub read_none : (order : List Stop) → order ≡ [] → ReadsBack settled v trip told 0 order
+  read_none order e = record { long = ap (λ (xs : List Stop). length xs) e; back = λ points tau stops o is. e }
+
+  -- the told stop at a place, of an order that is told so
+  pub told_here : (k : ℕ) (d : PlannedStop) → k < length told → (points : List ℕ) (tau : ℕ → ℕ → ℕ) (stops : List Stop) → told ≡ told_stops points tau settled v trip stops
+      → (k < length stops) × (get_or told k d ≡ told_stop points settled v trip (get_or stops k (Pick 0), get_or (seconds_of tau (trip_task settled v trip) stops) k 0))
+  told_here k d h points tau stops is =
+      let long : length told ≡ length stops = ap (λ (xs : List PlannedStop). length xs) is ∙ told_long points tau settled v trip stops in
+      let within : k < length stops = omega (arith, long) in
+      (within, ap (λ (xs : List PlannedStop). get_or xs k d) is ∙ told_at points tau settled v trip stops k d (Pick 0) within)
+
+  pub read_next : (k : ℕ) (d : PlannedStop) (order : List Stop) (next : Stop) → k < length told → ReadsBack settled v trip told k order
+      → ((points : List ℕ) (stop : Stop) (second : ℕ) → IsKnown (length trip) (length (vehicle_at settled v).aboard.items) stop → get_or told k d ≡ told_stop points settled v trip (stop, second) → next ≡ stop)
+      → ReadsBack settled v trip told (k + 1) (order ++ next ∷ [])
+  read_next k d order next h so_far reads = record {
+    long = (let n = so_far.long in let m = length_push order next in omega (arith, n, m));
+    back = λ points tau stops o is.
+        let here = told_here k d h points tau stops is in
+        let known : IsKnown (length trip) (length (vehicle_at settled v).aboard.items) (get_or stops k (Pick 0)) =
+        subst (λ (n : ℕ). IsKnown n (length (vehicle_at settled v).aboard.items) (get_or stops k (Pick 0))) (map_long (λ (r : ℕ). (rider_at settled r).leg) trip)
+        (known_at (length (trip_task settled v trip).riders.items) (length (vehicle_at settled v).aboard.items) stops k (Pick 0) o.known here.0) in
+        let same = reads points (get_or stops k (Pick 0)) (get_or (seconds_of tau (trip_task settled v trip) stops) k 0) known here.1 in
+        let within = here.0 in
+        ap (λ (xs : List Stop). xs ++ next ∷ []) (so_far.back points tau stops o is) ∙ ap (λ (s : Stop). take k stops ++ s ∷ []) same ∙ sym (take_more stops k (Pick 0) within);
+  }
+
+  -- where nothing is read, no order is told so
+  pub read_stuck : (k : ℕ) (d : PlannedStop) → k < length told
+      → ((points : List ℕ) (stop : Stop) (second : ℕ) → IsKnown (length trip) (length (vehicle_at settled v).aboard.items) stop → get_or told k d ≡ told_stop points settled v trip (stop, second) → ⊥)
+      → (points : List ℕ) (tau : ℕ → ℕ → ℕ) (stops : List Stop) → IsOrderOf (trip_task settled v trip) stops → told ≡ told_stops points tau settled v trip stops → ⊥
+  read_stuck k d h reads points tau stops o is =
+      let here = told_here k d h points tau stops is in
+      let known : IsKnown (length trip) (length (vehicle_at settled v).aboard.items) (get_or stops k (Pick 0)) =
+      subst (λ (n : ℕ). IsKnown n (length (vehicle_at settled v).aboard.items) (get_or stops k (Pick 0))) (map_long (λ (r : ℕ). (rider_at settled r).leg) trip)
+      (known_at (length (trip_task settled v trip).riders.items) (length (vehicle_at settled v).aboard.items) stops k (Pick 0) o.known here.0) in
+      reads points (get_or stops k (Pick 0)) (get_or (seconds_of tau (trip_task settled v trip) stops) k 0) known here.1
+
+  -- more stops are told than an order has
+  pub read_too_many : length trip ≤ 6 → length (vehicle_at settled v).aboard.items ≤ 10 → 22 < length told
+      → (points : List ℕ) (tau : ℕ → ℕ → ℕ) (stops : List Stop) → IsOrderOf (trip_task settled v trip) stops → told ≡ told_stops points tau settled v trip stops → ⊥
+  read_too_many few passengers more points tau stops o is =
+      let long : length told ≡ length stops = ap (λ (xs : List PlannedStop). length xs) is ∙ told_long points tau settled v trip stops in
+      let riders = map_long (λ (r : ℕ). (rider_at settled r).leg) trip in
+      let short = length-IsOrder (length (trip_task settled v trip).riders.items) (length (vehicle_at settled v).aboard.items) stops (omega (arith, riders, few)) o in
+      omega (arith, long, short, riders, few, passengers, more)
+
+  pub read_all : (order : List Stop) → ReadsBack settled v trip told (length told) order
+      → (points : List ℕ) (tau : ℕ → ℕ → ℕ) (stops : List Stop) → IsOrderOf (trip_task settled v trip) stops → told ≡ told_stops points tau settled v trip stops → order ≡ stops
+  read_all order done points tau stops o is =
+      let long : length told ≡ length stops = ap (λ (xs : List PlannedStop). length xs) is ∙ told_long points tau settled v trip stops in
+      done.back points tau stops o is ∙ take_all (length told) stops (omega (arith, long))

@@ -1,0 +1,42 @@
+-- The row of which a trip tells.
+use Rattle.std.proofs.Common.{◌≡◌, ◌<◌, ℕ, List, length, get_or, sym, ap, ◌∙◌, subst}
+use Rattle.std.proofs.lemmas.List.{get_or_default}
+use Rattle.plan_rules.specs.declared.row.TripRow.{TripRow}
+use Rattle.plan_rules.specs.Graph.{Graph, riders_at, cost_at, no_row}
+use Rattle.request_book.specs.declared.outcome.ChosenTrip.{ChosenTrip}
+use Rattle.stop_orders.specs.declared.settled.Settled.{Settled}
+use Rattle.stop_orders.specs.declared.stop.Stop.{Stop}
+use Rattle.stop_orders.specs.declared.task.Task.{Task}
+use Rattle.stop_orders.specs.Settled.{trip_task}
+use Rattle.stop_orders.specs.Task.{Serves, order_delay}
+use Rattle.batch_solver.specs.Told.{vehicle_id, told_stops}
+use Rattle.outcome_check.specs.work.Trips.{TellsRow}
+
+-- the row read at a number
+pub row_read : (graph : Graph) (rows : List TripRow) (k : ℕ) (x : TripRow) → rows ≡ graph.rows → k < length graph.rows → get_or rows k x ≡ get_or graph.rows k no_row
+row_read graph rows k x e h = ap (λ (list : List TripRow). get_or list k x) e ∙ get_or_default graph.rows k x no_row h
+
+module _ (points : List ℕ) (tau : ℕ → ℕ → ℕ) (settled : Settled) (graph : Graph) (v row : ℕ) (trip : ChosenTrip) (riders : List ℕ) (task : Task)
+    (riders_are : riders ≡ riders_at graph row) (task_is : task ≡ trip_task settled v riders) where
+  same_task : task ≡ trip_task settled v (riders_at graph row)
+  same_task = task_is ∙ ap (trip_task settled v) riders_are
+
+  pub tells_serves : (tells : TellsRow points tau settled graph v row trip) → Serves tau task tells.stops
+  tells_serves tells = subst (λ (t : Task). Serves tau t tells.stops) (sym same_task) tells.serves
+
+  pub tells_delay : (tells : TellsRow points tau settled graph v row trip) → order_delay tau task tells.stops ≡ trip.cost
+  tells_delay tells = ap (λ (t : Task). order_delay tau t tells.stops) same_task ∙ tells.delay
+
+  pub tells_told : (tells : TellsRow points tau settled graph v row trip) → trip.stops.items ≡ told_stops points tau settled v riders tells.stops
+  tells_told tells = tells.told ∙ ap (λ (rs : List ℕ). told_stops points tau settled v rs tells.stops) (sym riders_are)
+
+  pub tells_from : (stops : List Stop) → trip.vehicle ≡ vehicle_id settled v → trip.cost ≡ cost_at graph row → Serves tau task stops → order_delay tau task stops ≡ trip.cost
+      → trip.stops.items ≡ told_stops points tau settled v riders stops → TellsRow points tau settled graph v row trip
+  tells_from stops vehicle cost serves delay told = record {
+    vehicle = vehicle;
+    cost = cost;
+    stops = stops;
+    serves = subst (λ (t : Task). Serves tau t stops) same_task serves;
+    delay = sym (ap (λ (t : Task). order_delay tau t stops) same_task) ∙ delay;
+    told = told ∙ ap (λ (rs : List ℕ). told_stops points tau settled v rs stops) riders_are;
+  }

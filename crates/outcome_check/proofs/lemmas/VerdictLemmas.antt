@@ -1,0 +1,70 @@
+-- Points, asked one after the other.
+use Rattle.std.proofs.Common.{◌≡◌, ℕ, zero, suc, ◌+◌, ◌<◌, ◌≤◌, List, Option, refl, sym, ap, ◌∙◌, subst, ⊎_elim, arith}
+use Rattle.std.proofs.lemmas.Bool.{cases_lt}
+use Rattle.request_book.specs.declared.outcome.Planned.{Planned}
+use Rattle.outcome_check.specs.Points.{GivesTrips}
+use Rattle.outcome_check.specs.Posed.{Posed}
+use Rattle.outcome_check.specs.Verdict.{place_of, GivesPlanWith, IsVerdictOf}
+use Rattle.outcome_check.specs.declared.verdict.Point.{Point}
+use Rattle.outcome_check.specs.declared.verdict.Point.TheVariants as point
+use Rattle.outcome_check.specs.declared.verdict.Verdict.{Verdict}
+use Rattle.outcome_check.specs.declared.verdict.Verdict.TheVariants.{Good, Fails}
+
+-- all points before this place hold
+abbrev pub HoldBelow : (Point → Type 0) → ℕ → Type 0
+HoldBelow P k = (q : Point) → place_of q < k → P q
+
+abbrev point_at : ℕ → Point
+point_at zero = point.Answer
+point_at (suc zero) = point.Graphs
+point_at (suc (suc zero)) = point.Late
+point_at (suc (suc (suc zero))) = point.Trips
+point_at (suc (suc (suc (suc zero)))) = point.Plan
+point_at (suc (suc (suc (suc (suc zero))))) = point.Bound
+point_at (suc (suc (suc (suc (suc (suc zero)))))) = point.Tree
+point_at (suc (suc (suc (suc (suc (suc (suc zero))))))) = point.Best
+point_at (suc (suc (suc (suc (suc (suc (suc (suc k)))))))) = point.Moves
+
+back : (q : Point) → point_at (place_of q) ≡ q
+back point.Answer = refl
+back point.Graphs = refl
+back point.Late = refl
+back point.Trips = refl
+back point.Plan = refl
+back point.Bound = refl
+back point.Tree = refl
+back point.Best = refl
+back point.Moves = refl
+
+last_place : (q : Point) → place_of q < 9
+last_place point.Answer = omega arith
+last_place point.Graphs = omega arith
+last_place point.Late = omega arith
+last_place point.Trips = omega arith
+last_place point.Plan = omega arith
+last_place point.Bound = omega arith
+last_place point.Tree = omega arith
+last_place point.Best = omega arith
+last_place point.Moves = omega arith
+
+module _ (P : Point → Type 0) where
+  pub hold_none : HoldBelow P 0
+  hold_none q h = absurd (omega arith)
+
+  pub hold_more : (p : Point) → HoldBelow P (place_of p) → P p → HoldBelow P (place_of p + 1)
+  hold_more p before holds q h = ⊎_elim
+      (λ (less : place_of q < place_of p). before q less)
+      (λ (ge : place_of p ≤ place_of q). let same : place_of p ≡ place_of q = omega (arith, h, ge) in subst P (sym (back p) ∙ ap point_at same ∙ back q) holds)
+      (cases_lt (place_of q) (place_of p))
+
+  pub hold_all : HoldBelow P 9 → (q : Point) → P q
+  hold_all before q = before q (last_place q)
+
+-- a verdict of points is one of points that hold where those do
+pub verdict_of_same : (P Q : Point → Type 0) → ((q : Point) → P q → Q q) → ((q : Point) → Q q → P q) → (v : Verdict) → IsVerdictOf P v → IsVerdictOf Q v
+verdict_of_same P Q there back' Good is = λ q. there q (is q)
+verdict_of_same P Q there back' (Fails p) is = (λ q h. there q (is.0 q h), λ holds. is.1 (back' p holds))
+
+-- the trips give this plan
+pub plan_with : (p : Posed) (planned : Planned) (P : List (Option ℕ) → Type 0) (chosen : List (Option ℕ)) → GivesTrips p.points p.tau p.settled p.graph chosen planned.chosen → P chosen → GivesPlanWith p planned P
+plan_with p planned P chosen gives is = record { chosen = chosen; gives = gives; holds = is }

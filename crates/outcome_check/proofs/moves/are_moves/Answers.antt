@@ -1,0 +1,56 @@
+use Rattle.std.proofs.Common.{◌≡◌, ◌==◌, ◌<◌, ◌≤◌, ℕ, List, [], All, length, sym, ap, ◌∙◌, subst, arith}
+use Rattle.std.specs.List.Sorted.{IsStrictlyIncreasing}
+use Rattle.std.proofs.lemmas.Bool.{eq-eqb, eqb-true}
+use Rattle.std.proofs.lemmas.List.{nil_from_length}
+use Rattle.std.proofs.lemmas.Result.{IfOk-weaker}
+use Rattle.plan_rules.specs.Plan.{times_chosen}
+use Rattle.pool_base.specs.Times.{point_count, travel_time}
+use Rattle.request_book.specs.declared.outcome.MoveLine.{MoveLine}
+use Rattle.batch_solver.specs.Moves.{AreMoves, idle_vehicles, is_idle}
+use Rattle.batch_solver.proofs.lemmas.MoveLemmas.{no_moves}
+use Rattle.outcome_check.proofs.lemmas.IdleLemmas.{own_places, kept_few, none_move}
+use Rattle.outcome_check.proofs.lemmas.TripLemmas.{kept_below, kept_rises}
+use Rattle.outcome_check.proofs.moves.are_moves.Goals as goal
+
+pub returns-then-is_empty : goal.returns-then-is_empty
+returns-then-is_empty c =
+    let tau = travel_time c.args.times.now in let settled = c.args.settled.now in let left = c.args.left.now in let moves = c.args.moves.now in
+    let idle = idle_vehicles settled c.args.graph.now c.args.chosen.now in
+    let nobody : length c.in_ok-idle.idle.items ≡ 0 = grind (arith, c.is_empty.ensures, c.if-is_empty.true) in
+    let none : idle ≡ [] = sym c.in_ok-idle.ensures.value ∙ nil_from_length c.in_ok-idle.idle.items nobody in
+    let told = c.is_empty-then-is_empty.ensures in (
+      λ is. no_moves tau settled idle left moves none (nil_from_length moves (eqb-true (length moves) 0 (sym told ∙ is))),
+      λ are. told ∙ eq-eqb (length moves) 0 (ap (λ (ms : List MoveLine). length ms) (none_move tau settled idle left moves none are)),
+    )
+
+pub are_best-requires-clause-places : goal.are_best-requires-clause-places
+are_best-requires-clause-places c =
+    let settled = c.args.settled.now in let graph = c.args.graph.now in let chosen = c.args.chosen.now in let left = c.args.left.now in
+    let some : 0 < length c.in_ok-idle.idle.items = grind (arith, c.is_empty.ensures, c.if-is_empty.false) in
+    let few : length c.in_ok-idle.idle.items ≤ length settled.vehicles = c.in_ok-idle.ensures.few in
+    let left_out : All (λ r. r < length settled.riders) left =
+    subst (λ (n : ℕ). All (λ r. r < n) left) c.requires.riders
+    (subst (λ (rs : List ℕ). All (λ r. r < graph.riders) rs) (sym c.requires.left) (kept_below (λ r. times_chosen graph chosen r == 0) graph.riders)) in
+    let idle : c.deref.result.now ≡ idle_vehicles settled graph chosen = c.deref.ensures.value ∙ c.in_ok-idle.ensures.value in
+    own_places c.requires.sound.0 (point_count c.args.times.now) (travel_time c.args.times.now) settled c.deref.result.now left c.requires.sound.1 (omega arith)
+    (subst (λ (vs : List ℕ). All (λ v. v < length settled.vehicles) vs) (sym idle) (kept_below (is_idle settled graph chosen) (length settled.vehicles))) left_out
+    (subst (λ (vs : List ℕ). IsStrictlyIncreasing vs) (sym idle) (kept_rises (is_idle settled graph chosen) (length settled.vehicles)))
+    (subst (λ (rs : List ℕ). IsStrictlyIncreasing rs) (sym c.requires.left) (kept_rises (λ r. times_chosen graph chosen r == 0) graph.riders))
+
+pub are_best-requires-clause-few_riders : goal.are_best-requires-clause-few_riders
+are_best-requires-clause-few_riders c =
+    let few = kept_few (λ r. times_chosen c.args.graph.now c.args.chosen.now r == 0) c.args.graph.now.riders in
+    let most : length c.args.settled.now.riders ≤ 1000 = c.requires.sound.1.rider_count in
+    let total = c.requires.riders in
+    rw c.requires.left (omega arith)
+
+pub returns : goal.returns
+returns c =
+    let tau = travel_time c.args.times.now in let settled = c.args.settled.now in
+    let idle : c.deref.result.now ≡ idle_vehicles settled c.args.graph.now c.args.chosen.now = c.deref.ensures.value ∙ c.in_ok-idle.ensures.value in
+    IfOk-weaker c.are_best.result _ _
+    (λ yes told. (
+      λ is. subst (λ (vs : List ℕ). AreMoves tau settled vs c.args.left.now c.args.moves.now) idle (told.0 is),
+      λ are. told.1 (subst (λ (vs : List ℕ). AreMoves tau settled vs c.args.left.now c.args.moves.now) (sym idle) are),
+    ))
+    c.are_best.ensures

@@ -1,0 +1,12 @@
+use Rattle.std.proofs.Common.{◌≡◌, ℕ, ◌<◌, length, get_or}
+use Rattle.pool_base.specs.Times.{travel_time}
+use Rattle.plan_rules.specs.Graph.{IsRowOf}
+use Rattle.outcome_check.specs.work.Trips.{TellsRow, no_chosen}
+use Rattle.outcome_check.proofs.trips.rows_of_trips.Given as goal
+
+abbrev pub invariant-loop-place : goal.invariant-loop-place
+invariant-loop-place l = record {
+  sized : length l.rows.items ≡ l.place;
+  own : (k : ℕ) → k < l.place → IsRowOf l.graph (get_or l.vehicles k 0) (get_or l.rows.items k 0);
+  told : (k : ℕ) → k < l.place → TellsRow l.points (travel_time l.times) l.settled l.graph (get_or l.vehicles k 0) (get_or l.rows.items k 0) (get_or l.trips k no_chosen);
+}

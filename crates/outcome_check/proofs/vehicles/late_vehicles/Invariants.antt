@@ -1,0 +1,7 @@
+use Rattle.std.proofs.Common.{◌≡◌}
+use Rattle.std.specs.List.{filter, range_with_len}
+use Rattle.stop_orders.specs.Settled.{vehicle_at}
+use Rattle.outcome_check.proofs.vehicles.late_vehicles.Given as goal
+
+abbrev pub invariant-loop-vehicle : goal.invariant-loop-vehicle
+invariant-loop-vehicle l = l.late.items ≡ filter (λ v. (vehicle_at l.settled v).late) (range_with_len 0 l.vehicle)

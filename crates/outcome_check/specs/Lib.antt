@@ -1,0 +1,4 @@
+pub mod Points
+pub mod Posed
+pub mod Verdict
+pub mod work

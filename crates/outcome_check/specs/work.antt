@@ -1,0 +1,5 @@
+-- What only the bodies of this crate need.
+pub mod Orders
+pub mod Trips
+pub mod Moves
+pub mod Answers

@@ -1,0 +1,39 @@
+-- The row of which a trip tells.
+use Rattle.std.specs.Prelude.{◌≡◌, ℕ, ◌<◌, ◌≤◌, List, [], length, slice_index, slice_index_or}
+use Rattle.batch_solver.specs.Told.{vehicle_id, told_stops}
+use Rattle.plan_rules.specs.Graph.{Graph, IsRowOf, riders_at, cost_at}
+use Rattle.request_book.specs.declared.outcome.ChosenTrip.{ChosenTrip}
+use Rattle.stop_orders.specs.Settled.{trip_task}
+use Rattle.stop_orders.specs.Task.{Serves, IsOrderOf, ReachesAll, order_delay}
+use Rattle.stop_orders.specs.declared.settled.Settled.{Settled}
+use Rattle.stop_orders.specs.declared.stop.Stop.{Stop}
+use Rattle.stop_orders.specs.declared.task.Task.{Task}
+
+-- what is read where there is no trip
+abbrev pub no_chosen : ChosenTrip
+no_chosen = record { vehicle = 0; cost = 0; stops = record { items = [] } }
+
+-- the trip is the vehicle's, has the row's cost, and its stops are an order that serves the row's riders at it
+pub record TellsRow (points : List ℕ) (tau : ℕ → ℕ → ℕ) (settled : Settled) (graph : Graph) (v row : ℕ) (trip : ChosenTrip) : Type 0 where
+  pub vehicle : trip.vehicle ≡ vehicle_id settled v
+  pub cost : trip.cost ≡ cost_at graph row
+  pub stops : List Stop
+  pub serves : Serves tau (trip_task settled v (riders_at graph row)) stops
+  pub delay : order_delay tau (trip_task settled v (riders_at graph row)) stops ≡ trip.cost
+  pub told : trip.stops.items ≡ told_stops points tau settled v (riders_at graph row) stops
+
+-- no order of the task that reaches all its places has less delay
+abbrev pub IsLeast : (ℕ → ℕ → ℕ) → Task → ℕ → Type 0
+IsLeast tau task delay = (others : List Stop) → IsOrderOf task others → ReachesAll tau task others → delay ≤ order_delay tau task others
+
+-- some trip tells of no row of its vehicle
+pub record HasNoRowFor (points : List ℕ) (tau : ℕ → ℕ → ℕ) (settled : Settled) (graph : Graph) (vehicles : List ℕ) (trips : List ChosenTrip) : Type 0 where
+  pub place : ℕ
+  pub within : place < length vehicles
+  pub none : (row : ℕ) → IsRowOf graph (slice_index vehicles place) row → TellsRow points tau settled graph (slice_index vehicles place) row (slice_index_or trips place no_chosen) → ⊥
+
+-- each vehicle's trip tells of the row beside it
+pub record GiveRows (points : List ℕ) (tau : ℕ → ℕ → ℕ) (settled : Settled) (graph : Graph) (vehicles : List ℕ) (trips : List ChosenTrip) (rows : List ℕ) : Type 0 where
+  pub sized : length rows ≡ length vehicles
+  pub own : (k : ℕ) → k < length vehicles → IsRowOf graph (slice_index vehicles k) (slice_index rows k)
+  pub told : (k : ℕ) → k < length vehicles → TellsRow points tau settled graph (slice_index vehicles k) (slice_index rows k) (slice_index_or trips k no_chosen)

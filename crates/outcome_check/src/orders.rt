@@ -1,0 +1,150 @@
+//! Orders of stops, read from what is told of them.
+ghost use Rattle.std.specs.Prelude.{◌≡◌, ◌<◌, ◌≤◌, ℕ, List, All, IfNone, IfSome, IsTrue, MatchOption, Some, length, slice_index, ◌↔◌};
+ghost use Rattle.batch_solver.specs.Told.{rider_id, told_stop, told_stops};
+ghost use Rattle.pool_base.specs.Times.{point_count, travel_time};
+ghost use Rattle.stop_orders.specs.Order.{IsKnown};
+ghost use Rattle.stop_orders.specs.Settled.{IsTrip, trip_task, vehicle_at};
+ghost use Rattle.stop_orders.specs.Task.{IsTask, IsOrderOf};
+ghost use Rattle.stop_orders.specs.declared.stop.Stop.{Stop as OneStop};
+ghost use Rattle.outcome_check.specs.work.Orders.{HasOwnIds};
+
+use arrayvec::ArrayVec;
+use batch_snapshot::Points;
+use batch_solver::tell_stops;
+use pool_base::{RiderId, Times};
+use request_book::PlannedStop;
+use stop_orders::{Settled, SettledRider, Stop, Task, is_order};
+
+/// The order of a vehicle's stops for a trip that is told so; `None` where there is none. The task is the
+/// vehicle's with the trip.
+pub(crate) fn told_order(
+    points: &Points,
+    times: &Times,
+    settled: &Settled,
+    vehicle: usize,
+    trip: &[usize],
+    task: &Task,
+    told: &[PlannedStop],
+) -> Option<ArrayVec<Stop, 22>>
+    requires table { point_count times.now ≡ length points.now }
+    requires ids { HasOwnIds settled.now }
+    requires vehicle { vehicle < length settled.now.vehicles }
+    requires trip { IsTrip (length settled.now.riders) trip.now }
+    requires few { length trip.now ≤ 6 }
+    requires task { task.now ≡ trip_task settled.now vehicle trip.now }
+    requires valid { IsTask (point_count times.now) task.now }
+    ensures order { IfSome result (λ order. IsOrderOf task.now order.items) }
+    ensures told { IfSome result (λ order. told.now ≡ told_stops points.now (travel_time times.now) settled.entry.now vehicle trip.now order.items) }
+    ensures only { IfSome result (λ order. (stops : List OneStop) → IsOrderOf task.now stops → told.now ≡ told_stops points.now (travel_time times.now) settled.entry.now vehicle trip.now stops → order.items ≡ stops) }
+    ensures none { IfNone result ((stops : List OneStop) → IsOrderOf task.now stops → told.now ≡ told_stops points.now (travel_time times.now) settled.entry.now vehicle trip.now stops → ⊥) }
+{
+    let Some(order) = read_order(settled, vehicle, trip, told) else {
+        return None;
+    };
+    if !is_order(task, order.as_slice()) {
+        return None;
+    }
+    let stops = tell_stops::<22>(
+        points,
+        times,
+        settled,
+        vehicle,
+        trip,
+        task,
+        order.as_slice(),
+    );
+    if !are_same_stops(stops.as_slice(), told) {
+        return None;
+    }
+    Some(order)
+}
+
+/// The stops of a vehicle with a trip that are told so; `None` where one is of nobody there, or there are
+/// more than an order can have. Who uses them judges them.
+fn read_order(
+    settled: &Settled,
+    vehicle: usize,
+    trip: &[usize],
+    told: &[PlannedStop],
+) -> Option<ArrayVec<Stop, 22>>
+    requires ids { HasOwnIds settled.now }
+    requires vehicle { vehicle < length settled.now.vehicles }
+    requires trip { IsTrip (length settled.now.riders) trip.now }
+    requires few { length trip.now ≤ 6 }
+    requires passengers { length (vehicle_at settled.now vehicle).aboard.items ≤ 10 }
+    ensures { (points : List ℕ) (tau : ℕ → ℕ → ℕ) (stops : List OneStop) → IsOrderOf (trip_task settled.entry.now vehicle trip.now) stops
+        → told.now ≡ told_stops points tau settled.entry.now vehicle trip.now stops → MatchOption result ⊥ (λ order. order.items ≡ stops) }
+{
+    let mut order = ArrayVec::new();
+    for stop in told {
+        if order.is_full() {
+            return None;
+        }
+        let Some(next) = read_stop(settled, vehicle, trip, *stop) else {
+            return None;
+        };
+        order.push(next);
+    }
+    Some(order)
+}
+
+/// The stop that is told so.
+fn read_stop(settled: &Settled, vehicle: usize, trip: &[usize], told: PlannedStop) -> Option<Stop>
+    requires ids { HasOwnIds settled.now }
+    requires vehicle { vehicle < length settled.now.vehicles }
+    requires trip { IsTrip (length settled.now.riders) trip.now }
+    requires few { length trip.now ≤ 6 }
+    requires passengers { length (vehicle_at settled.now vehicle).aboard.items ≤ 10 }
+    ensures { (points : List ℕ) (stop : OneStop) (second : ℕ) → IsKnown (length trip.now) (length (vehicle_at settled.entry.now vehicle).aboard.items) stop
+        → told ≡ told_stop points settled.entry.now vehicle trip.now (stop, second) → result ≡ Some stop }
+{
+    let passengers = settled.vehicles.as_slice()[vehicle].aboard_ids.as_slice();
+    match number_in_trip(settled, trip, told.rider) {
+        Some(number) => {
+            if told.pick {
+                Some(Stop::Pick(number))
+            } else {
+                Some(Stop::Drop(number))
+            }
+        }
+        None => match number_aboard(passengers, told.rider) {
+            Some(number) => Some(Stop::Alight(number)),
+            None => None,
+        },
+    }
+}
+
+/// The number of the rider in the trip.
+fn number_in_trip(settled: &Settled, trip: &[usize], id: RiderId) -> Option<u8>
+    requires within { All (λ r. r < length settled.now.riders) trip.now }
+    requires few { length trip.now ≤ 6 }
+    ensures { MatchOption result ((i : ℕ) → i < length trip.now → rider_id settled.entry.now (slice_index trip.now i) ≡ id → ⊥)
+        (λ i. (i < length trip.now) × (rider_id settled.entry.now (slice_index trip.now i) ≡ id)) }
+{
+    for number in 0..trip.len() {
+        if settled.riders.as_slice()[trip[number]].id == id {
+            return Some(number as u8);
+        }
+    }
+    None
+}
+
+/// The number of the passenger.
+fn number_aboard(passengers: &[RiderId], id: RiderId) -> Option<u8>
+    requires few { length passengers.now ≤ 10 }
+    ensures { MatchOption result ((i : ℕ) → i < length passengers.now → slice_index passengers.now i ≡ id → ⊥)
+        (λ i. (i < length passengers.now) × (slice_index passengers.now i ≡ id)) }
+{
+    for number in 0..passengers.len() {
+        if passengers[number] == id {
+            return Some(number as u8);
+        }
+    }
+    None
+}
+
+fn are_same_stops(stops: &[PlannedStop], others: &[PlannedStop]) -> bool
+    ensures { IsTrue result ↔ (stops.now ≡ others.now) }
+{
+    stops == others
+}

@@ -1,0 +1,56 @@
+-- Lines of a block, one more at a time.
+use Rattle.std.proofs.Common.{◌≡◌, ℕ, true, List, [], ◌∷◌, ◌++◌, map, refl, sym, ap, ◌∙◌, subst, append_assoc, append-nil, arith}
+use Rattle.std.specs.List.{flat_map}
+use Rattle.std.proofs.lemmas.Bool.{and_from, and_parts}
+use Rattle.std.proofs.lemmas.Grind.{flat_map-append}
+use Rattle.std.proofs.lemmas.List.{map-append}
+use Rattle.std.proofs.lemmas.List.Elements.{All-append, All-cons}
+use Rattle.dispatch_report.specs.Lines.{lines_text}
+use Rattle.report_lines.specs.Block.{BeginsBlock}
+use Rattle.report_lines.specs.BlockLine.{block_line_text, IsBlockLine}
+use Rattle.report_lines.specs.Order.{place_of, may_follow_at, follow_on, last_place}
+use Rattle.report_lines.specs.declared.block_line.BlockLine.{BlockLine}
+
+follow_more : (place : ℕ) (lines : List BlockLine) (line : BlockLine) → follow_on place lines ≡ true → may_follow_at (last_place place lines) line ≡ true → follow_on place (lines ++ line ∷ []) ≡ true
+follow_more place [] line all next = and_from (may_follow_at place line) true next refl
+follow_more place (l ∷ ls) line all next =
+    let parts = and_parts (may_follow_at place l) (follow_on (place_of l) ls) all in
+    and_from (may_follow_at place l) (follow_on (place_of l) (ls ++ line ∷ [])) parts.0 (follow_more (place_of l) ls line parts.1 next)
+
+last_more : (place : ℕ) (lines : List BlockLine) (line : BlockLine) → last_place place (lines ++ line ∷ []) ≡ place_of line
+last_more place [] line = refl
+last_more place (l ∷ ls) line = last_more (place_of l) ls line
+
+text_more : (lines : List BlockLine) (line : BlockLine) → lines_text (map block_line_text (lines ++ line ∷ [])) ≡ lines_text (map block_line_text lines) ++ (block_line_text line ++ 10 ∷ [])
+unfolding lines_text
+text_more lines line =
+    let end : List ℕ → List ℕ = λ l. l ++ 10 ∷ [] in
+    ap (flat_map end) (map-append block_line_text lines (line ∷ [])) ∙ flat_map-append end (map block_line_text lines) (block_line_text line ∷ [])
+    ∙ ap (λ r. flat_map end (map block_line_text lines) ++ r) (append-nil (block_line_text line ++ 10 ∷ []))
+
+-- lines read so far, and the place of the last
+pub record BlockSoFar (text : List ℕ) (lines : List BlockLine) (rest : List ℕ) (place : ℕ) : Type 0 where
+  pub begins : BeginsBlock text lines rest
+  pub at : place ≡ last_place 0 lines
+
+pub block_begins : (text : List ℕ) (lines : List BlockLine) → lines ≡ [] → BlockSoFar text lines text 0
+unfolding lines_text
+block_begins text lines e = subst (λ (ls : List BlockLine). BlockSoFar text ls text 0) (sym e) start
+  where
+    start : BlockSoFar text [] text 0
+    start = record { begins = record { whole = refl; lawful = λ k d within. absurd (omega arith); order = refl }; at = refl }
+
+pub block_more : (text : List ℕ) (lines : List BlockLine) (rest : List ℕ) (place : ℕ) (line : List ℕ) (after : List ℕ) (x : BlockLine) (new : List BlockLine) (next : ℕ) → BlockSoFar text lines rest place → rest ≡ line ++ 10 ∷ after → IsBlockLine x → line ≡ block_line_text x → may_follow_at place x ≡ true → next ≡ place_of x → new ≡ lines ++ x ∷ [] → BlockSoFar text new after next
+block_more text lines rest place line after x new next so cut lawful is follows there e =
+    subst (λ (ls : List BlockLine). BlockSoFar text ls after next) (sym e)
+    (record {
+      begins = record {
+        whole =
+            so.begins.whole ∙ ap (λ r. lines_text (map block_line_text lines) ++ r) (cut ∙ ap (λ l. l ++ 10 ∷ after) is ∙ sym (append_assoc (block_line_text x) (10 ∷ []) after))
+            ∙ sym (append_assoc (lines_text (map block_line_text lines)) (block_line_text x ++ 10 ∷ []) after)
+            ∙ ap (λ r. r ++ after) (sym (text_more lines x));
+        lawful = All-append IsBlockLine lines (x ∷ []) so.begins.lawful (All-cons IsBlockLine x [] lawful (λ k d within. absurd (omega arith)));
+        order = follow_more 0 lines x so.begins.order (subst (λ p. may_follow_at p x ≡ true) so.at follows);
+      };
+      at = there ∙ sym (last_more 0 lines x);
+    })

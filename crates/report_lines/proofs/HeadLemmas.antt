@@ -1,0 +1,180 @@
+-- The line of the settings.
+use Rattle.std.proofs.Common.{◌≡◌, ◌≢◌, ℕ, zero, suc, ◌≤◌, ◌==◌, Bool, true, false, if◌then◌else◌, nat_eq, length, codes, List, [], refl, sym, ap, ◌∙◌, append-nil, ne_eqb, arith}
+use Rattle.dispatch_report.specs.Words.{numbered}
+use Rattle.report_lines.specs.Head.{IsShort, dwell_text, settings_text, AreSettings}
+use Rattle.report_lines.specs.Reading.{BeginsWith, BeginsWithNone, ends_number}
+use Rattle.report_lines.specs.declared.head.SettingsText.{SettingsText}
+use Rattle.report_lines.specs.work.Both.{both, BothAre}
+use Rattle.report_lines.specs.work.Head.{limits_text, costs_text, AreThree}
+use Rattle.report_lines.proofs.ReadingLemmas.{EndsOnce, StandsApart, both_none_first, both_none_second, both_some, both_once, numbered_once, head_none, tail_none}
+
+short_once : (words : List ℕ) → EndsOnce (numbered words) IsShort
+short_once words = numbered_once words 4294967295 (omega arith)
+
+delay_apart : StandsApart (numbered (codes " delay="))
+unfolding numbered
+delay_apart n rest ends = refl
+
+trip_apart : StandsApart (numbered (codes " trip="))
+unfolding numbered
+trip_apart n rest ends = refl
+
+penalty_apart : StandsApart (numbered (codes " penalty="))
+unfolding numbered
+penalty_apart n rest ends = refl
+
+budget_apart : StandsApart (numbered (codes " budget="))
+unfolding numbered
+budget_apart n rest ends = refl
+
+pairs_apart : StandsApart (numbered (codes " pairs="))
+unfolding numbered
+pairs_apart n rest ends = refl
+
+proof_apart : StandsApart (numbered (codes " proof="))
+unfolding numbered
+proof_apart n rest ends = refl
+
+costs_apart : StandsApart costs_text
+unfolding numbered
+costs_apart p rest ends = refl
+
+pub arcs_end : (n : ℕ) → ends_number (numbered (codes " arcs=") n) ≡ true
+unfolding numbered
+arcs_end n = refl
+
+-- three numbers behind words
+module _ (first second third : List ℕ) (apart_second : StandsApart (numbered second)) (apart_third : StandsApart (numbered third)) (text : List ℕ) where
+  pub three_no_first : BeginsWithNone (numbered first) IsShort text → BeginsWithNone (both (both (numbered first) (numbered second)) (numbered third)) AreThree text
+  three_no_first none =
+      both_none_first (both (numbered first) (numbered second)) (BothAre IsShort IsShort) (numbered third) IsShort apart_third text
+      (both_none_first (numbered first) IsShort (numbered second) IsShort apart_second text none)
+
+  pub three_no_second : (a : ℕ) (after : List ℕ) → BeginsWith (numbered first) IsShort text a after → BeginsWithNone (numbered second) IsShort after → BeginsWithNone (both (both (numbered first) (numbered second)) (numbered third)) AreThree text
+  three_no_second a after b none =
+      both_none_first (both (numbered first) (numbered second)) (BothAre IsShort IsShort) (numbered third) IsShort apart_third text
+      (both_none_second (numbered first) IsShort (numbered second) IsShort apart_second text a after (short_once first) b none)
+
+  pub three_no_third : (a : ℕ) (after : List ℕ) (d : ℕ) (last : List ℕ) → BeginsWith (numbered first) IsShort text a after → BeginsWith (numbered second) IsShort after d last → BeginsWithNone (numbered third) IsShort last → BeginsWithNone (both (both (numbered first) (numbered second)) (numbered third)) AreThree text
+  three_no_third a after d last b bd none =
+      both_none_second (both (numbered first) (numbered second)) (BothAre IsShort IsShort) (numbered third) IsShort apart_third text (a, d) last
+      (both_once (numbered first) IsShort (numbered second) IsShort apart_second (short_once first) (short_once second))
+      (both_some (numbered first) IsShort (numbered second) IsShort apart_second text a after d last b bd) none
+
+three_once : (first second third : List ℕ) → StandsApart (numbered second) → StandsApart (numbered third) → EndsOnce (both (both (numbered first) (numbered second)) (numbered third)) AreThree
+three_once first second third apart_second apart_third =
+    both_once (both (numbered first) (numbered second)) (BothAre IsShort IsShort) (numbered third) IsShort apart_third
+    (both_once (numbered first) IsShort (numbered second) IsShort apart_second (short_once first) (short_once second)) (short_once third)
+
+pub limits_once : EndsOnce limits_text AreThree
+limits_once = three_once (codes "settings wait=") (codes " delay=") (codes " trip=") delay_apart trip_apart
+
+pub costs_once : EndsOnce costs_text AreThree
+costs_once = three_once (codes " penalty=") (codes " budget=") (codes " pairs=") budget_apart pairs_apart
+
+module _ (text : List ℕ) where
+  pub limits_no_wait : BeginsWithNone (numbered (codes "settings wait=")) IsShort text → BeginsWithNone limits_text AreThree text
+  limits_no_wait = three_no_first (codes "settings wait=") (codes " delay=") (codes " trip=") delay_apart trip_apart text
+
+  pub limits_no_delay : (a : ℕ) (after : List ℕ) → BeginsWith (numbered (codes "settings wait=")) IsShort text a after → BeginsWithNone (numbered (codes " delay=")) IsShort after → BeginsWithNone limits_text AreThree text
+  limits_no_delay = three_no_second (codes "settings wait=") (codes " delay=") (codes " trip=") delay_apart trip_apart text
+
+  pub limits_no_trip : (a : ℕ) (after : List ℕ) (d : ℕ) (last : List ℕ) → BeginsWith (numbered (codes "settings wait=")) IsShort text a after → BeginsWith (numbered (codes " delay=")) IsShort after d last → BeginsWithNone (numbered (codes " trip=")) IsShort last → BeginsWithNone limits_text AreThree text
+  limits_no_trip = three_no_third (codes "settings wait=") (codes " delay=") (codes " trip=") delay_apart trip_apart text
+
+  pub costs_no_penalty : BeginsWithNone (numbered (codes " penalty=")) IsShort text → BeginsWithNone costs_text AreThree text
+  costs_no_penalty = three_no_first (codes " penalty=") (codes " budget=") (codes " pairs=") budget_apart pairs_apart text
+
+  pub costs_no_budget : (a : ℕ) (after : List ℕ) → BeginsWith (numbered (codes " penalty=")) IsShort text a after → BeginsWithNone (numbered (codes " budget=")) IsShort after → BeginsWithNone costs_text AreThree text
+  costs_no_budget = three_no_second (codes " penalty=") (codes " budget=") (codes " pairs=") budget_apart pairs_apart text
+
+  pub costs_no_pairs : (a : ℕ) (after : List ℕ) (d : ℕ) (last : List ℕ) → BeginsWith (numbered (codes " penalty=")) IsShort text a after → BeginsWith (numbered (codes " budget=")) IsShort after d last → BeginsWithNone (numbered (codes " pairs=")) IsShort last → BeginsWithNone costs_text AreThree text
+  costs_no_pairs = three_no_third (codes " penalty=") (codes " budget=") (codes " pairs=") budget_apart pairs_apart text
+
+-- the three parts of a line, before the dwell
+abbrev parts_text : (((ℕ × ℕ) × ℕ) × ((ℕ × ℕ) × ℕ)) × ℕ → List ℕ
+parts_text = both (both limits_text costs_text) (numbered (codes " proof="))
+
+abbrev AreParts : (((ℕ × ℕ) × ℕ) × ((ℕ × ℕ) × ℕ)) × ℕ → Type 0
+AreParts = BothAre (BothAre AreThree AreThree) IsShort
+
+abbrev parts_of : SettingsText → (((ℕ × ℕ) × ℕ) × ((ℕ × ℕ) × ℕ)) × ℕ
+parts_of s = ((((s.wait, s.delay), s.trip), ((s.penalty, s.budget), s.pairs)), s.proof)
+
+are_parts : (s : SettingsText) → AreSettings s → AreParts (parts_of s)
+are_parts s is = ((((is.wait, is.delay), is.trip), ((is.penalty, is.budget), is.pairs)), is.proof)
+
+both_parts_once : EndsOnce (both limits_text costs_text) (BothAre AreThree AreThree)
+both_parts_once = both_once limits_text AreThree costs_text AreThree costs_apart limits_once costs_once
+
+parts_once : EndsOnce parts_text AreParts
+parts_once = both_once (both limits_text costs_text) (BothAre AreThree AreThree) (numbered (codes " proof=")) IsShort proof_apart both_parts_once (short_once (codes " proof="))
+
+dwell_first : (dwell : ℕ) → ends_number (numbered (codes " dwell=") dwell) ≡ true
+unfolding numbered
+dwell_first dwell = refl
+
+dwell_ends : (dwell : ℕ) → ends_number (dwell_text dwell) ≡ true
+dwell_ends dwell = by (dwell == 0)
+  where
+    by : (none : Bool) → ends_number (if none then [] else numbered (codes " dwell=") dwell) ≡ true
+    by true = refl
+    by false = dwell_first dwell
+
+module _ (line : List ℕ) where
+  parts_none : BeginsWithNone parts_text AreParts line → (s : SettingsText) → AreSettings s → line ≢ settings_text s
+  parts_none none s is e = head_none parts_text AreParts dwell_text line none (parts_of s) s.dwell (are_parts s is) (dwell_ends s.dwell) e
+
+  pub settings_no_limits : BeginsWithNone limits_text AreThree line → (s : SettingsText) → AreSettings s → line ≢ settings_text s
+  settings_no_limits none =
+      parts_none
+      (both_none_first (both limits_text costs_text) (BothAre AreThree AreThree) (numbered (codes " proof=")) IsShort proof_apart line
+      (both_none_first limits_text AreThree costs_text AreThree costs_apart line none))
+
+  module _ (limits : (ℕ × ℕ) × ℕ) (after : List ℕ) (has_limits : BeginsWith limits_text AreThree line limits after) where
+    pub settings_no_costs : BeginsWithNone costs_text AreThree after → (s : SettingsText) → AreSettings s → line ≢ settings_text s
+    settings_no_costs none =
+        parts_none
+        (both_none_first (both limits_text costs_text) (BothAre AreThree AreThree) (numbered (codes " proof=")) IsShort proof_apart line
+        (both_none_second limits_text AreThree costs_text AreThree costs_apart line limits after limits_once has_limits none))
+
+    module _ (costs : (ℕ × ℕ) × ℕ) (behind : List ℕ) (has_costs : BeginsWith costs_text AreThree after costs behind) where
+      pub settings_no_proof : BeginsWithNone (numbered (codes " proof=")) IsShort behind → (s : SettingsText) → AreSettings s → line ≢ settings_text s
+      settings_no_proof none =
+          parts_none
+          (both_none_second (both limits_text costs_text) (BothAre AreThree AreThree) (numbered (codes " proof=")) IsShort proof_apart line (limits, costs) behind both_parts_once
+          (both_some limits_text AreThree costs_text AreThree costs_apart line limits after costs behind has_limits has_costs) none)
+
+      module _ (proof : ℕ) (rest : List ℕ) (has_proof : BeginsWith (numbered (codes " proof=")) IsShort behind proof rest) where
+        pub settings_parts : BeginsWith parts_text AreParts line ((limits, costs), proof) rest
+        settings_parts =
+            both_some (both limits_text costs_text) (BothAre AreThree AreThree) (numbered (codes " proof=")) IsShort proof_apart line (limits, costs) behind proof rest
+            (both_some limits_text AreThree costs_text AreThree costs_apart line limits after costs behind has_limits has_costs) has_proof
+
+        pub settings_no_dwell : ((dwell : ℕ) → IsShort dwell → rest ≢ dwell_text dwell) → (s : SettingsText) → AreSettings s → line ≢ settings_text s
+        settings_no_dwell none s is e =
+            tail_none parts_text AreParts dwell_text line parts_once ((limits, costs), proof) rest settings_parts (parts_of s) s.dwell (are_parts s is) (dwell_ends s.dwell) (none s.dwell is.dwell) e
+
+pub limits_some : (text : List ℕ) (a : ℕ) (after : List ℕ) (d : ℕ) (last : List ℕ) (k : ℕ) (rest : List ℕ) → BeginsWith (numbered (codes "settings wait=")) IsShort text a after → BeginsWith (numbered (codes " delay=")) IsShort after d last → BeginsWith (numbered (codes " trip=")) IsShort last k rest → BeginsWith limits_text AreThree text ((a, d), k) rest
+limits_some text a after d last k rest ba bd bk =
+    both_some (both (numbered (codes "settings wait=")) (numbered (codes " delay="))) (BothAre IsShort IsShort) (numbered (codes " trip=")) IsShort trip_apart text (a, d) last k rest
+    (both_some (numbered (codes "settings wait=")) IsShort (numbered (codes " delay=")) IsShort delay_apart text a after d last ba bd) bk
+
+dwell_told : (dwell : ℕ) → dwell ≢ 0 → dwell_text dwell ≡ numbered (codes " dwell=") dwell
+dwell_told dwell some =
+    let text : Bool → List ℕ = λ none. if none then [] else numbered (codes " dwell=") dwell in
+    ap text (ne_eqb dwell 0 some)
+
+-- no dwell is told as 0
+pub dwell_not_zero : (text : List ℕ) (told : ℕ) → nat_eq (length text) 0 ≡ false → told ≡ 0 → text ≡ numbered (codes " dwell=") told → (dwell : ℕ) → IsShort dwell → text ≢ dwell_text dwell
+dwell_not_zero text told some zero_told is zero within e =
+    let f : List ℕ → Bool = λ r. nat_eq (length r) 0 in
+    let none : nat_eq (length text) 0 ≡ true = ap f e in
+    cc
+dwell_not_zero text told some zero_told is (suc dwell) within e =
+    let told_so : dwell_text (suc dwell) ≡ numbered (codes " dwell=") (suc dwell) = dwell_told (suc dwell) (λ z. omega arith) in
+    let here : BeginsWith (numbered (codes " dwell=")) IsShort text (suc dwell) [] = record { whole = e ∙ told_so ∙ sym (append-nil (numbered (codes " dwell=") (suc dwell))); lawful = within; ends = refl } in
+    let small : told ≤ 4294967295 = omega arith in
+    let there : BeginsWith (numbered (codes " dwell=")) IsShort text told [] = record { whole = is ∙ sym (append-nil (numbered (codes " dwell=") told)); lawful = small; ends = refl } in
+    let same : suc dwell ≡ told = (short_once (codes " dwell=") text (suc dwell) told [] [] here there).0 in
+    omega arith

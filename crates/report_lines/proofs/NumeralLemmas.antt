@@ -1,0 +1,100 @@
+-- Numerals at the beginning of a text.
+use Rattle.std.proofs.Common.{◌≡◌, ℕ, zero, suc, ◌+◌, ◌-◌, ◌*◌, ◌<◌, ◌≤◌, ◌^◌, get_or, drop, true, false, not, nat_le, List, [], ◌∷◌, ◌++◌, length, decimal, refl, sym, ap, ◌∙◌, arith}
+use Rattle.std.specs.List.{list_all}
+use Rattle.std.specs.Char.{is_ascii_digit}
+use Rattle.std.proofs.lemmas.Bool.{and_parts, leb-true, le-leb, and_from}
+use Rattle.std.proofs.lemmas.List.{at_drop_more}
+use Rattle.std.proofs.lemmas.Str.Parse.{IsNumeralModel, numerals_by_fold, tells_by_index}
+use Rattle.std.proofs.lemmas.Fmt.{decimal_is_IsNumeral_wide}
+use Rattle.pool_base.specs.Number.{IsDigit, AllDigits, value_after, value_of}
+use Rattle.report_lines.specs.Reading.{BeginsWith, BeginsWithNone, ends_number}
+
+-- numerals are read as std reads them
+own : IsNumeralModel AllDigits (value_after 0)
+own = numerals_by_fold AllDigits tells_by_index value_after (record { empty = λ n. refl; more = λ n c cs _. refl })
+
+-- digits, told one by one or all at once
+pub all_digits : (text : List ℕ) → list_all is_ascii_digit text ≡ true → AllDigits text
+all_digits [] all k within = absurd (omega arith)
+all_digits (c ∷ cs) all zero within =
+    let passes = (and_parts (is_ascii_digit c) (list_all is_ascii_digit cs) all).0 in
+    let parts = and_parts (nat_le 48 c) (nat_le c 57) passes in
+    (leb-true 48 c parts.0, leb-true c 57 parts.1)
+all_digits (c ∷ cs) all (suc k) within = all_digits cs (and_parts (is_ascii_digit c) (list_all is_ascii_digit cs) all).1 k (omega arith)
+
+digits_all : (text : List ℕ) → AllDigits text → list_all is_ascii_digit text ≡ true
+digits_all [] digits = refl
+digits_all (c ∷ cs) digits =
+    let first : IsDigit c = digits 0 (omega arith) in
+    and_from (is_ascii_digit c) (list_all is_ascii_digit cs) (and_from (nat_le 48 c) (nat_le c 57) (le-leb 48 c first.0) (le-leb c 57 first.1))
+    (digits_all cs (λ k within. digits (suc k) (omega arith)))
+
+-- further digits make no value smaller
+value_after-ge : (n : ℕ) (cs : List ℕ) → n ≤ value_after n cs
+value_after-ge n [] = omega arith
+value_after-ge n (c ∷ cs) = omega (arith, value_after-ge (n * 10 + (c - 48)) cs)
+
+-- a value that is too large after the next digit stays too large
+pub value_after-most : (most v n i : ℕ) (ds : List ℕ) → i < length ds → value_after n (drop i ds) ≡ v → most ≤ n * 10 + (get_or ds i 0 - 48) → most ≤ v
+value_after-most most v n i ds within is large =
+    let next = at_drop_more (value_after n) ds i 0 within in
+    omega (arith, next, is, value_after-ge (n * 10 + (get_or ds i 0 - 48)) (drop (i + 1) ds))
+
+-- a number's text is digits, whose value is the number
+pub decimal_digits : (n : ℕ) → n < 2 ^ 128 → list_all is_ascii_digit (decimal n) ≡ true
+decimal_digits n small = digits_all (decimal n) (own.from (decimal n) (decimal_is_IsNumeral_wide n (omega arith)).0.1)
+
+pub decimal_value : (n : ℕ) → n < 2 ^ 128 → value_of (decimal n) ≡ n
+decimal_value n small =
+    let numeral = decimal_is_IsNumeral_wide n (omega arith) in
+    own.same (decimal n) numeral.0.1 ∙ numeral.1
+
+-- numbers of the same text are the same
+pub decimal_same : (m n : ℕ) → m < 2 ^ 128 → n < 2 ^ 128 → decimal m ≡ decimal n → m ≡ n
+decimal_same m n small small_too e = sym (decimal_value m small) ∙ ap value_of e ∙ decimal_value n small_too
+
+-- a digit is no end of a number
+digit_goes_on : (b : ℕ) (ys r s : List ℕ) → list_all is_ascii_digit (b ∷ ys) ≡ true → ends_number r ≡ true → r ≡ b ∷ s → ⊥
+digit_goes_on b ys r s db er e =
+    let digit = (and_parts (is_ascii_digit b) (list_all is_ascii_digit ys) db).0 in
+    let here : ends_number r ≡ not (is_ascii_digit b) = ap ends_number e in
+    let off : not (is_ascii_digit b) ≡ false = ap not digit in
+    cc
+
+-- digits end where they end
+pub digits_unique : (a b r s : List ℕ) → list_all is_ascii_digit a ≡ true → list_all is_ascii_digit b ≡ true → ends_number r ≡ true → ends_number s ≡ true → a ++ r ≡ b ++ s → (a ≡ b) × (r ≡ s)
+digits_unique [] [] r s da db er es e = (refl, e)
+digits_unique [] (b ∷ ys) r s da db er es e = absurd (digit_goes_on b ys r (ys ++ s) db er e)
+digits_unique (a ∷ xs) [] r s da db er es e = absurd (digit_goes_on a xs s (xs ++ r) da es (sym e))
+digits_unique (a ∷ xs) (b ∷ ys) r s da db er es e =
+    let pa = and_parts (is_ascii_digit a) (list_all is_ascii_digit xs) da in
+    let pb = and_parts (is_ascii_digit b) (list_all is_ascii_digit ys) db in
+    let same : a ∷ (xs ++ r) ≡ b ∷ (ys ++ s) = e in
+    let tails : xs ++ r ≡ ys ++ s = cc in
+    let rest = digits_unique xs ys r s pa.1 pb.1 er es tails in
+    let first : xs ≡ ys = rest.0 in
+    let heads : a ≡ b = cc in
+    (cc, rest.1)
+
+-- a text that begins with a number begins with that number's digits, up to where they end
+module _ (text digits rest : List ℕ) (most : ℕ) (small : most < 2 ^ 128) (parts : text ≡ digits ++ rest) (all : list_all is_ascii_digit digits ≡ true) (ends : ends_number rest ≡ true) where
+  begins_digits : (x : ℕ) (r : List ℕ) → BeginsWith decimal (λ n. n ≤ most) text x r → digits ≡ decimal x
+  begins_digits x r b =
+      let within : x ≤ most = b.lawful in
+      let same : digits ++ rest ≡ decimal x ++ r = sym parts ∙ b.whole in
+      (digits_unique digits (decimal x) rest r all (decimal_digits x (omega arith)) ends b.ends same).0
+
+  begins_value : (x : ℕ) (r : List ℕ) → BeginsWith decimal (λ n. n ≤ most) text x r → value_of digits ≡ x
+  begins_value x r b =
+      let within : x ≤ most = b.lawful in
+      ap value_of (begins_digits x r b) ∙ decimal_value x (omega arith)
+
+  -- digits of too great a value
+  pub begins_with_large : most < value_of digits → BeginsWithNone decimal (λ n. n ≤ most) text
+  begins_with_large large x r b =
+      let within : x ≤ most = b.lawful in
+      omega (arith, begins_value x r b)
+
+  -- digits with a zero before them, or none
+  pub begins_with_other : (digits ≡ decimal (value_of digits) → ⊥) → BeginsWithNone decimal (λ n. n ≤ most) text
+  begins_with_other other x r b = other (begins_digits x r b ∙ ap decimal (sym (begins_value x r b)))

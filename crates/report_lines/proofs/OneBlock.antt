@@ -1,0 +1,321 @@
+-- A text begins with one block at most.
+use Rattle.std.proofs.Common.{◌≡◌, ◌≢◌, ℕ, suc, ◌<◌, ◌≤◌, ◌^◌, Bool, true, false, not, ◌==◌, ℤ, pos, negsuc, Option, None, Some, List, [], ◌∷◌, ◌++◌, length, map, codes, decimal, refl, sym, ap, ◌∙◌, subst, append_assoc, ne_eqb, arith}
+use Rattle.std.specs.Char.{is_ascii_digit}
+use Rattle.std.specs.List.{All, list_all, flat_map}
+use Rattle.std.proofs.lemmas.Bool.{and_parts, and_from}
+use Rattle.std.proofs.lemmas.List.Elements.{All-head, All-tail}
+use Rattle.std.proofs.lemmas.List.Folds.{list_all-append}
+use Rattle.arrayvec.specs.ArrayVec.{ArrayVec}
+use Rattle.dispatch_report.specs.Block.{stop_text, pair_line}
+use Rattle.dispatch_report.specs.Lines.{lines_text}
+use Rattle.dispatch_report.specs.Words.{numbered, signed, spaced}
+use Rattle.report_lines.specs.Block.{IsBlock, BeginsBlock, IsCutBlock, IsBadBlock, BlockFails}
+use Rattle.report_lines.specs.declared.block.BlockFault.{BlockFault}
+use Rattle.report_lines.specs.declared.block.BlockFault.TheVariants.{OutOfMemory as NoMemory, Cut, Form}
+use Rattle.report_lines.specs.BlockLine.{block_line_text, IsBlockLine}
+use Rattle.report_lines.specs.Cut.{is_one_line}
+use Rattle.report_lines.specs.Ids.{IsId, AreIds}
+use Rattle.report_lines.specs.Order.{place_of, may_follow_at, follow_on, last_place}
+use Rattle.report_lines.specs.Signed.{IsWide, IsLong}
+use Rattle.report_lines.specs.Stops.{IsStop, stops_text, AreStops}
+use Rattle.report_lines.specs.work.Late.{order_text, IsOrder}
+use Rattle.report_lines.specs.work.Stops.{visit_text}
+use Rattle.report_lines.proofs.NumeralLemmas.{decimal_digits}
+use Rattle.report_lines.proofs.OneLine.{block_line_of_one}
+use Rattle.report_lines.proofs.SignedLemmas.{long_is_wide}
+use Rattle.request_book.specs.declared.outcome.PlannedStop.{PlannedStop}
+use Rattle.report_lines.specs.declared.block_line.BlockLine.{BlockLine}
+use Rattle.report_lines.specs.declared.block_line.BlockLine.TheVariants.{Batch, Expired, Overflow, Lapsed, Late, Alone, Shared, Row, Trip, Out, Move, Cost, Bound, Nodes, Branch, Leaf, Dead, End}
+
+-- lines end at line feeds, and there alone
+pub cut_once : (a b r s : List ℕ) → is_one_line a ≡ true → is_one_line b ≡ true → a ++ 10 ∷ r ≡ b ++ 10 ∷ s → (a ≡ b) × (r ≡ s)
+cut_once [] [] r s ia ib e =
+    let same : 10 ∷ r ≡ 10 ∷ s = e in
+    let rest : r ≡ s = cc in
+    (refl, rest)
+cut_once [] (b ∷ bs) r s ia ib e =
+    let same : 10 ∷ r ≡ b ∷ (bs ++ 10 ∷ s) = e in
+    let head : 10 ≡ b = cc in
+    let parts = and_parts (not (b == 10)) (list_all (λ c. not (c == 10)) bs) ib in
+    let f : ℕ → Bool = λ c. not (c == 10) in
+    let here : false ≡ not (b == 10) = ap f head in
+    let other : not (b == 10) ≡ true = parts.0 in
+    absurd (false_not_true (here ∙ other))
+  where
+    false_not_true : false ≡ true → ⊥
+    false_not_true h = cc
+cut_once (a ∷ xs) [] r s ia ib e =
+    let same : a ∷ (xs ++ 10 ∷ r) ≡ 10 ∷ s = e in
+    let head : 10 ≡ a = cc in
+    let parts = and_parts (not (a == 10)) (list_all (λ c. not (c == 10)) xs) ia in
+    let f : ℕ → Bool = λ c. not (c == 10) in
+    let here : false ≡ not (a == 10) = ap f head in
+    let other : not (a == 10) ≡ true = parts.0 in
+    absurd (false_not_true (here ∙ other))
+  where
+    false_not_true : false ≡ true → ⊥
+    false_not_true h = cc
+cut_once (a ∷ xs) (b ∷ ys) r s ia ib e =
+    let same : a ∷ (xs ++ 10 ∷ r) ≡ b ∷ (ys ++ 10 ∷ s) = e in
+    let heads : a ≡ b = cc in
+    let tails : xs ++ 10 ∷ r ≡ ys ++ 10 ∷ s = cc in
+    let pa = and_parts (not (a == 10)) (list_all (λ c. not (c == 10)) xs) ia in
+    let pb = and_parts (not (b == 10)) (list_all (λ c. not (c == 10)) ys) ib in
+    let rest = cut_once xs ys r s pa.1 pb.1 tails in
+    (ap (λ z. z ∷ xs) heads ∙ ap (λ zs. b ∷ zs) rest.0, rest.1)
+
+-- digits are no line feeds
+digits_one_line : (text : List ℕ) → list_all is_ascii_digit text ≡ true → is_one_line text ≡ true
+digits_one_line [] all = refl
+digits_one_line (c ∷ cs) all =
+    let parts = and_parts (is_ascii_digit c) (list_all is_ascii_digit cs) all in
+    and_from (not (c == 10)) (is_one_line cs) (no_feed c parts.0) (digits_one_line cs parts.1)
+  where
+    no_feed : (d : ℕ) → is_ascii_digit d ≡ true → not (d == 10) ≡ true
+    no_feed d digit =
+        let other : d ≢ 10 = λ e. let feed : is_ascii_digit d ≡ false = ap is_ascii_digit e in cc in
+        ap not (ne_eqb d 10 other)
+
+append_one_line : (a b : List ℕ) → is_one_line a ≡ true → is_one_line b ≡ true → is_one_line (a ++ b) ≡ true
+append_one_line a b ia ib = list_all-append (λ c. not (c == 10)) a b ∙ and_from (is_one_line a) (is_one_line b) ia ib
+
+numbered_one_line : (words : List ℕ) (n : ℕ) → is_one_line words ≡ true → n < 2 ^ 128 → is_one_line (numbered words n) ≡ true
+unfolding numbered
+numbered_one_line words n iw small = append_one_line words (decimal n) iw (digits_one_line (decimal n) (decimal_digits n small))
+
+signed_one_line : (words : List ℕ) (z : ℤ) → is_one_line words ≡ true → IsWide z → is_one_line (signed words z) ≡ true
+unfolding signed
+signed_one_line words (pos n) iw is = append_one_line words (decimal n) iw (digits_one_line (decimal n) (decimal_digits n (let small : n < 2 ^ 127 = is in omega arith)))
+signed_one_line words (negsuc n) iw is =
+    append_one_line words (45 ∷ decimal (suc n)) iw (digits_one_line (decimal (suc n)) (decimal_digits (suc n) (let small : n < 2 ^ 127 = is in omega arith)))
+
+many_one_line : {X : Type 0} (t : X → List ℕ) (Is : X → Type 0) → ((x : X) → Is x → is_one_line (t x) ≡ true) → (xs : List X) → All Is xs → is_one_line (flat_map t xs) ≡ true
+many_one_line t Is one [] is = refl
+many_one_line t Is one (x ∷ xs) is = append_one_line (t x) (flat_map t xs) (one x (All-head Is x xs is)) (many_one_line t Is one xs (All-tail Is x xs is))
+
+id_line : (words : List ℕ) (n : ℕ) → is_one_line words ≡ true → IsId n → is_one_line (numbered words n) ≡ true
+id_line words n iw is = let small : n ≤ 1000000000 = is in numbered_one_line words n iw (omega arith)
+
+stop_one_line : (stop : PlannedStop) → IsStop stop → is_one_line (stop_text stop) ≡ true
+stop_one_line stop is =
+    let second : stop.second < 2 ^ 64 = is.2 in
+    append_one_line (visit_text (stop.pick, stop.rider) ++ numbered (codes "@") stop.node) (numbered (codes ":") stop.second)
+    (append_one_line (visit_text (stop.pick, stop.rider)) (numbered (codes "@") stop.node) (visit_line stop.pick stop.rider is.0) (id_line (codes "@") stop.node refl is.1))
+    (numbered_one_line (codes ":") stop.second refl (omega arith))
+  where
+    visit_line : (pick : Bool) (rider : ℕ) → IsId rider → is_one_line (visit_text (pick, rider)) ≡ true
+    visit_line true rider id = id_line (codes " pick:") rider refl id
+    visit_line false rider id = id_line (codes " drop:") rider refl id
+
+stops_one_line : (most : ℕ) (stops : ArrayVec PlannedStop) → AreStops most stops → is_one_line (stops_text stops) ≡ true
+stops_one_line most stops is = many_one_line stop_text IsStop stop_one_line stops.items is.0
+
+order_one_line : (order : ℕ × Option (ArrayVec PlannedStop)) → IsOrder order → is_one_line (order_text order) ≡ true
+order_one_line (delay, None) is = refl
+order_one_line (delay, Some stops) is =
+    let small : delay < 2 ^ 64 = is.0 in
+    append_one_line (spaced delay) (stops_text stops) (numbered_one_line (codes " ") delay refl (omega arith)) (stops_one_line 10 stops is.1)
+
+two_line : (words : List ℕ) (a b : ℕ) → is_one_line words ≡ true → a < 2 ^ 128 → b < 2 ^ 128 → is_one_line (numbered words a ++ spaced b) ≡ true
+two_line words a b iw sa sb = append_one_line (numbered words a) (spaced b) (numbered_one_line words a iw sa) (numbered_one_line (codes " ") b refl sb)
+
+ids_line : (words : List ℕ) (p : ℕ × ℕ) → is_one_line words ≡ true → AreIds p → is_one_line (pair_line words p) ≡ true
+ids_line words p iw is =
+    let first : p.0 ≤ 1000000000 = is.0 in
+    let second : p.1 ≤ 1000000000 = is.1 in
+    two_line words p.0 p.1 iw (omega arith) (omega arith)
+
+count_line : (words : List ℕ) (n : ℕ) → is_one_line words ≡ true → n < 2 ^ 64 → is_one_line (numbered words n) ≡ true
+count_line words n iw small = numbered_one_line words n iw (omega arith)
+
+-- no line of a block has a line feed before its end
+pub block_line_one_line : (x : BlockLine) → IsBlockLine x → is_one_line (block_line_text x) ≡ true
+block_line_one_line (Batch n) is = count_line (codes "batch ") n refl is
+block_line_one_line (Expired rider) is = id_line (codes "expired ") rider refl is
+block_line_one_line Overflow is = refl
+block_line_one_line (Lapsed rider) is = id_line (codes "lapsed ") rider refl is
+block_line_one_line (Late late) is =
+    append_one_line (numbered (codes "late ") late.vehicle) (order_text (late.delay, late.stops)) (id_line (codes "late ") late.vehicle refl is.0) (order_one_line (late.delay, late.stops) is.1)
+block_line_one_line (Alone pair) is = ids_line (codes "rv ") pair refl is
+block_line_one_line (Shared pair) is = ids_line (codes "rr ") pair refl is
+block_line_one_line (Row row) is =
+    let id : row.vehicle ≤ 1000000000 = is.0 in
+    let cost : row.cost < 2 ^ 64 = is.1 in
+    append_one_line (numbered (codes "row ") row.vehicle ++ spaced row.cost) (flat_map spaced row.riders)
+    (two_line (codes "row ") row.vehicle row.cost refl (omega arith) (omega arith))
+    (many_one_line spaced IsId (λ n id. id_line (codes " ") n refl id) row.riders is.2)
+block_line_one_line (Trip trip) is =
+    let id : trip.vehicle ≤ 1000000000 = is.0 in
+    let cost : trip.cost < 2 ^ 64 = is.1 in
+    append_one_line (numbered (codes "trip ") trip.vehicle ++ spaced trip.cost) (stops_text trip.stops)
+    (two_line (codes "trip ") trip.vehicle trip.cost refl (omega arith) (omega arith)) (stops_one_line 22 trip.stops is.2)
+block_line_one_line (Out rider) is = id_line (codes "out ") rider refl is
+block_line_one_line (Move m) is =
+    let vehicle : m.vehicle ≤ 1000000000 = is.0 in
+    let rider : m.rider ≤ 1000000000 = is.1 in
+    let seconds : m.seconds < 2 ^ 32 = is.2 in
+    append_one_line (numbered (codes "move ") m.vehicle ++ spaced m.rider) (spaced m.seconds)
+    (two_line (codes "move ") m.vehicle m.rider refl (omega arith) (omega arith)) (numbered_one_line (codes " ") m.seconds refl (omega arith))
+block_line_one_line (Cost n) is = count_line (codes "cost ") n refl is
+block_line_one_line (Bound z) is = signed_one_line (codes "bound ") z refl is
+block_line_one_line (Nodes n) is = count_line (codes "nodes ") n refl is
+block_line_one_line (Branch branch) is =
+    let vehicle : branch.0 ≤ 1000000000 = is.0 in
+    let row : branch.1 < 2 ^ 32 = is.1 in
+    two_line (codes "branch ") branch.0 branch.1 refl (omega arith) (omega arith)
+block_line_one_line (Leaf multipliers) is =
+    append_one_line (codes "leaf") (flat_map (signed (codes " ")) multipliers) refl
+    (many_one_line (signed (codes " ")) IsLong (λ z long. signed_one_line (codes " ") z refl (long_is_wide z long)) multipliers is)
+block_line_one_line Dead is = refl
+block_line_one_line End is = refl
+
+-- the first line of a text of lines, and the others
+first_line : (x : BlockLine) (xs : List BlockLine) (rest : List ℕ) → lines_text (map block_line_text (x ∷ xs)) ++ rest ≡ block_line_text x ++ 10 ∷ (lines_text (map block_line_text xs) ++ rest)
+unfolding lines_text
+first_line x xs rest =
+    append_assoc (block_line_text x ++ 10 ∷ []) (lines_text (map block_line_text xs)) rest ∙ append_assoc (block_line_text x) (10 ∷ []) (lines_text (map block_line_text xs) ++ rest)
+
+-- nothing follows the last line
+follows_end : (y : BlockLine) → may_follow_at 16 y ≡ true → ⊥
+follows_end (Batch n) h = cc
+follows_end (Expired rider) h = cc
+follows_end Overflow h = cc
+follows_end (Lapsed rider) h = cc
+follows_end (Late late) h = cc
+follows_end (Alone pair) h = cc
+follows_end (Shared pair) h = cc
+follows_end (Row row) h = cc
+follows_end (Trip trip) h = cc
+follows_end (Out rider) h = cc
+follows_end (Move m) h = cc
+follows_end (Cost n) h = cc
+follows_end (Bound z) h = cc
+follows_end (Nodes n) h = cc
+follows_end (Branch branch) h = cc
+follows_end (Leaf multipliers) h = cc
+follows_end Dead h = cc
+follows_end End h = cc
+
+nothing_follows_end : (place : ℕ) (y : BlockLine) → place ≡ 16 → may_follow_at place y ≡ true → ⊥
+nothing_follows_end place y at h = follows_end y (subst (λ p. may_follow_at p y ≡ true) at h)
+
+-- blocks at the beginning of one text, from a place on
+blocks_same : (place : ℕ) (xs ys : List BlockLine) (r s : List ℕ) → All IsBlockLine xs → All IsBlockLine ys → follow_on place xs ≡ true → follow_on place ys ≡ true → last_place place xs ≡ 16 → last_place place ys ≡ 16 → lines_text (map block_line_text xs) ++ r ≡ lines_text (map block_line_text ys) ++ s → (xs ≡ ys) × (r ≡ s)
+unfolding lines_text
+blocks_same place [] [] r s ix iy fx fy lx ly e = (refl, e)
+blocks_same place [] (y ∷ ys) r s ix iy fx fy lx ly e = absurd (nothing_follows_end place y lx (and_parts (may_follow_at place y) (follow_on (place_of y) ys) fy).0)
+blocks_same place (x ∷ xs) [] r s ix iy fx fy lx ly e = absurd (nothing_follows_end place x ly (and_parts (may_follow_at place x) (follow_on (place_of x) xs) fx).0)
+blocks_same place (x ∷ xs) (y ∷ ys) r s ix iy fx fy lx ly e =
+    let hx = All-head IsBlockLine x xs ix in
+    let hy = All-head IsBlockLine y ys iy in
+    let cut =
+    cut_once (block_line_text x) (block_line_text y) (lines_text (map block_line_text xs) ++ r) (lines_text (map block_line_text ys) ++ s)
+    (block_line_one_line x hx) (block_line_one_line y hy) (sym (first_line x xs r) ∙ e ∙ first_line y ys s)
+    in
+    let head : x ≡ y = block_line_of_one x y hx hy cut.0 in
+    let place_same : place_of x ≡ place_of y = ap place_of head in
+    let rest =
+    blocks_same (place_of x) xs ys r s (All-tail IsBlockLine x xs ix) (All-tail IsBlockLine y ys iy)
+    (and_parts (may_follow_at place x) (follow_on (place_of x) xs) fx).1
+    (subst (λ p. follow_on p ys ≡ true) (sym place_same) (and_parts (may_follow_at place y) (follow_on (place_of y) ys) fy).1)
+    lx (subst (λ p. last_place p ys ≡ 16) (sym place_same) ly) cut.1
+    in
+    (ap (λ z. z ∷ xs) head ∙ ap (λ zs. y ∷ zs) rest.0, rest.1)
+
+-- what a text's block is, is known of the text
+pub block_of_one : (text : List ℕ) (xs ys : List BlockLine) (r s : List ℕ) → IsBlock text xs r → IsBlock text ys s → (xs ≡ ys) × (r ≡ s)
+block_of_one text xs ys r s bx by =
+    blocks_same 0 xs ys r s bx.begins.lawful by.begins.lawful bx.begins.order by.begins.order bx.ended by.ended (sym bx.begins.whole ∙ by.begins.whole)
+
+-- a text begins with no line that may follow one of this place
+abbrev IsStuck : ℕ → List ℕ → Type 0
+IsStuck place r = (x : BlockLine) (behind : List ℕ) → IsBlockLine x → may_follow_at place x ≡ true → r ≢ block_line_text x ++ 10 ∷ behind
+
+-- lines that end before the block, and a block, at the beginning of one text
+stuck_no_block : (place : ℕ) (xs ys : List BlockLine) (r s : List ℕ) → All IsBlockLine xs → All IsBlockLine ys → follow_on place xs ≡ true → follow_on place ys ≡ true → last_place place xs ≢ 16 → last_place place ys ≡ 16 → IsStuck (last_place place xs) r → lines_text (map block_line_text xs) ++ r ≡ lines_text (map block_line_text ys) ++ s → ⊥
+unfolding lines_text
+stuck_no_block place [] [] r s ix iy fx fy lx ly stuck e = lx ly
+stuck_no_block place [] (y ∷ ys) r s ix iy fx fy lx ly stuck e =
+    stuck y (lines_text (map block_line_text ys) ++ s) (All-head IsBlockLine y ys iy) (and_parts (may_follow_at place y) (follow_on (place_of y) ys) fy).0 (e ∙ first_line y ys s)
+stuck_no_block place (x ∷ xs) [] r s ix iy fx fy lx ly stuck e = nothing_follows_end place x ly (and_parts (may_follow_at place x) (follow_on (place_of x) xs) fx).0
+stuck_no_block place (x ∷ xs) (y ∷ ys) r s ix iy fx fy lx ly stuck e =
+    let hx = All-head IsBlockLine x xs ix in
+    let hy = All-head IsBlockLine y ys iy in
+    let cut =
+    cut_once (block_line_text x) (block_line_text y) (lines_text (map block_line_text xs) ++ r) (lines_text (map block_line_text ys) ++ s)
+    (block_line_one_line x hx) (block_line_one_line y hy) (sym (first_line x xs r) ∙ e ∙ first_line y ys s)
+    in
+    let head : x ≡ y = block_line_of_one x y hx hy cut.0 in
+    let place_same : place_of x ≡ place_of y = ap place_of head in
+    stuck_no_block (place_of x) xs ys r s (All-tail IsBlockLine x xs ix) (All-tail IsBlockLine y ys iy)
+    (and_parts (may_follow_at place x) (follow_on (place_of x) xs) fx).1
+    (subst (λ p. follow_on p ys ≡ true) (sym place_same) (and_parts (may_follow_at place y) (follow_on (place_of y) ys) fy).1)
+    lx (subst (λ p. last_place p ys ≡ 16) (sym place_same) ly) stuck cut.1
+
+-- a text with a line feed isn't one line
+no_one_line : (a r : List ℕ) → is_one_line (a ++ 10 ∷ r) ≡ true → ⊥
+no_one_line [] r h = cc
+no_one_line (c ∷ cs) r h = no_one_line cs r (and_parts (not (c == 10)) (is_one_line (cs ++ 10 ∷ r)) h).1
+
+cut_stuck : (text : List ℕ) (xs : List BlockLine) (r : List ℕ) → IsCutBlock text xs r → IsStuck (last_place 0 xs) r
+cut_stuck text xs r cut x behind is may e = no_one_line (block_line_text x) behind (subst (λ t. is_one_line t ≡ true) e cut.cut)
+
+bad_stuck : (text : List ℕ) (xs : List BlockLine) (r line after : List ℕ) → IsBadBlock text xs r line after → IsStuck (last_place 0 xs) r
+bad_stuck text xs r line after bad x behind is may e =
+    bad.bad x is may (cut_once line (block_line_text x) after behind bad.one (block_line_one_line x is) (sym bad.next ∙ e)).0
+
+-- a text that begins with a block isn't cut, and no line is out of form
+pub block_no_fault : (text : List ℕ) (ys : List BlockLine) (s : List ℕ) → IsBlock text ys s → (fault : BlockFault) → fault ≢ NoMemory → BlockFails text fault → ⊥
+block_no_fault text ys s block NoMemory other fails = other refl
+block_no_fault text ys s block (Cut n) other (xs, r, size, cut) =
+    stuck_no_block 0 xs ys r s cut.begins.lawful block.begins.lawful cut.begins.order block.begins.order cut.going block.ended (cut_stuck text xs r cut) (sym cut.begins.whole ∙ block.begins.whole)
+block_no_fault text ys s block (Form n) other (xs, r, line, after, size, bad) =
+    stuck_no_block 0 xs ys r s bad.begins.lawful block.begins.lawful bad.begins.order block.begins.order bad.going block.ended (bad_stuck text xs r line after bad) (sym bad.begins.whole ∙ block.begins.whole)
+
+-- lines that end before the block at the beginning of one text are the same
+stuck_same : (place : ℕ) (xs ys : List BlockLine) (r s : List ℕ) → All IsBlockLine xs → All IsBlockLine ys → follow_on place xs ≡ true → follow_on place ys ≡ true → IsStuck (last_place place xs) r → IsStuck (last_place place ys) s → lines_text (map block_line_text xs) ++ r ≡ lines_text (map block_line_text ys) ++ s → (xs ≡ ys) × (r ≡ s)
+unfolding lines_text
+stuck_same place [] [] r s ix iy fx fy kx ky e = (refl, e)
+stuck_same place [] (y ∷ ys) r s ix iy fx fy kx ky e =
+    absurd (kx y (lines_text (map block_line_text ys) ++ s) (All-head IsBlockLine y ys iy) (and_parts (may_follow_at place y) (follow_on (place_of y) ys) fy).0 (e ∙ first_line y ys s))
+stuck_same place (x ∷ xs) [] r s ix iy fx fy kx ky e =
+    absurd (ky x (lines_text (map block_line_text xs) ++ r) (All-head IsBlockLine x xs ix) (and_parts (may_follow_at place x) (follow_on (place_of x) xs) fx).0 (sym e ∙ first_line x xs r))
+stuck_same place (x ∷ xs) (y ∷ ys) r s ix iy fx fy kx ky e =
+    let hx = All-head IsBlockLine x xs ix in
+    let hy = All-head IsBlockLine y ys iy in
+    let cut =
+    cut_once (block_line_text x) (block_line_text y) (lines_text (map block_line_text xs) ++ r) (lines_text (map block_line_text ys) ++ s)
+    (block_line_one_line x hx) (block_line_one_line y hy) (sym (first_line x xs r) ∙ e ∙ first_line y ys s)
+    in
+    let head : x ≡ y = block_line_of_one x y hx hy cut.0 in
+    let place_same : place_of x ≡ place_of y = ap place_of head in
+    let rest =
+    stuck_same (place_of x) xs ys r s (All-tail IsBlockLine x xs ix) (All-tail IsBlockLine y ys iy)
+    (and_parts (may_follow_at place x) (follow_on (place_of x) xs) fx).1
+    (subst (λ p. follow_on p ys ≡ true) (sym place_same) (and_parts (may_follow_at place y) (follow_on (place_of y) ys) fy).1)
+    kx (subst (λ p. IsStuck (last_place p ys) s) (sym place_same) ky) cut.1
+    in
+    (ap (λ z. z ∷ xs) head ∙ ap (λ zs. y ∷ zs) rest.0, rest.1)
+
+fails_once : (text : List ℕ) (xs ys : List BlockLine) (r s : List ℕ) → BeginsBlock text xs r → BeginsBlock text ys s → IsStuck (last_place 0 xs) r → IsStuck (last_place 0 ys) s → (xs ≡ ys) × (r ≡ s)
+fails_once text xs ys r s bx by kx ky = stuck_same 0 xs ys r s bx.lawful by.lawful bx.order by.order kx ky (sym bx.whole ∙ by.whole)
+
+same_length : (n m : ℕ) (xs ys : List BlockLine) → length xs ≡ n → length ys ≡ m → xs ≡ ys → n ≡ m
+same_length n m xs ys a b e = sym a ∙ ap length e ∙ b
+
+cut_not_bad : (r s line after : List ℕ) → is_one_line r ≡ true → s ≡ line ++ 10 ∷ after → r ≡ s → ⊥
+cut_not_bad r s line after one next e = no_one_line line after (subst (λ t. is_one_line t ≡ true) (e ∙ next) one)
+
+-- a text fails in one way
+pub one_fault : (text : List ℕ) (fault other : BlockFault) → fault ≢ NoMemory → other ≢ NoMemory → BlockFails text fault → BlockFails text other → fault ≡ other
+one_fault text NoMemory other mx my fx fy = absurd (mx refl)
+one_fault text (Cut n) NoMemory mx my fx fy = absurd (my refl)
+one_fault text (Form n) NoMemory mx my fx fy = absurd (my refl)
+one_fault text (Cut n) (Cut m) mx my (xs, r, size, cut) (ys, s, long, other) =
+    ap Cut (same_length n m xs ys size long (fails_once text xs ys r s cut.begins other.begins (cut_stuck text xs r cut) (cut_stuck text ys s other)).0)
+one_fault text (Cut n) (Form m) mx my (xs, r, size, cut) (ys, s, line, after, long, bad) =
+    absurd (cut_not_bad r s line after cut.cut bad.next (fails_once text xs ys r s cut.begins bad.begins (cut_stuck text xs r cut) (bad_stuck text ys s line after bad)).1)
+one_fault text (Form n) (Cut m) mx my (xs, r, line, after, size, bad) (ys, s, long, cut) =
+    absurd (cut_not_bad s r line after cut.cut bad.next (sym (fails_once text xs ys r s bad.begins cut.begins (bad_stuck text xs r line after bad) (cut_stuck text ys s cut)).1))
+one_fault text (Form n) (Form m) mx my (xs, r, line, after, size, bad) (ys, s, next, behind, long, other) =
+    ap Form (same_length n m xs ys size long (fails_once text xs ys r s bad.begins other.begins (bad_stuck text xs r line after bad) (bad_stuck text ys s next behind other)).0)

@@ -1,0 +1,186 @@
+-- An outcome's lines are a block.
+use Rattle.std.proofs.Common.{◌≡◌, ℕ, ◌≤◌, true, ℤ, List, [], ◌∷◌, ◌++◌, length, map, codes, nat_le, refl, sym, ap, ◌∙◌, subst, arith}
+use Rattle.std.specs.List.{All}
+use Rattle.std.proofs.lemmas.Bool.{and_from, and_parts, le-leb}
+use Rattle.std.proofs.lemmas.List.{map-append}
+use Rattle.dispatch_report.specs.Block.{block_lines, answer_lines, node_line, late_line, pair_line, pair_text, trip_line, move_text}
+use Rattle.dispatch_report.specs.Lines.{lines_text}
+use Rattle.dispatch_report.specs.Words.{numbered}
+use Rattle.plan_rules.specs.declared.node.Node.{Node}
+use Rattle.plan_rules.specs.declared.node.Node.TheVariants.{Branch as Branches, Leaf as Ends, Dead as Closed}
+use Rattle.request_book.specs.declared.outcome.Answer.{Answer}
+use Rattle.request_book.specs.declared.outcome.Answer.TheVariants.{Overflow as TooMany, Planned as Plan}
+use Rattle.request_book.specs.declared.outcome.Outcome.{Outcome}
+use Rattle.request_book.specs.declared.outcome.Planned.{Planned}
+use Rattle.request_book.specs.declared.outcome.RowLine.{RowLine}
+use Rattle.report_lines.specs.Block.{IsBlock}
+use Rattle.report_lines.specs.BlockLine.{block_line_text, IsBlockLine}
+use Rattle.report_lines.specs.Order.{place_of, is_between, may_follow_at, follow_on, last_place}
+use Rattle.report_lines.specs.Outcome.{row_line, tree_line, lines_of_answer, lines_of}
+use Rattle.report_lines.specs.declared.block_line.BlockLine.{BlockLine}
+use Rattle.report_lines.specs.declared.block_line.BlockLine.TheVariants.{Batch, Expired, Lapsed, Late, Alone, Shared, Trip, Out, Move, Cost, Bound, Nodes, End}
+
+-- texts of lines
+kind_texts : {X : Type 0} (K : X → BlockLine) (t : X → List ℕ) → ((x : X) → block_line_text (K x) ≡ t x) → (xs : List X) → map block_line_text (map K xs) ≡ map t xs
+kind_texts K t text [] = refl
+kind_texts K t text (x ∷ xs) = ap (λ l. l ∷ map block_line_text (map K xs)) (text x) ∙ ap (λ ls. t x ∷ ls) (kind_texts K t text xs)
+
+join_texts : (xs ys : List BlockLine) (ls ms : List (List ℕ)) → map block_line_text xs ≡ ls → map block_line_text ys ≡ ms → map block_line_text (xs ++ ys) ≡ ls ++ ms
+join_texts xs ys ls ms ex ey =
+    map-append block_line_text xs ys ∙ ap (λ l. l ++ map block_line_text ys) ex ∙ ap (λ m. ls ++ m) ey
+
+node_text : (rows : List RowLine) (node : Node) → block_line_text (tree_line rows node) ≡ node_line rows node
+node_text rows (Branches vehicle row) = refl
+node_text rows (Ends multipliers) = refl
+node_text rows Closed = refl
+
+answer_texts : (answer : Answer) → map block_line_text (lines_of_answer answer) ≡ answer_lines true answer
+answer_texts TooMany = refl
+answer_texts (Plan plan) =
+    join_texts _ _ _ _
+    (join_texts _ _ _ _
+    (join_texts _ _ _ _
+    (join_texts _ _ _ _ (join_texts _ _ _ _ (join_texts _ _ _ _ (join_texts _ _ _ _
+    (kind_texts Lapsed (numbered (codes "lapsed ")) (λ x. refl) plan.lapsed)
+    (kind_texts Late late_line (λ x. refl) plan.late))
+    (kind_texts Alone (pair_line (codes "rv ")) (λ x. refl) plan.rv))
+    (kind_texts Shared (pair_line (codes "rr ")) (λ x. refl) plan.rr))
+    (kind_texts row_line pair_text (λ x. refl) plan.rows))
+    (join_texts _ _ _ _ (join_texts _ _ _ _
+    (kind_texts Trip trip_line (λ x. refl) plan.chosen)
+    (kind_texts Out (numbered (codes "out ")) (λ x. refl) plan.left))
+    (kind_texts Move move_text (λ x. refl) plan.moves)))
+    refl)
+    (kind_texts (tree_line plan.rows) (node_line plan.rows) (node_text plan.rows) plan.tree)
+
+pub outcome_texts : (batch : ℕ) (outcome : Outcome) → map block_line_text (lines_of batch outcome) ≡ block_lines true batch outcome
+outcome_texts batch outcome =
+    let first : List BlockLine = (Batch batch ∷ []) ++ map Expired outcome.expired in
+    join_texts (first ++ lines_of_answer outcome.answer) (End ∷ []) _ _
+    (join_texts first (lines_of_answer outcome.answer) _ _
+    (join_texts (Batch batch ∷ []) (map Expired outcome.expired) (numbered (codes "batch ") batch ∷ []) _ refl (kind_texts Expired (numbered (codes "expired ")) (λ x. refl) outcome.expired))
+    (answer_texts outcome.answer))
+    refl
+
+-- lines behind lines
+last_join : (p : ℕ) (xs ys : List BlockLine) → last_place p (xs ++ ys) ≡ last_place (last_place p xs) ys
+last_join p [] ys = refl
+last_join p (x ∷ xs) ys = last_join (place_of x) xs ys
+
+follow_join : (p : ℕ) (xs ys : List BlockLine) → follow_on p xs ≡ true → follow_on (last_place p xs) ys ≡ true → follow_on p (xs ++ ys) ≡ true
+follow_join p [] ys fx fy = fy
+follow_join p (x ∷ xs) ys fx fy =
+    let parts = and_parts (may_follow_at p x) (follow_on (place_of x) xs) fx in
+    and_from (may_follow_at p x) (follow_on (place_of x) (xs ++ ys)) parts.0 (follow_join (place_of x) xs ys parts.1 fy)
+
+-- lines in their order from a place on, the last of them between two places
+record Run (p : ℕ) (lines : List BlockLine) (low high : ℕ) : Type 0 where
+  order : follow_on p lines ≡ true
+  low_end : low ≤ last_place p lines
+  high_end : last_place p lines ≤ high
+
+run_join : (p : ℕ) (xs ys : List BlockLine) (low high bottom top : ℕ) → Run p xs low high → ((q : ℕ) → low ≤ q → q ≤ high → Run q ys bottom top) → Run p (xs ++ ys) bottom top
+run_join p xs ys low high bottom top rx ry =
+    let r = ry (last_place p xs) rx.low_end rx.high_end in
+    record {
+      order = follow_join p xs ys rx.order r.order;
+      low_end = subst (λ q. bottom ≤ q) (sym (last_join p xs ys)) r.low_end;
+      high_end = subst (λ q. q ≤ top) (sym (last_join p xs ys)) r.high_end;
+    }
+
+between : (low high n : ℕ) → low ≤ n → n ≤ high → is_between low high n ≡ true
+between low high n l h = and_from (nat_le low n) (nat_le n high) (le-leb low n l) (le-leb n high h)
+
+-- a list of one kind
+kind_run : {X : Type 0} (K : X → BlockLine) (base place : ℕ) → base ≤ place → ((x : X) → place_of (K x) ≡ place) → ((q : ℕ) (x : X) → base ≤ q → q ≤ place → may_follow_at q (K x) ≡ true) → (xs : List X) (p : ℕ) → base ≤ p → p ≤ place → Run p (map K xs) base place
+kind_run K base place fits at may [] p l h = record { order = refl; low_end = l; high_end = h }
+kind_run {X} K base place fits at may (x ∷ xs) p l h =
+    let there : place_of (K x) ≡ place = at x in
+    let above : base ≤ place_of (K x) = omega arith in
+    let below : place_of (K x) ≤ place = omega arith in
+    let r = kind_run K base place fits at may xs (place_of (K x)) above below in
+    record {
+      order = and_from (may_follow_at p (K x)) (follow_on (place_of (K x)) (map K xs)) (may p x l h) r.order;
+      low_end = r.low_end;
+      high_end = r.high_end;
+    }
+
+wider : (p : ℕ) (xs : List BlockLine) (low high bottom top : ℕ) → Run p xs low high → bottom ≤ low → high ≤ top → Run p xs bottom top
+wider p xs low high bottom top r l h =
+    record {
+      order = r.order;
+      low_end = let a : low ≤ last_place p xs = r.low_end in omega arith;
+      high_end = let a : last_place p xs ≤ high = r.high_end in omega arith;
+    }
+
+-- a list of one kind, behind a list before it
+then_kind : {X : Type 0} (K : X → BlockLine) (place : ℕ) (p : ℕ) (before : List BlockLine) (high : ℕ) → 1 ≤ place → high ≤ place → ((x : X) → place_of (K x) ≡ place) → ((q : ℕ) (x : X) → 1 ≤ q → q ≤ place → may_follow_at q (K x) ≡ true) → Run p before 1 high → (xs : List X) → Run p (before ++ map K xs) 1 place
+then_kind K place p before high some le at may r xs =
+    run_join p before (map K xs) 1 high 1 place r (λ q l h. kind_run K 1 place some at may xs q l (let a : q ≤ high = h in omega arith))
+
+-- the lists of a plan up to the rows
+graph_run : (p : ℕ) → 1 ≤ p → p ≤ 2 → (plan : Planned) → Run p (map Lapsed plan.lapsed ++ map Late plan.late ++ map Alone plan.rv ++ map Shared plan.rr ++ map row_line plan.rows) 1 7
+graph_run p l h plan =
+    then_kind row_line 7 p _ 6 (omega arith) (omega arith) (λ x. refl) (λ q x. between 1 7 q)
+    (then_kind Shared 6 p _ 5 (omega arith) (omega arith) (λ x. refl) (λ q x. between 1 6 q)
+    (then_kind Alone 5 p _ 4 (omega arith) (omega arith) (λ x. refl) (λ q x. between 1 5 q)
+    (then_kind Late 4 p _ 3 (omega arith) (omega arith) (λ x. refl) (λ q x. between 1 4 q)
+    (kind_run Lapsed 1 3 (omega arith) (λ x. refl) (λ q x. between 1 3 q) plan.lapsed p l (omega arith))
+    plan.late) plan.rv) plan.rr) plan.rows
+
+choice_run : (p : ℕ) → 1 ≤ p → p ≤ 7 → (plan : Planned) → Run p (map Trip plan.chosen ++ map Out plan.left ++ map Move plan.moves) 1 10
+choice_run p l h plan =
+    then_kind Move 10 p _ 9 (omega arith) (omega arith) (λ x. refl) (λ q x. between 1 10 q)
+    (then_kind Out 9 p _ 8 (omega arith) (omega arith) (λ x. refl) (λ q x. between 1 9 q)
+    (kind_run Trip 1 8 (omega arith) (λ x. refl) (λ q x. between 1 8 q) plan.chosen p l (omega arith))
+    plan.left) plan.moves
+
+counts_run : (p : ℕ) → 1 ≤ p → p ≤ 10 → (cost nodes : ℕ) (bound : ℤ) → Run p ((Cost cost ∷ []) ++ (Bound bound ∷ []) ++ (Nodes nodes ∷ [])) 13 13
+counts_run p l h cost nodes bound =
+    record { order = and_from (is_between 1 10 p) true (between 1 10 p l h) refl; low_end = omega arith; high_end = omega arith }
+
+tree_run : (rows : List RowLine) (p : ℕ) → 13 ≤ p → p ≤ 13 → (tree : List Node) → Run p (map (tree_line rows) tree) 13 14
+tree_run rows p l h tree = kind_run (tree_line rows) 13 14 (omega arith) at may tree p l (omega arith)
+  where
+    at : (node : Node) → place_of (tree_line rows node) ≡ 14
+    at (Branches vehicle row) = refl
+    at (Ends multipliers) = refl
+    at Closed = refl
+
+    may : (q : ℕ) (node : Node) → 13 ≤ q → q ≤ 14 → may_follow_at q (tree_line rows node) ≡ true
+    may q (Branches vehicle row) = between 13 14 q
+    may q (Ends multipliers) = between 13 14 q
+    may q Closed = between 13 14 q
+
+answer_run : (answer : Answer) (p : ℕ) → 1 ≤ p → p ≤ 2 → Run p (lines_of_answer answer) 13 15
+answer_run TooMany p l h = record { order = and_from (is_between 1 2 p) true (between 1 2 p l h) refl; low_end = omega arith; high_end = omega arith }
+answer_run (Plan plan) p l h =
+    wider p _ 13 14 13 15
+    (run_join p _ _ 13 13 13 14
+    (run_join p _ _ 1 10 13 13
+    (run_join p _ _ 1 7 1 10 (graph_run p l h plan) (λ q lq hq. choice_run q lq hq plan))
+    (λ q lq hq. counts_run q lq hq plan.cost (length plan.tree) plan.bound))
+    (λ q lq hq. tree_run plan.rows q lq hq plan.tree))
+    (omega arith) (omega arith)
+
+outcome_run : (batch : ℕ) (outcome : Outcome) → Run 0 (lines_of batch outcome) 16 16
+outcome_run batch outcome =
+    run_join 0 _ (End ∷ []) 13 15 16 16
+    (run_join 0 _ _ 1 2 13 15
+    (run_join 0 (Batch batch ∷ []) _ 1 1 1 2 (record { order = refl; low_end = omega arith; high_end = omega arith })
+    (λ q l h. kind_run Expired 1 2 (omega arith) (λ x. refl) (λ r x. between 1 2 r) outcome.expired q l (let a : q ≤ 1 = h in omega arith)))
+    (λ q l h. answer_run outcome.answer q l h))
+    (λ q l h. record { order = and_from (is_between 13 15 q) true (between 13 15 q l h) refl; low_end = omega arith; high_end = omega arith })
+
+-- the text of an outcome's block begins with the block of its lines
+pub outcome_block : (batch : ℕ) (outcome : Outcome) (rest : List ℕ) → All IsBlockLine (lines_of batch outcome) → IsBlock (lines_text (block_lines true batch outcome) ++ rest) (lines_of batch outcome) rest
+outcome_block batch outcome rest lawful =
+    let run = outcome_run batch outcome in
+    record {
+      begins = record {
+        whole = ap (λ ls. lines_text ls ++ rest) (sym (outcome_texts batch outcome));
+        lawful = lawful;
+        order = run.order;
+      };
+      ended = let low : 16 ≤ last_place 0 (lines_of batch outcome) = run.low_end in let high : last_place 0 (lines_of batch outcome) ≤ 16 = run.high_end in omega arith;
+    }

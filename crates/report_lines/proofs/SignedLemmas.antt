@@ -1,0 +1,123 @@
+-- Signed numbers at the beginning of a text.
+use Rattle.std.proofs.Common.{◌≡◌, ◌≢◌, ℕ, suc, ◌≤◌, ◌<◌, ◌^◌, true, false, ℤ, pos, negsuc, FitsSigned, to_z, of_z, w64, Bor, Option, None, Some, MatchOption, List, [], ◌∷◌, ◌++◌, length, decimal, codes, refl, sym, ap, ◌∙◌, subst, arith, rules}
+use Rattle.std.specs.List.{list_all}
+use Rattle.std.specs.Char.{is_ascii_digit}
+use Rattle.std.specs.Fmt.{signed_decimal}
+use Rattle.std.specs.Int.{w128}
+use Rattle.std.proofs.lemmas.Fmt.{decimal_is_IsNumeral_wide}
+use Rattle.std.proofs.lemmas.Bool.{and_parts}
+use Rattle.std.proofs.lemmas.Int.{to_z-of_z}
+use Rattle.dispatch_report.specs.Words.{signed}
+use Rattle.report_lines.specs.Reading.{BeginsWith, BeginsWithNone, ends_number}
+use Rattle.report_lines.specs.Signed.{IsWide, IsLong}
+use Rattle.report_lines.proofs.ListLemmas.{IsNeverEmpty}
+use Rattle.report_lines.proofs.NumeralLemmas.{decimal_digits}
+use Rattle.report_lines.proofs.ReadingLemmas.{EndsOnce, StandsApart, decimal_once, behind_once, behind_none, behind_none_words, behind_some}
+
+-- no number's text begins with a sign
+sign_is_no_digit : (digits text rest : List ℕ) → 0 < length digits → list_all is_ascii_digit digits ≡ true → 45 ∷ text ≡ digits ++ rest → ⊥
+sign_is_no_digit [] text rest some all e = absurd (omega arith)
+sign_is_no_digit (d ∷ ds) text rest some all e =
+    let same : 45 ∷ text ≡ d ∷ (ds ++ rest) = e in
+    let head : 45 ≡ d = cc in
+    let digit = (and_parts (is_ascii_digit d) (list_all is_ascii_digit ds) all).0 in
+    let here : is_ascii_digit 45 ≡ is_ascii_digit d = ap is_ascii_digit head in
+    let sign : is_ascii_digit 45 ≡ false = refl in
+    cc
+
+sign_is_no_number : (n : ℕ) (text rest : List ℕ) → n < 2 ^ 128 → 45 ∷ text ≡ decimal n ++ rest → ⊥
+sign_is_no_number n text rest small e =
+    sign_is_no_digit (decimal n) text rest (decimal_is_IsNumeral_wide n (omega arith)).0.0 (decimal_digits n small) e
+
+below_begins : (text : List ℕ) (n : ℕ) (rest : List ℕ) → n < 2 ^ 127 → ends_number rest ≡ true → 45 ∷ text ≡ signed_decimal (negsuc n) ++ rest → BeginsWith decimal (λ m. m ≤ 2 ^ 127) text (suc n) rest
+below_begins text n rest small ends e =
+    let same : 45 ∷ text ≡ 45 ∷ (decimal (suc n) ++ rest) = e in
+    let tails : text ≡ decimal (suc n) ++ rest = cc in
+    let within : suc n ≤ 2 ^ 127 = omega arith in
+    record { whole = tails; lawful = within; ends = ends }
+
+pub below_none : (text : List ℕ) → BeginsWithNone decimal (λ m. m ≤ 2 ^ 127) text → BeginsWithNone signed_decimal IsWide (45 ∷ text)
+below_none text none (pos n) rest b = sign_is_no_number n text rest (let small : n < 2 ^ 127 = b.lawful in omega arith) b.whole
+below_none text none (negsuc n) rest b = none (suc n) rest (below_begins text n rest b.lawful b.ends b.whole)
+
+pub below_zero_none : (text : List ℕ) (m : ℕ) (after : List ℕ) → BeginsWith decimal (λ m. m ≤ 2 ^ 127) text m after → m ≡ 0 → BeginsWithNone signed_decimal IsWide (45 ∷ text)
+below_zero_none text m after first zero (pos n) rest b = sign_is_no_number n text rest (let small : n < 2 ^ 127 = b.lawful in omega arith) b.whole
+below_zero_none text m after first zero (negsuc n) rest b =
+    let same = decimal_once (2 ^ 127) (omega arith) text m (suc n) after rest first (below_begins text n rest b.lawful b.ends b.whole) in
+    let equal : m ≡ suc n = same.0 in
+    omega arith
+
+pub signed_once : EndsOnce signed_decimal IsWide
+signed_once text (pos x) (pos y) r s bx by =
+    let small : x < 2 ^ 127 = bx.lawful in
+    let small_too : y < 2 ^ 127 = by.lawful in
+    let wx : x ≤ 2 ^ 127 = omega arith in
+    let wy : y ≤ 2 ^ 127 = omega arith in
+    let same = decimal_once (2 ^ 127) (omega arith) text x y r s (record { whole = bx.whole; lawful = wx; ends = bx.ends }) (record { whole = by.whole; lawful = wy; ends = by.ends }) in
+    (ap (λ n. pos n) same.0, same.1)
+signed_once text (pos x) (negsuc y) r s bx by =
+    let small : x < 2 ^ 127 = bx.lawful in
+    absurd (sign_is_no_number x (decimal (suc y) ++ s) r (omega arith) (sym by.whole ∙ bx.whole))
+signed_once text (negsuc x) (pos y) r s bx by =
+    let small : y < 2 ^ 127 = by.lawful in
+    absurd (sign_is_no_number y (decimal (suc x) ++ r) s (omega arith) (sym bx.whole ∙ by.whole))
+signed_once text (negsuc x) (negsuc y) r s bx by =
+    let here : BeginsWith decimal (λ m. m ≤ 2 ^ 127) (decimal (suc x) ++ r) (suc x) r = below_begins (decimal (suc x) ++ r) x r bx.lawful bx.ends refl in
+    let there = below_begins (decimal (suc x) ++ r) y s by.lawful by.ends (sym bx.whole ∙ by.whole) in
+    let same = decimal_once (2 ^ 127) (omega arith) (decimal (suc x) ++ r) (suc x) (suc y) r s here there in
+    let equal : suc x ≡ suc y = same.0 in
+    let parts : x ≡ y = omega arith in
+    (ap (λ n. negsuc n) parts, same.1)
+
+-- such a number is one of its type
+pub wide_fits : (z : ℤ) → IsWide z → FitsSigned w128 z
+wide_fits (pos n) is = search rules
+wide_fits (negsuc n) is = search rules
+
+pub wide_same : (z : ℤ) → IsWide z → to_z w128 (of_z w128 z) ≡ z
+wide_same z is = to_z-of_z w128 z (wide_fits z is)
+
+-- behind words
+pub signed_none_words : (words text : List ℕ) → ((rest : List ℕ) → text ≢ words ++ rest) → BeginsWithNone (signed words) IsWide text
+unfolding signed
+signed_none_words words text none = behind_none_words signed_decimal IsWide words text none
+
+pub signed_read : (words text after : List ℕ) (r : Option (ℤ × Bor (List ℕ))) → text ≡ words ++ after → MatchOption r (BeginsWithNone signed_decimal IsWide after) (λ x. BeginsWith signed_decimal IsWide after x.0 x.1.now) → MatchOption r (BeginsWithNone (signed words) IsWide text) (λ x. BeginsWith (signed words) IsWide text x.0 x.1.now)
+unfolding signed
+signed_read words text after None e none = behind_none signed_decimal IsWide words text after e none
+signed_read words text after (Some x) e some = behind_some signed_decimal IsWide words text after x.0 x.1.now e some
+
+pub signed_words_once : (words : List ℕ) → EndsOnce (signed words) IsWide
+unfolding signed
+signed_words_once words = behind_once signed_decimal IsWide words signed_once
+
+-- numbers of 64 bits
+pub long_is_wide : (z : ℤ) → IsLong z → IsWide z
+long_is_wide (pos n) is = let small : n < 2 ^ 63 = is in omega arith
+long_is_wide (negsuc n) is = let small : n < 2 ^ 63 = is in omega arith
+
+widened : (words text : List ℕ) (z : ℤ) (rest : List ℕ) → BeginsWith (signed words) IsLong text z rest → BeginsWith (signed words) IsWide text z rest
+widened words text z rest b = record { whole = b.whole; lawful = long_is_wide z b.lawful; ends = b.ends }
+
+pub long_once : (words : List ℕ) → EndsOnce (signed words) IsLong
+long_once words text x y r s bx by = signed_words_once words text x y r s (widened words text x r bx) (widened words text y s by)
+
+pub not_long : (words text : List ℕ) (z : ℤ) (rest : List ℕ) → BeginsWith (signed words) IsWide text z rest → (IsLong z → ⊥) → BeginsWithNone (signed words) IsLong text
+not_long words text z rest b other x r bx =
+    let same = signed_words_once words text x z r rest (widened words text x r bx) b in
+    other (subst IsLong same.0 bx.lawful)
+
+pub signed_apart : StandsApart (signed (codes " "))
+unfolding signed
+signed_apart z rest ends = refl
+
+pub signed_some : IsNeverEmpty (signed (codes " "))
+unfolding signed
+signed_some z = omega arith
+
+pub long_fits : (z : ℤ) → IsLong z → FitsSigned w64 z
+long_fits (pos n) is = search rules
+long_fits (negsuc n) is = search rules
+
+pub long_same : (z : ℤ) → IsLong z → to_z w64 (of_z w64 z) ≡ z
+long_same z is = to_z-of_z w64 z (long_fits z is)

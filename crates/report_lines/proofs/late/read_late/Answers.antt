@@ -1,0 +1,17 @@
+use Rattle.std.proofs.Common.{codes, arith}
+use Rattle.dispatch_report.specs.Words.{numbered}
+use Rattle.report_lines.specs.Ids.{IsId}
+use Rattle.report_lines.specs.work.Late.{order_text}
+use Rattle.report_lines.proofs.LateLemmas.{order_ends}
+use Rattle.report_lines.proofs.ReadingLemmas.{head_none, tail_none, numbered_once}
+use Rattle.report_lines.proofs.late.read_late.Goals as goal
+
+pub returns-in_default : goal.returns-in_default
+returns-in_default c late is e =
+    head_none (numbered (codes "late ")) IsId order_text c.args.line.now c.in_default.ensures late.vehicle (late.delay, late.stops) is.0 (order_ends (late.delay, late.stops)) e
+
+pub returns-in_default-read_order : goal.returns-in_default-read_order
+returns-in_default-read_order c late is e =
+    tail_none (numbered (codes "late ")) IsId order_text c.args.line.now (numbered_once (codes "late ") 1000000000 (omega arith))
+    c.in-Some.id c.in-Some.after.now c.in-Some.ensures late.vehicle (late.delay, late.stops) is.0 (order_ends (late.delay, late.stops))
+    (c.in_default-read_order.ensures (late.delay, late.stops) is.1) e

@@ -1,0 +1,5 @@
+use Rattle.report_lines.proofs.OutcomeLemmas.{outcome_block}
+use Rattle.report_lines.proofs.laws.an_outcome_prints_a_block.Goals as goal
+
+pub returns : goal.returns
+returns c = outcome_block

@@ -1,0 +1,6 @@
+use Rattle.std.proofs.Common.{◌≡◌, drop}
+use Rattle.pool_base.specs.Number.{value_after, value_of}
+use Rattle.report_lines.proofs.numeral.value_of_digits.Given as goal
+
+abbrev pub invariant-loop-digit : goal.invariant-loop-digit
+invariant-loop-digit l = value_after l.value (drop l.digit-index l.digits) ≡ value_of l.digits

@@ -1,0 +1,11 @@
+use Rattle.std.proofs.Common.{length}
+use Rattle.dispatch_report.specs.Words.{spaced}
+use Rattle.report_lines.specs.Ids.{IsId}
+use Rattle.report_lines.proofs.ListLemmas.{ReadSoFar}
+use Rattle.report_lines.proofs.riders.riders_to_end.Given as goal
+
+abbrev pub invariant-loop-rest : goal.invariant-loop-rest
+invariant-loop-rest l = ReadSoFar spaced IsId l.fn.text l.riders.items l.rest
+
+abbrev pub decreases-loop-rest : goal.decreases-loop-rest
+decreases-loop-rest l = length l.rest

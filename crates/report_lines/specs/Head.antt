@@ -1,0 +1,38 @@
+-- The first lines of a report, by their numbers.
+use Rattle.std.specs.Prelude.{ℕ, ◌==◌, ◌<◌, ◌≤◌, ◌^◌, List, [], ◌++◌, codes, if◌then◌else◌}
+use Rattle.dispatch_report.specs.Words.{numbered}
+use Rattle.report_lines.specs.declared.head.SettingsText.{SettingsText}
+
+-- a number below 2^32
+abbrev pub IsShort : ℕ → Type 0
+IsShort n = n ≤ 4294967295
+
+-- the dwell, told only where there is one
+abbrev pub dwell_text : ℕ → List ℕ
+dwell_text dwell = if dwell == 0 then [] else numbered (codes " dwell=") dwell
+
+-- the line of the settings
+abbrev pub settings_text : SettingsText → List ℕ
+settings_text s =
+    (numbered (codes "settings wait=") s.wait ++ numbered (codes " delay=") s.delay ++ numbered (codes " trip=") s.trip)
+    ++ (numbered (codes " penalty=") s.penalty ++ numbered (codes " budget=") s.budget ++ numbered (codes " pairs=") s.pairs)
+    ++ numbered (codes " proof=") s.proof
+    ++ dwell_text s.dwell
+
+-- each number is below 2^32
+pub record AreSettings (s : SettingsText) : Type 0 where
+  pub wait : IsShort s.wait
+  pub delay : IsShort s.delay
+  pub trip : IsShort s.trip
+  pub penalty : IsShort s.penalty
+  pub budget : IsShort s.budget
+  pub pairs : IsShort s.pairs
+  pub proof : IsShort s.proof
+  pub dwell : IsShort s.dwell
+
+-- the line of the network: how many nodes and arcs it has
+abbrev pub sizes_text : ℕ × ℕ → List ℕ
+sizes_text sizes = numbered (codes "network nodes=") sizes.0 ++ numbered (codes " arcs=") sizes.1
+
+abbrev pub AreSizes : ℕ × ℕ → Type 0
+AreSizes sizes = (sizes.0 < 2 ^ 64) × (sizes.1 < 2 ^ 64)

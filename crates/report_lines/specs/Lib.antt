@@ -1,0 +1,15 @@
+pub mod Reading
+pub mod Cut
+pub mod Ids
+pub mod Signed
+pub mod Leaf
+pub mod Row
+pub mod Moves
+pub mod Stops
+pub mod Trips
+pub mod BlockLine
+pub mod Order
+pub mod Block
+pub mod Outcome
+pub mod Head
+pub mod work

@@ -1,0 +1,23 @@
+-- What reading a text gives.
+use Rattle.std.specs.Prelude.{◌≡◌, ◌≢◌, ℕ, Bool, true, not, List, [], ◌∷◌, ◌++◌, Option, None, Some}
+use Rattle.std.specs.Char.{is_ascii_digit}
+
+-- a number may end before this: no digit follows
+abbrev pub ends_number : List ℕ → Bool
+ends_number [] = true
+ends_number (c ∷ cs) = not (is_ascii_digit c)
+
+-- the text begins with that of a thing, and no number goes on behind it
+pub record BeginsWith {X : Type 0} (text_of : X → List ℕ) (Is : X → Type 0) (text : List ℕ) (x : X) (rest : List ℕ) : Type 0 where
+  pub whole : text ≡ text_of x ++ rest
+  pub lawful : Is x
+  pub ends : ends_number rest ≡ true
+
+-- the text begins with that of no such thing
+abbrev pub BeginsWithNone : {X : Type 0} → (X → List ℕ) → (X → Type 0) → List ℕ → Type 0
+BeginsWithNone {X} text_of Is text = (x : X) (rest : List ℕ) → BeginsWith text_of Is text x rest → ⊥
+
+-- what a line is read as: the thing whose text it is, or nothing where it is the text of no such thing
+abbrev pub Reads : {X : Type 0} → (X → List ℕ) → (X → Type 0) → List ℕ → Option X → Type 0
+Reads {X} text_of Is line None = (x : X) → Is x → line ≢ text_of x
+Reads text_of Is line (Some x) = Is x × (line ≡ text_of x)

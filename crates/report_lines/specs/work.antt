@@ -1,0 +1,6 @@
+-- What only the bodies of this crate need.
+pub mod Both
+pub mod Stops
+pub mod Late
+pub mod LineKinds
+pub mod Head

@@ -1,0 +1,35 @@
+-- The lines of a block, by how they are read.
+use Rattle.report_lines.specs.BlockLine.{IsBlockLine}
+use Rattle.report_lines.specs.declared.block_line.BlockLine.{BlockLine}
+use Rattle.report_lines.specs.declared.block_line.BlockLine.TheVariants.{Batch, Expired, Overflow, Lapsed, Late, Alone, Shared, Trip, Out, Move, Cost, Bound, Nodes, Branch, Dead, End}
+
+abbrev pub IsWordLine : BlockLine → Type 0
+IsWordLine Overflow = Unit {0}
+IsWordLine Dead = Unit {0}
+IsWordLine End = Unit {0}
+IsWordLine _ = ⊥
+
+abbrev pub IsCountLine : BlockLine → Type 0
+IsCountLine (Batch n) = IsBlockLine (Batch n)
+IsCountLine (Cost n) = IsBlockLine (Cost n)
+IsCountLine (Nodes n) = IsBlockLine (Nodes n)
+IsCountLine (Bound z) = IsBlockLine (Bound z)
+IsCountLine _ = ⊥
+
+abbrev pub IsRiderLine : BlockLine → Type 0
+IsRiderLine (Expired rider) = IsBlockLine (Expired rider)
+IsRiderLine (Lapsed rider) = IsBlockLine (Lapsed rider)
+IsRiderLine (Out rider) = IsBlockLine (Out rider)
+IsRiderLine _ = ⊥
+
+abbrev pub IsGraphLine : BlockLine → Type 0
+IsGraphLine (Alone pair) = IsBlockLine (Alone pair)
+IsGraphLine (Shared pair) = IsBlockLine (Shared pair)
+IsGraphLine (Late late) = IsBlockLine (Late late)
+IsGraphLine _ = ⊥
+
+abbrev pub IsPlanLine : BlockLine → Type 0
+IsPlanLine (Trip trip) = IsBlockLine (Trip trip)
+IsPlanLine (Move m) = IsBlockLine (Move m)
+IsPlanLine (Branch branch) = IsBlockLine (Branch branch)
+IsPlanLine _ = ⊥

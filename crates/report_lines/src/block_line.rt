@@ -1,0 +1,160 @@
+ghost use Rattle.std.specs.Prelude.{◌≡◌, ◌≢◌, ℕ, ◌≤◌, ◌<◌, List, ◌++◌, MatchOption, IfOk, codes};
+ghost use Rattle.report_lines.specs.Reading.{Reads};
+ghost use Rattle.report_lines.specs.BlockLine.{block_line_text, IsBlockLine};
+ghost use Rattle.report_lines.specs.work.LineKinds.{IsWordLine, IsCountLine, IsRiderLine, IsGraphLine, IsPlanLine};
+
+use crate::late::read_late;
+use crate::leaf::read_leaf;
+use crate::moves::{read_branch, read_move};
+use crate::pairs::{read_rider, read_rr, read_rv};
+use crate::row::{RowText, read_row};
+use crate::signed::read_signed;
+use crate::trip::read_trip;
+use crate::words::{is_words, read_numbered};
+use plan_rules::Multipliers;
+use pool_base::{OutOfMemory, RiderId, VehicleId};
+use request_book::{ChosenTrip, LateVehicle, MoveLine};
+use std::alloc::Global;
+
+/// A line of a batch's block, by what it says.
+#[derive(Debug, Drop)]
+pub enum BlockLine {
+    /// The batch's number.
+    Batch(u64),
+    /// A rider whose wait ran out.
+    Expired(RiderId),
+    /// There were too many rows.
+    Overflow,
+    /// A rider whose promise couldn't be kept.
+    Lapsed(RiderId),
+    Late(LateVehicle),
+    /// A vehicle and a rider who can ride alone with it.
+    Alone((VehicleId, RiderId)),
+    /// Two riders who can share a vehicle.
+    Shared((RiderId, RiderId)),
+    Row(RowText),
+    Trip(ChosenTrip),
+    /// A rider in no chosen trip.
+    Out(RiderId),
+    Move(MoveLine),
+    Cost(u64),
+    Bound(i128),
+    /// How many nodes the tree has.
+    Nodes(u64),
+    /// A node that branches: the vehicle of a row, and which row line of the block it is.
+    Branch((VehicleId, u32)),
+    Leaf(Multipliers),
+    Dead,
+    End,
+}
+
+/// What a line of a block says; `None` where it is no such line.
+pub fn read_block_line(alloc: Global, line: &[u8]) -> Result<Option<BlockLine>, OutOfMemory>
+    ensures { IfOk result (λ found. Reads block_line_text IsBlockLine line.now found) }
+{
+    if let Some(found) = read_word_line(line) {
+        return Ok(Some(found));
+    }
+    if let Some(found) = read_count_line(line) {
+        return Ok(Some(found));
+    }
+    if let Some(found) = read_rider_line(line) {
+        return Ok(Some(found));
+    }
+    if let Some(found) = read_graph_line(line) {
+        return Ok(Some(found));
+    }
+    if let Some(found) = read_plan_line(line) {
+        return Ok(Some(found));
+    }
+    if let Some(row) = read_row(alloc, line)? {
+        return Ok(Some(BlockLine::Row(row)));
+    }
+    match read_leaf(alloc, line)? {
+        Some(leaf) => Ok(Some(BlockLine::Leaf(leaf))),
+        None => Ok(None),
+    }
+}
+
+/// A line that is a word.
+fn read_word_line(line: &[u8]) -> Option<BlockLine>
+    ensures { Reads block_line_text IsWordLine line.now result }
+{
+    if is_words(line, b"overflow") {
+        return Some(BlockLine::Overflow);
+    }
+    if is_words(line, b"dead") {
+        return Some(BlockLine::Dead);
+    }
+    if is_words(line, b"end") {
+        return Some(BlockLine::End);
+    }
+    None
+}
+
+/// A line of one number.
+fn read_count_line(line: &[u8]) -> Option<BlockLine>
+    ensures { Reads block_line_text IsCountLine line.now result }
+{
+    if let Some(batch) = read_numbered(line, b"batch ", u64::MAX) {
+        return Some(BlockLine::Batch(batch));
+    }
+    if let Some(cost) = read_numbered(line, b"cost ", u64::MAX) {
+        return Some(BlockLine::Cost(cost));
+    }
+    if let Some(nodes) = read_numbered(line, b"nodes ", u64::MAX) {
+        return Some(BlockLine::Nodes(nodes));
+    }
+    match read_signed(line, b"bound ") {
+        Some(bound) => Some(BlockLine::Bound(bound)),
+        None => None,
+    }
+}
+
+/// A line of one rider.
+fn read_rider_line(line: &[u8]) -> Option<BlockLine>
+    ensures { Reads block_line_text IsRiderLine line.now result }
+{
+    if let Some(expired) = read_rider(line, b"expired ") {
+        return Some(BlockLine::Expired(expired));
+    }
+    if let Some(lapsed) = read_rider(line, b"lapsed ") {
+        return Some(BlockLine::Lapsed(lapsed));
+    }
+    match read_rider(line, b"out ") {
+        Some(out) => Some(BlockLine::Out(out)),
+        None => None,
+    }
+}
+
+/// A line that says who can ride.
+fn read_graph_line(line: &[u8]) -> Option<BlockLine>
+    ensures { Reads block_line_text IsGraphLine line.now result }
+{
+    if let Some(alone) = read_rv(line) {
+        return Some(BlockLine::Alone(alone));
+    }
+    if let Some(shared) = read_rr(line) {
+        return Some(BlockLine::Shared(shared));
+    }
+    match read_late(line) {
+        Some(late) => Some(BlockLine::Late(late)),
+        None => None,
+    }
+}
+
+/// A line that says what vehicles do, or where a tree branches.
+fn read_plan_line(line: &[u8]) -> Option<BlockLine>
+    ensures { Reads block_line_text IsPlanLine line.now result }
+{
+    if let Some(trip) = read_trip(line) {
+        return Some(BlockLine::Trip(trip));
+    }
+    if let Some(move_line) = read_move(line) {
+        return Some(BlockLine::Move(move_line));
+    }
+    match read_branch(line) {
+        Some(branch) => Some(BlockLine::Branch(branch)),
+        None => None,
+    }
+}

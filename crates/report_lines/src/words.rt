@@ -1,0 +1,61 @@
+ghost use Rattle.std.specs.Prelude.{◌≡◌, ◌≢◌, ℕ, ◌≤◌, ◌<◌, ◌^◌, List, ◌++◌, MatchOption, codes, true};
+ghost use Rattle.dispatch_report.specs.Words.{numbered, spaced};
+ghost use Rattle.report_lines.specs.Reading.{BeginsWith, BeginsWithNone, Reads};
+ghost use Rattle.report_lines.specs.work.Both.{both, BothAre};
+
+use crate::numeral::number_first;
+
+/// What follows the words with which a text begins; `None` where it doesn't begin with them.
+pub(crate) fn words_first<'a>(text: &'a [u8], words: &[u8]) -> Option<&'a [u8]>
+    ensures { MatchOption result ((rest : List ℕ) → text.now ≢ words.now ++ rest) (λ rest. text.now ≡ words.now ++ rest.now) }
+{
+    text.strip_prefix(words)
+}
+
+/// Whether a text is these words and nothing more.
+pub(crate) fn is_words(text: &[u8], words: &[u8]) -> bool
+    ensures right { result ≡ true → text.now ≡ words.now }
+    ensures whole { text.now ≡ words.now → result ≡ true }
+{
+    text == words
+}
+
+/// The number behind the words with which a text begins.
+pub(crate) fn numbered_first<'a>(text: &'a [u8], words: &[u8], most: u64) -> Option<(u64, &'a [u8])>
+    ensures { MatchOption result (BeginsWithNone (numbered words.now) (λ n. n ≤ most) text.now) (λ r. BeginsWith (numbered words.now) (λ n. n ≤ most) text.now r.0 r.1.now) }
+{
+    let Some(after) = words_first(text, words) else {
+        return None;
+    };
+    number_first(after, most)
+}
+
+/// Two numbers behind words, apart by a space.
+pub(crate) fn pair_first<'a>(
+    text: &'a [u8],
+    words: &[u8],
+    most: u64,
+    other: u64,
+) -> Option<((u64, u64), &'a [u8])>
+    ensures { MatchOption result
+        (BeginsWithNone (both (numbered words.now) spaced) (BothAre (λ n. n ≤ most) (λ n. n ≤ other)) text.now)
+        (λ r. BeginsWith (both (numbered words.now) spaced) (BothAre (λ n. n ≤ most) (λ n. n ≤ other)) text.now r.0 r.1.now) }
+{
+    let Some((first, after)) = numbered_first(text, words, most) else {
+        return None;
+    };
+    let Some((second, rest)) = numbered_first(after, b" ", other) else {
+        return None;
+    };
+    Some(((first, second), rest))
+}
+
+/// The number of a line that has words and a number alone.
+pub fn read_numbered(line: &[u8], words: &[u8], most: u64) -> Option<u64>
+    ensures { Reads (numbered words.now) (λ n. n ≤ most) line.now result }
+{
+    let Some((n, rest)) = numbered_first(line, words, most) else {
+        return None;
+    };
+    if rest.is_empty() { Some(n) } else { None }
+}

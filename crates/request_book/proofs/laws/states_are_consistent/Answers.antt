@@ -1,0 +1,5 @@
+use Rattle.request_book.proofs.lemmas.LawLemmas.{reached-consistent}
+use Rattle.request_book.proofs.laws.states_are_consistent.Goals as goal
+
+pub returns : goal.returns
+returns c nodes wait vehicles entries fleet = reached-consistent nodes wait vehicles entries fleet

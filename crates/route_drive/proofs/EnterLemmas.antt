@@ -1,0 +1,200 @@
+-- What is entered, stop by stop and vehicle by vehicle.
+use Rattle.std.proofs.Common.{◌≡◌, ℕ, zero, suc, ◌+◌, ◌<◌, ◌≤◌, Bool, true, false, leb, List, [], ◌∷◌, ◌++◌, length, get_or, map, filter, take, drop, Some, refl, sym, ap, ◌∙◌, inl, inr, subst, arith, append_assoc, append-nil, add-one, length-append}
+use Rattle.std.specs.Prelude.{IsSome, All, find}
+use Rattle.std.specs.List.{Any}
+use Rattle.std.proofs.lemmas.Bool.{cases_Bool, cond-true, cond-false, le-leb}
+use Rattle.std.proofs.lemmas.Bool.Decides.{leb_tells}
+use Rattle.std.proofs.lemmas.List.{take_more, length-set, get_or-set_same, get_or-set_other, get_or_append_left}
+use Rattle.std.proofs.lemmas.List.Elements.{filter-append, All-nil, All-cons}
+use Rattle.std.proofs.Math.Seq.{drop-cons, get_or-append_seam}
+use Rattle.batch_snapshot.specs.declared.vehicle.Vehicle.{Vehicle}
+use Rattle.request_book.specs.declared.command.Command.{Command}
+use Rattle.request_book.specs.declared.outcome.PlannedStop.{PlannedStop}
+use Rattle.road_network.specs.Roads.{Roads}
+use Rattle.script_rows.specs.Round.{NumberedLanes, lane_at, with_command}
+use Rattle.route_drive.specs.declared.course.Course.{Course}
+use Rattle.route_drive.specs.declared.course.Standing.{Standing}
+use Rattle.route_drive.specs.declared.walk.WalkStep.{WalkStep}
+use Rattle.pool_base.specs.TravelTime.{longest}
+use Rattle.request_book.specs.declared.command.Command.TheVariants.{Pickup, Dropoff}
+use Rattle.route_drive.specs.Entering.{AreEntered, EntersTooLate, IsEntered, IsInTime, IsTooLate, due, left_commands, standing_after, step_from, stop_command, walk_end}
+use Rattle.route_drive.specs.work.Rounds.{Adds, EntersLate}
+
+module _ {X : Type 0} where
+  -- at the end nothing is left
+  pub drop_all : (xs : List X) (n : ℕ) → length xs ≤ n → drop n xs ≡ []
+  drop_all [] zero h = refl
+  drop_all [] (suc n) h = refl
+  drop_all (x ∷ xs) zero h = absurd (omega arith)
+  drop_all (x ∷ xs) (suc n) h = drop_all xs n (omega arith)
+
+  pub take_all : (xs : List X) (n : ℕ) → length xs ≤ n → take n xs ≡ xs
+  take_all [] zero h = refl
+  take_all [] (suc n) h = refl
+  take_all (x ∷ xs) zero h = absurd (omega arith)
+  take_all (x ∷ xs) (suc n) h = ap (λ ys. x ∷ ys) (take_all xs n (omega arith))
+
+  next : (xs : List X) (i : ℕ) (d : X) → i < length xs → drop i xs ≡ get_or xs i d ∷ drop (i + 1) xs
+  next xs i d h = rw add-one (drop-cons xs i d h)
+
+  -- a search that passes over an element, or ends at it
+  pub find_skip : (p : X → Bool) (xs : List X) (i : ℕ) (d : X) → i < length xs → p (get_or xs i d) ≡ false → find p (drop i xs) ≡ find p (drop (i + 1) xs)
+  find_skip p xs i d h e = ap (find p) (next xs i d h) ∙ cond-false (p (get_or xs i d)) (Some (get_or xs i d)) (find p (drop (i + 1) xs)) e
+
+  pub find_hit : (p : X → Bool) (xs : List X) (i : ℕ) (d : X) → i < length xs → p (get_or xs i d) ≡ true → find p (drop i xs) ≡ Some (get_or xs i d)
+  find_hit p xs i d h e = ap (find p) (next xs i d h) ∙ cond-true (p (get_or xs i d)) (Some (get_or xs i d)) (find p (drop (i + 1) xs)) e
+
+  pub filter_skip : (p : X → Bool) (xs : List X) (i : ℕ) (d : X) → i < length xs → p (get_or xs i d) ≡ false → filter p (drop i xs) ≡ filter p (drop (i + 1) xs)
+  filter_skip p xs i d h e = ap (filter p) (next xs i d h) ∙ cond-false (p (get_or xs i d)) (get_or xs i d ∷ filter p (drop (i + 1) xs)) (filter p (drop (i + 1) xs)) e
+
+  pub filter_hit : (p : X → Bool) (xs : List X) (i : ℕ) (d : X) → i < length xs → p (get_or xs i d) ≡ true → filter p (drop i xs) ≡ get_or xs i d ∷ filter p (drop (i + 1) xs)
+  filter_hit p xs i d h e = ap (filter p) (next xs i d h) ∙ cond-true (p (get_or xs i d)) (get_or xs i d ∷ filter p (drop (i + 1) xs)) (filter p (drop (i + 1) xs)) e
+
+  -- one more element that a filter keeps, or doesn't
+  pub filter_more : (p : X → Bool) (xs : List X) (i : ℕ) (d : X) → i < length xs → p (get_or xs i d) ≡ true → filter p (take (i + 1) xs) ≡ filter p (take i xs) ++ get_or xs i d ∷ []
+  filter_more p xs i d h e = ap (filter p) (take_more xs i d h) ∙ filter-append p (take i xs) (get_or xs i d ∷ []) ∙ ap (λ ys. filter p (take i xs) ++ ys) (cond-true (p (get_or xs i d)) (get_or xs i d ∷ []) [] e)
+
+  pub filter_same : (p : X → Bool) (xs : List X) (i : ℕ) (d : X) → i < length xs → p (get_or xs i d) ≡ false → filter p (take (i + 1) xs) ≡ filter p (take i xs)
+  filter_same p xs i d h e = ap (filter p) (take_more xs i d h) ∙ filter-append p (take i xs) (get_or xs i d ∷ []) ∙ ap (λ ys. filter p (take i xs) ++ ys) (cond-false (p (get_or xs i d)) (get_or xs i d ∷ []) [] e) ∙ append-nil (filter p (take i xs))
+
+pub lt-leb : (a b : ℕ) → b < a → leb a b ≡ false
+lt-leb a b h = elim (leb_tells a b) [ inl t ↦ absurd (let u = t.1 in omega (arith, u, h)) | inr f ↦ f.0 ]
+
+-- the last step
+pub walk_end-push : (steps : List WalkStep) (s : WalkStep) → walk_end (steps ++ s ∷ []) ≡ s.seconds
+walk_end-push [] s = refl
+walk_end-push (x ∷ []) s = refl
+walk_end-push (x ∷ y ∷ steps) s = walk_end-push (y ∷ steps) s
+
+-- a walk that ends later has a step that is reached then
+pub step_there : (now left : ℕ) (steps : List WalkStep) → left ≤ now → now < left + walk_end steps → IsSome (step_from now left steps)
+step_there now left [] le h = absurd (omega arith)
+step_there now left (x ∷ []) le h = rw (le-leb now (left + x.seconds) (omega arith)) refl
+step_there now left (x ∷ y ∷ steps) le h = elim (leb_tells now (left + x.seconds)) [
+  | inl t ↦ rw t.0 refl
+  | inr f ↦ rw f.0 (step_there now left (y ∷ steps) le h)
+]
+
+pub standing-push : (dwell : ℕ) (at : Standing) (stops : List PlannedStop) (s : PlannedStop) → standing_after dwell at (stops ++ s ∷ []) ≡ record { node = s.node; second = s.second; free = s.second + dwell }
+standing-push dwell at [] s = refl
+standing-push dwell at (x ∷ stops) s = standing-push dwell (record { node = x.node; second = x.second; free = x.second + dwell }) stops s
+
+-- lanes that gain commands
+pub Adds-none : (lane : ℕ) (r : NumberedLanes) → Adds lane [] r r
+Adds-none lane r = record { size = refl; own = sym (append-nil (lane_at r lane)); others = λ k ne. refl }
+
+pub Adds-one : (lane : ℕ) (r : NumberedLanes) (c : Command) → lane < length r.lanes → Adds lane (c ∷ []) r (with_command r lane c)
+Adds-one lane r c h = record {
+  size = length-set r.lanes lane (lane_at r lane ++ c ∷ []);
+  own = get_or-set_same r.lanes lane (lane_at r lane ++ c ∷ []) [] h;
+  others = λ k ne. get_or-set_other r.lanes lane k (lane_at r lane ++ c ∷ []) [] ne;
+}
+
+pub Adds-trans : (lane : ℕ) (a b c : NumberedLanes) (xs ys : List Command) → Adds lane xs a b → Adds lane ys b c → Adds lane (xs ++ ys) a c
+Adds-trans lane a b c xs ys one two = record {
+  size = two.size ∙ one.size;
+  own = two.own ∙ ap (λ l. l ++ ys) one.own ∙ append_assoc (lane_at a lane) xs ys;
+  others = λ k ne. two.others k ne ∙ one.others k ne;
+}
+
+same_takes : {X Y : Type 0} (xs : List X) (ys : List Y) (k : ℕ) → length ys ≡ length xs → length (take k ys) ≡ length (take k xs)
+same_takes [] [] zero e = refl
+same_takes [] [] (suc k) e = refl
+same_takes [] (y ∷ ys) k e = absurd (omega (arith, e))
+same_takes (x ∷ xs) [] k e = absurd (omega (arith, e))
+same_takes (x ∷ xs) (y ∷ ys) zero e = refl
+same_takes (x ∷ xs) (y ∷ ys) (suc k) e = ap suc (same_takes xs ys k (omega (arith, e)))
+
+-- one more vehicle is entered
+module _ (roads : Roads) (dwell now : ℕ) where
+  AreEntered-push : (vehicles : List Vehicle) (courses : List Course) (entered own : List Command) (v : Vehicle) (c : Course) → length courses ≡ length vehicles → AreEntered roads dwell now vehicles courses entered → IsEntered roads dwell now v c own
+      → AreEntered roads dwell now (vehicles ++ v ∷ []) (courses ++ c ∷ []) (entered ++ own)
+  AreEntered-push [] [] entered own v c size are is = (own, [], is, refl, ap (λ l. l ++ own) are ∙ sym (append-nil own))
+  AreEntered-push [] (x ∷ courses) entered own v c size are is = absurd (omega (arith, size))
+  AreEntered-push (x ∷ vehicles) [] entered own v c size are is = absurd (omega (arith, size))
+  AreEntered-push (x ∷ vehicles) (y ∷ courses) entered own v c size are is =
+      (are.0, are.1 ++ own, are.2, AreEntered-push vehicles courses are.1 own v c (omega (arith, size)) are.3 is, ap (λ l. l ++ own) are.4 ∙ append_assoc are.0 are.1 own)
+
+  pub AreEntered-more : (vehicles : List Vehicle) (courses : List Course) (k : ℕ) (entered own : List Command) (v : Vehicle) (c : Course) → length courses ≡ length vehicles → k < length vehicles
+      → v ≡ get_or vehicles k v → c ≡ get_or courses k c → AreEntered roads dwell now (take k vehicles) (take k courses) entered → IsEntered roads dwell now v c own
+      → AreEntered roads dwell now (take (k + 1) vehicles) (take (k + 1) courses) (entered ++ own)
+  AreEntered-more vehicles courses k entered own v c size h is_v is_c are is =
+      let more = AreEntered-push (take k vehicles) (take k courses) entered own v c (same_takes vehicles courses k size) are is in
+      let vs : take k vehicles ++ v ∷ [] ≡ take (k + 1) vehicles = ap (λ y. take k vehicles ++ y ∷ []) is_v ∙ sym (take_more vehicles k v h) in
+      let cs : take k courses ++ c ∷ [] ≡ take (k + 1) courses = ap (λ y. take k courses ++ y ∷ []) is_c ∙ sym (take_more courses k c (omega (arith, size, h))) in
+      rw (← vs, ← cs) more
+
+  -- the vehicle of a number is too late
+  pub late_at : (vehicles : List Vehicle) (courses : List Course) (k : ℕ) (v : Vehicle) (c : Course) → k < length vehicles → k < length courses
+      → v ≡ get_or vehicles k v → c ≡ get_or courses k c → EntersLate roads dwell now v c → EntersTooLate roads dwell now vehicles courses
+  late_at [] courses k v c h g is_v is_c late = absurd (omega arith)
+  late_at (x ∷ vehicles) [] k v c h g is_v is_c late = absurd (omega arith)
+  late_at (x ∷ vehicles) (y ∷ courses) zero v c h g is_v is_c late = inl (rw (← is_v, ← is_c) late)
+  late_at (x ∷ vehicles) (y ∷ courses) (suc k) v c h g is_v is_c late = inr (late_at vehicles courses k v c (omega arith) (omega arith) is_v is_c late)
+
+-- the last one is among them
+pub any_last : (P : Command → Type 0) (xs : List Command) (x : Command) → P x → Any P (xs ++ x ∷ [])
+any_last P xs x p = (length xs, x, (let e = length-append xs (x ∷ []) in omega (arith, e)), get_or-append_seam xs x [] x, p)
+
+-- the stops left of one more vehicle
+left-push : (vehicles : List Vehicle) (courses : List Course) (v : Vehicle) (c : Course) → length courses ≡ length vehicles
+    → left_commands (vehicles ++ v ∷ []) (courses ++ c ∷ []) ≡ left_commands vehicles courses ++ map (stop_command v.id) c.stops.items
+left-push [] [] v c size = append-nil (map (stop_command v.id) c.stops.items)
+left-push [] (x ∷ courses) v c size = absurd (omega (arith, size))
+left-push (x ∷ vehicles) [] v c size = absurd (omega (arith, size))
+left-push (x ∷ vehicles) (y ∷ courses) v c size =
+    ap (λ l. map (stop_command x.id) y.stops.items ++ l) (left-push vehicles courses v c (omega (arith, size)))
+    ∙ sym (append_assoc (map (stop_command x.id) y.stops.items) (left_commands vehicles courses) (map (stop_command v.id) c.stops.items))
+
+pub left-more : (vehicles : List Vehicle) (courses : List Course) (k : ℕ) (v : Vehicle) (c : Course) → length courses ≡ length vehicles → k < length vehicles
+    → v ≡ get_or vehicles k v → c ≡ get_or courses k c
+    → left_commands (take (k + 1) vehicles) (take (k + 1) courses) ≡ left_commands (take k vehicles) (take k courses) ++ map (stop_command v.id) c.stops.items
+left-more vehicles courses k v c size h is_v is_c =
+    let vs : take (k + 1) vehicles ≡ take k vehicles ++ v ∷ [] = take_more vehicles k v h ∙ ap (λ y. take k vehicles ++ y ∷ []) (sym is_v) in
+    let cs : take (k + 1) courses ≡ take k courses ++ c ∷ [] = take_more courses k c (omega (arith, size, h)) ∙ ap (λ y. take k courses ++ y ∷ []) (sym is_c) in
+    ap (λ l. left_commands l (take (k + 1) courses)) vs ∙ ap (left_commands (take k vehicles ++ v ∷ [])) cs ∙ left-push (take k vehicles) (take k courses) v c (same_takes vehicles courses k size)
+
+any_left : (P : Command → Type 0) (xs ys : List Command) → Any P xs → Any P (xs ++ ys)
+any_left P xs ys (k, x, h, is, p) = (k, x, (let e = length-append xs ys in omega (arith, e, h)), get_or_append_left xs ys x k h ∙ is, p)
+
+any_right : (P : Command → Type 0) (xs ys : List Command) → Any P ys → Any P (xs ++ ys)
+any_right P [] ys any = any
+any_right P (z ∷ xs) ys any = let rest = any_right P xs ys any in (suc rest.0, rest.1, omega (arith, rest.2), rest.3, rest.4)
+
+-- a stop of one vehicle is among the stops left of all
+pub left_late : (P : Command → Type 0) (vehicles : List Vehicle) (courses : List Course) (k : ℕ) (v : Vehicle) (c : Course) → k < length vehicles → k < length courses
+    → v ≡ get_or vehicles k v → c ≡ get_or courses k c → Any P (map (stop_command v.id) c.stops.items) → Any P (left_commands vehicles courses)
+left_late P [] courses k v c h g is_v is_c any = absurd (omega arith)
+left_late P (x ∷ vehicles) [] k v c h g is_v is_c any = absurd (omega arith)
+left_late P (x ∷ vehicles) (y ∷ courses) zero v c h g is_v is_c any =
+    any_left P (map (stop_command x.id) y.stops.items) (left_commands vehicles courses) (rw (← is_v, ← is_c) any)
+left_late P (x ∷ vehicles) (y ∷ courses) (suc k) v c h g is_v is_c any =
+    any_right P (map (stop_command x.id) y.stops.items) (left_commands vehicles courses) (left_late P vehicles courses k v c (omega arith) (omega arith) is_v is_c any)
+
+-- one among those of a map
+pub any_mapped : (P : Command → Type 0) (f : PlannedStop → Command) (stops : List PlannedStop) (k : ℕ) (s : PlannedStop) → k < length stops → s ≡ get_or stops k s → P (f s) → Any P (map f stops)
+any_mapped P f [] k s h is p = absurd (omega arith)
+any_mapped P f (x ∷ stops) zero s h is p = (0, f s, omega arith, ap f (sym is), p)
+any_mapped P f (x ∷ stops) (suc k) s h is p = let rest = any_mapped P f stops k s (omega arith) is p in (suc rest.0, rest.1, omega (arith, rest.2), rest.3, rest.4)
+
+-- a stop that is too late is entered too late
+pub late_stop : (vehicle : ℕ) (s : PlannedStop) → longest < s.second → IsTooLate (stop_command vehicle s)
+late_stop vehicle s late = elim (cases_Bool s.pick) [
+  | inl e ↦ subst IsTooLate (sym (cond-true s.pick (Pickup vehicle s.rider s.second) (Dropoff vehicle s.rider s.second) e)) late
+  | inr e ↦ subst IsTooLate (sym (cond-false s.pick (Pickup vehicle s.rider s.second) (Dropoff vehicle s.rider s.second) e)) late
+]
+
+-- a stop that comes in time is entered in time
+pub stop_in_time : (vehicle : ℕ) (s : PlannedStop) → s.second ≤ longest → IsInTime (stop_command vehicle s)
+stop_in_time vehicle s le = elim (cases_Bool s.pick) [
+  | inl e ↦ subst IsInTime (sym (cond-true s.pick (Pickup vehicle s.rider s.second) (Dropoff vehicle s.rider s.second) e)) le
+  | inr e ↦ subst IsInTime (sym (cond-false s.pick (Pickup vehicle s.rider s.second) (Dropoff vehicle s.rider s.second) e)) le
+]
+
+-- what is due comes in time
+pub due_in_time : (vehicle now : ℕ) (stops : List PlannedStop) → now ≤ longest → All IsInTime (map (stop_command vehicle) (due now stops))
+due_in_time vehicle now [] h = All-nil IsInTime
+due_in_time vehicle now (s ∷ stops) h = elim (leb_tells s.second now) [
+  | inl t ↦ rw t.0 (All-cons IsInTime (stop_command vehicle s) (map (stop_command vehicle) (due now stops)) (stop_in_time vehicle s (let le = t.1 in omega (arith, le, h))) (due_in_time vehicle now stops h))
+  | inr f ↦ rw f.0 (due_in_time vehicle now stops h)
+]

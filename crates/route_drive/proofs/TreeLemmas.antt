@@ -1,0 +1,302 @@
+-- Searches for shortest walks.
+use Rattle.std.specs.Prelude.{IfNone, IsSome}
+use Rattle.std.proofs.Common.{◌≡◌, ℕ, zero, suc, Option, None, Some, rules, nat_lt, ◌+◌, ◌*◌, ◌<◌, ◌≤◌, ◌⊎◌, Bool, true, false, cond, not, List, [], ◌∷◌, ◌++◌, length, get_or, slice_index, set, replicate, map, reverse, count_by, All, refl, sym, ap, ◌∙◌, inl, inr, subst, arith, length-append}
+use Rattle.std.specs.List.{position, position_or_len}
+use Rattle.std.proofs.lemmas.Bool.{cases_Bool, cases_eq, cases_lt, true≢false}
+use Rattle.std.proofs.lemmas.List.{length-set, get_or-set_same, get_or-set_other, get_or_append_left, reverse-append, get_or-replicate, length-replicate}
+use Rattle.std.proofs.lemmas.List.Elements.{All-contains}
+use Rattle.std.proofs.lemmas.List.Folds.{sum_by-replicate}
+use Rattle.std.proofs.lemmas.List.Sums.{sum_by-set, sum_by-cons}
+use Rattle.std.proofs.Math.Seq.{get_or-append_seam}
+use Rattle.pool_base.specs.TravelTime.{never}
+use Rattle.road_network.specs.declared.arc.Arc.{Arc}
+use Rattle.road_network.specs.declared.hop.Hop.{Hop}
+use Rattle.road_network.specs.Roads.{Roads, IsArcAmong, IsNetwork, hop_of, leaving, index_in}
+use Rattle.road_network.specs.Walk.{IsWalk, walk_seconds, HasNoWalk, IsTimeBetween}
+use Rattle.travel_times.proofs.lemmas.WalkLemmas.{IsWalk-append, walk_seconds-append, short_walk}
+use Rattle.travel_times.proofs.lemmas.SearchLemmas.{arc_of_hop, hop_of_arc, hops_among}
+use Rattle.route_drive.specs.declared.tree.Found.{Found}
+use Rattle.route_drive.specs.declared.walk.WalkStep.{WalkStep}
+use Rattle.route_drive.specs.Walk.{IsShortestWalk}
+use Rattle.route_drive.specs.work.Tree.{no_found, found_at, is_seen, IsTight, IsTree, AreHopsOpened, IsOpened, Grows, IsGrowing, IsFullTree, IsWalkBack}
+
+-- one more is marked and found
+module _ (arcs : List Arc) (times : List ℕ) (seen : List Bool) (found : List Found) (k to : ℕ) where
+  abbrev x : Found
+  x = record { node = to; by = k }
+
+  size : length (found ++ x ∷ []) ≡ length found + 1
+  size = length-append found (x ∷ [])
+
+  left : (j : ℕ) → j < length found → found_at (found ++ x ∷ []) j ≡ found_at found j
+  left j h = get_or_append_left found (x ∷ []) no_found j h
+
+  last : found_at (found ++ x ∷ []) (length found) ≡ x
+  last = get_or-append_seam found x [] no_found
+
+  old_or_new : (j : ℕ) → j < length (found ++ x ∷ []) → (j < length found) ⊎ (j ≡ length found)
+  old_or_new j h = elim (cases_lt j (length found)) [ inl lt ↦ inl lt | inr ge ↦ inr (omega (arith, size)) ]
+
+  pub IsTree-mark : IsTree arcs times seen found → k < length found → IsTight arcs times (found_at found k).node to → to < length times → slice_index times to < never → is_seen seen to ≡ false
+      → IsTree arcs times (set seen to true) (found ++ (record { node = to; by = k }) ∷ [])
+  IsTree-mark tree inside tight within near unseen =
+      let marks = tree.marks in
+      let in_seen : to < length seen = omega arith in
+      let s = size in
+      let counted : count_by not (set seen to true) + cond (not (get_or seen to false)) 1 0 ≡ count_by not seen + cond (not true) 1 0 = sum_by-set (λ (b : Bool). cond (not b) 1 0) seen to true false in_seen in
+      let fewer : count_by not (set seen to true) + 1 ≡ count_by not seen + 0 = rw unseen at counted in
+      record {
+        marks = length-set seen to true ∙ tree.marks;
+        some = omega (arith, s);
+        within = λ j h. elim (old_or_new j h) [ inl lt ↦ rw (left j lt) (tree.within j lt) | inr e ↦ rw (e, last) within ];
+        reached = λ j h. elim (old_or_new j h) [ inl lt ↦ rw (left j lt) (tree.reached j lt) | inr e ↦ rw (e, last) near ];
+        earlier = λ j p h. elim (old_or_new j h) [ inl lt ↦ rw (left j lt) (tree.earlier j p lt) | inr e ↦ rw (e, last) inside ];
+        tight = λ j p h. elim (old_or_new j h) [
+          | inl lt ↦ let b : (found_at found j).by < length found = (let e = tree.earlier j p lt in omega arith) in rw (left j lt, left (found_at found j).by b) (tree.tight j p lt)
+          | inr e ↦ rw (e, last, left k inside) tight
+        ];
+        marked = λ node h. elim (cases_eq node to) [
+          | inl e ↦ (length found, omega (arith, s), rw last (sym e))
+          | inr ne ↦ let old = tree.marked node (sym (get_or-set_other seen to node true false ne) ∙ h) in (old.0, omega (arith, s, old.1), ap (λ (f : Found). f.node) (left old.0 old.1) ∙ old.2)
+        ];
+        first_marked = rw (left 0 tree.some) (elim (cases_eq (found_at found 0).node to) [
+          | inl e ↦ rw e (get_or-set_same seen to true false in_seen)
+          | inr ne ↦ get_or-set_other seen to (found_at found 0).node true false ne ∙ tree.first_marked
+        ]);
+        count = omega (arith, s, fewer, tree.count);
+      }
+
+  pub Grows-mark : (seen₀ : List Bool) (found₀ : List Found) → to < length seen → Grows seen₀ seen found₀ found → Grows seen₀ (set seen to true) found₀ (found ++ (record { node = to; by = k }) ∷ [])
+  Grows-mark seen₀ found₀ within grows = record {
+    longer = let s = size in omega (arith, s, grows.longer);
+    kept = λ j h. left j (let l = grows.longer in omega arith) ∙ grows.kept j h;
+    still = λ node h. elim (cases_eq node to) [
+      | inl e ↦ rw e (get_or-set_same seen to true false within)
+      | inr ne ↦ get_or-set_other seen to node true false ne ∙ grows.still node h
+    ];
+  }
+
+pub Grows-none : (seen : List Bool) (found : List Found) → Grows seen seen found found
+Grows-none seen found = record { longer = omega arith; kept = λ j h. refl; still = λ node h. h }
+
+default : (hops : List Hop) (i : ℕ) (d e : Hop) → i < length hops → get_or hops i d ≡ get_or hops i e
+default [] i d e h = absurd (omega arith)
+default (x ∷ xs) zero d e h = refl
+default (x ∷ xs) (suc i) d e h = default xs i d e (omega arith)
+
+-- one more hop of a node is opened
+pub AreHopsOpened-more : (hops : List Hop) (i here : ℕ) (times : List ℕ) (seen seen' : List Bool) (e : Hop) → AreHopsOpened hops i here times seen
+    → ((node : ℕ) → is_seen seen node ≡ true → is_seen seen' node ≡ true) → i < length hops
+    → (slice_index times (get_or hops i e).to < never → here + (get_or hops i e).seconds ≡ slice_index times (get_or hops i e).to → is_seen seen' (get_or hops i e).to ≡ true)
+    → AreHopsOpened hops (i + 1) here times seen'
+AreHopsOpened-more hops i here times seen seen' e before still within own k d lt h near tight = elim (cases_eq k i) [
+  | inl is ↦
+      let at : get_or hops k d ≡ get_or hops i e = ap (λ j. get_or hops j d) is ∙ default hops i d e within in
+      rw at (own (rw at at near) (rw at at tight))
+  | inr ne ↦ still (get_or hops k d).to (before k d (omega arith) h near tight)
+]
+
+-- a hop leads to a node
+pub hop_among : (roads : Roads) (hops : List Hop) (node i : ℕ) (d : Hop) → IsNetwork roads → hops ≡ map hop_of (leaving node roads.arcs) → i < length hops → (get_or hops i d).to < length roads.nodes
+hop_among roads hops node i d kept are within = (rw (← are) at (hops_among roads.arcs (length roads.nodes) node kept.arcs) i d within).0
+
+-- all hops of a node are its arcs
+pub IsOpened-all : (arcs : List Arc) (times : List ℕ) (seen : List Bool) (node : ℕ) → AreHopsOpened (map hop_of (leaving node arcs)) (length (map hop_of (leaving node arcs))) (slice_index times node) times seen → IsOpened arcs times seen node
+IsOpened-all arcs times seen node all arc among from near tight =
+    let hop = hop_of_arc arcs node arc among from in
+    let d : Hop = hop_of arc in
+    let at : get_or (map hop_of (leaving node arcs)) hop.0 d ≡ hop_of arc = hop.2 d in
+    let own = all hop.0 d hop.1 hop.1 in
+    (rw at at own) near tight
+
+-- a tight hop is a tight arc
+IsTight-own : (arcs : List Arc) (times : List ℕ) (node k : ℕ) (d : Hop) → k < length (map hop_of (leaving node arcs))
+    → slice_index times node + (get_or (map hop_of (leaving node arcs)) k d).seconds ≡ slice_index times (get_or (map hop_of (leaving node arcs)) k d).to → IsTight arcs times node (get_or (map hop_of (leaving node arcs)) k d).to
+IsTight-own arcs times node k d within tight =
+    let hops : List Hop = map hop_of (leaving node arcs) in
+    let same : get_or hops k (get_or hops k d) ≡ get_or hops k d = default hops k (get_or hops k d) d within in
+    let arc = arc_of_hop arcs node k (get_or hops k d) within same in
+    record {
+      arc = arc.0;
+      among = arc.1;
+      leaves = arc.2;
+      ends = ap (λ (h : Hop). h.to) arc.3;
+      rises = ap (λ (n : ℕ). slice_index times node + n) (ap (λ (h : Hop). h.seconds) arc.3) ∙ tight;
+    }
+
+pub IsTight-hop : (arcs : List Arc) (times : List ℕ) (hops : List Hop) (node k : ℕ) (d : Hop) → hops ≡ map hop_of (leaving node arcs) → k < length hops
+    → slice_index times node + (get_or hops k d).seconds ≡ slice_index times (get_or hops k d).to → IsTight arcs times node (get_or hops k d).to
+IsTight-hop arcs times hops node k d are within tight =
+    let P : List Hop → Type 0 = λ hs. k < length hs → slice_index times node + (get_or hs k d).seconds ≡ slice_index times (get_or hs k d).to → IsTight arcs times node (get_or hs k d).to in
+    (subst P (sym are) (IsTight-own arcs times node k d)) within tight
+
+-- one more of the found is opened
+pub IsGrowing-more : (arcs : List Arc) (times : List ℕ) (start next : ℕ) (seen seen' : List Bool) (found found' : List Found) → next < length found → IsGrowing arcs times start next seen found
+    → IsTree arcs times seen' found' → Grows seen seen' found found' → IsOpened arcs times seen' (found_at found next).node → IsGrowing arcs times start (next + 1) seen' found'
+IsGrowing-more arcs times start next seen seen' found found' inside growing tree grows opened = record {
+  tree = tree;
+  first = ap (λ (f : Found). f.node) (grows.kept 0 growing.tree.some) ∙ growing.first;
+  opened = λ k lt h.
+      let within : k < length found = omega arith in
+      rw (grows.kept k within) (elim (cases_eq k next) [
+        | inl e ↦ rw e opened
+        | inr ne ↦ λ arc among from near tight. grows.still arc.to (growing.opened k (omega arith) within arc among from near tight)
+      ]);
+}
+
+past : (seen : List Bool) (node : ℕ) → length seen ≤ node → get_or seen node false ≡ false
+past [] node h = refl
+past (s ∷ seen) zero h = absurd (omega arith)
+past (s ∷ seen) (suc node) h = past seen node (omega arith)
+
+-- at the start nothing is marked
+nowhere : (n node : ℕ) → is_seen (replicate n false) node ≡ false
+nowhere n node = elim (cases_lt node n) [
+  | inl h ↦ get_or-replicate n node false false h
+  | inr h ↦ past (replicate n false) node (let e = length-replicate n false in omega (arith, e))
+]
+
+-- the search begins
+pub IsGrowing-start : (arcs : List Arc) (times : List ℕ) (start n : ℕ) → length times ≡ n → start < n → slice_index times start < never
+    → IsGrowing arcs times start 0 (set (replicate n false) start true) ([] ++ (record { node = start; by = 0 }) ∷ [])
+IsGrowing-start arcs times start n size within near =
+    let marks : length (replicate n false) ≡ n = length-replicate n false in
+    let at : is_seen (set (replicate n false) start true) start ≡ true = get_or-set_same (replicate n false) start true false (omega arith) in
+    let none : count_by not (replicate n false) ≡ n * 1 = sum_by-replicate (λ (b : Bool). cond (not b) 1 0) n false in
+    let before : get_or (replicate n false) start false ≡ false = get_or-replicate n start false false within in
+    let counted : count_by not (set (replicate n false) start true) + cond (not (get_or (replicate n false) start false)) 1 0 ≡ count_by not (replicate n false) + cond (not true) 1 0 = sum_by-set (λ (b : Bool). cond (not b) 1 0) (replicate n false) start true false (omega arith) in
+    let fewer : count_by not (set (replicate n false) start true) + 1 ≡ count_by not (replicate n false) + 0 = rw before at counted in
+    record {
+      tree = record {
+        marks = length-set (replicate n false) start true ∙ marks ∙ sym size;
+        some = omega arith;
+        within = λ k h. let z : k ≡ 0 = omega arith in rw (z, size) within;
+        reached = λ k h. let z : k ≡ 0 = omega arith in rw z near;
+        earlier = λ k p h. absurd (omega arith);
+        tight = λ k p h. absurd (omega arith);
+        marked = λ node h. elim (cases_eq node start) [
+          | inl e ↦ (0, omega arith, sym e)
+          | inr ne ↦ absurd (true≢false (sym h ∙ get_or-set_other (replicate n false) start node true false ne ∙ nowhere n node))
+        ];
+        first_marked = at;
+        count = omega (arith, none, fewer);
+      };
+      first = refl;
+      opened = λ k lt h. absurd (omega arith);
+    }
+
+-- the times from a start
+module _ (arcs : List Arc) (n start : ℕ) (times : List ℕ) (among : All (IsArcAmong n) arcs) (few : n ≤ 100000) (inside : start < n) (timed : (goal : ℕ) → goal < n → IsTimeBetween arcs start goal (slice_index times goal)) where
+  -- a node of which a walk leads on is no nearer by it
+  no_nearer : (via goal : ℕ) (walk : List Arc) → via < n → goal < n → slice_index times via < never → IsWalk arcs via walk goal → slice_index times goal ≤ slice_index times via + walk_seconds walk
+  no_nearer via goal walk hv hg near walks = elim (timed via hv) [
+    | inl to ↦ elim (timed goal hg) [
+      | inl on ↦
+          let whole = IsWalk-append arcs to.walk walk start via goal to.walks walks in
+          let sum = walk_seconds-append to.walk walk in
+          let takes = to.takes in
+          let least = on.least (to.walk ++ walk) whole in
+          omega (arith, sum, takes, least)
+      | inr none ↦ absurd (none.0 (to.walk ++ walk) (IsWalk-append arcs to.walk walk start via goal to.walks walks))
+    ]
+    | inr none ↦ let far = none.1 in absurd (omega arith)
+  ]
+
+  -- no node that is reached has the greatest number as its time
+  pub no_walk : (goal : ℕ) → goal < n → slice_index times goal ≡ never → HasNoWalk arcs start goal
+  no_walk goal hg far = elim (timed goal hg) [
+    | inl to ↦ let short = short_walk arcs to.walk n start goal among few inside to.walks in let least = to.least short.0 short.1 in let most = short.3 in absurd (omega (arith, least, most))
+    | inr none ↦ none.0
+  ]
+
+  pub start_is_near : slice_index times start ≡ 0
+  start_is_near = elim (timed start inside) [
+    | inl to ↦ let least : slice_index times start ≤ 0 = to.least [] refl in omega arith
+    | inr none ↦ absurd (none.0 [] refl)
+  ]
+
+  module _ (seen : List Bool) (found : List Found) (size : length times ≡ n) (full : IsFullTree arcs times start seen found) where
+    -- what a shortest walk comes to from a marked node is marked
+    follow : (walk : List Arc) (node goal : ℕ) → node < n → goal < n → slice_index times goal < never → IsWalk arcs node walk goal → slice_index times node + walk_seconds walk ≡ slice_index times goal
+        → is_seen seen node ≡ true → is_seen seen goal ≡ true
+    follow [] node goal hn hg near walks takes marked = subst (λ (g : ℕ). is_seen seen g ≡ true) walks marked
+    follow (arc ∷ rest) node goal hn hg near walks takes marked =
+        let split : walk_seconds (arc ∷ rest) ≡ arc.seconds + walk_seconds rest = sum_by-cons (λ (a : Arc). a.seconds) arc rest in
+        let ends : arc.to < n = (All-contains (IsArcAmong n) arcs arc among walks.0).1 in
+        let here : slice_index times node < never = omega arith in
+        let one : walk_seconds (arc ∷ []) ≡ arc.seconds + 0 = sum_by-cons (λ (a : Arc). a.seconds) arc [] in
+        let hop : slice_index times arc.to ≤ slice_index times node + walk_seconds (arc ∷ []) = no_nearer node arc.to (arc ∷ []) hn ends here (walks.0, walks.1, refl) in
+        let next : slice_index times arc.to < never = omega (arith, one, split, hop) in
+        let onward : slice_index times goal ≤ slice_index times arc.to + walk_seconds rest = no_nearer arc.to goal rest ends hg next walks.2 in
+        let number = full.tree.marked node marked in
+        let leaves : arc.from ≡ (found_at found number.0).node = walks.1 ∙ sym number.2 in
+        let rises : slice_index times (found_at found number.0).node + arc.seconds ≡ slice_index times arc.to = rw number.2 (omega (arith, one, split, hop, onward)) in
+        let seen_next = full.opened number.0 number.1 number.1 arc walks.0 leaves next rises in
+        follow rest arc.to goal ends hg near walks.2 (omega (arith, one, split, hop, onward)) seen_next
+
+    -- all to which a walk leads is found
+    pub is_found : (goal : ℕ) → goal < n → slice_index times goal < never → (k : ℕ) × (k < length found) × ((found_at found k).node ≡ goal)
+    is_found goal hg near = elim (timed goal hg) [
+      | inl to ↦
+          let zero_at = start_is_near in
+          let first : is_seen seen start ≡ true = rw (← full.first) full.tree.first_marked in
+          full.tree.marked goal (follow to.walk start goal inside hg near to.walks (let t = to.takes in omega (arith, zero_at, t)) first)
+      | inr none ↦ let far = none.1 in absurd (omega arith)
+    ]
+
+-- the way back from a node that was found
+pub IsWalkBack-none : (roads : Roads) (times : List ℕ) (node : ℕ) → IsWalkBack roads times node node ((record { node = slice_index roads.nodes node; seconds = slice_index times node }) ∷ [])
+IsWalkBack-none roads times node = record { walk = []; walks = refl; takes = omega arith; told = refl }
+
+pub IsWalkBack-more : (roads : Roads) (times : List ℕ) (from via to : ℕ) (steps : List WalkStep) → IsTight roads.arcs times from via → IsWalkBack roads times via to steps
+    → IsWalkBack roads times from to ((record { node = slice_index roads.nodes from; seconds = slice_index times from }) ∷ steps)
+IsWalkBack-more roads times from via to steps tight back =
+    let arc : Arc = tight.arc in
+    let split : walk_seconds (tight.arc ∷ back.walk) ≡ tight.arc.seconds + walk_seconds back.walk = sum_by-cons (λ (a : Arc). a.seconds) tight.arc back.walk in
+    let rises = tight.rises in
+    let takes = back.takes in
+    record {
+      walk = tight.arc ∷ back.walk;
+      walks = (tight.among, tight.leaves, rw tight.ends back.walks);
+      takes = omega (arith, split, rises, takes);
+      told = ap (λ ss. (record { node = slice_index roads.nodes from; seconds = slice_index times from }) ∷ ss) (rw (tight.ends, tight.rises) back.told);
+    }
+
+pub reverse-push : (steps : List WalkStep) (step : WalkStep) → reverse (steps ++ step ∷ []) ≡ step ∷ reverse steps
+reverse-push steps step = reverse-append steps (step ∷ [])
+
+-- a way back to the start is a shortest walk
+pub IsShortestWalk-back : (roads : Roads) (n : ℕ) (times : List ℕ) (from to start goal : ℕ) (steps : List WalkStep)
+    → index_in roads.nodes from ≡ start → index_in roads.nodes to ≡ goal → slice_index times start ≡ 0 → IsTimeBetween roads.arcs start goal (slice_index times goal) → slice_index times goal < never
+    → IsWalkBack roads times start goal steps → IsShortestWalk roads from to steps
+IsShortestWalk-back roads n times from to start goal steps is_start is_goal near timed reached back =
+    let takes = back.takes in
+    record {
+      walk = back.walk;
+      walks = rw (is_start, is_goal) back.walks;
+      least = rw (is_start, is_goal) (λ other walks. elim timed [
+        | inl way ↦ let least = way.least other walks in omega (arith, least, takes, near)
+        | inr none ↦ let far = none.1 in absurd (omega arith)
+      ]);
+      told = rw is_start (rw near at back.told);
+    }
+
+-- a time that isn't the greatest number is below it
+pub near_unless_never : (arcs : List Arc) (n start : ℕ) (times : List ℕ) (among : All (IsArcAmong n) arcs) (few : n ≤ 100000) (inside : start < n)
+    → ((goal : ℕ) → goal < n → IsTimeBetween arcs start goal (slice_index times goal)) → (goal : ℕ) → goal < n → (slice_index times goal ≡ never → ⊥) → slice_index times goal < never
+near_unless_never arcs n start times among few inside timed goal hg ne = elim (timed goal hg) [
+  | inl to ↦ let short = short_walk arcs to.walk n start goal among few inside to.walks in let least = to.least short.0 short.1 in let most = short.3 in omega (arith, least, most)
+  | inr none ↦ absurd (ne none.1)
+]
+
+-- what can't be nothing is something
+pub some_unless : (o : Option ℕ) (P : Type 0) → IfNone o P → (P → ⊥) → IsSome o
+some_unless None P none never_so = absurd (never_so none)
+some_unless (Some x) P none never_so = search rules
+
+-- the place at which a look-up found something
+pub position-is : {X : Type 0} (p : X → Bool) (xs : List X) (i : ℕ) → position p xs ≡ Some i → position_or_len p xs ≡ i
+position-is p xs i h = elim (cases_Bool (nat_lt (position_or_len p xs) (length xs))) [
+  | inl found ↦ let e : Some (position_or_len p xs) ≡ Some i = rw found at h in cc
+  | inr lost ↦ let e : None ≡ Some i = rw lost at h in cc
+]

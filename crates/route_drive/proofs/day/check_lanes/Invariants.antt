@@ -1,0 +1,7 @@
+use Rattle.std.proofs.Common.{◌≡◌, None}
+use Rattle.pool_base.specs.InOrder.{first_fault}
+use Rattle.route_drive.specs.Day.{lane_fault}
+use Rattle.route_drive.proofs.day.check_lanes.Given as goal
+
+abbrev pub invariant-loop-lane : goal.invariant-loop-lane
+invariant-loop-lane l = first_fault (lane_fault l.round) l.lane ≡ None

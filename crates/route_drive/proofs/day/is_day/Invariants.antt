@@ -1,0 +1,10 @@
+use Rattle.std.proofs.Common.{◌≡◌, take, None}
+use Rattle.pool_base.specs.InOrder.{first_fault}
+use Rattle.route_drive.specs.Day.{fault_at, latest_seal}
+use Rattle.route_drive.proofs.day.is_day.Given as goal
+
+abbrev pub invariant-loop-round : goal.invariant-loop-round
+invariant-loop-round l = record {
+  none : first_fault (fault_at l.round-items) l.round-index ≡ None;
+  latest : l.latest ≡ latest_seal (take l.round-index l.round-items);
+}

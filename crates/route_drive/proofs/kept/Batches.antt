@@ -1,0 +1,131 @@
+-- At a seal the stops of each vehicle serve, by the batch's table, its passengers and the riders promised to it.
+use Rattle.std.proofs.Common.{◌≡◌, ℕ, zero, suc, ◌+◌, ◌<◌, ◌≤◌, Bool, true, false, cond, eqb, leb, nat_eq, List, [], ◌∷◌, length, get_or, map, Option, Some, None, refl, sym, ap, ◌∙◌, subst, arith, inl, inr}
+use Rattle.std.specs.Prelude.{option_map, option_and_then, slice_get}
+use Rattle.std.specs.List.{AllByRecursion, IsDistinct, sum_by}
+use Rattle.std.specs.List.Sorted.{IsStrictlyIncreasing}
+use Rattle.std.proofs.lemmas.Bool.{cases_eq, cases_lt, ne_eqb, eqb-true, leb-true}
+use Rattle.std.proofs.lemmas.List.{get_or_default}
+use Rattle.std.proofs.lemmas.List.Sums.{sum_by-cons}
+use Rattle.std.proofs.lemmas.Map.Keys.{IsDistinct-from_apart}
+use Rattle.batch_snapshot.specs.declared.passenger.Passenger.{Passenger}
+use Rattle.batch_snapshot.specs.declared.promise.Promise.{Promise}
+use Rattle.batch_snapshot.specs.declared.rider.Rider.{Rider}
+use Rattle.request_book.specs.Consistent.{seat_in}
+use Rattle.request_book.specs.Keyed.{look_up, KeysDiffer}
+use Rattle.request_book.specs.Rider.{shown, pool_promise, passenger_of, vehicle_of}
+use Rattle.request_book.specs.Sealing.{asking}
+use Rattle.request_book.specs.State.{find_rider}
+use Rattle.request_book.specs.declared.rider.BookRider.{BookRider}
+use Rattle.request_book.specs.declared.rider.Status.{Status}
+use Rattle.request_book.specs.declared.rider.Status.TheVariants.{Waiting, Promised, Aboard, Cancelled, Delivered, Expired}
+use Rattle.request_book.specs.declared.state.State.{State}
+use Rattle.request_book.proofs.lemmas.KeyedLemmas.{look_up-here, look_up-there, look_up-nil}
+use Rattle.stop_orders.specs.declared.leg.Leg.{Leg}
+use Rattle.stop_orders.specs.Task.{leg_at, persons}
+
+-- where a list has what is looked up
+pub found_at : {X : Type 0} (key : X → ℕ) (k : ℕ) (xs : List X) (x : X) → look_up key k xs ≡ Some x → (i : ℕ) × (i < length xs) × ((d : X) → get_or xs i d ≡ x)
+found_at key k [] x e = absurd (let n = look_up-nil key k in cc)
+found_at key k (y ∷ ys) x e = elim (cases_eq (key y) k) [
+  | inl same ↦ let h = look_up-here key k y ys same in let is : y ≡ x = cc in (0, omega arith, λ d. is)
+  | inr ne ↦ let rest = found_at key k ys x (sym (look_up-there key k y ys ne) ∙ e) in (suc rest.0, let l = rest.1 in omega (arith, l), λ d. rest.2 d)
+]
+
+-- names that rise, and names of which none stands twice
+pub rising_far : (xs : List ℕ) → IsStrictlyIncreasing xs → (i j : ℕ) → i < j → j < length xs → get_or xs i 0 < get_or xs j 0
+rising_far xs up i zero h l = absurd (omega arith)
+rising_far xs up i (suc j) h l =
+    let e : j + 1 ≡ suc j = omega arith in
+    let next : get_or xs j 0 < get_or xs (suc j) 0 = subst (λ k. get_or xs j 0 < get_or xs k 0) e (up j (omega arith)) in
+    elim (cases_lt i j) [
+      | inl lt ↦ let far = rising_far xs up i j lt (omega arith) in omega (arith, far, next)
+      | inr ge ↦ let same : i ≡ j = omega arith in subst (λ k. get_or xs k 0 < get_or xs (suc j) 0) (sym same) next
+    ]
+
+pub distinct_from_rising : (xs : List ℕ) → ((i j : ℕ) → i < j → j < length xs → get_or xs i 0 < get_or xs j 0) → IsDistinct nat_eq xs
+distinct_from_rising xs up = IsDistinct-from_apart nat_eq xs (λ i j d h l.
+    let a : get_or xs i d ≡ get_or xs i 0 = get_or_default xs i d 0 (omega arith) in
+    let b : get_or xs j d ≡ get_or xs j 0 = get_or_default xs j d 0 l in
+    let lt = up i j h l in
+    ne_eqb (get_or xs i d) (get_or xs j d) (λ e. omega (arith, a, b, lt, e)))
+
+none_of_name : {X : Type 0} (key : X → ℕ) (k : ℕ) (xs : List X) → look_up key k xs ≡ None → AllByRecursion (λ y. nat_eq k y ≡ false) (map key xs)
+none_of_name key k [] none = tt
+none_of_name key k (x ∷ xs) none = elim (cases_eq (key x) k) [
+  | inl e ↦ absurd (let h = look_up-here key k x xs e in cc)
+  | inr ne ↦ (ne_eqb k (key x) (λ e. ne (sym e)), none_of_name key k xs (sym (look_up-there key k x xs ne) ∙ none))
+]
+
+pub distinct_from_differ : {X : Type 0} (key : X → ℕ) (xs : List X) → KeysDiffer key xs → IsDistinct nat_eq (map key xs)
+unfolding KeysDiffer IsDistinct
+distinct_from_differ key [] differ = tt
+distinct_from_differ key (x ∷ xs) differ = (none_of_name key (key x) xs differ.0, distinct_from_differ key xs differ.1)
+
+-- legs have the parties of their passengers
+pub same_persons : (legs : List Leg) (ps : List Passenger) → length legs ≡ length ps → ((k : ℕ) (p : Passenger) → slice_get ps k ≡ Some p → (leg_at legs k).party ≡ p.party) → persons legs ≡ sum_by (λ p. p.party) ps
+same_persons [] [] count each = refl
+same_persons [] (p ∷ ps) count each = absurd (omega arith)
+same_persons (leg ∷ legs) [] count each = absurd (omega arith)
+same_persons (leg ∷ legs) (p ∷ ps) count each =
+    let own : leg.party ≡ p.party = each 0 p refl in
+    let rest : persons legs ≡ sum_by (λ (p : Passenger). p.party) ps = same_persons legs ps (omega arith) (λ k q e. each (suc k) q e) in
+    let a : persons (leg ∷ legs) ≡ leg.party + persons legs = sum_by-cons (λ (l : Leg). l.party) leg legs in
+    let b : sum_by (λ (p : Passenger). p.party) (p ∷ ps) ≡ p.party + sum_by (λ (p : Passenger). p.party) ps = sum_by-cons (λ (p : Passenger). p.party) p ps in
+    omega (arith, own, rest, a, b)
+
+-- whom a batch shows waits or has a promise
+pub record IsAsking (now : ℕ) (r : BookRider) (q : Rider) : Type 0 where
+  pub promise : Option Promise
+  pub pool : pool_promise r.status ≡ Some promise
+  pub is : q ≡ shown r promise
+  pub asked : r.time ≤ now
+
+pub asking_is : (now : ℕ) (r : BookRider) (q : Rider) → asking now r ≡ Some q → IsAsking now r q
+asking_is now r q e = by (leb r.time now) refl e
+  where
+    in_pool : r.time ≤ now → (o : Option (Option Promise)) → pool_promise r.status ≡ o → option_map (shown r) o ≡ Some q → IsAsking now r q
+    in_pool early None p f = absurd cc
+    in_pool early (Some promise) p f = record { promise = promise; pool = p; is = (let is : shown r promise ≡ q = cc in sym is); asked = early }
+
+    by : (b : Bool) → leb r.time now ≡ b → cond b (option_map (shown r) (pool_promise r.status)) None ≡ Some q → IsAsking now r q
+    by true t f = in_pool (leb-true r.time now t) (pool_promise r.status) refl f
+    by false t f = absurd cc
+
+pub promise_status : (status : Status) (p : Promise) → pool_promise status ≡ Some (Some p) → status ≡ Promised p
+promise_status Waiting p e = absurd cc
+promise_status (Promised q) p e = let is : q ≡ p = cc in ap Promised is
+promise_status (Aboard v) p e = absurd cc
+promise_status Cancelled p e = absurd cc
+promise_status Delivered p e = absurd cc
+promise_status Expired p e = absurd cc
+
+-- a request that is promised to a vehicle
+pub record IsPromisedRider (s : State) (vehicle : ℕ) (id : ℕ) (q : Rider) : Type 0 where
+  pub rider : BookRider
+  pub found : find_rider id s.riders ≡ Some rider
+  pub promise : Promise
+  pub status : rider.status ≡ Promised promise
+  pub own : promise.vehicle ≡ vehicle
+  pub is : q ≡ shown rider (Some promise)
+
+-- a passenger and their rider
+pub record IsRiderAboard (s : State) (vehicle : ℕ) (id : ℕ) (p : Passenger) : Type 0 where
+  pub rider : BookRider
+  pub found : find_rider id s.riders ≡ Some rider
+  pub status : rider.status ≡ Aboard vehicle
+  pub is : passenger_of rider ≡ p
+
+pub seat_is : (x : ℕ) (r : BookRider) (p : Passenger) → seat_in x r ≡ Some p → (r.status ≡ Aboard x) × (passenger_of r ≡ p)
+seat_is x r p e = by r.status refl e
+  where
+    one : (u : ℕ) (b : Bool) → eqb u x ≡ b → r.status ≡ Aboard u → cond b (Some (passenger_of r)) None ≡ Some p → (r.status ≡ Aboard x) × (passenger_of r ≡ p)
+    one u true g s f = (s ∙ ap Aboard (eqb-true u x g), cc)
+    one u false g s f = absurd cc
+
+    by : (t : Status) → r.status ≡ t → option_and_then (λ v. cond (eqb v x) (Some (passenger_of r)) None) (vehicle_of t) ≡ Some p → (r.status ≡ Aboard x) × (passenger_of r ≡ p)
+    by Waiting s f = absurd cc
+    by (Promised q) s f = absurd cc
+    by (Aboard u) s f = one u (eqb u x) refl s f
+    by Cancelled s f = absurd cc
+    by Delivered s f = absurd cc
+    by Expired s f = absurd cc

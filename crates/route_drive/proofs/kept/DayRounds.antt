@@ -1,0 +1,145 @@
+-- The rounds of a day: requests, and in lane 0 a seal before them.
+use Rattle.std.proofs.Common.{◌≡◌, ℕ, zero, suc, ◌+◌, ◌<◌, ◌≤◌, max, Bool, true, false, not, cond, ltb, List, [], ◌∷◌, ◌++◌, length, drop, get_or, replicate, Option, Some, None, unwrap_or, refl, sym, ap, ◌∙◌, subst, arith, inl, inr, append_assoc, length-append}
+use Rattle.std.specs.Prelude.{All, ◌||◌, option_and_then}
+use Rattle.std.specs.List.{AllByRecursion, list_any}
+use Rattle.std.specs.Option.{option_or}
+use Rattle.std.proofs.lemmas.Bool.{cases_lt, ltb-false, true≢false}
+use Rattle.std.proofs.lemmas.List.{get_or-append-add, get_or-replicate, length-replicate, take_at}
+use Rattle.std.proofs.lemmas.List.Elements.{All-head, All-tail, recursion_from_All}
+use Rattle.pool_base.specs.InOrder.{first_fault}
+use Rattle.pool_base.proofs.lemmas.InOrderLemmas.{first_fault-each}
+use Rattle.request_book.specs.declared.command.Command.{Command}
+use Rattle.request_book.specs.declared.command.Command.TheVariants.{Submit, Seal}
+use Rattle.script_rows.specs.Round.{IsRound, MayStand, NumberedLanes, empty_round, lane_at}
+use Rattle.route_drive.specs.declared.day.DayFault.TheVariants as fault
+use Rattle.route_drive.specs.Day.{back_fault, day_fault, fault_at, first_seal, is_of_day, is_seal, lane_fault, latest_seal, round_fault, seal_of, seals_fault}
+use Rattle.route_drive.proofs.kept.Lists.{both, all_weaker}
+use Rattle.route_drive.proofs.kept.Mixed.{IsRequest}
+
+-- lane 0 of a round that has no seal, or begins with one
+pub data IsDayLane (latest : ℕ) (round : NumberedLanes) : Type 0 where
+  asks : seal_of round ≡ None → AllByRecursion IsRequest (lane_at round 0) → IsDayLane latest round
+  seals : (now : ℕ) (cs : List Command) → seal_of round ≡ Some now → lane_at round 0 ≡ Seal now ∷ cs → AllByRecursion IsRequest cs → latest ≤ now → IsDayLane latest round
+
+-- a round of a day, behind seals up to a second
+pub record IsDayRound (latest : ℕ) (round : NumberedLanes) : Type 0 where
+  pub own : IsDayLane latest round
+  pub others : (lane : ℕ) → (lane ≡ 0 → ⊥) → AllByRecursion IsRequest (lane_at round lane)
+
+abbrev pub AreDayRounds : ℕ → List NumberedLanes → Type 0
+AreDayRounds latest [] = Unit {0}
+AreDayRounds latest (round ∷ rounds) = IsDayRound latest round × AreDayRounds (unwrap_or (seal_of round) latest) rounds
+
+neither : {X : Type 0} (o p : Option X) → option_or o p ≡ None → (o ≡ None) × (p ≡ None)
+neither None p e = (refl, e)
+neither (Some x) p e = absurd cc
+
+none_first : {X : Type 0} (p : X → Bool) (x : X) (xs : List X) (b : Bool) → p x ≡ b → (b || list_any p xs) ≡ false → (list_any p xs ≡ false → AllByRecursion (λ x. p x ≡ false) xs) → AllByRecursion (λ x. p x ≡ false) (x ∷ xs)
+none_first p x xs true h e rest = absurd (true≢false e)
+none_first p x xs false h e rest = (h, rest e)
+
+none_any : {X : Type 0} (p : X → Bool) (xs : List X) → list_any p xs ≡ false → AllByRecursion (λ x. p x ≡ false) xs
+none_any p [] e = tt
+none_any p (x ∷ xs) e = none_first p x xs (p x) refl e (λ rest. none_any p xs rest)
+
+untold : {X : Type 0} (b : Bool) (x : X) → cond b (Some x) None ≡ None → b ≡ false
+untold true x e = absurd cc
+untold false x e = refl
+
+unfound : (lanes : List (List Command)) (k : ℕ) → length lanes ≤ k → get_or lanes k [] ≡ []
+unfound [] k h = refl
+unfound (l ∷ lanes) zero h = absurd (omega (arith, h))
+unfound (l ∷ lanes) (suc k) h = unfound lanes k (omega (arith, h))
+
+-- a command of a day in a lane other than 0 is a request
+asks_elsewhere : (lane : ℕ) → (lane ≡ 0 → ⊥) → (c : Command) → (not (is_of_day c) ≡ false) × MayStand lane c → IsRequest c
+asks_elsewhere lane other (Submit rider origin destination time party) two = tt
+asks_elsewhere lane other (Seal now) two = absurd (other two.1)
+asks_elsewhere lane other command two = absurd (true≢false two.0)
+
+asks_later : (c : Command) → (not (is_of_day c) ≡ false) × (is_seal c ≡ false) → IsRequest c
+asks_later (Submit rider origin destination time party) two = tt
+asks_later (Seal now) two = absurd (true≢false two.1)
+asks_later command two = absurd (true≢false two.0)
+
+-- a lane in which nothing is foreign to a day
+lane_of_day : (round : NumberedLanes) (lane : ℕ) → first_fault (lane_fault round) (length round.lanes) ≡ None → AllByRecursion (λ c. not (is_of_day c) ≡ false) (lane_at round lane)
+lane_of_day round lane none = elim (cases_lt lane (length round.lanes)) [
+  | inl h ↦ none_any (λ c. not (is_of_day c)) (lane_at round lane) (untold (list_any (λ c. not (is_of_day c)) (lane_at round lane)) (fault.Command round.number lane) (first_fault-each (lane_fault round) (length round.lanes) lane none h))
+  | inr h ↦ subst (AllByRecursion (λ c. not (is_of_day c) ≡ false)) (sym (unfound round.lanes lane h)) tt
+]
+
+dropped : {X : Type 0} (P : X → Type 0) (x : X) (xs : List X) → AllByRecursion P (drop 1 (x ∷ xs)) → AllByRecursion P xs
+dropped P x xs all = all
+
+-- lane 0, by its first command
+own_lane : (latest before : ℕ) (round : NumberedLanes) → before ≤ latest → AllByRecursion (λ c. not (is_of_day c) ≡ false) (lane_at round 0) → AllByRecursion (λ c. is_seal c ≡ false) (drop 1 (lane_at round 0))
+    → back_fault latest round ≡ None → IsDayLane before round
+own_lane latest before round le of_day unsealed back = by (lane_at round 0) refl of_day unsealed
+  where
+    asked : (cs : List Command) → AllByRecursion (λ c. not (is_of_day c) ≡ false) cs → AllByRecursion (λ c. is_seal c ≡ false) cs → AllByRecursion IsRequest cs
+    asked cs day sealed = all_weaker (λ c. (not (is_of_day c) ≡ false) × (is_seal c ≡ false)) IsRequest asks_later cs (both (λ c. not (is_of_day c) ≡ false) (λ c. is_seal c ≡ false) cs day sealed)
+
+    in_order : (now : ℕ) → seal_of round ≡ Some now → before ≤ now
+    in_order now is =
+        let told : cond (ltb now latest) (Some (fault.SealBack round.number)) None ≡ None = ap (option_and_then (λ now. cond (ltb now latest) (Some (fault.SealBack round.number)) None)) (sym is) ∙ back in
+        let ge = ltb-false now latest (untold (ltb now latest) (fault.SealBack round.number) told) in
+        omega (arith, ge, le)
+
+    by : (cs : List Command) → lane_at round 0 ≡ cs → AllByRecursion (λ c. not (is_of_day c) ≡ false) cs → AllByRecursion (λ c. is_seal c ≡ false) (drop 1 cs) → IsDayLane before round
+    by [] e day sealed = IsDayLane.asks (ap first_seal e) (subst (AllByRecursion IsRequest) (sym e) tt)
+    by (Seal now ∷ cs) e day sealed =
+        let is : seal_of round ≡ Some now = ap first_seal e in
+        IsDayLane.seals now cs is e (asked cs day.1 (dropped (λ c. is_seal c ≡ false) (Seal now) cs sealed)) (in_order now is)
+    by (Submit rider origin destination time party ∷ cs) e day sealed =
+        IsDayLane.asks (ap first_seal e) (subst (AllByRecursion IsRequest) (sym e) (tt, asked cs day.1 (dropped (λ c. is_seal c ≡ false) (Submit rider origin destination time party) cs sealed)))
+    by (command ∷ cs) e day sealed = absurd (true≢false day.0)
+
+day_round : (latest before : ℕ) (round : NumberedLanes) → before ≤ latest → IsRound round → round_fault latest round ≡ None → IsDayRound before round
+day_round latest before round le is none =
+    let lanes = neither (first_fault (lane_fault round) (length round.lanes)) (option_or (seals_fault round) (back_fault latest round)) none in
+    let rest = neither (seals_fault round) (back_fault latest round) lanes.1 in
+    record {
+      own = own_lane latest before round le (lane_of_day round 0 lanes.0) (none_any is_seal (drop 1 (lane_at round 0)) (untold (list_any is_seal (drop 1 (lane_at round 0))) (fault.Seals round.number) rest.0)) rest.1;
+      others = λ lane other. all_weaker (λ c. (not (is_of_day c) ≡ false) × MayStand lane c) IsRequest (asks_elsewhere lane other) (lane_at round lane)
+          (both (λ c. not (is_of_day c) ≡ false) (MayStand lane) (lane_at round lane) (lane_of_day round lane lanes.0) (recursion_from_All (MayStand lane) (lane_at round lane) (is.stand lane)));
+    }
+
+latest_more : (rounds : List NumberedLanes) (r : NumberedLanes) → latest_seal (rounds ++ r ∷ []) ≡ max (unwrap_or (seal_of r) 0) (latest_seal rounds)
+latest_more [] r = omega arith
+latest_more (x ∷ rounds) r =
+    let e : latest_seal (rounds ++ r ∷ []) ≡ max (unwrap_or (seal_of r) 0) (latest_seal rounds) = latest_more rounds r in
+    omega (arith, e)
+
+-- the second behind which the next round comes
+next_latest : (o : Option ℕ) (before latest : ℕ) → before ≤ latest → unwrap_or o before ≤ max (unwrap_or o 0) latest
+next_latest None before latest le = omega (arith, le)
+next_latest (Some now) before latest le = omega arith
+
+fault_front : (before : List NumberedLanes) (r : NumberedLanes) (rest : List NumberedLanes) → fault_at (before ++ r ∷ rest) (length before) ≡ round_fault (latest_seal before) r
+fault_front before r rest =
+    let here : get_or (before ++ r ∷ rest) (length before) (empty_round 0) ≡ r =
+    ap (λ k. get_or (before ++ r ∷ rest) k (empty_round 0)) (let e : length before ≡ length before + 0 = omega arith in e) ∙ get_or-append-add before (r ∷ rest) 0 (empty_round 0) in
+    ap (λ l. round_fault (latest_seal l) (get_or (before ++ r ∷ rest) (length before) (empty_round 0))) (take_at before (r ∷ rest) (length before) refl) ∙ ap (round_fault (latest_seal before)) here
+
+rounds_on : (rest before : List NumberedLanes) (latest : ℕ) → latest ≤ latest_seal before → ((k : ℕ) → k < length (before ++ rest) → fault_at (before ++ rest) k ≡ None) → All IsRound rest → AreDayRounds latest rest
+rounds_on [] before latest le none all = tt
+rounds_on (r ∷ rest) before latest le none all =
+    let same : (before ++ r ∷ []) ++ rest ≡ before ++ r ∷ rest = append_assoc before (r ∷ []) rest in
+    let more : latest_seal (before ++ r ∷ []) ≡ max (unwrap_or (seal_of r) 0) (latest_seal before) = latest_more before r in
+    let next : unwrap_or (seal_of r) latest ≤ max (unwrap_or (seal_of r) 0) (latest_seal before) = next_latest (seal_of r) latest (latest_seal before) le in
+    let here : fault_at (before ++ r ∷ rest) (length before) ≡ None = none (length before) (grind (arith, length-append)) in (
+      day_round (latest_seal before) latest r le (All-head IsRound r rest all) (sym (fault_front before r rest) ∙ here),
+      rounds_on rest (before ++ r ∷ []) (unwrap_or (seal_of r) latest) (subst (λ n. unwrap_or (seal_of r) latest ≤ n) (sym more) next)
+          (subst (λ l. (k : ℕ) → k < length l → fault_at l k ≡ None) (sym same) none) (All-tail IsRound r rest all),
+    )
+
+pub are_day_rounds : (rounds : List NumberedLanes) → All IsRound rounds → day_fault rounds ≡ None → AreDayRounds 0 rounds
+are_day_rounds rounds all none = rounds_on rounds [] 0 (omega arith) (λ k below. first_fault-each (fault_at rounds) (length rounds) k none below) all
+
+-- an empty round has no command
+pub nothing_at : (number lane : ℕ) → lane_at (empty_round number) lane ≡ []
+nothing_at number lane = elim (cases_lt lane 16) [
+  | inl h ↦ get_or-replicate 16 lane [] [] h
+  | inr h ↦ unfound (replicate 16 []) lane (let e = length-replicate {A = List Command} 16 [] in omega (arith, e, h))
+]

@@ -1,0 +1,233 @@
+-- A driven day, round by round.
+use Rattle.std.proofs.Common.{◌≡◌, ℕ, ◌≤◌, cond, eqb, List, [], ◌∷◌, ◌++◌, length, map, Option, Some, None, unwrap_or, refl, sym, ap, ◌∙◌, subst, arith, inl, inr}
+use Rattle.std.specs.Prelude.{All, MatchOption}
+use Rattle.std.specs.List.{AllByRecursion}
+use Rattle.std.specs.Option.{option_map_or}
+use Rattle.std.proofs.lemmas.Bool.{cases_eq, cond-true, cond-false, eq-eqb, ne_eqb}
+use Rattle.std.proofs.lemmas.List.{length-map}
+use Rattle.batch_snapshot.specs.declared.vehicle.Vehicle.{Vehicle}
+use Rattle.request_book.specs.Book.{next_position}
+use Rattle.request_book.specs.Keyed.{look_up}
+use Rattle.request_book.specs.Replay.{RepliesAreSteps, state_after}
+use Rattle.request_book.specs.State.{find_vehicle}
+use Rattle.request_book.specs.declared.command.Command.{Command}
+use Rattle.request_book.specs.declared.command.Command.TheVariants.{Seal}
+use Rattle.request_book.specs.declared.journal.Entry.{Entry}
+use Rattle.request_book.specs.declared.journal.Journal.{Journal}
+use Rattle.request_book.specs.declared.outcome.ChosenTrip.{ChosenTrip}
+use Rattle.request_book.specs.declared.outcome.Planned.{Planned}
+use Rattle.request_book.specs.declared.outcome.PlannedStop.{PlannedStop}
+use Rattle.request_book.specs.declared.rider.BookRider.{BookRider}
+use Rattle.request_book.specs.declared.state.State.{State}
+use Rattle.request_book.proofs.lemmas.KeyedLemmas.{look_up-here, look_up-there, look_up-nil}
+use Rattle.request_book.proofs.lemmas.LawLemmas.{rounds-join}
+use Rattle.rider_limits.specs.declared.settings.Settings.{Settings}
+use Rattle.road_network.specs.Roads.{Roads, IsNetwork}
+use Rattle.script_rows.specs.Round.{NumberedLanes, lane_at}
+use Rattle.dispatch_engine.specs.Lane.{ClosesAreGood}
+use Rattle.dispatch_engine.specs.Run.{IsRoundRun, IsRun}
+use Rattle.route_drive.specs.declared.course.Course.{Course}
+use Rattle.route_drive.specs.Day.{seal_of}
+use Rattle.route_drive.specs.Driven.{AreDriven, IsDrivenRound, IsPrecededBy, courses_after, courses_left, left_course, left_state, plan_in, planned_course}
+use Rattle.route_drive.specs.Entering.{AreEntered, IsInTime, to_come}
+use Rattle.route_drive.specs.work.Kept.{course_of}
+use Rattle.route_drive.specs.work.Serving.{IsKept, IsServing, chosen_stops}
+use Rattle.route_drive.proofs.kept.DayRounds.{AreDayRounds, IsDayLane, IsDayRound}
+use Rattle.route_drive.proofs.kept.Journals.{entries_in}
+use Rattle.route_drive.proofs.kept.Keeping.{AllKeep, all_append}
+use Rattle.route_drive.proofs.kept.Mixed.{IsMixed, IsRequest, asked_only, mixed, mixed_asked}
+use Rattle.route_drive.proofs.kept.Rounds.{Ends, asked_end, seal_round, stops_with}
+use Rattle.route_drive.proofs.kept.States.{vehicle_id}
+
+-- what is on its way for a vehicle is found by its id alone
+course_by_ids : (xs ys : List Vehicle) (courses : List Course) (id : ℕ) → map (λ v. v.id) xs ≡ map (λ v. v.id) ys → course_of xs courses id ≡ course_of ys courses id
+course_by_ids [] [] courses id same = refl
+course_by_ids [] (y ∷ ys) courses id same = absurd cc
+course_by_ids (x ∷ xs) [] courses id same = absurd cc
+course_by_ids (x ∷ xs) (y ∷ ys) [] id same = refl
+course_by_ids (x ∷ xs) (y ∷ ys) (course ∷ courses) id same =
+    let head : x.id ≡ y.id = cc in
+    let tail : map (λ (v : Vehicle). v.id) xs ≡ map (λ (v : Vehicle). v.id) ys = cc in
+    ap (λ k. cond (eqb k id) course (course_of xs courses id)) head ∙ ap (λ c. cond (eqb y.id id) course c) (course_by_ids xs ys courses id tail)
+
+-- a change of all courses that leaves nothing as it is
+course_mapped : (f : Course → Course) → f (record { stops = record { items = [] }; target = None }) ≡ record { stops = record { items = [] }; target = None } → (vehicles : List Vehicle) (courses : List Course) (id : ℕ)
+    → course_of vehicles (map f courses) id ≡ f (course_of vehicles courses id)
+course_mapped f none [] courses id = sym none
+course_mapped f none (v ∷ vehicles) [] id = sym none
+course_mapped f none (v ∷ vehicles) (course ∷ courses) id = elim (cases_eq v.id id) [
+  | inl e ↦ cond-true (eqb v.id id) (f course) (course_of vehicles (map f courses) id) (eq-eqb v.id id e) ∙ sym (ap f (cond-true (eqb v.id id) course (course_of vehicles courses id) (eq-eqb v.id id e)))
+  | inr ne ↦
+      cond-false (eqb v.id id) (f course) (course_of vehicles (map f courses) id) (ne_eqb v.id id ne) ∙ course_mapped f none vehicles courses id
+      ∙ sym (ap f (cond-false (eqb v.id id) course (course_of vehicles courses id) (ne_eqb v.id id ne)))
+]
+
+-- courses made of the vehicles
+course_made : (f : Vehicle → Course) (vehicles : List Vehicle) (id : ℕ) (v : Vehicle) → find_vehicle id vehicles ≡ Some v → course_of vehicles (map f vehicles) id ≡ f v
+course_made f [] id v found = absurd (let n = look_up-nil (λ (v : Vehicle). v.id) id in cc)
+course_made f (w ∷ vehicles) id v found = elim (cases_eq w.id id) [
+  | inl e ↦
+      let here = look_up-here (λ (v : Vehicle). v.id) id w vehicles e in
+      let is : w ≡ v = cc in
+      cond-true (eqb w.id id) (f w) (course_of vehicles (map f vehicles) id) (eq-eqb w.id id e) ∙ ap f is
+  | inr ne ↦
+      cond-false (eqb w.id id) (f w) (course_of vehicles (map f vehicles) id) (ne_eqb w.id id ne)
+      ∙ course_made f vehicles id v (sym (look_up-there (λ (v : Vehicle). v.id) id w vehicles ne) ∙ found)
+]
+
+-- the stops of a plan
+planned_stops : (riders : List BookRider) (planned : Planned) (v : Vehicle) → (planned_course riders planned v).stops.items ≡ chosen_stops planned v.id
+planned_stops riders planned v =
+    elim (look_up (λ (trip : ChosenTrip). trip.vehicle) v.id planned.chosen) as (λ (o : Option ChosenTrip). (option_map_or (λ trip. trip.stops) o (record { items = [] })).items ≡ option_map_or (λ trip. trip.stops.items) o []) [
+      | None ↦ refl
+      | Some trip ↦ refl
+    ]
+
+-- the stops that are left after a seal, if there is one
+abbrev pub left_stops : Option ℕ → List PlannedStop → List PlannedStop
+left_stops None stops = stops
+left_stops (Some now) stops = to_come now stops
+
+left_is : (seal : Option ℕ) (course : Course) → (left_course seal course).stops.items ≡ left_stops seal course.stops.items
+left_is None course = refl
+left_is (Some now) course = refl
+
+left_nothing : (seal : Option ℕ) → left_course seal (record { stops = record { items = [] }; target = None }) ≡ record { stops = record { items = [] }; target = None }
+left_nothing None = refl
+left_nothing (Some now) = refl
+
+-- what is on its way after a round, for a vehicle
+course_after : (s t : State) (round : NumberedLanes) (es : List Entry) (courses : List Course) (id : ℕ) (v : Vehicle) → map (λ v. v.id) t.vehicles ≡ map (λ v. v.id) s.vehicles → find_vehicle id t.vehicles ≡ Some v
+    → (course_of t.vehicles (courses_after t round es courses) id).stops.items ≡ stops_with (plan_in es) (λ id. left_stops (seal_of round) (course_of s.vehicles courses id).stops.items) id
+course_after s t round es courses id v ids found = by (plan_in es)
+  where
+    by : (o : Option Planned) → (course_of t.vehicles (option_map_or (λ planned. map (planned_course t.riders planned) t.vehicles) o (map (left_course (seal_of round)) courses)) id).stops.items ≡ stops_with o (λ id. left_stops (seal_of round) (course_of s.vehicles courses id).stops.items) id
+    by None =
+        ap (λ (c : Course). c.stops.items) (course_mapped (left_course (seal_of round)) (left_nothing (seal_of round)) t.vehicles courses id) ∙ left_is (seal_of round) (course_of t.vehicles courses id)
+        ∙ ap (λ (c : Course). left_stops (seal_of round) c.stops.items) (course_by_ids t.vehicles s.vehicles courses id ids)
+    by (Some planned) =
+        ap (λ (c : Course). c.stops.items) (course_made (planned_course t.riders planned) t.vehicles id v found) ∙ planned_stops t.riders planned v
+        ∙ ap (chosen_stops planned) (vehicle_id id t.vehicles v found)
+
+-- as many courses as vehicles
+after_each : (s t : State) (round : NumberedLanes) (es : List Entry) (courses : List Course) → map (λ v. v.id) t.vehicles ≡ map (λ v. v.id) s.vehicles → length courses ≡ length s.vehicles
+    → length (courses_after t round es courses) ≡ length t.vehicles
+after_each s t round es courses ids same = by (plan_in es)
+  where
+    by : (o : Option Planned) → length (option_map_or (λ planned. map (planned_course t.riders planned) t.vehicles) o (map (left_course (seal_of round)) courses)) ≡ length t.vehicles
+    by None =
+        length-map courses (left_course (seal_of round)) ∙ same ∙ sym (length-map s.vehicles (λ (v : Vehicle). v.id)) ∙ ap length (sym ids) ∙ length-map t.vehicles (λ (v : Vehicle). v.id)
+    by (Some planned) = length-map t.vehicles (planned_course t.riders planned)
+
+-- how a round is driven, by its seal
+abbrev WayOf : Settings → Roads → State → List Course → NumberedLanes → NumberedLanes → Option ℕ → Type 0
+WayOf settings roads s courses round driven seal =
+    MatchOption seal (IsPrecededBy [] round driven)
+    (λ now. (entered : List Command) × AreEntered roads settings.dwell now s.vehicles courses entered × All IsInTime entered × IsPrecededBy entered round driven)
+
+module _ (settings : Settings) (roads : Roads) where
+  -- between two rounds: what is on its way is served, no batch is open, and no seal was later than a second
+  pub record IsOnDay (s : State) (courses : List Course) (latest : ℕ) : Type 0 where
+    pub kept : IsKept settings roads s (λ id. (course_of s.vehicles courses id).stops.items)
+    pub each : length courses ≡ length s.vehicles
+    pub closed : s.sealed ≡ None
+    pub last : (last : ℕ) → s.last_seal ≡ Some last → last ≤ latest
+
+  -- a round that is over
+  record IsRoundOver (s : State) (courses : List Course) (latest : ℕ) (round : NumberedLanes) (es : List Entry) : Type 0 where
+    all : AllKeep settings roads s es
+    on : IsOnDay (state_after roads.nodes settings.wait s es) (courses_after (state_after roads.nodes settings.wait s es) round es courses) (unwrap_or (seal_of round) latest)
+
+  over_by : (s : State) (courses : List Course) (latest : ℕ) (round : NumberedLanes) (es : List Entry) (last : Option ℕ) → length courses ≡ length s.vehicles
+      → Ends settings roads s es (λ id. left_stops (seal_of round) (course_of s.vehicles courses id).stops.items) last → ((l : ℕ) → last ≡ Some l → l ≤ unwrap_or (seal_of round) latest)
+      → IsRoundOver s courses latest round es
+  over_by s courses latest round es last same ends before = record {
+    all = ends.all;
+    on = record {
+      kept = record {
+        state = ends.kept.state;
+        each = λ id v found. subst (IsServing settings roads (state_after roads.nodes settings.wait s es).riders v v.time) (sym (course_after s (state_after roads.nodes settings.wait s es) round es courses id v ends.ids found)) (ends.kept.each id v found);
+      };
+      each = after_each s (state_after roads.nodes settings.wait s es) round es courses ends.ids same;
+      closed = ends.sealed;
+      last = λ l is. before l (sym ends.last_is ∙ is);
+    };
+  }
+
+  -- a round without a seal
+  quiet_round : (s : State) (courses : List Course) (latest : ℕ) (round : NumberedLanes) (es : List Entry) → IsOnDay s courses latest → seal_of round ≡ None → AllByRecursion IsRequest (lane_at round 0)
+      → IsMixed None (lane_at round 0) es → RepliesAreSteps roads.nodes settings.wait s es → IsRoundOver s courses latest round es
+  quiet_round s courses latest round es on none all mixed replies =
+      over_by s courses latest round es s.last_seal on.each
+      (subst (λ o. Ends settings roads s es (λ id. left_stops o (course_of s.vehicles courses id).stops.items) s.last_seal) (sym none)
+      (asked_end settings roads es s (λ id. (course_of s.vehicles courses id).stops.items) s.last_seal on.kept on.closed refl (mixed_asked es (lane_at round 0) all (asked_only roads.nodes settings.wait s es replies) mixed)))
+      (λ l is. subst (λ o. l ≤ unwrap_or o latest) (sym none) (on.last l is))
+
+  -- a round with one, before which these commands are entered
+  entered_round : (s : State) (courses : List Course) (latest : ℕ) (round driven : NumberedLanes) (es : List Entry) (now : ℕ) (entered cs : List Command) → IsNetwork roads → IsOnDay s courses latest
+      → seal_of round ≡ Some now → lane_at round 0 ≡ Seal now ∷ cs → AllByRecursion IsRequest cs → latest ≤ now
+      → AreEntered roads settings.dwell now s.vehicles courses entered → IsPrecededBy entered round driven
+      → IsMixed None (lane_at driven 0) es → RepliesAreSteps roads.nodes settings.wait s es → ClosesAreGood settings roads s es → IsRoundOver s courses latest round es
+  entered_round s courses latest round driven es now entered cs net on is lane all le are preceded mixed replies good =
+      let own : lane_at driven 0 ≡ entered ++ Seal now ∷ cs = preceded.first ∙ ap (λ l. entered ++ l) lane in
+      let ends : Ends settings roads s es (λ id. to_come now (course_of s.vehicles courses id).stops.items) (Some now) =
+      seal_round settings roads s courses now entered cs es net on.kept on.each on.closed (λ last h. let before = on.last last h in omega (arith, before, le)) are all
+      (subst (λ l. IsMixed None l es) own mixed) replies good in
+      over_by s courses latest round es (Some now) on.each
+      (subst (λ o. Ends settings roads s es (λ id. left_stops o (course_of s.vehicles courses id).stops.items) (Some now)) (sym is) ends)
+      (λ l e. subst (λ o. l ≤ unwrap_or o latest) (sym is) (let same : now ≡ l = cc in omega (arith, same)))
+
+  -- a round of a day
+  round_over : (s : State) (courses : List Course) (latest : ℕ) (round driven : NumberedLanes) (j : Journal) → IsNetwork roads → IsOnDay s courses latest → IsDayRound latest round
+      → IsDrivenRound settings roads s courses round driven → j.base ≡ s → IsRoundRun settings roads driven j → IsRoundOver s courses latest round j.entries
+  round_over s courses latest round driven j net on day is_driven base run = by day.own
+    where
+      replies : RepliesAreSteps roads.nodes settings.wait s j.entries
+      replies = subst (λ t. RepliesAreSteps roads.nodes settings.wait t j.entries) base run.replies
+
+      good : ClosesAreGood settings roads s j.entries
+      good = subst (λ t. ClosesAreGood settings roads t j.entries) base run.closes
+
+      in_order : (entered : List Command) → IsPrecededBy entered round driven → IsMixed None (lane_at driven 0) j.entries
+      in_order entered preceded =
+          mixed roads.nodes settings.wait s (lane_at driven) j.entries replies
+          (λ lane other. subst (AllByRecursion IsRequest) (sym (preceded.others lane other)) (day.others lane other)) run.lanes
+
+      by : IsDayLane latest round → IsRoundOver s courses latest round j.entries
+      by (IsDayLane.asks none all) =
+          let preceded : IsPrecededBy [] round driven = subst (WayOf settings roads s courses round driven) none is_driven in
+          quiet_round s courses latest round j.entries on none all (subst (λ l. IsMixed None l j.entries) preceded.first (in_order [] preceded)) replies
+      by (IsDayLane.seals now cs is lane all le) =
+          let way : WayOf settings roads s courses round driven (Some now) = subst (WayOf settings roads s courses round driven) is is_driven in
+          entered_round s courses latest round driven j.entries now way.0 cs net on is lane all le way.1 way.3 (in_order way.0 way.3) replies good
+
+  -- rounds of a day that are over, with one more journal after them
+  pub record AreOver (s : State) (courses : List Course) (rounds : List NumberedLanes) (js : List Journal) (end : NumberedLanes) (j : Journal) : Type 0 where
+    pub latest : ℕ
+    pub all : AllKeep settings roads s (entries_in js)
+    pub on : IsOnDay (state_after roads.nodes settings.wait s (entries_in js)) (courses_left settings roads courses rounds js) latest
+    pub base : j.base ≡ state_after roads.nodes settings.wait s (entries_in js)
+    pub run : IsRoundRun settings roads end j
+
+  pub rounds_over : (rounds script : List NumberedLanes) (js : List Journal) (end : NumberedLanes) (j : Journal) (s : State) (position latest : ℕ) (courses : List Course) → IsNetwork roads → IsOnDay s courses latest
+      → AreDayRounds latest rounds → AreDriven settings roads courses rounds script js → IsRun settings roads s position (script ++ end ∷ []) (js ++ j ∷ []) → AreOver s courses rounds js end j
+  unfolding state_after
+  rounds_over [] [] [] end j s position latest courses net on day driven run = record { latest = latest; all = tt; on = on; base = run.0; run = run.2 }
+  rounds_over [] [] (k ∷ js) end j s position latest courses net on day driven run = absurd driven
+  rounds_over [] (d ∷ script) js end j s position latest courses net on day driven run = absurd driven
+  rounds_over (r ∷ rounds) [] js end j s position latest courses net on day driven run = absurd driven
+  rounds_over (r ∷ rounds) (d ∷ script) [] end j s position latest courses net on day driven run = absurd driven
+  rounds_over (r ∷ rounds) (d ∷ script) (k ∷ js) end j s position latest courses net on day driven run =
+      let over : IsRoundOver s courses latest r k.entries = round_over s courses latest r d k net on day.0 (subst (λ t. IsDrivenRound settings roads t courses r d) run.0 driven.0) run.0 run.2 in
+      let left : left_state settings roads k ≡ state_after roads.nodes settings.wait s k.entries = ap (λ t. state_after roads.nodes settings.wait t k.entries) run.0 in
+      let rest : AreOver (state_after roads.nodes settings.wait s k.entries) (courses_after (left_state settings roads k) r k.entries courses) rounds js end j =
+      rounds_over rounds script js end j (state_after roads.nodes settings.wait s k.entries) (next_position position k.entries) (unwrap_or (seal_of r) latest) (courses_after (left_state settings roads k) r k.entries courses) net
+      (subst (λ t. IsOnDay (state_after roads.nodes settings.wait s k.entries) (courses_after t r k.entries courses) (unwrap_or (seal_of r) latest)) (sym left) over.on) day.1 driven.1 run.3 in
+      let same = rounds-join roads.nodes settings.wait s k.entries (entries_in js) in
+      record {
+        latest = rest.latest;
+        all = all_append settings roads k.entries (entries_in js) s over.all rest.all;
+        on = subst (λ t. IsOnDay t (courses_left settings roads (courses_after (left_state settings roads k) r k.entries courses) rounds js) rest.latest) (sym same) rest.on;
+        base = rest.base ∙ sym same;
+        run = rest.run;
+      }

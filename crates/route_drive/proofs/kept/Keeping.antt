@@ -1,0 +1,98 @@
+-- What entries keep, gathered one by one.
+use Rattle.std.proofs.Common.{◌≡◌, ℕ, arith, Bool, true, false, cond, List, [], ◌∷◌, ◌++◌, Some, refl, sym, ap, subst}
+use Rattle.std.specs.Prelude.{All}
+use Rattle.std.proofs.lemmas.List.Elements.{All-nil, All-cons}
+use Rattle.batch_snapshot.specs.Vehicle.{HasSeats}
+use Rattle.request_book.specs.Replay.{state_after}
+use Rattle.request_book.specs.State.{find_rider}
+use Rattle.request_book.specs.Step.{step}
+use Rattle.request_book.specs.declared.command.Command.{Command}
+use Rattle.request_book.specs.declared.command.Command.TheVariants.{Report, Pickup, Dropoff}
+use Rattle.request_book.specs.declared.journal.Entry.{Entry}
+use Rattle.request_book.specs.declared.outcome.PlannedStop.{PlannedStop}
+use Rattle.request_book.specs.declared.reply.Reply.{Reply}
+use Rattle.request_book.specs.declared.reply.Reply.TheVariants.{Placed, Picked, Dropped}
+use Rattle.request_book.specs.declared.rider.BookRider.{BookRider}
+use Rattle.request_book.specs.declared.state.State.{State}
+use Rattle.rider_limits.specs.declared.settings.Settings.{Settings}
+use Rattle.road_network.specs.Roads.{Roads}
+use Rattle.route_drive.specs.Entering.{stop_command}
+use Rattle.route_drive.specs.Promises.{EntryKeeps, EntriesKeep, IsPickedBy, StateKeeps}
+use Rattle.route_drive.specs.work.Serving.{IsBound, IsBoundBy, IsDayState, IsDone, IsRightStop, KeepsBounds}
+use Rattle.route_drive.proofs.kept.Enter.{picked_up_right, dropped_right}
+
+-- what one entry keeps, and what it leaves to those after it
+pub record OneKeeps (settings : Settings) (roads : Roads) (s : State) (command : Command) (reply : Reply) : Type 0 where
+  pub entry : EntryKeeps settings roads s command reply
+  pub seats : All HasSeats s.vehicles
+  pub by : (rider limit : ℕ) → IsBound s rider limit → IsPickedBy rider limit command
+  pub bounds : KeepsBounds s (step roads.nodes settings.wait s command).0
+
+module _ (settings : Settings) (roads : Roads) where
+  abbrev pub AllKeep : State → List Entry → Type 0
+  AllKeep s [] = Unit {0}
+  AllKeep s (e ∷ es) = OneKeeps settings roads s e.command e.reply × AllKeep (step roads.nodes settings.wait s e.command).0 es
+
+  pub all_append : (es fs : List Entry) (s : State) → AllKeep s es → AllKeep (state_after roads.nodes settings.wait s es) fs → AllKeep s (es ++ fs)
+  unfolding state_after
+  all_append [] fs s one two = two
+  all_append (e ∷ es) fs s one two = (one.0, all_append es fs (step roads.nodes settings.wait s e.command).0 one.1 two)
+
+  -- whose pickup is bound is picked up by then
+  picked_by : (es : List Entry) (s : State) (rider limit : ℕ) → IsBound s rider limit → AllKeep s es → All (λ (e : Entry). IsPickedBy rider limit e.command) es
+  picked_by [] s rider limit bound all = All-nil (λ (e : Entry). IsPickedBy rider limit e.command)
+  picked_by (e ∷ es) s rider limit bound all =
+      All-cons (λ (e : Entry). IsPickedBy rider limit e.command) e es (all.0.by rider limit bound)
+      (picked_by es (step roads.nodes settings.wait s e.command).0 rider limit (all.0.bounds rider limit bound) all.1)
+
+  state_keeps : (es : List Entry) (s : State) → All HasSeats s.vehicles → AllKeep s es → StateKeeps s es
+  state_keeps es s seats all = record {
+    seats = seats;
+    promises = λ rider r promise found status. picked_by es s rider promise.pickup (record { of = r; found = found; bound = subst (IsBoundBy promise.pickup) (sym status) (omega arith) }) all;
+  }
+
+  pub entries_keep : (es : List Entry) (s : State) → AllKeep s es → All HasSeats (state_after roads.nodes settings.wait s es).vehicles → EntriesKeep settings roads s es
+  unfolding state_after
+  entries_keep [] s all seats = state_keeps [] s seats tt
+  entries_keep (e ∷ es) s all seats = (all.0.entry, state_keeps (e ∷ es) s all.0.seats all, entries_keep es (step roads.nodes settings.wait s e.command).0 all.1 seats)
+
+  -- where the reply and the state are known
+  from_done : (s t : State) (command : Command) (reply : Reply) → step roads.nodes settings.wait s command ≡ (t, reply) → EntryKeeps settings roads s command reply → All HasSeats s.vehicles
+      → ((rider limit : ℕ) → IsBound s rider limit → IsPickedBy rider limit command) → KeepsBounds s t → OneKeeps settings roads s command (step roads.nodes settings.wait s command).1
+  from_done s t command reply is entry seats by bounds = record {
+    entry = subst (EntryKeeps settings roads s command) (sym (ap (λ (p : State × Reply). p.1) is)) entry;
+    seats = seats;
+    by = by;
+    bounds = subst (KeepsBounds s) (sym (ap (λ (p : State × Reply). p.0) is)) bounds;
+  }
+
+  -- a vehicle's next stop
+  pub stop_keeps : (s : State) (v : ℕ) (stop : PlannedStop) → IsRightStop settings roads s.riders v stop → EntryKeeps settings roads s (stop_command v stop) (cond stop.pick Picked Dropped)
+  stop_keeps s v stop own = by stop.pick refl
+    where
+      by : (b : Bool) → stop.pick ≡ b → EntryKeeps settings roads s (cond b (Pickup v stop.rider stop.second) (Dropoff v stop.rider stop.second)) (cond b Picked Dropped)
+      by true e = let right = picked_up_right settings roads s.riders v stop e own in (refl, record { of = right.rider; found = right.found; in_wait = right.in_time })
+      by false e = let right = dropped_right settings roads s.riders v stop e own in (refl, record { of = right.rider; found = right.found; in_time = right.in_time })
+
+  stop_by : (s : State) (v : ℕ) (stop : PlannedStop) → IsRightStop settings roads s.riders v stop → (rider limit : ℕ) → IsBound s rider limit → IsPickedBy rider limit (stop_command v stop)
+  stop_by s v stop own rider limit bound = by stop.pick refl
+    where
+      by : (b : Bool) → stop.pick ≡ b → IsPickedBy rider limit (cond b (Pickup v stop.rider stop.second) (Dropoff v stop.rider stop.second))
+      by true e = λ same.
+          let right = picked_up_right settings roads s.riders v stop e own in
+          let found : find_rider rider s.riders ≡ Some right.rider = subst (λ k. find_rider k s.riders ≡ Some right.rider) same right.found in
+          let there = bound.found in
+          let is : bound.of ≡ right.rider = cc in
+          subst (IsBoundBy limit) right.status (subst (λ (r : BookRider). IsBoundBy limit r.status) is bound.bound)
+      by false e = tt
+
+  pub stop_one : (s : State) (v vehicle node time free : ℕ) (stop : PlannedStop) (stops : List PlannedStop) → IsDayState roads s → IsRightStop settings roads s.riders v stop
+      → IsDone settings roads s (stop_command v stop) (cond stop.pick Picked Dropped) vehicle node time free stops
+      → OneKeeps settings roads s (stop_command v stop) (step roads.nodes settings.wait s (stop_command v stop)).1
+  stop_one s v vehicle node time free stop stops day own done =
+      from_done s done.t (stop_command v stop) (cond stop.pick Picked Dropped) done.is (stop_keeps s v stop own) day.consistent.seats (stop_by s v stop own) done.bounds
+
+  pub report_one : (s : State) (v at second vehicle node time free : ℕ) (stops : List PlannedStop) → IsDayState roads s → IsDone settings roads s (Report v at second) Placed vehicle node time free stops
+      → OneKeeps settings roads s (Report v at second) (step roads.nodes settings.wait s (Report v at second)).1
+  report_one s v at second vehicle node time free stops day done =
+      from_done s done.t (Report v at second) Placed done.is tt day.consistent.seats (λ rider limit bound. tt) done.bounds

@@ -1,0 +1,569 @@
+-- A close with a good plan on a driven day: the chosen trips are what the vehicles now serve.
+use Rattle.std.proofs.Common.{◌≡◌, ◌⊎◌, ℕ, ◌+◌, ◌<◌, ◌≤◌, Bool, true, false, cond, List, [], ◌∷◌, length, get_or, map, Option, Some, None, refl, sym, ap, ◌∙◌, subst, arith, inl, inr}
+use Rattle.std.specs.Prelude.{slice_get, is_some}
+use Rattle.std.specs.List.{AllByRecursion}
+use Rattle.std.proofs.lemmas.Bool.{cases_Bool, eq-eqb}
+use Rattle.std.proofs.lemmas.Option.{slice_get_within, get_or_from_slice_get, slice_get-get_or}
+use Rattle.pool_base.specs.Times.{travel_time}
+use Rattle.pool_base.specs.declared.times.Times.{Times}
+use Rattle.batch_snapshot.specs.Batch.{Batch}
+use Rattle.batch_snapshot.specs.declared.promise.Promise.{Promise}
+use Rattle.batch_snapshot.specs.declared.rider.Rider.{Rider}
+use Rattle.batch_snapshot.specs.declared.vehicle.Vehicle.{Vehicle}
+use Rattle.batch_solver.specs.Outcome.{IsGoodPlan}
+use Rattle.promise_check.specs.Requests.{request_at}
+use Rattle.promise_check.specs.Settling.{IsSettled, HasRightLimit}
+use Rattle.request_book.specs.Rider.{shown}
+use Rattle.request_book.specs.State.{find_rider, find_vehicle}
+use Rattle.request_book.specs.declared.outcome.PlannedStop.{PlannedStop}
+use Rattle.request_book.specs.declared.outcome.Planned.{Planned}
+use Rattle.request_book.specs.declared.state.State.{State}
+use Rattle.rider_limits.specs.declared.settings.Settings.{Settings}
+use Rattle.road_network.specs.Roads.{Roads, index_in}
+use Rattle.stop_orders.specs.declared.settled.Settled.{Settled}
+use Rattle.stop_orders.specs.Settled.{vehicle_at, rider_at}
+use Rattle.travel_times.specs.Table.{AreTravelTimes}
+use Rattle.route_drive.specs.work.Serving.{IsKept}
+use Rattle.route_drive.proofs.kept.Batches.{found_at}
+use Rattle.route_drive.proofs.kept.Sealing.{ShowsRiders}
+use Rattle.route_drive.proofs.kept.Served.{request_rider}
+use Rattle.std.specs.Prelude.{option_map, option_and_then, unwrap_or, ◌&&◌, min}
+use Rattle.std.specs.List.{IsDistinct}
+use Rattle.std.specs.Option.{option_map_or}
+use Rattle.std.proofs.Common.{nat_eq, ◌-◌, ◌*◌}
+use Rattle.std.proofs.lemmas.Bool.{cases_lt, false≢true, true≢false}
+use Rattle.std.proofs.lemmas.List.{get_or-map, length-map}
+use Rattle.batch_snapshot.specs.Vehicle.{persons_aboard}
+use Rattle.batch_snapshot.specs.declared.passenger.Passenger.{Passenger}
+use Rattle.batch_solver.specs.Told.{rider_id, told_stop}
+use Rattle.batch_solver.specs.Trips.{IsTripOf}
+use Rattle.plan_rules.proofs.lemmas.GraphLemmas.{times_served_some, times_served_found, in_choice}
+use Rattle.plan_rules.specs.Graph.{choice_at, riders_at, is_in}
+use Rattle.promise_check.specs.Requests.{IsLegOf, no_request}
+use Rattle.promise_check.specs.Settling.{IsPlaced}
+use Rattle.request_book.specs.Closing.{picks, trip_picks, planned_status, in_batch, after_plan}
+use Rattle.request_book.specs.Keyed.{look_up, KeysDiffer}
+use Rattle.request_book.specs.Rider.{with_status, passenger_of, is_active}
+use Rattle.request_book.specs.declared.outcome.ChosenTrip.{ChosenTrip}
+use Rattle.request_book.specs.declared.rider.BookRider.{BookRider}
+use Rattle.request_book.specs.declared.rider.Status.{Status}
+use Rattle.request_book.specs.declared.rider.Status.TheVariants.{Waiting, Promised, Aboard, Cancelled, Delivered, Expired}
+use Rattle.request_book.proofs.lemmas.KeyedLemmas.{look_up-at, KeysDiffer-from_rise}
+use Rattle.road_network.specs.Roads.{has_node}
+use Rattle.stop_orders.specs.declared.leg.Leg.{Leg}
+use Rattle.stop_orders.specs.declared.stop.Stop.{Stop}
+use Rattle.stop_orders.specs.declared.stop.Stop.TheVariants.{Pick, Drop, Alight}
+use Rattle.stop_orders.specs.Order.{IsKnown}
+use Rattle.stop_orders.specs.Settled.{trip_task}
+use Rattle.stop_orders.specs.Task.{no_leg, leg_at, visit_at, free_seats}
+use Rattle.route_drive.specs.work.Serving.{calls_of}
+use Rattle.route_drive.proofs.kept.Batches.{distinct_from_differ, IsAsking, IsRiderAboard}
+use Rattle.route_drive.proofs.kept.Lapse.{vehicle_of_number}
+use Rattle.route_drive.proofs.kept.Served.{vehicle_found}
+use Rattle.route_drive.proofs.kept.Told.{told_from, none_promised, one_promised, IsPickPromised, found_among, none_among}
+use Rattle.route_drive.proofs.kept.Walks.{has_index, index_at, name_at, is_node_at}
+use Rattle.request_book.specs.State.{find_passenger}
+use Rattle.route_drive.proofs.kept.Trips.{trip_of, trip_back, trip_is, one_trip, told_id}
+use Rattle.std.specs.Prelude.{MatchBool}
+use Rattle.std.proofs.lemmas.Bool.{and_from, and_parts, cond-true}
+use Rattle.plan_rules.specs.Plan.{times_chosen}
+use Rattle.promise_check.specs.Requests.{ideal_second}
+use Rattle.stop_orders.specs.declared.task.Task.{Task}
+use Rattle.request_book.specs.Closing.{Pick as PlanPick}
+use Rattle.request_book.proofs.lemmas.CloseLemmas.{after_plan-id}
+use Rattle.request_book.proofs.lemmas.KeyedLemmas.{look_up-map, look_up-key}
+use Rattle.stop_orders.proofs.lemmas.DoneLemmas.{length-IsOrder}
+use Rattle.stop_orders.specs.Visit.{latest_of}
+use Rattle.stop_orders.specs.declared.visit.Visit.{Visit}
+use Rattle.route_drive.specs.Counts.{ideal_dropoff}
+use Rattle.route_drive.specs.Promises.{IsDroppedInTime}
+use Rattle.route_drive.specs.work.Serving.{AreReached, party_at, HasSeatsFor, IsRightPickup, IsRightDropoff, IsRightStop, IsOfVehicle, HasCalls, IsServing}
+use Rattle.route_drive.proofs.kept.Lists.{all_weaker, both}
+use Rattle.route_drive.proofs.kept.Batches.{same_persons}
+use Rattle.std.proofs.Common.{max}
+use Rattle.request_book.specs.Consistent.{seat_in}
+use Rattle.stop_orders.specs.Task.{persons}
+use Rattle.route_drive.proofs.kept.Trips.{row_of}
+use Rattle.route_drive.proofs.kept.Riders.{found_id}
+use Rattle.route_drive.proofs.kept.Tables.{time_between}
+use Rattle.route_drive.proofs.kept.Told.{IsTold, told_reached, told_seats, told_all, told_length}
+use Rattle.route_drive.proofs.kept.Chosen.{rider_aboard, known, member_calls, passenger_calls, other_calls}
+
+all_each : {A X : Type 0} (P : A → X → Type 0) (xs : List X) → ((a : A) → AllByRecursion (P a) xs) → AllByRecursion (λ x. (a : A) → P a x) xs
+all_each P [] each = tt
+all_each P (x ∷ xs) each = (λ a. (each a).0, all_each P xs (λ a. (each a).1))
+
+in_points : (points : List ℕ) (o n : ℕ) → slice_get points o ≡ Some n → slice_get points o ≡ Some (get_or points o 0)
+in_points points o n e = e ∙ ap Some (sym (get_or_from_slice_get points o n 0 e))
+
+-- whoever isn't of the batch, or isn't in the pool, stays; the others get what was planned
+pub after_is : (batch : List Rider) (ps : List PlanPick) (r : BookRider) → is_active r.status ≡ true → in_batch batch r.id ≡ true → after_plan batch ps r ≡ with_status (planned_status ps r.id) r
+after_is batch ps r active among = cond-true (is_active r.status && in_batch batch r.id) (with_status (planned_status ps r.id) r) r (and_from (is_active r.status) (in_batch batch r.id) active among)
+
+pub after_stays : (batch : List Rider) (ps : List PlanPick) (r : BookRider) → is_active r.status ≡ false → after_plan batch ps r ≡ r
+after_stays batch ps r active = rw active refl
+
+-- a plan changes the status alone
+same_but_status : (batch : List Rider) (ps : List PlanPick) (r : BookRider) → (t : Status) × (after_plan batch ps r ≡ with_status t r)
+same_but_status batch ps r = by (is_active r.status && in_batch batch r.id)
+  where
+    by : (b : Bool) → (t : Status) × (cond b (with_status (planned_status ps r.id) r) r ≡ with_status t r)
+    by true = (planned_status ps r.id, refl)
+    by false = (r.status, refl)
+
+module _ (settings : Settings) (roads : Roads) (s : State) (stops : ℕ → List PlannedStop) (b : Batch) (settled : Settled) (points : List ℕ) (times : Times)
+    (kept : IsKept settings roads s stops) (shows : ShowsRiders s b) (early : (id : ℕ) (v : Vehicle) → find_vehicle id s.vehicles ≡ Some v → b.sealed_at ≤ v.time)
+    (limits : IsSettled settings points (travel_time times) b settled) (table : AreTravelTimes roads.arcs (map (index_in roads.nodes) points) times)
+    (planned : Planned) (good : IsGoodPlan settings points (travel_time times) settled planned) where
+  abbrev pub ps : List PlanPick
+  ps = picks planned.chosen
+
+  abbrev pub riders' : List BookRider
+  riders' = map (after_plan b.riders (picks planned.chosen)) s.riders
+
+  pub find_planned : (z : ℕ) → find_rider z riders' ≡ option_map (after_plan b.riders (picks planned.chosen)) (find_rider z s.riders)
+  find_planned z = look_up-map (λ (r : BookRider). r.id) (after_plan b.riders (picks planned.chosen)) (after_plan-id b.riders (picks planned.chosen)) z s.riders
+
+  -- a request of the batch, whose rider gets what was planned for the id
+  pub planned_rider : (n : ℕ) → n < length b.riders → (r : BookRider) × (find_rider (request_at b.riders n).id s.riders ≡ Some r) × IsAsking b.sealed_at r (request_at b.riders n)
+      × (find_rider (request_at b.riders n).id riders' ≡ Some (with_status (planned_status (picks planned.chosen) (request_at b.riders n).id) r))
+  planned_rider n h =
+      let of = request_rider settings roads s stops b settled points times kept shows early limits table n h in
+      let id : of.0.id ≡ (request_at b.riders n).id = found_id (request_at b.riders n).id s.riders of.0 of.1 in
+      let active : is_active of.0.status ≡ true = ap is_some of.2.pool in
+      let at : look_up (λ (r : Rider). r.id) (request_at b.riders n).id b.riders ≡ Some (request_at b.riders n) = look_up-at (λ (r : Rider). r.id) n b.riders no_request (KeysDiffer-from_rise (λ (r : Rider). r.id) b.riders shows.rise) h in
+      let among : in_batch b.riders of.0.id ≡ true = ap is_some (ap (λ z. look_up (λ (r : Rider). r.id) z b.riders) id ∙ at) in (
+        of.0,
+        of.1,
+        of.2,
+        find_planned (request_at b.riders n).id ∙ ap (option_map (after_plan b.riders (picks planned.chosen))) of.1
+            ∙ ap Some (after_is b.riders (picks planned.chosen) of.0 active among ∙ ap (λ z. with_status (planned_status (picks planned.chosen) z) of.0) id),
+      )
+
+  -- a vehicle of a number, with its trip
+  pub record HasTrip (k : ℕ) : Type 0 where
+    pub within : k < length settled.vehicles
+    pub x : Vehicle
+    pub at : slice_get b.vehicles k ≡ Some x
+    pub t : ChosenTrip
+    pub chosen : slice_get planned.chosen k ≡ Some t
+    pub is : IsTripOf points (travel_time times) settled good.graph good.chosen k t
+
+  pub has_trip : (k : ℕ) → k < length settled.vehicles → HasTrip k
+  has_trip k h =
+      let x = vehicle_of_number settings roads s stops b settled points times kept shows early limits table k h in
+      let t = trip_of settings roads s stops b settled points times kept shows early limits table planned good k h in
+      record { within = h; x = x.0; at = x.1; t = t.0; chosen = t.1; is = t.2 }
+
+  pub trip_vehicle : (k : ℕ) (own : HasTrip k) → own.t.vehicle ≡ own.x.id
+  trip_vehicle k own = own.is.vehicle ∙ (limits.placed k own.x own.at).id
+
+  -- a rider of the trip is promised by it
+  pub member_promised : (k : ℕ) (own : HasTrip k) (i : ℕ) → (h : i < length (riders_at good.graph own.is.row)) → IsPickPromised (request_at b.riders (get_or (riders_at good.graph own.is.row) i 0)).id own.t.vehicle own.t.stops.items
+  member_promised k own i h = one_promised (request_at b.riders (get_or (riders_at good.graph own.is.row) i 0)).id own.t.vehicle own.t.stops.items
+      (member_calls settings roads s stops b settled points times kept shows early limits table planned good k own.within own.x own.at own.t own.is i h)
+
+  member_low : (k : ℕ) (own : HasTrip k) (i : ℕ) → i < length (riders_at good.graph own.is.row) → get_or (riders_at good.graph own.is.row) i 0 < length b.riders
+  member_low k own i h = (trip_is settings roads s stops b settled points times kept shows early limits table planned good k own.is.row own.within own.is.chooses).0.within i 0 h
+
+  -- a request that isn't in a trip has no pickup in it
+  out_of_trip : (j : ℕ) (u : ChosenTrip) (r : ℕ) → slice_get planned.chosen j ≡ Some u → r < length b.riders → ((row : ℕ) → choice_at good.chosen j ≡ Some row → has_node (riders_at good.graph row) r ≡ true → ⊥)
+      → look_up (λ (p : PlanPick). p.rider) (request_at b.riders r).id (trip_picks u.vehicle u.stops.items) ≡ None
+  out_of_trip j u r e low out =
+      let back = trip_back settings roads s stops b settled points times kept shows early limits table planned good j u e in
+      let x = vehicle_of_number settings roads s stops b settled points times kept shows early limits table j back.0 in
+      let none : has_node (riders_at good.graph back.1.row) r ≡ false = elim (cases_Bool (has_node (riders_at good.graph back.1.row) r)) [ inl t ↦ absurd (out back.1.row back.1.chooses t) | inr f ↦ f ] in
+      none_promised (request_at b.riders r).id u.vehicle u.stops.items
+      (subst (λ bs. AllByRecursion (λ b. b ≡ false) bs) (sym (other_calls settings roads s stops b settled points times kept shows early limits table planned good j back.0 x.0 x.1 u back.1 r low none)) tt)
+
+  -- what is planned for a rider of a trip, and for one of none
+  pub member_status : (k : ℕ) (own : HasTrip k) (i : ℕ) (h : i < length (riders_at good.graph own.is.row))
+      → planned_status (picks planned.chosen) (request_at b.riders (get_or (riders_at good.graph own.is.row) i 0)).id ≡ Promised (record { vehicle = own.x.id; pickup = (member_promised k own i h).second })
+  unfolding picks
+  member_status k own i h =
+      let r : ℕ = get_or (riders_at good.graph own.is.row) i 0 in
+      let low = member_low k own i h in
+      let one = member_promised k own i h in
+      let has : has_node (riders_at good.graph own.is.row) (get_or (riders_at good.graph own.is.row) i 0) ≡ true = is_node_at (riders_at good.graph own.is.row) i h in
+      let found : look_up (λ (p : PlanPick). p.rider) (request_at b.riders (get_or (riders_at good.graph own.is.row) i 0)).id (picks planned.chosen)
+      ≡ Some (record { rider = (request_at b.riders (get_or (riders_at good.graph own.is.row) i 0)).id; promise = record { vehicle = own.t.vehicle; pickup = (member_promised k own i h).second } }) =
+      found_among (λ (p : PlanPick). p.rider) (request_at b.riders (get_or (riders_at good.graph own.is.row) i 0)).id (λ (t : ChosenTrip). trip_picks t.vehicle t.stops.items) planned.chosen k own.t own.chosen
+      (λ j u e ne. out_of_trip j u (get_or (riders_at good.graph own.is.row) i 0) e low (λ row choose t.
+      let back = trip_back settings roads s stops b settled points times kept shows early limits table planned good j u e in
+      ne (one_trip settings roads s stops b settled points times kept shows early limits table planned good j k row own.is.row (get_or (riders_at good.graph own.is.row) i 0) back.0 own.within choose own.is.chooses t has)))
+      ∙ one.found in
+      ap (λ o. unwrap_or (option_map (λ (p : PlanPick). Promised p.promise) o) Waiting) found
+      ∙ ap (λ v. Promised (record { vehicle = v; pickup = (member_promised k own i h).second })) (trip_vehicle k own)
+
+  pub left_status : (r : ℕ) → r < length b.riders → ((k row : ℕ) → k < length settled.vehicles → choice_at good.chosen k ≡ Some row → has_node (riders_at good.graph row) r ≡ true → ⊥)
+      → planned_status (picks planned.chosen) (request_at b.riders r).id ≡ Waiting
+  unfolding picks
+  left_status r low out =
+      ap (λ o. unwrap_or (option_map (λ (p : PlanPick). Promised p.promise) o) Waiting)
+      (none_among (λ (p : PlanPick). p.rider) (request_at b.riders r).id (λ (t : ChosenTrip). trip_picks t.vehicle t.stops.items) planned.chosen
+      (λ j u e. out_of_trip j u r e low (λ row choose t. out j row (trip_back settings roads s stops b settled points times kept shows early limits table planned good j u e).0 choose t)))
+
+  -- where a request is: in a trip, or in none
+  pub data IsPlaced' (r : ℕ) : Type 0 where
+    rides : (k : ℕ) (own : HasTrip k) (i : ℕ) → i < length (riders_at good.graph own.is.row) → get_or (riders_at good.graph own.is.row) i 0 ≡ r → IsPlaced' r
+    stays : ((k row : ℕ) → k < length settled.vehicles → choice_at good.chosen k ≡ Some row → has_node (riders_at good.graph row) r ≡ true → ⊥) → IsPlaced' r
+
+  pub rides_once : (r : ℕ) → 1 ≤ times_chosen good.graph good.chosen r → IsPlaced' r
+  rides_once r h =
+      let some = times_served_found good.graph good.chosen good.graph.vehicles r h in
+      let c = good.exact.vehicle_total in
+      let l = some.1 in
+      let own = has_trip some.0 (omega (arith, c, l)) in
+      let choice = in_choice good.graph (choice_at good.chosen some.0) r some.2 in
+      let same : choice.0 ≡ own.is.row = (let e : Some choice.0 ≡ Some own.is.row = sym choice.1 ∙ own.is.chooses in cc) in
+      let has : has_node (riders_at good.graph own.is.row) r ≡ true = subst (λ row. has_node (riders_at good.graph row) r ≡ true) same choice.2 in
+      rides some.0 own (index_in (riders_at good.graph own.is.row) r) (has_index (riders_at good.graph own.is.row) r has) (name_at (riders_at good.graph own.is.row) r (has_index (riders_at good.graph own.is.row) r has))
+
+  pub where_is : (r : ℕ) → IsPlaced' r
+  where_is r = elim (cases_lt 0 (times_chosen good.graph good.chosen r)) [
+    | inl some ↦ rides_once r (omega (arith, some))
+    | inr none ↦ stays (λ k row h choose has.
+        let c = good.exact.vehicle_total in
+        let one = times_served_some good.graph good.chosen good.graph.vehicles r k (omega (arith, c, h)) (ap (λ o. is_in good.graph o r) choose ∙ has) in
+        omega (arith, one, none))
+  ]
+
+  -- the party of a stop is that of its rider
+  party_is : (z : ℕ) (r : BookRider) (t : Status) (stop : PlannedStop) → stop.rider ≡ z → find_rider z riders' ≡ Some (with_status t r) → party_at riders' stop ≡ r.party
+  party_is z r t stop e found = ap (λ z. option_map_or (λ (r : BookRider). r.party) (find_rider z riders') 0) e ∙ ap (λ o. option_map_or (λ (r : BookRider). r.party) o 0) found
+
+  -- a passenger's rider stays as they are
+  passenger_stays : (z : ℕ) (r : BookRider) (v : ℕ) → find_rider z s.riders ≡ Some r → r.status ≡ Aboard v → find_rider z riders' ≡ Some r
+  passenger_stays z r v found status = find_planned z ∙ ap (option_map (after_plan b.riders (picks planned.chosen))) found ∙ ap Some (after_stays b.riders (picks planned.chosen) r (ap is_active status))
+
+  module _ (k : ℕ) (own : HasTrip k) where
+    abbrev trip : List ℕ
+    trip = riders_at good.graph own.is.row
+
+    abbrev task : Task
+    task = trip_task settled k (riders_at good.graph own.is.row)
+
+    abbrev vis : Stop → Visit
+    vis = visit_at (trip_task settled k (riders_at good.graph own.is.row))
+
+    abbrev told : Stop × ℕ → PlannedStop
+    told = told_stop points settled k (riders_at good.graph own.is.row)
+
+    abbrev KnownStop : Stop → Type 0
+    KnownStop stop = IsKnown (length (riders_at good.graph own.is.row)) (length own.x.aboard.items) stop
+
+    all_known : AllByRecursion (IsKnown (length (riders_at good.graph own.is.row)) (length own.x.aboard.items)) own.is.stops
+    all_known = known settings roads s stops b settled points times kept shows early limits table planned good k own.within own.x own.at own.t own.is
+
+    placed : IsPlaced settings points (travel_time times) b.sealed_at own.x (vehicle_at settled k)
+    placed = limits.placed k own.x own.at
+
+    leg_is : (i : ℕ) → i < length trip → leg_at (map (λ r. (rider_at settled r).leg) trip) i ≡ (rider_at settled (get_or trip i 0)).leg
+    leg_is i h = get_or-map (λ r. (rider_at settled r).leg) trip i 0 no_leg h
+
+    -- the leg of a member of the trip, for their rider
+    pub record HasLeg (n : ℕ) (leg : Leg) : Type 0 where
+      pub r : BookRider
+      pub found : find_rider (request_at b.riders n).id s.riders ≡ Some r
+      pub now_found : find_rider (request_at b.riders n).id riders' ≡ Some (with_status (planned_status (picks planned.chosen) (request_at b.riders n).id) r)
+      pub origin : slice_get points leg.origin ≡ Some r.origin
+      pub destination : slice_get points leg.destination ≡ Some r.destination
+      pub ideal : leg.ideal ≡ ideal_second (travel_time times) r.time leg.origin leg.destination
+      pub latest_dropoff : leg.latest_dropoff ≡ leg.ideal + settings.delay
+      pub party : leg.party ≡ r.party
+      pub latest_pickup : leg.latest_pickup ≤ r.time + settings.wait
+
+    limit_low : (n : ℕ) → n < length settled.riders → (rider_at settled n).leg.latest_pickup ≤ (request_at b.riders n).time + settings.wait
+    limit_low n h = by (limits.limits n h)
+      where
+        low : (q : Rider) (o : Option Promise) → option_map_or (λ (p : Promise). min p.pickup (q.time + settings.wait)) o (q.time + settings.wait) ≤ q.time + settings.wait
+        low q None = omega arith
+        low q (Some p) = omega arith
+
+        by : HasRightLimit settings (travel_time times) b.riders settled n → (rider_at settled n).leg.latest_pickup ≤ (request_at b.riders n).time + settings.wait
+        by (inl live) = subst (λ m. m ≤ (request_at b.riders n).time + settings.wait) (sym live.1) (low (request_at b.riders n) (request_at b.riders n).promise)
+        by (inr other) = let e = other.1 in omega (arith, e)
+
+    pub member_leg : (i : ℕ) → i < length trip → HasLeg (get_or trip i 0) (leg_at (map (λ r. (rider_at settled r).leg) trip) i)
+    member_leg i h =
+        let n : ℕ = get_or trip i 0 in
+        let low : get_or trip i 0 < length b.riders = member_low k own i h in
+        let of = planned_rider (get_or trip i 0) low in
+        let leg = (limits.riders (get_or trip i 0) (request_at b.riders (get_or trip i 0)) (slice_get-get_or b.riders (get_or trip i 0) no_request low)).leg in
+        let is : request_at b.riders (get_or trip i 0) ≡ shown of.0 of.2.promise = of.2.is in
+        let c = limits.rider_count in
+        subst (HasLeg (get_or trip i 0)) (sym (leg_is i h)) (record {
+          r = of.0;
+          found = of.1;
+          now_found = of.3;
+          origin = leg.origin_place ∙ ap (λ (q : Rider). Some q.origin) is;
+          destination = leg.destination_place ∙ ap (λ (q : Rider). Some q.destination) is;
+          ideal = leg.ideal ∙ ap (λ (q : Rider). ideal_second (travel_time times) q.time (rider_at settled (get_or trip i 0)).leg.origin (rider_at settled (get_or trip i 0)).leg.destination) is;
+          latest_dropoff = leg.latest_dropoff;
+          party = leg.size ∙ ap (λ (q : Rider). q.party) is;
+          latest_pickup = let l = limit_low (get_or trip i 0) (omega (arith, low, c)) in subst (λ m. (rider_at settled (get_or trip i 0)).leg.latest_pickup ≤ m + settings.wait) (ap (λ (q : Rider). q.time) is) l;
+        })
+
+    told_name : (i : ℕ) → i < length trip → rider_id settled (get_or trip i 0) ≡ (request_at b.riders (get_or trip i 0)).id
+    told_name i h = told_id settings roads s stops b settled points times kept shows early limits table planned good (get_or trip i 0) (member_low k own i h)
+
+    -- the passenger of a number, with the rider
+    aboard_at : (j : ℕ) → j < length own.x.aboard.items → IsRiderAboard s own.x.id (get_or (map (λ (p : Passenger). p.rider) own.x.aboard.items) j 0) (get_or own.x.aboard.items j (record { rider = 0; origin = 0; destination = 0; time = 0; party = 0 }))
+    aboard_at j h = rider_aboard settings roads s stops b settled points times kept shows early limits table planned good k own.within own.x own.at own.t own.is j h
+
+    told_aboard : (j : ℕ) → get_or (vehicle_at settled k).aboard_ids.items j 0 ≡ get_or (map (λ (p : Passenger). p.rider) own.x.aboard.items) j 0
+    told_aboard j = ap (λ ids. get_or ids j 0) placed.aboard_ids
+
+    passenger_leg : (j : ℕ) → (h : j < length own.x.aboard.items) → IsLegOf settings points (travel_time times) (aboard_at j h).rider.origin (aboard_at j h).rider.destination (aboard_at j h).rider.time (aboard_at j h).rider.party (leg_at (vehicle_at settled k).aboard.items j)
+    passenger_leg j h =
+        let none : Passenger = record { rider = 0; origin = 0; destination = 0; time = 0; party = 0 } in
+        subst (λ (p : Passenger). IsLegOf settings points (travel_time times) p.origin p.destination p.time p.party (leg_at (vehicle_at settled k).aboard.items j)) (sym (aboard_at j h).is)
+        (placed.aboard.each j (get_or own.x.aboard.items j (record { rider = 0; origin = 0; destination = 0; time = 0; party = 0 })) (slice_get-get_or own.x.aboard.items j (record { rider = 0; origin = 0; destination = 0; time = 0; party = 0 }) h))
+
+    -- the visits of the trip are what is told of them
+    are_told : AllByRecursion (IsTold points riders' vis told) own.is.stops
+    are_told = all_weaker KnownStop (IsTold points riders' vis told) by own.is.stops all_known
+      where
+        by : (stop : Stop) → KnownStop stop → IsTold points riders' vis told stop
+        by (Pick i) h =
+            let leg = member_leg i h in
+            let party : (second : ℕ) → party_at riders' (told (Pick i, second)) ≡ leg.r.party = λ second. party_is (request_at b.riders (get_or trip i 0)).id leg.r (planned_status (picks planned.chosen) (request_at b.riders (get_or trip i 0)).id) (told (Pick i, second)) (told_name i h) leg.now_found in
+            let same = leg.party in
+            record {
+              second = λ second. refl;
+              pick = λ second. refl;
+              node = λ second. in_points points (leg_at (map (λ r. (rider_at settled r).leg) trip) i).origin leg.r.origin leg.origin;
+              boards = λ second pick. same ∙ sym (party second);
+              room = λ second room. ap (λ n. room - n) (same ∙ sym (party second));
+            }
+        by (Drop i) h =
+            let leg = member_leg i h in
+            let party : (second : ℕ) → party_at riders' (told (Drop i, second)) ≡ leg.r.party = λ second. party_is (request_at b.riders (get_or trip i 0)).id leg.r (planned_status (picks planned.chosen) (request_at b.riders (get_or trip i 0)).id) (told (Drop i, second)) (told_name i h) leg.now_found in
+            let same = leg.party in
+            record {
+              second = λ second. refl;
+              pick = λ second. refl;
+              node = λ second. in_points points (leg_at (map (λ r. (rider_at settled r).leg) trip) i).destination leg.r.destination leg.destination;
+              boards = λ second pick. absurd (false≢true pick);
+              room = λ second room. ap (λ n. room + n) (same ∙ sym (party second));
+            }
+        by (Alight j) h =
+            let leg = passenger_leg j h in
+            let of = aboard_at j h in
+            let found = passenger_stays (get_or (map (λ (p : Passenger). p.rider) own.x.aboard.items) j 0) of.rider own.x.id of.found of.status in
+            let party : (second : ℕ) → party_at riders' (told (Alight j, second)) ≡ of.rider.party = λ second. party_is (get_or (map (λ (p : Passenger). p.rider) own.x.aboard.items) j 0) of.rider of.rider.status (told (Alight j, second)) (told_aboard j) found in
+            let same = leg.size in
+            record {
+              second = λ second. refl;
+              pick = λ second. refl;
+              node = λ second. in_points points (leg_at (vehicle_at settled k).aboard.items j).destination of.rider.destination leg.destination_place;
+              boards = λ second pick. absurd (false≢true pick);
+              room = λ second room. ap (λ n. room + n) (same ∙ sym (party second));
+            }
+
+    -- a told stop by the second at which it is in time
+    pub record IsMemberPickup (stop : PlannedStop) : Type 0 where
+      pub i : ℕ
+      pub within : i < length trip
+      pub rider : stop.rider ≡ (request_at b.riders (get_or trip i 0)).id
+      pub pick : stop.pick ≡ true
+      pub node : stop.node ≡ (member_leg i within).r.origin
+      pub in_time : stop.second ≤ (member_leg i within).r.time + settings.wait
+      pub in_limit : stop.second ≤ (rider_at settled (get_or trip i 0)).leg.latest_pickup
+
+    at_point : (o n : ℕ) → slice_get points o ≡ Some n → get_or points o 0 ≡ n
+    at_point o n e = get_or_from_slice_get points o n 0 e
+
+    member_drop_in_time : (n : ℕ) (leg : Leg) (second : ℕ) → (has : HasLeg n leg) → second ≤ leg.latest_dropoff → IsDroppedInTime roads settings.delay has.r second
+    member_drop_in_time n leg second has le = record {
+      seconds = travel_time times leg.origin leg.destination;
+      between = time_between roads points times table leg.origin leg.destination has.r.origin has.r.destination has.origin has.destination;
+      in_time = let a = has.latest_dropoff in let c : leg.ideal ≡ ideal_dropoff has.r.time (travel_time times leg.origin leg.destination) = has.ideal in subst (λ m. second ≤ m) (a ∙ ap (λ m. m + settings.delay) c) le;
+    }
+
+    all_told : AllByRecursion (λ stop. IsMemberPickup stop ⊎ ((stop.pick ≡ false) × IsRightDropoff roads settings.delay riders' own.x.id stop)) (told_from roads points times table riders' settled.dwell vis told (vehicle_at settled k).start (vehicle_at settled k).ready own.is.stops)
+    all_told = told_all roads points times table riders' settled.dwell vis told KnownStop (λ stop. IsMemberPickup stop ⊎ ((stop.pick ≡ false) × IsRightDropoff roads settings.delay riders' own.x.id stop)) by own.is.stops (vehicle_at settled k).start (vehicle_at settled k).ready (free_seats task) all_known own.is.serves.in_time
+      where
+        by : (stop : Stop) (second : ℕ) → KnownStop stop → second ≤ latest_of (vis stop) → IsMemberPickup (told (stop, second)) ⊎ ((told (stop, second)).pick ≡ false × IsRightDropoff roads settings.delay riders' own.x.id (told (stop, second)))
+        by (Pick i) second h le =
+            let leg = member_leg i h in
+            let same : (leg_at (map (λ r. (rider_at settled r).leg) trip) i).latest_pickup ≡ (rider_at settled (get_or trip i 0)).leg.latest_pickup = ap (λ (leg : Leg). leg.latest_pickup) (leg_is i h) in
+            let low = leg.latest_pickup in
+            inl (record {
+              i = i;
+              within = h;
+              rider = told_name i h;
+              pick = refl;
+              node = at_point (leg_at (map (λ r. (rider_at settled r).leg) trip) i).origin leg.r.origin leg.origin;
+              in_time = omega (arith, le, low);
+              in_limit = omega (arith, le, same);
+            })
+        by (Drop i) second h le =
+            let leg = member_leg i h in
+            inr (
+              refl,
+              record {
+                rider = with_status (planned_status (picks planned.chosen) (request_at b.riders (get_or trip i 0)).id) leg.r;
+                found = ap (λ z. find_rider z riders') (told_name i h) ∙ leg.now_found;
+                own = subst (IsOfVehicle own.x.id) (sym (member_status k own i h)) refl;
+                node = at_point (leg_at (map (λ r. (rider_at settled r).leg) trip) i).destination leg.r.destination leg.destination;
+                in_time = let d = member_drop_in_time (get_or trip i 0) (leg_at (map (λ r. (rider_at settled r).leg) trip) i) second leg le in record { seconds = d.seconds; between = d.between; in_time = d.in_time };
+              },
+            )
+        by (Alight j) second h le =
+            let of = aboard_at j h in
+            let leg = passenger_leg j h in
+            let z : ℕ = get_or (map (λ (p : Passenger). p.rider) own.x.aboard.items) j 0 in
+            inr (
+              refl,
+              record {
+                rider = of.rider;
+                found = ap (λ z. find_rider z riders') (told_aboard j) ∙ passenger_stays (get_or (map (λ (p : Passenger). p.rider) own.x.aboard.items) j 0) of.rider own.x.id of.found of.status;
+                own = subst (IsOfVehicle own.x.id) (sym of.status) refl;
+                node = at_point (leg_at (vehicle_at settled k).aboard.items j).destination of.rider.destination leg.destination_place;
+                in_time = record {
+                  seconds = travel_time times (leg_at (vehicle_at settled k).aboard.items j).origin (leg_at (vehicle_at settled k).aboard.items j).destination;
+                  between = time_between roads points times table (leg_at (vehicle_at settled k).aboard.items j).origin (leg_at (vehicle_at settled k).aboard.items j).destination of.rider.origin of.rider.destination leg.origin_place leg.destination_place;
+                  in_time = let c : (leg_at (vehicle_at settled k).aboard.items j).ideal ≡ ideal_dropoff of.rider.time (travel_time times (leg_at (vehicle_at settled k).aboard.items j).origin (leg_at (vehicle_at settled k).aboard.items j).destination) = leg.ideal in
+                      subst (λ m. second ≤ m) (leg.latest_dropoff ∙ ap (λ m. m + settings.delay) c) le;
+                };
+              },
+            )
+
+    -- the same of the stops that the plan gives
+    pub items_told : AllByRecursion (λ stop. IsMemberPickup stop ⊎ ((stop.pick ≡ false) × IsRightDropoff roads settings.delay riders' own.x.id stop)) own.t.stops.items
+    items_told = subst (AllByRecursion (λ stop. IsMemberPickup stop ⊎ ((stop.pick ≡ false) × IsRightDropoff roads settings.delay riders' own.x.id stop))) (sym own.is.told) all_told
+
+    -- each pickup of a member is at the second that is promised
+    at_promised : AllByRecursion (λ (stop : PlannedStop). (m : (i : ℕ) × (i < length trip)) → stop.rider ≡ (request_at b.riders (get_or trip m.0 0)).id → stop.pick ≡ true → stop.second ≡ (member_promised k own m.0 m.1).second) own.t.stops.items
+    at_promised = all_each (λ (m : (i : ℕ) × (i < length trip)) (stop : PlannedStop). stop.rider ≡ (request_at b.riders (get_or trip m.0 0)).id → stop.pick ≡ true → stop.second ≡ (member_promised k own m.0 m.1).second) own.t.stops.items
+        (λ m. (member_promised k own m.0 m.1).at)
+
+    items_right : AllByRecursion (IsRightStop settings roads riders' own.x.id) own.t.stops.items
+    items_right = all_weaker (λ stop. (IsMemberPickup stop ⊎ ((stop.pick ≡ false) × IsRightDropoff roads settings.delay riders' own.x.id stop))
+        × ((m : (i : ℕ) × (i < length trip)) → stop.rider ≡ (request_at b.riders (get_or trip m.0 0)).id → stop.pick ≡ true → stop.second ≡ (member_promised k own m.0 m.1).second)) (IsRightStop settings roads riders' own.x.id)
+        (λ stop h. by stop h.0 h.1) own.t.stops.items (both (λ stop. IsMemberPickup stop ⊎ ((stop.pick ≡ false) × IsRightDropoff roads settings.delay riders' own.x.id stop))
+        (λ (stop : PlannedStop). (m : (i : ℕ) × (i < length trip)) → stop.rider ≡ (request_at b.riders (get_or trip m.0 0)).id → stop.pick ≡ true → stop.second ≡ (member_promised k own m.0 m.1).second) own.t.stops.items items_told at_promised)
+      where
+        by : (stop : PlannedStop) → IsMemberPickup stop ⊎ ((stop.pick ≡ false) × IsRightDropoff roads settings.delay riders' own.x.id stop)
+            → ((m : (i : ℕ) × (i < length trip)) → stop.rider ≡ (request_at b.riders (get_or trip m.0 0)).id → stop.pick ≡ true → stop.second ≡ (member_promised k own m.0 m.1).second) → IsRightStop settings roads riders' own.x.id stop
+        by stop (inl member) promised =
+            let leg = member_leg member.i member.within in
+            let second : stop.second ≡ (member_promised k own member.i member.within).second = promised (member.i, member.within) member.rider member.pick in
+            rw member.pick (record {
+              rider = with_status (planned_status (picks planned.chosen) (request_at b.riders (get_or trip member.i 0)).id) leg.r;
+              found = ap (λ z. find_rider z riders') member.rider ∙ leg.now_found;
+              status = member_status k own member.i member.within ∙ ap (λ n. Promised (record { vehicle = own.x.id; pickup = n })) (sym second);
+              node = member.node;
+              in_time = member.in_time;
+            })
+        by stop (inr drop) promised = subst (λ o. MatchBool o (IsRightPickup settings.wait riders' own.x.id stop) (IsRightDropoff roads settings.delay riders' own.x.id stop)) (sym drop.0) drop.1
+
+    -- a vehicle has one number
+    pub one_number : (j : ℕ) (other : HasTrip j) → other.x.id ≡ own.x.id → j ≡ k
+    one_number j other e =
+        let names : List ℕ = map (λ (v : Vehicle). v.id) b.vehicles in
+        let differ : KeysDiffer (λ (v : Vehicle). v.id) b.vehicles = subst (KeysDiffer (λ (v : Vehicle). v.id)) (sym shows.vehicles) (KeysDiffer-from_rise (λ (v : Vehicle). v.id) s.vehicles kept.state.consistent.vehicles_rise) in
+        let distinct : IsDistinct nat_eq (map (λ (v : Vehicle). v.id) b.vehicles) = distinct_from_differ (λ (v : Vehicle). v.id) b.vehicles differ in
+        let n : length (map (λ (v : Vehicle). v.id) b.vehicles) ≡ length b.vehicles = length-map b.vehicles (λ (v : Vehicle). v.id) in
+        let lj = slice_get_within b.vehicles j other.x other.at in
+        let lk = slice_get_within b.vehicles k own.x own.at in
+        let a : get_or (map (λ (v : Vehicle). v.id) b.vehicles) j 0 ≡ other.x.id = get_or-map (λ (v : Vehicle). v.id) b.vehicles j other.x 0 lj ∙ ap (λ (v : Vehicle). v.id) (get_or_from_slice_get b.vehicles j other.x other.x other.at) in
+        let c : get_or (map (λ (v : Vehicle). v.id) b.vehicles) k 0 ≡ own.x.id = get_or-map (λ (v : Vehicle). v.id) b.vehicles k own.x 0 lk ∙ ap (λ (v : Vehicle). v.id) (get_or_from_slice_get b.vehicles k own.x own.x own.at) in
+        sym (index_at (map (λ (v : Vehicle). v.id) b.vehicles) j distinct (omega (arith, lj, n))) ∙ ap (index_in (map (λ (v : Vehicle). v.id) b.vehicles)) (a ∙ e ∙ sym c) ∙ index_at (map (λ (v : Vehicle). v.id) b.vehicles) k distinct (omega (arith, lk, n))
+
+    same_trip : (j : ℕ) (other : HasTrip j) → j ≡ k → other.t ≡ own.t
+    same_trip j other e = let a : slice_get planned.chosen k ≡ Some other.t = subst (λ j. slice_get planned.chosen j ≡ Some other.t) e other.chosen in let c = own.chosen in cc
+
+    -- the calls of whoever is of the vehicle after the plan
+    batch_calls : (z : ℕ) (r : BookRider) → find_rider z s.riders ≡ Some r → in_batch b.riders r.id ≡ true → HasCalls own.x.id (planned_status (picks planned.chosen) r.id) (calls_of z own.t.stops.items)
+    batch_calls z r found among = by (look_up (λ (r : Rider). r.id) r.id b.riders) refl among
+      where
+        id : r.id ≡ z
+        id = found_id z s.riders r found
+
+        placed_calls : (n : ℕ) → n < length b.riders → (request_at b.riders n).id ≡ r.id → IsPlaced' n → HasCalls own.x.id (planned_status (picks planned.chosen) (request_at b.riders n).id) (calls_of z own.t.stops.items)
+        placed_calls n low e (stays out) = subst (λ t. HasCalls own.x.id t (calls_of z own.t.stops.items)) (sym (left_status n low out)) tt
+        placed_calls n low e (rides j other i h at) =
+            let status : planned_status (picks planned.chosen) (request_at b.riders n).id ≡ Promised (record { vehicle = other.x.id; pickup = (member_promised j other i h).second }) =
+            ap (λ m. planned_status (picks planned.chosen) (request_at b.riders m).id) (sym at) ∙ member_status j other i h in
+            let calls : calls_of (request_at b.riders (get_or (riders_at good.graph other.is.row) i 0)).id other.t.stops.items ≡ true ∷ false ∷ [] =
+            member_calls settings roads s stops b settled points times kept shows early limits table planned good j other.within other.x other.at other.t other.is i h in
+            let name : (request_at b.riders (get_or (riders_at good.graph other.is.row) i 0)).id ≡ z = ap (λ m. (request_at b.riders m).id) at ∙ e ∙ id in
+            subst (λ t. HasCalls own.x.id t (calls_of z own.t.stops.items)) (sym status)
+            (λ same. ap (λ (t : ChosenTrip). calls_of z t.stops.items) (sym (same_trip j other (one_number j other same))) ∙ ap (λ z. calls_of z other.t.stops.items) (sym name) ∙ calls)
+
+        by : (o : Option Rider) → look_up (λ (r : Rider). r.id) r.id b.riders ≡ o → is_some o ≡ true → HasCalls own.x.id (planned_status (picks planned.chosen) r.id) (calls_of z own.t.stops.items)
+        by None e some = absurd (false≢true some)
+        by (Some y) e some =
+            let place = found_at (λ (r : Rider). r.id) r.id b.riders y e in
+            let name : (request_at b.riders place.0).id ≡ r.id = ap (λ (r : Rider). r.id) (place.2 no_request) ∙ look_up-key (λ (r : Rider). r.id) r.id b.riders y e in
+            subst (λ n. HasCalls own.x.id (planned_status (picks planned.chosen) n) (calls_of z own.t.stops.items)) name
+            (placed_calls place.0 place.1 name (where_is place.0))
+
+    other_status_calls : (z : ℕ) (r : BookRider) → find_rider z s.riders ≡ Some r → (is_active r.status && in_batch b.riders r.id) ≡ false → HasCalls own.x.id r.status (calls_of z own.t.stops.items)
+    other_status_calls z r found out = by r.status refl
+      where
+        by : (t : Status) → r.status ≡ t → HasCalls own.x.id t (calls_of z own.t.stops.items)
+        by Waiting e = tt
+        by (Promised p) e =
+            let there = shows.promised z r p found e in
+            let id : r.id ≡ z = found_id z s.riders r found in
+            let among : in_batch b.riders r.id ≡ true = ap (λ z. is_some (look_up (λ (r : Rider). r.id) z b.riders)) id ∙ ap is_some there in
+            absurd (true≢false (sym (and_from (is_active r.status) (in_batch b.riders r.id) (ap is_active e) among) ∙ out))
+        by (Aboard u) e = λ same.
+            let found_x = vehicle_found settings roads s stops b settled points times kept shows early limits table k own.x own.at in
+            let at_z : find_passenger z own.x.aboard.items ≡ Some (passenger_of r) =
+            ap (option_and_then (λ (v : Vehicle). find_passenger z v.aboard.items)) (sym found_x) ∙ kept.state.consistent.aboard own.x.id z ∙ ap (option_and_then (seat_in own.x.id)) found ∙ rw (e, eq-eqb u own.x.id same) refl in
+            let place = found_at (λ (p : Passenger). p.rider) z own.x.aboard.items (passenger_of r) at_z in
+            let name : get_or (map (λ (p : Passenger). p.rider) own.x.aboard.items) place.0 0 ≡ z =
+            get_or-map (λ (p : Passenger). p.rider) own.x.aboard.items place.0 (record { rider = 0; origin = 0; destination = 0; time = 0; party = 0 }) 0 place.1 ∙ ap (λ (p : Passenger). p.rider) (place.2 (record { rider = 0; origin = 0; destination = 0; time = 0; party = 0 })) ∙ found_id z s.riders r found in
+            ap (λ z. calls_of z own.t.stops.items) (sym name) ∙ passenger_calls settings roads s stops b settled points times kept shows early limits table planned good k own.within own.x own.at own.t own.is place.0 place.1
+        by Cancelled e = tt
+        by Delivered e = tt
+        by Expired e = tt
+
+    items_calls : (z : ℕ) (q : BookRider) → find_rider z riders' ≡ Some q → HasCalls own.x.id q.status (calls_of z own.t.stops.items)
+    items_calls z q e = by (find_rider z s.riders) refl (sym (find_planned z) ∙ e)
+      where
+        with_r : (r : BookRider) → find_rider z s.riders ≡ Some r → (o : Bool) → (is_active r.status && in_batch b.riders r.id) ≡ o → cond o (with_status (planned_status (picks planned.chosen) r.id) r) r ≡ q → HasCalls own.x.id q.status (calls_of z own.t.stops.items)
+        with_r r f true g h = subst (λ (q : BookRider). HasCalls own.x.id q.status (calls_of z own.t.stops.items)) h (batch_calls z r f (and_parts (is_active r.status) (in_batch b.riders r.id) g).1)
+        with_r r f false g h = subst (λ (q : BookRider). HasCalls own.x.id q.status (calls_of z own.t.stops.items)) h (other_status_calls z r f g)
+
+        by : (o : Option BookRider) → find_rider z s.riders ≡ o → option_map (after_plan b.riders (picks planned.chosen)) o ≡ Some q → HasCalls own.x.id q.status (calls_of z own.t.stops.items)
+        by None f g = absurd cc
+        by (Some r) f g = with_r r f (is_active r.status && in_batch b.riders r.id) refl (let h : Some (after_plan b.riders (picks planned.chosen) r) ≡ Some q = g in cc)
+
+    few_items : length own.t.stops.items ≤ 2 * settings.trip + length own.x.aboard.items
+    few_items =
+        let a : length own.t.stops.items ≡ length own.is.stops = ap length own.is.told ∙ told_length roads points times table riders' settled.dwell vis told own.is.stops (vehicle_at settled k).start (vehicle_at settled k).ready in
+        let legs : length (map (λ r. (rider_at settled r).leg) trip) ≡ length trip = length-map trip (λ r. (rider_at settled r).leg) in
+        let size = (trip_is settings roads s stops b settled points times kept shows early limits table planned good k own.is.row own.within own.is.chooses).1 in
+        let row = row_of settings roads s stops b settled points times kept shows early limits table planned good k own.is.row own.within own.is.chooses in
+        let six = (good.exact.good.rows own.is.row row.within).few in
+        let l : length own.is.stops ≤ length (map (λ r. (rider_at settled r).leg) trip) * 2 + length (vehicle_at settled k).aboard.items = length-IsOrder (length (map (λ r. (rider_at settled r).leg) trip)) (length (vehicle_at settled k).aboard.items) own.is.stops (omega (arith, six, legs)) own.is.serves.order in
+        let c : length (vehicle_at settled k).aboard.items ≡ length own.x.aboard.items = placed.aboard.count in
+        omega (arith, a, legs, size, l, c)
+
+    -- the vehicle serves the stops that the plan gives it
+    pub serves_chosen : IsServing settings roads riders' own.x own.x.time own.t.stops.items
+    serves_chosen =
+        let found_x = vehicle_found settings roads s stops b settled points times kept shows early limits table k own.x own.at in
+        let ready : (vehicle_at settled k).ready ≡ own.x.time = (let a : (vehicle_at settled k).ready ≡ max own.x.time b.sealed_at = placed.ready in let e = early own.x.id own.x found_x in omega (arith, a, e)) in
+        let dwell : settled.dwell ≡ settings.dwell = limits.dwell in
+        let items : own.t.stops.items ≡ told_from roads points times table riders' settled.dwell vis told (vehicle_at settled k).start (vehicle_at settled k).ready own.is.stops = own.is.told in
+        let room : free_seats task ≡ own.x.seats - persons_aboard own.x =
+        (let a : persons (vehicle_at settled k).aboard.items ≡ persons_aboard own.x = same_persons (vehicle_at settled k).aboard.items own.x.aboard.items placed.aboard.count (λ k p e. (placed.aboard.each k p e).size) in
+        let c : (vehicle_at settled k).seats ≡ own.x.seats = placed.seats in
+        ap (λ n. n - persons (vehicle_at settled k).aboard.items) c ∙ ap (λ n. own.x.seats - n) a) in
+        let reached : AreReached roads settled.dwell own.x.node (vehicle_at settled k).ready own.t.stops.items =
+        subst (AreReached roads settled.dwell own.x.node (vehicle_at settled k).ready) (sym items) (told_reached roads points times table riders' settled.dwell vis told own.is.stops (vehicle_at settled k).start own.x.node (vehicle_at settled k).ready (free_seats task) are_told placed.start own.is.serves.in_time) in
+        let seats : HasSeatsFor riders' (free_seats task) own.t.stops.items =
+        subst (HasSeatsFor riders' (free_seats task)) (sym items) (told_seats roads points times table riders' settled.dwell vis told own.is.stops (vehicle_at settled k).start (vehicle_at settled k).ready (free_seats task) are_told own.is.serves.in_time) in
+        record {
+          reached = subst (λ d. AreReached roads d own.x.node own.x.time own.t.stops.items) dwell (subst (λ f. AreReached roads settled.dwell own.x.node f own.t.stops.items) ready reached);
+          seats = subst (λ n. HasSeatsFor riders' n own.t.stops.items) room seats;
+          right = items_right;
+          calls = items_calls;
+          few = few_items;
+        }

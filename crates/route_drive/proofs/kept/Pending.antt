@@ -1,0 +1,144 @@
+-- What is entered of a vehicle before a seal, command by command.
+use Rattle.std.proofs.Common.{◌≡◌, ◌⊎◌, ℕ, ◌+◌, ◌<◌, ◌≤◌, true, false, cond, leb, ltb, List, [], ◌∷◌, ◌++◌, map, Option, Some, refl, sym, ap, ◌∙◌, subst, arith, inl, inr}
+use Rattle.std.specs.List.{AllByRecursion}
+use Rattle.std.proofs.lemmas.Bool.{cases_Bool, cases_lt, lt-ltb, le-ltb, le-leb, lt-leb}
+use Rattle.batch_snapshot.specs.declared.vehicle.Vehicle.{Vehicle}
+use Rattle.request_book.specs.Consistent.{IsNode}
+use Rattle.request_book.specs.State.{find_rider, find_vehicle}
+use Rattle.request_book.specs.Step.{step}
+use Rattle.request_book.specs.declared.command.Command.{Command}
+use Rattle.request_book.specs.declared.command.Command.TheVariants.{Report}
+use Rattle.request_book.specs.declared.outcome.PlannedStop.{PlannedStop}
+use Rattle.request_book.specs.declared.reply.Reply.{Reply}
+use Rattle.request_book.specs.declared.reply.Reply.TheVariants.{Placed, Picked, Dropped}
+use Rattle.request_book.specs.declared.rider.BookRider.{BookRider}
+use Rattle.request_book.specs.declared.state.State.{State}
+use Rattle.request_book.proofs.lemmas.KeyedLemmas.{All-look_up}
+use Rattle.rider_limits.specs.declared.settings.Settings.{Settings}
+use Rattle.road_network.specs.Roads.{Roads, IsNetwork, has_node}
+use Rattle.route_drive.specs.declared.course.Place.{Place}
+use Rattle.route_drive.specs.Entering.{IsReported, due, goal_of, standing_after, stop_command, to_come}
+use Rattle.route_drive.specs.work.Serving.{AreReached, IsRightStop, IsServing, IsDayState, IsDone}
+use Rattle.route_drive.proofs.kept.Lists.{takes, skips, all_weaker, both}
+use Rattle.route_drive.proofs.kept.Enter.{picked_up_right, dropped_right}
+use Rattle.route_drive.proofs.kept.Keeping.{OneKeeps, report_one, stop_one}
+use Rattle.route_drive.proofs.kept.States.{vehicle_id}
+use Rattle.route_drive.proofs.kept.Laws.{stops_are_answered, reports_are_served}
+
+-- what is to be entered of a vehicle: its stops that are due, and then its report; or nothing more
+pub data IsPending (settings : Settings) (roads : Roads) (now : ℕ) (riders : List BookRider) (v : Vehicle) (target : Option ℕ) (commands : List Command) (left : List PlannedStop) : Type 0 where
+  waits : (free : ℕ) (stops : List PlannedStop) (there : Place) → v.time ≤ free → IsServing settings roads riders v free stops
+      → IsReported roads now (standing_after settings.dwell (record { node = v.node; second = v.time; free = free }) (due now stops)) (goal_of target (to_come now stops)) there
+      → commands ≡ map (stop_command v.id) (due now stops) ++ Report v.id there.node there.second ∷ [] → left ≡ to_come now stops
+      → IsPending settings roads now riders v target commands left
+  over : now ≤ v.time → IsServing settings roads riders v v.time left → AllByRecursion (λ stop. now < stop.second) left → commands ≡ [] → IsPending settings roads now riders v target commands left
+
+-- where the first stop is later, all are
+all_later : (roads : Roads) (dwell now node free : ℕ) (stops : List PlannedStop) → now < free → AreReached roads dwell node free stops → AllByRecursion (λ stop. now < stop.second) stops
+all_later roads dwell now node free [] late reached = tt
+all_later roads dwell now node free (stop ∷ stops) late reached =
+    let e : stop.second ≡ free + reached.0.seconds = reached.0.reached in
+    (omega (arith, e, late), all_later roads dwell now stop.node (stop.second + dwell) stops (omega (arith, e, late)) reached.1)
+
+later_from : (roads : Roads) (dwell now node free : ℕ) (stop : PlannedStop) (stops : List PlannedStop) → now < stop.second → AreReached roads dwell node free (stop ∷ stops) → AllByRecursion (λ stop. now < stop.second) (stop ∷ stops)
+later_from roads dwell now node free stop stops late reached = (late, all_later roads dwell now stop.node (stop.second + dwell) stops (omega (arith, late)) reached.1)
+
+none_due : (now : ℕ) (stops : List PlannedStop) → AllByRecursion (λ stop. now < stop.second) stops → (due now stops ≡ []) × (to_come now stops ≡ stops)
+none_due now [] all = (refl, refl)
+none_due now (stop ∷ stops) all =
+    let rest = none_due now stops all.1 in (
+      skips (λ (stop : PlannedStop). leb stop.second now) stop stops (lt-leb stop.second now all.0) ∙ rest.0,
+      takes (λ (stop : PlannedStop). ltb now stop.second) stop stops (lt-ltb now stop.second all.0) ∙ ap (λ ss. stop ∷ ss) rest.1,
+    )
+
+first_due : (now : ℕ) (stop : PlannedStop) (stops : List PlannedStop) → stop.second ≤ now → (due now (stop ∷ stops) ≡ stop ∷ due now stops) × (to_come now (stop ∷ stops) ≡ to_come now stops)
+first_due now stop stops le = (
+  takes (λ (stop : PlannedStop). leb stop.second now) stop stops (le-leb stop.second now le),
+  skips (λ (stop : PlannedStop). ltb now stop.second) stop stops (le-ltb now stop.second le),
+)
+
+module _ (settings : Settings) (roads : Roads) (net : IsNetwork roads) (now : ℕ) (s : State) (day : IsDayState roads s) where
+  -- the stops of a vehicle are nodes of the network
+  stops_named : (v : ℕ) (stops : List PlannedStop) → AllByRecursion (IsRightStop settings roads s.riders v) stops → AllByRecursion (λ (stop : PlannedStop). has_node roads.nodes stop.node ≡ true) stops
+  stops_named v stops right = all_weaker (IsRightStop settings roads s.riders v) (λ (stop : PlannedStop). has_node roads.nodes stop.node ≡ true) (λ stop own. by stop own (cases_Bool stop.pick)) stops right
+    where
+      named : (x : ℕ) (r : BookRider) → find_rider x s.riders ≡ Some r → IsNode roads.nodes r.origin × IsNode roads.nodes r.destination
+      named x r found = All-look_up (λ (r : BookRider). r.id) (λ (r : BookRider). IsNode roads.nodes r.origin × IsNode roads.nodes r.destination) x s.riders r day.named.riders found
+
+      by : (stop : PlannedStop) → IsRightStop settings roads s.riders v stop → (stop.pick ≡ true) ⊎ (stop.pick ≡ false) → has_node roads.nodes stop.node ≡ true
+      by stop own (inl pick) = let right = picked_up_right settings roads s.riders v stop pick own in subst (λ n. has_node roads.nodes n ≡ true) (sym right.node) (named stop.rider right.rider right.found).0
+      by stop own (inr drop) = let right = dropped_right settings roads s.riders v stop drop own in subst (λ n. has_node roads.nodes n ≡ true) (sym right.node) (named stop.rider right.rider right.found).1
+
+  -- the first of a vehicle's commands is answered, and leaves the others to be entered
+  pub record IsEnteredOne (v : Vehicle) (target : Option ℕ) (command : Command) (commands : List Command) (left : List PlannedStop) : Type 0 where
+    pub reply : Reply
+    pub node : ℕ
+    pub time : ℕ
+    pub free : ℕ
+    pub stops : List PlannedStop
+    pub done : IsDone settings roads s command reply v.id node time free stops
+    pub keeps : OneKeeps settings roads s command (step roads.nodes settings.wait s command).1
+    pub pending : IsPending settings roads now done.t.riders done.own.v target commands left
+
+  report_next : (v : Vehicle) (free : ℕ) (target : Option ℕ) (stops : List PlannedStop) (there : Place) (command : Command) (commands : List Command) (left : List PlannedStop)
+      → find_vehicle v.id s.vehicles ≡ Some v → v.time ≤ free → IsServing settings roads s.riders v free stops → AllByRecursion (λ stop. now < stop.second) stops
+      → IsReported roads now (standing_after settings.dwell (record { node = v.node; second = v.time; free = free }) (due now stops)) (goal_of target (to_come now stops)) there
+      → command ∷ commands ≡ map (stop_command v.id) (due now stops) ++ Report v.id there.node there.second ∷ [] → left ≡ to_come now stops
+      → IsEnteredOne v target command commands left
+  report_next v free target stops there command commands left at early serves later reported told left_is =
+      let none = none_due now stops later in
+      let here : has_node roads.nodes v.node ≡ true = All-look_up (λ (v : Vehicle). v.id) (λ (v : Vehicle). IsNode roads.nodes v.node) v.id s.vehicles v day.named.vehicles at in
+      let is : IsReported roads now (record { node = v.node; second = v.time; free = free }) (goal_of target stops) there =
+      subst (λ ss. IsReported roads now (record { node = v.node; second = v.time; free = free }) (goal_of target ss) there) none.1
+      (subst (λ ds. IsReported roads now (standing_after settings.dwell (record { node = v.node; second = v.time; free = free }) ds) (goal_of target (to_come now stops)) there) none.0 reported) in
+      let served = reports_are_served settings roads s v free now target stops there net day at here early
+      (both (λ (stop : PlannedStop). has_node roads.nodes stop.node ≡ true) (λ stop. now < stop.second) stops (stops_named v.id stops serves.right) later) serves is in
+      let done = served.1 in
+      let line : command ∷ commands ≡ Report v.id there.node there.second ∷ [] = told ∙ ap (λ ds. map (stop_command v.id) ds ++ Report v.id there.node there.second ∷ []) none.0 in
+      let one : Report v.id there.node there.second ≡ command = cc in
+      let rest : commands ≡ [] = cc in
+      let by : done.own.v.time ≡ there.second = done.own.by in
+      let same : stops ≡ left = sym (left_is ∙ none.1) in
+      subst (λ command. IsEnteredOne v target command commands left) one (record {
+        reply = Placed;
+        node = there.node;
+        time = there.second;
+        free = there.second;
+        stops = stops;
+        done = done;
+        keeps = report_one settings roads s v.id there.node there.second v.id there.node there.second there.second stops day done;
+        pending = subst (IsPending settings roads now done.t.riders done.own.v target commands) same (IsPending.over (let h = served.0 in omega (arith, h, by)) (subst (λ f. IsServing settings roads done.t.riders done.own.v f stops) (sym by) done.own.serves) later rest);
+      })
+
+  pub entered_next : (v : Vehicle) (target : Option ℕ) (command : Command) (commands : List Command) (left : List PlannedStop) → find_vehicle v.id s.vehicles ≡ Some v
+      → IsPending settings roads now s.riders v target (command ∷ commands) left → IsEnteredOne v target command commands left
+  entered_next v target command commands left at (IsPending.over by serves later none) = absurd cc
+  entered_next v target command commands left at (IsPending.waits free [] there early serves reported told left_is) = report_next v free target [] there command commands left at early serves tt reported told left_is
+  entered_next v target command commands left at (IsPending.waits free (stop ∷ stops) there early serves reported told left_is) = elim (cases_lt now stop.second) [
+    | inl late ↦ report_next v free target (stop ∷ stops) there command commands left at early serves (later_from roads settings.dwell now v.node free stop stops late serves.reached) reported told left_is
+    | inr le ↦
+        let first = first_due now stop stops le in
+        let done = stops_are_answered settings roads s v free stop stops day at early serves in
+        let line : command ∷ commands ≡ stop_command v.id stop ∷ (map (stop_command v.id) (due now stops) ++ Report v.id there.node there.second ∷ []) = told ∙ ap (λ ds. map (stop_command v.id) ds ++ Report v.id there.node there.second ∷ []) first.0 in
+        let one : stop_command v.id stop ≡ command = cc in
+        let rest : commands ≡ map (stop_command v.id) (due now stops) ++ Report v.id there.node there.second ∷ [] = cc in
+        let is : IsReported roads now (standing_after settings.dwell (record { node = stop.node; second = stop.second; free = stop.second + settings.dwell }) (due now stops)) (goal_of target (to_come now stops)) there =
+        subst (λ ss. IsReported roads now (standing_after settings.dwell (record { node = stop.node; second = stop.second; free = stop.second + settings.dwell }) (due now stops)) (goal_of target ss) there) first.1
+        (subst (λ ds. IsReported roads now (standing_after settings.dwell (record { node = v.node; second = v.time; free = free }) ds) (goal_of target (to_come now (stop ∷ stops))) there) first.0 reported) in
+        let there_is : IsReported roads now (standing_after settings.dwell (record { node = done.own.v.node; second = done.own.v.time; free = stop.second + settings.dwell }) (due now stops)) (goal_of target (to_come now stops)) there =
+        subst (λ n. IsReported roads now (standing_after settings.dwell (record { node = n; second = done.own.v.time; free = stop.second + settings.dwell }) (due now stops)) (goal_of target (to_come now stops)) there) (sym done.own.there)
+        (subst (λ t. IsReported roads now (standing_after settings.dwell (record { node = stop.node; second = t; free = stop.second + settings.dwell }) (due now stops)) (goal_of target (to_come now stops)) there) (sym done.own.by) is) in
+        let by : done.own.v.time ≡ stop.second = done.own.by in
+        let id : done.own.v.id ≡ v.id = vehicle_id v.id done.t.vehicles done.own.v done.own.at in
+        subst (λ command. IsEnteredOne v target command commands left) one (record {
+          reply = cond stop.pick Picked Dropped;
+          node = stop.node;
+          time = stop.second;
+          free = stop.second + settings.dwell;
+          stops = stops;
+          done = done;
+          keeps = stop_one settings roads s v.id v.id stop.node stop.second (stop.second + settings.dwell) stop stops day serves.right.0 done;
+          pending = IsPending.waits (stop.second + settings.dwell) stops there (omega (arith, by)) done.own.serves there_is
+              (rest ∙ ap (λ n. map (stop_command n) (due now stops) ++ Report n there.node there.second ∷ []) (sym id)) (left_is ∙ first.1);
+        })
+  ]

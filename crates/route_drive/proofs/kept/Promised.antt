@@ -1,0 +1,99 @@
+-- A driven day keeps its promises.
+use Rattle.std.proofs.Common.{◌≡◌, ℕ, Bool, true, false, cond, eqb, List, [], ◌∷◌, ◌++◌, map, None, refl, sym, ap, ◌∙◌, subst}
+use Rattle.std.specs.Prelude.{All}
+use Rattle.std.proofs.lemmas.List.{length-map}
+use Rattle.batch_snapshot.specs.Kept.{IsFleet}
+use Rattle.batch_snapshot.specs.declared.vehicle.Vehicle.{Vehicle}
+use Rattle.request_book.specs.Book.{BookView, IsBook, opening}
+use Rattle.request_book.specs.Consistent.{IsNode}
+use Rattle.request_book.specs.Replay.{RepliesAreSteps, state_after}
+use Rattle.request_book.specs.declared.journal.Entry.{Entry}
+use Rattle.request_book.specs.declared.journal.Journal.{Journal}
+use Rattle.request_book.specs.declared.state.State.{State}
+use Rattle.request_book.proofs.lemmas.LawLemmas.{rounds-join}
+use Rattle.rider_limits.specs.declared.settings.Settings.{Settings}
+use Rattle.road_network.specs.Roads.{Roads, IsNetwork}
+use Rattle.script_rows.specs.Round.{IsRound, NumberedLanes, empty_round}
+use Rattle.dispatch_engine.specs.Run.{IsRun}
+use Rattle.route_drive.specs.declared.course.Course.{Course}
+use Rattle.route_drive.specs.declared.day_run.DayRound.{DayRound}
+use Rattle.route_drive.specs.Counts.{entries_of}
+use Rattle.route_drive.specs.Day.{day_fault}
+use Rattle.route_drive.specs.Driven.{HasDrivenToTheEnd, IsDrivenDay, IsNewBook, IsPrecededBy, at_rest, courses_from, first_courses, number_after}
+use Rattle.route_drive.specs.Entering.{left_commands}
+use Rattle.route_drive.specs.work.Kept.{course_of}
+use Rattle.route_drive.specs.Promises.{DaysKeep, EntriesKeep}
+use Rattle.route_drive.specs.work.Serving.{IsDayState, IsKept, IsServing}
+use Rattle.route_drive.proofs.kept.DayRounds.{AreDayRounds, are_day_rounds}
+use Rattle.route_drive.proofs.kept.Days.{AreOver, IsOnDay, rounds_over}
+use Rattle.route_drive.proofs.kept.Journals.{entries_in, entries_last, entries_made, journals_last}
+use Rattle.route_drive.proofs.kept.Keeping.{all_append, entries_keep}
+use Rattle.route_drive.proofs.kept.Laws.{opening_is_kept}
+use Rattle.route_drive.proofs.kept.Left.{AreDone, last_round}
+
+-- at first nothing is on its way
+at_rest_all : (vehicles : List Vehicle) (id : ℕ) → course_of vehicles (map (λ v. at_rest) vehicles) id ≡ at_rest
+at_rest_all [] id = refl
+at_rest_all (v ∷ vehicles) id = by (eqb v.id id) (at_rest_all vehicles id)
+  where
+    by : (b : Bool) → course_of vehicles (map (λ v. at_rest) vehicles) id ≡ at_rest → cond b at_rest (course_of vehicles (map (λ v. at_rest) vehicles) id) ≡ at_rest
+    by true e = refl
+    by false e = e
+
+module _ (settings : Settings) (roads : Roads) (net : IsNetwork roads) (vehicles : List Vehicle) (fleet : IsFleet vehicles) (named : All (λ v. IsNode roads.nodes v.node) vehicles) where
+  first_day : IsOnDay settings roads (opening vehicles) (first_courses settings roads (opening vehicles)) 0
+  first_day =
+      let kept : IsKept settings roads (opening vehicles) (λ id. []) = opening_is_kept settings roads vehicles fleet named in
+      record {
+        kept = record {
+          state = kept.state;
+          each = λ id v found. subst (λ (c : Course). IsServing settings roads [] v v.time c.stops.items) (sym (at_rest_all vehicles id)) (kept.each id v found);
+        };
+        each = length-map vehicles (λ v. at_rest);
+        closed = refl;
+        last = λ last e. absurd cc;
+      }
+
+  -- a day to its end
+  to_the_end : (rounds : List NumberedLanes) (made : List DayRound) → All IsRound rounds → day_fault rounds ≡ None → HasDrivenToTheEnd settings roads (opening vehicles) rounds made → EntriesKeep settings roads (opening vehicles) (entries_of made)
+  to_the_end rounds made whole day driven =
+      let days : AreDayRounds 0 rounds = are_day_rounds rounds whole day in
+      let s : State = opening vehicles in
+      let js : List Journal = map (λ (r : DayRound). r.journal) driven.first in
+      let courses : List Course = courses_from settings roads (opening vehicles) rounds driven.first in
+      let es : List Entry = driven.last.journal.entries in
+      let split : map (λ (r : DayRound). r.journal) made ≡ map (λ (r : DayRound). r.journal) driven.first ++ driven.last.journal ∷ [] = ap (map (λ (r : DayRound). r.journal)) driven.parts ∙ journals_last driven.first driven.last in
+      let over : AreOver settings roads (opening vehicles) (first_courses settings roads (opening vehicles)) rounds (map (λ (r : DayRound). r.journal) driven.first) driven.end driven.last.journal =
+      rounds_over settings roads rounds driven.script (map (λ (r : DayRound). r.journal) driven.first) driven.end driven.last.journal (opening vehicles) 0 0 (first_courses settings roads (opening vehicles)) net first_day days driven.driven
+      (subst (IsRun settings roads (opening vehicles) 0 (driven.script ++ driven.end ∷ [])) split driven.run) in
+      let t : State = state_after roads.nodes settings.wait (opening vehicles) (entries_in js) in
+      let done : AreDone settings roads t es =
+      last_round settings roads t courses (number_after rounds) driven.end driven.last.journal over.on.kept
+      (subst (λ (t : State). IsPrecededBy (left_commands t.vehicles courses) (empty_round (number_after rounds)) driven.end) over.base driven.left)
+      (subst (λ (t : State). RepliesAreSteps roads.nodes settings.wait t es) over.base over.run.replies) over.run.lanes in
+      let those : entries_of made ≡ entries_in js ++ es =
+      ap entries_of driven.parts ∙ entries_last driven.first driven.last ∙ ap (λ l. l ++ es) (entries_made driven.first) in
+      let end : IsDayState roads (state_after roads.nodes settings.wait (opening vehicles) (entries_in js ++ es)) =
+      subst (IsDayState roads) (sym (rounds-join roads.nodes settings.wait (opening vehicles) (entries_in js) es)) done.state in
+      subst (EntriesKeep settings roads (opening vehicles)) (sym those)
+      (entries_keep settings roads (entries_in js ++ es) (opening vehicles) (all_append settings roads (entries_in js) es (opening vehicles) over.all done.all) end.consistent.seats)
+
+  -- a day without a round
+  no_round : (made : List DayRound) → made ≡ [] → EntriesKeep settings roads (opening vehicles) (entries_of made)
+  unfolding state_after
+  no_round made none =
+      let kept : IsKept settings roads (opening vehicles) (λ id. []) = opening_is_kept settings roads vehicles fleet named in
+      subst (λ m. EntriesKeep settings roads (opening vehicles) (entries_of m)) (sym none) (entries_keep settings roads [] (opening vehicles) tt kept.state.consistent.seats)
+
+pub days_keep : DaysKeep
+days_keep settings roads vehicles [] made net fleet named whole day driven = no_round settings roads net vehicles fleet named made driven
+days_keep settings roads vehicles (round ∷ rounds) made net fleet named whole day driven = to_the_end settings roads net vehicles fleet named (round ∷ rounds) made whole day driven
+
+-- what is driven from a new book keeps its promises
+pub new_book_keeps : (settings : Settings) (roads : Roads) (book : BookView) (rounds : List NumberedLanes) (made : List DayRound) → IsNewBook settings roads book → IsBook book → IsNetwork roads → All IsRound rounds
+    → day_fault rounds ≡ None → IsDrivenDay settings roads book.state rounds made → EntriesKeep settings roads book.state (entries_of made)
+new_book_keeps settings roads book rounds made new is net whole day driven =
+    let named : All (λ (v : Vehicle). IsNode roads.nodes v.node) book.state.vehicles = subst (λ nodes. All (λ (v : Vehicle). IsNode nodes v.node) book.state.vehicles) new.nodes is.named.vehicles in
+    let there : All (λ (v : Vehicle). IsNode roads.nodes v.node) new.vehicles = subst (λ (s : State). All (λ (v : Vehicle). IsNode roads.nodes v.node) s.vehicles) new.state named in
+    subst (λ (s : State). EntriesKeep settings roads s (entries_of made)) (sym new.state)
+    (days_keep settings roads new.vehicles rounds made net new.fleet there whole day (subst (λ (s : State). IsDrivenDay settings roads s rounds made) new.state driven))

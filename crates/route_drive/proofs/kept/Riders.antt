@@ -1,0 +1,155 @@
+-- What a change of one rider's status, or of one vehicle, leaves.
+use Rattle.std.proofs.Common.{◌≡◌, ◌⊎◌, ℕ, ◌-◌, ◌≤◌, Bool, true, false, List, [], ◌∷◌, map, Option, Some, None, refl, sym, ap, ◌∙◌, subst, arith, inl, inr}
+use Rattle.std.specs.Prelude.{option_map, MatchBool}
+use Rattle.std.specs.List.{AllByRecursion}
+use Rattle.std.specs.Option.{option_map_or}
+use Rattle.std.proofs.lemmas.Bool.{cases_Bool, cases_eq, eq-eqb, ne_eqb, MatchBool-at_true, MatchBool-at_false}
+use Rattle.batch_snapshot.specs.Vehicle.{persons_aboard}
+use Rattle.batch_snapshot.specs.declared.vehicle.Vehicle.{Vehicle}
+use Rattle.request_book.specs.Keyed.{changed_at}
+use Rattle.request_book.specs.Rider.{with_status}
+use Rattle.request_book.specs.State.{find_rider}
+use Rattle.request_book.specs.declared.outcome.PlannedStop.{PlannedStop}
+use Rattle.request_book.specs.declared.rider.BookRider.{BookRider}
+use Rattle.request_book.specs.declared.rider.Status.{Status}
+use Rattle.request_book.specs.declared.rider.Status.TheVariants.{Waiting, Promised, Aboard, Cancelled, Delivered, Expired}
+use Rattle.request_book.proofs.lemmas.KeyedLemmas.{look_up-key, look_up-changed_here, look_up-changed_there}
+use Rattle.rider_limits.specs.declared.settings.Settings.{Settings}
+use Rattle.road_network.specs.Roads.{Roads}
+use Rattle.route_drive.specs.work.Serving.{party_at, seats_after, HasSeatsFor, IsRightPickup, IsRightDropoff, IsRightStop, IsOfVehicle, is_stop_of, calls_of, HasCalls, IsServing}
+use Rattle.route_drive.proofs.kept.Lists.{skips, takes, all_weaker}
+
+-- what is found has the id that was looked for
+pub found_id : (x : ℕ) (riders : List BookRider) (r : BookRider) → find_rider x riders ≡ Some r → r.id ≡ x
+found_id x riders r e = look_up-key (λ (r : BookRider). r.id) x riders r e
+
+-- what one rider's status leaves of the riders
+module _ (riders : List BookRider) (x : ℕ) (status : Status) where
+  abbrev pub changed : List BookRider
+  changed = changed_at (λ r. r.id) x (with_status status) riders
+
+  pub find_other : (y : ℕ) → (x ≡ y → ⊥) → find_rider y changed ≡ find_rider y riders
+  find_other y ne = look_up-changed_there (λ (r : BookRider). r.id) x y (with_status status) (λ r. refl) riders ne
+
+  pub find_same : (r : BookRider) → find_rider x riders ≡ Some r → find_rider x changed ≡ Some (with_status status r)
+  find_same r e = look_up-changed_here (λ (r : BookRider). r.id) x (with_status status) (λ r. refl) riders ∙ ap (option_map (with_status status)) e
+
+  pub same_party : (stop : PlannedStop) → party_at changed stop ≡ party_at riders stop
+  same_party stop = elim (cases_eq x stop.rider) [
+    | inl e ↦ subst (λ k. option_map_or (λ (r : BookRider). r.party) (find_rider k changed) 0 ≡ option_map_or (λ (r : BookRider). r.party) (find_rider k riders) 0) e
+        (ap (λ o. option_map_or (λ (r : BookRider). r.party) o 0) (look_up-changed_here (λ (r : BookRider). r.id) x (with_status status) (λ r. refl) riders) ∙ by (find_rider x riders))
+    | inr ne ↦ ap (λ o. option_map_or (λ (r : BookRider). r.party) o 0) (find_other stop.rider ne)
+  ]
+    where
+      by : (o : Option BookRider) → option_map_or (λ (r : BookRider). r.party) (option_map (with_status status) o) 0 ≡ option_map_or (λ (r : BookRider). r.party) o 0
+      by None = refl
+      by (Some r) = refl
+
+-- seats depend on the parties alone, and more room is room enough
+pub seats_by_party : (riders others : List BookRider) (room more : ℕ) → room ≤ more → (stops : List PlannedStop) → AllByRecursion (λ stop. party_at others stop ≡ party_at riders stop) stops
+    → HasSeatsFor riders room stops → HasSeatsFor others more stops
+seats_by_party riders others room more le [] same has = tt
+seats_by_party riders others room more le (stop ∷ stops) same has = (
+  λ pick. let h : party_at riders stop ≤ room = has.0 pick in let e : party_at others stop ≡ party_at riders stop = same.0 in omega arith,
+  seats_by_party riders others (seats_after riders stop room) (seats_after others stop more) (on (cases_Bool stop.pick)) stops same.1 has.1,
+)
+  where
+    on : (stop.pick ≡ true) ⊎ (stop.pick ≡ false) → seats_after riders stop room ≤ seats_after others stop more
+    on (inl e) = let p : party_at others stop ≡ party_at riders stop = same.0 in rw e (omega (arith, p, le))
+    on (inr e) = let p : party_at others stop ≡ party_at riders stop = same.0 in rw e (omega (arith, p, le))
+
+-- a party is read by who is found
+pub party_by_found : (riders others : List BookRider) (stop : PlannedStop) → find_rider stop.rider others ≡ find_rider stop.rider riders → party_at others stop ≡ party_at riders stop
+party_by_found riders others stop e = ap (λ o. option_map_or (λ (r : BookRider). r.party) o 0) e
+
+-- a rider's calls at the front of the stops
+pub calls_own : (x : ℕ) (stop : PlannedStop) (stops : List PlannedStop) → stop.rider ≡ x → calls_of x (stop ∷ stops) ≡ stop.pick ∷ calls_of x stops
+calls_own x stop stops e = ap (map (λ (s : PlannedStop). s.pick)) (takes (is_stop_of x) stop stops (eq-eqb stop.rider x e))
+
+pub calls_other : (x : ℕ) (stop : PlannedStop) (stops : List PlannedStop) → (stop.rider ≡ x → ⊥) → calls_of x (stop ∷ stops) ≡ calls_of x stops
+calls_other x stop stops ne = ap (map (λ (s : PlannedStop). s.pick)) (skips (is_stop_of x) stop stops (ne_eqb stop.rider x ne))
+
+-- where none of a rider's calls is a pickup, none of the stops is a pickup of theirs
+pub no_pickup : (x : ℕ) (stops : List PlannedStop) → AllByRecursion (λ b. b ≡ false) (calls_of x stops) → AllByRecursion (λ (s : PlannedStop). s.rider ≡ x → s.pick ≡ false) stops
+no_pickup x [] all = tt
+no_pickup x (stop ∷ stops) all = elim (cases_eq stop.rider x) [
+  | inl e ↦ let own = subst (λ bs. AllByRecursion (λ b. b ≡ false) bs) (calls_own x stop stops e) all in ((λ same. own.0), no_pickup x stops own.1)
+  | inr ne ↦ ((λ same. absurd (ne same)), no_pickup x stops (subst (λ bs. AllByRecursion (λ b. b ≡ false) bs) (calls_other x stop stops ne) all))
+]
+
+pub no_stop : (x : ℕ) (stops : List PlannedStop) → calls_of x stops ≡ [] → AllByRecursion (λ (s : PlannedStop). s.rider ≡ x → ⊥) stops
+no_stop x [] none = tt
+no_stop x (stop ∷ stops) none = elim (cases_eq stop.rider x) [
+  | inl e ↦ absurd (let own : stop.pick ∷ calls_of x stops ≡ [] = sym (calls_own x stop stops e) ∙ none in cc)
+  | inr ne ↦ (ne, no_stop x stops (sym (calls_other x stop stops ne) ∙ none))
+]
+
+-- a status of no vehicle, or of another one
+pub of_one : (v w : ℕ) (status : Status) → IsOfVehicle v status → IsOfVehicle w status → v ≡ w
+of_one v w Waiting h k = absurd h
+of_one v w (Promised p) h k = sym h ∙ k
+of_one v w (Aboard u) h k = sym h ∙ k
+of_one v w Cancelled h k = absurd h
+of_one v w Delivered h k = absurd h
+of_one v w Expired h k = absurd h
+
+-- without calls of their own a rider of another vehicle asks for none
+pub calls_of_others : (w : ℕ) (status : Status) (calls : List Bool) → (IsOfVehicle w status → ⊥) → HasCalls w status calls
+calls_of_others w Waiting calls not = tt
+calls_of_others w (Promised p) calls not = λ e. absurd (not e)
+calls_of_others w (Aboard u) calls not = λ e. absurd (not e)
+calls_of_others w Cancelled calls not = tt
+calls_of_others w Delivered calls not = tt
+calls_of_others w Expired calls not = tt
+
+-- a right stop is of a rider of the vehicle
+pub stop_of_vehicle : (settings : Settings) (roads : Roads) (riders : List BookRider) (w : ℕ) (stop : PlannedStop) → IsRightStop settings roads riders w stop
+    → (r : BookRider) × (find_rider stop.rider riders ≡ Some r) × IsOfVehicle w r.status
+stop_of_vehicle settings roads riders w stop right = by (cases_Bool stop.pick)
+  where
+    by : (stop.pick ≡ true) ⊎ (stop.pick ≡ false) → (r : BookRider) × (find_rider stop.rider riders ≡ Some r) × IsOfVehicle w r.status
+    by (inl e) =
+        let own = MatchBool-at_true (IsRightPickup settings.wait riders w stop) (IsRightDropoff roads settings.delay riders w stop) e right in
+        (own.rider, own.found, subst (IsOfVehicle w) (sym own.status) refl)
+    by (inr e) =
+        let own = MatchBool-at_false (IsRightPickup settings.wait riders w stop) (IsRightDropoff roads settings.delay riders w stop) e right in
+        (own.rider, own.found, own.own)
+
+-- a right stop stays so where its rider is found as before
+pub right_elsewhere : (settings : Settings) (roads : Roads) (riders others : List BookRider) (w : ℕ) (stop : PlannedStop) → find_rider stop.rider others ≡ find_rider stop.rider riders
+    → IsRightStop settings roads riders w stop → IsRightStop settings roads others w stop
+right_elsewhere settings roads riders others w stop same right = by stop.pick refl right
+  where
+    by : (b : Bool) → stop.pick ≡ b → MatchBool b (IsRightPickup settings.wait riders w stop) (IsRightDropoff roads settings.delay riders w stop) → IsRightStop settings roads others w stop
+    by true e own = rw e (record { rider = own.rider; found = same ∙ own.found; status = own.status; node = own.node; in_time = own.in_time })
+    by false e own = rw e (record { rider = own.rider; found = same ∙ own.found; own = own.own; node = own.node; in_time = own.in_time })
+
+-- a status is of the vehicle, or isn't
+pub cases_of : (w : ℕ) (status : Status) → IsOfVehicle w status ⊎ (IsOfVehicle w status → ⊥)
+cases_of w Waiting = inr (λ h. h)
+cases_of w (Promised p) = cases_eq p.vehicle w
+cases_of w (Aboard u) = cases_eq u w
+cases_of w Cancelled = inr (λ h. h)
+cases_of w Delivered = inr (λ h. h)
+cases_of w Expired = inr (λ h. h)
+
+-- a vehicle goes on serving where the riders of its stops are found as before, and nobody else is of the vehicle
+pub serves_elsewhere : (settings : Settings) (roads : Roads) (riders others : List BookRider) (w : Vehicle) (free : ℕ) (stops : List PlannedStop)
+    → ((x : ℕ) (r : BookRider) → find_rider x riders ≡ Some r → IsOfVehicle w.id r.status → find_rider x others ≡ find_rider x riders)
+    → ((x : ℕ) (r : BookRider) → find_rider x others ≡ Some r → IsOfVehicle w.id r.status → find_rider x riders ≡ Some r)
+    → IsServing settings roads riders w free stops → IsServing settings roads others w free stops
+serves_elsewhere settings roads riders others w free stops there back serves = record {
+  reached = serves.reached;
+  seats = seats_by_party riders others (w.seats - persons_aboard w) (w.seats - persons_aboard w) (omega arith) stops
+      (all_weaker (IsRightStop settings roads riders w.id) (λ stop. party_at others stop ≡ party_at riders stop) (λ stop right. party_by_found riders others stop (same stop right)) stops serves.right) serves.seats;
+  right = all_weaker (IsRightStop settings roads riders w.id) (IsRightStop settings roads others w.id) (λ stop right. right_elsewhere settings roads riders others w.id stop (same stop right) right) stops serves.right;
+  calls = λ x r found. by x r found (cases_of w.id r.status);
+  few = serves.few;
+}
+  where
+    same : (stop : PlannedStop) → IsRightStop settings roads riders w.id stop → find_rider stop.rider others ≡ find_rider stop.rider riders
+    same stop right = let own = stop_of_vehicle settings roads riders w.id stop right in there stop.rider own.0 own.1 own.2
+
+    by : (x : ℕ) (r : BookRider) → find_rider x others ≡ Some r → IsOfVehicle w.id r.status ⊎ (IsOfVehicle w.id r.status → ⊥) → HasCalls w.id r.status (calls_of x stops)
+    by x r found (inl own) = serves.calls x r (back x r found own)
+    by x r found (inr not) = calls_of_others w.id r.status (calls_of x stops) not

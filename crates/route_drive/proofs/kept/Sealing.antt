@@ -1,0 +1,234 @@
+-- Requests and seals: what they leave of the riders on a driven day, and whom the batch shows.
+use Rattle.std.proofs.Common.{◌≡◌, ◌⊎◌, ℕ, ◌+◌, ◌<◌, ◌≤◌, Bool, true, false, cond, leb, List, [], ◌∷◌, ◌++◌, map, Option, Some, None, refl, sym, ap, ◌∙◌, subst, arith, inl, inr}
+use Rattle.std.specs.Prelude.{option_map, option_and_then}
+use Rattle.std.specs.List.{AllByRecursion, filter_map}
+use Rattle.std.proofs.lemmas.Bool.{cases_eq, le-ltb, le-leb}
+use Rattle.batch_snapshot.specs.declared.promise.Promise.{Promise}
+use Rattle.batch_snapshot.specs.declared.rider.Rider.{Rider}
+use Rattle.batch_snapshot.specs.declared.vehicle.Vehicle.{Vehicle}
+use Rattle.request_book.specs.Consistent.{IsConsistent, NamesNodes}
+use Rattle.request_book.specs.Keyed.{look_up, by_key, KeysDiffer}
+use Rattle.request_book.specs.Rider.{with_status, shown, pool_promise}
+use Rattle.request_book.specs.Sealing.{is_over, after_seal, asking, batch_of, sealed_state}
+use Rattle.request_book.specs.State.{find_rider, find_vehicle}
+use Rattle.request_book.specs.Step.{step}
+use Rattle.request_book.specs.declared.command.Command.{Command}
+use Rattle.request_book.specs.declared.command.Command.TheVariants.{Submit, Seal}
+use Rattle.request_book.specs.declared.outcome.PlannedStop.{PlannedStop}
+use Rattle.request_book.specs.declared.reply.Reply.{Reply}
+use Rattle.request_book.specs.declared.rider.BookRider.{BookRider}
+use Rattle.request_book.specs.declared.rider.Status.{Status}
+use Rattle.request_book.specs.declared.rider.Status.TheVariants.{Waiting, Promised, Aboard, Cancelled, Delivered, Expired}
+use Rattle.request_book.specs.declared.state.State.{State}
+use Rattle.request_book.proofs.lemmas.BatchLemmas.{after_seal-id}
+use Rattle.request_book.proofs.lemmas.ConsistentLemmas.{step-consistent}
+use Rattle.request_book.proofs.lemmas.NamedLemmas.{step-named}
+use Rattle.request_book.proofs.lemmas.KeyedLemmas.{look_up-key, look_up-map, look_up-push_there, look_up-push_here, look_up-push_found, look_up-filter_map, by_key-order, KeysDiffer-map, KeysDiffer-filter_map}
+use Rattle.rider_limits.specs.declared.settings.Settings.{Settings}
+use Rattle.road_network.specs.Roads.{Roads}
+use Rattle.route_drive.specs.work.Serving.{IsOfVehicle, IsRightStop, IsServing, IsDayState, IsKept, HasCalls, calls_of}
+pub use Rattle.route_drive.specs.work.Serving.{LeavesAll, ShowsRiders}
+use Rattle.route_drive.proofs.kept.Lists.{both}
+use Rattle.route_drive.proofs.kept.Riders.{calls_own, calls_other, serves_elsewhere}
+use Rattle.route_drive.proofs.kept.Enter.{picked_up_right}
+use Rattle.route_drive.proofs.kept.Replies.{submit_is}
+use Rattle.route_drive.proofs.kept.States.{IsBoundBy, IsBound, KeepsBounds}
+
+not_waiting : (w : ℕ) (status : Status) → status ≡ Waiting → IsOfVehicle w status → ⊥
+not_waiting w status e own = subst (IsOfVehicle w) e own
+
+-- one more rider, who waits
+module _ (settings : Settings) (roads : Roads) (riders : List BookRider) (q : BookRider) (new : find_rider q.id riders ≡ None) (waits : q.status ≡ Waiting) where
+  more : List BookRider
+  more = riders ++ q ∷ []
+
+  pub still_found : (x : ℕ) (r : BookRider) → find_rider x riders ≡ Some r → find_rider x (riders ++ q ∷ []) ≡ Some r
+  still_found x r e = look_up-push_found (λ (r : BookRider). r.id) x q r riders e
+
+  pub found_before : (x : ℕ) (r : BookRider) → find_rider x (riders ++ q ∷ []) ≡ Some r → (r.status ≡ Waiting → ⊥) → find_rider x riders ≡ Some r
+  found_before x r e not = elim (cases_eq q.id x) [
+    | inl same ↦
+        let none : find_rider x riders ≡ None = subst (λ k. find_rider k riders ≡ None) same new in
+        let here = look_up-push_here (λ (r : BookRider). r.id) x q riders same none in
+        let is : q ≡ r = cc in
+        absurd (not (subst (λ (r : BookRider). r.status ≡ Waiting) is waits))
+    | inr ne ↦ sym (look_up-push_there (λ (r : BookRider). r.id) x q riders ne) ∙ e
+  ]
+
+  pub serve_still : (w : Vehicle) (free : ℕ) (stops : List PlannedStop) → IsServing settings roads riders w free stops → IsServing settings roads (riders ++ q ∷ []) w free stops
+  serve_still w free stops serves = serves_elsewhere settings roads riders (riders ++ q ∷ []) w free stops
+      (λ x r e own. still_found x r e ∙ sym e)
+      (λ x r e own. found_before x r e (λ h. not_waiting w.id r.status h own))
+      serves
+
+pub submit_done : (settings : Settings) (roads : Roads) (s : State) (rider origin destination time party : ℕ) → IsDayState roads s
+    → LeavesAll settings roads s (step roads.nodes settings.wait s (Submit rider origin destination time party)).0
+submit_done settings roads s rider origin destination time party day = by (submit_is roads.nodes settings.wait s rider origin destination time party)
+  where
+    command : Command
+    command = Submit rider origin destination time party
+
+    t : State
+    t = (step roads.nodes settings.wait s (Submit rider origin destination time party)).0
+
+    q : BookRider
+    q = record { id = rider; origin = origin; destination = destination; time = time; party = party; status = Waiting }
+
+    by : ((step roads.nodes settings.wait s (Submit rider origin destination time party)).0 ≡ s)
+        ⊎ ((find_rider rider s.riders ≡ None) × ((step roads.nodes settings.wait s (Submit rider origin destination time party)).0 ≡ record s { riders = s.riders ++ (record { id = rider; origin = origin; destination = destination; time = time; party = party; status = Waiting }) ∷ [] }))
+        → LeavesAll settings roads s (step roads.nodes settings.wait s (Submit rider origin destination time party)).0
+    by (inl same) = subst (LeavesAll settings roads s) (sym same) (record { state = day; vehicles = refl; serve = λ id w free stops e serves. serves; bounds = λ x limit b. b; sealed = refl; last = refl })
+    by (inr two) =
+        let new = two.0 in
+        let next : State = record s { riders = s.riders ++ q ∷ [] } in
+        let is = two.1 in
+        subst (LeavesAll settings roads s) (sym is) (record {
+          state = record {
+            consistent = subst IsConsistent is (step-consistent roads.nodes settings.wait s (Submit rider origin destination time party) day.consistent);
+            named = subst (NamesNodes roads.nodes) is (step-named roads.nodes settings.wait s (Submit rider origin destination time party) day.consistent day.named);
+            promises = λ x r promise e t.
+                let was = day.promises x r promise (found_before settings roads s.riders q new refl x r e (λ h. let f : Promised promise ≡ Waiting = sym t ∙ h in absurd cc)) t in
+                record { last = was.last; sealed = was.sealed; asked = was.asked; vehicle = was.vehicle; at = was.at };
+          };
+          vehicles = refl;
+          serve = λ id w free stops e serves. serve_still settings roads s.riders q new refl w free stops serves;
+          bounds = λ x limit b. record { of = b.of; found = still_found settings roads s.riders q new refl x b.of b.found; bound = b.bound };
+          sealed = refl;
+          last = refl;
+        })
+
+-- the first of a rider's calls
+pub first_call : (P : PlannedStop → Type 0) (x : ℕ) (b : Bool) (bs : List Bool) (stops : List PlannedStop) → calls_of x stops ≡ b ∷ bs → AllByRecursion P stops
+    → (stop : PlannedStop) × (stop.rider ≡ x) × (stop.pick ≡ b) × P stop
+first_call P x b bs [] e all = absurd cc
+first_call P x b bs (stop ∷ stops) e all = elim (cases_eq stop.rider x) [
+  | inl same ↦ let f : stop.pick ∷ calls_of x stops ≡ b ∷ bs = sym (calls_own x stop stops same) ∙ e in (stop, same, cc, all.0)
+  | inr ne ↦ first_call P x b bs stops (sym (calls_other x stop stops ne) ∙ e) all.1
+]
+
+-- a seal on a driven day: all stops are later, and so nobody who is promised or aboard expires
+module _ (settings : Settings) (roads : Roads) (s : State) (stops : ℕ → List PlannedStop) (now : ℕ) (kept : IsKept settings roads s stops)
+    (later : (id : ℕ) (v : Vehicle) → find_vehicle id s.vehicles ≡ Some v → AllByRecursion (λ (stop : PlannedStop). now < stop.second) (stops id)) (after_time : (last : ℕ) → s.last_seal ≡ Some last → last ≤ now) where
+  not_over : (x : ℕ) (r : BookRider) (w : ℕ) (v : Vehicle) → find_rider x s.riders ≡ Some r → find_vehicle w s.vehicles ≡ Some v → IsOfVehicle w r.status → after_seal settings.wait now r ≡ r
+  not_over x r w v e at own = by r.status refl own
+    where
+      serves : IsServing settings roads s.riders v v.time (stops w)
+      serves = kept.each w v at
+
+      id : v.id ≡ w
+      id = look_up-key (λ (v : Vehicle). v.id) w s.vehicles v at
+
+      by : (t : Status) → r.status ≡ t → IsOfVehicle w t → after_seal settings.wait now r ≡ r
+      by Waiting f h = absurd h
+      by (Promised p) f h =
+          let calls = subst (λ t. HasCalls v.id t (calls_of x (stops w))) f (serves.calls x r e) in
+          let first = first_call (λ stop. IsRightStop settings roads s.riders v.id stop × (now < stop.second)) x true (false ∷ []) (stops w) (calls (h ∙ sym id))
+          (both (IsRightStop settings roads s.riders v.id) (λ (stop : PlannedStop). now < stop.second) (stops w) serves.right (later w v at)) in
+          let right = picked_up_right settings roads s.riders v.id first.0 first.2 first.3.0 in
+          let same : find_rider x s.riders ≡ Some right.rider = subst (λ k. find_rider k s.riders ≡ Some right.rider) first.1 right.found in
+          let is : right.rider ≡ r = cc in
+          let time : right.rider.time ≡ r.time = ap (λ (r : BookRider). r.time) is in
+          let in_time = right.in_time in
+          let late = first.3.1 in
+          rw (f, le-ltb (r.time + settings.wait) now (omega (arith, time, in_time, late))) refl
+      by (Aboard u) f h = rw f refl
+      by Cancelled f h = absurd h
+      by Delivered f h = absurd h
+      by Expired f h = absurd h
+
+  abbrev after : List BookRider
+  after = map (after_seal settings.wait now) s.riders
+
+  find_after : (x : ℕ) → find_rider x after ≡ option_map (after_seal settings.wait now) (find_rider x s.riders)
+  find_after x = look_up-map (λ (r : BookRider). r.id) (after_seal settings.wait now) (after_seal-id settings.wait now) x s.riders
+
+  find_kept : (x : ℕ) (r : BookRider) (w : ℕ) (v : Vehicle) → find_rider x s.riders ≡ Some r → find_vehicle w s.vehicles ≡ Some v → IsOfVehicle w r.status → find_rider x after ≡ Some r
+  find_kept x r w v e at own = find_after x ∙ ap (option_map (after_seal settings.wait now)) e ∙ ap Some (not_over x r w v e at own)
+
+  -- whoever isn't expired after the seal was the same before
+  find_was : (x : ℕ) (q : BookRider) → find_rider x after ≡ Some q → (q.status ≡ Expired → ⊥) → find_rider x s.riders ≡ Some q
+  find_was x q e not = by (find_rider x s.riders) refl (sym (find_after x) ∙ e)
+    where
+      same : (r : BookRider) (o : Bool) → cond o (with_status Expired r) r ≡ q → r ≡ q
+      same r true f = absurd (not (sym (ap (λ (q : BookRider). q.status) f)))
+      same r false f = f
+
+      by : (o : Option BookRider) → find_rider x s.riders ≡ o → option_map (after_seal settings.wait now) o ≡ Some q → find_rider x s.riders ≡ Some q
+      by None f g = absurd cc
+      by (Some r) f g = f ∙ ap Some (same r (is_over settings.wait now r) (let h : Some (after_seal settings.wait now r) ≡ Some q = g in cc))
+
+  not_expired : (w : ℕ) (status : Status) → IsOfVehicle w status → status ≡ Expired → ⊥
+  not_expired w status own e = subst (IsOfVehicle w) e own
+
+  asking_id : (r : BookRider) (y : Rider) → asking now r ≡ Some y → y.id ≡ r.id
+  asking_id r y e = by (leb r.time now) e
+    where
+      in_pool : (o : Option (Option Promise)) → option_map (shown r) o ≡ Some y → y.id ≡ r.id
+      in_pool None f = absurd cc
+      in_pool (Some p) f = let is : shown r p ≡ y = cc in sym (ap (λ (y : Rider). y.id) is)
+
+      by : (b : Bool) → cond b (option_map (shown r) (pool_promise r.status)) None ≡ Some y → y.id ≡ r.id
+      by true f = in_pool (pool_promise r.status) f
+      by false f = absurd cc
+
+  differ : KeysDiffer (λ (r : BookRider). r.id) after
+  differ = KeysDiffer-map (λ (r : BookRider). r.id) (after_seal settings.wait now) (after_seal-id settings.wait now) s.riders kept.state.consistent.riders_differ
+
+  differ_shown : KeysDiffer (λ (y : Rider). y.id) (filter_map (asking now) after)
+  differ_shown = KeysDiffer-filter_map (λ (r : BookRider). r.id) (λ (y : Rider). y.id) (asking now) asking_id after differ
+
+  -- the batch shows who asked by then and waits or has a promise
+  shown_in : (x : ℕ) → look_up (λ (y : Rider). y.id) x (by_key (λ y. y.id) (filter_map (asking now) after)) ≡ option_and_then (asking now) (find_rider x after)
+  shown_in x =
+      (by_key-order (λ (y : Rider). y.id) (filter_map (asking now) after) differ_shown).found x
+      ∙ look_up-filter_map (λ (r : BookRider). r.id) (λ (y : Rider). y.id) (asking now) asking_id x after differ
+
+  -- what the seal leaves
+  pub sealed_kept : (reply : Reply) → step roads.nodes settings.wait s (Seal now) ≡ (sealed_state settings.wait s now, reply) → IsKept settings roads (sealed_state settings.wait s now) stops
+  unfolding sealed_state
+  sealed_kept reply is = record {
+    state = record {
+      consistent = subst IsConsistent (ap (λ (p : State × Reply). p.0) is) (step-consistent roads.nodes settings.wait s (Seal now) kept.state.consistent);
+      named = subst (NamesNodes roads.nodes) (ap (λ (p : State × Reply). p.0) is) (step-named roads.nodes settings.wait s (Seal now) kept.state.consistent kept.state.named);
+      promises = λ x r promise e t.
+          let was = kept.state.promises x r promise (find_was x r e (λ h. let f : Promised promise ≡ Expired = sym t ∙ h in absurd cc)) t in
+          let on = after_time was.last was.sealed in
+          record { last = now; sealed = refl; asked = let a = was.asked in omega (arith, a, on); vehicle = was.vehicle; at = was.at };
+    };
+    each = λ id v at. serves_elsewhere settings roads s.riders after v v.time (stops id)
+        (λ x r e own. find_kept x r id v e at (subst (λ k. IsOfVehicle k r.status) (look_up-key (λ (v : Vehicle). v.id) id s.vehicles v at) own) ∙ sym e)
+        (λ x r e own. find_was x r e (not_expired v.id r.status own))
+        (kept.each id v at);
+  }
+
+  pub sealed_bounds : KeepsBounds s (sealed_state settings.wait s now)
+  unfolding sealed_state
+  sealed_bounds x limit was = by was.of.status refl was.bound
+    where
+      by : (t : Status) → was.of.status ≡ t → IsBoundBy limit t → IsBound (sealed_state settings.wait s now) x limit
+      by Waiting e b = absurd b
+      by (Promised p) e b =
+          let of = kept.state.promises x was.of p was.found e in
+          record { of = was.of; found = find_kept x was.of p.vehicle of.vehicle was.found of.at (subst (IsOfVehicle p.vehicle) (sym e) refl); bound = was.bound }
+      by (Aboard u) e b = record { of = was.of; found = find_after x ∙ ap (option_map (after_seal settings.wait now)) was.found ∙ ap Some (rw e refl); bound = was.bound }
+      by Cancelled e b = absurd b
+      by Delivered e b = record { of = was.of; found = find_after x ∙ ap (option_map (after_seal settings.wait now)) was.found ∙ ap Some (rw e refl); bound = was.bound }
+      by Expired e b = absurd b
+
+  pub sealed_shows : ShowsRiders (sealed_state settings.wait s now) (batch_of settings.wait s now)
+  unfolding sealed_state batch_of
+  sealed_shows = record {
+    rise = (by_key-order (λ (y : Rider). y.id) (filter_map (asking now) after) differ_shown).rise;
+    shows = λ x y e. by x y (find_rider x after) refl (sym (shown_in x) ∙ e);
+    promised = λ x r p e t.
+        let was = kept.state.promises x r p (find_was x r e (λ h. let f : Promised p ≡ Expired = sym t ∙ h in absurd cc)) t in
+        let on = after_time was.last was.sealed in
+        let early : r.time ≤ now = let a = was.asked in omega (arith, a, on) in
+        shown_in x ∙ ap (option_and_then (asking now)) e ∙ rw (le-leb r.time now early, t) refl;
+    vehicles = refl;
+    last = refl;
+  }
+    where
+      by : (x : ℕ) (y : Rider) (o : Option BookRider) → find_rider x after ≡ o → option_and_then (asking now) o ≡ Some y → (r : BookRider) × (find_rider x after ≡ Some r) × (asking now r ≡ Some y)
+      by x y None e f = absurd cc
+      by x y (Some r) e f = (r, e, f)

@@ -1,0 +1,446 @@
+-- At a seal the stops of a vehicle serve, by the batch's table, its passengers and the riders promised to it.
+use Rattle.std.proofs.Common.{◌≡◌, ◌⊎◌, ℕ, ◌+◌, ◌-◌, ◌*◌, ◌<◌, ◌≤◌, true, false, eqb, nat_eq, List, [], ◌∷◌, length, get_or, map, filter, max, min, Option, Some, None, refl, sym, ap, ◌∙◌, subst, arith, inl, inr}
+use Rattle.std.specs.Prelude.{option_and_then, slice_get, Contains}
+use Rattle.std.specs.Option.{option_map_or}
+use Rattle.std.specs.List.{AllByRecursion, IsDistinct, range_with_len}
+use Rattle.std.proofs.lemmas.Bool.{cases_Bool, eq-eqb, eqb-true, false≢true}
+use Rattle.std.proofs.lemmas.List.{get_or-map, length-map, get_or_default}
+use Rattle.std.proofs.lemmas.List.Elements.{filter_passes}
+use Rattle.std.proofs.lemmas.Simd.{map-map}
+use Rattle.std.proofs.lemmas.Option.{slice_get_within, get_or_from_slice_get, slice_get-get_or}
+use Rattle.pool_base.specs.Times.{travel_time}
+use Rattle.pool_base.specs.declared.times.Times.{Times}
+use Rattle.batch_snapshot.specs.Batch.{Batch}
+use Rattle.batch_snapshot.specs.Vehicle.{persons_aboard}
+use Rattle.batch_snapshot.specs.declared.passenger.Passenger.{Passenger}
+use Rattle.batch_snapshot.specs.declared.promise.Promise.{Promise}
+use Rattle.batch_snapshot.specs.declared.rider.Rider.{Rider}
+use Rattle.batch_snapshot.specs.declared.vehicle.Vehicle.{Vehicle}
+use Rattle.promise_check.specs.Requests.{IsLegOf, request_at, no_request, ideal_second}
+use Rattle.promise_check.specs.Promised.{promised_limit, is_promised_to, promised_to, kept_leg, kept_legs}
+use Rattle.promise_check.specs.Settling.{IsPlaced, IsSettled}
+use Rattle.promise_check.proofs.lemmas.Promises.{filter_range_has, promised_trip}
+use Rattle.request_book.specs.Consistent.{seat_in}
+use Rattle.request_book.specs.Keyed.{look_up, KeysDiffer}
+use Rattle.request_book.specs.Rider.{shown, passenger_of}
+use Rattle.request_book.specs.State.{find_rider, find_vehicle, find_passenger}
+use Rattle.request_book.specs.declared.outcome.PlannedStop.{PlannedStop}
+use Rattle.request_book.specs.declared.rider.BookRider.{BookRider}
+use Rattle.request_book.specs.declared.rider.Status.{Status}
+use Rattle.request_book.specs.declared.rider.Status.TheVariants.{Waiting, Promised, Aboard, Cancelled, Delivered, Expired}
+use Rattle.request_book.specs.declared.state.State.{State}
+use Rattle.request_book.proofs.lemmas.BatchLemmas.{increasing_from_rise}
+use Rattle.request_book.proofs.lemmas.KeyedLemmas.{look_up-at, KeysDiffer-from_rise, All-look_up}
+use Rattle.rider_limits.specs.declared.settings.Settings.{Settings}
+use Rattle.road_network.specs.Roads.{Roads, index_in, has_node}
+use Rattle.stop_orders.specs.declared.leg.Leg.{Leg}
+use Rattle.stop_orders.specs.declared.settled.Settled.{Settled}
+use Rattle.stop_orders.specs.declared.settled_vehicle.SettledVehicle.{SettledVehicle}
+use Rattle.stop_orders.specs.declared.stop.Stop.{Stop}
+use Rattle.stop_orders.specs.declared.stop.Stop.TheVariants.{Pick, Drop, Alight}
+use Rattle.stop_orders.specs.declared.task.Task.{Task}
+use Rattle.stop_orders.specs.declared.visit.Visit.{Visit}
+use Rattle.stop_orders.specs.declared.visit.Visit.TheVariants.{Pickup, Dropoff}
+use Rattle.stop_orders.specs.Order.{IsOrder}
+use Rattle.stop_orders.specs.Settled.{vehicle_at, rider_at, no_rider, vehicle_task, IsTrip}
+use Rattle.stop_orders.specs.Task.{no_leg, leg_at, persons, visit_at, visits_of, free_seats, IsServable}
+use Rattle.stop_orders.proofs.lemmas.ClockLemmas.{soon_there}
+use Rattle.stop_orders.specs.Visit.{ServesFrom, boarding_of}
+use Rattle.travel_times.specs.Table.{AreTravelTimes}
+use Rattle.route_drive.specs.Counts.{ideal_dropoff}
+use Rattle.route_drive.specs.Promises.{IsDroppedInTime}
+use Rattle.route_drive.specs.work.Serving.{party_at, IsRightStop, IsRightPickup, IsRightDropoff, IsOfVehicle, IsServing, IsKept, HasCalls, calls_of}
+use Rattle.route_drive.proofs.kept.Lists.{all_weaker, both, map_agrees, all_filtered, all_from}
+use Rattle.route_drive.proofs.kept.Walks.{has_index, name_at, is_node_at}
+use Rattle.route_drive.proofs.kept.Riders.{found_id}
+use Rattle.route_drive.proofs.kept.Enter.{picked_up_right, dropped_right}
+use Rattle.route_drive.proofs.kept.Sealing.{ShowsRiders}
+use Rattle.route_drive.proofs.kept.Numbers.{number_of, IsNumbered, number_picks, number_drops, number_alights, numbers_are_order, alights_only, passengers_order, order_length}
+use Rattle.route_drive.proofs.kept.Tables.{IsSeen, ideal_is, serves_by_table, sub_serves}
+use Rattle.route_drive.proofs.kept.Batches.{found_at, rising_far, distinct_from_rising, distinct_from_differ, same_persons, IsAsking, asking_is, promise_status, IsPromisedRider, IsRiderAboard, seat_is}
+
+-- a leg's drop-off, as the stop that it is
+leg_drop : (settings : Settings) (roads : Roads) (points : List ℕ) (times : Times) → AreTravelTimes roads.arcs (map (index_in roads.nodes) points) times
+    → (riders : List BookRider) (r : BookRider) (leg : Leg) (stop : PlannedStop) → IsLegOf settings points (travel_time times) r.origin r.destination r.time r.party leg
+    → stop.pick ≡ false → stop.node ≡ r.destination → find_rider stop.rider riders ≡ Some r → IsDroppedInTime roads settings.delay r stop.second
+    → IsSeen points riders stop (Dropoff leg.destination leg.latest_dropoff leg.ideal leg.party)
+leg_drop settings roads points times table riders r leg stop is drop node found in_time = record {
+  place = leg.destination;
+  latest = leg.latest_dropoff;
+  ideal = leg.ideal;
+  node = is.destination_place ∙ ap Some (sym node);
+  in_time =
+      let a = in_time.in_time in
+      let b : leg.ideal ≡ ideal_second (travel_time times) r.time leg.origin leg.destination = is.ideal in
+      let c : ideal_second (travel_time times) r.time leg.origin leg.destination ≡ ideal_dropoff r.time in_time.seconds = ideal_is roads points times table leg.origin leg.destination r.origin r.destination in_time.seconds r.time is.origin_place is.destination_place in_time.between in
+      let e : leg.ideal ≡ ideal_dropoff r.time in_time.seconds = b ∙ c in
+      let d : leg.latest_dropoff ≡ leg.ideal + settings.delay = is.latest_dropoff in
+      let f : leg.latest_dropoff ≡ ideal_dropoff r.time in_time.seconds + settings.delay = d ∙ ap (λ n. n + settings.delay) e in
+      subst (λ n. stop.second ≤ n) (sym f) a;
+  is =
+      let party : party_at riders stop ≡ r.party = ap (λ o. option_map_or (λ (r : BookRider). r.party) o 0) found in
+      let same : leg.party ≡ party_at riders stop = is.size ∙ sym party in
+      ap (λ n. Dropoff leg.destination leg.latest_dropoff leg.ideal n) same ∙ rw drop refl;
+}
+
+-- a leg's pickup, as the stop that it is
+leg_pick : (settings : Settings) (points : List ℕ) (times : Times) (riders : List BookRider) (r : BookRider) (leg : Leg) (limit : ℕ) (stop : PlannedStop)
+    → IsLegOf settings points (travel_time times) r.origin r.destination r.time r.party leg
+    → stop.pick ≡ true → stop.node ≡ r.origin → find_rider stop.rider riders ≡ Some r → stop.second ≤ limit
+    → IsSeen points riders stop (Pickup leg.origin limit leg.party)
+leg_pick settings points times riders r leg limit stop is pick node found in_time = record {
+  place = leg.origin;
+  latest = limit;
+  ideal = 0;
+  node = is.origin_place ∙ ap Some (sym node);
+  in_time = in_time;
+  is =
+      let party : party_at riders stop ≡ r.party = ap (λ o. option_map_or (λ (r : BookRider). r.party) o 0) found in
+      let same : leg.party ≡ party_at riders stop = is.size ∙ sym party in
+      ap (λ n. Pickup leg.origin limit n) same ∙ rw pick refl;
+}
+
+module _ (settings : Settings) (roads : Roads) (s : State) (stops : ℕ → List PlannedStop) (b : Batch) (settled : Settled) (points : List ℕ) (times : Times)
+    (kept : IsKept settings roads s stops) (shows : ShowsRiders s b) (early : (id : ℕ) (v : Vehicle) → find_vehicle id s.vehicles ≡ Some v → b.sealed_at ≤ v.time)
+    (limits : IsSettled settings points (travel_time times) b settled) (table : AreTravelTimes roads.arcs (map (index_in roads.nodes) points) times) where
+  batch_differ : KeysDiffer (λ (r : Rider). r.id) b.riders
+  batch_differ = KeysDiffer-from_rise (λ (r : Rider). r.id) b.riders shows.rise
+
+  -- a request of the batch, and its rider
+  pub request_rider : (n : ℕ) → n < length b.riders → (r : BookRider) × (find_rider (request_at b.riders n).id s.riders ≡ Some r) × IsAsking b.sealed_at r (request_at b.riders n)
+  request_rider n h =
+      let at : look_up (λ (r : Rider). r.id) (request_at b.riders n).id b.riders ≡ Some (request_at b.riders n) = look_up-at (λ (r : Rider). r.id) n b.riders no_request batch_differ h in
+      let of = shows.shows (request_at b.riders n).id (request_at b.riders n) at in
+      (of.0, of.1, asking_is b.sealed_at of.0 (request_at b.riders n) of.2)
+
+  pub promised_request : (vehicle n : ℕ) → n < length b.riders → is_promised_to vehicle (request_at b.riders n) ≡ true → IsPromisedRider s vehicle (request_at b.riders n).id (request_at b.riders n)
+  promised_request vehicle n h promised =
+      let of = request_rider n h in
+      by of.0 of.1 of.2 of.2.promise refl
+    where
+      by : (r : BookRider) → find_rider (request_at b.riders n).id s.riders ≡ Some r → (asks : IsAsking b.sealed_at r (request_at b.riders n)) (o : Option Promise) → asks.promise ≡ o → IsPromisedRider s vehicle (request_at b.riders n).id (request_at b.riders n)
+      by r found asks None e = absurd (
+          let is : request_at b.riders n ≡ shown r None = asks.is ∙ ap (shown r) e in
+          false≢true (sym (ap (is_promised_to vehicle) is) ∙ promised))
+      by r found asks (Some p) e =
+          let is : request_at b.riders n ≡ shown r (Some p) = asks.is ∙ ap (shown r) e in
+          let own : eqb p.vehicle vehicle ≡ true = sym (ap (is_promised_to vehicle) is) ∙ promised in
+          record { rider = r; found = found; promise = p; status = promise_status r.status p (asks.pool ∙ ap Some e); own = eqb-true p.vehicle vehicle own; is = is }
+
+  module _ (k : ℕ) (x : Vehicle) (at : slice_get b.vehicles k ≡ Some x) where
+    y : SettledVehicle
+    y = vehicle_at settled k
+
+    placed : IsPlaced settings points (travel_time times) b.sealed_at x (vehicle_at settled k)
+    placed = limits.placed k x at
+
+    pub vehicle_found : find_vehicle x.id s.vehicles ≡ Some x
+    vehicle_found =
+        let at' : slice_get s.vehicles k ≡ Some x = subst (λ vs. slice_get vs k ≡ Some x) shows.vehicles at in
+        let is : get_or s.vehicles k x ≡ x = get_or_from_slice_get s.vehicles k x x at' in
+        subst (λ (v : Vehicle). find_vehicle v.id s.vehicles ≡ Some v) is
+        (look_up-at (λ (v : Vehicle). v.id) k s.vehicles x (KeysDiffer-from_rise (λ (v : Vehicle). v.id) s.vehicles kept.state.consistent.vehicles_rise) (slice_get_within s.vehicles k x at'))
+
+    serves : IsServing settings roads s.riders x x.time (stops x.id)
+    serves = kept.each x.id x vehicle_found
+
+    abbrev numbers : List ℕ
+    numbers = promised_to (vehicle_at settled k).id b.riders
+
+    abbrev names : List ℕ
+    names = map (λ n. (request_at b.riders n).id) (promised_to (vehicle_at settled k).id b.riders)
+
+    abbrev passenger_names : List ℕ
+    passenger_names = map (λ (p : Passenger). p.rider) x.aboard.items
+
+    trip : IsTrip (length b.riders) (promised_to (vehicle_at settled k).id b.riders)
+    trip = promised_trip (vehicle_at settled k).id b.riders
+
+    number_within : (i : ℕ) → i < length numbers → get_or numbers i 0 < length b.riders
+    number_within i h = trip.within i 0 h
+
+    number_promised : (i : ℕ) → i < length numbers → IsPromisedRider s x.id (request_at b.riders (get_or numbers i 0)).id (request_at b.riders (get_or numbers i 0))
+    number_promised i h =
+        subst (λ v. IsPromisedRider s v (request_at b.riders (get_or numbers i 0)).id (request_at b.riders (get_or numbers i 0))) placed.id
+        (promised_request (vehicle_at settled k).id (get_or numbers i 0) (number_within i h) (filter_passes (λ n. is_promised_to (vehicle_at settled k).id (request_at b.riders n)) (range_with_len 0 (length b.riders)) i 0 h))
+
+    name_is : (i : ℕ) → i < length numbers → get_or names i 0 ≡ (request_at b.riders (get_or numbers i 0)).id
+    name_is i h = get_or-map (λ n. (request_at b.riders n).id) numbers i 0 0 h
+
+    names_length : length names ≡ length numbers
+    names_length = length-map numbers (λ n. (request_at b.riders n).id)
+
+    passengers_length : length passenger_names ≡ length x.aboard.items
+    passengers_length = length-map x.aboard.items (λ (p : Passenger). p.rider)
+
+    names_distinct : IsDistinct nat_eq names
+    names_distinct = distinct_from_rising names (λ i j h l.
+        let e = names_length in
+        let li : i < length numbers = omega (arith, h, l, e) in
+        let lj : j < length numbers = omega (arith, l, e) in
+        let far : get_or numbers i 0 < get_or numbers j 0 = rising_far numbers trip.rising i j h lj in
+        let nj = number_within j lj in
+        let n = length-map b.riders (λ (r : Rider). r.id) in
+        let ids : get_or (map (λ (r : Rider). r.id) b.riders) (get_or numbers i 0) 0 < get_or (map (λ (r : Rider). r.id) b.riders) (get_or numbers j 0) 0 =
+        rising_far (map (λ (r : Rider). r.id) b.riders) (increasing_from_rise (λ (r : Rider). r.id) b.riders shows.rise) (get_or numbers i 0) (get_or numbers j 0) far (omega (arith, nj, n)) in
+        let a : get_or (map (λ (r : Rider). r.id) b.riders) (get_or numbers i 0) 0 ≡ (request_at b.riders (get_or numbers i 0)).id = get_or-map (λ (r : Rider). r.id) b.riders (get_or numbers i 0) no_request 0 (omega (arith, far, nj)) in
+        let c : get_or (map (λ (r : Rider). r.id) b.riders) (get_or numbers j 0) 0 ≡ (request_at b.riders (get_or numbers j 0)).id = get_or-map (λ (r : Rider). r.id) b.riders (get_or numbers j 0) no_request 0 nj in
+        let ni = name_is i li in
+        let nn = name_is j lj in
+        omega (arith, ids, a, c, ni, nn))
+
+    pub passengers_differ : KeysDiffer (λ (p : Passenger). p.rider) x.aboard.items
+    passengers_differ = All-look_up (λ (v : Vehicle). v.id) (λ (v : Vehicle). KeysDiffer (λ p. p.rider) v.aboard.items) x.id s.vehicles x kept.state.consistent.passengers vehicle_found
+
+    passengers_distinct : IsDistinct nat_eq passenger_names
+    passengers_distinct = distinct_from_differ (λ (p : Passenger). p.rider) x.aboard.items passengers_differ
+
+    -- who has a name among the promised is promised, and the other way round
+    named : (z : ℕ) → has_node names z ≡ true → (i : ℕ) × (i < length numbers) × ((request_at b.riders (get_or numbers i 0)).id ≡ z) × (index_in names z ≡ i)
+    named z h =
+        let l : index_in names z < length names = has_index names z h in
+        let e = names_length in
+        let li : index_in names z < length numbers = omega (arith, l, e) in
+        (index_in names z, li, sym (name_is (index_in names z) li) ∙ name_at names z l, refl)
+
+    to_named : (z : ℕ) (r : BookRider) (p : Promise) → find_rider z s.riders ≡ Some r → r.status ≡ Promised p → p.vehicle ≡ x.id → has_node names z ≡ true
+    to_named z r p found status own =
+        let shown_there = shows.promised z r p found status in
+        let place = found_at (λ (r : Rider). r.id) z b.riders (shown r (Some p)) shown_there in
+        let is : request_at b.riders place.0 ≡ shown r (Some p) = place.2 no_request in
+        let to : is_promised_to (vehicle_at settled k).id (request_at b.riders place.0) ≡ true =
+        ap (is_promised_to (vehicle_at settled k).id) is ∙ eq-eqb p.vehicle (vehicle_at settled k).id (own ∙ sym placed.id) in
+        let has : Contains numbers place.0 = filter_range_has (λ n. is_promised_to (vehicle_at settled k).id (request_at b.riders n)) (length b.riders) place.0 place.1 to in
+        let n : get_or numbers has.0 0 ≡ place.0 = sym (get_or_default numbers has.0 place.0 0 has.1) ∙ has.2 in
+        let name : get_or names has.0 0 ≡ z = name_is has.0 has.1 ∙ ap (λ n. (request_at b.riders n).id) n ∙ ap (λ (q : Rider). q.id) is ∙ found_id z s.riders r found in
+        let e = names_length in
+        let l = has.1 in
+        subst (λ z. has_node names z ≡ true) name (is_node_at names has.0 (omega (arith, l, e)))
+
+    pub passenger_rider : (z : ℕ) (p : Passenger) → find_passenger z x.aboard.items ≡ Some p → IsRiderAboard s x.id z p
+    passenger_rider z p e =
+        by (find_rider z s.riders) refl (sym (ap (option_and_then (λ (v : Vehicle). find_passenger z v.aboard.items)) (sym vehicle_found) ∙ kept.state.consistent.aboard x.id z) ∙ e)
+      where
+        by : (o : Option BookRider) → find_rider z s.riders ≡ o → option_and_then (seat_in x.id) (find_rider z s.riders) ≡ Some p → IsRiderAboard s x.id z p
+        by None f g = absurd (let h : option_and_then (seat_in x.id) None ≡ Some p = ap (option_and_then (seat_in x.id)) (sym f) ∙ g in cc)
+        by (Some r) f g =
+            let seat = seat_is x.id r p (ap (option_and_then (seat_in x.id)) (sym f) ∙ g) in
+            record { rider = r; found = f; status = seat.0; is = seat.1 }
+
+    abbrev no_passenger : Passenger
+    no_passenger = record { rider = 0; origin = 0; destination = 0; time = 0; party = 0 }
+
+    passenger_at_name : (z : ℕ) → has_node passenger_names z ≡ true
+        → (index_in passenger_names z < length x.aboard.items) × IsRiderAboard s x.id z (get_or x.aboard.items (index_in passenger_names z) no_passenger)
+    passenger_at_name z h =
+        let l : index_in passenger_names z < length passenger_names = has_index passenger_names z h in
+        let e = passengers_length in
+        let lj : index_in passenger_names z < length x.aboard.items = omega (arith, l, e) in
+        let name : (get_or x.aboard.items (index_in passenger_names z) no_passenger).rider ≡ z =
+        sym (get_or-map (λ (p : Passenger). p.rider) x.aboard.items (index_in passenger_names z) no_passenger 0 lj) ∙ name_at passenger_names z l in
+        let found : find_passenger (get_or x.aboard.items (index_in passenger_names z) no_passenger).rider x.aboard.items ≡ Some (get_or x.aboard.items (index_in passenger_names z) no_passenger) =
+        look_up-at (λ (p : Passenger). p.rider) (index_in passenger_names z) x.aboard.items no_passenger passengers_differ lj in
+        (lj, passenger_rider z (get_or x.aboard.items (index_in passenger_names z) no_passenger) (ap (λ z. find_passenger z x.aboard.items) (sym name) ∙ found))
+
+    to_passenger : (z : ℕ) (r : BookRider) → find_rider z s.riders ≡ Some r → r.status ≡ Aboard x.id → has_node passenger_names z ≡ true
+    to_passenger z r found status =
+        let at_z : find_passenger z x.aboard.items ≡ Some (passenger_of r) =
+        ap (option_and_then (λ (v : Vehicle). find_passenger z v.aboard.items)) (sym vehicle_found) ∙ kept.state.consistent.aboard x.id z ∙ ap (option_and_then (seat_in x.id)) found ∙ rw (status, eq-eqb x.id x.id refl) refl in
+        let place = found_at (λ (p : Passenger). p.rider) z x.aboard.items (passenger_of r) at_z in
+        let name : get_or passenger_names place.0 0 ≡ z = get_or-map (λ (p : Passenger). p.rider) x.aboard.items place.0 no_passenger 0 place.1 ∙ ap (λ (p : Passenger). p.rider) (place.2 no_passenger) ∙ found_id z s.riders r found in
+        let e = passengers_length in
+        let l = place.1 in
+        subst (λ z. has_node passenger_names z ≡ true) name (is_node_at passenger_names place.0 (omega (arith, l, e)))
+
+    -- nobody is promised and aboard
+    names_apart : (z : ℕ) → has_node names z ≡ true → has_node passenger_names z ≡ false
+    names_apart z h = by (cases_Bool (has_node passenger_names z))
+      where
+        by : (has_node passenger_names z ≡ true) ⊎ (has_node passenger_names z ≡ false) → has_node passenger_names z ≡ false
+        by (inr f) = f
+        by (inl t) =
+            let place = named z h in
+            let promised = subst (λ k. IsPromisedRider s x.id k (request_at b.riders (get_or numbers place.0 0))) place.2 (number_promised place.0 place.1) in
+            let aboard = (passenger_at_name z t).1 in
+            let one = promised.found in
+            let two = aboard.found in
+            let is : promised.rider ≡ aboard.rider = cc in
+            let e : Promised promised.promise ≡ Aboard x.id = sym promised.status ∙ ap (λ (r : BookRider). r.status) is ∙ aboard.status in
+            absurd cc
+
+    stops_numbered : AllByRecursion (IsNumbered names passenger_names) (stops x.id)
+    stops_numbered = all_weaker (IsRightStop settings roads s.riders x.id) (IsNumbered names passenger_names) (λ stop right. by stop right (cases_Bool stop.pick)) (stops x.id) serves.right
+      where
+        drop_by : (stop : PlannedStop) (r : BookRider) → stop.pick ≡ false → find_rider stop.rider s.riders ≡ Some r → (t : Status) → r.status ≡ t → IsOfVehicle x.id t → IsNumbered names passenger_names stop
+        drop_by stop r drop found Waiting e own = absurd own
+        drop_by stop r drop found (Promised p) e own = let h = to_named stop.rider r p found e own in IsNumbered.drops drop h (names_apart stop.rider h)
+        drop_by stop r drop found (Aboard u) e own = IsNumbered.alights drop (to_passenger stop.rider r found (e ∙ ap Aboard own))
+        drop_by stop r drop found Cancelled e own = absurd own
+        drop_by stop r drop found Delivered e own = absurd own
+        drop_by stop r drop found Expired e own = absurd own
+
+        by : (stop : PlannedStop) → IsRightStop settings roads s.riders x.id stop → (stop.pick ≡ true) ⊎ (stop.pick ≡ false) → IsNumbered names passenger_names stop
+        by stop right (inl pick) =
+            let own = picked_up_right settings roads s.riders x.id stop pick right in
+            IsNumbered.picks pick (to_named stop.rider own.rider (record { vehicle = x.id; pickup = stop.second }) own.found own.status refl)
+        by stop right (inr drop) =
+            let own = dropped_right settings roads s.riders x.id stop drop right in
+            drop_by stop own.rider drop own.found own.rider.status refl own.own
+
+    rides : (z : ℕ) → has_node names z ≡ true → calls_of z (stops x.id) ≡ true ∷ false ∷ []
+    rides z h =
+        let place = named z h in
+        let promised = subst (λ k. IsPromisedRider s x.id k (request_at b.riders (get_or numbers place.0 0))) place.2 (number_promised place.0 place.1) in
+        (subst (λ t. HasCalls x.id t (calls_of z (stops x.id))) promised.status (serves.calls z promised.rider promised.found)) promised.own
+
+    leaves : (z : ℕ) → has_node passenger_names z ≡ true → calls_of z (stops x.id) ≡ false ∷ []
+    leaves z h =
+        let aboard = (passenger_at_name z h).1 in
+        (subst (λ t. HasCalls x.id t (calls_of z (stops x.id))) aboard.status (serves.calls z aboard.rider aboard.found)) refl
+
+    abbrev task : Task
+    task = vehicle_task settings.dwell (vehicle_at settled k) (kept_legs settings.wait b.riders settled.riders (promised_to (vehicle_at settled k).id b.riders))
+
+    abbrev order : List Stop
+    order = map (number_of names passenger_names) (stops x.id)
+
+    legs_length : length (kept_legs settings.wait b.riders settled.riders numbers) ≡ length numbers
+    legs_length = length-map numbers (λ n. kept_leg settings.wait (request_at b.riders n) (get_or settled.riders n no_rider).leg)
+
+    is_order : IsOrder (length (kept_legs settings.wait b.riders settled.riders numbers)) (length (vehicle_at settled k).aboard.items) order
+    is_order =
+        let a : length names ≡ length (kept_legs settings.wait b.riders settled.riders numbers) = names_length ∙ sym legs_length in
+        let c : length passenger_names ≡ length (vehicle_at settled k).aboard.items = passengers_length ∙ sym placed.aboard.count in
+        subst (λ n. IsOrder n (length (vehicle_at settled k).aboard.items) order) a
+        (subst (λ m. IsOrder (length names) m order) c (numbers_are_order names passenger_names names_distinct passengers_distinct names_apart (stops x.id) stops_numbered rides leaves))
+
+    vis : PlannedStop → Visit
+    vis stop = visit_at task (number_of names passenger_names stop)
+
+    -- each stop is seen by the task as what it is
+    seen_pick : (stop : PlannedStop) → stop.pick ≡ true → has_node names stop.rider ≡ true → IsRightPickup settings.wait s.riders x.id stop → IsSeen points s.riders stop (visit_at task (number_of names passenger_names stop))
+    seen_pick stop pick has own =
+        let place = named stop.rider has in
+        let n : ℕ = get_or numbers place.0 0 in
+        let h : get_or numbers place.0 0 < length b.riders = number_within place.0 place.1 in
+        let promised = subst (λ z. IsPromisedRider s x.id z (request_at b.riders (get_or numbers place.0 0))) place.2 (number_promised place.0 place.1) in
+        let one = promised.found in
+        let two = own.found in
+        let same : promised.rider ≡ own.rider = cc in
+        let promise : promised.promise ≡ record { vehicle = x.id; pickup = stop.second } =
+        (let e : Promised promised.promise ≡ Promised (record { vehicle = x.id; pickup = stop.second }) = sym promised.status ∙ ap (λ (r : BookRider). r.status) same ∙ own.status in cc) in
+        let is : request_at b.riders (get_or numbers place.0 0) ≡ shown own.rider (Some (record { vehicle = x.id; pickup = stop.second })) =
+        promised.is ∙ ap (λ r. shown r (Some promised.promise)) same ∙ ap (λ p. shown own.rider (Some p)) promise in
+        let leg = (limits.riders (get_or numbers place.0 0) (request_at b.riders (get_or numbers place.0 0)) (slice_get-get_or b.riders (get_or numbers place.0 0) no_request h)).leg in
+        let plain : Leg = record (rider_at settled (get_or numbers place.0 0)).leg { latest_pickup = (request_at b.riders (get_or numbers place.0 0)).time + settings.wait } in
+        let leg' : IsLegOf settings points (travel_time times) own.rider.origin own.rider.destination own.rider.time own.rider.party (record (rider_at settled (get_or numbers place.0 0)).leg { latest_pickup = (request_at b.riders (get_or numbers place.0 0)).time + settings.wait }) =
+        subst (λ (q : Rider). IsLegOf settings points (travel_time times) q.origin q.destination q.time q.party (record (rider_at settled (get_or numbers place.0 0)).leg { latest_pickup = (request_at b.riders (get_or numbers place.0 0)).time + settings.wait })) is leg in
+        let limit : promised_limit settings.wait (request_at b.riders (get_or numbers place.0 0)) ≡ min stop.second (own.rider.time + settings.wait) = ap (promised_limit settings.wait) is in
+        let late = own.in_time in
+        let in_time : stop.second ≤ promised_limit settings.wait (request_at b.riders (get_or numbers place.0 0)) = subst (λ n. stop.second ≤ n) (sym limit) (omega (arith, late)) in
+        let leg_is : leg_at task.riders.items place.0 ≡ kept_leg settings.wait (request_at b.riders (get_or numbers place.0 0)) (rider_at settled (get_or numbers place.0 0)).leg =
+        get_or-map (λ n. kept_leg settings.wait (request_at b.riders n) (get_or settled.riders n no_rider).leg) numbers place.0 0 no_leg place.1 in
+        let visit : visit_at task (number_of names passenger_names stop) ≡ Pickup (rider_at settled (get_or numbers place.0 0)).leg.origin (promised_limit settings.wait (request_at b.riders (get_or numbers place.0 0))) (rider_at settled (get_or numbers place.0 0)).leg.party =
+        ap (visit_at task) (number_picks names passenger_names stop pick) ∙ ap (λ i. visit_at task (Pick i)) place.3 ∙ ap (λ leg. Pickup leg.origin leg.latest_pickup leg.party) leg_is in
+        subst (IsSeen points s.riders stop) (sym visit)
+        (leg_pick settings points times s.riders own.rider (record (rider_at settled (get_or numbers place.0 0)).leg { latest_pickup = (request_at b.riders (get_or numbers place.0 0)).time + settings.wait }) (promised_limit settings.wait (request_at b.riders (get_or numbers place.0 0))) stop leg' pick own.node own.found in_time)
+
+    seen_drop : (stop : PlannedStop) → stop.pick ≡ false → has_node names stop.rider ≡ true → has_node passenger_names stop.rider ≡ false → IsRightDropoff roads settings.delay s.riders x.id stop → IsSeen points s.riders stop (visit_at task (number_of names passenger_names stop))
+    seen_drop stop drop has none own =
+        let place = named stop.rider has in
+        let h : get_or numbers place.0 0 < length b.riders = number_within place.0 place.1 in
+        let promised = subst (λ z. IsPromisedRider s x.id z (request_at b.riders (get_or numbers place.0 0))) place.2 (number_promised place.0 place.1) in
+        let one = promised.found in
+        let two = own.found in
+        let same : promised.rider ≡ own.rider = cc in
+        let is : request_at b.riders (get_or numbers place.0 0) ≡ shown own.rider (Some promised.promise) = promised.is ∙ ap (λ r. shown r (Some promised.promise)) same in
+        let leg = (limits.riders (get_or numbers place.0 0) (request_at b.riders (get_or numbers place.0 0)) (slice_get-get_or b.riders (get_or numbers place.0 0) no_request h)).leg in
+        let leg' : IsLegOf settings points (travel_time times) own.rider.origin own.rider.destination own.rider.time own.rider.party (record (rider_at settled (get_or numbers place.0 0)).leg { latest_pickup = (request_at b.riders (get_or numbers place.0 0)).time + settings.wait }) =
+        subst (λ (q : Rider). IsLegOf settings points (travel_time times) q.origin q.destination q.time q.party (record (rider_at settled (get_or numbers place.0 0)).leg { latest_pickup = (request_at b.riders (get_or numbers place.0 0)).time + settings.wait })) is leg in
+        let leg_is : leg_at task.riders.items place.0 ≡ kept_leg settings.wait (request_at b.riders (get_or numbers place.0 0)) (rider_at settled (get_or numbers place.0 0)).leg =
+        get_or-map (λ n. kept_leg settings.wait (request_at b.riders n) (get_or settled.riders n no_rider).leg) numbers place.0 0 no_leg place.1 in
+        let visit : visit_at task (number_of names passenger_names stop) ≡ Dropoff (rider_at settled (get_or numbers place.0 0)).leg.destination (rider_at settled (get_or numbers place.0 0)).leg.latest_dropoff (rider_at settled (get_or numbers place.0 0)).leg.ideal (rider_at settled (get_or numbers place.0 0)).leg.party =
+        ap (visit_at task) (number_drops names passenger_names stop drop none) ∙ ap (λ i. visit_at task (Drop i)) place.3 ∙ ap (λ leg. Dropoff leg.destination leg.latest_dropoff leg.ideal leg.party) leg_is in
+        subst (IsSeen points s.riders stop) (sym visit)
+        (leg_drop settings roads points times table s.riders own.rider (record (rider_at settled (get_or numbers place.0 0)).leg { latest_pickup = (request_at b.riders (get_or numbers place.0 0)).time + settings.wait }) stop leg' drop own.node own.found own.in_time)
+
+    seen_alight : (stop : PlannedStop) → stop.pick ≡ false → has_node passenger_names stop.rider ≡ true → IsRightDropoff roads settings.delay s.riders x.id stop → IsSeen points s.riders stop (visit_at task (number_of names passenger_names stop))
+    seen_alight stop drop has own =
+        let there = passenger_at_name stop.rider has in
+        let j : ℕ = index_in passenger_names stop.rider in
+        let aboard = there.1 in
+        let one = aboard.found in
+        let two = own.found in
+        let same : aboard.rider ≡ own.rider = cc in
+        let is : get_or x.aboard.items (index_in passenger_names stop.rider) no_passenger ≡ passenger_of own.rider = sym aboard.is ∙ ap passenger_of same in
+        let leg = placed.aboard.each (index_in passenger_names stop.rider) (get_or x.aboard.items (index_in passenger_names stop.rider) no_passenger) (slice_get-get_or x.aboard.items (index_in passenger_names stop.rider) no_passenger there.0) in
+        let leg' : IsLegOf settings points (travel_time times) own.rider.origin own.rider.destination own.rider.time own.rider.party (leg_at (vehicle_at settled k).aboard.items (index_in passenger_names stop.rider)) =
+        subst (λ (p : Passenger). IsLegOf settings points (travel_time times) p.origin p.destination p.time p.party (leg_at (vehicle_at settled k).aboard.items (index_in passenger_names stop.rider))) is leg in
+        subst (IsSeen points s.riders stop) (sym (ap (visit_at task) (number_alights names passenger_names stop drop has)))
+        (leg_drop settings roads points times table s.riders own.rider (leg_at (vehicle_at settled k).aboard.items (index_in passenger_names stop.rider)) stop leg' drop own.node own.found own.in_time)
+
+    seen : AllByRecursion (λ stop. IsSeen points s.riders stop (visit_at task (number_of names passenger_names stop))) (stops x.id)
+    seen = all_weaker (λ stop. IsRightStop settings roads s.riders x.id stop × IsNumbered names passenger_names stop) (λ stop. IsSeen points s.riders stop (visit_at task (number_of names passenger_names stop)))
+        (λ stop h. by stop h.0 h.1) (stops x.id) (both (IsRightStop settings roads s.riders x.id) (IsNumbered names passenger_names) (stops x.id) serves.right stops_numbered)
+      where
+        by : (stop : PlannedStop) → IsRightStop settings roads s.riders x.id stop → IsNumbered names passenger_names stop → IsSeen points s.riders stop (visit_at task (number_of names passenger_names stop))
+        by stop right (IsNumbered.picks pick has) = seen_pick stop pick has (picked_up_right settings roads s.riders x.id stop pick right)
+        by stop right (IsNumbered.drops drop has none) = seen_drop stop drop has none (dropped_right settings roads s.riders x.id stop drop right)
+        by stop right (IsNumbered.alights drop has) = seen_alight stop drop has (dropped_right settings roads s.riders x.id stop drop right)
+
+    ready_is : (vehicle_at settled k).ready ≡ x.time
+    ready_is = let a : (vehicle_at settled k).ready ≡ max x.time b.sealed_at = placed.ready in let e = early x.id x vehicle_found in omega (arith, a, e)
+
+    room_is : x.seats - persons_aboard x ≡ free_seats task
+    room_is =
+        let a : persons (vehicle_at settled k).aboard.items ≡ persons_aboard x = same_persons (vehicle_at settled k).aboard.items x.aboard.items placed.aboard.count (λ k p e. (placed.aboard.each k p e).size) in
+        let c : (vehicle_at settled k).seats ≡ x.seats = placed.seats in
+        sym (ap (λ n. n - persons (vehicle_at settled k).aboard.items) c ∙ ap (λ n. x.seats - n) a)
+
+    in_time : ServesFrom (travel_time times) settings.dwell (vehicle_at settled k).start (vehicle_at settled k).ready (free_seats task) (visits_of task order)
+    in_time =
+        subst (λ vs. ServesFrom (travel_time times) settings.dwell (vehicle_at settled k).start (vehicle_at settled k).ready (free_seats task) vs) (sym (map-map (visit_at task) (number_of names passenger_names) (stops x.id)))
+        (subst (λ f. ServesFrom (travel_time times) settings.dwell (vehicle_at settled k).start f (free_seats task) (map (λ stop. visit_at task (number_of names passenger_names stop)) (stops x.id))) (sym ready_is)
+        (subst (λ r. ServesFrom (travel_time times) settings.dwell (vehicle_at settled k).start x.time r (map (λ stop. visit_at task (number_of names passenger_names stop)) (stops x.id))) room_is
+        (serves_by_table roads points times table s.riders settings.dwell (λ stop. visit_at task (number_of names passenger_names stop)) (stops x.id) (vehicle_at settled k).start x.node x.time (x.seats - persons_aboard x) placed.start serves.reached serves.seats seen)))
+
+    -- the stops serve the passengers and all who are promised to the vehicle
+    pub promised_served : IsServable (travel_time times) (vehicle_task settings.dwell (vehicle_at settled k) (kept_legs settings.wait b.riders settled.riders (promised_to (vehicle_at settled k).id b.riders)))
+    promised_served = (order, record { order = is_order; in_time = in_time })
+
+    -- and, without their stops, the passengers alone
+    pub passengers_served : IsServable (travel_time times) (vehicle_task settings.dwell (vehicle_at settled k) [])
+    unfolding alights_only
+    passengers_served = (
+      filter alights_only order,
+      record {
+        order = passengers_order (length (kept_legs settings.wait b.riders settled.riders numbers)) (length (vehicle_at settled k).aboard.items) order is_order;
+        in_time = subst (λ vs. ServesFrom (travel_time times) settings.dwell (vehicle_at settled k).start (vehicle_at settled k).ready (free_seats task) vs) alone
+            (sub_serves times.points (travel_time times) settings.dwell (visit_at task) alights_only times.table.times nobody order (vehicle_at settled k).start (vehicle_at settled k).ready (free_seats task) (vehicle_at settled k).start (vehicle_at settled k).ready (free_seats task)
+            (soon_there (travel_time times) (vehicle_at settled k).start (vehicle_at settled k).ready (vehicle_at settled k).ready (omega arith)) in_time);
+      },
+    )
+      where
+        nobody : (stop : Stop) → alights_only stop ≡ true → boarding_of (visit_at task stop) ≡ 0
+        nobody (Pick i) e = absurd (false≢true e)
+        nobody (Drop i) e = refl
+        nobody (Alight j) e = refl
+
+        alone : map (visit_at task) (filter alights_only order) ≡ visits_of (vehicle_task settings.dwell (vehicle_at settled k) []) (filter alights_only order)
+        alone = map_agrees (visit_at task) (visit_at (vehicle_task settings.dwell (vehicle_at settled k) [])) (λ stop. Unit {0} × (alights_only stop ≡ true)) (λ stop h. same stop h.1) (filter alights_only order)
+            (all_filtered (λ stop. Unit {0}) alights_only order (all_from (λ stop. Unit {0}) (λ stop. tt) order))
+          where
+            same : (stop : Stop) → alights_only stop ≡ true → visit_at task stop ≡ visit_at (vehicle_task settings.dwell (vehicle_at settled k) []) stop
+            same (Pick i) e = absurd (false≢true e)
+            same (Drop i) e = absurd (false≢true e)
+            same (Alight j) e = refl
+
+    -- the vehicle is live for whoever is promised to it
+    pub few_promised : length (promised_to (vehicle_at settled k).id b.riders) ≤ settings.trip
+    few_promised =
+        let two : 2 * length (kept_legs settings.wait b.riders settled.riders numbers) + length (vehicle_at settled k).aboard.items ≤ length order = order_length (length (kept_legs settings.wait b.riders settled.riders numbers)) (length (vehicle_at settled k).aboard.items) order is_order in
+        let l : length order ≡ length (stops x.id) = length-map (stops x.id) (number_of names passenger_names) in
+        let f = serves.few in
+        let a : length (kept_legs settings.wait b.riders settled.riders numbers) ≡ length (promised_to (vehicle_at settled k).id b.riders) = legs_length in
+        let c : length (vehicle_at settled k).aboard.items ≡ length x.aboard.items = placed.aboard.count in
+        omega (arith, two, l, f, a, c)

@@ -1,0 +1,117 @@
+-- Stops that are reached by shortest walks, as visits of a task over a table of travel times.
+use Rattle.std.proofs.Common.{◌≡◌, ℕ, ◌+◌, ◌<◌, ◌≤◌, Bool, true, false, cond, ltb, List, [], ◌∷◌, length, get_or, map, filter, Some, refl, sym, ap, ◌∙◌, subst, arith, inl, inr}
+use Rattle.std.specs.Prelude.{slice_get}
+use Rattle.std.specs.List.{AllByRecursion}
+use Rattle.std.proofs.lemmas.Bool.{cases_Bool}
+use Rattle.std.proofs.lemmas.List.{get_or-map, length-map}
+use Rattle.std.proofs.lemmas.Option.{slice_get_within, get_or_from_slice_get}
+use Rattle.pool_base.specs.TravelTime.{never, IsTravelTime}
+use Rattle.pool_base.specs.Times.{travel_time}
+use Rattle.pool_base.specs.declared.times.Times.{Times}
+use Rattle.promise_check.specs.Requests.{ideal_second}
+use Rattle.request_book.specs.declared.outcome.PlannedStop.{PlannedStop}
+use Rattle.request_book.specs.declared.rider.BookRider.{BookRider}
+use Rattle.road_network.specs.Roads.{Roads, index_in}
+use Rattle.road_network.specs.Walk.{IsTimeBetween}
+use Rattle.stop_orders.proofs.lemmas.ClockLemmas.{AtLeastAsSoon, soon_over, soon_there}
+use Rattle.stop_orders.specs.declared.stop.Stop.{Stop}
+use Rattle.stop_orders.specs.declared.visit.Visit.{Visit}
+use Rattle.stop_orders.specs.declared.visit.Visit.TheVariants.{Pickup, Dropoff}
+use Rattle.stop_orders.specs.Visit.{place_of, latest_of, boarding_of, room_after, ServesFrom}
+use Rattle.travel_times.specs.Table.{AreTravelTimes}
+use Rattle.route_drive.specs.Counts.{ideal_dropoff}
+use Rattle.route_drive.specs.work.Serving.{AreReached, party_at, seats_after, HasSeatsFor}
+use Rattle.route_drive.proofs.kept.Lists.{takes, skips}
+use Rattle.route_drive.proofs.kept.Walks.{between_unique}
+
+-- a visit that is a stop over these points: at its node, not after its latest second, of its party
+pub record IsSeen (points : List ℕ) (riders : List BookRider) (stop : PlannedStop) (visit : Visit) : Type 0 where
+  pub place : ℕ
+  pub latest : ℕ
+  pub ideal : ℕ
+  pub node : slice_get points place ≡ Some stop.node
+  pub in_time : stop.second ≤ latest
+  pub is : visit ≡ cond stop.pick (Pickup place latest (party_at riders stop)) (Dropoff place latest ideal (party_at riders stop))
+
+module _ (roads : Roads) (points : List ℕ) (times : Times) (table : AreTravelTimes roads.arcs (map (index_in roads.nodes) points) times) where
+  -- the travel time between two points is that of the network
+  pub time_between : (i j a b : ℕ) → slice_get points i ≡ Some a → slice_get points j ≡ Some b → IsTimeBetween roads.arcs (index_in roads.nodes a) (index_in roads.nodes b) (travel_time times i j)
+  time_between i j a b at_i at_j =
+      let li : i < length points = slice_get_within points i a at_i in
+      let lj : j < length points = slice_get_within points j b at_j in
+      let n : length (map (index_in roads.nodes) points) ≡ length points = length-map points (index_in roads.nodes) in
+      let ei : get_or (map (index_in roads.nodes) points) i 0 ≡ index_in roads.nodes a = get_or-map (index_in roads.nodes) points i 0 0 li ∙ ap (index_in roads.nodes) (get_or_from_slice_get points i a 0 at_i) in
+      let ej : get_or (map (index_in roads.nodes) points) j 0 ≡ index_in roads.nodes b = get_or-map (index_in roads.nodes) points j 0 0 lj ∙ ap (index_in roads.nodes) (get_or_from_slice_get points j b 0 at_j) in
+      subst (λ p. IsTimeBetween roads.arcs p (index_in roads.nodes b) (travel_time times i j)) ei
+      (subst (λ q. IsTimeBetween roads.arcs (get_or (map (index_in roads.nodes) points) i 0) q (travel_time times i j)) ej (table.cells i j (omega arith) (omega arith)))
+
+  pub time_is : (i j a b s : ℕ) → slice_get points i ≡ Some a → slice_get points j ≡ Some b → IsTimeBetween roads.arcs (index_in roads.nodes a) (index_in roads.nodes b) s → travel_time times i j ≡ s
+  time_is i j a b s at_i at_j is = between_unique roads.arcs (index_in roads.nodes a) (index_in roads.nodes b) (travel_time times i j) s (time_between i j a b at_i at_j) is
+
+  -- the ideal second by the table is that by the network
+  pub ideal_is : (i j a b s time : ℕ) → slice_get points i ≡ Some a → slice_get points j ≡ Some b → IsTimeBetween roads.arcs (index_in roads.nodes a) (index_in roads.nodes b) s → ideal_second (travel_time times) time i j ≡ ideal_dropoff time s
+  ideal_is i j a b s time at_i at_j is = ap (λ t. cond (ltb t never) (time + t) time) (time_is i j a b s at_i at_j is)
+
+  -- stops that are reached and find their seats, as visits, serve
+  pub serves_by_table : (riders : List BookRider) (dwell : ℕ) (vis : PlannedStop → Visit) (stops : List PlannedStop) (place node free room : ℕ) → slice_get points place ≡ Some node
+      → AreReached roads dwell node free stops → HasSeatsFor riders room stops → AllByRecursion (λ stop. IsSeen points riders stop (vis stop)) stops
+      → ServesFrom (travel_time times) dwell place free room (map vis stops)
+  serves_by_table riders dwell vis [] place node free room at reached seats seen = tt
+  serves_by_table riders dwell vis (stop ∷ stops) place node free room at reached seats seen =
+      let s = seen.0 in
+      let leads = reached.0 in
+      let short = leads.short in
+      let tau : travel_time times place seen.0.place ≡ reached.0.seconds = time_is place seen.0.place node stop.node reached.0.seconds at seen.0.node (inl reached.0.least) in
+      let where_ : place_of (vis stop) ≡ seen.0.place = of_place stop.pick seen.0.is in
+      let late : latest_of (vis stop) ≡ seen.0.latest = of_latest stop.pick seen.0.is in
+      let hop : travel_time times place (place_of (vis stop)) ≡ reached.0.seconds = ap (travel_time times place) where_ ∙ tau in
+      let second : stop.second ≡ free + reached.0.seconds = reached.0.reached in
+      let then : free + travel_time times place (place_of (vis stop)) + dwell ≡ stop.second + dwell = omega (arith, hop, second) in
+      let in_time = seen.0.in_time in (
+        omega (arith, hop, short),
+        omega (arith, hop, second, in_time, late),
+        fits stop.pick refl seen.0.is,
+        subst (λ p. ServesFrom (travel_time times) dwell p (free + travel_time times place (place_of (vis stop)) + dwell) (room_after (vis stop) room) (map vis stops)) (sym where_)
+            (subst (λ f. ServesFrom (travel_time times) dwell seen.0.place f (room_after (vis stop) room) (map vis stops)) (sym then)
+            (subst (λ r. ServesFrom (travel_time times) dwell seen.0.place (stop.second + dwell) r (map vis stops)) (sym (after stop.pick refl seen.0.is))
+            (serves_by_table riders dwell vis stops seen.0.place stop.node (stop.second + dwell) (seats_after riders stop room) seen.0.node reached.1 seats.1 seen.1))),
+      )
+    where
+      of_place : (b : Bool) → vis stop ≡ cond b (Pickup seen.0.place seen.0.latest (party_at riders stop)) (Dropoff seen.0.place seen.0.latest seen.0.ideal (party_at riders stop)) → place_of (vis stop) ≡ seen.0.place
+      of_place true e = ap place_of e
+      of_place false e = ap place_of e
+
+      of_latest : (b : Bool) → vis stop ≡ cond b (Pickup seen.0.place seen.0.latest (party_at riders stop)) (Dropoff seen.0.place seen.0.latest seen.0.ideal (party_at riders stop)) → latest_of (vis stop) ≡ seen.0.latest
+      of_latest true e = ap latest_of e
+      of_latest false e = ap latest_of e
+
+      fits : (b : Bool) → stop.pick ≡ b → vis stop ≡ cond b (Pickup seen.0.place seen.0.latest (party_at riders stop)) (Dropoff seen.0.place seen.0.latest seen.0.ideal (party_at riders stop)) → boarding_of (vis stop) ≤ room
+      fits true p e = let f : boarding_of (vis stop) ≡ party_at riders stop = ap boarding_of e in let h = seats.0 p in omega (arith, f, h)
+      fits false p e = let f : boarding_of (vis stop) ≡ 0 = ap boarding_of e in omega (arith, f)
+
+      after : (b : Bool) → stop.pick ≡ b → vis stop ≡ cond b (Pickup seen.0.place seen.0.latest (party_at riders stop)) (Dropoff seen.0.place seen.0.latest seen.0.ideal (party_at riders stop)) → room_after (vis stop) room ≡ seats_after riders stop room
+      after true p e = ap (λ v. room_after v room) e ∙ rw p refl
+      after false p e = ap (λ v. room_after v room) e ∙ rw p refl
+
+-- of a serving order, the stops where nobody gets in serve without the others
+pub sub_serves : (points : ℕ) (tau : ℕ → ℕ → ℕ) (dwell : ℕ) (vis : Stop → Visit) (keep : Stop → Bool) → IsTravelTime points tau → ((s : Stop) → keep s ≡ true → boarding_of (vis s) ≡ 0)
+    → (stops : List Stop) (p f room q g other : ℕ) → AtLeastAsSoon tau p f q g → ServesFrom tau dwell q g other (map vis stops) → ServesFrom tau dwell p f room (map vis (filter keep stops))
+sub_serves points tau dwell vis keep travel nobody [] p f room q g other soon serves = tt
+sub_serves points tau dwell vis keep travel nobody (s ∷ stops) p f room q g other soon serves = elim (cases_Bool (keep s)) [
+  | inl k ↦
+      let sooner = soon.soon (place_of (vis s)) serves.0 in
+      let late = serves.1 in
+      let none = nobody s k in
+      subst (λ ss. ServesFrom tau dwell p f room (map vis ss)) (sym (takes keep s stops k)) (
+        sooner.0,
+        omega (arith, sooner.1, late),
+        omega (arith, none),
+        sub_serves points tau dwell vis keep travel nobody stops (place_of (vis s)) (f + tau p (place_of (vis s)) + dwell) (room_after (vis s) room) (place_of (vis s)) (g + tau q (place_of (vis s)) + dwell) (room_after (vis s) other)
+            (soon_there tau (place_of (vis s)) (f + tau p (place_of (vis s)) + dwell) (g + tau q (place_of (vis s)) + dwell) (omega (arith, sooner.1))) serves.3,
+      )
+  | inr k ↦
+      let sooner = soon.soon (place_of (vis s)) serves.0 in
+      subst (λ ss. ServesFrom tau dwell p f room (map vis ss)) (sym (skips keep s stops k))
+      (sub_serves points tau dwell vis keep travel nobody stops p f room (place_of (vis s)) (g + tau q (place_of (vis s)) + dwell) (room_after (vis s) other)
+      (soon_over points tau travel p f (place_of (vis s)) (g + tau q (place_of (vis s)) + dwell) sooner.0 (omega (arith, sooner.1))) serves.3)
+]

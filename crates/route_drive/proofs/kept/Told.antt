@@ -1,0 +1,194 @@
+-- The stops that a plan tells of a serving order: their seconds, their seats, whose they are, and what they promise.
+use Rattle.std.proofs.Common.{◌≡◌, ℕ, zero, suc, ◌+◌, ◌≤◌, Bool, true, false, List, [], ◌∷◌, ◌++◌, length, map, filter, Some, None, refl, sym, ap, ◌∙◌, subst, arith, inl, inr}
+use Rattle.std.specs.Prelude.{slice_get}
+use Rattle.std.specs.List.{AllByRecursion, zip, flat_map}
+use Rattle.std.proofs.lemmas.Bool.{cases_Bool, cases_eq, true≢false}
+use Rattle.pool_base.specs.Times.{travel_time}
+use Rattle.pool_base.specs.declared.times.Times.{Times}
+use Rattle.request_book.specs.Closing.{Pick, trip_picks}
+use Rattle.request_book.specs.Keyed.{look_up}
+use Rattle.request_book.specs.declared.outcome.PlannedStop.{PlannedStop}
+use Rattle.request_book.specs.declared.rider.BookRider.{BookRider}
+use Rattle.request_book.proofs.lemmas.KeyedLemmas.{look_up-here, look_up-there, look_up-nil}
+use Rattle.road_network.specs.Roads.{Roads, index_in}
+use Rattle.stop_orders.specs.declared.stop.Stop.{Stop}
+use Rattle.stop_orders.specs.declared.stop.Stop.TheVariants.{Pick as PickStop, Drop, Alight}
+use Rattle.stop_orders.specs.declared.visit.Visit.{Visit}
+use Rattle.stop_orders.specs.Visit.{place_of, latest_of, boarding_of, room_after, seconds_from, ServesFrom}
+use Rattle.travel_times.specs.Table.{AreTravelTimes}
+use Rattle.route_drive.specs.work.Serving.{AreReached, party_at, seats_after, HasSeatsFor, is_stop_of, calls_of}
+use Rattle.route_drive.proofs.kept.Lists.{takes, skips, all_weaker}
+use Rattle.route_drive.proofs.kept.Walks.{least_between}
+use Rattle.route_drive.proofs.kept.Riders.{calls_own, calls_other, no_pickup}
+use Rattle.route_drive.proofs.kept.Tables.{time_between}
+
+-- whether a stop is a pickup
+abbrev pub is_pick : Stop → Bool
+is_pick (PickStop k) = true
+is_pick (Drop k) = false
+is_pick (Alight k) = false
+
+-- what the telling of a stop keeps of its visit
+pub record IsTold (points : List ℕ) (riders : List BookRider) (vis : Stop → Visit) (told : Stop × ℕ → PlannedStop) (s : Stop) : Type 0 where
+  pub second : (second : ℕ) → (told (s, second)).second ≡ second
+  pub pick : (second : ℕ) → (told (s, second)).pick ≡ is_pick s
+  pub node : (second : ℕ) → slice_get points (place_of (vis s)) ≡ Some (told (s, second)).node
+  pub boards : (second : ℕ) → (told (s, second)).pick ≡ true → boarding_of (vis s) ≡ party_at riders (told (s, second))
+  pub room : (second room : ℕ) → room_after (vis s) room ≡ seats_after riders (told (s, second)) room
+
+module _ (roads : Roads) (points : List ℕ) (times : Times) (table : AreTravelTimes roads.arcs (map (index_in roads.nodes) points) times) (riders : List BookRider) (dwell : ℕ) (vis : Stop → Visit) (told : Stop × ℕ → PlannedStop) where
+  -- the stops with their seconds, as they are told
+  abbrev pub told_from : ℕ → ℕ → List Stop → List PlannedStop
+  told_from place free stops = map told (zip stops (seconds_from (travel_time times) dwell place free (map vis stops)))
+
+  pub told_reached : (stops : List Stop) (place node free room : ℕ) → AllByRecursion (IsTold points riders vis told) stops → slice_get points place ≡ Some node
+      → ServesFrom (travel_time times) dwell place free room (map vis stops) → AreReached roads dwell node free (told_from place free stops)
+  told_reached [] place node free room are at serves = tt
+  told_reached (s ∷ stops) place node free room are at serves =
+      let second : ℕ = free + travel_time times place (place_of (vis s)) in
+      let is : (told (s, free + travel_time times place (place_of (vis s)))).second ≡ free + travel_time times place (place_of (vis s)) = are.0.second (free + travel_time times place (place_of (vis s))) in
+      let there = are.0.node (free + travel_time times place (place_of (vis s))) in
+      let between = time_between roads points times table place (place_of (vis s)) node (told (s, free + travel_time times place (place_of (vis s)))).node at there in (
+        record {
+          seconds = travel_time times place (place_of (vis s));
+          least = least_between roads.arcs (index_in roads.nodes node) (index_in roads.nodes (told (s, free + travel_time times place (place_of (vis s)))).node) (travel_time times place (place_of (vis s))) between serves.0;
+          short = serves.0;
+          reached = is;
+        },
+        subst (λ f. AreReached roads dwell (told (s, free + travel_time times place (place_of (vis s)))).node f (told_from (place_of (vis s)) (free + travel_time times place (place_of (vis s)) + dwell) stops)) (ap (λ n. n + dwell) (sym is))
+            (told_reached stops (place_of (vis s)) (told (s, free + travel_time times place (place_of (vis s)))).node (free + travel_time times place (place_of (vis s)) + dwell) (room_after (vis s) room) are.1 there serves.3),
+      )
+
+  pub told_seats : (stops : List Stop) (place free room : ℕ) → AllByRecursion (IsTold points riders vis told) stops
+      → ServesFrom (travel_time times) dwell place free room (map vis stops) → HasSeatsFor riders room (told_from place free stops)
+  told_seats [] place free room are serves = tt
+  told_seats (s ∷ stops) place free room are serves =
+      let second : ℕ = free + travel_time times place (place_of (vis s)) in (
+        λ pick. let e = are.0.boards (free + travel_time times place (place_of (vis s))) pick in let h = serves.2 in omega (arith, e, h),
+        subst (λ r. HasSeatsFor riders r (told_from (place_of (vis s)) (free + travel_time times place (place_of (vis s)) + dwell) stops)) (are.0.room (free + travel_time times place (place_of (vis s))) room)
+            (told_seats stops (place_of (vis s)) (free + travel_time times place (place_of (vis s)) + dwell) (room_after (vis s) room) are.1 serves.3),
+      )
+
+  -- what holds of each stop that is told at a second in time holds of all that are told
+  pub told_all : (P : Stop → Type 0) (Q : PlannedStop → Type 0) → ((s : Stop) (second : ℕ) → P s → second ≤ latest_of (vis s) → Q (told (s, second)))
+      → (stops : List Stop) (place free room : ℕ) → AllByRecursion P stops → ServesFrom (travel_time times) dwell place free room (map vis stops) → AllByRecursion Q (told_from place free stops)
+  told_all P Q each [] place free room all serves = tt
+  told_all P Q each (s ∷ stops) place free room all serves = (
+    each s (free + travel_time times place (place_of (vis s))) all.0 serves.1,
+    told_all P Q each stops (place_of (vis s)) (free + travel_time times place (place_of (vis s)) + dwell) (room_after (vis s) room) all.1 serves.3,
+  )
+
+  pub told_length : (stops : List Stop) (place free : ℕ) → length (told_from place free stops) ≡ length stops
+  told_length [] place free = refl
+  told_length (s ∷ stops) place free = let rest : length (told_from (place_of (vis s)) (free + travel_time times place (place_of (vis s)) + dwell) stops) ≡ length stops = told_length stops (place_of (vis s)) (free + travel_time times place (place_of (vis s)) + dwell) in omega (arith, rest)
+
+  -- the calls of a rider are those of the stops that are theirs
+  pub told_calls : (x : ℕ) (test : Stop → Bool) (P : Stop → Type 0) → ((s : Stop) (second : ℕ) → P s → is_stop_of x (told (s, second)) ≡ test s) → ((s : Stop) (second : ℕ) → P s → (told (s, second)).pick ≡ is_pick s)
+      → (stops : List Stop) (place free : ℕ) → AllByRecursion P stops → calls_of x (told_from place free stops) ≡ map is_pick (filter test stops)
+  told_calls x test P same kind [] place free all = refl
+  told_calls x test P same kind (s ∷ stops) place free all =
+      let second : ℕ = free + travel_time times place (place_of (vis s)) in
+      let ih = told_calls x test P same kind stops (place_of (vis s)) (free + travel_time times place (place_of (vis s)) + dwell) all.1 in
+      let t = same s (free + travel_time times place (place_of (vis s))) all.0 in
+      elim (cases_Bool (test s)) [
+        | inl e ↦
+            ap (map (λ (s : PlannedStop). s.pick)) (takes (is_stop_of x) (told (s, free + travel_time times place (place_of (vis s)))) (told_from (place_of (vis s)) (free + travel_time times place (place_of (vis s)) + dwell) stops) (t ∙ e))
+            ∙ ap (λ b. b ∷ calls_of x (told_from (place_of (vis s)) (free + travel_time times place (place_of (vis s)) + dwell) stops)) (kind s (free + travel_time times place (place_of (vis s))) all.0)
+            ∙ ap (λ bs. is_pick s ∷ bs) ih ∙ ap (map is_pick) (sym (takes test s stops e))
+        | inr e ↦
+            ap (map (λ (s : PlannedStop). s.pick)) (skips (is_stop_of x) (told (s, free + travel_time times place (place_of (vis s)))) (told_from (place_of (vis s)) (free + travel_time times place (place_of (vis s)) + dwell) stops) (t ∙ e))
+            ∙ ih ∙ ap (map is_pick) (sym (skips test s stops e))
+      ]
+
+-- what the pick stops of a vehicle promise
+abbrev pub pick_of : ℕ → PlannedStop → Pick
+pick_of vehicle stop = record { rider = stop.rider; promise = record { vehicle = vehicle; pickup = stop.second } }
+
+picks_take : (vehicle : ℕ) (stop : PlannedStop) (stops : List PlannedStop) → stop.pick ≡ true → trip_picks vehicle (stop ∷ stops) ≡ pick_of vehicle stop ∷ trip_picks vehicle stops
+unfolding trip_picks
+picks_take vehicle stop stops e = rw e refl
+
+picks_skip : (vehicle : ℕ) (stop : PlannedStop) (stops : List PlannedStop) → stop.pick ≡ false → trip_picks vehicle (stop ∷ stops) ≡ trip_picks vehicle stops
+unfolding trip_picks
+picks_skip vehicle stop stops e = rw e refl
+
+-- whoever has no pickup is promised none
+pub none_promised : (x vehicle : ℕ) (stops : List PlannedStop) → AllByRecursion (λ b. b ≡ false) (calls_of x stops) → look_up (λ (p : Pick). p.rider) x (trip_picks vehicle stops) ≡ None
+unfolding trip_picks
+none_promised x vehicle [] all = look_up-nil (λ (p : Pick). p.rider) x
+none_promised x vehicle (stop ∷ stops) all = elim (cases_eq stop.rider x) [
+  | inl e ↦
+      let own = subst (λ bs. AllByRecursion (λ b. b ≡ false) bs) (calls_own x stop stops e) all in
+      ap (look_up (λ (p : Pick). p.rider) x) (picks_skip vehicle stop stops own.0) ∙ none_promised x vehicle stops own.1
+  | inr ne ↦
+      let rest = none_promised x vehicle stops (subst (λ bs. AllByRecursion (λ b. b ≡ false) bs) (calls_other x stop stops ne) all) in
+      elim (cases_Bool stop.pick) [
+        | inl p ↦ ap (look_up (λ (p : Pick). p.rider) x) (picks_take vehicle stop stops p) ∙ look_up-there (λ (p : Pick). p.rider) x (pick_of vehicle stop) (trip_picks vehicle stops) ne ∙ rest
+        | inr d ↦ ap (look_up (λ (p : Pick). p.rider) x) (picks_skip vehicle stop stops d) ∙ rest
+      ]
+]
+
+-- whoever has one pickup is promised it
+pub record IsPickPromised (x vehicle : ℕ) (stops : List PlannedStop) : Type 0 where
+  pub second : ℕ
+  pub found : look_up (λ (p : Pick). p.rider) x (trip_picks vehicle stops) ≡ Some (record { rider = x; promise = record { vehicle = vehicle; pickup = second } })
+  pub at : AllByRecursion (λ (stop : PlannedStop). stop.rider ≡ x → stop.pick ≡ true → stop.second ≡ second) stops
+
+pub one_promised : (x vehicle : ℕ) (stops : List PlannedStop) → calls_of x stops ≡ true ∷ false ∷ [] → IsPickPromised x vehicle stops
+one_promised x vehicle [] e = absurd cc
+one_promised x vehicle (stop ∷ stops) e = elim (cases_eq stop.rider x) [
+  | inl same ↦
+      let f : stop.pick ∷ calls_of x stops ≡ true ∷ false ∷ [] = sym (calls_own x stop stops same) ∙ e in
+      let pick : stop.pick ≡ true = cc in
+      let rest : calls_of x stops ≡ false ∷ [] = cc in
+      record {
+        second = stop.second;
+        found =
+            ap (look_up (λ (p : Pick). p.rider) x) (picks_take vehicle stop stops pick) ∙ look_up-here (λ (p : Pick). p.rider) x (pick_of vehicle stop) (trip_picks vehicle stops) same
+            ∙ ap (λ n. Some (record { rider = n; promise = record { vehicle = vehicle; pickup = stop.second } })) same;
+        at = (
+          λ a b. refl,
+          all_weaker (λ (s : PlannedStop). s.rider ≡ x → s.pick ≡ false) (λ (s : PlannedStop). s.rider ≡ x → s.pick ≡ true → s.second ≡ stop.second)
+              (λ s h a b. absurd (true≢false (sym b ∙ h a))) stops (no_pickup x stops (subst (λ bs. AllByRecursion (λ b. b ≡ false) bs) (sym rest) (refl, tt))),
+        );
+      }
+  | inr ne ↦
+      let rest = one_promised x vehicle stops (sym (calls_other x stop stops ne) ∙ e) in
+      record {
+        second = rest.second;
+        found = elim (cases_Bool stop.pick) [
+          | inl p ↦ ap (look_up (λ (p : Pick). p.rider) x) (picks_take vehicle stop stops p) ∙ look_up-there (λ (p : Pick). p.rider) x (pick_of vehicle stop) (trip_picks vehicle stops) ne ∙ rest.found
+          | inr d ↦ ap (look_up (λ (p : Pick). p.rider) x) (picks_skip vehicle stop stops d) ∙ rest.found
+        ];
+        at = (λ a b. absurd (ne a), rest.at);
+      }
+]
+
+-- what is found in lists one after the other
+module _ {X : Type 0} (key : X → ℕ) (k : ℕ) where
+  pub look_up-after : (xs ys : List X) → look_up key k xs ≡ None → look_up key k (xs ++ ys) ≡ look_up key k ys
+  look_up-after [] ys none = refl
+  look_up-after (x ∷ xs) ys none = elim (cases_eq (key x) k) [
+    | inl e ↦ absurd (let h = look_up-here key k x xs e in cc)
+    | inr ne ↦ look_up-there key k x (xs ++ ys) ne ∙ look_up-after xs ys (sym (look_up-there key k x xs ne) ∙ none)
+  ]
+
+  pub look_up-before : (xs ys : List X) → look_up key k ys ≡ None → look_up key k (xs ++ ys) ≡ look_up key k xs
+  look_up-before [] ys none = none ∙ sym (look_up-nil key k)
+  look_up-before (x ∷ xs) ys none = elim (cases_eq (key x) k) [
+    | inl e ↦ look_up-here key k x (xs ++ ys) e ∙ sym (look_up-here key k x xs e)
+    | inr ne ↦ look_up-there key k x (xs ++ ys) ne ∙ look_up-before xs ys none ∙ sym (look_up-there key k x xs ne)
+  ]
+
+  pub none_among : {T : Type 0} (f : T → List X) (ts : List T) → ((j : ℕ) (u : T) → slice_get ts j ≡ Some u → look_up key k (f u) ≡ None) → look_up key k (flat_map f ts) ≡ None
+  none_among f [] none = look_up-nil key k
+  none_among f (t ∷ ts) none = look_up-after (f t) (flat_map f ts) (none 0 t refl) ∙ none_among f ts (λ j u e. none (suc j) u e)
+
+  pub found_among : {T : Type 0} (f : T → List X) (ts : List T) (i : ℕ) (t : T) → slice_get ts i ≡ Some t → ((j : ℕ) (u : T) → slice_get ts j ≡ Some u → (j ≡ i → ⊥) → look_up key k (f u) ≡ None)
+      → look_up key k (flat_map f ts) ≡ look_up key k (f t)
+  found_among f [] i t at none = absurd cc
+  found_among f (u ∷ ts) zero t at none =
+      let is : u ≡ t = cc in
+      look_up-before (f u) (flat_map f ts) (none_among f ts (λ j w e. none (suc j) w e (λ h. absurd (omega arith)))) ∙ ap (λ t. look_up key k (f t)) is
+  found_among f (u ∷ ts) (suc i) t at none =
+      look_up-after (f u) (flat_map f ts) (none 0 u refl (λ h. absurd (omega arith))) ∙ found_among f ts i t at (λ j w e ne. none (suc j) w e (λ h. ne (omega arith)))

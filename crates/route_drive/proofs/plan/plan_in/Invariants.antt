@@ -1,0 +1,6 @@
+use Rattle.std.proofs.Common.{◌≡◌, drop}
+use Rattle.route_drive.specs.Driven.{plan_in}
+use Rattle.route_drive.proofs.plan.plan_in.Given as goal
+
+abbrev pub invariant-loop-entry : goal.invariant-loop-entry
+invariant-loop-entry l = plan_in l.entries ≡ plan_in (drop l.entry-index l.entries)

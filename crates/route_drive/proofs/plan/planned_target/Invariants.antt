@@ -1,0 +1,7 @@
+use Rattle.std.proofs.Common.{◌≡◌, drop}
+use Rattle.std.specs.Prelude.{find, ◌==◌}
+use Rattle.request_book.specs.declared.outcome.MoveLine.{MoveLine}
+use Rattle.route_drive.proofs.plan.planned_target.Given as goal
+
+abbrev pub invariant-loop-line : goal.invariant-loop-line
+invariant-loop-line l = find (λ (line : MoveLine). line.vehicle == l.vehicle) l.line-items ≡ find (λ (line : MoveLine). line.vehicle == l.vehicle) (drop l.line-index l.line-items)

@@ -1,0 +1,11 @@
+use Rattle.std.proofs.Common.{map, take}
+use Rattle.std.specs.List.{All}
+use Rattle.route_drive.specs.Entering.{IsInTime, stop_command}
+use Rattle.route_drive.specs.work.Rounds.{Adds}
+use Rattle.route_drive.proofs.rounds.enter_left.Given as goal
+
+abbrev pub invariant-loop-stop : goal.invariant-loop-stop
+invariant-loop-stop l = record {
+  entered : Adds 0 (map (stop_command l.vehicle) (take l.stop-index l.stops)) l.initial.round l.round;
+  in_time : All IsInTime (map (stop_command l.vehicle) (take l.stop-index l.stops));
+}

@@ -1,0 +1,11 @@
+use Rattle.std.proofs.Common.{take}
+use Rattle.std.specs.List.{All}
+use Rattle.route_drive.specs.Entering.{IsInTime, left_commands}
+use Rattle.route_drive.specs.work.Rounds.{Adds}
+use Rattle.route_drive.proofs.rounds.last_round.Given as goal
+
+abbrev pub invariant-loop-k : goal.invariant-loop-k
+invariant-loop-k l = record {
+  entered : Adds 0 (left_commands (take l.k l.vehicles) (take l.k l.courses)) l.initial.round l.round;
+  in_time : All IsInTime (left_commands (take l.k l.vehicles) (take l.k l.courses));
+}

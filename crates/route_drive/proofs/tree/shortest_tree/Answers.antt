@@ -1,0 +1,13 @@
+use Rattle.std.proofs.Common.{length, arith}
+use Rattle.route_drive.proofs.TreeLemmas.{IsGrowing-start, IsGrowing-more}
+use Rattle.route_drive.proofs.tree.shortest_tree.Goals as goal
+
+pub loop-next-init : goal.loop-next-init
+loop-next-init c =
+    rw (c.in_ok-mark.ensures.seen, c.in_ok-mark.ensures.found, c.in_ok-tree.ensures.seen, c.in_ok-tree.ensures.found, c.node_count.ensures.count)
+    (IsGrowing-start c.args.network.now.arcs c.args.times.now c.args.start (length c.args.network.now.nodes) c.requires.size c.requires.start c.requires.near)
+
+pub loop-next-preserved : goal.loop-next-preserved
+loop-next-preserved c =
+    IsGrowing-more c.args.network.now.arcs c.args.times.now c.args.start c.loop-next.next c.loop-next.tree.seen.items c.open.new.tree.seen.items c.loop-next.tree.found.items c.open.new.tree.found.items (let t = c.loop-next-test.true in let e = c.len.ensures in let ok = c.loop-next.tree.found.ok.0 in omega (arith, t, e, ok)) c.loop-next.invariant
+    c.in_ok-open.ensures.tree c.in_ok-open.ensures.grows c.in_ok-open.ensures.opened

@@ -1,0 +1,80 @@
+-- What is counted of a driven day: who was picked up and dropped, the worst wait and the worst delay.
+use Rattle.std.specs.Prelude.{◌≡◌, ℕ, ◌+◌, ◌-◌, ◌^◌, Bool, true, false, max, min, nat_lt, if◌then◌else◌, List, [], ◌∷◌, ◌++◌, MatchOption, length, map, filter}
+use Rattle.std.specs.Option.{option_map_or}
+use Rattle.pool_base.specs.TravelTime.{never}
+use Rattle.request_book.specs.State.{find_rider}
+use Rattle.request_book.specs.declared.command.Command.{Command}
+use Rattle.request_book.specs.declared.command.Command.TheVariants.{Pickup, Dropoff}
+use Rattle.request_book.specs.declared.journal.Entry.{Entry}
+use Rattle.request_book.specs.declared.reply.Reply.{Reply}
+use Rattle.request_book.specs.declared.reply.Reply.TheVariants.{Picked, Dropped}
+use Rattle.request_book.specs.declared.rider.BookRider.{BookRider}
+use Rattle.road_network.specs.Roads.{Roads, index_in}
+use Rattle.road_network.specs.Walk.{IsTimeBetween}
+use Rattle.route_drive.specs.declared.day_run.DayRound.{DayRound}
+use Rattle.route_drive.specs.Entering.{second_of}
+
+-- the entries of all journals, in order
+abbrev pub entries_of : List DayRound → List Entry
+entries_of [] = []
+entries_of (r ∷ made) = r.journal.entries ++ entries_of made
+
+-- the entries that are answered `picked`, and those that are answered `dropped`
+abbrev pub is_picked : Reply → Bool
+is_picked Picked = true
+is_picked reply = false
+
+abbrev pub is_dropped : Reply → Bool
+is_dropped Dropped = true
+is_dropped reply = false
+
+abbrev pub picked_among : List Entry → List Entry
+picked_among entries = filter (λ e. is_picked e.reply) entries
+
+abbrev pub dropped_among : List Entry → List Entry
+dropped_among entries = filter (λ e. is_dropped e.reply) entries
+
+-- how many there are; a count stands still at the greatest u64
+abbrev pub count_of : List Entry → ℕ
+count_of entries = min (length entries) (2 ^ 64 - 1)
+
+-- the rider of a pickup or drop-off
+abbrev pub rider_of : Command → ℕ
+rider_of (Pickup vehicle rider time) = rider
+rider_of (Dropoff vehicle rider time) = rider
+rider_of command = 0
+
+-- how long a rider waited from the request to the pickup
+abbrev pub wait_of : List BookRider → Entry → ℕ
+wait_of riders e = option_map_or (λ r. second_of e.command - r.time) (find_rider (rider_of e.command) riders) 0
+
+-- the ideal second of a drop-off: that of the request, and after it a shortest walk, if there is one
+abbrev pub ideal_dropoff : ℕ → ℕ → ℕ
+ideal_dropoff time seconds = if nat_lt seconds never then time + seconds else time
+
+-- how long after the ideal second a rider was dropped, or 0
+abbrev pub IsDelayOf : Roads → List BookRider → Entry → ℕ → Type 0
+IsDelayOf roads riders e delay =
+    MatchOption (find_rider (rider_of e.command) riders) (delay ≡ 0)
+    (λ r. (seconds : ℕ) × IsTimeBetween roads.arcs (index_in roads.nodes r.origin) (index_in roads.nodes r.destination) seconds
+    × (delay ≡ second_of e.command - ideal_dropoff r.time seconds))
+
+-- these are the delays of drop-offs, in order
+abbrev pub AreDelaysOf : Roads → List BookRider → List Entry → List ℕ → Type 0
+AreDelaysOf roads riders [] [] = Unit {0}
+AreDelaysOf roads riders (e ∷ entries) (delay ∷ delays) = IsDelayOf roads riders e delay × AreDelaysOf roads riders entries delays
+AreDelaysOf roads riders entries delays = ⊥
+
+-- the greatest of numbers, 0 without one
+abbrev pub greatest : List ℕ → ℕ
+greatest [] = 0
+greatest (x ∷ xs) = max x (greatest xs)
+
+-- the counts of entries, where these are the riders whom they name
+pub record AreCounts (roads : Roads) (riders : List BookRider) (entries : List Entry) (picked dropped worst_wait worst_delay : ℕ) : Type 0 where
+  pub picked_is : picked ≡ count_of (picked_among entries)
+  pub dropped_is : dropped ≡ count_of (dropped_among entries)
+  pub wait_is : worst_wait ≡ greatest (map (wait_of riders) (picked_among entries))
+  pub delays : List ℕ
+  pub delays_are : AreDelaysOf roads riders (dropped_among entries) delays
+  pub delay_is : worst_delay ≡ greatest delays

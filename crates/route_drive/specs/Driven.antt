@@ -1,0 +1,170 @@
+-- The driven script of a day: its rounds with what is entered before each seal, and a last round of the stops left.
+use Rattle.std.specs.Prelude.{◌≡◌, ◌≢◌, ℕ, ◌+◌, List, [], ◌∷◌, ◌++◌, Option, None, Some, MatchOption, All, map, option_map, option_and_then}
+use Rattle.std.specs.List.{Any}
+use Rattle.std.specs.Option.{option_or, option_map_or}
+use Rattle.batch_snapshot.specs.Kept.{IsFleet}
+use Rattle.batch_snapshot.specs.declared.vehicle.Vehicle.{Vehicle}
+use Rattle.request_book.specs.Book.{BookView, opening}
+use Rattle.request_book.specs.Keyed.{look_up}
+use Rattle.request_book.specs.Replay.{state_after}
+use Rattle.request_book.specs.State.{find_rider}
+use Rattle.request_book.specs.declared.command.Command.{Command}
+use Rattle.request_book.specs.declared.command.Command.TheVariants.{Close}
+use Rattle.request_book.specs.declared.journal.Entry.{Entry}
+use Rattle.request_book.specs.declared.journal.Journal.{Journal}
+use Rattle.request_book.specs.declared.outcome.Answer.{Answer}
+use Rattle.request_book.specs.declared.outcome.Answer.TheVariants as answer
+use Rattle.request_book.specs.declared.outcome.Planned.{Planned}
+use Rattle.request_book.specs.declared.reply.Reply.{Reply}
+use Rattle.request_book.specs.declared.reply.Reply.TheVariants.{Closed}
+use Rattle.request_book.specs.declared.rider.BookRider.{BookRider}
+use Rattle.request_book.specs.declared.state.State.{State}
+use Rattle.rider_limits.specs.declared.settings.Settings.{Settings}
+use Rattle.road_network.specs.Roads.{Roads}
+use Rattle.script_rows.specs.Round.{NumberedLanes, empty_round, lane_at}
+use Rattle.dispatch_engine.specs.Run.{IsRun}
+use Rattle.route_drive.specs.declared.course.Course.{Course}
+use Rattle.route_drive.specs.declared.day_run.DayRound.{DayRound}
+use Rattle.route_drive.specs.declared.day_run.DriveFault.{DriveFault}
+use Rattle.route_drive.specs.declared.day_run.DriveFault.TheVariants.{TooLate, OutOfMemory}
+use Rattle.route_drive.specs.Day.{seal_of}
+use Rattle.route_drive.specs.Entering.{AreEntered, EntersTooLate, IsInTime, IsTooLate, left_commands, to_come}
+
+-- a round with commands before those of its lane 0
+pub record IsPrecededBy (before : List Command) (round driven : NumberedLanes) : Type 0 where
+  pub number : driven.number ≡ round.number
+  pub first : lane_at driven 0 ≡ before ++ lane_at round 0
+  pub others : (lane : ℕ) → lane ≢ 0 → lane_at driven lane ≡ lane_at round lane
+
+-- the plan with which a close ended its batch
+abbrev pub planned_in : Answer → Option Planned
+planned_in answer.Overflow = None
+planned_in (answer.Planned planned) = Some planned
+
+abbrev pub plan_of : Command → Reply → Option Planned
+plan_of (Close batch outcome) Closed = planned_in outcome.answer
+plan_of command reply = None
+
+-- the first plan among entries, if a batch was closed with one
+abbrev pub plan_in : List Entry → Option Planned
+plan_in [] = None
+plan_in (entry ∷ entries) = option_or (plan_of entry.command entry.reply) (plan_in entries)
+
+-- nothing is on its way
+abbrev pub at_rest : Course
+at_rest = record { stops = record { items = [] }; target = None }
+
+-- what a plan has for a vehicle: the stops of its chosen trip, and the origin of the rider whom its move names
+abbrev pub planned_course : List BookRider → Planned → Vehicle → Course
+planned_course riders planned v = record {
+  stops = option_map_or (λ trip. trip.stops) (look_up (λ trip. trip.vehicle) v.id planned.chosen) (record { items = [] });
+  target = option_and_then (λ move. option_map (λ r. r.origin) (find_rider move.rider riders)) (look_up (λ move. move.vehicle) v.id planned.moves);
+}
+
+-- what a seal leaves on its way: the stops that weren't due
+abbrev pub left_course : Option ℕ → Course → Course
+left_course None course = course
+left_course (Some now) course = record course { stops = record { items = to_come now course.stops.items } }
+
+-- what is on its way after a round that leaves this state: a plan ends what was on its way before
+abbrev pub courses_after : State → NumberedLanes → List Entry → List Course → List Course
+courses_after s round entries courses =
+    option_map_or (λ planned. map (planned_course s.riders planned) s.vehicles) (plan_in entries) (map (left_course (seal_of round)) courses)
+
+-- the number above that of the last round
+abbrev pub number_after : List NumberedLanes → ℕ
+number_after [] = 0
+number_after (round ∷ []) = round.number + 1
+number_after (round ∷ rounds) = number_after rounds
+
+module _ (settings : Settings) (roads : Roads) where
+  -- the book of a fleet before its first round, over these roads and with this longest wait
+  pub record IsNewBook (b : BookView) : Type 0 where
+    pub vehicles : List Vehicle
+    pub fleet : IsFleet vehicles
+    pub nodes : b.nodes ≡ roads.nodes
+    pub wait : b.wait ≡ settings.wait
+    pub first : b.first ≡ 0
+    pub entries : b.entries ≡ []
+    pub base : b.base ≡ opening vehicles
+    pub state : b.state ≡ opening vehicles
+
+  -- a round as it is driven from a state: before its seal, if it has one, all vehicles are entered, each second in time
+  abbrev pub IsDrivenRound : State → List Course → NumberedLanes → NumberedLanes → Type 0
+  IsDrivenRound s courses round driven =
+      MatchOption (seal_of round) (IsPrecededBy [] round driven)
+      (λ now. (entered : List Command) × AreEntered roads settings.dwell now s.vehicles courses entered × All IsInTime entered × IsPrecededBy entered round driven)
+
+  -- the state after a journal
+  abbrev pub left_state : Journal → State
+  left_state j = state_after roads.nodes settings.wait j.base j.entries
+
+  -- rounds as they are driven, one after the other, where these are the journals that they make
+  abbrev pub AreDriven : List Course → List NumberedLanes → List NumberedLanes → List Journal → Type 0
+  AreDriven courses [] [] [] = Unit {0}
+  AreDriven courses (round ∷ rounds) (driven ∷ script) (j ∷ journals) =
+      IsDrivenRound j.base courses round driven × AreDriven (courses_after (left_state j) round j.entries courses) rounds script journals
+  AreDriven courses rounds script journals = ⊥
+
+  -- what is on its way after rounds
+  abbrev pub courses_left : List Course → List NumberedLanes → List Journal → List Course
+  courses_left courses (round ∷ rounds) (j ∷ journals) = courses_left (courses_after (left_state j) round j.entries courses) rounds journals
+  courses_left courses rounds journals = courses
+
+  -- at first nothing is on its way
+  abbrev pub first_courses : State → List Course
+  first_courses s = map (λ v. at_rest) s.vehicles
+
+  -- the state that journals leave
+  abbrev pub state_left : State → List Journal → State
+  state_left s [] = s
+  state_left s (j ∷ journals) = state_left (left_state j) journals
+
+  -- what is on its way after journals of rounds, from a state
+  abbrev pub courses_from : State → List NumberedLanes → List DayRound → List Course
+  courses_from s rounds made = courses_left (first_courses s) rounds (map (λ r. r.journal) made)
+
+  -- journals that are a run of rounds as they are driven, from a state
+  pub record HasDriven (s : State) (rounds : List NumberedLanes) (made : List DayRound) : Type 0 where
+    pub script : List NumberedLanes
+    pub driven : AreDriven (first_courses s) rounds script (map (λ r. r.journal) made)
+    pub numbers : map (λ r. r.number) made ≡ map (λ r. r.number) rounds
+    pub run : IsRun settings roads s 0 script (map (λ r. r.journal) made)
+
+  -- the same with one more round, of the stops that are left, numbered one above the last
+  pub record HasDrivenToTheEnd (s : State) (rounds : List NumberedLanes) (made : List DayRound) : Type 0 where
+    pub first : List DayRound
+    pub last : DayRound
+    pub parts : made ≡ first ++ last ∷ []
+    pub script : List NumberedLanes
+    pub end : NumberedLanes
+    pub driven : AreDriven (first_courses s) rounds script (map (λ r. r.journal) first)
+    pub left : IsPrecededBy (left_commands last.journal.base.vehicles (courses_from s rounds first)) (empty_round (number_after rounds)) end
+    pub in_time : All IsInTime (left_commands last.journal.base.vehicles (courses_from s rounds first))
+    pub numbers : map (λ r. r.number) made ≡ map (λ r. r.number) rounds ++ number_after rounds ∷ []
+    pub run : IsRun settings roads s 0 (script ++ end ∷ []) (map (λ r. r.journal) made)
+
+  -- journals that are a run of a day's driven script; of an empty day there is none
+  abbrev pub IsDrivenDay : State → List NumberedLanes → List DayRound → Type 0
+  IsDrivenDay s [] made = made ≡ []
+  IsDrivenDay s rounds made = HasDrivenToTheEnd s rounds made
+
+  -- a second above 1,000,000,000 is entered into the next round of a day: before its seal, or as a stop that is left
+  abbrev pub ComesTooLate : List Vehicle → List Course → List NumberedLanes → ℕ → Type 0
+  ComesTooLate vehicles courses [] number = Any IsTooLate (left_commands vehicles courses)
+  ComesTooLate vehicles courses (round ∷ rounds) number =
+      (round.number ≡ number) × ((now : ℕ) × (seal_of round ≡ Some now) × EntersTooLate roads settings.dwell now vehicles courses)
+
+  -- a day that is too late at a round: these are the journals of the rounds before it
+  pub record IsTooLateDay (s : State) (rounds : List NumberedLanes) (number : ℕ) (made : List DayRound) : Type 0 where
+    pub before : List NumberedLanes
+    pub rest : List NumberedLanes
+    pub parts : rounds ≡ before ++ rest
+    pub driven : HasDriven s before made
+    pub late : ComesTooLate (state_left s (map (λ r. r.journal) made)).vehicles (courses_from s before made) rest number
+    pub end : rest ≡ [] → number ≡ number_after rounds
+
+  -- why a day isn't driven to its end
+  abbrev pub IsLateAnswer : State → List NumberedLanes → DriveFault → Type 0
+  IsLateAnswer s rounds (TooLate number made) = IsTooLateDay s rounds number made
+  IsLateAnswer s rounds OutOfMemory = Unit {0}

@@ -1,0 +1,100 @@
+-- What a driven day keeps, entry by entry: nobody is late, no promise lapses, and no vehicle is above its seats.
+use Rattle.std.specs.Prelude.{◌≡◌, ℕ, ◌+◌, ◌≤◌, false, List, [], ◌∷◌, Some, None, All, map}
+use Rattle.pool_base.specs.Times.{travel_time}
+use Rattle.pool_base.specs.declared.times.Times.{Times}
+use Rattle.batch_snapshot.specs.Batch.{Batch}
+use Rattle.batch_snapshot.specs.Kept.{IsFleet}
+use Rattle.batch_snapshot.specs.Vehicle.{HasSeats}
+use Rattle.batch_snapshot.specs.declared.promise.Promise.{Promise}
+use Rattle.batch_snapshot.specs.declared.vehicle.Vehicle.{Vehicle}
+use Rattle.promise_check.specs.Settling.{IsSettled}
+use Rattle.request_book.specs.Book.{opening}
+use Rattle.request_book.specs.Consistent.{IsNode}
+use Rattle.request_book.specs.State.{find_rider}
+use Rattle.request_book.specs.Step.{step}
+use Rattle.request_book.specs.declared.command.Command.{Command}
+use Rattle.request_book.specs.declared.command.Command.TheVariants.{Pickup, Dropoff, Close}
+use Rattle.request_book.specs.declared.journal.Entry.{Entry}
+use Rattle.request_book.specs.declared.outcome.Answer.{Answer}
+use Rattle.request_book.specs.declared.outcome.Answer.TheVariants as answer
+use Rattle.request_book.specs.declared.reply.Reply.{Reply}
+use Rattle.request_book.specs.declared.reply.Reply.TheVariants.{Picked, Dropped, Closed}
+use Rattle.request_book.specs.declared.rider.BookRider.{BookRider}
+use Rattle.request_book.specs.declared.rider.Status.TheVariants.{Promised}
+use Rattle.request_book.specs.declared.state.State.{State}
+use Rattle.rider_limits.specs.declared.settings.Settings.{Settings}
+use Rattle.road_network.specs.Roads.{Roads, IsNetwork, index_in}
+use Rattle.road_network.specs.Walk.{IsTimeBetween}
+use Rattle.script_rows.specs.Round.{IsRound, NumberedLanes}
+use Rattle.stop_orders.specs.declared.settled.Settled.{Settled}
+use Rattle.travel_times.specs.Table.{AreTravelTimes}
+use Rattle.route_drive.specs.declared.day_run.DayRound.{DayRound}
+use Rattle.route_drive.specs.Counts.{entries_of, ideal_dropoff}
+use Rattle.route_drive.specs.Day.{day_fault}
+use Rattle.route_drive.specs.Driven.{IsDrivenDay}
+
+-- a drop-off at a second is at most so much later than the ideal one
+pub record IsDroppedInTime (roads : Roads) (delay : ℕ) (r : BookRider) (second : ℕ) : Type 0 where
+  pub seconds : ℕ
+  pub between : IsTimeBetween roads.arcs (index_in roads.nodes r.origin) (index_in roads.nodes r.destination) seconds
+  pub in_time : second ≤ ideal_dropoff r.time seconds + delay
+
+-- a rider is picked up at a second that is within the wait after the request
+pub record IsPickedInWait (wait : ℕ) (riders : List BookRider) (rider second : ℕ) : Type 0 where
+  pub of : BookRider
+  pub found : find_rider rider riders ≡ Some of
+  pub in_wait : second ≤ of.time + wait
+
+-- a rider is dropped at a second that is within the delay after the ideal one
+pub record IsDroppedInDelay (roads : Roads) (delay : ℕ) (riders : List BookRider) (rider second : ℕ) : Type 0 where
+  pub of : BookRider
+  pub found : find_rider rider riders ≡ Some of
+  pub in_time : IsDroppedInTime roads delay of second
+
+-- a plan tells no late vehicle and no lapsed promise
+abbrev pub TellsNothingLate : Answer → Type 0
+TellsNothingLate answer.Overflow = Unit {0}
+TellsNothingLate (answer.Planned planned) = (planned.late ≡ []) × (planned.lapsed ≡ [])
+
+-- a batch that is closed: by the travel times between its points and the limits that follow from them no vehicle is
+-- late and no promise has lapsed, whether it gets a plan or has too many rows; and its plan tells none
+pub record IsClosedInTime (settings : Settings) (roads : Roads) (s : State) (answer : Answer) : Type 0 where
+  pub batch : Batch
+  pub sealed : s.sealed ≡ Some batch
+  pub settles : (points : List ℕ) (times : Times) (settled : Settled) → AreTravelTimes roads.arcs (map (index_in roads.nodes) points) times → IsSettled settings points (travel_time times) batch settled
+      → All (λ v. v.late ≡ false) settled.vehicles × All (λ r. r.lapsed ≡ false) settled.riders
+  pub tells : TellsNothingLate answer
+
+-- a command picks a rider up by a second, if it does
+abbrev pub IsPickedBy : ℕ → ℕ → Command → Type 0
+IsPickedBy rider limit (Pickup vehicle other second) = other ≡ rider → second ≤ limit
+IsPickedBy rider limit command = Unit {0}
+
+-- what a state keeps, with the entries that are still to come: no vehicle has more persons than seats, and who is
+-- promised a pickup isn't picked up later
+pub record StateKeeps (s : State) (entries : List Entry) : Type 0 where
+  pub seats : All HasSeats s.vehicles
+  pub promises : (rider : ℕ) (r : BookRider) (promise : Promise) → find_rider rider s.riders ≡ Some r → r.status ≡ Promised promise
+      → All (λ e. IsPickedBy rider promise.pickup e.command) entries
+
+module _ (settings : Settings) (roads : Roads) where
+  -- what an entry keeps in the state in which it comes: each pickup is answered `picked`, and comes within the wait;
+  -- each drop-off is answered `dropped`, and comes within the delay; each close is answered `closed`, and no vehicle is
+  -- late and no promise lapses in its batch
+  abbrev pub EntryKeeps : State → Command → Reply → Type 0
+  EntryKeeps s (Pickup vehicle rider second) reply = (reply ≡ Picked) × IsPickedInWait settings.wait s.riders rider second
+  EntryKeeps s (Dropoff vehicle rider second) reply = (reply ≡ Dropped) × IsDroppedInDelay roads settings.delay s.riders rider second
+  EntryKeeps s (Close batch outcome) reply = (reply ≡ Closed) × IsClosedInTime settings roads s outcome.answer
+  EntryKeeps s command reply = Unit {0}
+
+  -- entries keep this, one after the other, from a state
+  abbrev pub EntriesKeep : State → List Entry → Type 0
+  EntriesKeep s [] = StateKeeps s []
+  EntriesKeep s (e ∷ es) = EntryKeeps s e.command e.reply × StateKeeps s (e ∷ es) × EntriesKeep (step roads.nodes settings.wait s e.command).0 es
+
+-- a driven day keeps its promises: all its entries do, from the state of a fleet before its first round
+abbrev pub DaysKeep : Type 0
+DaysKeep = (settings : Settings) (roads : Roads) (vehicles : List Vehicle) (rounds : List NumberedLanes) (made : List DayRound)
+    → IsNetwork roads → IsFleet vehicles → All (λ v. IsNode roads.nodes v.node) vehicles → All IsRound rounds → day_fault rounds ≡ None
+    → IsDrivenDay settings roads (opening vehicles) rounds made
+    → EntriesKeep settings roads (opening vehicles) (entries_of made)

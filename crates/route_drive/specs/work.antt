@@ -1,0 +1,6 @@
+pub mod Tree
+pub mod Rounds
+pub mod Drive
+pub mod Counting
+pub mod Serving
+pub mod Kept

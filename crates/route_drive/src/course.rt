@@ -1,0 +1,26 @@
+use arrayvec::ArrayVec;
+use pool_base::NodeId;
+use request_book::PlannedStop;
+
+/// What is on its way for a vehicle: the stops of its chosen trip that aren't entered yet, and the origin of the
+/// rider whom it is sent to where it is idle.
+#[derive(Drop)]
+pub struct Course {
+    pub stops: ArrayVec<PlannedStop, 22>,
+    pub target: Option<NodeId>,
+}
+
+/// A node at which a vehicle came at a second, and the second from which on it can leave.
+#[derive(Clone, Copy)]
+pub struct Standing {
+    pub node: NodeId,
+    pub second: u64,
+    pub free: u64,
+}
+
+/// A node at a second.
+#[derive(Clone, Copy)]
+pub struct Place {
+    pub node: NodeId,
+    pub second: u64,
+}

@@ -1,0 +1,5 @@
+pub mod FaultLemmas
+pub mod ChoiceLemmas
+pub mod NodeLemmas
+pub mod LimitLemmas
+pub mod FoundLemmas

@@ -1,0 +1,36 @@
+use Rattle.std.proofs.Common.{◌≡◌, ℕ, ◌+◌, ◌<◌, ◌≤◌, List, [], length, get_or, sym, ◌∙◌, subst, arith}
+use Rattle.std.proofs.lemmas.List.{get_or_default}
+use Rattle.pool_base.specs.Times.{travel_time}
+use Rattle.pair_graph.specs.RvGraph.{IsRvGraph}
+use Rattle.pair_graph.specs.declared.rv_edge.RvEdge.{RvEdge}
+use Rattle.stop_orders.specs.declared.settled.Settled.{Settled}
+use Rattle.trip_growth.specs.declared.trip_of.TripOf.{TripOf}
+use Rattle.trip_graph.specs.work.Levels.{AreLevels, AreLevelsUpTo}
+use Rattle.trip_graph.proofs.SingleEdges.{have_one, rv_of_singles}
+use Rattle.trip_graph.proofs.graph_growth.grow_graph.Goals as goal
+
+-- the level of one rider, as it is read
+singles_of : (tau : ℕ → ℕ → ℕ) (settled : Settled) (sizes : ℕ) (levels : List (List (List TripOf))) (own singles : List (List TripOf)) → 1 < sizes
+    → AreLevels tau settled sizes levels → own ≡ get_or levels 1 own → singles ≡ own → AreLevelsUpTo tau settled 1 (length settled.vehicles) singles
+singles_of tau settled sizes levels own singles some all read same =
+    let lt : 1 < length levels = (let c = all.count in omega arith) in
+    subst (λ (l : List (List TripOf)). AreLevelsUpTo tau settled 1 (length settled.vehicles) l) (get_or_default levels 1 [] own lt ∙ sym read ∙ sym same) (all.each 1 some)
+
+pub edges_of-requires : goal.edges_of-requires
+edges_of-requires g c =
+    let tau = travel_time c.args.times.now in
+    let settled = c.args.settled.now in
+    let levels = (rw c.in-Some.is at c.in_ok-levels.ensures).0 in
+    have_one tau settled (length settled.vehicles) c.as_slice.result.now
+    (singles_of tau settled (c.args.settings.now.trip + 1) c.in-Some.levels.items c.index.result.now c.as_slice.result.now
+    (let least = c.args.settings.now.in_range.trip_least in omega arith) levels c.index.ensures c.as_slice.ensures)
+
+pub returns : goal.returns
+returns g c =
+    let tau = travel_time c.args.times.now in
+    let settled = c.args.settled.now in
+    let levels = (rw c.in-Some.is at c.in_ok-levels.ensures).0 in
+    let rv = rv_of_singles tau settled c.as_slice.result.now
+    (singles_of tau settled (c.args.settings.now.trip + 1) c.in-Some.levels.items c.index.result.now c.as_slice.result.now
+    (let least = c.args.settings.now.in_range.trip_least in omega arith) levels c.index.ensures c.as_slice.ensures) in
+    (c.in_ok-graph.ensures, subst (λ (l : List RvEdge). IsRvGraph tau settled l) (sym c.in_ok-rv.ensures ∙ sym c.of.ensures) rv, c.in_ok-rr.ensures)
