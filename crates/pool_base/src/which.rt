@@ -7,6 +7,7 @@ pub enum Which {
     Network,
     Fleet,
     Script,
+    Report,
 }
 
 impl Which {
@@ -18,6 +19,7 @@ impl Which {
             Which::Network => "network",
             Which::Fleet => "fleet",
             Which::Script => "script",
+            Which::Report => "report",
         }
     }
 }
