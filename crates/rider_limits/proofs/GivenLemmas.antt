@@ -3,13 +3,13 @@ use Rattle.std.specs.List.{list_all, prefix_len, position_or_len, before_first, 
 use Rattle.std.specs.Option.{option_map, option_map_or, option_or}
 use Rattle.std.proofs.lemmas.List.{append_assoc, length-append, take_at, drop_at, length_push}
 use Rattle.std.proofs.lemmas.Bool.{and_parts, cases_Bool, lt-ltb, leb-true}
-use Rattle.pool_base.specs.declared.which.Which.TheVariants.{Network, Fleet, Script}
+use Rattle.pool_base.specs.declared.which.Which.TheVariants.{Network, Fleet, Script, Report}
 use Rattle.pool_base.specs.Number.{value_of}
 use Rattle.pool_base.specs.Numeral.{is_numeral, number_up_to}
 use Rattle.pool_base.proofs.lemmas.InOrderLemmas.{first_fault-each}
 use Rattle.pool_base.proofs.lemmas.NumeralLemmas.{number_up_to-some}
 use Rattle.rider_limits.specs.declared.command.Command.{Command}
-use Rattle.rider_limits.specs.declared.command.Command.TheVariants.{Run, Load, Drive}
+use Rattle.rider_limits.specs.declared.command.Command.TheVariants.{Run, Load, Drive, Audit}
 use Rattle.rider_limits.specs.declared.key.Key.{Key}
 use Rattle.rider_limits.specs.declared.key.Key.TheVariants.{Input, Notices, Wait, Delay, Trip, Penalty, Budget, Pairs, Workers, Proof, Dwell, Times, Seed, Side, Vehicles, Riders, Rounds}
 use Rattle.rider_limits.specs.declared.key.Takes.TheVariants.{Number}
@@ -32,6 +32,7 @@ name_lacks_equals : (key : Key) → list_all (λ c. not (nat_eq c 61)) (about ke
 name_lacks_equals (Input Network) = refl
 name_lacks_equals (Input Fleet) = refl
 name_lacks_equals (Input Script) = refl
+name_lacks_equals (Input Report) = refl
 name_lacks_equals Notices = refl
 name_lacks_equals Wait = refl
 name_lacks_equals Delay = refl
@@ -55,6 +56,7 @@ unfolding key_of
 key_of-name Run (Input Network) = refl
 key_of-name Run (Input Fleet) = refl
 key_of-name Run (Input Script) = refl
+key_of-name Run (Input Report) = refl
 key_of-name Run Notices = refl
 key_of-name Run Wait = refl
 key_of-name Run Delay = refl
@@ -74,6 +76,7 @@ key_of-name Run Rounds = refl
 key_of-name Load (Input Network) = refl
 key_of-name Load (Input Fleet) = refl
 key_of-name Load (Input Script) = refl
+key_of-name Load (Input Report) = refl
 key_of-name Load Notices = refl
 key_of-name Load Wait = refl
 key_of-name Load Delay = refl
@@ -93,6 +96,7 @@ key_of-name Load Rounds = refl
 key_of-name Drive (Input Network) = refl
 key_of-name Drive (Input Fleet) = refl
 key_of-name Drive (Input Script) = refl
+key_of-name Drive (Input Report) = refl
 key_of-name Drive Notices = refl
 key_of-name Drive Wait = refl
 key_of-name Drive Delay = refl
@@ -109,6 +113,26 @@ key_of-name Drive Side = refl
 key_of-name Drive Vehicles = refl
 key_of-name Drive Riders = refl
 key_of-name Drive Rounds = refl
+key_of-name Audit (Input Network) = refl
+key_of-name Audit (Input Fleet) = refl
+key_of-name Audit (Input Script) = refl
+key_of-name Audit (Input Report) = refl
+key_of-name Audit Notices = refl
+key_of-name Audit Wait = refl
+key_of-name Audit Delay = refl
+key_of-name Audit Trip = refl
+key_of-name Audit Penalty = refl
+key_of-name Audit Budget = refl
+key_of-name Audit Pairs = refl
+key_of-name Audit Workers = refl
+key_of-name Audit Proof = refl
+key_of-name Audit Dwell = refl
+key_of-name Audit Times = refl
+key_of-name Audit Seed = refl
+key_of-name Audit Side = refl
+key_of-name Audit Vehicles = refl
+key_of-name Audit Riders = refl
+key_of-name Audit Rounds = refl
 
 -- a word of a key's name, `=` and a text gives that key and text, where the command has the key
 option_of-named : (command : Command) (key : Key) (word text : List ℕ) → word ≡ (about key).name ++ 61 ∷ text → option_of command word ≡ option_map (λ k. (k, text)) (cond ((about key).has command) (Some key) None)

@@ -4,9 +4,10 @@ use Rattle.std.specs.Option.{option_map_or}
 use Rattle.std.specs.Str.{bytes_eq}
 use Rattle.pool_base.specs.Numeral.{number_up_to}
 use Rattle.pool_base.specs.Which as file
-use Rattle.pool_base.specs.declared.which.Which.TheVariants.{Network, Fleet, Script}
+use Rattle.pool_base.specs.declared.which.Which.{Which}
+use Rattle.pool_base.specs.declared.which.Which.TheVariants.{Network, Fleet, Script, Report}
 use Rattle.rider_limits.specs.declared.command.Command.{Command}
-use Rattle.rider_limits.specs.declared.command.Command.TheVariants.{Run, Load, Drive}
+use Rattle.rider_limits.specs.declared.command.Command.TheVariants.{Run, Load, Drive, Audit}
 use Rattle.rider_limits.specs.declared.key.Key.{Key}
 use Rattle.rider_limits.specs.declared.key.Key.TheVariants.{Input, Notices, Wait, Delay, Trip, Penalty, Budget, Pairs, Workers, Proof, Dwell, Times, Seed, Side, Vehicles, Riders, Rounds}
 use Rattle.rider_limits.specs.declared.key.Takes.{Takes}
@@ -17,19 +18,36 @@ abbrev pub command_name : Command → List ℕ
 command_name Run = codes "run"
 command_name Load = codes "load"
 command_name Drive = codes "drive"
+command_name Audit = codes "audit"
 
 -- the command of a word
 abbrev pub command_of : List ℕ → Option Command
-command_of word = find (λ command. bytes_eq (command_name command) word) (Run ∷ Load ∷ Drive ∷ [])
+command_of word = find (λ command. bytes_eq (command_name command) word) (Run ∷ Load ∷ Drive ∷ Audit ∷ [])
 
--- a command reads its inputs from files
-abbrev pub reads_files : Command → Bool
-reads_files Load = false
-reads_files _ = true
+-- a command reads this file: a made workload none, and only an audit a report
+abbrev pub reads : Command → Which → Bool
+reads Load which = false
+reads Audit which = true
+reads command Report = false
+reads command which = true
 
 -- a command makes its inputs from a seed
 abbrev pub makes_inputs : Command → Bool
-makes_inputs command = not (reads_files command)
+makes_inputs Load = true
+makes_inputs _ = false
+
+-- a command judges a printed report
+abbrev pub judges : Command → Bool
+judges Audit = true
+judges _ = false
+
+-- a command solves batches, by settings that the words give
+abbrev pub solves : Command → Bool
+solves command = not (judges command)
+
+-- a command prints a report
+abbrev pub prints_report : Command → Bool
+prints_report command = solves command && not (makes_inputs command)
 
 -- a row of the table of keys: the key's name, the commands that have it, what it takes, its number where no word gives one
 pub record KeyRow : Type 0 where
@@ -40,18 +58,18 @@ pub record KeyRow : Type 0 where
 
 -- the table of keys
 abbrev pub about : Key → KeyRow
-about (Input which) = record { name = file.file_name which; has = reads_files; takes = FileName; default_number = 0 }
-about Notices = record { name = codes "notices"; has = reads_files; takes = FileName; default_number = 0 }
-about Wait = record { name = codes "wait"; has = λ _. true; takes = Number 0 7200; default_number = 120 }
-about Delay = record { name = codes "delay"; has = λ _. true; takes = Number 0 7200; default_number = 180 }
-about Trip = record { name = codes "trip"; has = λ _. true; takes = Number 1 6; default_number = 4 }
-about Penalty = record { name = codes "penalty"; has = λ _. true; takes = Number 0 1000000000; default_number = 10000 }
-about Budget = record { name = codes "budget"; has = λ _. true; takes = Number 1 50000; default_number = 200 }
-about Pairs = record { name = codes "pairs"; has = λ _. true; takes = Number 1 2000000; default_number = 200000 }
+about (Input which) = record { name = file.file_name which; has = λ command. reads command which; takes = FileName; default_number = 0 }
+about Notices = record { name = codes "notices"; has = prints_report; takes = FileName; default_number = 0 }
+about Wait = record { name = codes "wait"; has = solves; takes = Number 0 7200; default_number = 120 }
+about Delay = record { name = codes "delay"; has = solves; takes = Number 0 7200; default_number = 180 }
+about Trip = record { name = codes "trip"; has = solves; takes = Number 1 6; default_number = 4 }
+about Penalty = record { name = codes "penalty"; has = solves; takes = Number 0 1000000000; default_number = 10000 }
+about Budget = record { name = codes "budget"; has = solves; takes = Number 1 50000; default_number = 200 }
+about Pairs = record { name = codes "pairs"; has = solves; takes = Number 1 2000000; default_number = 200000 }
 about Workers = record { name = codes "workers"; has = λ _. true; takes = Number 1 64; default_number = 4 }
-about Proof = record { name = codes "proof"; has = reads_files; takes = Number 0 1; default_number = 0 }
-about Dwell = record { name = codes "dwell"; has = λ _. true; takes = Number 0 600; default_number = 0 }
-about Times = record { name = codes "times"; has = λ _. true; takes = Way; default_number = 0 }
+about Proof = record { name = codes "proof"; has = prints_report; takes = Number 0 1; default_number = 0 }
+about Dwell = record { name = codes "dwell"; has = solves; takes = Number 0 600; default_number = 0 }
+about Times = record { name = codes "times"; has = solves; takes = Way; default_number = 0 }
 about Seed = record { name = codes "seed"; has = makes_inputs; takes = Number 0 1000000000; default_number = 1 }
 about Side = record { name = codes "side"; has = makes_inputs; takes = Number 2 100; default_number = 20 }
 about Vehicles = record { name = codes "vehicles"; has = makes_inputs; takes = Number 1 500; default_number = 100 }
@@ -60,7 +78,7 @@ about Rounds = record { name = codes "rounds"; has = makes_inputs; takes = Numbe
 
 -- every key
 abbrev pub keys : List Key
-keys = Input Network ∷ Input Fleet ∷ Input Script ∷ Notices
+keys = Input Network ∷ Input Fleet ∷ Input Script ∷ Input Report ∷ Notices
     ∷ Wait ∷ Delay ∷ Trip ∷ Penalty ∷ Budget ∷ Pairs ∷ Workers ∷ Proof ∷ Dwell ∷ Times
     ∷ Seed ∷ Side ∷ Vehicles ∷ Riders ∷ Rounds ∷ []
 

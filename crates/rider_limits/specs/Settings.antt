@@ -2,12 +2,12 @@ use Rattle.std.specs.Prelude.{◌≡◌, ℕ, List, [], ◌∷◌, Option, Some,
 use Rattle.std.specs.Option.{option_map_or}
 use Rattle.pool_base.specs.Number.{value_of}
 use Rattle.rider_limits.specs.declared.command.Command.{Command}
-use Rattle.rider_limits.specs.declared.command.Command.TheVariants.{Run, Load, Drive}
+use Rattle.rider_limits.specs.declared.command.Command.TheVariants.{Run, Load, Drive, Audit}
 use Rattle.rider_limits.specs.declared.key.Key.{Key}
 use Rattle.rider_limits.specs.declared.key.Key.TheVariants.{Wait, Delay, Trip, Penalty, Budget, Pairs, Workers, Proof, Dwell, Times, Seed, Side, Vehicles, Riders, Rounds}
 use Rattle.rider_limits.specs.declared.load_shape.LoadShape.{LoadShape}
 use Rattle.rider_limits.specs.declared.settings.Mode.{Mode}
-use Rattle.rider_limits.specs.declared.settings.Mode.TheVariants.{Run as Running, Load as Loading, Drive as Driving}
+use Rattle.rider_limits.specs.declared.settings.Mode.TheVariants.{Run as Running, Load as Loading, Drive as Driving, Audit as Auditing}
 use Rattle.rider_limits.specs.declared.settings.Settings.{Settings}
 use Rattle.rider_limits.specs.declared.settings.TimesWay.TheVariants.{Labels}
 use Rattle.rider_limits.specs.Key.{command_of, about}
@@ -29,6 +29,7 @@ pub record IsShapeGiven (words : List (List ℕ)) (shape : LoadShape) : Type 0 w
 abbrev pub IsModeGiven : Option Command → List (List ℕ) → Mode → Type 0
 IsModeGiven (Some Run) words Running = Unit {0}
 IsModeGiven (Some Drive) words Driving = Unit {0}
+IsModeGiven (Some Audit) words Auditing = Unit {0}
 IsModeGiven (Some Load) words (Loading shape) = IsShapeGiven words shape
 IsModeGiven _ words _ = ⊥
 

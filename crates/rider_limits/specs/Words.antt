@@ -4,9 +4,9 @@ use Rattle.std.specs.Option.{option_map, option_or}
 use Rattle.pool_base.specs.InOrder.{first_fault}
 use Rattle.pool_base.specs.Which as file
 use Rattle.pool_base.specs.declared.which.Which.{Which}
-use Rattle.pool_base.specs.declared.which.Which.TheVariants.{Network, Fleet, Script}
+use Rattle.pool_base.specs.declared.which.Which.TheVariants.{Network, Fleet, Script, Report}
 use Rattle.rider_limits.specs.declared.command.Command.{Command}
-use Rattle.rider_limits.specs.declared.command.Command.TheVariants.{Load}
+use Rattle.rider_limits.specs.declared.command.Command.TheVariants.{Load, Audit}
 use Rattle.rider_limits.specs.declared.key.Key.{Key}
 use Rattle.rider_limits.specs.declared.word_fault.WordFault.{WordFault}
 use Rattle.rider_limits.specs.declared.word_fault.WordFault.TheVariants.{NoCommand, UnknownKey, Repeated, BadValue, MissingFile}
@@ -51,6 +51,7 @@ is_missing words which = is_none (text_given (file.file_name which) words)
 -- the first file that a command needs and these words don't name
 abbrev pub missing_file : Command → List (List ℕ) → Option Which
 missing_file Load words = None
+missing_file Audit words = find (is_missing words) (Network ∷ Fleet ∷ Script ∷ Report ∷ [])
 missing_file _ words = find (is_missing words) (Network ∷ Fleet ∷ Script ∷ [])
 
 -- why the words behind a command are refused, if they are

@@ -7,6 +7,7 @@ pub(crate) enum Command {
     Run,
     Load,
     Drive,
+    Audit,
 }
 
 impl Command {
@@ -19,6 +20,7 @@ impl Command {
             Command::Run => "run",
             Command::Load => "load",
             Command::Drive => "drive",
+            Command::Audit => "audit",
         }
     }
 
@@ -32,7 +34,7 @@ impl Command {
     pub(crate) fn of(word: &str) -> Option<Command>
         ensures { result ≡ command_of word.now }
     {
-        [Command::Run, Command::Load, Command::Drive]
+        [Command::Run, Command::Load, Command::Drive, Command::Audit]
             .into_iter()
             .find(|command| command.is_named(word))
     }

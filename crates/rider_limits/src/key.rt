@@ -67,10 +67,13 @@ impl Key {
         ensures { result ≡ (about self).has command }
     {
         match self {
-            Key::Input(_) | Key::Notices | Key::Proof => command != Command::Load,
+            Key::Input(Which::Report) => command == Command::Audit,
+            Key::Input(_) => command != Command::Load,
+            Key::Notices | Key::Proof => matches!(command, Command::Run | Command::Drive),
             Key::Seed | Key::Side | Key::Vehicles | Key::Riders | Key::Rounds => command
                 == Command::Load,
-            _ => true,
+            Key::Workers => true,
+            _ => command != Command::Audit,
         }
     }
 
@@ -89,6 +92,7 @@ impl Key {
             Key::Input(Which::Network),
             Key::Input(Which::Fleet),
             Key::Input(Which::Script),
+            Key::Input(Which::Report),
             Key::Notices,
             Key::Wait,
             Key::Delay,

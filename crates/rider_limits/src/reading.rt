@@ -53,6 +53,7 @@ fn settings(command: Command, options: &[String]) -> Settings
             Command::Run => Mode::Run,
             Command::Load => Mode::Load(shape(options)),
             Command::Drive => Mode::Drive,
+            Command::Audit => Mode::Audit,
         },
         wait: number(command, options, Key::Wait) as u32,
         delay: number(command, options, Key::Delay) as u32,

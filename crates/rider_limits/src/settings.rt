@@ -12,6 +12,8 @@ pub enum Mode {
     /// It reads a network, a fleet and a day of requests and seals, drives the vehicles by the plans, and reports
     /// each batch and what is entered.
     Drive,
+    /// It reads a network, a fleet, a script and a printed report, and says whether the report is one of that script.
+    Audit,
 }
 
 /// How a batch comes by its travel times.

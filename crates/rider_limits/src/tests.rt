@@ -1,4 +1,5 @@
-use crate::{LoadShape, Mode, Settings, TimesWay, read_words, value_of};
+use crate::{LoadShape, Mode, Settings, TimesWay, WordFault, read_words, value_of};
+use pool_base::Which;
 use std::alloc::{AllocError, Global};
 use std::test::Fail;
 
@@ -71,5 +72,25 @@ fn numbers_are_read_up_to_their_ends(rt: HostRuntime) -> Result<(), Fail> {
         })
     );
     assert_eq!(rt; value_of(&given, "script"), Some("a=b"));
+    Ok(())
+}
+
+#[test]
+fn an_audit_has_four_files_and_workers(rt: HostRuntime) -> Result<(), Fail> {
+    let given = words(
+        rt.alloc(),
+        "audit network=n fleet=f script=s report=r workers=2",
+    )?;
+    let Ok(settings) = read_words(&given) else {
+        return Err("the words of an audit are refused")?;
+    };
+    assert!(rt; settings.mode == Mode::Audit && settings.workers == 2 && settings.wait == 120);
+    let given = words(rt.alloc(), "audit network=n fleet=f script=s")?;
+    let missing = WordFault::MissingFile {
+        which: Which::Report,
+    };
+    assert!(rt; read_words(&given) == Err(missing));
+    let given = words(rt.alloc(), "audit wait=5")?;
+    assert!(rt; read_words(&given) == Err(WordFault::UnknownKey { word: 2 }));
     Ok(())
 }

@@ -1,6 +1,5 @@
-ghost use Rattle.std.specs.Prelude.{◌≡◌, ◌∷◌, [], None, Some, map, MatchOption};
+ghost use Rattle.std.specs.Prelude.{◌≡◌, None, Some, map, MatchOption};
 ghost use Rattle.std.specs.List.{find};
-ghost use Rattle.pool_base.specs.declared.which.Which.TheVariants.{Network, Fleet, Script};
 ghost use Rattle.std.specs.String.{string_bytes};
 ghost use Rattle.std.specs.Option.{option_copied};
 ghost use Rattle.rider_limits.specs.Words.{after_key, text_given, option_of, option_fault, words_fault, is_missing, missing_file};
@@ -79,12 +78,13 @@ fn is_missing(options: &[String], which: Which) -> bool
     value_of(options, which.name()).is_none()
 }
 
-/// The first of the three files that these words don't name.
-fn first_missing(options: &[String]) -> Option<Which>
-    ensures { result ≡ find (is_missing (map string_bytes options.now)) (Network ∷ Fleet ∷ Script ∷ []) }
+/// The first of these files that the words don't name.
+fn first_missing(options: &[String], files: &[Which]) -> Option<Which>
+    ensures { result ≡ find (is_missing (map string_bytes options.now)) files.now }
 {
-    [Which::Network, Which::Fleet, Which::Script]
-        .into_iter()
+    files
+        .iter()
+        .copied()
         .find(|which| is_missing(options, *which))
 }
 
@@ -92,9 +92,10 @@ fn first_missing(options: &[String]) -> Option<Which>
 pub(crate) fn missing_file(command: Command, options: &[String]) -> Option<Which>
     ensures { result ≡ missing_file command (map string_bytes options.now) }
 {
+    let files = [Which::Network, Which::Fleet, Which::Script, Which::Report];
     match command {
-        Command::Run => first_missing(options),
-        Command::Drive => first_missing(options),
+        Command::Run | Command::Drive => first_missing(options, &files[..3]),
+        Command::Audit => first_missing(options, &files),
         Command::Load => None,
     }
 }

@@ -3,7 +3,7 @@ use Rattle.std.proofs.Common.{◌≡◌, ℕ, List, [], ◌∷◌, Option, Some,
 use Rattle.rider_limits.specs.declared.command.Command.{Command}
 use Rattle.rider_limits.specs.declared.command.Command.TheVariants as command
 use Rattle.rider_limits.specs.declared.settings.Mode.{Mode}
-use Rattle.rider_limits.specs.declared.settings.Mode.TheVariants.{Run, Load, Drive}
+use Rattle.rider_limits.specs.declared.settings.Mode.TheVariants.{Run, Load, Drive, Audit}
 use Rattle.rider_limits.specs.declared.settings.Settings.{Settings}
 use Rattle.rider_limits.specs.Key.{command_of}
 use Rattle.rider_limits.specs.Settings.{AreGiven, IsModeGiven}
@@ -13,17 +13,25 @@ abbrev pub command_in : Mode → Command
 command_in Run = command.Run
 command_in (Load shape) = command.Load
 command_in Drive = command.Drive
+command_in Audit = command.Audit
 
 mode_command : (c : Option Command) (words : List (List ℕ)) (m : Mode) → IsModeGiven c words m → c ≡ Some (command_in m)
 mode_command (Some command.Run) words Run given = refl
 mode_command (Some command.Run) words (Load shape) given = absurd given
 mode_command (Some command.Run) words Drive given = absurd given
+mode_command (Some command.Run) words Audit given = absurd given
 mode_command (Some command.Load) words Run given = absurd given
 mode_command (Some command.Load) words (Load shape) given = refl
 mode_command (Some command.Load) words Drive given = absurd given
+mode_command (Some command.Load) words Audit given = absurd given
 mode_command (Some command.Drive) words Run given = absurd given
 mode_command (Some command.Drive) words (Load shape) given = absurd given
 mode_command (Some command.Drive) words Drive given = refl
+mode_command (Some command.Drive) words Audit given = absurd given
+mode_command (Some command.Audit) words Run given = absurd given
+mode_command (Some command.Audit) words (Load shape) given = absurd given
+mode_command (Some command.Audit) words Drive given = absurd given
+mode_command (Some command.Audit) words Audit given = refl
 mode_command None words m given = absurd given
 
 -- two settings that words give are for one command
