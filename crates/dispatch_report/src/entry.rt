@@ -7,8 +7,8 @@ use crate::words::{put_numbered, put_spaced};
 use pool_base::{NodeId, OutOfMemory, Party, RiderId, Second, VehicleId, put_bytes, put_number};
 use request_book::{Command, Entry};
 
-/// Appends the line of an entry, without its end.
-pub(crate) fn put_entry(line: &mut Vec<u8>, position: u64, entry: &Entry) -> Result<(), OutOfMemory>
+/// Appends the line of an entry at its position, without its end. It fails only for want of memory.
+pub fn put_entry(line: &mut Vec<u8>, position: u64, entry: &Entry) -> Result<(), OutOfMemory>
     ensures { OnOk result (line.new.items ≡ line.old.items ++ entry_line position entry.now) }
 {
     put_number(line, position)?;

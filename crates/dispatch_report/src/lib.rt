@@ -19,6 +19,7 @@ mod tests;
 mod words;
 
 pub use day::{DayCounts, write_day_end};
+pub use entry::put_entry;
 pub use fault::ReportFault;
 pub use head::write_head;
 pub use round::{write_end, write_round};
