@@ -32,16 +32,16 @@ reply_letter (Sealed batch) = refl
 reply_letter Closed = refl
 reply_letter (Refused refusal) = refl
 
-reply_some : (reply : Reply) → (rest : List ℕ) → reply_text reply ≡ get_or (reply_text reply) 0 0 ∷ drop 1 (reply_text reply)
+reply_some : (reply : Reply) → reply_text reply ≡ get_or (reply_text reply) 0 0 ∷ drop 1 (reply_text reply)
 unfolding numbered
-reply_some Accepted rest = refl
-reply_some Cancelled rest = refl
-reply_some Placed rest = refl
-reply_some Picked rest = refl
-reply_some Dropped rest = refl
-reply_some (Sealed batch) rest = refl
-reply_some Closed rest = refl
-reply_some (Refused refusal) rest = refl
+reply_some Accepted = refl
+reply_some Cancelled = refl
+reply_some Placed = refl
+reply_some Picked = refl
+reply_some Dropped = refl
+reply_some (Sealed batch) = refl
+reply_some Closed = refl
+reply_some (Refused refusal) = refl
 
 -- no number stands before a reply
 reply_is_no_number : (reply : Reply) (n : ℕ) (rest : List ℕ) → n < 2 ^ 128 → spaced_reply reply ≡ spaced n ++ rest → ⊥
@@ -49,7 +49,7 @@ unfolding numbered
 reply_is_no_number reply n rest small e =
     let tail : List ℕ → List ℕ = λ xs. drop 1 xs in
     let same : reply_text reply ≡ decimal n ++ rest = ap tail e in
-    no_number (get_or (reply_text reply) 0 0) (drop 1 (reply_text reply)) n rest (reply_letter reply) small (sym (reply_some reply rest) ∙ same)
+    no_number (get_or (reply_text reply) 0 0) (drop 1 (reply_text reply)) n rest (reply_letter reply) small (sym (reply_some reply) ∙ same)
 
 pub reply_ends : (reply : Reply) → ends_number (spaced_reply reply) ≡ true
 reply_ends reply = refl
@@ -130,16 +130,9 @@ module _ (text : List ℕ) where
   pub four_no_time : (ids : (ℕ × ℕ) × ℕ) (after : List ℕ) → BeginsWith (three_text (codes "submit ")) AreThree text ids after → BeginsWithNone spaced IsId after → BeginsWithNone four_text AreFour text
   four_no_time ids after = both_none_second (three_text (codes "submit ")) AreThree spaced IsId spaced_apart text ids after (three_once (codes "submit "))
 
--- the pieces of a text, joined from the front or from the end
-joined : (a b c r : List ℕ) → ((a ++ b) ++ c) ++ r ≡ (a ++ b ++ c) ++ r
-joined a b c r = ap (λ x. x ++ r) (append_assoc a b c)
-
-all_joined : (a b c d p r : List ℕ) → (((a ++ b) ++ c) ++ d) ++ (p ++ r) ≡ (a ++ b ++ c ++ d ++ p) ++ r
-all_joined a b c d p r =
-    let front : ((a ++ b) ++ c) ++ d ≡ a ++ (b ++ (c ++ d)) = append_assoc (a ++ b) c d ∙ append_assoc a b (c ++ d) in
-    let ends : (a ++ (b ++ (c ++ d))) ++ p ≡ a ++ (b ++ (c ++ (d ++ p))) =
-    append_assoc a (b ++ (c ++ d)) p ∙ ap (λ x. a ++ x) (append_assoc b (c ++ d) p ∙ ap (λ x. b ++ x) (append_assoc c d p)) in
-    sym (append_assoc (((a ++ b) ++ c) ++ d) p r) ∙ ap (λ x. (x ++ p) ++ r) front ∙ ap (λ x. x ++ r) ends
+-- the parts of a request's text, joined from the front
+joined : (front p r : List ℕ) → front ++ (p ++ r) ≡ (front ++ p) ++ r
+joined front p r = sym (append_assoc front p r)
 
 -- an outcome that no line tells
 no_outcome : Outcome
@@ -152,7 +145,7 @@ module _ (text : List ℕ) where
       (
         (Submit rider origin destination time party, reply),
         ((ids.0.0, ids.0.1, ids.1, is.0.1, is.1.0), is.1.1),
-        e ∙ all_joined (numbered (codes "submit ") rider) (spaced origin) (spaced destination) (spaced time) (if party == 1 then [] else spaced party) (spaced_reply reply),
+        e ∙ joined (numbered (codes "submit ") rider ++ spaced origin ++ spaced destination ++ spaced time) (if party == 1 then [] else spaced party) (spaced_reply reply),
       )
 
   pub told_cancel : Told (single_text (codes "cancel ")) (IsSingle 1000000000) text → Told told_text IsTold text
@@ -168,15 +161,15 @@ module _ (text : List ℕ) where
 
   pub told_report : Told (ride_text (codes "report ")) IsRide text → Told told_text IsTold text
   told_report ((((vehicle, node), time), reply), is, e) =
-      ((Report vehicle node time, reply), ((is.0.0.0, is.0.0.1, is.0.1), is.1), e ∙ joined (numbered (codes "report ") vehicle) (spaced node) (spaced time) (spaced_reply reply))
+      ((Report vehicle node time, reply), ((is.0.0.0, is.0.0.1, is.0.1), is.1), e)
 
   pub told_pickup : Told (ride_text (codes "pickup ")) IsRide text → Told told_text IsTold text
   told_pickup ((((vehicle, rider), time), reply), is, e) =
-      ((Pickup vehicle rider time, reply), ((is.0.0.0, is.0.0.1, is.0.1), is.1), e ∙ joined (numbered (codes "pickup ") vehicle) (spaced rider) (spaced time) (spaced_reply reply))
+      ((Pickup vehicle rider time, reply), ((is.0.0.0, is.0.0.1, is.0.1), is.1), e)
 
   pub told_dropoff : Told (ride_text (codes "dropoff ")) IsRide text → Told told_text IsTold text
   told_dropoff ((((vehicle, rider), time), reply), is, e) =
-      ((Dropoff vehicle rider time, reply), ((is.0.0.0, is.0.0.1, is.0.1), is.1), e ∙ joined (numbered (codes "dropoff ") vehicle) (spaced rider) (spaced time) (spaced_reply reply))
+      ((Dropoff vehicle rider time, reply), ((is.0.0.0, is.0.0.1, is.0.1), is.1), e)
 
 -- a text of no command of any kind
 pub record IsNoCommand (text : List ℕ) : Type 0 where
@@ -190,15 +183,15 @@ pub record IsNoCommand (text : List ℕ) : Type 0 where
 -- is that of a close
 pub only_close : (text : List ℕ) → IsNoCommand text → Told told_text IsTold text → Told (single_text (codes "close ")) (IsSingle 18446744073709551615) text
 only_close text none ((Submit rider origin destination time party, reply), (is, answers), e) =
-    let same = all_joined (numbered (codes "submit ") rider) (spaced origin) (spaced destination) (spaced time) (if party == 1 then [] else spaced party) (spaced_reply reply) in
+    let same = joined (numbered (codes "submit ") rider ++ spaced origin ++ spaced destination ++ spaced time) (if party == 1 then [] else spaced party) (spaced_reply reply) in
     absurd (none.submit (((((rider, origin), destination), time), (party, reply)), ((((is.0, is.1), is.2), is.3), (is.4, answers)), e ∙ sym same))
 only_close text none ((Cancel rider, reply), (is, answers), e) = absurd (none.cancel ((rider, reply), (is, answers), e))
 only_close text none ((Report vehicle node time, reply), (is, answers), e) =
-    absurd (none.report ((((vehicle, node), time), reply), (((is.0, is.1), is.2), answers), e ∙ sym (joined (numbered (codes "report ") vehicle) (spaced node) (spaced time) (spaced_reply reply))))
+    absurd (none.report ((((vehicle, node), time), reply), (((is.0, is.1), is.2), answers), e))
 only_close text none ((Pickup vehicle rider time, reply), (is, answers), e) =
-    absurd (none.pickup ((((vehicle, rider), time), reply), (((is.0, is.1), is.2), answers), e ∙ sym (joined (numbered (codes "pickup ") vehicle) (spaced rider) (spaced time) (spaced_reply reply))))
+    absurd (none.pickup ((((vehicle, rider), time), reply), (((is.0, is.1), is.2), answers), e))
 only_close text none ((Dropoff vehicle rider time, reply), (is, answers), e) =
-    absurd (none.dropoff ((((vehicle, rider), time), reply), (((is.0, is.1), is.2), answers), e ∙ sym (joined (numbered (codes "dropoff ") vehicle) (spaced rider) (spaced time) (spaced_reply reply))))
+    absurd (none.dropoff ((((vehicle, rider), time), reply), (((is.0, is.1), is.2), answers), e))
 only_close text none ((Seal now, reply), (is, answers), e) = absurd (none.seal ((now, reply), (is, answers), e))
 only_close text none ((Close batch outcome, reply), (is, answers), e) =
     let most : batch ≤ 18446744073709551615 = omega (arith, is) in

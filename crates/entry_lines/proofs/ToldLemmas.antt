@@ -1,5 +1,5 @@
 -- Texts of one thing behind another, read to their end.
-use Rattle.std.proofs.Common.{◌≡◌, ℕ, ◌<◌, ◌^◌, true, false, get_or, List, [], ◌∷◌, ◌++◌, length, decimal, ap, arith}
+use Rattle.std.proofs.Common.{◌≡◌, ℕ, ◌<◌, ◌^◌, Bool, true, false, get_or, List, [], ◌∷◌, ◌++◌, length, decimal, ap, arith}
 use Rattle.std.specs.Char.{is_ascii_digit}
 use Rattle.std.specs.List.{list_all}
 use Rattle.std.proofs.lemmas.Bool.{and_parts}
@@ -34,3 +34,9 @@ no_number c cs n rest other small e = by (decimal n) (decimal_is_IsNumeral_wide 
         let digit = (and_parts (is_ascii_digit d) (list_all is_ascii_digit ds) all).0 in
         let here : is_ascii_digit c ≡ is_ascii_digit d = ap is_ascii_digit head in
         cc
+
+-- what is found not to hold
+pub not_so : {T : Type 0} (found : Bool) → (T → found ≡ true) → found ≡ false → T → ⊥
+not_so found whole off holds =
+    let on : found ≡ true = whole holds in
+    cc

@@ -10,7 +10,7 @@ use Rattle.request_book.specs.declared.journal.Entry.{Entry}
 
 -- each number of an entry is within its type
 pub record IsEntry (position : ℕ) (e : Entry) : Type 0 where
-  pub position : position < 2 ^ 64
+  pub placed : position < 2 ^ 64
   pub lane : e.lane < 2 ^ 8
   pub command : IsCommand e.command
   pub reply : IsReply e.reply
