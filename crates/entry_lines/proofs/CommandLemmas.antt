@@ -141,8 +141,7 @@ no_outcome = record { expired = []; answer = Overflow }
 module _ (text : List ℕ) where
   pub told_submit : Told submit_text IsSubmit text → Told told_text IsTold text
   told_submit (((((rider, origin), destination), time), (party, reply)), is, e) =
-      let ids = is.0.0 in
-      (
+      let ids = is.0.0 in (
         (Submit rider origin destination time party, reply),
         ((ids.0.0, ids.0.1, ids.1, is.0.1, is.1.0), is.1.1),
         e ∙ joined (numbered (codes "submit ") rider ++ spaced origin ++ spaced destination ++ spaced time) (if party == 1 then [] else spaced party) (spaced_reply reply),
