@@ -26,9 +26,13 @@ TellsLawful line = (s : SettingsText) × AreSettings s × AreLawful s × (line �
 abbrev pub TellsSizes : List ℕ → Type 0
 TellsSizes line = (sizes : ℕ × ℕ) × AreSizes sizes × (line ≡ sizes_text sizes)
 
--- the line of this network's sizes
-abbrev pub TellsSizesOf : Roads → List ℕ → Type 0
-TellsSizesOf roads line = line ≡ sizes_text (length roads.nodes, length roads.arcs)
+-- how many nodes and arcs a network has
+abbrev pub sizes_of : Roads → ℕ × ℕ
+sizes_of roads = (length roads.nodes, length roads.arcs)
+
+-- the line of these sizes
+abbrev pub TellsSizesOf : ℕ × ℕ → List ℕ → Type 0
+TellsSizesOf sizes line = line ≡ sizes_text sizes
 
 -- a line of a number of vehicles
 abbrev pub TellsFleet : List ℕ → Type 0
@@ -54,13 +58,13 @@ abbrev pub FleetFails : ℕ → List ℕ → HeadFault → Type 0
 FleetFails vehicles = LineFails TellsFleet (TellsFleetOf vehicles) 4
 
 -- the third line fails, or it fits and the fourth fails
-abbrev pub SizesFail : Roads → ℕ → List ℕ → HeadFault → Type 0
-SizesFail roads vehicles text fault = LineFails TellsSizes (TellsSizesOf roads) 3 text fault ⊎ FailsBehind (TellsSizesOf roads) (FleetFails vehicles) text fault
+abbrev pub SizesFail : ℕ × ℕ → ℕ → List ℕ → HeadFault → Type 0
+SizesFail sizes vehicles text fault = LineFails TellsSizes (TellsSizesOf sizes) 3 text fault ⊎ FailsBehind (TellsSizesOf sizes) (FleetFails vehicles) text fault
 
 -- the second line fails, or it fits and one behind it fails
-abbrev pub SettingsFail : Roads → ℕ → List ℕ → HeadFault → Type 0
-SettingsFail roads vehicles text fault = LineFails TellsSettings TellsLawful 2 text fault ⊎ FailsBehind TellsLawful (SizesFail roads vehicles) text fault
+abbrev pub SettingsFail : ℕ × ℕ → ℕ → List ℕ → HeadFault → Type 0
+SettingsFail sizes vehicles text fault = LineFails TellsSettings TellsLawful 2 text fault ⊎ FailsBehind TellsLawful (SizesFail sizes vehicles) text fault
 
 -- the first line fails, or it fits and one behind it fails
 abbrev pub HeadFails : Roads → ℕ → List ℕ → HeadFault → Type 0
-HeadFails roads vehicles text fault = LineFails IsName IsName 1 text fault ⊎ FailsBehind IsName (SettingsFail roads vehicles) text fault
+HeadFails roads vehicles text fault = LineFails IsName IsName 1 text fault ⊎ FailsBehind IsName (SettingsFail (sizes_of roads) vehicles) text fault

@@ -1,6 +1,7 @@
 ghost use Rattle.std.specs.Prelude.{◌≡◌, ℕ, ◌≤◌, List, IfOk, IfErr};
-ghost use Rattle.report_head.specs.Fault.{HeadFails};
+ghost use Rattle.report_head.specs.Fault.{HeadFails, sizes_of};
 ghost use Rattle.report_head.specs.Head.{BeginsWithHead};
+ghost use Rattle.report_lines.specs.Head.{AreSizes};
 ghost use Rattle.rider_limits.specs.declared.settings.Settings.{Settings};
 
 use crate::fault::HeadFault;
@@ -26,9 +27,18 @@ pub fn read_head<'a>(
     ensures none { IfErr result (λ _. (s : Settings) (rest : List ℕ) → BeginsWithHead workers network.now vehicles text.now s rest → ⊥) }
     ensures fault { IfErr result (λ fault. HeadFails network.now vehicles text.now fault) }
 {
+    let (nodes, arcs) = sizes_of(network);
     let after_name = name_behind(text)?;
     let (told, after_settings) = settings_first(after_name)?;
-    let after_sizes = sizes_behind(after_settings, network)?;
+    let after_sizes = sizes_behind(after_settings, nodes, arcs)?;
     let rest = fleet_behind(after_sizes, vehicles)?;
     Ok((settings_of(&told, workers), rest))
+}
+
+/// How many nodes and arcs a network has.
+fn sizes_of(network: &Network) -> (u64, u64)
+    ensures sizes { result ≡ sizes_of network.now }
+    ensures few { AreSizes (sizes_of network.now) }
+{
+    (network.node_count() as u64, network.arc_count() as u64)
 }

@@ -1,4 +1,4 @@
-ghost use Rattle.std.specs.Prelude.{◌≡◌, ◌≢◌, ℕ, ◌≤◌, ◌<◌, ◌^◌, List, MatchResult, codes, true, length};
+ghost use Rattle.std.specs.Prelude.{◌≡◌, ◌≢◌, ℕ, ◌≤◌, ◌<◌, ◌^◌, List, MatchResult, codes, true};
 ghost use Rattle.report_head.specs.Fault.{IsName, TellsSettings, TellsLawful, TellsSizes, TellsSizesOf, TellsFleet, TellsFleetOf, LineFails};
 ghost use Rattle.report_head.specs.Line.{IsFirst, Passes};
 ghost use Rattle.report_head.specs.Settings.{AreLawful};
@@ -7,7 +7,6 @@ ghost use Rattle.report_lines.specs.Head.{settings_text, AreSettings};
 use crate::fault::HeadFault;
 use crate::settings::is_lawful;
 use report_lines::{SettingsText, is_words, line_first, read_numbered, read_settings, read_sizes};
-use road_network::Network;
 
 /// What follows the name of a report.
 pub(crate) fn name_behind(text: &[u8]) -> Result<&[u8], HeadFault>
@@ -42,22 +41,22 @@ pub(crate) fn settings_first(text: &[u8]) -> Result<(SettingsText, &[u8]), HeadF
     }
 }
 
-/// What follows the line of the network's sizes.
-pub(crate) fn sizes_behind<'a>(text: &'a [u8], network: &Network) -> Result<&'a [u8], HeadFault>
+/// What follows the line of a network of these sizes.
+pub(crate) fn sizes_behind(text: &[u8], nodes: u64, arcs: u64) -> Result<&[u8], HeadFault>
     ensures { MatchResult result
-        (λ rest. Passes (TellsSizesOf network.now) text.now rest.now)
-        (λ fault. LineFails TellsSizes (TellsSizesOf network.now) 3 text.now fault) }
+        (λ rest. Passes (TellsSizesOf (nodes, arcs)) text.now rest.now)
+        (λ fault. LineFails TellsSizes (TellsSizesOf (nodes, arcs)) 3 text.now fault) }
 {
     let Some((line, rest)) = line_first(text) else {
         return Err(HeadFault::Cut { line: 3 });
     };
-    let Some((nodes, arcs)) = read_sizes(line) else {
+    let Some(told) = read_sizes(line) else {
         return Err(HeadFault::Form { line: 3 });
     };
-    if nodes != network.node_count() as u64 {
+    if told.0 != nodes {
         return Err(HeadFault::Head { line: 3 });
     }
-    if arcs != network.arc_count() as u64 {
+    if told.1 != arcs {
         return Err(HeadFault::Head { line: 3 });
     }
     Ok(rest)
