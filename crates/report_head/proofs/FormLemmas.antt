@@ -63,13 +63,6 @@ module _ (line : List ℕ) (told sizes : ℕ × ℕ) (small : AreSizes told) (fe
   pub other_arcs : told.1 ≢ sizes.1 → TellsSizesOf sizes line → ⊥
   other_arcs other same = other (ap (λ p. p.1) (sizes_of_one line told sizes small few e same))
 
--- equal sizes have the same line
-pub same_sizes : (line : List ℕ) (told sizes : ℕ × ℕ) → line ≡ sizes_text told → told.0 ≡ sizes.0 → told.1 ≡ sizes.1 → TellsSizesOf sizes line
-same_sizes line (a, b) (c, d) e ac bd =
-    let first : a ≡ c = ac in
-    let second : b ≡ d = bd in
-    e ∙ ap (λ n. sizes_text (n, b)) first ∙ ap (λ n. sizes_text (c, n)) second
-
 -- a network's sizes can be told
 pub few_sizes : (roads : Roads) → IsNetwork roads → AreSizes (sizes_of roads)
 few_sizes roads is =

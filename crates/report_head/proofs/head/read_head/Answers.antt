@@ -48,14 +48,14 @@ returns-in_err-rest-clause-fault c =
     let sized = subst (λ (z : ℕ × ℕ). Passes (TellsSizesOf z) c.in_ok-told.after_settings.now c.in_ok-after_sizes.after_sizes.now) c.sizes_of-nodes.ensures.sizes c.in_ok-after_sizes.ensures in
     rw (p.1, p.2)
     (inr (
-        c.in_ok-after_name.after_name.now,
-        c.in_ok-after_name.ensures,
-        inr (
-            c.in_ok-told.after_settings.now,
-            (settings_text c.in_ok-told.told, set.0, (c.in_ok-told.told, set.1, set.2, refl)),
-            inr (c.in_ok-after_sizes.after_sizes.now, sized, c.in_err-rest.ensures),
-          ),
-      ))
+      c.in_ok-after_name.after_name.now,
+      c.in_ok-after_name.ensures,
+      inr (
+        c.in_ok-told.after_settings.now,
+        (settings_text c.in_ok-told.told, set.0, (c.in_ok-told.told, set.1, set.2, refl)),
+        inr (c.in_ok-after_sizes.after_sizes.now, sized, c.in_err-rest.ensures),
+      ),
+    ))
 
 pub returns-clause-read : goal.returns-clause-read
 returns-clause-read c =
