@@ -1,4 +1,4 @@
-use Rattle.std.proofs.Common.{◌≡◌, ℕ, ◌<◌, ◌≤◌, ◌^◌, codes, refl, ap, ◌∙◌, arith}
+use Rattle.std.proofs.Common.{◌<◌, ◌≤◌, ◌^◌, codes, refl, ap, ◌∙◌, arith}
 use Rattle.dispatch_report.specs.Words.{numbered}
 use Rattle.report_head.proofs.FormLemmas.{no_fleet_line, other_fleet}
 use Rattle.report_head.proofs.lines.fleet_behind.Goals as goal
