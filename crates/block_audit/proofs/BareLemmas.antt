@@ -1,9 +1,12 @@
 -- What a block tells without its tree.
-use Rattle.std.proofs.Common.{◌≡◌, ℕ, ◌≤◌, ℤ, List, [], ◌∷◌, ◌++◌, length, map, true, nat_le, ◌⊎◌, inl, inr, ⊎_elim, refl, sym, ap, ◌∙◌, subst, arith}
+use Rattle.std.proofs.Common.{◌≡◌, ℕ, ◌≤◌, ℤ, List, [], ◌∷◌, ◌++◌, length, map, true, nat_le, Option, None, Some, MatchOption, ◌⊎◌, inl, inr, ⊎_elim, refl, sym, ap, ◌∙◌, subst, arith}
 use Rattle.std.specs.List.{All}
 use Rattle.std.proofs.lemmas.Bool.{cond_both, leb-true}
 use Rattle.std.proofs.lemmas.Grind.{flat_map-append}
+use Rattle.std.proofs.lemmas.Option.{MatchOption-at_none, MatchOption-at_some}
+use Rattle.std.specs.Option.{IsSome}
 use Rattle.std.proofs.lemmas.List.Elements.{All-cons}
+use Rattle.report_lines.specs.Block.{IsBlock}
 use Rattle.report_lines.specs.Order.{follow_on, last_place}
 use Rattle.report_lines.specs.Outcome.{row_line, lines_of_answer, lines_of}
 use Rattle.report_lines.specs.declared.block_line.BlockLine.{BlockLine}
@@ -161,3 +164,20 @@ judged_bare ids lines batch outcome few f e none tells = ⊎_elim
     let one = one_outcome ids few batch is.batch outcome o tells.numbered numbered (sym tells.whole ∙ is.whole) in
     record { plan = is.plan; is = ap (λ (x : Outcome). x.answer) one.1; no_tree = is.no_tree })
     (overflow_or_bare lines f e)
+
+-- where the lines of a block tell no outcome, some outcome is told by the bare lines
+module _ (ids : List ℕ) (lines slice kept again : List BlockLine) (first second : Option (ℕ × Outcome)) (shown : slice ≡ lines) (held : again ≡ kept) (is : kept ≡ bare lines) (none : first ≡ None)
+    (one : MatchOption first (TellsNone slice) (λ t. Tells ids slice t.0 t.1)) (two : MatchOption second (TellsNone again) (λ t. Tells ids again t.0 t.1)) where
+  tells_none : TellsNone lines
+  tells_none = subst TellsNone shown (MatchOption-at_none (TellsNone slice) (λ t. Tells ids slice t.0 t.1) none one)
+
+  pub bare_some : (text : List ℕ) × (rest : List ℕ) × IsBlock text lines rest → IsSome second
+  bare_some (text, rest, block) = some_of second two
+    where
+      some_of : (o : Option (ℕ × Outcome)) → MatchOption o (TellsNone again) (λ t. Tells ids again t.0 t.1) → IsSome o
+      some_of None m = absurd (bare_tells lines block.begins.order block.ended tells_none (subst TellsNone (held ∙ is) m))
+      some_of (Some x) m = refl
+
+  pub bare_judged : (told : ℕ × Outcome) → second ≡ Some told → IsJudgedAs ids lines told.0 told.1
+  bare_judged told e =
+      inr (tells_none, subst (λ ls. Tells ids ls told.0 told.1) (held ∙ is) (MatchOption-at_some (TellsNone again) (λ t. Tells ids again t.0 t.1) told e two))

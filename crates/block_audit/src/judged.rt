@@ -24,10 +24,7 @@ pub(crate) fn outcome_judged(
         return Ok(told);
     }
     let kept = bare_lines(alloc, lines)?;
-    match outcome_told(alloc, &kept, ids)? {
-        Some(told) => Ok(told),
-        None => Err(OutOfMemory),
-    }
+    Ok(outcome_told(alloc, &kept, ids)?.unwrap())
 }
 
 /// The ids of vehicles, in their order.
