@@ -1,3 +1,4 @@
 pub mod ShapeLemmas
 pub mod OneOutcome
 pub mod BareLemmas
+pub mod NumberedLemmas
