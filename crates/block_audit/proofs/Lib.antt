@@ -2,3 +2,4 @@ pub mod ShapeLemmas
 pub mod OneOutcome
 pub mod BareLemmas
 pub mod NumberedLemmas
+pub mod AuditLemmas
