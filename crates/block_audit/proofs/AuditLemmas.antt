@@ -1,11 +1,11 @@
 -- A block as which one outcome is judged, and good outcomes that print it.
-use Rattle.std.proofs.Common.{◌≡◌, ◌≢◌, ◌↔◌, ℕ, ◌≤◌, true, List, [], ◌∷◌, ◌++◌, length, map, inl, inr, refl, sym, ap, ◌∙◌, subst, arith}
+use Rattle.std.proofs.Common.{◌≡◌, ◌≢◌, ◌↔◌, ℕ, true, List, [], ◌++◌, length, map, inl, inr, refl, sym, ap, ◌∙◌, subst, arith}
 use Rattle.std.specs.List.{All}
 use Rattle.std.proofs.lemmas.List.{length-map}
 use Rattle.batch_snapshot.specs.Batch.{Batch}
 use Rattle.batch_snapshot.specs.Kept.{IsKept}
 use Rattle.batch_solver.specs.Outcome.{IsGoodOutcome}
-use Rattle.block_outcome.specs.Told.{Tells, TellsNone}
+use Rattle.block_outcome.specs.Told.{Tells}
 use Rattle.dispatch_report.specs.Block.{block_lines}
 use Rattle.dispatch_report.specs.Lines.{lines_text}
 use Rattle.outcome_check.specs.Verdict.{Meets, AnswersAt, IsVerdictOf, place_of}
@@ -13,7 +13,6 @@ use Rattle.outcome_check.specs.declared.verdict.Point.{Point}
 use Rattle.outcome_check.specs.declared.verdict.Point.TheVariants as point
 use Rattle.outcome_check.specs.declared.verdict.Verdict.{Verdict}
 use Rattle.outcome_check.specs.declared.verdict.Verdict.TheVariants.{Good, Fails}
-use Rattle.plan_rules.specs.Graph.{Graph}
 use Rattle.plan_rules.specs.Tree.{SearchTree, preorder}
 use Rattle.plan_rules.specs.Tree.SearchTree.{Parted, Bounded, Closed}
 use Rattle.report_lines.specs.Block.{IsBlock, BlockFails}
@@ -29,9 +28,8 @@ use Rattle.request_book.specs.declared.outcome.Answer.TheVariants.{Planned as Pl
 use Rattle.request_book.specs.declared.outcome.Outcome.{Outcome}
 use Rattle.rider_limits.specs.declared.settings.Settings.{Settings}
 use Rattle.road_network.specs.Roads.{Roads}
-use Rattle.search_check.specs.Points.{HasValue}
 use Rattle.block_audit.specs.Block.{BeginsWithGood, MeetsAs, FailsFirst, refusal_for}
-use Rattle.block_audit.specs.Judged.{bare, IsJudgedAs}
+use Rattle.block_audit.specs.Judged.{IsJudgedAs}
 use Rattle.block_audit.specs.declared.refusal.BlockRefusal.{BlockRefusal}
 use Rattle.block_audit.specs.declared.refusal.BlockRefusal.TheVariants.{OutOfMemory as NoMemory}
 use Rattle.block_audit.proofs.BareLemmas.{HasNoTree, judged_bare}

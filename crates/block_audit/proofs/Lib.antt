@@ -3,3 +3,4 @@ pub mod OneOutcome
 pub mod BareLemmas
 pub mod NumberedLemmas
 pub mod AuditLemmas
+pub mod LawLemmas

@@ -1,16 +1,15 @@
 -- Lines tell one outcome.
-use Rattle.std.proofs.Common.{◌≡◌, ◌≢◌, ℕ, zero, suc, ◌<◌, ◌≤◌, ℤ, true, List, [], ◌∷◌, ◌++◌, map, length, slice_get, unwrap_or, option_map, Some, Option, append_assoc, ⊎_elim, refl, sym, ap, ◌∙◌, subst, arith}
+use Rattle.std.proofs.Common.{◌≡◌, ℕ, ◌<◌, ◌≤◌, ℤ, List, [], ◌∷◌, ◌++◌, map, length, slice_get, unwrap_or, option_map, Some, append_assoc, ⊎_elim, refl, sym, ap, ◌∙◌, subst, arith}
 use Rattle.std.specs.List.{All}
 use Rattle.std.proofs.lemmas.Bool.{cases_lt}
 use Rattle.std.proofs.lemmas.List.Elements.{All-head, All-tail}
 use Rattle.std.proofs.lemmas.Option.{slice_get_within}
-use Rattle.arrayvec.specs.ArrayVec.{ArrayVec}
 use Rattle.plan_rules.specs.declared.node.Node.{Node}
 use Rattle.plan_rules.specs.declared.node.Node.TheVariants.{Branch as Branches, Leaf as Ends, Dead as Closed}
 use Rattle.report_lines.specs.Order.{place_of}
 use Rattle.report_lines.specs.Outcome.{row_line, tree_line, lines_of_answer, lines_of}
 use Rattle.report_lines.specs.declared.block_line.BlockLine.{BlockLine}
-use Rattle.report_lines.specs.declared.block_line.BlockLine.TheVariants.{Batch, Expired, Overflow, Lapsed, Late, Alone, Shared, Row, Trip, Out, Move, Cost, Bound, Nodes, Branch, Leaf, Dead, End}
+use Rattle.report_lines.specs.declared.block_line.BlockLine.TheVariants.{Batch, Expired, Overflow, Lapsed, Late, Alone, Shared, Row, Trip, Out, Move, Cost, Bound, Nodes, Branch, End}
 use Rattle.request_book.specs.declared.outcome.Answer.{Answer}
 use Rattle.request_book.specs.declared.outcome.Answer.TheVariants.{Overflow as TooMany, Planned as Plan}
 use Rattle.request_book.specs.declared.outcome.ChosenTrip.{ChosenTrip}

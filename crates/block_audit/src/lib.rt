@@ -7,7 +7,9 @@
 mod audit;
 mod bare;
 mod judged;
+mod laws;
 mod refusal;
 
 pub use audit::{AuditedBlock, audit_block};
+pub use laws::{long_rows_fail_by_the_graphs, untold_lines_fail_by_the_bound};
 pub use refusal::BlockRefusal;
