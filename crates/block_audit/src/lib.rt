@@ -9,6 +9,8 @@ mod bare;
 mod judged;
 mod laws;
 mod refusal;
+#[cfg(test)]
+mod tests;
 
 pub use audit::{AuditedBlock, audit_block};
 pub use laws::{long_rows_fail_by_the_graphs, untold_lines_fail_by_the_bound};
