@@ -1,5 +1,5 @@
 -- Lines that tell no outcome fail at the bound at the latest, and long rows at the graphs.
-use Rattle.std.proofs.Common.{◌≡◌, ℕ, ℤ, ◌<◌, ◌≤◌, true, false, nat_le, List, [], ◌∷◌, ◌++◌, Contains, length, get_or, map, inl, inr, ⊎_elim, refl, sym, subst, arith}
+use Rattle.std.proofs.Common.{◌≡◌, ℕ, ℤ, ◌<◌, ◌≤◌, Bool, true, false, nat_le, List, [], ◌∷◌, ◌++◌, Contains, length, get_or, map, inl, inr, ⊎_elim, refl, sym, subst, arith}
 use Rattle.std.specs.List.{All}
 use Rattle.std.proofs.lemmas.Bool.{cases_Bool, cases_lt, cond-false, leb-true}
 use Rattle.std.proofs.lemmas.List.{length-map}
@@ -33,7 +33,7 @@ use Rattle.block_audit.proofs.BareLemmas.{judged_bare}
 use Rattle.block_audit.proofs.NumberedLemmas.{vehicle_ids, few_ids}
 
 -- a row has no more riders than a trip, and costs no more than a row of a graph may
-abbrev IsFineRow : RowLine → Type 0
+abbrev pub IsFineRow : RowLine → Type 0
 IsFineRow row = (length row.riders.items ≤ 6) × (row.cost ≤ 1000000000)
 
 -- so has a line that tells a row
@@ -41,44 +41,56 @@ abbrev IsFine : BlockLine → Type 0
 IsFine (Row row) = (length row.riders ≤ 6) × (row.cost ≤ 1000000000)
 IsFine _ = Unit {0}
 
-abbrev HasFewRiders : BlockLine → Type 0
+abbrev pub HasFewRiders : BlockLine → Type 0
 HasFewRiders (Row row) = length row.riders ≤ 6
 HasFewRiders _ = Unit {0}
 
-fine_tree : (rows : List RowLine) (tree : List Node) → All IsFine (map (tree_line rows) tree)
-fine_tree rows [] = λ k d within. absurd (omega arith)
-fine_tree rows (Branches v r ∷ tree) = All-cons IsFine (tree_line rows (Branches v r)) (map (tree_line rows) tree) tt (fine_tree rows tree)
-fine_tree rows (Ends ms ∷ tree) = All-cons IsFine (tree_line rows (Ends ms)) (map (tree_line rows) tree) tt (fine_tree rows tree)
-fine_tree rows (Closed ∷ tree) = All-cons IsFine (tree_line rows Closed) (map (tree_line rows) tree) tt (fine_tree rows tree)
+-- neither a row nor a rider whose wait ended
+abbrev pub is_plain : BlockLine → Bool
+is_plain (Row row) = false
+is_plain (Expired rider) = false
+is_plain line = true
 
-fine_kind : {X : Type 0} (K : X → BlockLine) → ((x : X) → IsFine (K x)) → (xs : List X) → All IsFine (map K xs)
-fine_kind K fine xs = All-map IsFine K xs (λ k d within. fine (get_or xs k d))
+-- what holds of plain lines and of a plan's rows holds of an answer's lines
+module _ (P : BlockLine → Type 0) (plain : (line : BlockLine) → is_plain line ≡ true → P line) where
+  of_tree : (rows : List RowLine) (tree : List Node) → All P (map (tree_line rows) tree)
+  of_tree rows [] = λ k d within. absurd (omega arith)
+  of_tree rows (Branches v r ∷ tree) = All-cons P (tree_line rows (Branches v r)) (map (tree_line rows) tree) (plain (tree_line rows (Branches v r)) refl) (of_tree rows tree)
+  of_tree rows (Ends ms ∷ tree) = All-cons P (tree_line rows (Ends ms)) (map (tree_line rows) tree) (plain (tree_line rows (Ends ms)) refl) (of_tree rows tree)
+  of_tree rows (Closed ∷ tree) = All-cons P (tree_line rows Closed) (map (tree_line rows) tree) (plain (tree_line rows Closed) refl) (of_tree rows tree)
 
-one : (line : BlockLine) → IsFine line → All IsFine (line ∷ [])
-one line fine = All-cons IsFine line [] fine (λ k d within. absurd (omega arith))
+  of_kind : {X : Type 0} (K : X → BlockLine) → ((x : X) → is_plain (K x) ≡ true) → (xs : List X) → All P (map K xs)
+  of_kind K kind xs = All-map P K xs (λ k d within. plain (K (get_or xs k d)) (kind (get_or xs k d)))
 
-fine_counts : (cost : ℕ) (bound : ℤ) (nodes : ℕ) → All IsFine (Cost cost ∷ Bound bound ∷ Nodes nodes ∷ [])
-fine_counts cost bound nodes =
-    All-cons IsFine (Cost cost) (Bound bound ∷ Nodes nodes ∷ []) tt (All-cons IsFine (Bound bound) (Nodes nodes ∷ []) tt (one (Nodes nodes) tt))
+  of_one : (line : BlockLine) → P line → All P (line ∷ [])
+  of_one line is = All-cons P line [] is (λ k d within. absurd (omega arith))
 
-fine_answer : (answer : Answer) → ((plan : Planned) → answer ≡ Plan plan → All IsFineRow plan.rows) → All IsFine (lines_of_answer answer)
-fine_answer TooMany rows = one Overflow tt
-fine_answer (Plan plan) rows =
-    All-append IsFine _ _
-    (All-append IsFine _ _
-    (All-append IsFine _ _
-    (All-append IsFine _ _ (All-append IsFine _ _ (All-append IsFine _ _ (All-append IsFine _ _
-    (fine_kind Lapsed (λ x. tt) plan.lapsed)
-    (fine_kind Late (λ x. tt) plan.late))
-    (fine_kind Alone (λ x. tt) plan.rv))
-    (fine_kind Shared (λ x. tt) plan.rr))
-    (All-map IsFine row_line plan.rows (rows plan refl)))
-    (All-append IsFine _ _ (All-append IsFine _ _
-    (fine_kind Trip (λ x. tt) plan.chosen)
-    (fine_kind Out (λ x. tt) plan.left))
-    (fine_kind Move (λ x. tt) plan.moves)))
-    (fine_counts plan.cost plan.bound (length plan.tree)))
-    (fine_tree plan.rows plan.tree)
+  of_counts : (cost : ℕ) (bound : ℤ) (nodes : ℕ) → All P (Cost cost ∷ Bound bound ∷ Nodes nodes ∷ [])
+  of_counts cost bound nodes =
+      All-cons P (Cost cost) (Bound bound ∷ Nodes nodes ∷ []) (plain (Cost cost) refl) (All-cons P (Bound bound) (Nodes nodes ∷ []) (plain (Bound bound) refl) (of_one (Nodes nodes) (plain (Nodes nodes) refl)))
+
+  pub all_answer : (answer : Answer) → ((plan : Planned) → answer ≡ Plan plan → All (λ row. P (row_line row)) plan.rows) → All P (lines_of_answer answer)
+  all_answer TooMany rows = of_one Overflow (plain Overflow refl)
+  all_answer (Plan plan) rows =
+      All-append P _ _
+      (All-append P _ _
+      (All-append P _ _
+      (All-append P _ _ (All-append P _ _ (All-append P _ _ (All-append P _ _
+      (of_kind Lapsed (λ x. refl) plan.lapsed)
+      (of_kind Late (λ x. refl) plan.late))
+      (of_kind Alone (λ x. refl) plan.rv))
+      (of_kind Shared (λ x. refl) plan.rr))
+      (All-map P row_line plan.rows (rows plan refl)))
+      (All-append P _ _ (All-append P _ _
+      (of_kind Trip (λ x. refl) plan.chosen)
+      (of_kind Out (λ x. refl) plan.left))
+      (of_kind Move (λ x. refl) plan.moves)))
+      (of_counts plan.cost plan.bound (length plan.tree)))
+      (of_tree plan.rows plan.tree)
+
+plain_fine : (line : BlockLine) → is_plain line ≡ true → IsFine line
+plain_fine (Row row) plain = absurd (cc)
+plain_fine line plain = tt
 
 fine_outcome : (batch : ℕ) (outcome : Outcome) → ((plan : Planned) → outcome.answer ≡ Plan plan → All IsFineRow plan.rows) → All IsFine (lines_of batch outcome)
 fine_outcome batch outcome rows =
@@ -86,11 +98,13 @@ fine_outcome batch outcome rows =
     let x : List BlockLine = map Expired outcome.expired in
     let a : List BlockLine = lines_of_answer outcome.answer in
     All-append IsFine ((b ++ x) ++ a) (End ∷ [])
-    (All-append IsFine (b ++ x) a (All-append IsFine b x (one (BatchLine batch) tt) (fine_kind Expired (λ r. tt) outcome.expired)) (fine_answer outcome.answer rows))
-    (one End tt)
+    (All-append IsFine (b ++ x) a
+    (All-append IsFine b x (of_one IsFine plain_fine (BatchLine batch) tt) (All-map IsFine Expired outcome.expired (λ k d within. tt)))
+    (all_answer IsFine plain_fine outcome.answer rows))
+    (of_one IsFine plain_fine End tt)
 
 -- where the rows are those of a graph
-fine_rows : (settings : Settings) (roads : Roads) (batch : Batch) (answer : Answer) → AnswersAt settings roads batch answer point.Graphs → (plan : Planned) → answer ≡ Plan plan → All IsFineRow plan.rows
+pub fine_rows : (settings : Settings) (roads : Roads) (batch : Batch) (answer : Answer) → AnswersAt settings roads batch answer point.Graphs → (plan : Planned) → answer ≡ Plan plan → All IsFineRow plan.rows
 fine_rows settings roads batch answer answers plan e = told (subst (λ (a : Answer). AnswersAt settings roads batch a point.Graphs) e answers)
   where
     told : AnswersAt settings roads batch (Plan plan) point.Graphs → All IsFineRow plan.rows
@@ -107,7 +121,7 @@ fine_rows settings roads batch answer answers plan e = told (subst (λ (a : Answ
         let long = length-map (get_or rows k no_row).riders.items (λ (r : ℕ). rider_id p.settled r) in
         (omega (arith, few, long), cheap))))
 
-trips_of : (answer : Answer) → ((plan : Planned) → answer ≡ Plan plan → All IsFineRow plan.rows) → HasTrips answer
+pub trips_of : (answer : Answer) → ((plan : Planned) → answer ≡ Plan plan → All IsFineRow plan.rows) → HasTrips answer
 trips_of TooMany rows = tt
 trips_of (Plan plan) rows = λ k d within. (rows plan refl k d within).0
 
@@ -126,18 +140,18 @@ line_few : (line : BlockLine) → All IsFine (bare_line line) → HasFewRiders l
 line_few (Row row) fine = counted_few row (All-head IsFine (Row (row_counted row)) [] fine)
 line_few line fine = tt
 
-front_of : (xs ys : List BlockLine) → All IsFine (xs ++ ys) → All IsFine xs
-front_of [] ys fine = λ k d within. absurd (omega arith)
-front_of (x ∷ xs) ys fine = All-cons IsFine x xs (All-head IsFine x (xs ++ ys) fine) (front_of xs ys (All-tail IsFine x (xs ++ ys) fine))
+pub front_of : (P : BlockLine → Type 0) (xs ys : List BlockLine) → All P (xs ++ ys) → All P xs
+front_of P [] ys all = λ k d within. absurd (omega arith)
+front_of P (x ∷ xs) ys all = All-cons P x xs (All-head P x (xs ++ ys) all) (front_of P xs ys (All-tail P x (xs ++ ys) all))
 
-behind_of : (xs ys : List BlockLine) → All IsFine (xs ++ ys) → All IsFine ys
-behind_of [] ys fine = fine
-behind_of (x ∷ xs) ys fine = behind_of xs ys (All-tail IsFine x (xs ++ ys) fine)
+pub behind_of : (P : BlockLine → Type 0) (xs ys : List BlockLine) → All P (xs ++ ys) → All P ys
+behind_of P [] ys all = all
+behind_of P (x ∷ xs) ys all = behind_of P xs ys (All-tail P x (xs ++ ys) all)
 
 bare_few : (lines : List BlockLine) → All IsFine (bare lines) → All HasFewRiders lines
 bare_few [] fine = λ k d within. absurd (omega arith)
 bare_few (line ∷ lines) fine =
-    All-cons HasFewRiders line lines (line_few line (front_of (bare_line line) (bare lines) fine)) (bare_few lines (behind_of (bare_line line) (bare lines) fine))
+    All-cons HasFewRiders line lines (line_few line (front_of IsFine (bare_line line) (bare lines) fine)) (bare_few lines (behind_of IsFine (bare_line line) (bare lines) fine))
 
 fine_few : (line : BlockLine) → IsFine line → HasFewRiders line
 fine_few (Row row) fine = fine.0
@@ -145,7 +159,7 @@ fine_few line fine = tt
 
 module _ (settings : Settings) (roads : Roads) (batch : Batch) (text : List ℕ) (place : ℕ) (wrong : BeginsWithWrong settings roads batch text place) where
   -- points before the one that fails hold
-  held : (q : Point) → place_of q < place → AnswersAt settings roads batch wrong.outcome.answer q
+  pub held : (q : Point) → place_of q < place → AnswersAt settings roads batch wrong.outcome.answer q
   held q less = (wrong.fails.first.0 q (subst (λ (n : ℕ). place_of q < n) (sym wrong.fails.at) less)).1.1
 
   pub untold_fails : IsKept batch → TellsNone wrong.lines → place ≤ 5
@@ -160,7 +174,7 @@ module _ (settings : Settings) (roads : Roads) (batch : Batch) (text : List ℕ)
           (held point.Bound (omega (arith, late)))
 
   -- where the graphs hold, no row is long
-  rows_few : 1 < place → IsJudgedAs (vehicle_ids batch) wrong.lines wrong.told wrong.outcome → All HasFewRiders wrong.lines
+  pub rows_few : 1 < place → IsJudgedAs (vehicle_ids batch) wrong.lines wrong.told wrong.outcome → All HasFewRiders wrong.lines
   rows_few late judged = of judged
     where
       fine : All IsFine (lines_of wrong.told wrong.outcome)

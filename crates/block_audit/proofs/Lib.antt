@@ -4,3 +4,4 @@ pub mod BareLemmas
 pub mod NumberedLemmas
 pub mod AuditLemmas
 pub mod LawLemmas
+pub mod RefusalLemmas

@@ -13,5 +13,8 @@ mod refusal;
 mod tests;
 
 pub use audit::{AuditedBlock, audit_block};
-pub use laws::{long_rows_fail_by_the_graphs, untold_lines_fail_by_the_bound};
+pub use laws::{
+    a_good_block_is_not_refused, a_text_is_refused_in_one_way, long_rows_fail_by_the_graphs,
+    untold_lines_fail_by_the_bound,
+};
 pub use refusal::BlockRefusal;
