@@ -1,0 +1,20 @@
+//! The block of a batch in a printed report, read back and judged.
+//!
+//! A text begins with the block of at most one good outcome of a batch, whoever printed it. It is found where there is
+//! one; else it is said what is wrong: where the text is cut or a line out of form, or the first point that fails.
+#![tactic(auto)]
+
+mod audit;
+mod bare;
+mod judged;
+mod laws;
+mod refusal;
+#[cfg(test)]
+mod tests;
+
+pub use audit::{AuditedBlock, audit_block};
+pub use laws::{
+    a_good_block_is_not_refused, a_text_is_refused_in_one_way, long_rows_fail_by_the_graphs,
+    untold_lines_fail_by_the_bound,
+};
+pub use refusal::BlockRefusal;
