@@ -1,5 +1,5 @@
 -- The line of the settings.
-use Rattle.std.proofs.Common.{◌≡◌, ◌≢◌, ℕ, zero, suc, ◌≤◌, ◌==◌, Bool, true, false, if◌then◌else◌, nat_eq, length, codes, List, [], refl, sym, ap, ◌∙◌, append-nil, ne_eqb, arith}
+use Rattle.std.proofs.Common.{◌≡◌, ◌≢◌, ℕ, zero, suc, ◌≤◌, ◌==◌, Bool, true, false, if◌then◌else◌, nat_eq, get_or, length, codes, List, [], refl, sym, ap, ◌∙◌, append-nil, ne_eqb, arith}
 use Rattle.dispatch_report.specs.Words.{numbered}
 use Rattle.report_lines.specs.Head.{IsShort, dwell_text, settings_text, AreSettings}
 use Rattle.report_lines.specs.Reading.{BeginsWith, BeginsWithNone, ends_number}
@@ -178,3 +178,36 @@ dwell_not_zero text told some zero_told is (suc dwell) within e =
     let there : BeginsWith (numbered (codes " dwell=")) IsShort text told [] = record { whole = is ∙ sym (append-nil (numbered (codes " dwell=") told)); lawful = small; ends = refl } in
     let same : suc dwell ≡ told = (short_once (codes " dwell=") text (suc dwell) told [] [] here there).0 in
     omega arith
+
+-- no dwell is told by nothing
+no_dwell_told : (dwell : ℕ) → [] ≡ numbered (codes " dwell=") dwell → ⊥
+unfolding numbered
+no_dwell_told dwell e =
+    let first : List ℕ → ℕ = λ xs. get_or xs 0 0 in
+    let head : ◌≡◌ {A = ℕ} 0 32 = ap first e in
+    omega arith
+
+dwell_of_one : (a b : ℕ) → IsShort a → IsShort b → dwell_text a ≡ dwell_text b → a ≡ b
+dwell_of_one zero zero ia ib e = refl
+dwell_of_one zero (suc b) ia ib e = absurd (no_dwell_told (suc b) (e ∙ dwell_told (suc b) (λ z. omega arith)))
+dwell_of_one (suc a) zero ia ib e = absurd (no_dwell_told (suc a) (sym e ∙ dwell_told (suc a) (λ z. omega arith)))
+dwell_of_one (suc a) (suc b) ia ib e =
+    let same : numbered (codes " dwell=") (suc a) ≡ numbered (codes " dwell=") (suc b) = sym (dwell_told (suc a) (λ z. omega arith)) ∙ e ∙ dwell_told (suc b) (λ z. omega arith) in
+    let here : BeginsWith (numbered (codes " dwell=")) IsShort (numbered (codes " dwell=") (suc a)) (suc a) [] = record { whole = sym (append-nil (numbered (codes " dwell=") (suc a))); lawful = ia; ends = refl } in
+    let there : BeginsWith (numbered (codes " dwell=")) IsShort (numbered (codes " dwell=") (suc a)) (suc b) [] = record { whole = same ∙ sym (append-nil (numbered (codes " dwell=") (suc b))); lawful = ib; ends = refl } in
+    (short_once (codes " dwell=") (numbered (codes " dwell=") (suc a)) (suc a) (suc b) [] [] here there).0
+
+-- lines of settings of the same text say the same
+pub settings_of_one : (a b : SettingsText) → AreSettings a → AreSettings b → settings_text a ≡ settings_text b → a ≡ b
+settings_of_one a b ia ib e =
+    let here : BeginsWith parts_text AreParts (settings_text a) (parts_of a) (dwell_text a.dwell) = record { whole = refl; lawful = are_parts a ia; ends = dwell_ends a.dwell } in
+    let there : BeginsWith parts_text AreParts (settings_text a) (parts_of b) (dwell_text b.dwell) = record { whole = e; lawful = are_parts b ib; ends = dwell_ends b.dwell } in
+    let same = parts_once (settings_text a) (parts_of a) (parts_of b) (dwell_text a.dwell) (dwell_text b.dwell) here there in
+    let dwell : a.dwell ≡ b.dwell = dwell_of_one a.dwell b.dwell ia.dwell ib.dwell same.1 in
+    let f : (((ℕ × ℕ) × ℕ) × ((ℕ × ℕ) × ℕ)) × ℕ → SettingsText =
+    λ p. record { wait = p.0.0.0.0; delay = p.0.0.0.1; trip = p.0.0.1; penalty = p.0.1.0.0; budget = p.0.1.0.1; pairs = p.0.1.1; proof = p.1; dwell = a.dwell }
+    in
+    let g : ℕ → SettingsText =
+    λ n. record { wait = b.wait; delay = b.delay; trip = b.trip; penalty = b.penalty; budget = b.budget; pairs = b.pairs; proof = b.proof; dwell = n }
+    in
+    ap f same.0 ∙ ap g dwell

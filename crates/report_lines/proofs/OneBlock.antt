@@ -76,10 +76,10 @@ digits_one_line (c ∷ cs) all =
         let other : d ≢ 10 = λ e. let feed : is_ascii_digit d ≡ false = ap is_ascii_digit e in cc in
         ap not (ne_eqb d 10 other)
 
-append_one_line : (a b : List ℕ) → is_one_line a ≡ true → is_one_line b ≡ true → is_one_line (a ++ b) ≡ true
+pub append_one_line : (a b : List ℕ) → is_one_line a ≡ true → is_one_line b ≡ true → is_one_line (a ++ b) ≡ true
 append_one_line a b ia ib = list_all-append (λ c. not (c == 10)) a b ∙ and_from (is_one_line a) (is_one_line b) ia ib
 
-numbered_one_line : (words : List ℕ) (n : ℕ) → is_one_line words ≡ true → n < 2 ^ 128 → is_one_line (numbered words n) ≡ true
+pub numbered_one_line : (words : List ℕ) (n : ℕ) → is_one_line words ≡ true → n < 2 ^ 128 → is_one_line (numbered words n) ≡ true
 unfolding numbered
 numbered_one_line words n iw small = append_one_line words (decimal n) iw (digits_one_line (decimal n) (decimal_digits n small))
 
@@ -253,7 +253,7 @@ stuck_no_block place (x ∷ xs) (y ∷ ys) r s ix iy fx fy lx ly stuck e =
     lx (subst (λ p. last_place p ys ≡ 16) (sym place_same) ly) stuck cut.1
 
 -- a text with a line feed isn't one line
-no_one_line : (a r : List ℕ) → is_one_line (a ++ 10 ∷ r) ≡ true → ⊥
+pub no_one_line : (a r : List ℕ) → is_one_line (a ++ 10 ∷ r) ≡ true → ⊥
 no_one_line [] r h = cc
 no_one_line (c ∷ cs) r h = no_one_line cs r (and_parts (not (c == 10)) (is_one_line (cs ++ 10 ∷ r)) h).1
 

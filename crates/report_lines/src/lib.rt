@@ -40,4 +40,4 @@ pub use pairs::{read_rider, read_rr, read_rv};
 pub use row::{RowText, read_row};
 pub use signed::read_signed;
 pub use trip::read_trip;
-pub use words::read_numbered;
+pub use words::{is_words, numbered_first, pair_first, read_numbered, words_first};

@@ -6,14 +6,14 @@ ghost use Rattle.report_lines.specs.work.Both.{both, BothAre};
 use crate::numeral::number_first;
 
 /// What follows the words with which a text begins; `None` where it doesn't begin with them.
-pub(crate) fn words_first<'a>(text: &'a [u8], words: &[u8]) -> Option<&'a [u8]>
+pub fn words_first<'a>(text: &'a [u8], words: &[u8]) -> Option<&'a [u8]>
     ensures { MatchOption result ((rest : List ℕ) → text.now ≢ words.now ++ rest) (λ rest. text.now ≡ words.now ++ rest.now) }
 {
     text.strip_prefix(words)
 }
 
 /// Whether a text is these words and nothing more.
-pub(crate) fn is_words(text: &[u8], words: &[u8]) -> bool
+pub fn is_words(text: &[u8], words: &[u8]) -> bool
     ensures right { result ≡ true → text.now ≡ words.now }
     ensures whole { text.now ≡ words.now → result ≡ true }
 {
@@ -21,7 +21,7 @@ pub(crate) fn is_words(text: &[u8], words: &[u8]) -> bool
 }
 
 /// The number behind the words with which a text begins.
-pub(crate) fn numbered_first<'a>(text: &'a [u8], words: &[u8], most: u64) -> Option<(u64, &'a [u8])>
+pub fn numbered_first<'a>(text: &'a [u8], words: &[u8], most: u64) -> Option<(u64, &'a [u8])>
     ensures { MatchOption result (BeginsWithNone (numbered words.now) (λ n. n ≤ most) text.now) (λ r. BeginsWith (numbered words.now) (λ n. n ≤ most) text.now r.0 r.1.now) }
 {
     let Some(after) = words_first(text, words) else {
@@ -31,7 +31,7 @@ pub(crate) fn numbered_first<'a>(text: &'a [u8], words: &[u8], most: u64) -> Opt
 }
 
 /// Two numbers behind words, apart by a space.
-pub(crate) fn pair_first<'a>(
+pub fn pair_first<'a>(
     text: &'a [u8],
     words: &[u8],
     most: u64,

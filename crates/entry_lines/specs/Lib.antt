@@ -1,0 +1,4 @@
+pub mod Command
+pub mod Reply
+pub mod Next
+pub mod work

@@ -1,0 +1,4 @@
+pub mod LineLemmas
+pub mod SettingsLemmas
+pub mod FormLemmas
+pub mod HeadLemmas

@@ -1,0 +1,1 @@
+//! Heads of reports, and texts that begin with none.
