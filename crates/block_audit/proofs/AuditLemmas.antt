@@ -1,0 +1,93 @@
+-- A block as which one outcome is judged, and good outcomes that print it.
+use Rattle.std.proofs.Common.{◌≡◌, ◌≢◌, ℕ, ◌≤◌, true, List, [], ◌∷◌, ◌++◌, length, map, inl, inr, refl, sym, ap, ◌∙◌, subst, arith}
+use Rattle.std.specs.List.{All}
+use Rattle.std.proofs.lemmas.List.{length-map}
+use Rattle.batch_snapshot.specs.Batch.{Batch}
+use Rattle.batch_snapshot.specs.Kept.{IsKept}
+use Rattle.batch_solver.specs.Outcome.{IsGoodOutcome}
+use Rattle.block_outcome.specs.Told.{Tells, TellsNone}
+use Rattle.dispatch_report.specs.Block.{block_lines}
+use Rattle.dispatch_report.specs.Lines.{lines_text}
+use Rattle.outcome_check.specs.Verdict.{Meets, AnswersAt, IsVerdictOf}
+use Rattle.outcome_check.specs.declared.verdict.Point.TheVariants as point
+use Rattle.outcome_check.specs.declared.verdict.Verdict.TheVariants.{Good}
+use Rattle.plan_rules.specs.Graph.{Graph}
+use Rattle.plan_rules.specs.Tree.{SearchTree, preorder}
+use Rattle.plan_rules.specs.Tree.SearchTree.{Parted, Bounded, Closed}
+use Rattle.report_lines.specs.Block.{IsBlock}
+use Rattle.report_lines.specs.BlockLine.{block_line_text, IsBlockLine}
+use Rattle.report_lines.specs.Outcome.{lines_of}
+use Rattle.report_lines.specs.declared.block_line.BlockLine.{BlockLine}
+use Rattle.report_lines.proofs.OneBlock.{block_of_one}
+use Rattle.report_lines.proofs.OutcomeLemmas.{outcome_block, outcome_texts}
+use Rattle.request_book.specs.declared.outcome.Answer.{Answer}
+use Rattle.request_book.specs.declared.outcome.Answer.TheVariants.{Planned as Plan}
+use Rattle.request_book.specs.declared.outcome.Outcome.{Outcome}
+use Rattle.rider_limits.specs.declared.settings.Settings.{Settings}
+use Rattle.road_network.specs.Roads.{Roads}
+use Rattle.search_check.specs.Points.{HasValue}
+use Rattle.block_audit.specs.Block.{BeginsWithGood}
+use Rattle.block_audit.specs.Judged.{bare, IsJudgedAs}
+use Rattle.block_audit.proofs.BareLemmas.{HasNoTree, judged_bare}
+use Rattle.block_audit.proofs.NumberedLemmas.{vehicle_ids, few_ids, outcome_numbered, outcome_trips}
+use Rattle.block_audit.proofs.OneOutcome.{one_outcome}
+
+-- a tree has a node
+no_nodes : (tree : SearchTree) → [] ≡ preorder tree → ⊥
+no_nodes (Parted v k first second) e = cc
+no_nodes (Bounded ms) e = cc
+no_nodes Closed e = cc
+
+-- no tree has no value
+pub no_value : (settings : Settings) (roads : Roads) (batch : Batch) (answer : Answer) → HasNoTree answer → AnswersAt settings roads batch answer point.Bound → ⊥
+no_value settings roads batch answer has answers = valued (subst (λ (a : Answer). AnswersAt settings roads batch a point.Bound) has.is answers)
+  where
+    valued : AnswersAt settings roads batch (Plan has.plan) point.Bound → ⊥
+    valued (p, posed, value) = no_nodes value.tree.0 (sym has.no_tree ∙ value.tree.1.listed)
+
+-- the outcome as which the block is judged is the only good one whose block stands there
+pub record IsItself (batch : Batch) (told : ℕ) (outcome other : Outcome) (rest behind : List ℕ) : Type 0 where
+  pub number : told ≡ batch.number
+  pub same : other ≡ outcome
+  pub after : behind ≡ rest
+
+module _ (settings : Settings) (roads : Roads) (batch : Batch) (kept : IsKept batch) (text : List ℕ) (lines : List BlockLine) (rest : List ℕ) (block : IsBlock text lines rest) (told : ℕ) (outcome : Outcome) (judged : IsJudgedAs (vehicle_ids batch) lines told outcome) where
+  pub good_is_judged : (other : Outcome) (behind : List ℕ) → BeginsWithGood settings roads batch text other behind → IsItself batch told outcome other rest behind
+  good_is_judged other behind good =
+      let printed : IsBlock text (lines_of batch.number other) behind =
+      subst (λ (t : List ℕ). IsBlock t (lines_of batch.number other) behind) (sym good.whole) (outcome_block batch.number other behind good.fits)
+      in
+      let same = block_of_one text lines (lines_of batch.number other) rest behind block printed in
+      known same.0 same.1 judged
+    where
+      known : lines ≡ lines_of batch.number other → rest ≡ behind → IsJudgedAs (vehicle_ids batch) lines told outcome → IsItself batch told outcome other rest behind
+      known e r (inl tells) =
+          let one = one_outcome (vehicle_ids batch) (few_ids batch kept) told batch.number outcome other tells.numbered (outcome_numbered settings roads batch other kept good.good) (sym tells.whole ∙ e) in
+          record { number = one.0; same = sym one.1; after = sym r }
+      known e r (inr (none, tells)) = absurd (none batch.number other (outcome_trips settings roads batch other good.good) e)
+
+  -- where all points hold of it, the lines tell it
+  pub good_is_told : IsVerdictOf (Meets settings roads batch outcome) Good → Tells (vehicle_ids batch) lines told outcome
+  good_is_told all = told_by judged
+    where
+      told_by : IsJudgedAs (vehicle_ids batch) lines told outcome → Tells (vehicle_ids batch) lines told outcome
+      told_by (inl tells) = tells
+      told_by (inr (none, tells)) =
+          absurd (no_value settings roads batch outcome.answer
+          (judged_bare (vehicle_ids batch) lines told outcome (few_ids batch kept) block.begins.order block.ended none tells)
+          (all point.Bound).1)
+
+  -- and it is a good outcome whose block stands there
+  pub begins_good : told ≡ batch.number → IsGoodOutcome settings roads batch outcome → Tells (vehicle_ids batch) lines told outcome → BeginsWithGood settings roads batch text outcome rest
+  begins_good number good tells =
+      let is : lines ≡ lines_of batch.number outcome = tells.whole ∙ ap (λ (n : ℕ). lines_of n outcome) number in
+      record {
+        whole = block.begins.whole ∙ ap (λ (ls : List BlockLine). lines_text (map block_line_text ls) ++ rest) is ∙ ap (λ (ls : List (List ℕ)). lines_text ls ++ rest) (outcome_texts batch.number outcome);
+        fits = subst (λ (ls : List BlockLine). All IsBlockLine ls) is block.begins.lawful;
+        good = good;
+      }
+
+  pub line_count : told ≡ batch.number → Tells (vehicle_ids batch) lines told outcome → length lines ≡ length (block_lines true batch.number outcome)
+  line_count number tells =
+      let is : lines ≡ lines_of batch.number outcome = tells.whole ∙ ap (λ (n : ℕ). lines_of n outcome) number in
+      ap (λ (ls : List BlockLine). length ls) is ∙ sym (length-map (lines_of batch.number outcome) block_line_text) ∙ ap (λ (ls : List (List ℕ)). length ls) (outcome_texts batch.number outcome)

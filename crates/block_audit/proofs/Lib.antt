@@ -1,0 +1,5 @@
+pub mod ShapeLemmas
+pub mod OneOutcome
+pub mod BareLemmas
+pub mod NumberedLemmas
+pub mod AuditLemmas

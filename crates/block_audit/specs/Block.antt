@@ -1,0 +1,59 @@
+-- Texts that begin with the block of a batch.
+use Rattle.std.specs.Prelude.{◌≡◌, ℕ, true, List, ◌++◌, map}
+use Rattle.batch_snapshot.specs.Batch.{Batch}
+use Rattle.batch_solver.specs.Outcome.{IsGoodOutcome}
+use Rattle.dispatch_report.specs.Block.{block_lines}
+use Rattle.dispatch_report.specs.Lines.{lines_text}
+use Rattle.outcome_check.specs.Verdict.{Meets, IsVerdictOf, place_of}
+use Rattle.outcome_check.specs.declared.verdict.Point.{Point}
+use Rattle.outcome_check.specs.declared.verdict.Verdict.TheVariants.{Fails}
+use Rattle.report_lines.specs.Block.{IsBlock, BlockFails}
+use Rattle.report_lines.specs.declared.block.BlockFault.{BlockFault}
+use Rattle.report_lines.specs.declared.block.BlockFault.TheVariants as fault
+use Rattle.report_lines.specs.declared.block_line.BlockLine.{BlockLine}
+use Rattle.request_book.specs.declared.outcome.Outcome.{Outcome}
+use Rattle.rider_limits.specs.declared.settings.Settings.{Settings}
+use Rattle.road_network.specs.Roads.{Roads}
+use Rattle.block_audit.specs.Fits.{Fits}
+use Rattle.block_audit.specs.Judged.{IsJudgedAs}
+use Rattle.block_audit.specs.declared.refusal.BlockRefusal.{BlockRefusal}
+use Rattle.block_audit.specs.declared.refusal.BlockRefusal.TheVariants.{OutOfMemory, Cut, Form, Wrong}
+
+-- the text begins with the block of a good outcome of this batch
+pub record BeginsWithGood (settings : Settings) (roads : Roads) (batch : Batch) (text : List ℕ) (outcome : Outcome) (rest : List ℕ) : Type 0 where
+  pub whole : text ≡ lines_text (block_lines true batch.number outcome) ++ rest
+  pub fits : Fits batch.number outcome
+  pub good : IsGoodOutcome settings roads batch outcome
+
+-- the number that is told is the batch's, and the point holds of the outcome
+abbrev pub MeetsAs : Settings → Roads → Batch → ℕ → Outcome → Point → Type 0
+MeetsAs settings roads batch told outcome q = (told ≡ batch.number) × Meets settings roads batch outcome q
+
+-- the point of this place is the first that fails
+pub record FailsFirst (Holds' : Point → Type 0) (place : ℕ) : Type 0 where
+  pub point : Point
+  pub at : place_of point ≡ place
+  pub first : IsVerdictOf Holds' (Fails point)
+
+-- the text begins with a block, and this is the first point that fails of the outcome as which its lines are judged
+pub record BeginsWithWrong (settings : Settings) (roads : Roads) (batch : Batch) (text : List ℕ) (place : ℕ) : Type 0 where
+  pub lines : List BlockLine
+  pub rest : List ℕ
+  pub told : ℕ
+  pub outcome : Outcome
+  pub block : IsBlock text lines rest
+  pub judged : IsJudgedAs (map (λ v. v.id) batch.vehicles) lines told outcome
+  pub fails : FailsFirst (MeetsAs settings roads batch told outcome) place
+
+-- why a text begins with no block of a good outcome
+abbrev pub Refuses : Settings → Roads → Batch → List ℕ → BlockRefusal → Type 0
+Refuses settings roads batch text OutOfMemory = Unit {0}
+Refuses settings roads batch text (Cut n) = BlockFails text (fault.Cut n)
+Refuses settings roads batch text (Form n) = BlockFails text (fault.Form n)
+Refuses settings roads batch text (Wrong place) = BeginsWithWrong settings roads batch text place
+
+-- what is said of a text that begins with no block in form
+abbrev pub refusal_for : BlockFault → BlockRefusal
+refusal_for fault.OutOfMemory = OutOfMemory
+refusal_for (fault.Cut n) = Cut n
+refusal_for (fault.Form n) = Form n
