@@ -3,7 +3,6 @@ use Rattle.std.specs.Prelude.{◌≡◌, ◌≢◌, ℕ, true, List, [], ◌∷�
 use Rattle.batch_snapshot.specs.declared.vehicle.Vehicle.{Vehicle}
 use Rattle.dispatch_engine.specs.Lane.{of_lane, IsLaneRun, IsLaneBeginning, ClosesAreGood}
 use Rattle.dispatch_engine.specs.Run.{IsRun, position_after_run}
-use Rattle.dispatch_engine.specs.work.Run.{state_after_run}
 use Rattle.dispatch_report.specs.Entry.{entry_line}
 use Rattle.dispatch_report.specs.Head.{head_text}
 use Rattle.dispatch_report.specs.Round.{round_text, end_text}
@@ -29,6 +28,11 @@ state_behind settings roads j = state_after roads.nodes settings.wait j.base j.e
 
 abbrev pub position_behind : Journal → ℕ
 position_behind j = next_position j.first j.entries
+
+-- the state after journals
+abbrev pub state_after_rounds : Settings → Roads → State → List Journal → State
+state_after_rounds settings roads s [] = s
+state_after_rounds settings roads s (j ∷ js) = state_after_rounds settings roads (state_after roads.nodes settings.wait s j.entries) js
 
 -- a journal with one more entry
 abbrev pub with_entry : Journal → Entry → Journal
@@ -98,7 +102,7 @@ pub record IsRightWithin (settings : Settings) (roads : Roads) (vehicles : List 
   pub made : List Journal
   pub all : rounds ≡ before ++ round ∷ later
   pub rounds_made : HasRounds settings roads vehicles before made
-  pub base_is : j.base ≡ state_after_run roads.nodes settings.wait (opening vehicles) made
+  pub base_is : j.base ≡ state_after_rounds settings roads (opening vehicles) made
   pub first_is : j.first ≡ position_after_run 0 made
   pub begins : BeginsRound settings roads round j
   pub going : AreAtEnd round j → ⊥

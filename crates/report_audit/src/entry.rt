@@ -49,15 +49,7 @@ pub(crate) fn audit_entry<'a, W: Ways, G: Gate>(
     }
     match lanes.stand(usize::from(lane)).pending {
         None => {
-            let (reply, next) = audit_command(
-                alloc,
-                book,
-                lanes,
-                round,
-                lane,
-                between.line,
-                left,
-            )?;
+            let (reply, next) = audit_command(alloc, book, lanes, round, lane, between.line, left)?;
             lanes.take(round, usize::from(lane), reply);
             *sealed = next;
             Ok(between.after)

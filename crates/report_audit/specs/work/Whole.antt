@@ -1,7 +1,6 @@
 -- A whole audit behind the head.
 use Rattle.std.specs.Prelude.{◌≡◌, ◌≢◌, ℕ, true, List, [], ◌∷◌, ◌++◌}
 use Rattle.dispatch_engine.specs.Run.{IsRun, position_after_run}
-use Rattle.dispatch_engine.specs.work.Run.{state_after_run}
 use Rattle.dispatch_report.specs.Round.{round_text, end_text}
 use Rattle.request_book.specs.Book.{BookView}
 use Rattle.request_book.specs.declared.journal.Journal.{Journal}
@@ -9,7 +8,7 @@ use Rattle.request_book.specs.declared.state.State.{State}
 use Rattle.rider_limits.specs.declared.settings.Settings.{Settings}
 use Rattle.road_network.specs.Roads.{Roads}
 use Rattle.script_rows.specs.Round.{NumberedLanes}
-use Rattle.report_audit.specs.Place.{Place, BeginsRound, AreAtEnd}
+use Rattle.report_audit.specs.Place.{Place, BeginsRound, AreAtEnd, state_after_rounds}
 use Rattle.report_audit.specs.Report.{rounds_text, batches_after}
 use Rattle.report_audit.specs.Types.{JournalsAreTold}
 use Rattle.report_audit.specs.declared.fault.Audited.{Audited}
@@ -30,7 +29,7 @@ pub record HasComeTo (settings : Settings) (roads : Roads) (s : State) (before l
   pub made : List Journal
   pub has_read : HasReadRounds settings roads s before made text rest
   pub start : IsRoundStart settings roads b
-  pub state : b.state ≡ state_after_run roads.nodes settings.wait s made
+  pub state : b.state ≡ state_after_rounds settings roads s made
   pub position : b.first ≡ position_after_run 0 made
   pub counted : batches ≡ batches_after 0 made
   pub only : IsRestOfRounds settings roads (before ++ later) s 0 text → IsRestOfRounds settings roads later b.state b.first rest
@@ -48,7 +47,7 @@ pub data WhereAllStops (settings : Settings) (roads : Roads) (rounds : List Numb
       → StopsAt settings roads (Place.between later (position_after_run 0 made)) rest stop → WhereAllStops settings roads rounds s text stop
   within : (before later : List NumberedLanes) (round : NumberedLanes) (made : List Journal) (j : Journal) (rest : List ℕ) → rounds ≡ before ++ round ∷ later
       → HasReadRounds settings roads s before made text (round_text round.number true j ++ rest)
-      → j.base ≡ state_after_run roads.nodes settings.wait s made → j.first ≡ position_after_run 0 made → BeginsRound settings roads round j → (AreAtEnd round j → ⊥)
+      → j.base ≡ state_after_rounds settings roads s made → j.first ≡ position_after_run 0 made → BeginsRound settings roads round j → (AreAtEnd round j → ⊥)
       → StopsAt settings roads (Place.within round j) rest stop → WhereAllStops settings roads rounds s text stop
   behind : (made : List Journal) (rest : List ℕ) → HasReadRounds settings roads s rounds made text (end_text (position_after_run 0 made) ++ rest)
       → StopsAt settings roads Place.finished rest stop → WhereAllStops settings roads rounds s text stop
