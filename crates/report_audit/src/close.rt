@@ -1,5 +1,5 @@
 //! The close of a batch, and its block.
-ghost use Rattle.std.specs.Prelude.{◌≡◌, ◌↔◌, IfErr, IfOk, IsTrue, Some};
+ghost use Rattle.std.specs.Prelude.{◌≡◌, ◌<◌, ◌^◌, ◌↔◌, IfErr, IfOk, IsTrue, Some};
 ghost use Rattle.report_audit.specs.work.Closing.{TakesClose, CloseStops, close_line};
 ghost use Rattle.report_audit.specs.work.Steps.{IsBookOf};
 
@@ -74,7 +74,8 @@ fn is_close_line(
     lane: u8,
     batch: u64,
 ) -> Result<bool, OutOfMemory>
-    ensures { IfOk result (λ yes. IsTrue yes ↔ (line.now ≡ close_line position lane batch)) }
+    ensures line { IfOk result (λ yes. IsTrue yes ↔ (line.now ≡ close_line position lane batch)) }
+    ensures low { batch < 2 ^ 64 }
 {
     let outcome = Outcome {
         expired: Sequence::empty(alloc),

@@ -1,5 +1,6 @@
 //! Commands of a script, copied and answered.
-ghost use Rattle.std.specs.Prelude.{◌≡◌, ◌≢◌, IfOk, MatchOption};
+ghost use Rattle.std.specs.Prelude.{◌≡◌, ◌≢◌, ◌↔◌, IfOk, IsTrue, MatchOption};
+ghost use Rattle.dispatch_engine.specs.Lane.{last_sealed};
 ghost use Rattle.dispatch_report.specs.Entry.{entry_line};
 ghost use Rattle.request_book.specs.Book.{IsApplied, next_position};
 ghost use Rattle.request_book.specs.declared.reply.Reply.{Reply as OneReply};
@@ -86,6 +87,15 @@ pub(crate) fn sealed_by_command(
     }
 }
 
+/// Puts up the batch of a command, if it has one.
+pub(crate) fn put_up(sealed: &mut Option<Snapshot>, next: Option<Snapshot>)
+    ensures { sealed.new ≡ last_sealed sealed.old next }
+{
+    if next.is_some() {
+        *sealed = next;
+    }
+}
+
 /// Answers a command, and says the reply where the line is that of the entry which this makes.
 pub(crate) fn answered(
     alloc: Global,
@@ -101,14 +111,29 @@ pub(crate) fn answered(
 {
     let position = book.next_position();
     let reply = book.apply(lane, copied(command))?;
-    let entry = Entry {
-        lane,
-        command: copied(command),
-        reply,
-    };
-    if is_entry_line(alloc, line, position, &entry)? {
+    if is_answer_line(alloc, line, position, lane, command, &reply)? {
         Ok(Some(reply))
     } else {
         Ok(None)
     }
+}
+
+/// Whether the line is that of this command and reply.
+fn is_answer_line(
+    alloc: Global,
+    line: &[u8],
+    position: u64,
+    lane: u8,
+    command: &Command,
+    reply: &Reply,
+) -> Result<bool, OutOfMemory>
+    requires { IsNoClose command.now }
+    ensures { IfOk result (λ yes. IsTrue yes ↔ (line.now ≡ entry_line position (record { lane = lane; command = command.now; reply = reply.now }))) }
+{
+    let entry = Entry {
+        lane,
+        command: copied(command),
+        reply: *reply,
+    };
+    is_entry_line(alloc, line, position, &entry)
 }

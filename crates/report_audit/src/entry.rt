@@ -7,7 +7,8 @@ ghost use Rattle.report_audit.specs.work.Taking.{CommandStops, TakesCommand};
 ghost use Rattle.report_audit.specs.work.Steps.{HasRead, IsWithin, StopsWithin};
 
 use crate::close::audit_close;
-use crate::command::{answered, sealed_by_command};
+use crate::command::{answered, put_up, sealed_by_command};
+use crate::numbers::{fits_command, fits_reply};
 use crate::setup::Setup;
 use crate::stop::{Stop, line_between, wrong_line};
 use batch_snapshot::Snapshot;
@@ -22,6 +23,7 @@ use worker_gate::Gate;
 
 /// The entry with whose line a text begins, and behind a close the block of its batch: it is taken into the book, and
 /// what follows it is the answer. Some lane has still something to do.
+#[tactic(none)]
 pub(crate) fn audit_entry<'a, W: Ways, G: Gate>(
     rt: &(impl Threads + Sync),
     alloc: Global,
@@ -51,7 +53,7 @@ pub(crate) fn audit_entry<'a, W: Ways, G: Gate>(
         None => {
             let (reply, next) = audit_command(alloc, book, lanes, round, lane, between.line, left)?;
             lanes.take(round, usize::from(lane), reply);
-            *sealed = next;
+            put_up(sealed, next);
             Ok(between.after)
         }
         Some(_batch) => match sealed.take() {
@@ -86,8 +88,12 @@ fn audit_command(
         return Err(wrong_line(left));
     };
     let sealed = sealed_by_command(book, command)?;
+    fits_command(command);
     match answered(alloc, book, lane, command, line)? {
-        Some(reply) => Ok((reply, sealed)),
+        Some(reply) => {
+            fits_reply(&reply);
+            Ok((reply, sealed))
+        }
         None => Err(wrong_line(left)),
     }
 }

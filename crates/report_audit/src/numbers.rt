@@ -1,5 +1,5 @@
 //! That the numbers of commands and replies are within their types.
-ghost use Rattle.entry_lines.specs.Command.{IsCommand, IsSecond};
+ghost use Rattle.entry_lines.specs.Command.{IsBatch, IsCommand, IsSecond};
 ghost use Rattle.entry_lines.specs.Reply.{IsReply, IsRefusal, OrNone};
 ghost use Rattle.report_lines.specs.Ids.{IsId};
 
@@ -58,31 +58,45 @@ pub(crate) fn fits_command(command: &Command)
 }
 
 /// Each number of a reply is within its type.
-pub(crate) fn fits_reply(reply: Reply)
-    ensures { IsReply reply }
+pub(crate) fn fits_reply(reply: &Reply)
+    ensures { IsReply reply.now }
 {
-    if let Reply::Refused(refusal) = reply {
-        fits_refusal(refusal);
-    }
-}
-
-fn fits_refusal(refusal: BookRefusal)
-    ensures { IsRefusal refusal }
-{
-    match refusal {
-        BookRefusal::IsAboard { vehicle } => fits_vehicle(vehicle),
-        BookRefusal::TimeBack { last } => fits_second(last),
-        BookRefusal::ClockBack { last } => fits_second(last),
-        BookRefusal::NotPromised { holder } => fits_holder(holder),
+    match reply {
+        Reply::Sealed { batch } => {
+            let _number = *batch;
+        }
+        Reply::Refused(refusal) => fits_refusal(refusal),
         _ => {}
     }
 }
 
-fn fits_holder(holder: Option<VehicleId>)
-    ensures { OrNone IsId holder }
+fn fits_refusal(refusal: &BookRefusal)
+    ensures { IsRefusal refusal.now }
+{
+    match refusal {
+        BookRefusal::IsAboard { vehicle } => fits_vehicle(*vehicle),
+        BookRefusal::TimeBack { last } => fits_second(*last),
+        BookRefusal::ClockBack { last } => fits_second(*last),
+        BookRefusal::NotPromised { holder } => fits_holder(holder),
+        BookRefusal::BatchOpen { batch } => fits_batch(*batch),
+        BookRefusal::NotThisBatch { current } => fits_current(current),
+        _ => {}
+    }
+}
+
+fn fits_holder(holder: &Option<VehicleId>)
+    ensures { OrNone IsId holder.now }
 {
     if let Some(vehicle) = holder {
-        fits_vehicle(vehicle);
+        fits_vehicle(*vehicle);
+    }
+}
+
+fn fits_current(current: &Option<u64>)
+    ensures { OrNone IsBatch current.now }
+{
+    if let Some(batch) = current {
+        fits_batch(*batch);
     }
 }
 
@@ -96,4 +110,10 @@ fn fits_second(second: Second)
     ensures { IsSecond second }
 {
     let _number = second.get();
+}
+
+fn fits_batch(batch: u64)
+    ensures { IsBatch batch }
+{
+    let _number = batch;
 }

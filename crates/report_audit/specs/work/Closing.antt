@@ -1,5 +1,5 @@
 -- The close of a batch.
-use Rattle.std.specs.Prelude.{◌≡◌, ◌≢◌, ℕ, List, [], ◌++◌, codes, decimal}
+use Rattle.std.specs.Prelude.{◌≡◌, ◌≢◌, ℕ, ◌<◌, ◌^◌, List, [], ◌++◌, codes, decimal}
 use Rattle.batch_snapshot.specs.Batch.{Batch}
 use Rattle.block_audit.specs.Block.{BeginsWithGood, Refuses}
 use Rattle.block_audit.specs.declared.refusal.BlockRefusal.{BlockRefusal}
@@ -21,6 +21,7 @@ close_line position lane batch = decimal position ++ spaced lane ++ codes " " ++
 
 -- the line is that of the batch's close, its block stands first behind it, and the close was taken into the book
 pub record TakesClose (settings : Settings) (roads : Roads) (old : BookView) (batch : Batch) (lane : ℕ) (line after rest : List ℕ) (new : BookView) : Type 0 where
+  pub low : batch.number < 2 ^ 64
   pub line_is : line ≡ close_line (next_position old.first old.entries) lane batch.number
   pub outcome : Outcome
   pub good : BeginsWithGood settings roads batch after outcome rest
@@ -29,6 +30,7 @@ pub record TakesClose (settings : Settings) (roads : Roads) (old : BookView) (ba
 
 -- no good outcome's block stands behind the line of the close
 pub record BlockFails (settings : Settings) (roads : Roads) (batch : Batch) (after : List ℕ) (refused : BlockRefusal) : Type 0 where
+  pub low : batch.number < 2 ^ 64
   pub memory : refused ≢ refusal.OutOfMemory
   pub refuses : Refuses settings roads batch after refused
   pub none : (outcome : Outcome) (behind : List ℕ) → BeginsWithGood settings roads batch after outcome behind → ⊥

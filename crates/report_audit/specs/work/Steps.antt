@@ -1,5 +1,5 @@
 -- The steps of an audit.
-use Rattle.std.specs.Prelude.{◌≡◌, ◌≢◌, ℕ, ◌+◌, ◌≤◌, true, List, [], ◌∷◌, ◌++◌, length, Option, None, Some, option_map}
+use Rattle.std.specs.Prelude.{◌≡◌, ◌≢◌, ℕ, ◌+◌, ◌<◌, ◌≤◌, ◌^◌, true, List, [], ◌∷◌, ◌++◌, length, Option, None, Some, option_map}
 use Rattle.batch_snapshot.specs.Batch.{Batch}
 use Rattle.block_audit.specs.declared.refusal.BlockRefusal.{BlockRefusal}
 use Rattle.block_audit.specs.declared.refusal.BlockRefusal.TheVariants as refusal
@@ -48,6 +48,7 @@ pub record IsBookOf (settings : Settings) (roads : Roads) (b : BookView) : Type 
   pub nodes : b.nodes ≡ roads.nodes
   pub wait : b.wait ≡ settings.wait
   pub kept : IsBook b
+  pub low : b.first < 2 ^ 64
 
 -- lane 0 waits for the close of the batch that is sealed, and no other lane waits for one
 pub record Waits (lanes : List LaneStand) (sealed : Option Batch) : Type 0 where

@@ -2,6 +2,8 @@
 use Rattle.std.specs.Prelude.{◌≡◌, ◌≢◌, ℕ, List, Option, slice_set}
 use Rattle.batch_snapshot.specs.Batch.{Batch}
 use Rattle.dispatch_report.specs.Entry.{entry_line}
+use Rattle.entry_lines.specs.Command.{IsCommand}
+use Rattle.entry_lines.specs.Reply.{IsReply}
 use Rattle.lane_progress.specs.Stand.{IsNext, stand_at}
 use Rattle.lane_progress.specs.declared.stand.LaneStand.{LaneStand}
 use Rattle.request_book.specs.Book.{BookView, IsApplied, next_position}
@@ -18,6 +20,8 @@ use Rattle.report_audit.specs.work.Commands.{sealed_next}
 pub record TakesCommand (round : NumberedLanes) (lanes : List LaneStand) (old : BookView) (lane : ℕ) (line : List ℕ) (new : BookView) (sealed : Option Batch) (reply : Reply) : Type 0 where
   pub command : Command
   pub next : IsNext (lane_at round lane) (stand_at lanes lane) command
+  pub command_fits : IsCommand command
+  pub reply_fits : IsReply reply
   pub applied : IsApplied old lane command reply new
   pub line_is : line ≡ entry_line (next_position old.first old.entries) (record { lane = lane; command = command; reply = reply })
   pub sealed_is : sealed ≡ sealed_next old.wait old.state command
