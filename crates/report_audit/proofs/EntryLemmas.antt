@@ -96,7 +96,7 @@ block_plain (Seal now) reply is = refl
 block_plain (Close batch outcome) reply is = absurd is
 
 -- the round isn't at its end while a lane isn't
-not_at_end : (settings : Settings) (roads : Roads) (round : NumberedLanes) (b : BookView) (lanes : List LaneStand) (sealed : Option Batch) → IsWithin settings roads round b lanes sealed → (AreDone round lanes → ⊥) → AreAtEnd round (journal_of b) → ⊥
+pub not_at_end : (settings : Settings) (roads : Roads) (round : NumberedLanes) (b : BookView) (lanes : List LaneStand) (sealed : Option Batch) → IsWithin settings roads round b lanes sealed → (AreDone round lanes → ⊥) → AreAtEnd round (journal_of b) → ⊥
 not_at_end settings roads round b lanes sealed is going end = going (end_done round lanes b.entries is.come end)
 
 module _ (settings : Settings) (roads : Roads) (round : NumberedLanes) (b : BookView) (lanes : List LaneStand) (sealed : Option Batch) (is : IsWithin settings roads round b lanes sealed) (going : AreDone round lanes → ⊥) (text : List ℕ) where
@@ -123,27 +123,54 @@ module _ (settings : Settings) (roads : Roads) (round : NumberedLanes) (b : Book
   module _ (line after : List ℕ) (has : HasLine text line after) where
     -- a stop at a line in form that isn't an entry's
     pub other_stops : (x : NextLine) → ((lane : ℕ) → x ≡ EntryOf lane → ⊥) → IsNextLine x line → StopsWithin settings roads round (journal_of b) text (Line (length text) wrong.Entry)
-    other_stops x other form = line_stops (length text) wrong.Entry (refl, (line, after, has, (x, form), λ follow. other follow.0.lane
-        (one_kind x (EntryOf follow.0.lane) line form (position_behind (journal_of b), follow.0, follow.1.line, refl, follow.2))))
+    other_stops x other form = line_stops (length text) wrong.Entry (
+      refl,
+      (
+        line,
+        after,
+        has,
+        (x, form),
+        λ follow. other follow.0.lane
+            (one_kind x (EntryOf follow.0.lane) line form (position_behind (journal_of b), follow.0, follow.1.line, refl, follow.2)),
+      ),
+    )
 
     module _ (lane : ℕ) (form : IsNextLine (EntryOf lane) line) where
       -- a stop at an entry of a lane that the round hasn't
       pub beyond_stops : 16 ≤ lane → StopsWithin settings roads round (journal_of b) text (Line (length text) wrong.Entry)
-      beyond_stops high = line_stops (length text) wrong.Entry (refl, (line, after, has, (EntryOf lane, form), λ follow.
-          none_beyond round lanes lane follow.0.command is.round_kept is.sixteen high
-          (candidate_next settings roads round (journal_of b) lanes is.come follow.0 lane line follow.1 follow.2 form)))
+      beyond_stops high = line_stops (length text) wrong.Entry (
+        refl,
+        (
+          line,
+          after,
+          has,
+          (EntryOf lane, form),
+          λ follow.
+              none_beyond round lanes lane follow.0.command is.round_kept is.sixteen high
+              (candidate_next settings roads round (journal_of b) lanes is.come follow.0 lane line follow.1 follow.2 form),
+        ),
+      )
 
       -- a stop at another line than that of the lane's next command
       pub command_stops : (left : ℕ) (stop : Stop) → left ≡ length text → CommandStops round lanes b lane line left stop → StopsWithin settings roads round (journal_of b) text stop
       command_stops left OutOfMemory at stops = memory_stops
-      command_stops left (Line here wrong.Entry) at stops = line_stops here wrong.Entry (stops.0 ∙ at, (line, after, has, (EntryOf lane, form), λ follow.
-          let e : Entry = follow.0 in
-          let s : State = state_behind settings roads (journal_of b) in
-          let reply : e.reply ≡ (step b.nodes b.wait b.state e.command).1 = follow.1.reply ∙ ap (λ p. p.1) (sym (book_step settings roads b is.book e.command)) in
-          let same : e ≡ record { lane = lane; command = e.command; reply = (step b.nodes b.wait b.state e.command).1 } =
-          entry_by e lane e.command (step b.nodes b.wait b.state e.command).1 (candidate_lane settings roads round (journal_of b) lanes is.come e lane line follow.1 follow.2 form) refl reply in
-          stops.1 e.command (candidate_next settings roads round (journal_of b) lanes is.come e lane line follow.1 follow.2 form)
-          (follow.2 ∙ ap (λ (x : Entry). entry_line (position_behind (journal_of b)) x) same)))
+      command_stops left (Line here wrong.Entry) at stops = line_stops here wrong.Entry (
+        stops.0 ∙ at,
+        (
+          line,
+          after,
+          has,
+          (EntryOf lane, form),
+          λ follow.
+              let e : Entry = follow.0 in
+              let s : State = state_behind settings roads (journal_of b) in
+              let reply : e.reply ≡ (step b.nodes b.wait b.state e.command).1 = follow.1.reply ∙ ap (λ p. p.1) (sym (book_step settings roads b is.book e.command)) in
+              let same : e ≡ record { lane = lane; command = e.command; reply = (step b.nodes b.wait b.state e.command).1 } =
+              entry_by e lane e.command (step b.nodes b.wait b.state e.command).1 (candidate_lane settings roads round (journal_of b) lanes is.come e lane line follow.1 follow.2 form) refl reply in
+              stops.1 e.command (candidate_next settings roads round (journal_of b) lanes is.come e lane line follow.1 follow.2 form)
+              (follow.2 ∙ ap (λ (x : Entry). entry_line (position_behind (journal_of b)) x) same),
+        ),
+      )
       command_stops left (Line here wrong.Cut) at stops = absurd stops
       command_stops left (Line here wrong.Form) at stops = absurd stops
       command_stops left (Block here refused) at stops = absurd stops
@@ -235,7 +262,7 @@ module _ (settings : Settings) (roads : Roads) (round : NumberedLanes) (b : Book
         closing_reply : (o : Outcome) → Closed ≡ (step roads.nodes settings.wait (state_behind settings roads (journal_of b)) (Close batch.number o)).1
         closing_reply o = ap (λ p. p.1) (sym (close-is roads.nodes settings.wait (state_behind settings roads (journal_of b)) batch o sealed_behind))
 
-        closing_next : (o : Outcome) → IsNext (lane_at round lane) (stand_at lanes lane) (Close batch.number o)
+        pub closing_next : (o : Outcome) → IsNext (lane_at round lane) (stand_at lanes lane) (Close batch.number o)
         closing_next o = subst (λ (p : Option ℕ). IsNextFrom p (stand_at lanes lane).taken (lane_at round lane) (Close batch.number o)) (sym pending) (sym number_is)
 
         -- only the close of the batch may come next
@@ -276,28 +303,41 @@ module _ (settings : Settings) (roads : Roads) (round : NumberedLanes) (b : Book
         pub close_stops : (stop : Stop) → CloseStops settings roads b batch lane line after left stop → StopsWithin settings roads round (journal_of b) text stop
         unfolding closing
         close_stops OutOfMemory stops = memory_stops
-        close_stops (Line here wrong.Entry) stops = line_stops here wrong.Entry (stops.0 ∙ at, (line, after, has, (EntryOf lane, form), λ follow.
-            let found = only_closing follow.0 follow.1 follow.2 in
-            stops.1 (follow.2 ∙ ap (λ (x : Entry). entry_line (position_behind (journal_of b)) x) found.1)))
+        close_stops (Line here wrong.Entry) stops = line_stops here wrong.Entry (
+          stops.0 ∙ at,
+          (
+            line,
+            after,
+            has,
+            (EntryOf lane, form),
+            λ follow.
+                let found = only_closing follow.0 follow.1 follow.2 in
+                stops.1 (follow.2 ∙ ap (λ (x : Entry). entry_line (position_behind (journal_of b)) x) found.1),
+          ),
+        )
         close_stops (Line here wrong.Cut) stops = absurd stops
         close_stops (Line here wrong.Form) stops = absurd stops
         close_stops (Block here refused) stops = record {
-          stops = (stops.0 ∙ at, record {
-            line = line;
-            after = after;
-            closing = closing no_outcome;
-            batch = batch;
-            has = has;
-            comes = record {
-              line = told_closing no_outcome stops.2.low;
-              next = next_begins settings roads round (journal_of b) lanes is.come (closing no_outcome) low_lane (closing_next no_outcome);
-              reply = closing_reply no_outcome;
-            };
-            line_is = stops.1;
-            closed = refl;
-            sealed = sealed_behind;
-            refused = stops.2.refuses;
-          }, stops.2.memory);
+          stops = (
+            stops.0 ∙ at,
+            record {
+              line = line;
+              after = after;
+              closing = closing no_outcome;
+              batch = batch;
+              has = has;
+              comes = record {
+                line = told_closing no_outcome stops.2.low;
+                next = next_begins settings roads round (journal_of b) lanes is.come (closing no_outcome) low_lane (closing_next no_outcome);
+                reply = closing_reply no_outcome;
+              };
+              line_is = stops.1;
+              closed = refl;
+              sealed = sealed_behind;
+              refused = stops.2.refuses;
+            },
+            stops.2.memory,
+          );
           none = λ other later rest.
               let h = next_of later rest in
               let good = next_good later h in
@@ -346,8 +386,8 @@ module _ (settings : Settings) (roads : Roads) (round : NumberedLanes) (b : Book
                 (subst (λ (k : Journal). IsRestOfRound settings roads round later k h.behind)
                 (ap (with_entry (journal_of b)) entry ∙ sym (journal_applied b new lane (Close batch.number takes.outcome) Closed takes.applied)) h.rest);
           }
+          -- reading shortens the text
 
-  -- reading shortens the text
 pub shorter : (settings : Settings) (roads : Roads) (round : NumberedLanes) (text line after rest : List ℕ) (block : List ℕ) → HasLine text line after → after ≡ block ++ rest → length rest < length text
 shorter settings roads round text line after rest block has is =
     let a : length text ≡ length (line ++ 10 ∷ after) = ap length has.whole in

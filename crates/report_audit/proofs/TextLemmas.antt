@@ -166,3 +166,9 @@ entry_one p e is =
     (append_one_line (decimal p ++ spaced e.lane ++ codes " " ++ command_text e.command) (codes " ")
     (append_one_line (decimal p ++ spaced e.lane ++ codes " ") (command_text e.command) front (command_one e.command is.command)) refl)
     (reply_one e.reply is.reply)
+
+pub words_one : (n : ℕ) → n < 2 ^ 32 → is_one_line (numbered (codes "round ") n) ≡ true
+words_one n low = numbered_one_line (codes "round ") n refl (omega (arith, low))
+
+pub done_one : (n : ℕ) → n < 2 ^ 64 → is_one_line (numbered (codes "done ") n) ≡ true
+done_one n low = numbered_one_line (codes "done ") n refl (omega (arith, low))

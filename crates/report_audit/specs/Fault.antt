@@ -1,5 +1,5 @@
 -- What each fault of a report means.
-use Rattle.std.specs.Prelude.{◌≡◌, ◌≢◌, ℕ, ◌+◌, ◌==◌, true, List, [], ◌∷◌, ◌++◌, length, count_by, Some}
+use Rattle.std.specs.Prelude.{◌≡◌, ◌≢◌, ℕ, ◌+◌, ◌-◌, ◌^◌, ◌==◌, min, true, List, [], ◌∷◌, ◌++◌, length, count_by, Some}
 use Rattle.batch_snapshot.specs.Batch.{Batch}
 use Rattle.batch_snapshot.specs.declared.vehicle.Vehicle.{Vehicle}
 use Rattle.block_audit.specs.Block.{Refuses}
@@ -72,11 +72,12 @@ pub record FailsAt (roads : Roads) (vehicles : List Vehicle) (rounds : List Numb
   pub line_is : line ≡ next_line read
   pub fails : Fails settings roads place rest
 
--- the block behind the close of this line fails in one of its lines, so many lines behind its first
+-- the block behind the close of this line fails in one of its lines, so many lines behind its first; lines are counted up to
+-- the greatest number of 64 bits
 pub record FailsInBlock (roads : Roads) (vehicles : List Vehicle) (rounds : List NumberedLanes) (workers : ℕ) (text : List ℕ) (refusal : ℕ → BlockRefusal) (line : ℕ) : Type 0 where
   pub closing : ℕ
   pub lines : ℕ
-  pub line_is : line ≡ closing + 1 + lines
+  pub line_is : line ≡ min (closing + 1 + lines) (2 ^ 64 - 1)
   pub fails : FailsAt roads vehicles rounds workers text (IsWrongBatch (refusal lines)) closing
 
 -- the text is cut at this line
@@ -94,7 +95,7 @@ pub data IsOutOfFormAt (roads : Roads) (vehicles : List Vehicle) (rounds : List 
 -- the block whose first line this is fails at a point
 pub record IsWrongBatchAt (roads : Roads) (vehicles : List Vehicle) (rounds : List NumberedLanes) (workers : ℕ) (text : List ℕ) (line point : ℕ) : Type 0 where
   pub closing : ℕ
-  pub line_is : line ≡ closing + 1
+  pub line_is : line ≡ min (closing + 1) (2 ^ 64 - 1)
   pub fails : FailsAt roads vehicles rounds workers text (IsWrongBatch (block.Wrong point)) closing
 
 -- what a fault says of a text

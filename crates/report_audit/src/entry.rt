@@ -1,16 +1,16 @@
 //! An entry of a report.
-ghost use Rattle.std.specs.Prelude.{◌≡◌, ◌<◌, IfErr, IfOk, OnOk, None, length};
+ghost use Rattle.std.specs.Prelude.{◌≡◌, ◌<◌, ℕ, IfErr, IfOk, MatchResult, None, Some};
 ghost use Rattle.dispatch_engine.specs.Run.{journal_of};
 ghost use Rattle.lane_progress.specs.Stand.{AreDone, stand_at};
 ghost use Rattle.script_rows.specs.Round.{IsRound};
 ghost use Rattle.report_audit.specs.work.Taking.{CommandStops, TakesCommand};
-ghost use Rattle.report_audit.specs.work.Steps.{HasRead, IsWithin, StopsWithin};
+ghost use Rattle.report_audit.specs.work.Steps.{EntryRead, IsEntryOf, IsWithin, StopsWithin};
 
 use crate::close::audit_close;
 use crate::command::{answered, put_up, sealed_by_command};
 use crate::numbers::{fits_command, fits_reply};
 use crate::setup::Setup;
-use crate::stop::{Stop, line_between, wrong_line};
+use crate::stop::{Between, Stop, line_between, wrong_line};
 use batch_snapshot::Snapshot;
 use entry_lines::NextLine;
 use lane_progress::Progress;
@@ -23,7 +23,6 @@ use worker_gate::Gate;
 
 /// The entry with whose line a text begins, and behind a close the block of its batch: it is taken into the book, and
 /// what follows it is the answer. Some lane has still something to do.
-#[tactic(none)]
 pub(crate) fn audit_entry<'a, W: Ways, G: Gate>(
     rt: &(impl Threads + Sync),
     alloc: Global,
@@ -36,34 +35,112 @@ pub(crate) fn audit_entry<'a, W: Ways, G: Gate>(
 ) -> Result<&'a [u8], Stop>
     requires within { IsWithin setup.now.settings.now setup.now.network.now round.now book.old lanes.old sealed.old }
     requires going { AreDone round.now lanes.old → ⊥ }
-    ensures within { OnOk result (IsWithin setup.entry.now.settings.now setup.entry.now.network.now round.entry.now book.new lanes.new sealed.new) }
-    ensures read { IfOk result (λ rest. HasRead setup.entry.now.settings.now setup.entry.now.network.now round.entry.now (journal_of book.old) (journal_of book.new) text.entry.now rest.now) }
-    ensures shorter { IfOk result (λ rest. length rest.now < length text.entry.now) }
-    ensures stops { IfErr result (StopsWithin setup.entry.now.settings.now setup.entry.now.network.now round.entry.now (journal_of book.old) text.entry.now) }
+    ensures { MatchResult result (λ rest. EntryRead setup.entry.now.settings.now setup.entry.now.network.now round.entry.now book.old book.new lanes.new sealed.new text.entry.now rest.now)
+        (StopsWithin setup.entry.now.settings.now setup.entry.now.network.now round.entry.now (journal_of book.old) text.entry.now) }
 {
-    let left = text.len();
-    let between = line_between(text)?;
+    let between = match line_between(text) {
+        Ok(between) => between,
+        Err(stop) => return Err(stop),
+    };
     let NextLine::Entry { lane } = between.next else {
-        return Err(wrong_line(left));
+        return Err(wrong_line(text.len()));
     };
     if lane >= 16 {
-        return Err(wrong_line(left));
+        return Err(wrong_line(text.len()));
     }
+    audit_lane(
+        rt, alloc, book, lanes, sealed, round, text, lane, between, setup,
+    )
+}
+
+/// The same for an entry of this lane, which closes the lane's batch where it waits for that.
+fn audit_lane<'a, W: Ways, G: Gate>(
+    rt: &(impl Threads + Sync),
+    alloc: Global,
+    book: &mut Book,
+    lanes: &mut Progress,
+    sealed: &mut Option<Snapshot>,
+    round: &Round,
+    text: &'a [u8],
+    lane: u8,
+    between: Between<'a>,
+    setup: &Setup<'_, W, G>,
+) -> Result<&'a [u8], Stop>
+    requires within { IsWithin setup.now.settings.now setup.now.network.now round.now book.old lanes.old sealed.old }
+    requires going { AreDone round.now lanes.old → ⊥ }
+    requires entry { IsEntryOf lane text.now between.line.now between.after.now }
+    ensures { MatchResult result (λ rest. EntryRead setup.entry.now.settings.now setup.entry.now.network.now round.entry.now book.old book.new lanes.new sealed.new text.entry.now rest.now)
+        (StopsWithin setup.entry.now.settings.now setup.entry.now.network.now round.entry.now (journal_of book.old) text.entry.now) }
+{
     match lanes.stand(usize::from(lane)).pending {
-        None => {
-            let (reply, next) = audit_command(alloc, book, lanes, round, lane, between.line, left)?;
+        None => audit_plain(
+            alloc, book, lanes, sealed, round, text, lane, between, setup,
+        ),
+        Some(_batch) => audit_closing(
+            rt, alloc, book, lanes, sealed, round, text, lane, between, setup,
+        ),
+    }
+}
+
+/// The same where the lane waits for no close.
+fn audit_plain<'a, W: Ways, G: Gate>(
+    alloc: Global,
+    book: &mut Book,
+    lanes: &mut Progress,
+    sealed: &mut Option<Snapshot>,
+    round: &Round,
+    text: &'a [u8],
+    lane: u8,
+    between: Between<'a>,
+    setup: &Setup<'_, W, G>,
+) -> Result<&'a [u8], Stop>
+    requires within { IsWithin setup.now.settings.now setup.now.network.now round.now book.old lanes.old sealed.old }
+    requires going { AreDone round.now lanes.old → ⊥ }
+    requires entry { IsEntryOf lane text.now between.line.now between.after.now }
+    requires pending { (stand_at lanes.old lane).pending ≡ None }
+    ensures { MatchResult result (λ rest. EntryRead setup.entry.now.settings.now setup.entry.now.network.now round.entry.now book.old book.new lanes.new sealed.new text.entry.now rest.now)
+        (StopsWithin setup.entry.now.settings.now setup.entry.now.network.now round.entry.now (journal_of book.old) text.entry.now) }
+{
+    match audit_command(alloc, book, lanes, round, lane, between.line, text.len()) {
+        Ok((reply, next)) => {
             lanes.take(round, usize::from(lane), reply);
             put_up(sealed, next);
             Ok(between.after)
         }
-        Some(_batch) => match sealed.take() {
-            Some(snapshot) => {
-                let rest = audit_close(rt, alloc, book, &snapshot, lane, between, left, setup)?;
-                lanes.take(round, usize::from(lane), Reply::Closed);
-                Ok(rest)
-            }
-            None => unreachable!(),
-        },
+        Err(stop) => Err(stop),
+    }
+}
+
+/// The same where the lane waits for the close of its batch, which is the one that is sealed.
+fn audit_closing<'a, W: Ways, G: Gate>(
+    rt: &(impl Threads + Sync),
+    alloc: Global,
+    book: &mut Book,
+    lanes: &mut Progress,
+    sealed: &mut Option<Snapshot>,
+    round: &Round,
+    text: &'a [u8],
+    lane: u8,
+    between: Between<'a>,
+    setup: &Setup<'_, W, G>,
+) -> Result<&'a [u8], Stop>
+    requires within { IsWithin setup.now.settings.now setup.now.network.now round.now book.old lanes.old sealed.old }
+    requires going { AreDone round.now lanes.old → ⊥ }
+    requires entry { IsEntryOf lane text.now between.line.now between.after.now }
+    requires pending { (batch : ℕ) × ((stand_at lanes.old lane).pending ≡ Some batch) }
+    ensures { MatchResult result (λ rest. EntryRead setup.entry.now.settings.now setup.entry.now.network.now round.entry.now book.old book.new lanes.new sealed.new text.entry.now rest.now)
+        (StopsWithin setup.entry.now.settings.now setup.entry.now.network.now round.entry.now (journal_of book.old) text.entry.now) }
+{
+    let Some(snapshot) = sealed.take() else {
+        unreachable!()
+    };
+    let left = text.len();
+    match audit_close(rt, alloc, book, &snapshot, lane, between, left, setup) {
+        Ok(rest) => {
+            lanes.take(round, usize::from(lane), Reply::Closed);
+            Ok(rest)
+        }
+        Err(stop) => Err(stop),
     }
 }
 

@@ -1,5 +1,5 @@
 //! The audit of a report.
-ghost use Rattle.std.specs.Prelude.{◌≡◌, ◌≢◌, ◌==◌, ◌≤◌, All, IfErr, IfOk, count_by, length};
+ghost use Rattle.std.specs.Prelude.{◌≡◌, ◌≢◌, ◌==◌, ◌≤◌, All, IfErr, IfOk, MatchResult, count_by, length, slice_range};
 ghost use Rattle.request_book.specs.Consistent.{IsNode};
 ghost use Rattle.request_book.specs.Book.{opening};
 ghost use Rattle.report_audit.specs.Fault.{HasFault};
@@ -70,10 +70,14 @@ fn audit_behind<G: Gate>(
     gate: &G,
 ) -> Result<Audited, Stop>
     requires { All (λ vehicle. IsNode network.now.nodes vehicle.node) fleet }
-    ensures read { IfOk result (HasReadAll settings.entry.now network.entry.now script.entry.now (opening fleet) text.entry.now) }
-    ensures stops { IfErr result (AllStops settings.entry.now network.entry.now script.entry.now (opening fleet) text.entry.now) }
+    ensures { MatchResult result (HasReadAll settings.entry.now network.entry.now script.entry.now (opening fleet) text.entry.now)
+        (AllStops settings.entry.now network.entry.now script.entry.now (opening fleet) text.entry.now) }
 {
-    let mut book = Book::new(alloc, network, fleet, settings.wait)?;
+    let mut book = match Book::new(alloc, network, fleet, settings.wait) {
+        Ok(book) => book,
+        Err(_) => return Err(Stop::OutOfMemory),
+    };
+    let _entries = book.entries();
     let ways = NetworkWays { network };
     let setup = Setup {
         network,
@@ -139,8 +143,7 @@ fn line_at(report: &[u8], left: usize) -> u64
     requires { left ≤ length report.now }
     ensures { result ≡ line_left report.now left }
 {
-    let (read, _rest) = report.split_at(report.len() - left);
-    feeds(read) + 1
+    feeds(&report[..report.len() - left]) + 1
 }
 
 /// How many line feeds a text has.

@@ -1,9 +1,8 @@
 //! A round of a report.
-ghost use Rattle.std.specs.Prelude.{◌≡◌, ◌<◌, ◌+◌, ℕ, List, [], IfErr, IfOk, OnOk, count_by};
+ghost use Rattle.std.specs.Prelude.{◌≡◌, ◌↔◌, IfErr, IfOk, IsTrue, MatchResult, OnOk, count_by};
 ghost use Rattle.dispatch_engine.specs.Run.{journal_of};
 ghost use Rattle.report_audit.specs.Report.{closes};
-ghost use Rattle.report_audit.specs.work.Rounds.{IsRoundStart, HasRoundLine, IsNoRoundLine, HasReadEntries, HasReadRound, RoundStops};
-ghost use Rattle.report_audit.specs.work.Steps.{StopsBehind};
+ghost use Rattle.report_audit.specs.work.Rounds.{IsRoundStart, HasRoundLine, IsNoRoundLine, EntriesStop, HasReadEntries, HasReadRound, RoundStops};
 
 use crate::entry::audit_entry;
 use crate::setup::Setup;
@@ -34,29 +33,49 @@ pub(crate) fn audit_round<'a, W: Ways, G: Gate>(
     setup: &Setup<'_, W, G>,
 ) -> Result<RoundRead<'a>, Stop>
     requires { IsRoundStart setup.now.settings.now setup.now.network.now book.old }
-    ensures start { OnOk result (IsRoundStart setup.entry.now.settings.now setup.entry.now.network.now book.new) }
-    ensures read { IfOk result (λ r. HasReadRound setup.entry.now.settings.now setup.entry.now.network.now round.entry.now book.old book.new text.entry.now r.rest.now r.batches) }
-    ensures stops { IfErr result (RoundStops setup.entry.now.settings.now setup.entry.now.network.now round.entry.now book.old text.entry.now) }
+    ensures { MatchResult result (λ r. HasReadRound setup.entry.now.settings.now setup.entry.now.network.now round.entry.now book.old book.new text.entry.now r.rest.now r.batches)
+        (RoundStops setup.entry.now.settings.now setup.entry.now.network.now round.entry.now book.old text.entry.now) }
 {
-    let after = round_line(text, round.number())?;
-    let rest = audit_entries(rt, alloc, book, round, after, setup)?;
-    let journal = book.take_round()?;
-    Ok(RoundRead {
-        rest,
-        batches: closed(journal.entries.as_slice()),
-    })
+    let after = match round_line(text, round.number()) {
+        Ok(after) => after,
+        Err(stop) => return Err(stop),
+    };
+    let rest = match audit_entries(rt, alloc, book, round, after, setup) {
+        Ok(rest) => rest,
+        Err(stop) => return Err(stop),
+    };
+    match book.take_round() {
+        Ok(journal) => Ok(RoundRead {
+            rest,
+            batches: closed(journal.entries.as_slice()),
+        }),
+        Err(_) => Err(Stop::OutOfMemory),
+    }
 }
 
 /// What follows the line of this round.
 fn round_line(text: &[u8], number: u32) -> Result<&[u8], Stop>
-    ensures line { IfOk result (λ after. HasRoundLine text.entry.now number after.now) }
-    ensures none { IfErr result (IsNoRoundLine text.entry.now number) }
+    ensures { MatchResult result (λ after. HasRoundLine text.entry.now number after.now) (IsNoRoundLine text.entry.now number) }
 {
-    let left = text.len();
-    let between = line_between(text)?;
-    match between.next {
-        NextLine::Round { number: told } if told == number => Ok(between.after),
-        _ => Err(wrong_line(left)),
+    match line_between(text) {
+        Ok(between) => {
+            if is_round(between.next, number) {
+                Ok(between.after)
+            } else {
+                Err(wrong_line(text.len()))
+            }
+        }
+        Err(stop) => Err(stop),
+    }
+}
+
+/// Whether a line begins this round.
+fn is_round(next: NextLine, number: u32) -> bool
+    ensures { IsTrue result ↔ (next ≡ NextLine.Round number) }
+{
+    match next {
+        NextLine::Round { number: told } => told == number,
+        _ => false,
     }
 }
 
@@ -70,14 +89,21 @@ fn audit_entries<'a, W: Ways, G: Gate>(
     setup: &Setup<'_, W, G>,
 ) -> Result<&'a [u8], Stop>
     requires { IsRoundStart setup.now.settings.now setup.now.network.now book.old }
-    ensures read { IfOk result (λ rest. HasReadEntries setup.entry.now.settings.now setup.entry.now.network.now round.entry.now book.old book.new text.entry.now rest.now) }
-    ensures stops { IfErr result (StopsBehind setup.entry.now.settings.now setup.entry.now.network.now round.entry.now (journal_of book.old) text.entry.now) }
+    ensures { MatchResult result (λ rest. HasReadEntries setup.entry.now.settings.now setup.entry.now.network.now round.entry.now book.old book.new text.entry.now rest.now)
+        (EntriesStop setup.entry.now.settings.now setup.entry.now.network.now round.entry.now (journal_of book.old) text.entry.now) }
 {
-    let mut lanes = Progress::at_start(alloc)?;
+    let _lane = round.lane(0);
+    let mut lanes = match Progress::at_start(alloc) {
+        Ok(lanes) => lanes,
+        Err(_) => return Err(Stop::OutOfMemory),
+    };
     let mut sealed = None;
     let mut rest = text;
-    while !lanes.are_done(round) {
-        rest = audit_entry(rt, alloc, book, &mut lanes, &mut sealed, round, rest, setup)?;
+    'entries: while !lanes.are_done(round) {
+        match audit_entry(rt, alloc, book, &mut lanes, &mut sealed, round, rest, setup) {
+            Ok(after) => rest = after,
+            Err(stop) => return Err(stop),
+        }
     }
     Ok(rest)
 }

@@ -1,5 +1,5 @@
 //! All rounds of a report, and its end.
-ghost use Rattle.std.specs.Prelude.{◌≡◌, IfErr, IfOk};
+ghost use Rattle.std.specs.Prelude.{◌≡◌, MatchResult};
 ghost use Rattle.report_audit.specs.work.Rounds.{IsRoundStart};
 ghost use Rattle.report_audit.specs.work.Whole.{HasReadAll, AllStops};
 
@@ -26,17 +26,23 @@ pub(crate) fn audit_rounds<W: Ways, G: Gate>(
 ) -> Result<Audited, Stop>
     requires start { IsRoundStart setup.now.settings.now setup.now.network.now book.old }
     requires first { book.old.first ≡ 0 }
-    ensures read { IfOk result (HasReadAll setup.entry.now.settings.now setup.entry.now.network.now rounds.entry.now book.old.state text.entry.now) }
-    ensures stops { IfErr result (AllStops setup.entry.now.settings.now setup.entry.now.network.now rounds.entry.now book.old.state text.entry.now) }
+    ensures { MatchResult result (HasReadAll setup.entry.now.settings.now setup.entry.now.network.now rounds.entry.now book.old.state text.entry.now)
+        (AllStops setup.entry.now.settings.now setup.entry.now.network.now rounds.entry.now book.old.state text.entry.now) }
 {
     let mut rest = text;
     let mut batches = 0u64;
     for round in rounds {
-        let read = audit_round(rt, alloc, book, round, rest, setup)?;
-        rest = read.rest;
-        batches = batches.saturating_add(read.batches);
+        match audit_round(rt, alloc, book, round, rest, setup) {
+            Ok(read) => {
+                rest = read.rest;
+                batches = batches.saturating_add(read.batches);
+            }
+            Err(stop) => return Err(stop),
+        }
     }
     let entries = book.next_position();
-    audit_end(rest, entries)?;
-    Ok(Audited { entries, batches })
+    match audit_end(rest, entries) {
+        Ok(()) => Ok(Audited { entries, batches }),
+        Err(stop) => Err(stop),
+    }
 }

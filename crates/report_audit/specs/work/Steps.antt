@@ -7,6 +7,7 @@ use Rattle.dispatch_engine.specs.Run.{journal_of, IsRoundRun}
 use Rattle.dispatch_report.specs.Round.{round_text}
 use Rattle.entry_lines.specs.Next.{IsNextLine}
 use Rattle.entry_lines.specs.declared.next.NextLine.{NextLine}
+use Rattle.entry_lines.specs.declared.next.NextLine.TheVariants.{Entry as EntryOf}
 use Rattle.lane_progress.specs.Stand.{HaveCome, AreDone, stand_at}
 use Rattle.lane_progress.specs.declared.stand.LaneStand.{LaneStand}
 use Rattle.report_lines.specs.Cut.{is_one_line}
@@ -73,6 +74,18 @@ pub record HasRead (settings : Settings) (roads : Roads) (round : NumberedLanes)
   pub entries : new.entries ≡ old.entries ++ read
   pub printed : text ≡ entries_text (position_behind old) read ++ rest
   pub only : (later : List NumberedLanes) → IsRestOfRound settings roads round later old text → IsRestOfRound settings roads round later new rest
+
+-- an entry was read, the text is shorter, and what an audit keeps within a round holds behind it
+pub record EntryRead (settings : Settings) (roads : Roads) (round : NumberedLanes) (old new : BookView) (lanes : List LaneStand) (open_batch : Option Batch) (text rest : List ℕ) : Type 0 where
+  pub within : IsWithin settings roads round new lanes open_batch
+  pub has_read : HasRead settings roads round (journal_of old) (journal_of new) text rest
+  pub shorter : length rest < length text
+
+-- the text begins with the line of an entry of this lane
+pub record IsEntryOf (lane : ℕ) (text line after : List ℕ) : Type 0 where
+  pub has : HasLine text line after
+  pub form : IsNextLine (EntryOf lane) line
+  pub low : lane < 16
 
 -- an audit stops within a round, and no run goes on with the text
 pub record StopsWithin (settings : Settings) (roads : Roads) (round : NumberedLanes) (j : Journal) (text : List ℕ) (stop : Stop) : Type 0 where

@@ -25,14 +25,15 @@ pub record HasReadRounds (settings : Settings) (roads : Roads) (s : State) (befo
   pub printed : text ≡ rounds_text before made ++ rest
 
 -- rounds were read up to these; the book is behind them, and where the text is that of a run, so is the rest
-pub record HasComeTo (settings : Settings) (roads : Roads) (s : State) (before later : List NumberedLanes) (text rest : List ℕ) (b : BookView) (batches : ℕ) : Type 0 where
+pub record HasComeTo (settings : Settings) (roads : Roads) (s : State) (rounds : List NumberedLanes) (text : List ℕ) (before later : List NumberedLanes) (rest : List ℕ) (b : BookView) (batches : ℕ) : Type 0 where
   pub made : List Journal
+  pub all : rounds ≡ before ++ later
   pub has_read : HasReadRounds settings roads s before made text rest
   pub start : IsRoundStart settings roads b
   pub state : b.state ≡ state_after_rounds settings roads s made
   pub position : b.first ≡ position_after_run 0 made
   pub counted : batches ≡ batches_after 0 made
-  pub only : IsRestOfRounds settings roads (before ++ later) s 0 text → IsRestOfRounds settings roads later b.state b.first rest
+  pub only : IsRestOfRounds settings roads rounds s 0 text → IsRestOfRounds settings roads later b.state b.first rest
 
 -- the text is that of a run of the rounds
 pub record HasReadAll (settings : Settings) (roads : Roads) (rounds : List NumberedLanes) (s : State) (text : List ℕ) (audited : Audited) : Type 0 where
