@@ -1,6 +1,6 @@
 //! The lanes of a round, as entries come.
-ghost use Rattle.std.specs.Prelude.{◌≡◌, ◌↔◌, ◌<◌, ◌++◌, ◌∷◌, [], None, Some, ℕ, List, IfOk, IsTrue, MatchOption, length, slice_get};
-ghost use Rattle.lane_progress.specs.Stand.{AreDone, HaveCome, IsNext, IsRest, stand_after, stand_at};
+ghost use Rattle.std.specs.Prelude.{◌≡◌, ◌↔◌, ◌<◌, ◌++◌, ◌∷◌, [], None, Some, ℕ, List, IfOk, IsTrue, MatchOption, length, replicate, slice_get, slice_set};
+ghost use Rattle.lane_progress.specs.Stand.{AreDone, HaveCome, IsNext, IsRest, at_start, stand_after, stand_at};
 ghost use Rattle.request_book.specs.declared.command.Command.{Command as OneCommand};
 ghost use Rattle.request_book.specs.declared.journal.Entry.{Entry as OneEntry};
 ghost use Rattle.script_rows.specs.Round.{NumberedLanes, lane_at};
@@ -33,7 +33,8 @@ impl Model for Progress {
 impl Progress {
     /// No lane has begun.
     pub fn at_start(alloc: Global) -> Result<Progress, OutOfMemory>
-        ensures { IfOk result (λ lanes. (round : NumberedLanes) → HaveCome round lanes []) }
+        ensures come { IfOk result (λ lanes. (round : NumberedLanes) → HaveCome round lanes []) }
+        ensures stands { IfOk result (λ lanes. lanes ≡ replicate 16 at_start) }
     {
         let lanes = vec![in alloc; LaneStand {
             taken: 0,
@@ -62,8 +63,11 @@ impl Progress {
     /// Notes an entry of this lane with this reply. Its command is the one with which the lane goes on.
     pub fn take(&mut self, round: &Round, lane: usize, reply: Reply)
         requires { lane < 16 }
-        ensures { (entries : List OneEntry) (command : OneCommand) → HaveCome round.now self.old entries → IsNext (lane_at round.now lane) (stand_at self.old lane) command
+        ensures come { (entries : List OneEntry) (command : OneCommand) → HaveCome round.now self.old entries → IsNext (lane_at round.now lane) (stand_at self.old lane) command
             → HaveCome round.now self.new (entries ++ record { lane = lane; command = command; reply = reply } ∷ []) }
+        ensures stands { (command : OneCommand) → IsNext (lane_at round.now lane) (stand_at self.old lane) command
+            → self.new ≡ slice_set self.old lane (stand_after (stand_at self.old lane) reply) }
+        ensures sixteen { length self.old ≡ 16 }
     {
         let stand = self.lanes[lane];
         self.lanes[lane] = behind(stand, round.lane(lane), reply);

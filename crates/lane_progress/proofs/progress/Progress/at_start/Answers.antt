@@ -4,5 +4,8 @@ use Rattle.lane_progress.specs.Stand.{HaveCome}
 use Rattle.lane_progress.proofs.lemmas.LaneLemmas.{come_none}
 use Rattle.lane_progress.proofs.progress.Progress.at_start.Goals as goal
 
-pub returns : goal.returns
-returns c = λ round. subst (λ (lanes : List LaneStand). HaveCome round lanes []) (sym (c.in_ok-lanes.ensures.items_if_clones_equal (λ y e. e))) (come_none round)
+pub returns-clause-come : goal.returns-clause-come
+returns-clause-come c = λ round. subst (λ (lanes : List LaneStand). HaveCome round lanes []) (sym (c.in_ok-lanes.ensures.items_if_clones_equal (λ y e. e))) (come_none round)
+
+pub returns-clause-stands : goal.returns-clause-stands
+returns-clause-stands c = c.in_ok-lanes.ensures.items_if_clones_equal (λ y e. e)

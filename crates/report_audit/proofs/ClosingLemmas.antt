@@ -1,0 +1,50 @@
+-- The close of a batch, taken into a book.
+use Rattle.std.proofs.Common.{◌≡◌, ℕ, ◌<◌, ◌^◌, List, Option, Some, eqb, get_or, refl, sym, ap, ◌∙◌, subst}
+use Rattle.std.specs.List.{All, Contains}
+use Rattle.std.proofs.lemmas.Bool.{eqb-true}
+use Rattle.std.proofs.lemmas.Map.Views.{Contains-from_any}
+use Rattle.batch_snapshot.specs.Batch.{Batch}
+use Rattle.batch_snapshot.specs.Points.{named_nodes}
+use Rattle.block_audit.specs.Block.{BeginsWithGood}
+use Rattle.request_book.specs.Book.{BookView, IsApplied, next_position}
+use Rattle.request_book.specs.Consistent.{IsNode}
+use Rattle.request_book.specs.Step.{step}
+use Rattle.request_book.specs.declared.command.Command.TheVariants.{Close}
+use Rattle.request_book.specs.declared.outcome.Outcome.{Outcome}
+use Rattle.request_book.specs.declared.reply.Reply.{Reply}
+use Rattle.request_book.specs.declared.reply.Reply.TheVariants.{Closed}
+use Rattle.rider_limits.specs.declared.settings.Settings.{Settings}
+use Rattle.road_network.specs.Roads.{Roads}
+use Rattle.report_audit.specs.work.Closing.{TakesClose, close_line}
+use Rattle.report_audit.specs.work.Steps.{IsBookOf}
+use Rattle.report_audit.proofs.JournalLemmas.{close-is}
+
+-- the network has the nodes of the batch that is sealed
+pub batch_known : (settings : Settings) (roads : Roads) (b : BookView) (batch : Batch) → IsBookOf settings roads b → b.state.sealed ≡ Some batch → All (λ node. Contains roads.nodes node) (named_nodes batch)
+batch_known settings roads b batch of sealed = λ k d within.
+    contained (get_or (named_nodes batch) k d) (subst (λ (ns : List ℕ). IsNode ns (get_or (named_nodes batch) k d)) of.nodes (of.kept.named.sealed batch sealed k d within))
+  where
+    contained : (node : ℕ) → IsNode roads.nodes node → Contains roads.nodes node
+    contained node found = Contains-from_any {eq = λ q n. eqb n q} (λ x y same. sym (eqb-true y x same)) node roads.nodes found
+
+-- the close that was taken, by its batch and with its reply
+closed_applied : (old new : BookView) (batch : Batch) (lane n : ℕ) (outcome : Outcome) (reply : Reply) → n ≡ batch.number → old.state.sealed ≡ Some batch
+    → IsApplied old lane (Close n outcome) reply new → IsApplied old lane (Close batch.number outcome) Closed new
+closed_applied old new batch lane n outcome reply number sealed applied =
+    let named : IsApplied old lane (Close batch.number outcome) reply new = subst (λ (k : ℕ). IsApplied old lane (Close k outcome) reply new) number applied in
+    let is : reply ≡ Closed = ap (λ p. p.1) named.stepped ∙ ap (λ p. p.1) (close-is old.nodes old.wait old.state batch outcome sealed) in
+    subst (λ (r : Reply). IsApplied old lane (Close batch.number outcome) r new) is named
+
+pub takes_close : (settings : Settings) (roads : Roads) (old new : BookView) (batch : Batch) (lane n position : ℕ) (line after rest : List ℕ) (outcome : Outcome) (reply : Reply)
+    → n ≡ batch.number → n < 2 ^ 64 → old.state.sealed ≡ Some batch → position ≡ next_position old.first old.entries → line ≡ close_line position lane n
+    → BeginsWithGood settings roads batch after outcome rest
+    → ((other : Outcome) (behind : List ℕ) → BeginsWithGood settings roads batch after other behind → (other ≡ outcome) × (behind ≡ rest))
+    → IsApplied old lane (Close n outcome) reply new → TakesClose settings roads old batch lane line after rest new
+takes_close settings roads old new batch lane n position line after rest outcome reply number low sealed at is good only applied = record {
+  low = subst (λ (k : ℕ). k < 2 ^ 64) number low;
+  line_is = is ∙ ap (λ (p : ℕ). close_line p lane n) at ∙ ap (λ (k : ℕ). close_line (next_position old.first old.entries) lane k) number;
+  outcome = outcome;
+  good = good;
+  only = only;
+  applied = closed_applied old new batch lane n outcome reply number sealed applied;
+}

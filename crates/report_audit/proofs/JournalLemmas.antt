@@ -1,0 +1,118 @@
+-- Journals, entry by entry.
+use Rattle.std.proofs.Common.{◌≡◌, ◌≢◌, ℕ, suc, ◌+◌, ◌<◌, ◌^◌, true, false, Bool, List, [], ◌∷◌, ◌++◌, length, Option, Some, None, refl, sym, ap, ◌∙◌, subst, append-nil, append_assoc, eq-eqb, arith}
+use Rattle.std.specs.Prelude.{option_map}
+use Rattle.batch_snapshot.specs.Batch.{Batch}
+use Rattle.dispatch_engine.specs.Lane.{IsGoodClose, ClosesAreGood, last_sealed}
+use Rattle.dispatch_engine.specs.work.Lanes.{IsPlain}
+use Rattle.dispatch_engine.proofs.LaneLemmas.{IsQuiet, plain-quiet}
+use Rattle.pool_base.specs.InOrder.{◌>>=◌, refused_where}
+use Rattle.pool_io.specs.Faults.{one_more}
+use Rattle.request_book.specs.Book.{next_position, would_seal}
+use Rattle.request_book.specs.Closing.{after_answer}
+use Rattle.request_book.specs.Replay.{state_after, RepliesAreSteps}
+use Rattle.request_book.specs.Sealing.{batch_of, sealed_state}
+use Rattle.request_book.specs.Step.{step, close, answered}
+use Rattle.request_book.specs.declared.command.Command.{Command}
+use Rattle.request_book.specs.declared.command.Command.TheVariants.{Submit, Cancel, Report, Pickup, Dropoff, Seal, Close}
+use Rattle.request_book.specs.declared.journal.Entry.{Entry}
+use Rattle.request_book.specs.declared.outcome.Outcome.{Outcome}
+use Rattle.request_book.specs.declared.reply.BookRefusal.{BookRefusal}
+use Rattle.request_book.specs.declared.reply.Reply.{Reply}
+use Rattle.request_book.specs.declared.reply.Reply.TheVariants.{Closed, Sealed}
+use Rattle.request_book.specs.declared.state.State.{State}
+use Rattle.request_book.specs.work.Table.{answer, seal_refusal, seal_step, table_step, batch_unless}
+use Rattle.request_book.proofs.lemmas.StepTable.{by-table, would_seal-table}
+use Rattle.rider_limits.specs.declared.settings.Settings.{Settings}
+use Rattle.road_network.specs.Roads.{Roads}
+use Rattle.shared_book.specs.Locked.{sealed_by}
+use Rattle.shared_book.specs.work.Locked.{snapshot_before}
+use Rattle.shared_book.proofs.LockedLemmas.{step-sealed}
+use Rattle.report_audit.specs.Types.{IsTold, AreTold}
+use Rattle.report_audit.specs.work.Commands.{IsNoClose, sealed_next}
+use Rattle.report_audit.proofs.TextLemmas.{next-none, next-more}
+
+-- replies
+module _ (nodes : List ℕ) (wait : ℕ) where
+  pub after-append : (s : State) (xs ys : List Entry) → state_after nodes wait s (xs ++ ys) ≡ state_after nodes wait (state_after nodes wait s xs) ys
+  unfolding state_after
+  after-append s [] ys = refl
+  after-append s (e ∷ es) ys = after-append (step nodes wait s e.command).0 es ys
+
+  pub after-none : (s : State) → state_after nodes wait s [] ≡ s
+  unfolding state_after
+  after-none s = refl
+
+  pub after-push : (s : State) (es : List Entry) (e : Entry) → state_after nodes wait s (es ++ e ∷ []) ≡ (step nodes wait (state_after nodes wait s es) e.command).0
+  unfolding state_after
+  after-push s [] e = refl
+  after-push s (f ∷ es) e = after-push (step nodes wait s f.command).0 es e
+
+  pub reply-at : (s : State) (xs : List Entry) (e : Entry) (ys : List Entry) → RepliesAreSteps nodes wait s (xs ++ e ∷ ys) → e.reply ≡ (step nodes wait (state_after nodes wait s xs) e.command).1
+  unfolding state_after RepliesAreSteps
+  reply-at s [] e ys replies = replies.0
+  reply-at s (f ∷ xs) e ys replies = reply-at (step nodes wait s f.command).0 xs e ys replies.1
+
+-- closes
+module _ (settings : Settings) (roads : Roads) where
+  pub close-at : (s : State) (xs : List Entry) (e : Entry) (ys : List Entry) → ClosesAreGood settings roads s (xs ++ e ∷ ys) → IsGoodClose settings roads (state_after roads.nodes settings.wait s xs) e.command e.reply
+  unfolding state_after ClosesAreGood
+  close-at s [] e ys closes = closes.0
+  close-at s (f ∷ xs) e ys closes = close-at (step roads.nodes settings.wait s f.command).0 xs e ys closes.1
+
+  pub closes-push : (s : State) (es : List Entry) (e : Entry) → ClosesAreGood settings roads s es → IsGoodClose settings roads (state_after roads.nodes settings.wait s es) e.command e.reply → ClosesAreGood settings roads s (es ++ e ∷ [])
+  unfolding state_after ClosesAreGood
+  closes-push s [] e closes good = (good, tt)
+  closes-push s (f ∷ es) e closes good = (closes.0, closes-push (step roads.nodes settings.wait s f.command).0 es e closes.1 good)
+
+  pub closes-none : (s : State) → ClosesAreGood settings roads s []
+  unfolding ClosesAreGood
+  closes-none s = tt
+
+-- numbers
+pub told-push : (p : ℕ) (es : List Entry) (e : Entry) → p < 2 ^ 64 → AreTold p es → IsTold (next_position p es) e → AreTold p (es ++ e ∷ [])
+told-push p [] e low told is = (subst (λ (k : ℕ). IsTold k e) (next-none p low) is, tt)
+told-push p (f ∷ es) e low told is = (told.0, told-push (one_more p) es e (omega arith) told.1 (subst (λ (k : ℕ). IsTold k e) (sym (next-more p f es)) is))
+
+-- which batch stands sealed behind a command
+seal-after : (wait : ℕ) (s : State) (now : ℕ) → last_sealed s.sealed (would_seal wait s now) ≡ (seal_step wait s now).0.sealed
+unfolding seal_step sealed_state
+seal-after wait s now = ap (last_sealed s.sealed) (would_seal-table wait s now) ∙ by (seal_refusal s now)
+  where
+    by : (o : Option BookRefusal) → last_sealed s.sealed (batch_unless o (batch_of wait s now)) ≡ (answer s o (Sealed (one_more s.batches)) (sealed_state wait s now)).0.sealed
+    by None = refl
+    by (Some refusal) = refl
+
+table-after : (nodes : List ℕ) (wait : ℕ) (s : State) (now : ℕ) → last_sealed s.sealed (would_seal wait s now) ≡ (table_step nodes wait s (Seal now)).0.sealed
+unfolding table_step
+table-after nodes wait s now = seal-after wait s now
+
+plain-after : (nodes : List ℕ) (wait : ℕ) (s : State) (command : Command) → IsPlain command → s.sealed ≡ (step nodes wait s command).0.sealed
+plain-after nodes wait s command plain = sym (plain-quiet nodes wait s command plain).sealed
+
+pub sealed-after : (nodes : List ℕ) (wait : ℕ) (s : State) (command : Command) → IsNoClose command → last_sealed s.sealed (sealed_next wait s command) ≡ (step nodes wait s command).0.sealed
+sealed-after nodes wait s (Submit rider origin destination time party) is = plain-after nodes wait s (Submit rider origin destination time party) tt
+sealed-after nodes wait s (Cancel rider) is = plain-after nodes wait s (Cancel rider) tt
+sealed-after nodes wait s (Report vehicle node time) is = plain-after nodes wait s (Report vehicle node time) tt
+sealed-after nodes wait s (Pickup vehicle rider time) is = plain-after nodes wait s (Pickup vehicle rider time) tt
+sealed-after nodes wait s (Dropoff vehicle rider time) is = plain-after nodes wait s (Dropoff vehicle rider time) tt
+sealed-after nodes wait s (Seal now) is = by-table (λ p. last_sealed s.sealed (would_seal wait s now) ≡ p.0.sealed) nodes wait s (Seal now) (table-after nodes wait s now)
+sealed-after nodes wait s (Close batch outcome) is = absurd is
+
+before-is : (wait : ℕ) (s : State) (command : Command) → sealed_next wait s command ≡ snapshot_before wait s command
+before-is wait s (Submit rider origin destination time party) = refl
+before-is wait s (Cancel rider) = refl
+before-is wait s (Report vehicle node time) = refl
+before-is wait s (Pickup vehicle rider time) = refl
+before-is wait s (Dropoff vehicle rider time) = refl
+before-is wait s (Seal now) = refl
+before-is wait s (Close batch outcome) = refl
+
+-- the number that the reply tells is that batch's
+pub number-after : (nodes : List ℕ) (wait : ℕ) (s : State) (command : Command) → option_map (λ b. b.number) (sealed_next wait s command) ≡ sealed_by (step nodes wait s command).1
+number-after nodes wait s command = ap (option_map (λ b. b.number)) (before-is wait s command) ∙ step-sealed nodes wait s command
+
+-- a batch that stands sealed is closed by its number
+pub close-is : (nodes : List ℕ) (wait : ℕ) (s : State) (b : Batch) (outcome : Outcome) → s.sealed ≡ Some b
+    → step nodes wait s (Close b.number outcome) ≡ (record s { riders = after_answer b.riders outcome.answer s.riders; sealed = None }, Closed)
+unfolding step close
+close-is nodes wait s b outcome e = rw e (rw (eq-eqb b.number b.number refl) refl)

@@ -1,0 +1,219 @@
+-- Lanes, entry by entry.
+use Rattle.std.proofs.Common.{◌≡◌, ◌≢◌, ◌==◌, ◌↔◌, ℕ, zero, suc, ◌+◌, ◌<◌, ◌≤◌, Bool, true, false, List, [], ◌∷◌, ◌++◌, length, get_or, set, drop, slice_get, Option, Some, None, refl, sym, ap, ◌∙◌, subst, ⊎_elim, arith, append-nil, append_assoc, eq-eqb}
+use Rattle.std.specs.Prelude.{option_map}
+use Rattle.std.proofs.lemmas.Bool.{cases_eq, cases_lt, ne_eqb, cond-true, cond-false}
+use Rattle.std.proofs.lemmas.List.{get_or_past, get_or-set_same, get_or-set_other}
+use Rattle.std.proofs.lemmas.List.Elements.{filter-append}
+use Rattle.batch_snapshot.specs.Batch.{Batch}
+use Rattle.dispatch_engine.specs.Lane.{of_lane, IsCloseOf, IsLaneRun, IsLaneRunFrom, IsLaneBeginning, last_sealed}
+use Rattle.dispatch_engine.specs.work.Lanes.{IsPlain}
+use Rattle.dispatch_engine.proofs.LaneLemmas.{plain-quiet}
+use Rattle.lane_progress.specs.declared.stand.LaneStand.{LaneStand}
+use Rattle.lane_progress.specs.Stand.{at_start, stand_at, IsRest, IsNext, IsNextFrom, stand_after, HaveCome, AreDone}
+use Rattle.request_book.specs.Step.{step}
+use Rattle.request_book.specs.declared.command.Command.{Command}
+use Rattle.request_book.specs.declared.command.Command.TheVariants.{Submit, Cancel, Report, Pickup, Dropoff, Seal, Close}
+use Rattle.request_book.specs.declared.journal.Entry.{Entry}
+use Rattle.request_book.specs.declared.outcome.Answer.TheVariants.{Overflow}
+use Rattle.request_book.specs.declared.outcome.Outcome.{Outcome}
+use Rattle.request_book.specs.declared.reply.Reply.{Reply}
+use Rattle.request_book.specs.declared.reply.Reply.TheVariants.{Accepted, Closed}
+use Rattle.request_book.specs.declared.state.State.{State}
+use Rattle.script_rows.specs.Round.{NumberedLanes, IsRound, MayStand, lane_at}
+use Rattle.shared_book.specs.Locked.{sealed_by}
+use Rattle.report_audit.specs.work.Commands.{IsNoClose, sealed_next}
+use Rattle.report_audit.specs.work.Steps.{Waits}
+use Rattle.report_audit.proofs.JournalLemmas.{sealed-after, number-after}
+
+-- the entries of a lane
+pub of_lane-append : (lane : ℕ) (xs ys : List Entry) → of_lane lane (xs ++ ys) ≡ of_lane lane xs ++ of_lane lane ys
+of_lane-append lane xs ys = filter-append (λ e. e.lane == lane) xs ys
+
+of_lane-own : (e : Entry) (es : List Entry) → of_lane e.lane (e ∷ es) ≡ e ∷ of_lane e.lane es
+of_lane-own e es = cond-true (e.lane == e.lane) (e ∷ of_lane e.lane es) (of_lane e.lane es) (eq-eqb e.lane e.lane refl)
+
+-- those of an entry's lane, with it and others behind them
+pub own-lane : (xs : List Entry) (e : Entry) (ys : List Entry) → of_lane e.lane (xs ++ e ∷ ys) ≡ of_lane e.lane xs ++ (e ∷ of_lane e.lane ys)
+own-lane xs e ys = of_lane-append e.lane xs (e ∷ ys) ∙ ap (λ (zs : List Entry). of_lane e.lane xs ++ zs) (of_lane-own e ys)
+
+-- an outcome that tells nothing
+abbrev pub no_outcome : Outcome
+no_outcome = record { expired = []; answer = Overflow }
+
+-- a lane can always go on to its end
+entries_for : ℕ → List Command → List Entry
+entries_for lane [] = []
+entries_for lane (c ∷ cs) = (record { lane = lane; command = c; reply = Accepted }) ∷ entries_for lane cs
+
+runs_on : (lane : ℕ) (cs : List Command) → IsLaneRunFrom None cs (entries_for lane cs)
+unfolding entries_for
+runs_on lane [] = tt
+runs_on lane (c ∷ cs) = (refl, runs_on lane cs)
+
+can_end_from : (pending : Option ℕ) (cs : List Command) → (rest : List Entry) × IsLaneRunFrom pending cs rest
+can_end_from None cs = (entries_for 0 cs, runs_on 0 cs)
+can_end_from (Some batch) cs = ((record { lane = 0; command = Close batch no_outcome; reply = Closed }) ∷ entries_for 0 cs, (refl, runs_on 0 cs))
+
+pub can_end : (commands : List Command) (stand : LaneStand) → (rest : List Entry) × IsRest commands stand rest
+can_end commands stand = can_end_from stand.pending (drop stand.taken commands)
+
+-- what comes next is the first of what is left
+next_first : (taken : ℕ) (cs : List Command) (e : Entry) (rest : List Entry) → IsLaneRunFrom None (drop taken cs) (e ∷ rest) → slice_get cs taken ≡ Some e.command
+next_first zero [] e rest run = absurd run
+next_first zero (c ∷ cs) e rest run = ap Some (sym run.0)
+next_first (suc k) [] e rest run = absurd run
+next_first (suc k) (c ∷ cs) e rest run = next_first k cs e rest run
+
+next_from : (pending : Option ℕ) (taken : ℕ) (cs : List Command) (e : Entry) (rest : List Entry) → IsLaneRunFrom pending (drop taken cs) (e ∷ rest) → IsNextFrom pending taken cs e.command
+next_from None taken cs e rest run = next_first taken cs e rest run
+next_from (Some batch) taken cs e rest run = run.0
+
+pub rest_next : (commands : List Command) (stand : LaneStand) (e : Entry) (rest : List Entry) → IsRest commands stand (e ∷ rest) → IsNext commands stand e.command
+rest_next commands stand e rest run = next_from stand.pending stand.taken commands e rest run
+
+-- an entry begins what is left of its lane exactly where its command is the next
+pub begins_next : (round : NumberedLanes) (lanes : List LaneStand) (es : List Entry) (e : Entry) → HaveCome round lanes es
+    → IsLaneBeginning (lane_at round e.lane) (of_lane e.lane (es ++ e ∷ [])) → IsNext (lane_at round e.lane) (stand_at lanes e.lane) e.command
+begins_next round lanes es e come begins =
+    let text : of_lane e.lane (es ++ e ∷ []) ++ begins.0 ≡ of_lane e.lane es ++ (e ∷ begins.0) =
+    ap (λ (xs : List Entry). xs ++ begins.0) (own-lane es e []) ∙ append_assoc (of_lane e.lane es) (e ∷ []) begins.0 in
+    rest_next (lane_at round e.lane) (stand_at lanes e.lane) e begins.0
+    ((come e.lane (e ∷ begins.0)).1 (subst (IsLaneRun (lane_at round e.lane)) text begins.1))
+
+-- each lane's entries begin a run of it
+pub come_begins : (round : NumberedLanes) (lanes : List LaneStand) (es : List Entry) → HaveCome round lanes es → (lane : ℕ) → IsLaneBeginning (lane_at round lane) (of_lane lane es)
+come_begins round lanes es come lane =
+    let end = can_end (lane_at round lane) (stand_at lanes lane) in
+    (end.0, (come lane end.0).0 end.1)
+
+-- the lanes are done exactly where each is at its end
+pub done_end : (round : NumberedLanes) (lanes : List LaneStand) (es : List Entry) → HaveCome round lanes es → AreDone round lanes → (lane : ℕ) → IsLaneRun (lane_at round lane) (of_lane lane es)
+done_end round lanes es come done lane = subst (IsLaneRun (lane_at round lane)) (append-nil (of_lane lane es)) ((come lane []).0 (done lane))
+
+pub end_done : (round : NumberedLanes) (lanes : List LaneStand) (es : List Entry) → HaveCome round lanes es → ((lane : ℕ) → IsLaneRun (lane_at round lane) (of_lane lane es)) → AreDone round lanes
+end_done round lanes es come end lane = (come lane []).1 (subst (IsLaneRun (lane_at round lane)) (sym (append-nil (of_lane lane es))) (end lane))
+
+-- which batch a lane waits for
+module _ (lanes : List LaneStand) (lane : ℕ) (stand : LaneStand) (low : lane < length lanes) where
+  stand_same : stand_at (set lanes lane stand) lane ≡ stand
+  stand_same = get_or-set_same lanes lane stand at_start low
+
+  stand_other : (k : ℕ) → (k ≢ lane) → stand_at (set lanes lane stand) k ≡ stand_at lanes k
+  stand_other k other = get_or-set_other lanes lane k stand at_start other
+
+plain_of : (lane : ℕ) (command : Command) → lane ≢ 0 → MayStand lane command → IsPlain command
+plain_of lane (Submit rider origin destination time party) other stands = tt
+plain_of lane (Cancel rider) other stands = tt
+plain_of lane (Report vehicle node time) other stands = tt
+plain_of lane (Pickup vehicle rider time) other stands = tt
+plain_of lane (Dropoff vehicle rider time) other stands = tt
+plain_of lane (Seal now) other stands = absurd (other stands)
+plain_of lane (Close batch outcome) other stands = absurd stands
+
+pub no_close_of : (lane : ℕ) (command : Command) → MayStand lane command → IsNoClose command
+no_close_of lane (Submit rider origin destination time party) stands = tt
+no_close_of lane (Cancel rider) stands = tt
+no_close_of lane (Report vehicle node time) stands = tt
+no_close_of lane (Pickup vehicle rider time) stands = tt
+no_close_of lane (Dropoff vehicle rider time) stands = tt
+no_close_of lane (Seal now) stands = tt
+no_close_of lane (Close batch outcome) stands = absurd stands
+
+number_none : (o : Option Batch) → None ≡ option_map (λ b. b.number) o → o ≡ None
+number_none None e = refl
+number_none (Some b) e = absurd cc
+
+after_none : (stand : LaneStand) (reply : Reply) → stand.pending ≡ None → (stand_after stand reply).pending ≡ sealed_by reply
+after_none stand reply e = rw e refl
+
+after_some : (stand : LaneStand) (batch : ℕ) (reply : Reply) → stand.pending ≡ Some batch → (stand_after stand reply).pending ≡ None
+after_some stand batch reply e = rw e refl
+
+-- behind a command of a lane that waits for no close
+pub waits_command : (nodes : List ℕ) (wait : ℕ) (s : State) (lanes : List LaneStand) (lane : ℕ) (command : Command) → lane < length lanes → Waits lanes s.sealed
+    → (stand_at lanes lane).pending ≡ None → MayStand lane command
+    → Waits (set lanes lane (stand_after (stand_at lanes lane) (step nodes wait s command).1)) (step nodes wait s command).0.sealed
+waits_command nodes wait s lanes lane command low waits pending stands = ⊎_elim (λ (zeroth : lane ≡ 0). at_zero zeroth) (λ (other : lane ≢ 0). elsewhere other) (cases_eq lane 0)
+  where
+    reply : Reply
+    reply = (step nodes wait s command).1
+
+    stand : LaneStand
+    stand = stand_after (stand_at lanes lane) (step nodes wait s command).1
+
+    after : Option Batch
+    after = (step nodes wait s command).0.sealed
+
+    at_zero : lane ≡ 0 → Waits (set lanes lane (stand_after (stand_at lanes lane) (step nodes wait s command).1)) (step nodes wait s command).0.sealed
+    at_zero zeroth =
+        let new : List LaneStand = set lanes lane (stand_after (stand_at lanes lane) (step nodes wait s command).1) in
+        let open_none : s.sealed ≡ None = number_none s.sealed (sym pending ∙ ap (λ (k : ℕ). (stand_at lanes k).pending) zeroth ∙ waits.first) in
+        let sealed : sealed_next wait s command ≡ (step nodes wait s command).0.sealed =
+        last_none (sealed_next wait s command) ∙ ap (λ (o : Option Batch). last_sealed o (sealed_next wait s command)) (sym open_none) ∙ sealed-after nodes wait s command (no_close_of lane command stands) in
+        let here : (stand_at new 0).pending ≡ sealed_by (step nodes wait s command).1 =
+        ap (λ (k : ℕ). (stand_at new k).pending) (sym zeroth)
+        ∙ ap (λ (t : LaneStand). t.pending) (stand_same lanes lane (stand_after (stand_at lanes lane) (step nodes wait s command).1) low)
+        ∙ after_none (stand_at lanes lane) (step nodes wait s command).1 pending in
+        record {
+          first = here ∙ sym (number-after nodes wait s command) ∙ ap (option_map (λ b. b.number)) sealed;
+          others = λ k other. ap (λ (t : LaneStand). t.pending) (stand_other lanes lane (stand_after (stand_at lanes lane) (step nodes wait s command).1) low k (λ e. other (e ∙ zeroth))) ∙ waits.others k other;
+        }
+      where
+        last_none : (o : Option Batch) → o ≡ last_sealed None o
+        last_none None = refl
+        last_none (Some b) = refl
+
+    elsewhere : lane ≢ 0 → Waits (set lanes lane (stand_after (stand_at lanes lane) (step nodes wait s command).1)) (step nodes wait s command).0.sealed
+    elsewhere other =
+        let new : List LaneStand = set lanes lane (stand_after (stand_at lanes lane) (step nodes wait s command).1) in
+        let quiet = plain-quiet nodes wait s command (plain_of lane command other stands) in
+        let zero_stands : (stand_at new 0).pending ≡ (stand_at lanes 0).pending =
+        ap (λ (t : LaneStand). t.pending) (stand_other lanes lane (stand_after (stand_at lanes lane) (step nodes wait s command).1) low 0 (λ e. other (sym e))) in
+        let here : (stand_at new lane).pending ≡ None =
+        ap (λ (t : LaneStand). t.pending) (stand_same lanes lane (stand_after (stand_at lanes lane) (step nodes wait s command).1) low)
+        ∙ after_none (stand_at lanes lane) (step nodes wait s command).1 pending ∙ quiet.told in
+        record {
+          first = zero_stands ∙ waits.first ∙ ap (option_map (λ b. b.number)) (sym quiet.sealed);
+          others = λ k k_other. ⊎_elim
+              (λ (same : k ≡ lane). ap (λ (i : ℕ). (stand_at new i).pending) same ∙ here)
+              (λ (apart : k ≢ lane). ap (λ (t : LaneStand). t.pending) (stand_other lanes lane (stand_after (stand_at lanes lane) (step nodes wait s command).1) low k apart) ∙ waits.others k k_other)
+              (cases_eq k lane);
+        }
+
+-- behind a close
+pub waits_close : (lanes : List LaneStand) (lane batch : ℕ) (sealed : Option Batch) → lane < length lanes → Waits lanes sealed
+    → (stand_at lanes lane).pending ≡ Some batch → Waits (set lanes lane (stand_after (stand_at lanes lane) Closed)) None
+waits_close lanes lane batch sealed low waits pending =
+    let new : List LaneStand = set lanes lane (stand_after (stand_at lanes lane) Closed) in
+    let here : (stand_at new lane).pending ≡ None =
+    ap (λ (t : LaneStand). t.pending) (stand_same lanes lane (stand_after (stand_at lanes lane) Closed) low) ∙ after_some (stand_at lanes lane) batch Closed pending in
+    let zeroth : lane ≡ 0 = ⊎_elim (λ (e : lane ≡ 0). e) (λ (other : lane ≢ 0). absurd (let none = waits.others lane other in cc)) (cases_eq lane 0) in
+    record {
+      first = ap (λ (k : ℕ). (stand_at new k).pending) (sym zeroth) ∙ here;
+      others = λ k other. ap (λ (t : LaneStand). t.pending) (stand_other lanes lane (stand_after (stand_at lanes lane) Closed) low k (λ e. other (e ∙ zeroth))) ∙ waits.others k other;
+    }
+
+-- the batch that a lane waits for is the one that is sealed
+pub waits_for : (lanes : List LaneStand) (lane batch : ℕ) (b : Batch) (sealed : Option Batch) → Waits lanes sealed → (stand_at lanes lane).pending ≡ Some batch → sealed ≡ Some b → batch ≡ b.number
+waits_for lanes lane batch b sealed waits pending is =
+    let zeroth : lane ≡ 0 = ⊎_elim (λ (e : lane ≡ 0). e) (λ (other : lane ≢ 0). absurd (let none = waits.others lane other in cc)) (cases_eq lane 0) in
+    let same : Some batch ≡ Some b.number = sym pending ∙ ap (λ (k : ℕ). (stand_at lanes k).pending) zeroth ∙ waits.first ∙ ap (option_map (λ c. c.number)) is in
+    cc
+
+-- a lane that waits for a close isn't without a sealed batch
+pub waits_some : (lanes : List LaneStand) (lane batch : ℕ) (sealed : Option Batch) → Waits lanes sealed → (stand_at lanes lane).pending ≡ Some batch → sealed ≢ None
+waits_some lanes lane batch sealed waits pending none =
+    let zeroth : lane ≡ 0 = ⊎_elim (λ (e : lane ≡ 0). e) (λ (other : lane ≢ 0). absurd (let alone = waits.others lane other in cc)) (cases_eq lane 0) in
+    let same : Some batch ≡ None = sym pending ∙ ap (λ (k : ℕ). (stand_at lanes k).pending) zeroth ∙ waits.first ∙ ap (option_map (λ c. c.number)) none in
+    cc
+
+-- no lane from the sixteenth on has a command
+pub none_beyond : (round : NumberedLanes) (lanes : List LaneStand) (lane : ℕ) (command : Command) → IsRound round → length lanes ≡ 16 → 16 ≤ lane → IsNext (lane_at round lane) (stand_at lanes lane) command → ⊥
+none_beyond round lanes lane command kept sixteen high next =
+    let none : lane_at round lane ≡ [] = get_or_past round.lanes lane [] (let n = kept.sixteen in omega (arith, n, high)) in
+    let start : stand_at lanes lane ≡ at_start = get_or_past lanes lane at_start (omega (arith, sixteen, high)) in
+    let at : IsNext [] at_start command = subst (λ (s : LaneStand). IsNext [] s command) start (subst (λ (cs : List Command). IsNext cs (stand_at lanes lane) command) none next) in
+    absurd (nothing command at)
+  where
+    nothing : (c : Command) → slice_get [] 0 ≡ Some c → ⊥
+    nothing c e = cc

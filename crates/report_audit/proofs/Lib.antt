@@ -1,0 +1,10 @@
+pub mod TextLemmas
+pub mod JournalLemmas
+pub mod LaneLemmas
+pub mod NextLemmas
+pub mod EntryLemmas
+pub mod ClosingLemmas
+pub mod ReadLemmas
+pub mod RoundLemmas
+pub mod EndLemmas
+pub mod WholeLemmas

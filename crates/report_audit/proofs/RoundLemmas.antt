@@ -1,0 +1,354 @@
+-- Rounds of a report.
+use Rattle.std.proofs.Common.{◌≡◌, ◌≢◌, ◌==◌, ℕ, zero, suc, ◌+◌, ◌<◌, ◌≤◌, ◌^◌, true, false, Bool, List, [], ◌∷◌, ◌++◌, length, get_or, replicate, drop, codes, Option, Some, None, refl, sym, ap, ◌∙◌, subst, ⊎_elim, append-nil, append_assoc, length-append, arith}
+use Rattle.std.specs.Prelude.{option_map, count_by}
+use Rattle.std.proofs.lemmas.Bool.{cases_lt}
+use Rattle.std.proofs.lemmas.List.{get_or_past, get_or-replicate, length-replicate}
+use Rattle.batch_snapshot.specs.Batch.{Batch}
+use Rattle.dispatch_engine.specs.Lane.{of_lane, ClosesAreGood, IsLaneRun, IsLaneRunFrom}
+use Rattle.dispatch_engine.specs.Run.{IsRoundRun, IsRun, journal_of, position_after_run}
+use Rattle.dispatch_report.specs.Round.{end_text, round_text}
+use Rattle.dispatch_report.specs.Words.{numbered}
+use Rattle.entry_lines.specs.Next.{IsNextLine}
+use Rattle.entry_lines.specs.declared.next.NextLine.{NextLine}
+use Rattle.entry_lines.specs.declared.next.NextLine.TheVariants.{Round as RoundOf}
+use Rattle.entry_lines.proofs.NextLemmas.{one_kind}
+use Rattle.lane_progress.specs.declared.stand.LaneStand.{LaneStand}
+use Rattle.lane_progress.specs.Stand.{at_start, stand_at, HaveCome, AreDone}
+use Rattle.report_lines.specs.Cut.{is_one_line}
+use Rattle.report_lines.proofs.OneBlock.{cut_once}
+use Rattle.request_book.specs.Book.{BookView, next_position}
+use Rattle.request_book.specs.Replay.{state_after, RepliesAreSteps}
+use Rattle.request_book.specs.declared.command.Command.{Command}
+use Rattle.request_book.specs.declared.journal.Entry.{Entry}
+use Rattle.request_book.specs.declared.journal.Journal.{Journal}
+use Rattle.request_book.specs.declared.state.State.{State}
+use Rattle.request_book.proofs.BookLemmas.{round-book}
+use Rattle.rider_limits.specs.declared.settings.Settings.{Settings}
+use Rattle.road_network.specs.Roads.{Roads}
+use Rattle.script_rows.specs.Round.{NumberedLanes, IsRound, lane_at}
+use Rattle.shared_book.specs.Locked.{sealed_by}
+use Rattle.report_audit.specs.Fault.{HasLine}
+use Rattle.report_audit.specs.Place.{Place, BeginsRound, MayFollow, IsInForm, AreAtEnd, position_behind, state_behind}
+use Rattle.report_audit.specs.Report.{closes, rounds_text}
+use Rattle.report_audit.specs.Types.{AreTold, JournalsAreTold}
+use Rattle.report_audit.specs.declared.stop.LineFault.{LineFault}
+use Rattle.report_audit.specs.declared.stop.LineFault.TheVariants as wrong
+use Rattle.report_audit.specs.declared.stop.Stop.{Stop}
+use Rattle.report_audit.specs.declared.stop.Stop.TheVariants.{OutOfMemory, Line, Block}
+use Rattle.report_audit.specs.work.Rest.{IsRestOfRound, IsRestOfRounds, entries_text, with_more}
+use Rattle.report_audit.specs.work.Rounds.{IsRoundStart, HasRoundLine, IsNoRoundLine, EntriesStop, HasReadEntries, HasReadRound, RoundStops, WhereRoundStops}
+use Rattle.report_audit.specs.work.Steps.{EntryRead, HasNoNext, HasRead, IsBookOf, IsWithin, StopsAt, StopsBehind, StopsWithin, Waits}
+use Rattle.report_audit.proofs.JournalLemmas.{after-none, closes-none}
+use Rattle.report_audit.proofs.LaneLemmas.{come_begins, done_end, of_lane-append, own-lane}
+use Rattle.report_audit.proofs.NextLemmas.{book_state, no_next_between, not_one}
+use Rattle.report_audit.proofs.EntryLemmas.{not_at_end}
+use Rattle.report_audit.proofs.TextLemmas.{words_one, entries-append, entries-none, next-append, next-low, next-none, round-is}
+
+-- at the start of a round no lane has begun
+stand_start : (k : ℕ) → stand_at (replicate 16 at_start) k ≡ at_start
+stand_start k = ⊎_elim
+    (λ (low : k < 16). get_or-replicate 16 k at_start at_start low)
+    (λ (high : 16 ≤ k). get_or_past (replicate 16 at_start) k at_start (let n = length-replicate 16 at_start in omega (arith, n, high)))
+    (cases_lt k 16)
+
+replies_none : (nodes : List ℕ) (wait : ℕ) (s : State) → RepliesAreSteps nodes wait s []
+unfolding RepliesAreSteps
+replies_none nodes wait s = tt
+
+pub within_start : (settings : Settings) (roads : Roads) (round : NumberedLanes) (b : BookView) (lanes : List LaneStand) (sealed : Option Batch) → IsRoundStart settings roads b → IsRound round
+    → lanes ≡ replicate 16 at_start → HaveCome round lanes [] → sealed ≡ None → IsWithin settings roads round b lanes sealed
+within_start settings roads round b lanes sealed start kept are come none =
+    let come_now : HaveCome round lanes b.entries = subst (λ (es : List Entry). HaveCome round lanes es) (sym start.empty) come in
+    record {
+      book = start.book;
+      round_kept = kept;
+      begins = record {
+        replies = subst (λ (es : List Entry). RepliesAreSteps roads.nodes settings.wait b.base es) (sym start.empty) (replies_none roads.nodes settings.wait b.base);
+        closes = subst (λ (es : List Entry). ClosesAreGood settings roads b.base es) (sym start.empty) (closes-none settings roads b.base);
+        lanes = come_begins round lanes b.entries come_now;
+        told = subst (λ (es : List Entry). AreTold b.first es) (sym start.empty) tt;
+      };
+      sixteen = ap length are ∙ length-replicate 16 at_start;
+      come = come_now;
+      waits = record {
+        first = ap (λ (ls : List LaneStand). (stand_at ls 0).pending) are ∙ ap (λ (t : LaneStand). t.pending) (stand_start 0) ∙ ap (option_map (λ x. x.number)) (sym start.closed);
+        others = λ k other. ap (λ (ls : List LaneStand). (stand_at ls k).pending) are ∙ ap (λ (t : LaneStand). t.pending) (stand_start k);
+      };
+      is_open = none ∙ sym start.closed;
+    }
+
+-- nothing was read yet
+pub read_none : (settings : Settings) (roads : Roads) (round : NumberedLanes) (j : Journal) (text : List ℕ) → HasRead settings roads round j j text text
+read_none settings roads round j text = record {
+  read = [];
+  first = refl;
+  base = refl;
+  entries = sym (append-nil j.entries);
+  printed = ap (λ (t : List ℕ). t ++ text) (sym (entries-none (position_behind j)));
+  only = λ later rest. rest;
+}
+
+-- entries were read, and then more
+pub read_more : (settings : Settings) (roads : Roads) (round : NumberedLanes) (i j k : Journal) (text rest behind : List ℕ) → HasRead settings roads round i j text rest → HasRead settings roads round j k rest behind
+    → HasRead settings roads round i k text behind
+read_more settings roads round i j k text rest behind one two =
+    let p : ℕ = position_behind i in
+    let here : position_behind j ≡ next_position p one.read =
+    (λ n. next_position (one.first n) (one.entries n)) ∙ sym (next-append i.first i.entries one.read) in
+    record {
+      read = one.read ++ two.read;
+      first = two.first ∙ one.first;
+      base = two.base ∙ one.base;
+      entries = two.entries ∙ ap (λ (es : List Entry). es ++ two.read) one.entries ∙ append_assoc i.entries one.read two.read;
+      printed = one.printed
+          ∙ ap (λ (t : List ℕ). entries_text p one.read ++ t) (two.printed ∙ ap (λ (n : ℕ). entries_text n two.read ++ behind) here)
+          ∙ sym (append_assoc (entries_text p one.read) (entries_text (next_position p one.read) two.read) behind)
+          ∙ ap (λ (t : List ℕ). t ++ behind) (sym (entries-append p one.read two.read (next-low i.first i.entries)));
+      only = λ later rest_of. two.only later (one.only later rest_of);
+    }
+
+-- a lane that is done waits for nothing
+waits_none : (pending : Option ℕ) (cs : List Command) → IsLaneRunFrom pending cs [] → pending ≡ None
+waits_none None cs run = refl
+waits_none (Some batch) cs run = absurd run
+
+number_none : (o : Option Batch) → None ≡ option_map (λ b. b.number) o → o ≡ None
+number_none None e = refl
+number_none (Some b) e = absurd cc
+
+-- all entries were read
+pub entries_done : (settings : Settings) (roads : Roads) (round : NumberedLanes) (old b : BookView) (lanes : List LaneStand) (sealed : Option Batch) (text rest : List ℕ) → IsWithin settings roads round b lanes sealed
+    → HasRead settings roads round (journal_of old) (journal_of b) text rest → AreDone round lanes → HasReadEntries settings roads round old b text rest
+entries_done settings roads round old b lanes sealed text rest is has_read done = record {
+  book = is.book;
+  has_read = has_read;
+  run = record { replies = is.begins.replies; closes = is.begins.closes; lanes = done_end round lanes b.entries is.come done };
+  told = is.begins.told;
+  closed = number_none b.state.sealed (sym (waits_none (stand_at lanes 0).pending (drop (stand_at lanes 0).taken (lane_at round 0)) (done 0)) ∙ is.waits.first);
+}
+
+-- an audit stops within the round
+pub entries_stop : (settings : Settings) (roads : Roads) (round : NumberedLanes) (old b : BookView) (lanes : List LaneStand) (sealed : Option Batch) (text rest : List ℕ) (stop : Stop) → IsWithin settings roads round b lanes sealed
+    → HasRead settings roads round (journal_of old) (journal_of b) text rest → (AreDone round lanes → ⊥) → StopsWithin settings roads round (journal_of b) rest stop → StopsBehind settings roads round (journal_of old) text stop
+entries_stop settings roads round old b lanes sealed text rest stop is has_read going stops = record {
+  here = journal_of b;
+  rest = rest;
+  has_read = has_read;
+  begins = is.begins;
+  going = not_at_end settings roads round b lanes sealed is going;
+  stops = stops;
+}
+
+pub stop_of_entries : (settings : Settings) (roads : Roads) (round : NumberedLanes) (start : Journal) (text : List ℕ) (stop : Stop) → StopsBehind settings roads round start text stop → EntriesStop settings roads round start text stop
+stop_of_entries settings roads round start text OutOfMemory stops = tt
+stop_of_entries settings roads round start text (Line left fault) stops = stops
+stop_of_entries settings roads round start text (Block left refused) stops = stops
+
+-- a lane's run has no more entries than it needs
+run_ends : (pending : Option ℕ) (cs : List Command) (xs ys : List Entry) → IsLaneRunFrom pending cs xs → IsLaneRunFrom pending cs (xs ++ ys) → ys ≡ []
+run_ends None [] [] [] one two = refl
+run_ends None [] [] (y ∷ ys) one two = absurd two
+run_ends None [] (x ∷ xs) ys one two = absurd one
+run_ends None (c ∷ cs) [] ys one two = absurd one
+run_ends None (c ∷ cs) (x ∷ xs) ys one two = run_ends (sealed_by x.reply) cs xs ys one.1 two.1
+run_ends (Some batch) cs [] ys one two = absurd one
+run_ends (Some batch) cs (x ∷ xs) ys one two = run_ends None cs xs ys one.1 two.1
+
+-- nothing follows the entries of a round whose lanes are at their ends
+no_more : (round : NumberedLanes) (es more : List Entry) → ((lane : ℕ) → IsLaneRun (lane_at round lane) (of_lane lane es)) → ((lane : ℕ) → IsLaneRun (lane_at round lane) (of_lane lane (es ++ more))) → more ≡ []
+no_more round es [] one two = refl
+no_more round es (e ∷ more) one two =
+    let none : e ∷ of_lane e.lane more ≡ [] =
+    run_ends None (lane_at round e.lane) (of_lane e.lane es) (e ∷ of_lane e.lane more) (one e.lane) (subst (IsLaneRun (lane_at round e.lane)) (own-lane es e more) (two e.lane)) in
+    absurd cc
+
+-- the rest of a run behind the last entry of a round is that of the later rounds
+rest_behind : (settings : Settings) (roads : Roads) (round : NumberedLanes) (later : List NumberedLanes) (j : Journal) (text : List ℕ) → AreAtEnd round j → IsRestOfRound settings roads round later j text
+    → IsRestOfRounds settings roads later (state_behind settings roads j) (position_behind j) text
+rest_behind settings roads round later j text end rest =
+    let none : rest.more ≡ [] = no_more round j.entries rest.more end rest.run.lanes in
+    let same : j.entries ++ rest.more ≡ j.entries = ap (λ (es : List Entry). j.entries ++ es) none ∙ append-nil j.entries in
+    let text_is : text ≡ rest.behind =
+    rest.printed ∙ ap (λ (es : List Entry). entries_text (position_behind j) es ++ rest.behind) none ∙ ap (λ (t : List ℕ). t ++ rest.behind) (entries-none (position_behind j)) in
+    subst (λ (t : List ℕ). IsRestOfRounds settings roads later (state_behind settings roads j) (position_behind j) t) (sym text_is)
+    (subst (λ (es : List Entry). IsRestOfRounds settings roads later (state_after roads.nodes settings.wait j.base es) (next_position j.first es) rest.behind) same rest.rounds)
+
+module _ (settings : Settings) (roads : Roads) (round : NumberedLanes) (old : BookView) (start : IsRoundStart settings roads old) where
+  -- the book's state is its journal's base, and its first position the next
+  pub base_is : old.base ≡ old.state
+  base_is = sym (start.book.kept.state ∙ ap (state_after old.nodes old.wait old.base) start.empty ∙ after-none old.nodes old.wait old.base)
+
+  pub position_is : position_behind (journal_of old) ≡ old.first
+  position_is = ap (next_position old.first) start.empty ∙ next-none old.first start.book.low
+
+  -- behind the line of the round, the rest of a run of rounds is that of the round
+  rest_of_round : (later : List NumberedLanes) (text after : List ℕ) → HasRoundLine text round.number after → IsRestOfRounds settings roads (round ∷ later) old.state old.first text
+      → IsRestOfRound settings roads round later (journal_of old) after
+  rest_of_round later text after line rest = by rest.made rest.run rest.told rest.printed
+    where
+      by : (made : List Journal) → IsRun settings roads old.state old.first (round ∷ later) made → JournalsAreTold made
+          → text ≡ rounds_text (round ∷ later) made ++ end_text (position_after_run old.first made) → IsRestOfRound settings roads round later (journal_of old) after
+      by [] run told printed = absurd run
+      by (j ∷ js) run told printed =
+          let behind : List ℕ = rounds_text later js ++ end_text (position_after_run (next_position old.first j.entries) js) in
+          let words : List ℕ = numbered (codes "round ") round.number in
+          let text_is : text ≡ words ++ 10 ∷ (entries_text j.first j.entries ++ behind) =
+          printed
+          ∙ append_assoc (round_text round.number true j) (rounds_text later js) (end_text (position_after_run (next_position old.first j.entries) js))
+          ∙ ap (λ (t : List ℕ). t ++ behind) (round-is round.number j)
+          ∙ append_assoc words (10 ∷ entries_text j.first j.entries) behind in
+          let after_is : after ≡ entries_text j.first j.entries ++ behind =
+          (cut_once words words after (entries_text j.first j.entries ++ behind) line.has.one line.has.one (sym line.has.whole ∙ text_is)).1 in
+          let first : j.first ≡ position_behind (journal_of old) = run.1 ∙ sym position_is in
+          let empty : [] ++ j.entries ≡ old.entries ++ j.entries = ap (λ (es : List Entry). es ++ j.entries) (sym start.empty) in
+          let whole : j ≡ with_more (journal_of old) j.entries = λ i. record { first = run.1 i; base = (run.0 ∙ sym base_is) i; entries = empty i } in
+          let state : state_after roads.nodes settings.wait old.state j.entries ≡ state_behind settings roads (with_more (journal_of old) j.entries) =
+          (λ i. state_after roads.nodes settings.wait (sym base_is i) (empty i)) in
+          let place : next_position old.first j.entries ≡ position_behind (with_more (journal_of old) j.entries) = (λ i. next_position old.first (empty i)) in
+          record {
+            more = j.entries;
+            run = subst (IsRoundRun settings roads round) whole run.2;
+            told = subst (λ (k : ℕ). AreTold k j.entries) first told.0;
+            behind = behind;
+            rounds = record {
+              made = js;
+              run = subst (λ (k : ℕ). IsRun settings roads (state_behind settings roads (with_more (journal_of old) j.entries)) k later js) place
+                  (subst (λ (s : State). IsRun settings roads s (next_position old.first j.entries) later js) state run.3);
+              told = told.1;
+              printed = ap (λ (k : ℕ). rounds_text later js ++ end_text (position_after_run k js)) place;
+            };
+            printed = after_is ∙ ap (λ (k : ℕ). entries_text k j.entries ++ behind) first;
+          }
+
+  -- the text of a round so far
+  pub round_so_far : (j : Journal) (text after rest : List ℕ) → HasRoundLine text round.number after → HasRead settings roads round (journal_of old) j after rest → text ≡ round_text round.number true j ++ rest
+  round_so_far j text after rest line has_read =
+      let words : List ℕ = numbered (codes "round ") round.number in
+      let entries : has_read.read ≡ j.entries = ap (λ (es : List Entry). es ++ has_read.read) (sym start.empty) ∙ sym has_read.entries in
+      let place : position_behind (journal_of old) ≡ j.first = position_is ∙ sym has_read.first in
+      line.has.whole
+      ∙ ap (λ (t : List ℕ). words ++ 10 ∷ t) (has_read.printed ∙ (λ i. entries_text (place i) (entries i) ++ rest))
+      ∙ sym (append_assoc words (10 ∷ entries_text j.first j.entries) rest)
+      ∙ ap (λ (t : List ℕ). t ++ rest) (sym (round-is round.number j))
+
+  -- a round was read
+  pub round_read : (b new : BookView) (text after rest : List ℕ) (batches : ℕ) → HasRoundLine text round.number after → HasReadEntries settings roads round old b after rest
+      → new ≡ record { nodes = b.nodes; wait = b.wait; first = next_position b.first b.entries; base = b.state; entries = []; state = b.state; spare = 0 }
+      → IsRoundStart settings roads new → batches ≡ count_by (λ e. closes e.command e.reply) b.entries → HasReadRound settings roads round old new text rest batches
+  round_read b new text after rest batches line read is begin counted =
+      let state : new.state ≡ state_behind settings roads (journal_of b) = ap (λ (x : BookView). x.state) is ∙ book_state settings roads b read.book in
+      let place : new.first ≡ position_behind (journal_of b) = ap (λ (x : BookView). x.first) is in
+      record {
+        start = begin;
+        journal = journal_of b;
+        base = read.has_read.base ∙ base_is;
+        first = read.has_read.first;
+        run = read.run;
+        told = read.told;
+        state = state;
+        position = place;
+        printed = round_so_far (journal_of b) text after rest line read.has_read;
+        counted = counted;
+        only = λ later whole.
+            let behind = rest_behind settings roads round later (journal_of b) rest read.run.lanes (read.has_read.only later (rest_of_round later text after line whole)) in
+            subst (λ (k : ℕ). IsRestOfRounds settings roads later new.state k rest) (sym place)
+            (subst (λ (s : State). IsRestOfRounds settings roads later s (position_behind (journal_of b)) rest) (sym state) behind);
+      }
+
+  -- a stop within the round
+  pub round_stops_within : (text after : List ℕ) (stop : Stop) → HasRoundLine text round.number after → StopsBehind settings roads round (journal_of old) after stop → RoundStops settings roads round old text stop
+  round_stops_within text after stop line stops = record {
+    stops = WhereRoundStops.behind after line stops;
+    none = λ other later rest. stops.stops.none other later (stops.has_read.only later (rest_of_round later text after line rest));
+  }
+
+  -- a stop for want of memory
+  pub round_stops_memory : (text : List ℕ) → round.number < 2 ^ 32 → RoundStops settings roads round old text OutOfMemory
+  round_stops_memory text low = record {
+    stops = WhereRoundStops.before (record { low = low; stops = λ s r round_ later position number. tt });
+    none = λ other later rest. absurd (other refl);
+  }
+
+  -- a stop among the entries
+  pub round_stops_entries : (text after : List ℕ) (stop : Stop) → HasRoundLine text round.number after → EntriesStop settings roads round (journal_of old) after stop → RoundStops settings roads round old text stop
+  round_stops_entries text after OutOfMemory line stops = round_stops_memory text line.low
+  round_stops_entries text after (Line left fault) line stops = round_stops_within text after (Line left fault) line stops
+  round_stops_entries text after (Block left refused) line stops = round_stops_within text after (Block left refused) line stops
+
+  -- a stop at the line of the round
+  pub round_stops_before : (text : List ℕ) (stop : Stop) → IsNoRoundLine text round.number stop → RoundStops settings roads round old text stop
+  round_stops_before text stop no_line = record {
+    stops = WhereRoundStops.before no_line;
+    none = λ other later rest. by stop other later rest (no_line.stops settings roads round later old.first refl);
+  }
+    where
+      first_line : (later : List NumberedLanes) → IsRestOfRounds settings roads (round ∷ later) old.state old.first text → (after : List ℕ) × (text ≡ numbered (codes "round ") round.number ++ 10 ∷ after)
+      first_line later rest = at rest.made rest.run rest.printed
+        where
+          at : (made : List Journal) → IsRun settings roads old.state old.first (round ∷ later) made → text ≡ rounds_text (round ∷ later) made ++ end_text (position_after_run old.first made)
+              → (after : List ℕ) × (text ≡ numbered (codes "round ") round.number ++ 10 ∷ after)
+          at [] run printed = absurd run
+          at (j ∷ js) run printed =
+              let behind : List ℕ = rounds_text later js ++ end_text (position_after_run (next_position old.first j.entries) js) in
+              let words : List ℕ = numbered (codes "round ") round.number in (
+                entries_text j.first j.entries ++ behind,
+                printed
+                    ∙ append_assoc (round_text round.number true j) (rounds_text later js) (end_text (position_after_run (next_position old.first j.entries) js))
+                    ∙ ap (λ (t : List ℕ). t ++ behind) (round-is round.number j)
+                    ∙ append_assoc words (10 ∷ entries_text j.first j.entries) behind,
+              )
+
+      by : (stop : Stop) → stop ≢ OutOfMemory → (later : List NumberedLanes) → IsRestOfRounds settings roads (round ∷ later) old.state old.first text
+          → StopsAt settings roads (Place.between (round ∷ later) old.first) text stop → ⊥
+      by OutOfMemory other later rest stops = other refl
+      by (Line left wrong.Cut) other later rest stops =
+          let line = first_line later rest in
+          not_one (numbered (codes "round ") round.number) line.0 (subst (λ (t : List ℕ). is_one_line t ≡ true) line.1 stops.1)
+      by (Line left wrong.Form) other later rest stops =
+          let line = first_line later rest in
+          let bad = stops.1 in
+          let same = cut_once bad.0 (numbered (codes "round ") round.number) bad.1 line.0 bad.2.one (words_one round.number no_line.low) (sym bad.2.whole ∙ line.1) in
+          bad.3 (RoundOf round.number, (no_line.low, same.0))
+      by (Line left wrong.Entry) other later rest stops =
+          let line = first_line later rest in
+          let bad = stops.1 in
+          let same = cut_once bad.0 (numbered (codes "round ") round.number) bad.1 line.0 bad.2.one (words_one round.number no_line.low) (sym bad.2.whole ∙ line.1) in
+          bad.4 same.0
+      by (Block left refused) other later rest stops = stops.1
+
+-- a book whose round was taken begins the next
+pub next_start : (settings : Settings) (roads : Roads) (b new : BookView) → IsBookOf settings roads b → b.state.sealed ≡ None
+    → new ≡ record { nodes = b.nodes; wait = b.wait; first = next_position b.first b.entries; base = b.state; entries = []; state = b.state; spare = 0 } → IsRoundStart settings roads new
+next_start settings roads b new of closed is =
+    let after : BookView = record { nodes = b.nodes; wait = b.wait; first = next_position b.first b.entries; base = b.state; entries = []; state = b.state; spare = 0 } in
+    let begin : IsRoundStart settings roads after = record {
+      book = record { nodes = of.nodes; wait = of.wait; kept = round-book b (next_position b.first b.entries) of.kept; low = next-low b.first b.entries };
+      empty = refl;
+      closed = closed;
+    } in
+    subst (IsRoundStart settings roads) (sym is) begin
+
+-- the line of a round, or none
+pub round_line_is : (text line after : List ℕ) (x : NextLine) (number : ℕ) → HasLine text line after → IsNextLine x line → x ≡ RoundOf number → HasRoundLine text number after
+round_line_is text line after x number has form is =
+    let told : IsNextLine (RoundOf number) line = subst (λ (y : NextLine). IsNextLine y line) is form in
+    record { low = told.0; has = subst (λ (l : List ℕ). HasLine text l after) told.1 has }
+
+pub round_line_not : (text line after : List ℕ) (x : NextLine) (number : ℕ) → number < 2 ^ 32 → HasLine text line after → IsNextLine x line → (x ≡ RoundOf number → ⊥) → IsNoRoundLine text number (Line (length text) wrong.Entry)
+round_line_not text line after x number low has form other = record {
+  low = low;
+  stops = λ settings roads round later position number_is. (
+    refl,
+    (
+      line,
+      after,
+      has,
+      (x, form),
+      λ follow.
+          other (one_kind x (RoundOf number) line form (low, follow ∙ ap (numbered (codes "round ")) number_is)),
+    ),
+  );
+}
+
+pub round_line_gap : (text : List ℕ) (number : ℕ) (stop : Stop) → number < 2 ^ 32 → HasNoNext text stop → IsNoRoundLine text number stop
+round_line_gap text number stop low gap = record { low = low; stops = λ settings roads round later position number_is. no_next_between settings roads (round ∷ later) position text stop gap }

@@ -1,0 +1,174 @@
+-- Texts of entries and rounds.
+use Rattle.std.proofs.Common.{◌≡◌, ℕ, suc, ◌+◌, ◌-◌, ◌<◌, ◌≤◌, ◌^◌, Bool, true, false, cond, eqb, List, [], ◌∷◌, ◌++◌, length, min, codes, decimal, Option, Some, None, refl, sym, ap, ◌∙◌, subst, append-nil, append_assoc, length-append, arith}
+use Rattle.std.specs.List.{flat_map}
+use Rattle.std.proofs.lemmas.Grind.{flat_map-append}
+use Rattle.dispatch_report.specs.Entry.{command_text, entry_line, refusal_text, reply_text, rider_status_text, spaced_or_none}
+use Rattle.dispatch_report.specs.Lines.{lines_text}
+use Rattle.dispatch_report.specs.Round.{entries_lines, entry_block, round_text, end_text}
+use Rattle.dispatch_report.specs.Words.{numbered, spaced}
+use Rattle.entry_lines.specs.Command.{IsCommand}
+use Rattle.entry_lines.specs.Next.{IsEntry}
+use Rattle.entry_lines.specs.Reply.{IsReply, IsRefusal, OrNone}
+use Rattle.pool_io.specs.Faults.{one_more}
+use Rattle.report_lines.specs.Cut.{is_one_line}
+use Rattle.report_lines.specs.Ids.{IsId}
+use Rattle.report_lines.proofs.OneBlock.{append_one_line, numbered_one_line}
+use Rattle.request_book.specs.Book.{next_position}
+use Rattle.request_book.specs.declared.command.Command.{Command}
+use Rattle.request_book.specs.declared.command.Command.TheVariants.{Submit, Cancel, Report, Pickup, Dropoff, Seal, Close}
+use Rattle.request_book.specs.declared.journal.Entry.{Entry}
+use Rattle.request_book.specs.declared.journal.Journal.{Journal}
+use Rattle.request_book.specs.declared.reply.BookRefusal.{BookRefusal}
+use Rattle.request_book.specs.declared.reply.BookRefusal.TheVariants.{DuplicateRider, UnknownNode, SamePlace, PoolFull, BookFull, UnknownRider, IsAboard, Ended, UnknownVehicle, TimeBack, NotPromised, VehicleFull, NotAboard, BatchOpen, ClockBack, NotThisBatch}
+use Rattle.request_book.specs.declared.reply.Reply.{Reply}
+use Rattle.request_book.specs.declared.reply.Reply.TheVariants.{Accepted, Cancelled, Placed, Picked, Dropped, Sealed, Closed, Refused}
+use Rattle.request_book.specs.declared.rider.Status.{Status}
+use Rattle.request_book.specs.declared.rider.Status.TheVariants.{Waiting, Promised, Aboard, Cancelled as GivenUp, Delivered, Expired}
+use Rattle.report_audit.specs.work.Rest.{entries_text}
+
+-- lines
+pub lines-none : lines_text [] ≡ []
+unfolding lines_text
+lines-none = refl
+
+pub lines-more : (x : List ℕ) (xs : List (List ℕ)) → lines_text (x ∷ xs) ≡ x ++ 10 ∷ lines_text xs
+unfolding lines_text
+lines-more x xs = append_assoc x (10 ∷ []) (flat_map (λ line. line ++ 10 ∷ []) xs)
+
+pub lines-append : (xs ys : List (List ℕ)) → lines_text (xs ++ ys) ≡ lines_text xs ++ lines_text ys
+unfolding lines_text
+lines-append xs ys = flat_map-append (λ line. line ++ 10 ∷ []) xs ys
+
+-- positions
+pub next-none : (p : ℕ) → p < 2 ^ 64 → next_position p [] ≡ p
+next-none p low = omega arith
+
+pub next-more : (p : ℕ) (e : Entry) (es : List Entry) → next_position (one_more p) es ≡ next_position p (e ∷ es)
+next-more p e es = omega arith
+
+pub next-low : (p : ℕ) (es : List Entry) → next_position p es < 2 ^ 64
+next-low p es = omega arith
+
+pub next-append : (p : ℕ) (xs ys : List Entry) → next_position (next_position p xs) ys ≡ next_position p (xs ++ ys)
+next-append p xs ys = omega (arith, length-append xs ys)
+
+-- the text of entries
+pub entries-none : (p : ℕ) → entries_text p [] ≡ []
+unfolding entries_lines
+entries-none p = lines-none
+
+pub entries-more : (p : ℕ) (e : Entry) (es : List Entry) → entries_text p (e ∷ es) ≡ entry_line p e ++ 10 ∷ (lines_text (entry_block true e.command e.reply) ++ entries_text (one_more p) es)
+unfolding entries_lines
+entries-more p e es =
+    let block : List (List ℕ) = entry_block true e.command e.reply in
+    let later : List (List ℕ) = entries_lines true (one_more p) es in
+    lines-append (entry_line p e ∷ block) later
+    ∙ ap (λ (t : List ℕ). t ++ lines_text later) (lines-more (entry_line p e) block)
+    ∙ append_assoc (entry_line p e) (10 ∷ lines_text block) (lines_text later)
+
+pub entries-append : (p : ℕ) (xs ys : List Entry) → p < 2 ^ 64 → entries_text p (xs ++ ys) ≡ entries_text p xs ++ entries_text (next_position p xs) ys
+unfolding entries_lines
+entries-append p [] ys low =
+    ap (λ (k : ℕ). entries_text k ys) (sym (next-none p low)) ∙ ap (λ (t : List ℕ). t ++ entries_text (next_position p []) ys) (sym lines-none)
+entries-append p (e ∷ es) ys low =
+    let block : List (List ℕ) = (entry_line p e ∷ []) ++ entry_block true e.command e.reply in
+    lines-append block (entries_lines true (one_more p) (es ++ ys))
+    ∙ ap (λ (t : List ℕ). lines_text block ++ t) (entries-append (one_more p) es ys (omega arith))
+    ∙ ap (λ (k : ℕ). lines_text block ++ (entries_text (one_more p) es ++ entries_text k ys)) (next-more p e es)
+    ∙ sym (append_assoc (lines_text block) (entries_text (one_more p) es) (entries_text (next_position p (e ∷ es)) ys))
+    ∙ ap (λ (t : List ℕ). t ++ entries_text (next_position p (e ∷ es)) ys) (sym (lines-append block (entries_lines true (one_more p) es)))
+
+pub round-is : (n : ℕ) (j : Journal) → round_text n true j ≡ numbered (codes "round ") n ++ 10 ∷ entries_text j.first j.entries
+unfolding round_text
+round-is n j = lines-more (numbered (codes "round ") n) (entries_lines true j.first j.entries)
+
+pub end-is : (n : ℕ) → end_text n ≡ numbered (codes "done ") n ++ 10 ∷ []
+unfolding end_text
+end-is n = lines-more (numbered (codes "done ") n) [] ∙ ap (λ (t : List ℕ). numbered (codes "done ") n ++ 10 ∷ t) lines-none
+
+-- no line between blocks has a line feed within it
+decimal_one : (n : ℕ) → n < 2 ^ 128 → is_one_line (decimal n) ≡ true
+unfolding numbered
+decimal_one n small = numbered_one_line [] n refl small
+
+spaced_one : (n : ℕ) → n < 2 ^ 128 → is_one_line (spaced n) ≡ true
+spaced_one n small = numbered_one_line (codes " ") n refl small
+
+id_one : (words : List ℕ) (n : ℕ) → is_one_line words ≡ true → IsId n → is_one_line (numbered words n) ≡ true
+id_one words n one is = (let small : n ≤ 1000000000 = is in numbered_one_line words n one (omega arith))
+
+three_one : (words : List ℕ) (a b c : ℕ) → is_one_line words ≡ true → IsId a → IsId b → IsId c → is_one_line (numbered words a ++ spaced b ++ spaced c) ≡ true
+three_one words a b c one ia ib ic =
+    append_one_line (numbered words a ++ spaced b) (spaced c) (append_one_line (numbered words a) (spaced b) (id_one words a one ia) (id_one (codes " ") b refl ib)) (id_one (codes " ") c refl ic)
+
+command_one : (c : Command) → IsCommand c → is_one_line (command_text c) ≡ true
+command_one (Submit rider origin destination time party) is =
+    let front : is_one_line (numbered (codes "submit ") rider ++ spaced origin ++ spaced destination) ≡ true = three_one (codes "submit ") rider origin destination refl is.0 is.1 is.2 in
+    append_one_line (numbered (codes "submit ") rider ++ spaced origin ++ spaced destination ++ spaced time) (cond (eqb party 1) [] (spaced party))
+    (append_one_line (numbered (codes "submit ") rider ++ spaced origin ++ spaced destination) (spaced time) front (id_one (codes " ") time refl is.3))
+    (by (eqb party 1))
+  where
+    by : (b : Bool) → is_one_line (cond b [] (spaced party)) ≡ true
+    by true = refl
+    by false = spaced_one party (omega (arith, is.4))
+command_one (Cancel rider) is = id_one (codes "cancel ") rider refl is
+command_one (Report vehicle node time) is = three_one (codes "report ") vehicle node time refl is.0 is.1 is.2
+command_one (Pickup vehicle rider time) is = three_one (codes "pickup ") vehicle rider time refl is.0 is.1 is.2
+command_one (Dropoff vehicle rider time) is = three_one (codes "dropoff ") vehicle rider time refl is.0 is.1 is.2
+command_one (Seal now) is = id_one (codes "seal ") now refl is
+command_one (Close batch outcome) is = numbered_one_line (codes "close ") batch refl (omega (arith, is))
+
+status_one : (s : Status) → is_one_line (rider_status_text s) ≡ true
+status_one Waiting = refl
+status_one (Promised p) = refl
+status_one (Aboard v) = refl
+status_one GivenUp = refl
+status_one Delivered = refl
+status_one Expired = refl
+
+refusal_one : (r : BookRefusal) → IsRefusal r → is_one_line (refusal_text r) ≡ true
+refusal_one DuplicateRider is = refl
+refusal_one UnknownNode is = refl
+refusal_one SamePlace is = refl
+refusal_one PoolFull is = refl
+refusal_one BookFull is = refl
+refusal_one UnknownRider is = refl
+refusal_one (IsAboard vehicle) is = id_one (codes "is-aboard ") vehicle refl is
+refusal_one (Ended status) is = append_one_line (codes "ended ") (rider_status_text status) refl (status_one status)
+refusal_one UnknownVehicle is = refl
+refusal_one (TimeBack last) is = id_one (codes "time-back ") last refl is
+refusal_one (NotPromised None) is = refl
+refusal_one (NotPromised (Some holder)) is = append_one_line (codes "not-promised") (spaced holder) refl (id_one (codes " ") holder refl is)
+refusal_one VehicleFull is = refl
+refusal_one NotAboard is = refl
+refusal_one (BatchOpen batch) is = numbered_one_line (codes "batch-open ") batch refl (omega (arith, is))
+refusal_one (ClockBack last) is = id_one (codes "clock-back ") last refl is
+refusal_one (NotThisBatch None) is = refl
+refusal_one (NotThisBatch (Some batch)) is = append_one_line (codes "not-this-batch") (spaced batch) refl (spaced_one batch (omega (arith, is)))
+
+reply_one : (r : Reply) → IsReply r → is_one_line (reply_text r) ≡ true
+reply_one Accepted is = refl
+reply_one Cancelled is = refl
+reply_one Placed is = refl
+reply_one Picked is = refl
+reply_one Dropped is = refl
+reply_one (Sealed batch) is = numbered_one_line (codes "sealed ") batch refl (omega (arith, is))
+reply_one Closed is = refl
+reply_one (Refused refusal) is = append_one_line (codes "refused ") (refusal_text refusal) refl (refusal_one refusal is)
+
+pub entry_one : (p : ℕ) (e : Entry) → IsEntry p e → is_one_line (entry_line p e) ≡ true
+entry_one p e is =
+    let place : p < 2 ^ 128 = (let low : p < 2 ^ 64 = is.placed in omega arith) in
+    let lane : e.lane < 2 ^ 128 = (let low : e.lane < 2 ^ 8 = is.lane in omega arith) in
+    let front : is_one_line (decimal p ++ spaced e.lane ++ codes " ") ≡ true =
+    append_one_line (decimal p ++ spaced e.lane) (codes " ") (append_one_line (decimal p) (spaced e.lane) (decimal_one p place) (spaced_one e.lane lane)) refl in
+    append_one_line (decimal p ++ spaced e.lane ++ codes " " ++ command_text e.command ++ codes " ") (reply_text e.reply)
+    (append_one_line (decimal p ++ spaced e.lane ++ codes " " ++ command_text e.command) (codes " ")
+    (append_one_line (decimal p ++ spaced e.lane ++ codes " ") (command_text e.command) front (command_one e.command is.command)) refl)
+    (reply_one e.reply is.reply)
+
+pub words_one : (n : ℕ) → n < 2 ^ 32 → is_one_line (numbered (codes "round ") n) ≡ true
+words_one n low = numbered_one_line (codes "round ") n refl (omega (arith, low))
+
+pub done_one : (n : ℕ) → n < 2 ^ 64 → is_one_line (numbered (codes "done ") n) ≡ true
+done_one n low = numbered_one_line (codes "done ") n refl (omega (arith, low))

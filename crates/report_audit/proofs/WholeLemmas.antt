@@ -1,0 +1,144 @@
+-- All rounds of a report.
+use Rattle.std.proofs.Common.{◌≡◌, ◌≢◌, ℕ, ◌+◌, ◌-◌, ◌<◌, ◌^◌, min, true, List, [], ◌∷◌, ◌++◌, length, refl, sym, ap, ◌∙◌, subst, append_assoc, append-nil, arith}
+use Rattle.std.specs.Prelude.{count_by}
+use Rattle.dispatch_engine.specs.Run.{IsRun, IsRoundRun, journal_of, position_after_run}
+use Rattle.dispatch_report.specs.Round.{end_text, round_text}
+use Rattle.request_book.specs.Book.{BookView, next_position}
+use Rattle.request_book.specs.Replay.{state_after}
+use Rattle.request_book.specs.declared.journal.Journal.{Journal}
+use Rattle.request_book.specs.declared.state.State.{State}
+use Rattle.rider_limits.specs.declared.settings.Settings.{Settings}
+use Rattle.road_network.specs.Roads.{Roads}
+use Rattle.script_rows.specs.Round.{NumberedLanes}
+use Rattle.report_audit.specs.Place.{Place, state_after_rounds, state_behind, position_behind}
+use Rattle.report_audit.specs.Report.{batches_after, batches_in, closes, rounds_text}
+use Rattle.report_audit.specs.Types.{AreTold, JournalsAreTold}
+use Rattle.report_audit.specs.declared.fault.Audited.{Audited}
+use Rattle.report_audit.specs.declared.stop.Stop.{Stop}
+use Rattle.report_audit.specs.declared.stop.Stop.TheVariants.{OutOfMemory}
+use Rattle.report_audit.specs.work.Ends.{EndStops, IsEndText, WhereEndStops}
+use Rattle.report_audit.specs.work.Rest.{IsRestOfRounds}
+use Rattle.report_audit.specs.work.Rounds.{HasReadRound, IsRoundStart, RoundStops, WhereRoundStops}
+use Rattle.report_audit.specs.work.Steps.{StopsAt, StopsBehind}
+use Rattle.report_audit.specs.work.Whole.{AllStops, HasComeTo, HasReadAll, HasReadRounds, WhereAllStops}
+use Rattle.report_audit.proofs.RoundLemmas.{base_is, position_is, round_so_far}
+
+module _ (settings : Settings) (roads : Roads) where
+  -- one more round of a run
+  run_push : (s : State) (p : ℕ) (rs : List NumberedLanes) (js : List Journal) (r : NumberedLanes) (j : Journal) → IsRun settings roads s p rs js
+      → j.base ≡ state_after_rounds settings roads s js → j.first ≡ position_after_run p js → IsRoundRun settings roads r j → IsRun settings roads s p (rs ++ r ∷ []) (js ++ j ∷ [])
+  run_push s p [] [] r j run base first round = (base, first, round, tt)
+  run_push s p [] (k ∷ ks) r j run base first round = absurd run
+  run_push s p (q ∷ qs) [] r j run base first round = absurd run
+  run_push s p (q ∷ qs) (k ∷ ks) r j run base first round =
+      (run.0, run.1, run.2, run_push (state_after roads.nodes settings.wait s k.entries) (next_position p k.entries) qs ks r j run.3 base first round)
+
+  state_push : (s : State) (js : List Journal) (j : Journal) → state_after_rounds settings roads s (js ++ j ∷ []) ≡ state_after roads.nodes settings.wait (state_after_rounds settings roads s js) j.entries
+  state_push s [] j = refl
+  state_push s (k ∷ ks) j = state_push (state_after roads.nodes settings.wait s k.entries) ks j
+
+position_push : (p : ℕ) (js : List Journal) (j : Journal) → position_after_run p (js ++ j ∷ []) ≡ next_position (position_after_run p js) j.entries
+position_push p [] j = refl
+position_push p (k ∷ ks) j = position_push (next_position p k.entries) ks j
+
+batches_push : (n : ℕ) (js : List Journal) (j : Journal) → batches_after n (js ++ j ∷ []) ≡ batches_in (batches_after n js) j.entries
+batches_push n [] j = refl
+batches_push n (k ∷ ks) j = batches_push (batches_in n k.entries) ks j
+
+told_push : (js : List Journal) (j : Journal) → JournalsAreTold js → AreTold j.first j.entries → JournalsAreTold (js ++ j ∷ [])
+told_push [] j told one = (one, tt)
+told_push (k ∷ ks) j told one = (told.0, told_push ks j told.1 one)
+
+text_push : (settings : Settings) (roads : Roads) (s : State) (p : ℕ) (rs : List NumberedLanes) (js : List Journal) (r : NumberedLanes) (j : Journal) → IsRun settings roads s p rs js
+    → rounds_text (rs ++ r ∷ []) (js ++ j ∷ []) ≡ rounds_text rs js ++ round_text r.number true j
+text_push settings roads s p [] [] r j run = append-nil (round_text r.number true j)
+text_push settings roads s p [] (k ∷ ks) r j run = absurd run
+text_push settings roads s p (q ∷ qs) [] r j run = absurd run
+text_push settings roads s p (q ∷ qs) (k ∷ ks) r j run =
+    ap (λ (t : List ℕ). round_text q.number true k ++ t) (text_push settings roads (state_after roads.nodes settings.wait s k.entries) (next_position p k.entries) qs ks r j run.3)
+    ∙ sym (append_assoc (round_text q.number true k) (rounds_text qs ks) (round_text r.number true j))
+
+module _ (settings : Settings) (roads : Roads) (s : State) (rounds : List NumberedLanes) (text : List ℕ) where
+  -- before the first round
+  pub come_start : (b : BookView) → IsRoundStart settings roads b → b.state ≡ s → b.first ≡ 0 → HasComeTo settings roads s rounds text [] rounds text b 0
+  come_start b start state first = record {
+    made = [];
+    all = refl;
+    has_read = record { run = tt; told = tt; printed = refl };
+    start = start;
+    state = state;
+    position = first;
+    counted = refl;
+    only = λ whole. subst (λ (k : ℕ). IsRestOfRounds settings roads rounds b.state k text) (sym first) (subst (λ (t : State). IsRestOfRounds settings roads rounds t 0 text) (sym state) whole);
+  }
+
+  module _ (before later : List NumberedLanes) (r : NumberedLanes) (b : BookView) (rest : List ℕ) (batches : ℕ) (come : HasComeTo settings roads s rounds text before (r ∷ later) rest b batches) where
+    -- behind one more round
+    pub come_more : (new : BookView) (rest_new : List ℕ) (count : ℕ) → HasReadRound settings roads r b new rest rest_new count
+        → HasComeTo settings roads s rounds text (before ++ r ∷ []) later rest_new new (min (batches + count) (2 ^ 64 - 1))
+    come_more new rest_new count read =
+        let j : Journal = read.journal in
+        let base : j.base ≡ state_after_rounds settings roads s come.made = read.base ∙ come.state in
+        let first : j.first ≡ position_after_run 0 come.made = read.first ∙ come.position in
+        record {
+          made = come.made ++ j ∷ [];
+          all = come.all ∙ sym (append_assoc before (r ∷ []) later);
+          has_read = record {
+            run = run_push settings roads s 0 before come.made r j come.has_read.run base first read.run;
+            told = told_push come.made j come.has_read.told read.told;
+            printed = come.has_read.printed ∙ ap (λ (t : List ℕ). rounds_text before come.made ++ t) read.printed
+                ∙ sym (append_assoc (rounds_text before come.made) (round_text r.number true j) rest_new)
+                ∙ ap (λ (t : List ℕ). t ++ rest_new) (sym (text_push settings roads s 0 before come.made r j come.has_read.run));
+          };
+          start = read.start;
+          state = read.state ∙ ap (λ (t : State). state_after roads.nodes settings.wait t j.entries) base ∙ sym (state_push settings roads s come.made j);
+          position = read.position ∙ ap (λ (k : ℕ). next_position k j.entries) first ∙ sym (position_push 0 come.made j);
+          counted = (λ i. min (come.counted i + read.counted i) (2 ^ 64 - 1)) ∙ sym (batches_push 0 come.made j);
+          only = λ whole. read.only later (come.only whole);
+        }
+
+    -- a stop at a round or within it
+    pub stops_in_round : (stop : Stop) → RoundStops settings roads r b rest stop → AllStops settings roads rounds s text stop
+    stops_in_round stop stops = record { stops = by stops.stops; none = λ other whole. stops.none other later (come.only whole) }
+      where
+        by : WhereRoundStops settings roads r b rest stop → WhereAllStops settings roads rounds s text stop
+        by (WhereRoundStops.before no_line) = WhereAllStops.between before (r ∷ later) come.made rest come.all come.has_read (no_line.stops settings roads r later (position_after_run 0 come.made) refl)
+        by (WhereRoundStops.behind after line inside) =
+            let here : Journal = inside.here in
+            let printed = round_so_far settings roads r b come.start here rest after inside.rest line inside.has_read in
+            WhereAllStops.within before later r come.made here inside.rest come.all
+            (record { run = come.has_read.run; told = come.has_read.told; printed = come.has_read.printed ∙ ap (λ (t : List ℕ). rounds_text before come.made ++ t) printed })
+            (inside.has_read.base ∙ base_is settings roads r b come.start ∙ come.state) (inside.has_read.first ∙ come.position) inside.begins inside.going inside.stops.stops
+
+  module _ (b : BookView) (rest : List ℕ) (batches entries : ℕ) (come : HasComeTo settings roads s rounds text rounds [] rest b batches) (at : entries ≡ b.first) where
+    at_end : entries ≡ position_after_run 0 come.made
+    at_end = at ∙ come.position
+
+    -- all was read
+    pub read_all : IsEndText rest entries → HasReadAll settings roads rounds s text (record { entries = entries; batches = batches })
+    read_all end = record {
+      made = come.made;
+      has_read = record { run = come.has_read.run; told = come.has_read.told; printed = come.has_read.printed ∙ ap (λ (t : List ℕ). rounds_text rounds come.made ++ t) (end ∙ ap end_text at_end) };
+      entries = at_end;
+      batches = come.counted;
+    }
+
+    -- a stop at the end or behind it
+    pub stops_at_end : (stop : Stop) → EndStops rest entries stop → AllStops settings roads rounds s text stop
+    stops_at_end stop stops = record { stops = by stops.stops; none = λ other whole. none_left (come.only whole) }
+      where
+        by : WhereEndStops rest entries stop → WhereAllStops settings roads rounds s text stop
+        by (WhereEndStops.before at_line) =
+            WhereAllStops.between rounds [] come.made rest (sym (append-nil rounds)) come.has_read
+            (subst (λ (k : ℕ). StopsAt settings roads (Place.between [] k) rest stop) at_end (at_line settings roads))
+        by (WhereEndStops.behind behind whole left) =
+            WhereAllStops.behind come.made behind
+            (record { run = come.has_read.run; told = come.has_read.told; printed = come.has_read.printed ∙ ap (λ (t : List ℕ). rounds_text rounds come.made ++ t) (whole ∙ ap (λ (k : ℕ). end_text k ++ behind) at_end) })
+            (left.stops settings roads)
+
+        none_left : IsRestOfRounds settings roads [] b.state b.first rest → ⊥
+        none_left whole = nothing whole.made whole.run whole.printed
+          where
+            nothing : (made : List Journal) → IsRun settings roads b.state b.first [] made → rest ≡ rounds_text [] made ++ end_text (position_after_run b.first made) → ⊥
+            nothing [] run printed = stops.none (printed ∙ ap end_text (sym at))
+            nothing (j ∷ js) run printed = absurd run

@@ -1,0 +1,22 @@
+use Rattle.std.proofs.Common.{ap}
+use Rattle.batch_snapshot.specs.Batch.{Batch}
+use Rattle.request_book.specs.declared.outcome.Outcome.{Outcome}
+use Rattle.report_audit.proofs.ClosingLemmas.{batch_known, takes_close}
+use Rattle.report_audit.proofs.close.audit_close.Goals as goal
+
+pub audit_block-found-requires-clause-nodes : goal.audit_block-found-requires-clause-nodes
+audit_block-found-requires-clause-nodes g c κs within =
+    batch_known c.args.setup.now.settings.now c.args.setup.now.network.now c.args.book.now c.args.snapshot.now c.requires.book c.requires.sealed
+
+pub returns-in_ok-_reply-in-Ok-clause-takes : goal.returns-in_ok-_reply-in-Ok-clause-takes
+returns-in_ok-_reply-in-Ok-clause-takes g c =
+    let old = c.args.book.now in
+    let new = c.apply.new.self in
+    let n = c.snapshot.inside.batch in
+    let outcome : Outcome = c.in-Ok.field-0.outcome in
+    let reply = c.in_ok-_reply-in-Ok._reply in
+    takes_close c.args.setup.now.settings.now c.args.setup.now.network.now old new c.args.snapshot.now c.args.lane n c.next_position-position.result
+    c.args.between.line.now c.args.between.after.now c.in-Ok.field-0.rest.now outcome reply
+    (ap (λ (b : Batch). b.number) c.snapshot.view_is) c.is_close_line.ensures.low c.requires.sealed c.next_position-position.ensures
+    (c.in_ok-is_close_line.ensures.line.0 c.if-not-branch.false) c.in-Ok.ensures.good c.in-Ok.ensures.only
+    c.in_ok-_reply-in-Ok.ensures.applied

@@ -1,0 +1,108 @@
+-- What each fault of a report means.
+use Rattle.std.specs.Prelude.{◌≡◌, ◌≢◌, ℕ, ◌+◌, ◌-◌, ◌^◌, ◌==◌, min, true, List, [], ◌∷◌, ◌++◌, length, count_by, Some}
+use Rattle.batch_snapshot.specs.Batch.{Batch}
+use Rattle.batch_snapshot.specs.declared.vehicle.Vehicle.{Vehicle}
+use Rattle.block_audit.specs.Block.{Refuses}
+use Rattle.block_audit.specs.declared.refusal.BlockRefusal.{BlockRefusal}
+use Rattle.block_audit.specs.declared.refusal.BlockRefusal.TheVariants as block
+use Rattle.dispatch_report.specs.Entry.{entry_line}
+use Rattle.report_head.specs.Fault.{HeadFails}
+use Rattle.report_head.specs.Settings.{AreOf}
+use Rattle.report_head.specs.declared.fault.HeadFault.TheVariants as head
+use Rattle.report_lines.specs.Cut.{is_one_line}
+use Rattle.request_book.specs.declared.journal.Entry.{Entry}
+use Rattle.request_book.specs.declared.journal.Journal.{Journal}
+use Rattle.request_book.specs.declared.reply.Reply.TheVariants.{Closed}
+use Rattle.request_book.specs.declared.state.State.{State}
+use Rattle.rider_limits.specs.declared.settings.Settings.{Settings}
+use Rattle.road_network.specs.Roads.{Roads}
+use Rattle.script_rows.specs.Round.{NumberedLanes}
+use Rattle.report_audit.specs.Place.{Place, MayFollow, IsInForm, IsRightUpTo, MayComeNext, position_behind, state_behind}
+use Rattle.report_audit.specs.declared.fault.AuditFault.{AuditFault}
+use Rattle.report_audit.specs.declared.fault.AuditFault.TheVariants.{Cut, Form, Head, Entry as WrongEntry, Batch as WrongBatch, OutOfMemory}
+
+-- the number of the line that begins behind a text: one more than its line feeds
+abbrev pub next_line : List ℕ → ℕ
+next_line text = count_by (λ c. c == 10) text + 1
+
+-- the text begins with a whole line
+pub record HasLine (text line after : List ℕ) : Type 0 where
+  pub whole : text ≡ line ++ 10 ∷ after
+  pub one : is_one_line line ≡ true
+
+-- no whole line follows where one must; behind the last line nothing must
+abbrev pub IsCut : Place → List ℕ → Type 0
+IsCut Place.finished text = (is_one_line text ≡ true) × (text ≢ [])
+IsCut _ text = is_one_line text ≡ true
+
+-- the next line has the form of none that may stand there
+abbrev pub IsOutOfForm : Place → List ℕ → Type 0
+IsOutOfForm place text = (line after : List ℕ) × HasLine text line after × (IsInForm place line → ⊥)
+
+-- the next line is in form, and isn't one with which a run goes on
+abbrev pub IsWrongLine : Settings → Roads → Place → List ℕ → Type 0
+IsWrongLine settings roads place text = (line after : List ℕ) × HasLine text line after × IsInForm place line × (MayFollow settings roads place line → ⊥)
+
+-- the next line is a close that may come and was answered `closed`, and behind it stands no block of a good outcome
+pub record IsWrongBlock (settings : Settings) (roads : Roads) (round : NumberedLanes) (j : Journal) (text : List ℕ) (refusal : BlockRefusal) : Type 0 where
+  pub line : List ℕ
+  pub after : List ℕ
+  pub closing : Entry
+  pub batch : Batch
+  pub has : HasLine text line after
+  pub comes : MayComeNext settings roads round j closing
+  pub line_is : line ≡ entry_line (position_behind j) closing
+  pub closed : closing.reply ≡ Closed
+  pub sealed : (state_behind settings roads j).sealed ≡ Some batch
+  pub refused : Refuses settings roads batch after refusal
+
+abbrev pub IsWrongBatch : BlockRefusal → Settings → Roads → Place → List ℕ → Type 0
+IsWrongBatch refusal settings roads (Place.within round j) text = IsWrongBlock settings roads round j text refusal
+IsWrongBatch refusal settings roads _ text = ⊥
+
+-- behind its head a report is right up to this line, and there it fails
+pub record FailsAt (roads : Roads) (vehicles : List Vehicle) (rounds : List NumberedLanes) (workers : ℕ) (text : List ℕ) (Fails : Settings → Roads → Place → List ℕ → Type 0) (line : ℕ) : Type 0 where
+  pub settings : Settings
+  pub audited : AreOf workers settings
+  pub place : Place
+  pub read : List ℕ
+  pub rest : List ℕ
+  pub whole : text ≡ read ++ rest
+  pub right : IsRightUpTo settings roads vehicles rounds place read
+  pub line_is : line ≡ next_line read
+  pub fails : Fails settings roads place rest
+
+-- the block behind the close of this line fails in one of its lines, so many lines behind its first; lines are counted up to
+-- the greatest number of 64 bits
+pub record FailsInBlock (roads : Roads) (vehicles : List Vehicle) (rounds : List NumberedLanes) (workers : ℕ) (text : List ℕ) (refusal : ℕ → BlockRefusal) (line : ℕ) : Type 0 where
+  pub closing : ℕ
+  pub lines : ℕ
+  pub line_is : line ≡ min (closing + 1 + lines) (2 ^ 64 - 1)
+  pub fails : FailsAt roads vehicles rounds workers text (IsWrongBatch (refusal lines)) closing
+
+-- the text is cut at this line
+pub data IsCutAt (roads : Roads) (vehicles : List Vehicle) (rounds : List NumberedLanes) (workers : ℕ) (text : List ℕ) (line : ℕ) : Type 0 where
+  in_head : HeadFails roads (length vehicles) text (head.Cut line) → IsCutAt roads vehicles rounds workers text line
+  behind : FailsAt roads vehicles rounds workers text (λ settings roads place rest. IsCut place rest) line → IsCutAt roads vehicles rounds workers text line
+  in_block : FailsInBlock roads vehicles rounds workers text block.Cut line → IsCutAt roads vehicles rounds workers text line
+
+-- this line has the form of none that may stand there
+pub data IsOutOfFormAt (roads : Roads) (vehicles : List Vehicle) (rounds : List NumberedLanes) (workers : ℕ) (text : List ℕ) (line : ℕ) : Type 0 where
+  in_head : HeadFails roads (length vehicles) text (head.Form line) → IsOutOfFormAt roads vehicles rounds workers text line
+  behind : FailsAt roads vehicles rounds workers text (λ settings roads place rest. IsOutOfForm place rest) line → IsOutOfFormAt roads vehicles rounds workers text line
+  in_block : FailsInBlock roads vehicles rounds workers text block.Form line → IsOutOfFormAt roads vehicles rounds workers text line
+
+-- the block whose first line this is fails at a point
+pub record IsWrongBatchAt (roads : Roads) (vehicles : List Vehicle) (rounds : List NumberedLanes) (workers : ℕ) (text : List ℕ) (line point : ℕ) : Type 0 where
+  pub closing : ℕ
+  pub line_is : line ≡ min (closing + 1) (2 ^ 64 - 1)
+  pub fails : FailsAt roads vehicles rounds workers text (IsWrongBatch (block.Wrong point)) closing
+
+-- what a fault says of a text
+abbrev pub HasFault : Roads → List Vehicle → List NumberedLanes → ℕ → List ℕ → AuditFault → Type 0
+HasFault roads vehicles rounds workers text (Cut line) = IsCutAt roads vehicles rounds workers text line
+HasFault roads vehicles rounds workers text (Form line) = IsOutOfFormAt roads vehicles rounds workers text line
+HasFault roads vehicles rounds workers text (Head line) = HeadFails roads (length vehicles) text (head.Head line)
+HasFault roads vehicles rounds workers text (WrongEntry line) = FailsAt roads vehicles rounds workers text IsWrongLine line
+HasFault roads vehicles rounds workers text (WrongBatch line point) = IsWrongBatchAt roads vehicles rounds workers text line point
+HasFault roads vehicles rounds workers text OutOfMemory = Unit {0}

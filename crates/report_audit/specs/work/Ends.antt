@@ -1,0 +1,29 @@
+-- The end of an audit.
+use Rattle.std.specs.Prelude.{◌≡◌, ◌≢◌, ℕ, List, [], ◌∷◌, ◌++◌, codes}
+use Rattle.dispatch_report.specs.Round.{end_text}
+use Rattle.dispatch_report.specs.Words.{numbered}
+use Rattle.rider_limits.specs.declared.settings.Settings.{Settings}
+use Rattle.road_network.specs.Roads.{Roads}
+use Rattle.report_audit.specs.Fault.{HasLine}
+use Rattle.report_audit.specs.Place.{Place}
+use Rattle.report_audit.specs.declared.stop.Stop.{Stop}
+use Rattle.report_audit.specs.declared.stop.Stop.TheVariants.{OutOfMemory}
+use Rattle.report_audit.specs.work.Steps.{StopsAt}
+
+-- the text is the last line, and nothing else
+abbrev pub IsEndText : List ℕ → ℕ → Type 0
+IsEndText text entries = text ≡ end_text entries
+
+-- something follows the last line
+pub record IsRestBehind (text : List ℕ) (stop : Stop) : Type 0 where
+  pub some : text ≢ []
+  pub stops : (settings : Settings) (roads : Roads) → StopsAt settings roads Place.finished text stop
+
+-- the text begins with no last line, or something follows it
+pub data WhereEndStops (text : List ℕ) (entries : ℕ) (stop : Stop) : Type 0 where
+  before : ((settings : Settings) (roads : Roads) → StopsAt settings roads (Place.between [] entries) text stop) → WhereEndStops text entries stop
+  behind : (rest : List ℕ) → text ≡ end_text entries ++ rest → IsRestBehind rest stop → WhereEndStops text entries stop
+
+pub record EndStops (text : List ℕ) (entries : ℕ) (stop : Stop) : Type 0 where
+  pub stops : WhereEndStops text entries stop
+  pub none : text ≢ end_text entries

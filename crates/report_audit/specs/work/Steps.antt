@@ -1,0 +1,102 @@
+-- The steps of an audit.
+use Rattle.std.specs.Prelude.{◌≡◌, ◌≢◌, ℕ, ◌+◌, ◌<◌, ◌≤◌, ◌^◌, true, List, [], ◌∷◌, ◌++◌, length, Option, None, Some, option_map}
+use Rattle.batch_snapshot.specs.Batch.{Batch}
+use Rattle.block_audit.specs.declared.refusal.BlockRefusal.{BlockRefusal}
+use Rattle.block_audit.specs.declared.refusal.BlockRefusal.TheVariants as refusal
+use Rattle.dispatch_engine.specs.Run.{journal_of, IsRoundRun}
+use Rattle.dispatch_report.specs.Round.{round_text}
+use Rattle.entry_lines.specs.Next.{IsNextLine}
+use Rattle.entry_lines.specs.declared.next.NextLine.{NextLine}
+use Rattle.entry_lines.specs.declared.next.NextLine.TheVariants.{Entry as EntryOf}
+use Rattle.lane_progress.specs.Stand.{HaveCome, AreDone, stand_at}
+use Rattle.lane_progress.specs.declared.stand.LaneStand.{LaneStand}
+use Rattle.report_lines.specs.Cut.{is_one_line}
+use Rattle.request_book.specs.Book.{BookView, IsBook}
+use Rattle.request_book.specs.declared.journal.Entry.{Entry}
+use Rattle.request_book.specs.declared.journal.Journal.{Journal}
+use Rattle.rider_limits.specs.declared.settings.Settings.{Settings}
+use Rattle.road_network.specs.Roads.{Roads}
+use Rattle.script_rows.specs.Round.{IsRound, NumberedLanes}
+use Rattle.report_audit.specs.Fault.{HasLine, IsCut, IsOutOfForm, IsWrongLine, IsWrongBatch}
+use Rattle.report_audit.specs.Place.{Place, BeginsRound, AreAtEnd, with_entry, position_behind, state_behind}
+use Rattle.report_audit.specs.Types.{AreTold}
+use Rattle.report_audit.specs.declared.stop.LineFault.{LineFault}
+use Rattle.report_audit.specs.declared.stop.LineFault.TheVariants as wrong
+use Rattle.report_audit.specs.declared.stop.Stop.{Stop}
+use Rattle.report_audit.specs.declared.stop.Stop.TheVariants.{OutOfMemory, Line, Block}
+use Rattle.report_audit.specs.work.Rest.{IsRestOfRound, IsRestOfRounds, entries_text}
+
+-- the line is wrong in this way
+abbrev pub IsWrong : Settings → Roads → Place → List ℕ → LineFault → Type 0
+IsWrong settings roads place text wrong.Cut = IsCut place text
+IsWrong settings roads place text wrong.Form = IsOutOfForm place text
+IsWrong settings roads place text wrong.Entry = IsWrongLine settings roads place text
+
+-- why an audit stops at a place before this text
+abbrev pub StopsAt : Settings → Roads → Place → List ℕ → Stop → Type 0
+StopsAt settings roads place text OutOfMemory = Unit {0}
+StopsAt settings roads place text (Line left fault) = (left ≡ length text) × IsWrong settings roads place text fault
+StopsAt settings roads place text (Block left refused) = (left ≡ length text) × IsWrongBatch refused settings roads place text × (refused ≢ refusal.OutOfMemory)
+
+-- no line stands first, or one that is nothing between blocks
+abbrev pub HasNoNext : List ℕ → Stop → Type 0
+HasNoNext text (Line left wrong.Cut) = (left ≡ length text) × (is_one_line text ≡ true)
+HasNoNext text (Line left wrong.Form) = (left ≡ length text) × ((l after : List ℕ) × HasLine text l after × ((x : NextLine) → IsNextLine x l → ⊥))
+HasNoNext text _ = ⊥
+
+-- the book is that of these roads and settings
+pub record IsBookOf (settings : Settings) (roads : Roads) (b : BookView) : Type 0 where
+  pub nodes : b.nodes ≡ roads.nodes
+  pub wait : b.wait ≡ settings.wait
+  pub kept : IsBook b
+  pub low : b.first < 2 ^ 64
+
+-- lane 0 waits for the close of the batch that is sealed, and no other lane waits for one
+pub record Waits (lanes : List LaneStand) (sealed : Option Batch) : Type 0 where
+  pub first : (stand_at lanes 0).pending ≡ option_map (λ b. b.number) sealed
+  pub others : (lane : ℕ) → lane ≢ 0 → (stand_at lanes lane).pending ≡ None
+
+-- what an audit keeps within a round
+pub record IsWithin (settings : Settings) (roads : Roads) (round : NumberedLanes) (b : BookView) (lanes : List LaneStand) (open_batch : Option Batch) : Type 0 where
+  pub book : IsBookOf settings roads b
+  pub round_kept : IsRound round
+  pub begins : BeginsRound settings roads round (journal_of b)
+  pub sixteen : length lanes ≡ 16
+  pub come : HaveCome round lanes b.entries
+  pub waits : Waits lanes b.state.sealed
+  pub is_open : open_batch ≡ b.state.sealed
+
+-- entries were read: the text begins with theirs, and where it goes on with the rest of a run, so does what follows them
+pub record HasRead (settings : Settings) (roads : Roads) (round : NumberedLanes) (old new : Journal) (text rest : List ℕ) : Type 0 where
+  pub read : List Entry
+  pub first : new.first ≡ old.first
+  pub base : new.base ≡ old.base
+  pub entries : new.entries ≡ old.entries ++ read
+  pub printed : text ≡ entries_text (position_behind old) read ++ rest
+  pub only : (later : List NumberedLanes) → IsRestOfRound settings roads round later old text → IsRestOfRound settings roads round later new rest
+
+-- an entry was read, the text is shorter, and what an audit keeps within a round holds behind it
+pub record EntryRead (settings : Settings) (roads : Roads) (round : NumberedLanes) (old new : BookView) (lanes : List LaneStand) (open_batch : Option Batch) (text rest : List ℕ) : Type 0 where
+  pub within : IsWithin settings roads round new lanes open_batch
+  pub has_read : HasRead settings roads round (journal_of old) (journal_of new) text rest
+  pub shorter : length rest < length text
+
+-- the text begins with the line of an entry of this lane
+pub record IsEntryOf (lane : ℕ) (text line after : List ℕ) : Type 0 where
+  pub has : HasLine text line after
+  pub form : IsNextLine (EntryOf lane) line
+  pub low : lane < 16
+
+-- an audit stops within a round, and no run goes on with the text
+pub record StopsWithin (settings : Settings) (roads : Roads) (round : NumberedLanes) (j : Journal) (text : List ℕ) (stop : Stop) : Type 0 where
+  pub stops : StopsAt settings roads (Place.within round j) text stop
+  pub none : stop ≢ OutOfMemory → (later : List NumberedLanes) → IsRestOfRound settings roads round later j text → ⊥
+
+-- an audit stops behind some entries
+pub record StopsBehind (settings : Settings) (roads : Roads) (round : NumberedLanes) (start : Journal) (text : List ℕ) (stop : Stop) : Type 0 where
+  pub here : Journal
+  pub rest : List ℕ
+  pub has_read : HasRead settings roads round start here text rest
+  pub begins : BeginsRound settings roads round here
+  pub going : AreAtEnd round here → ⊥
+  pub stops : StopsWithin settings roads round here rest stop

@@ -1,0 +1,139 @@
+//! Commands of a script, copied and answered.
+ghost use Rattle.std.specs.Prelude.{◌≡◌, ◌≢◌, ◌↔◌, IfOk, IsTrue, MatchOption};
+ghost use Rattle.dispatch_engine.specs.Lane.{last_sealed};
+ghost use Rattle.dispatch_report.specs.Entry.{entry_line};
+ghost use Rattle.request_book.specs.Book.{IsApplied, next_position};
+ghost use Rattle.request_book.specs.declared.reply.Reply.{Reply as OneReply};
+ghost use Rattle.report_audit.specs.work.Commands.{IsNoClose, IsOfVehicle, sealed_next};
+
+use crate::line::is_entry_line;
+use batch_snapshot::Snapshot;
+use pool_base::OutOfMemory;
+use request_book::{Book, Command, Entry, Reply};
+use std::alloc::Global;
+
+/// The same command again, without memory.
+pub(crate) fn copied(command: &Command) -> Command
+    requires { IsNoClose command.now }
+    ensures { result ≡ command.now }
+{
+    match command {
+        Command::Submit {
+            rider,
+            origin,
+            destination,
+            time,
+            party,
+        } => Command::Submit {
+            rider: *rider,
+            origin: *origin,
+            destination: *destination,
+            time: *time,
+            party: *party,
+        },
+        Command::Cancel { rider } => Command::Cancel { rider: *rider },
+        Command::Seal { now } => Command::Seal { now: *now },
+        _ => copied_of_vehicle(command),
+    }
+}
+
+/// The same command of a vehicle again.
+fn copied_of_vehicle(command: &Command) -> Command
+    requires { IsOfVehicle command.now }
+    ensures { result ≡ command.now }
+{
+    match command {
+        Command::Report {
+            vehicle,
+            node,
+            time,
+        } => Command::Report {
+            vehicle: *vehicle,
+            node: *node,
+            time: *time,
+        },
+        Command::Pickup {
+            vehicle,
+            rider,
+            time,
+        } => Command::Pickup {
+            vehicle: *vehicle,
+            rider: *rider,
+            time: *time,
+        },
+        Command::Dropoff {
+            vehicle,
+            rider,
+            time,
+        } => Command::Dropoff {
+            vehicle: *vehicle,
+            rider: *rider,
+            time: *time,
+        },
+        _ => unreachable!(),
+    }
+}
+
+/// The batch that the command would put up.
+pub(crate) fn sealed_by_command(
+    book: &Book,
+    command: &Command,
+) -> Result<Option<Snapshot>, OutOfMemory>
+    ensures { IfOk result (λ batch. batch ≡ sealed_next book.entry.now.wait book.entry.now.state command.entry.now) }
+{
+    match command {
+        Command::Seal { now } => book.would_seal(*now),
+        _ => Ok(None),
+    }
+}
+
+/// Puts up the batch of a command, if it has one.
+pub(crate) fn put_up(sealed: &mut Option<Snapshot>, next: Option<Snapshot>)
+    ensures { sealed.new ≡ last_sealed sealed.old next }
+{
+    if next.is_some() {
+        *sealed = next;
+    }
+}
+
+/// Answers a command, and says the reply where the line is that of the entry which this makes.
+pub(crate) fn answered(
+    alloc: Global,
+    book: &mut Book,
+    lane: u8,
+    command: &Command,
+    line: &[u8],
+) -> Result<Option<Reply>, OutOfMemory>
+    requires { IsNoClose command.now }
+    ensures { IfOk result (λ told. (reply : OneReply) × IsApplied book.old lane command.entry.now reply book.new
+        × MatchOption told (line.entry.now ≢ entry_line (next_position book.old.first book.old.entries) (record { lane = lane; command = command.entry.now; reply = reply }))
+        (λ r. (r ≡ reply) × (line.entry.now ≡ entry_line (next_position book.old.first book.old.entries) (record { lane = lane; command = command.entry.now; reply = reply })))) }
+{
+    let position = book.next_position();
+    let reply = book.apply(lane, copied(command))?;
+    if is_answer_line(alloc, line, position, lane, command, &reply)? {
+        Ok(Some(reply))
+    } else {
+        Ok(None)
+    }
+}
+
+/// Whether the line is that of this command and reply.
+fn is_answer_line(
+    alloc: Global,
+    line: &[u8],
+    position: u64,
+    lane: u8,
+    command: &Command,
+    reply: &Reply,
+) -> Result<bool, OutOfMemory>
+    requires { IsNoClose command.now }
+    ensures { IfOk result (λ yes. IsTrue yes ↔ (line.now ≡ entry_line position (record { lane = lane; command = command.now; reply = reply.now }))) }
+{
+    let entry = Entry {
+        lane,
+        command: copied(command),
+        reply: *reply,
+    };
+    is_entry_line(alloc, line, position, &entry)
+}

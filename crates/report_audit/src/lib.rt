@@ -1,0 +1,22 @@
+//! An audit of a printed report: whether it is the report of a run of a script, whoever printed it.
+//!
+//! The lines are judged from the first on, against a book of the script's own. A yes says that the text is the report of a
+//! legal run, of which every batch was closed with a good outcome; a no says where the text stops being the beginning of
+//! one, and why. Nothing is searched for.
+#![tactic(auto)]
+
+mod close;
+mod command;
+mod end;
+mod entry;
+mod fault;
+mod line;
+mod numbers;
+mod report;
+mod round;
+mod rounds;
+mod setup;
+mod stop;
+
+pub use fault::{AuditFault, Audited};
+pub use report::audit;
