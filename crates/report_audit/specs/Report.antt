@@ -1,0 +1,12 @@
+use Rattle.std.specs.Prelude.{◌≡◌, ℕ, List}
+use Rattle.batch_snapshot.specs.declared.vehicle.Vehicle.{Vehicle}
+use Rattle.road_network.specs.Roads.{Roads}
+use Rattle.script_rows.specs.Round.{NumberedLanes}
+use Rattle.report_audit.specs.declared.audited.Audited.{Audited}
+
+-- stub
+pub record IsAudited (roads : Roads) (vehicles : List Vehicle) (rounds : List NumberedLanes) (workers : ℕ) (text : List ℕ) (audited : Audited) : Type 0 where
+  pub entries : audited.entries ≡ workers
+
+abbrev pub IsReportOfRun : Roads → List Vehicle → List NumberedLanes → ℕ → List ℕ → Type 0
+IsReportOfRun roads vehicles rounds workers text = (audited : Audited) × IsAudited roads vehicles rounds workers text audited
