@@ -14,8 +14,6 @@ mod reading;
 mod run;
 mod setup;
 mod status;
-#[cfg(test)]
-mod tests;
 mod text;
 mod writing;
 

@@ -1,9 +1,9 @@
 ghost use Rattle.std.specs.Prelude.{None};
 
-use crate::{RunStatus, fault_text, ridepool};
 use pool_base::Which;
 use pool_io::{Failed, MemorySink, MemorySource};
 use rider_notices::{Notice, Notifier};
+use ridepool::{RunStatus, fault_text, ridepool};
 use std::alloc::{AllocError, Global};
 use std::cell::Cell;
 use std::rc::Rc;
@@ -40,18 +40,20 @@ const DRIVE: &str = "drive network=n fleet=f script=s";
 
 const CANCEL: &[u8] = b"round,lane,command,a,b,c,d\n0,0,submit,1,2,4,0\n0,3,cancel,1,,,\n";
 
+const AUDIT: &str = "audit network=n fleet=f script=s report=r";
+
 const LOAD: &str = "load side=2 vehicles=1 riders=1 rounds=1";
 
-// Which calls fail in a run, by number: of the three sources, of the sink, and of the second of three notifiers.
+// Which calls fail in a run, by number: of the four sources, of the sink, and of the second of three notifiers.
 #[derive(Clone, Copy)]
 struct Failing {
-    reads: [Option<u64>; 3],
+    reads: [Option<u64>; 4],
     write: Option<u64>,
     notice: Option<u64>,
 }
 
 const NOTHING: Failing = Failing {
-    reads: [None; 3],
+    reads: [None; 4],
     write: None,
     notice: None,
 };
@@ -99,23 +101,27 @@ struct Fakes {
     network: MemorySource,
     fleet: MemorySource,
     script: MemorySource,
+    report: MemorySource,
     out: MemorySink,
 }
 
 fn fakes_of(
     alloc: Global,
     script: &[u8],
+    report: &[u8],
     pieces: usize,
     failing: Failing,
 ) -> Result<Fakes, AllocError> {
     let network = source(alloc, NETWORK, pieces, failing.reads[0])?;
     let fleet = source(alloc, FLEET, pieces, failing.reads[1])?;
     let script = source(alloc, script, pieces, failing.reads[2])?;
+    let report = source(alloc, report, pieces, failing.reads[3])?;
     let out = MemorySink::new(alloc, pieces.max(1), planned(alloc, failing.write)?);
     Ok(Fakes {
         network,
         fleet,
         script,
+        report,
         out,
     })
 }
@@ -145,12 +151,24 @@ fn ran(
     pieces: usize,
     failing: Failing,
 ) -> Result<Left, AllocError> {
+    ran_with(rt, alloc, text, script, b"", pieces, failing)
+}
+
+fn ran_with(
+    rt: &(impl Threads + Wait + Sync),
+    alloc: Global,
+    text: &str,
+    script: &[u8],
+    report: &[u8],
+    pieces: usize,
+    failing: Failing,
+) -> Result<Left, AllocError> {
     let told = Rc::new(alloc, Cell::new(0))?;
     let mut notifiers: Vec<Box<dyn Notifier>> = Vec::new(alloc);
     for fail in [None, failing.notice, None] {
         notifiers.push(boxed(alloc, &told, fail)?)?;
     }
-    let mut fakes = fakes_of(alloc, script, pieces, failing)?;
+    let mut fakes = fakes_of(alloc, script, report, pieces, failing)?;
     let status = status_of(rt, alloc, text, &mut fakes, &mut notifiers)?;
     Ok(Left {
         shown: line_before(alloc, &status, fakes.out.written())?,
@@ -174,6 +192,7 @@ fn status_of(
         &mut fakes.network,
         &mut fakes.fleet,
         &mut fakes.script,
+        &mut fakes.report,
         &mut fakes.out,
         notifiers,
         &FreeGate,
@@ -244,7 +263,7 @@ fn the_smallest_workload_is_summed_up_and_touches_no_source(rt: HostRuntime) -> 
     let summary =
         b"|load seed=1 side=2 vehicles=1 riders=1 rounds=1\nbatch 1 served 1 out 0 rows 2 trips 1 cost 74 bound 74\ndone 3\n";
     let failing = Failing {
-        reads: [Some(0); 3],
+        reads: [Some(0); 4],
         ..NOTHING
     };
     for pieces in [1, 7, 100_000] {
@@ -282,15 +301,15 @@ fn failing_at(place: Place, call: u64) -> Failing {
     let call = Some(call);
     match place {
         Place::Network => Failing {
-            reads: [call, None, None],
+            reads: [call, None, None, None],
             ..NOTHING
         },
         Place::Fleet => Failing {
-            reads: [None, call, None],
+            reads: [None, call, None, None],
             ..NOTHING
         },
         Place::Script => Failing {
-            reads: [None, None, call],
+            reads: [None, None, call, None],
             ..NOTHING
         },
         Place::Sink => Failing {
@@ -399,5 +418,36 @@ fn answers_with_memory(rt: HostRuntime) -> Result<(), Fail> {
         line.as_slice(),
         b"fleet: longer than 67108864 bytes".as_slice()
     );
+    Ok(())
+}
+
+// A report with its tree asked for, as an audit wants it.
+fn with_trees(alloc: Global, report: &[u8]) -> Result<Vec<u8>, AllocError> {
+    let mut text = Vec::new(alloc);
+    for byte in report {
+        let is_asked = *byte == b'0' && text.as_slice().ends_with(b" proof=");
+        text.push(if is_asked { b'1' } else { *byte })?;
+    }
+    Ok(text)
+}
+
+#[test]
+fn a_report_is_confirmed_or_refused_in_pieces_of_any_size(rt: HostRuntime) -> Result<(), Fail> {
+    let report = with_trees(rt.alloc(), REPORT)?;
+    for pieces in [1, 7, 100_000] {
+        let left = ran_with(&rt, rt.alloc(), AUDIT, SUBMITS, &report, pieces, NOTHING)?;
+        assert_eq!(rt; left.shown.as_slice(), b"|audit ok entries 4 batches 0\n".as_slice());
+        assert!(rt; left.told == 0 && left.notifiers == 3);
+        let left = ran_with(&rt, rt.alloc(), AUDIT, SUBMITS, REPORT, pieces, NOTHING)?;
+        assert!(rt; is_untouched(&left, b"report: wrong head at line 2|"));
+    }
+    let failing = Failing {
+        reads: [None, None, None, Some(0)],
+        ..NOTHING
+    };
+    let left = ran_with(&rt, rt.alloc(), AUDIT, SUBMITS, &report, 7, failing)?;
+    assert!(rt; is_untouched(&left, b"report: read failed|"));
+    let left = ran_with(&rt, rt.alloc(), RUN, SUBMITS, &report, 7, failing)?;
+    assert!(rt; left.shown.as_slice().ends_with(b"\ndone 4\n"));
     Ok(())
 }
