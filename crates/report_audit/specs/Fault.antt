@@ -6,7 +6,7 @@ use Rattle.report_audit.specs.declared.fault.AuditFault.{AuditFault}
 use Rattle.report_audit.specs.declared.fault.AuditFault.TheVariants.{Cut, Form, Head, Entry, Batch, OutOfMemory}
 
 -- stub
-abbrev pub Fails : Roads → List Vehicle → List NumberedLanes → ℕ → List ℕ → AuditFault → Type 0
-Fails roads vehicles rounds workers text OutOfMemory = Unit {0}
-Fails roads vehicles rounds workers text (Cut n) = workers ≡ n
-Fails roads vehicles rounds workers text _ = ⊥
+abbrev pub HasFault : Roads → List Vehicle → List NumberedLanes → ℕ → List ℕ → AuditFault → Type 0
+HasFault roads vehicles rounds workers text OutOfMemory = Unit {0}
+HasFault roads vehicles rounds workers text (Cut n) = workers ≡ n
+HasFault roads vehicles rounds workers text _ = ⊥

@@ -1,11 +1,10 @@
 ghost use Rattle.std.specs.Prelude.{◌≡◌, ◌≢◌, ◌≤◌, All, IfOk, IfErr};
-ghost use Rattle.report_audit.specs.Fault.{Fails};
+ghost use Rattle.report_audit.specs.Fault.{HasFault};
 ghost use Rattle.report_audit.specs.Report.{IsAudited, IsReportOfRun};
 ghost use Rattle.report_audit.specs.declared.fault.AuditFault.TheVariants.{OutOfMemory as NoMemory};
 ghost use Rattle.request_book.specs.Consistent.{IsNode};
 
-use crate::audited::Audited;
-use crate::fault::AuditFault;
+use crate::fault::{AuditFault, Audited};
 use batch_snapshot::Fleet;
 use road_network::Network;
 use script_rows::Script;
@@ -24,12 +23,12 @@ pub fn audit<G: Gate>(
     workers: u8,
     _gate: &G,
 ) -> Result<Audited, AuditFault>
-    requires named { All (λ v. IsNode network.now.nodes v.node) fleet }
-    requires least { 1 ≤ workers }
-    requires most { workers ≤ 64 }
-    ensures ok { IfOk result (IsAudited network.now fleet script.now workers report.now) }
-    ensures none { IfErr result (λ f. f ≢ NoMemory → IsReportOfRun network.now fleet script.now workers report.now → ⊥) }
-    ensures fault { IfErr result (Fails network.now fleet script.now workers report.now) }
+    requires nodes { All (λ v. IsNode network.now.nodes v.node) fleet }
+    requires some { 1 ≤ workers }
+    requires few { workers ≤ 64 }
+    ensures accepted { IfOk result (IsAudited network.now fleet script.now workers report.now) }
+    ensures refused { IfErr result (λ f. f ≢ NoMemory → IsReportOfRun network.now fleet script.now workers report.now → ⊥) }
+    ensures fault { IfErr result (HasFault network.now fleet script.now workers report.now) }
 {
     Err(AuditFault::OutOfMemory)
 }

@@ -8,3 +8,9 @@ pub enum AuditFault {
     Batch { line: u64, point: u8 },
     OutOfMemory,
 }
+/// How large a report is.
+#[derive(Clone, Copy, Debug, PartialEq, Eq)]
+pub struct Audited {
+    pub entries: u64,
+    pub batches: u64,
+}

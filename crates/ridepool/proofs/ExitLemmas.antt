@@ -10,7 +10,7 @@ use Rattle.rider_limits.specs.declared.settings.Settings.{Settings}
 use Rattle.rider_limits.specs.declared.word_fault.WordFault.{WordFault}
 use Rattle.ridepool.specs.Explained.{AreGood, AreForAudit, AreForSources, AreAccepted, Explains, IsNoDay, IsLimited, HasReport, BeginsYes, HidesNoMemory, Answers}
 use Rattle.ridepool.specs.Inputs.{Inputs, IsWithin, AreUntouched, AreInputs, AreReadFrom, CameTo, IsDayFor, IsStop, Reads, ReadsReport, ReadsSources}
-use Rattle.report_audit.specs.declared.audited.Audited.{Audited}
+use Rattle.report_audit.specs.declared.fault.Audited.{Audited}
 use Rattle.ridepool.specs.Audit.{yes_text, IsRunReport, IsNoReport}
 use Rattle.ridepool.specs.Reading.{network_in, IsFleetIn, script_in}
 use Rattle.ridepool.specs.Report.{Begins, IsWhole}

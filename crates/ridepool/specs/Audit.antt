@@ -3,8 +3,8 @@ use Rattle.std.specs.Prelude.{ℕ, List, [], ◌∷◌, ◌++◌, codes}
 use Rattle.dispatch_report.specs.Lines.{lines_text}
 use Rattle.dispatch_report.specs.Words.{numbered}
 use Rattle.report_audit.specs.Report.{IsReportOfRun, IsAudited}
-use Rattle.report_audit.specs.Fault.{Fails}
-use Rattle.report_audit.specs.declared.audited.Audited.{Audited}
+use Rattle.report_audit.specs.Fault.{HasFault}
+use Rattle.report_audit.specs.declared.fault.Audited.{Audited}
 use Rattle.report_audit.specs.declared.fault.AuditFault.{AuditFault}
 use Rattle.ridepool.specs.Inputs.{Inputs}
 
@@ -19,4 +19,4 @@ IsRunReport i bytes audited = IsAudited i.roads i.vehicles i.rounds i.settings.w
 -- the bytes fail in this way, and are the report of no run of the script
 abbrev pub IsNoReport : Inputs → List ℕ → AuditFault → Type 0
 IsNoReport i bytes fault =
-    Fails i.roads i.vehicles i.rounds i.settings.workers bytes fault × (IsReportOfRun i.roads i.vehicles i.rounds i.settings.workers bytes → ⊥)
+    HasFault i.roads i.vehicles i.rounds i.settings.workers bytes fault × (IsReportOfRun i.roads i.vehicles i.rounds i.settings.workers bytes → ⊥)

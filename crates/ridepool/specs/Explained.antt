@@ -16,7 +16,7 @@ use Rattle.road_network.specs.declared.fault.NetworkFault.TheVariants as network
 use Rattle.report_audit.specs.Report.{IsReportOfRun}
 use Rattle.report_audit.specs.declared.fault.AuditFault.{AuditFault}
 use Rattle.report_audit.specs.declared.fault.AuditFault.TheVariants as audit
-use Rattle.report_audit.specs.declared.audited.Audited.{Audited}
+use Rattle.report_audit.specs.declared.fault.Audited.{Audited}
 use Rattle.request_book.specs.Book.{opening}
 use Rattle.route_drive.specs.Day.{day_fault}
 use Rattle.route_drive.specs.Driven.{IsTooLateDay}

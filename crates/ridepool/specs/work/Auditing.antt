@@ -3,7 +3,7 @@ use Rattle.std.specs.Prelude.{◌≡◌, ◌≢◌, ℕ, List, Option, Result, M
 use Rattle.std.specs.Io.KnownBytes.{Appends}
 use Rattle.dispatch_report.specs.Written.{Change}
 use Rattle.pool_base.specs.declared.which.Which.TheVariants as file
-use Rattle.report_audit.specs.declared.audited.Audited.{Audited}
+use Rattle.report_audit.specs.declared.fault.Audited.{Audited}
 use Rattle.report_audit.specs.declared.fault.AuditFault.{AuditFault}
 use Rattle.report_audit.specs.declared.fault.AuditFault.TheVariants as audit
 use Rattle.ridepool.specs.Audit.{yes_text, IsRunReport, IsNoReport}
