@@ -4,6 +4,7 @@ use Rattle.dispatch_report.specs.Words.{numbered}
 use Rattle.fleet_state.specs.declared.fault.FleetFault.{FleetFault}
 use Rattle.fleet_state.specs.declared.fault.FleetFault.TheVariants as fleet
 use Rattle.pool_base.specs.Which.{file_name}
+use Rattle.pool_base.specs.declared.which.Which.{Which}
 use Rattle.pool_io.specs.declared.input.Input.{Input}
 use Rattle.pool_io.specs.declared.input.Input.TheVariants.{Rows, Own}
 use Rattle.pool_io.specs.declared.records.RowFault.{RowFault}
@@ -25,6 +26,14 @@ use Rattle.ridepool.specs.declared.status.RunStatus.TheVariants.{Done, Words, Ne
 -- a number that isn't one, by its row and its column
 unfoldable pub at_place : ℕ → ℕ → List ℕ
 at_place row column = numbered (codes "bad number at row ") row ++ numbered (codes " column ") column
+
+-- more bytes than may be
+unfoldable pub longer_than : ℕ → List ℕ
+longer_than most = numbered (codes "longer than ") most ++ codes " bytes"
+
+-- an input is too long
+abbrev pub too_long_text : Which → List ℕ
+too_long_text w = file_name w ++ codes ": " ++ longer_than (most_bytes w)
 
 -- why words are refused
 abbrev pub word_text : WordFault → List ℕ
@@ -96,7 +105,7 @@ status_text (Words fault) = codes "words: " ++ word_text fault
 status_text (Network fault) = codes "network: " ++ input_text network_text fault
 status_text (Fleet fault) = codes "fleet: " ++ input_text fleet_text fault
 status_text (Script fault) = codes "script: " ++ input_text script_text fault
-status_text (TooLong w) = file_name w ++ numbered (codes ": longer than ") (most_bytes w) ++ codes " bytes"
+status_text (TooLong w) = too_long_text w
 status_text (ReadFault w) = file_name w ++ codes ": read failed"
 status_text WriteFault = codes "report: write failed"
 status_text OutOfMemory = codes "out of memory"

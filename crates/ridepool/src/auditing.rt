@@ -95,7 +95,7 @@ fn write_yes<K: Sink>(alloc: Global, out: &mut K, audited: &Audited) -> Result<(
     }
 }
 
-#[tactic(auto, unfolding(crate::specs::Audit::yes_text))]
+#[tactic(auto, unfolding(crate::specs::Audit::yes_text, dispatch_report::specs::Lines::lines_text))]
 fn yes_line(alloc: Global, audited: &Audited) -> Result<Vec<u8>, OutOfMemory>
     ensures { IfOk result (λ line. line.items ≡ yes_text audited.now) }
 {
