@@ -361,6 +361,13 @@ module _ (seen : Seen) (settings : Settings) (got : ReadInputs) (good : AreGood 
   no_answer _ (IsAuditFault.refused e bytes read why same) = refused_answer e bytes read why (silent same)
   no_answer _ (IsAuditFault.unwritten e audited read why) = unwritten_answer e audited read why
 
+-- every mode but that of an audit prints
+pub prints : (m : Mode) → (m ≡ Audit → ⊥) → ReadsReport m → ⊥
+prints Audit other reads = other refl
+prints Run other reads = reads
+prints Drive other reads = reads
+prints (Load shape) other reads = reads
+
 -- accepted inputs are a day where vehicles are driven
 day_of_inputs : (m : Mode) (s : Sources) (i : Inputs) → AreInputs m s i → IsDayFor m i.rounds
 day_of_inputs Run s i inputs = tt

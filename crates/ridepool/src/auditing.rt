@@ -14,7 +14,7 @@ use crate::status::RunStatus;
 use crate::text::put_at;
 use crate::writing::flush;
 use pool_base::{OutOfMemory, Which, put_bytes};
-use pool_io::{Sink, Source, write_all};
+use pool_io::{Sink, Source, WriteAll, write_all};
 use report_audit::{AuditFault, Audited, audit};
 use rider_limits::Settings;
 use std::alloc::Global;
@@ -39,9 +39,14 @@ pub(crate) fn write_audit<A: Source, K: Sink, G: Gate>(
         (IsAuditFault i seen (K.written out.old) (K.written out.new) (K.faults out.old) (K.faults out.new)) }
     ensures never_falls { K.faults out.old ≤ K.faults out.new }
 {
-    let bytes = read_input(alloc, report, Which::Report)?;
-    let audited = judge_report(rt, alloc, settings, inputs, &bytes, gate)?;
-    write_yes(alloc, out, &audited)
+    let bytes = match read_input(alloc, report, Which::Report) {
+        Ok(bytes) => bytes,
+        Err(status) => return Err(status),
+    };
+    match judge_report(rt, alloc, settings, inputs, &bytes, gate) {
+        Ok(audited) => write_yes(alloc, out, &audited),
+        Err(status) => Err(status),
+    }
 }
 
 /// The counts of a report of a run.
@@ -91,7 +96,8 @@ fn write_yes<K: Sink>(alloc: Global, out: &mut K, audited: &Audited) -> Result<(
     };
     match write_all(out, &line) {
         Ok(()) => flush(out),
-        Err(_) => Err(RunStatus::WriteFault),
+        Err(WriteAll::WriteFault) => Err(RunStatus::WriteFault),
+        Err(WriteAll::OutOfMemory) => Err(RunStatus::OutOfMemory),
     }
 }
 

@@ -45,7 +45,8 @@ pub(crate) fn inputs_from<N: Source, F: Source, S: Source>(
 {
     match &settings.mode {
         Mode::Load(shape) => made_inputs(alloc, shape),
-        Mode::Run | Mode::Audit => read_inputs(alloc, network, fleet, script),
+        Mode::Run => read_inputs(alloc, network, fleet, script),
+        Mode::Audit => read_inputs(alloc, network, fleet, script),
         Mode::Drive => match read_inputs(alloc, network, fleet, script) {
             Ok(inputs) => match is_day(&inputs.script) {
                 Ok(()) => Ok(inputs),
