@@ -103,16 +103,16 @@ accepted_limited seen i e accepted report = λ w. with_report seen.sources e rep
 
 limited : (seen : Seen) (e : RunStatus) → Explains seen e → IsReportLimited seen.sources e → IsLimited seen.sources e
 limited seen Done (inl all) report = accepted_limited seen all.0 _ all.1 report
-limited seen Done (inr yes) report = accepted_limited seen yes.read.inputs _ yes.read.accepted report
+limited seen Done (inr line) report = accepted_limited seen line.read.inputs _ line.read.accepted report
 limited seen (Words fault) why report = untouched_limited seen.sources _ why.1
 limited seen WriteFault (inl part, rose) report = accepted_limited seen part.0 _ part.1 report
 limited seen WriteFault (inr (inl all), rose) report = accepted_limited seen all.0 _ all.1 report
-limited seen WriteFault (inr (inr yes), rose) report = accepted_limited seen yes.read.inputs _ yes.read.accepted report
+limited seen WriteFault (inr (inr line), rose) report = accepted_limited seen line.read.inputs _ line.read.accepted report
 limited seen OutOfMemory (inl stop) report = stop_limited seen.sources _ stop.1
 limited seen OutOfMemory (inr (inl load)) report = untouched_limited seen.sources _ load.1
 limited seen OutOfMemory (inr (inr (inl part))) report = accepted_limited seen part.0 _ part.1 report
 limited seen OutOfMemory (inr (inr (inr (inl stop)))) report = accepted_limited seen stop.0 _ stop.1 report
-limited seen OutOfMemory (inr (inr (inr (inr yes)))) report = accepted_limited seen yes.read.inputs _ yes.read.accepted report
+limited seen OutOfMemory (inr (inr (inr (inr line)))) report = accepted_limited seen line.read.inputs _ line.read.accepted report
 limited seen (Network fault) why report = stop_limited seen.sources _ why.1
 limited seen (Fleet fault) why report = stop_limited seen.sources _ why.1
 limited seen (Script fault) why report = stop_limited seen.sources _ why.1
@@ -136,16 +136,16 @@ touches seen i accepted = accepted_touches seen i i.settings.mode refl accepted.
 
 untouched : (seen : Seen) (e : RunStatus) → Explains seen e → AreForSources seen.words ⊎ AreUntouched seen.sources
 untouched seen Done (inl all) = touches seen all.0 all.1
-untouched seen Done (inr yes) = touches seen yes.read.inputs yes.read.accepted
+untouched seen Done (inr line) = touches seen line.read.inputs line.read.accepted
 untouched seen (Words fault) why = inr why.1
 untouched seen WriteFault (inl part, rose) = touches seen part.0 part.1
 untouched seen WriteFault (inr (inl all), rose) = touches seen all.0 all.1
-untouched seen WriteFault (inr (inr yes), rose) = touches seen yes.read.inputs yes.read.accepted
+untouched seen WriteFault (inr (inr line), rose) = touches seen line.read.inputs line.read.accepted
 untouched seen OutOfMemory (inl stop) = inl stop.0
 untouched seen OutOfMemory (inr (inl load)) = inr load.1
 untouched seen OutOfMemory (inr (inr (inl part))) = touches seen part.0 part.1
 untouched seen OutOfMemory (inr (inr (inr (inl stop)))) = touches seen stop.0 stop.1
-untouched seen OutOfMemory (inr (inr (inr (inr yes)))) = touches seen yes.read.inputs yes.read.accepted
+untouched seen OutOfMemory (inr (inr (inr (inr line)))) = touches seen line.read.inputs line.read.accepted
 untouched seen (Network fault) why = inl why.0
 untouched seen (Fleet fault) why = inl why.0
 untouched seen (Script fault) why = inl why.0
@@ -281,21 +281,22 @@ audited_inputs s t i Audit is network fleet script inputs =
       fleet = subst (λ c. Reads file.Fleet c (λ bytes. IsFleetIn i.roads.nodes bytes i.vehicles)) (sym fleet) inputs.0.fleet;
       script = subst (λ c. Reads file.Script c (λ bytes. script_in bytes ≡ Ok i.rounds)) (sym script) inputs.0.script;
     }, tt)
-audited_inputs s t i Run is network fleet script inputs = absurd cc
-audited_inputs s t i Drive is network fleet script inputs = absurd cc
-audited_inputs s t i (Load shape) is network fleet script inputs = absurd cc
+audited_inputs s t i Run is network fleet script inputs = absurd (subst ReadsReport (sym is) tt)
+audited_inputs s t i Drive is network fleet script inputs = absurd (subst ReadsReport (sym is) tt)
+audited_inputs s t i (Load shape) is network fleet script inputs = absurd (subst ReadsReport (sym is) tt)
 
 -- the sources without that of the report
-without_report : Sources → Sources
+abbrev pub without_report : Sources → Sources
 without_report s = record { network = s.network; fleet = s.fleet; script = s.script; report = record { before = s.report.before; after = s.report.before } }
+
+-- the inputs of a call
+abbrev pub inputs_got : Settings → ReadInputs → Inputs
+inputs_got settings got = record { settings = settings; roads = got.network; vehicles = got.fleet; rounds = got.script }
 
 module _ (seen : Seen) (settings : Settings) (got : ReadInputs) (good : AreGood seen.words settings) (is : settings.mode ≡ Audit)
     (inputs : GotInputs settings (without_report seen.sources) (Ok got)) (told : IsUntouched seen.notifiers) where
-  i : Inputs
-  i = record { settings = settings; roads = got.network; vehicles = got.fleet; rounds = got.script }
-
-  accepted : AreAccepted seen i
-  accepted = record { words = good; inputs = audited_inputs (without_report seen.sources) seen.sources i settings.mode is refl refl refl inputs.inputs }
+  accepted : AreAccepted seen (inputs_got settings got)
+  accepted = record { words = good; inputs = audited_inputs (without_report seen.sources) seen.sources (inputs_got settings got) settings.mode is refl refl refl inputs.inputs }
 
   reads : ReadsReport settings.mode
   reads = subst ReadsReport (sym is) tt
@@ -303,44 +304,44 @@ module _ (seen : Seen) (settings : Settings) (got : ReadInputs) (good : AreGood 
   of_audit : (e : RunStatus) → Explains seen e → HidesNoMemory e → IsReportLimited seen.sources e → Answers seen e
   of_audit e why hides report = answer seen e why hides (inl (settings, good, reads)) report
 
-  has_report : (P : Inputs → List ℕ → Type 0) → Reads file.Report seen.sources.report (P i) → HasReport seen P
-  has_report P read = record { inputs = i; accepted = accepted; mode = reads; report = read }
+  has_report : (P : Inputs → List ℕ → Type 0) → Reads file.Report seen.sources.report (P (inputs_got settings got)) → HasReport seen P
+  has_report P read = record { inputs = (inputs_got settings got); accepted = accepted; mode = reads; report = read }
 
   silent : IsSameSink seen.out.before.written seen.out.after.written seen.out.before.faults seen.out.after.faults → IsSilent seen
   silent same = record { out = same_sink seen.out same.bytes same.faults; notifiers = told }
 
-  pub yes_answer : WritesYes i seen.sources.report seen.out.before.written seen.out.after.written → Answers seen Done
-  yes_answer yes =
-      of_audit Done (inr (record { audited = yes.audited; read = has_report (λ i bytes. IsRunReport i bytes yes.audited) yes.read; line = yes.text; notifiers = told })) tt
-      (inl (reads_within seen.sources.report _ yes.read))
+  pub yes_answer : WritesYes (inputs_got settings got) seen.sources.report seen.out.before.written seen.out.after.written → Answers seen Done
+  yes_answer line =
+      of_audit Done (inr (record { audited = line.audited; read = has_report (λ j bytes. IsRunReport j bytes line.audited) line.read; line = line.text; notifiers = told })) tt
+      (inl (reads_within seen.sources.report _ line.read))
 
   unread_answer : (e : RunStatus) → IsUnread seen.sources.report file.Report e → IsSilent seen → Answers seen e
-  unread_answer _ (IsUnread.long why) silent = of_audit _ (inr (i, accepted, reads, why, silent)) tt (inr refl)
-  unread_answer _ (IsUnread.failed within rose) silent = of_audit _ (inr (i, accepted, reads, (within, rose), silent)) tt (inl within)
-  unread_answer _ (IsUnread.memory within) silent = of_audit _ (inr (inr (inr (inl (i, accepted, reads, within, silent))))) tt (inl within)
+  unread_answer _ (IsUnread.long why) quiet = of_audit _ (inr ((inputs_got settings got), accepted, reads, why, quiet)) tt (inr refl)
+  unread_answer _ (IsUnread.failed within rose) quiet = of_audit _ (inr ((inputs_got settings got), accepted, reads, (within, rose), quiet)) tt (inl within)
+  unread_answer _ (IsUnread.memory within) quiet = of_audit _ (inr (inr (inr (inl ((inputs_got settings got), accepted, reads, within, quiet))))) tt (inl within)
 
-  refused_answer : (e : RunStatus) (bytes : List ℕ) → Reads file.Report seen.sources.report (λ came. came ≡ bytes) → RefusesBytes i bytes e → IsSilent seen → Answers seen e
-  refused_answer (Report fault) bytes read why silent =
-      of_audit (Report fault) (has_report (λ i bytes. IsNoReport i bytes fault) (reads_as seen.sources.report bytes _ read why.1), silent) why.0 (inl (reads_within seen.sources.report _ read))
-  refused_answer OutOfMemory bytes read why silent =
-      (let within = reads_within seen.sources.report _ read in of_audit OutOfMemory (inr (inr (inr (inl (i, accepted, reads, within, silent))))) tt (inl within))
-  refused_answer Done bytes read why silent = absurd why
-  refused_answer (Words fault) bytes read why silent = absurd why
-  refused_answer (Network fault) bytes read why silent = absurd why
-  refused_answer (Fleet fault) bytes read why silent = absurd why
-  refused_answer (Script fault) bytes read why silent = absurd why
-  refused_answer (TooLong w) bytes read why silent = absurd why
-  refused_answer (ReadFault w) bytes read why silent = absurd why
-  refused_answer WriteFault bytes read why silent = absurd why
-  refused_answer (Day fault) bytes read why silent = absurd why
-  refused_answer (TooLate round made) bytes read why silent = absurd why
+  refused_answer : (e : RunStatus) (bytes : List ℕ) → Reads file.Report seen.sources.report (λ came. came ≡ bytes) → RefusesBytes (inputs_got settings got) bytes e → IsSilent seen → Answers seen e
+  refused_answer (Report fault) bytes read why quiet =
+      of_audit (Report fault) (has_report (λ j bytes. IsNoReport j bytes fault) (reads_as seen.sources.report bytes _ read why.1), quiet) why.0 (inl (reads_within seen.sources.report _ read))
+  refused_answer OutOfMemory bytes read why quiet =
+      (let within = reads_within seen.sources.report _ read in of_audit OutOfMemory (inr (inr (inr (inl ((inputs_got settings got), accepted, reads, within, quiet))))) tt (inl within))
+  refused_answer Done bytes read why quiet = absurd why
+  refused_answer (Words fault) bytes read why quiet = absurd why
+  refused_answer (Network fault) bytes read why quiet = absurd why
+  refused_answer (Fleet fault) bytes read why quiet = absurd why
+  refused_answer (Script fault) bytes read why quiet = absurd why
+  refused_answer (TooLong w) bytes read why quiet = absurd why
+  refused_answer (ReadFault w) bytes read why quiet = absurd why
+  refused_answer WriteFault bytes read why quiet = absurd why
+  refused_answer (Day fault) bytes read why quiet = absurd why
+  refused_answer (TooLate round made) bytes read why quiet = absurd why
 
-  unwritten_answer : (e : RunStatus) (audited : Audited) → Reads file.Report seen.sources.report (λ bytes. IsRunReport i bytes audited)
+  unwritten_answer : (e : RunStatus) (audited : Audited) → Reads file.Report seen.sources.report (λ bytes. IsRunReport (inputs_got settings got) bytes audited)
       → IsTextFault (yes_text audited) seen.out.before.written seen.out.after.written seen.out.before.faults seen.out.after.faults e → Answers seen e
   unwritten_answer e audited read why = by e why
     where
       begins : Begins seen.out.before.written seen.out.after.written (yes_text audited) → BeginsYes seen
-      begins part = record { audited = audited; read = has_report (λ i bytes. IsRunReport i bytes audited) read; line = part; notifiers = told }
+      begins part = record { audited = audited; read = has_report (λ j bytes. IsRunReport j bytes audited) read; line = part; notifiers = told }
 
       by : (x : RunStatus) → IsTextFault (yes_text audited) seen.out.before.written seen.out.after.written seen.out.before.faults seen.out.after.faults x → Answers seen x
       by WriteFault why = of_audit WriteFault (inr (inr (begins why.1)), why.0) tt (inl (reads_within seen.sources.report _ read))
@@ -356,17 +357,17 @@ module _ (seen : Seen) (settings : Settings) (got : ReadInputs) (good : AreGood 
       by (TooLate round made) why = absurd why
       by (Report fault) why = absurd why
 
-  pub no_answer : (e : RunStatus) → IsAuditFault i seen.sources.report seen.out.before.written seen.out.after.written seen.out.before.faults seen.out.after.faults e → Answers seen e
+  pub no_answer : (e : RunStatus) → IsAuditFault (inputs_got settings got) seen.sources.report seen.out.before.written seen.out.after.written seen.out.before.faults seen.out.after.faults e → Answers seen e
   no_answer _ (IsAuditFault.unread e why same) = unread_answer e why (silent same)
   no_answer _ (IsAuditFault.refused e bytes read why same) = refused_answer e bytes read why (silent same)
   no_answer _ (IsAuditFault.unwritten e audited read why) = unwritten_answer e audited read why
 
 -- every mode but that of an audit prints
 pub prints : (m : Mode) → (m ≡ Audit → ⊥) → ReadsReport m → ⊥
-prints Audit other reads = other refl
-prints Run other reads = reads
-prints Drive other reads = reads
-prints (Load shape) other reads = reads
+prints Audit other report = other refl
+prints Run other report = report
+prints Drive other report = report
+prints (Load shape) other report = report
 
 -- accepted inputs are a day where vehicles are driven
 day_of_inputs : (m : Mode) (s : Sources) (i : Inputs) → AreInputs m s i → IsDayFor m i.rounds
