@@ -275,12 +275,14 @@ written_answer seen settings got e good inputs prints report why = fault_answer 
 
 -- the inputs of an audit, of which its report is no part
 audited_inputs : (s t : Sources) (i : Inputs) (m : Mode) → m ≡ Audit → t.network ≡ s.network → t.fleet ≡ s.fleet → t.script ≡ s.script → AreInputs m s i → AreInputs m t i
-audited_inputs s t i Audit is network fleet script inputs =
-    (record {
-      network = subst (λ c. Reads file.Network c (λ bytes. network_in bytes ≡ Ok i.roads)) (sym network) inputs.0.network;
-      fleet = subst (λ c. Reads file.Fleet c (λ bytes. IsFleetIn i.roads.nodes bytes i.vehicles)) (sym fleet) inputs.0.fleet;
-      script = subst (λ c. Reads file.Script c (λ bytes. script_in bytes ≡ Ok i.rounds)) (sym script) inputs.0.script;
-    }, tt)
+audited_inputs s t i Audit is network fleet script inputs = (
+  record {
+    network = subst (λ c. Reads file.Network c (λ bytes. network_in bytes ≡ Ok i.roads)) (sym network) inputs.0.network;
+    fleet = subst (λ c. Reads file.Fleet c (λ bytes. IsFleetIn i.roads.nodes bytes i.vehicles)) (sym fleet) inputs.0.fleet;
+    script = subst (λ c. Reads file.Script c (λ bytes. script_in bytes ≡ Ok i.rounds)) (sym script) inputs.0.script;
+  },
+  tt,
+)
 audited_inputs s t i Run is network fleet script inputs = absurd (subst ReadsReport (sym is) tt)
 audited_inputs s t i Drive is network fleet script inputs = absurd (subst ReadsReport (sym is) tt)
 audited_inputs s t i (Load shape) is network fleet script inputs = absurd (subst ReadsReport (sym is) tt)

@@ -32,7 +32,11 @@ pub(crate) fn most_bytes(which: Which) -> u64
 }
 
 /// Reads the source of an input to its end.
-pub(crate) fn read_input<S: Source>(alloc: Global, source: &mut S, which: Which) -> Result<Vec<u8>, RunStatus>
+pub(crate) fn read_input<S: Source>(
+    alloc: Global,
+    source: &mut S,
+    which: Which,
+) -> Result<Vec<u8>, RunStatus>
     ensures { let seen = source_seen S.left S.taken S.faults source.old source.new in
         MatchResult result (λ bytes. Reads which seen (λ came. came ≡ bytes.items)) (IsUnread seen which) }
 {

@@ -12,9 +12,10 @@ returns-in-Ok-write_all-clause-text g c =
     c.flush.ensures
 
 pub returns-in-Err-WriteFault-clause-text : goal.returns-in-Err-WriteFault-clause-text
-returns-in-Err-WriteFault-clause-text g c =
-    (c.in-Err-WriteFault.ensures.fault (ap Err c.in-Err-WriteFault.field-0-is),
-    begins_of_part (yes_text c.args.audited.now) _ (g.K.Sink.written c.args.out.now) (g.K.Sink.written c.write_all.new.sink) (c.deref.ensures.value ∙ c.in-Ok.ensures) c.in-Err-WriteFault.ensures.part)
+returns-in-Err-WriteFault-clause-text g c = (
+  c.in-Err-WriteFault.ensures.fault (ap Err c.in-Err-WriteFault.field-0-is),
+  begins_of_part (yes_text c.args.audited.now) _ (g.K.Sink.written c.args.out.now) (g.K.Sink.written c.write_all.new.sink) (c.deref.ensures.value ∙ c.in-Ok.ensures) c.in-Err-WriteFault.ensures.part,
+)
 
 pub returns-clause-text : goal.returns-clause-text
 returns-clause-text g c =
