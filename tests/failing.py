@@ -2,7 +2,7 @@
 
     failing.py PROGRAM [quick] [PART ..]
 
-Sources are cut after each of their bytes; the program is killed between rounds; output, notices and files are such as
+Sources and audited reports are cut after each of their bytes; the program is killed between rounds; output, notices and files are such as
 can't be written or read. By faults.c, which a C compiler builds, each read, each write and each request for memory is
 refused in turn, one a run; with `quick` of many runs only some. A part that can't be tried here says so. The last line is
 `N passed, M failed`, by runs.
@@ -254,6 +254,58 @@ def failing_notices(part, shim):
 
     calls = calls_of(shim, whole, most)["notices"]
     part.try_all([(f"write {k} of the notices", with_fault(shim, whole, most, "notices", k, goes_on)) for k in range(1, calls + 1)])
+
+
+# Audits
+
+
+class Audit:
+    """An audit of the report of a whole run, which confirms it."""
+
+    def __init__(self, program, inputs):
+        report = Whole(program, inputs, ["proof=1"]).report
+        self.inputs, self.words, self.notices = {**inputs, "report": report}, ["audit", *WORDS[1:], "report=report.csv"], ""
+        entries, batches = re.search(r"^done (\d+)$", report, re.M)[1], len(re.findall(r"^\d.* closed$", report, re.M))
+        self.report = f"audit ok entries {entries} batches {batches}\n"
+
+    def stands(self, left):
+        """Whether what is written is a beginning of the line, or the line where nothing failed."""
+        left.need(self.report.startswith(left.output), "what stands is no beginning of the line")
+        left.need(left.status or left.output == self.report, "the line should be whole")
+
+
+def cut_report(program, audit, length):
+    def run(folder):
+        text = audit.inputs["report"][:length]
+        left = run_in(folder, lambda it: start(program, it, audit.words), {**audit.inputs, "report": text})
+        lines = text.count("\n") + 1
+        left.is_refused(13, f"ridepool: report: cut at line {lines}\n")
+        return 1
+
+    return run
+
+
+def cut_reports(part, program):
+    for inputs in (POOLED, RIDDEN):
+        audit = Audit(program, inputs)
+        part.try_some([(f"a report cut after {k} bytes", cut_report(program, audit, k)) for k in range(len(audit.inputs["report"]))])
+
+
+def failing_audits(part, shim):
+    audit = Audit(shim.program, RIDDEN)
+    most = {"report": 50, "output": 7}
+    calls = calls_of(shim, audit, most)
+
+    def unread(left):
+        left.is_refused(7, "ridepool: report: read failed\n")
+
+    def unwritten(left):
+        left.need((left.status, left.error) == (8, "ridepool: report: write failed\n"), "status 8 should come")
+        audit.stands(left)
+
+    for kind, check in (("report", unread), ("output", unwritten)):
+        part.try_all([(f"call {k} of the {kind}", with_fault(shim, audit, most, kind, k, check)) for k in range(1, calls[kind] + 1)])
+    refused_requests(part, shim, audit.words, audit.inputs, audit.stands, "audit")
 
 
 # Requests for memory that are refused
@@ -605,6 +657,7 @@ def refused_places(part, program):
 PARTS = {
     "refused places": refused_places,
     "cut sources": cut_sources,
+    "cut reports": cut_reports,
     "killed between rounds": killed,
     "a workload cut": cut_load,
     "progress on a terminal": progress,
@@ -613,6 +666,7 @@ SHIM_PARTS = {
     "failing reads": failing_reads,
     "failing writes": failing_writes,
     "failing notices": failing_notices,
+    "failing audits": failing_audits,
     "refused memory": refused_memory,
 }
 

@@ -17,14 +17,14 @@
 #include <sys/syscall.h>
 #include <unistd.h>
 
-enum kind { MEMORY, NETWORK, FLEET, SCRIPT, OUTPUT, NOTICES, KINDS, NONE = KINDS };
+enum kind { MEMORY, NETWORK, FLEET, SCRIPT, REPORT, OUTPUT, NOTICES, KINDS, NONE = KINDS };
 
 struct row {
   uint64_t most, fail;
   _Atomic uint64_t calls, failed;
 };
 
-static const char *const names[KINDS] = {[NETWORK] = "network.csv", [FLEET] = "fleet.csv", [SCRIPT] = "script.csv", [NOTICES] = "notices"};
+static const char *const names[KINDS] = {[NETWORK] = "network.csv", [FLEET] = "fleet.csv", [SCRIPT] = "script.csv", [REPORT] = "report.csv", [NOTICES] = "notices"};
 static struct row *plan;
 static unsigned char kind_of[1024]; /* of each file that was opened, its kind and 1 */
 

@@ -7,7 +7,7 @@ import subprocess
 import tempfile
 from pathlib import Path
 
-KINDS = "memory network fleet script output notices".split()
+KINDS = "memory network fleet script report output notices".split()
 ROW = struct.Struct("4Q")  # most, fail, calls, failed: as in faults.c
 
 

@@ -9,7 +9,7 @@ use Rattle.pool_base.specs.declared.which.Which.{Which}
 use Rattle.pool_io.specs.declared.input.Input.{Input}
 use Rattle.pool_base.specs.declared.which.Which.TheVariants as file
 use Rattle.rider_limits.specs.declared.load_shape.LoadShape.{LoadShape}
-use Rattle.rider_limits.specs.declared.settings.Mode.TheVariants.{Run, Load, Drive}
+use Rattle.rider_limits.specs.declared.settings.Mode.TheVariants.{Run, Load, Drive, Audit}
 use Rattle.rider_limits.specs.declared.settings.Settings.{Settings}
 use Rattle.road_network.specs.Roads.{Roads}
 use Rattle.road_network.specs.Reading.{network_of}
@@ -23,7 +23,7 @@ use Rattle.dispatch_report.specs.Written.{Change}
 use Rattle.ridepool.specs.Seen.{SourceView, Sources, source_at}
 use Rattle.ridepool.specs.declared.inputs.ReadInputs.{ReadInputs}
 use Rattle.ridepool.specs.declared.status.RunStatus.{RunStatus}
-use Rattle.ridepool.specs.declared.status.RunStatus.TheVariants.{Done, Words, Network, Fleet, Script, TooLong, ReadFault, WriteFault, OutOfMemory, Day, TooLate}
+use Rattle.ridepool.specs.declared.status.RunStatus.TheVariants.{Done, Words, Network, Fleet, Script, TooLong, ReadFault, WriteFault, OutOfMemory, Day, TooLate, Report}
 use Rattle.ridepool.specs.work.Reading.{IsUnread, StopsAt, ReadSources, IsNoInput, GotInputs}
 
 -- a text that is read as a network, a fleet, a script
@@ -71,12 +71,18 @@ pub stop_hides : {A F : Type 0} (s : Change SourceView) (w : Which) (refusal : I
 stop_hides s w refusal read _ (StopsAt.unread e why) = unread_hides s w e why
 stop_hides s w refusal read _ (StopsAt.refused fault reads hides) = hides
 
--- what came of the inputs of a run, and of a day's
+-- what came of the inputs of a run, of an audit, and of a day
 pub got_run : (settings : Settings) (s : Sources) (r : Result ReadInputs RunStatus) → settings.mode ≡ Run → ReadSources s r → GotInputs settings s r
 got_run settings s (Ok got) is read =
     let i : Inputs = record { settings = settings; roads = got.network; vehicles = got.fleet; rounds = got.script } in
     record { inputs = subst (λ m. AreInputs m s i) (sym is) (read.inputs settings, tt); refused = tt }
 got_run settings s (Err e) is read = record { inputs = subst (λ m. IsNoInput m s e) (sym is) read.inputs; refused = read.refused }
+
+pub got_audit : (settings : Settings) (s : Sources) (r : Result ReadInputs RunStatus) → settings.mode ≡ Audit → ReadSources s r → GotInputs settings s r
+got_audit settings s (Ok got) is read =
+    let i : Inputs = record { settings = settings; roads = got.network; vehicles = got.fleet; rounds = got.script } in
+    record { inputs = subst (λ m. AreInputs m s i) (sym is) (read.inputs settings, tt); refused = tt }
+got_audit settings s (Err e) is read = record { inputs = subst (λ m. IsNoInput m s e) (sym is) read.inputs; refused = read.refused }
 
 pub got_day : (settings : Settings) (s : Sources) (got : ReadInputs) → settings.mode ≡ Drive → ReadSources s (Ok got) → day_fault got.script ≡ None → GotInputs settings s (Ok got)
 got_day settings s got is read day =
@@ -101,6 +107,7 @@ stops_day s (Words fault) stop = absurd stop
 stops_day s WriteFault stop = absurd stop
 stops_day s (Day fault) stop = absurd stop
 stops_day s (TooLate round made) stop = absurd stop
+stops_day s (Report fault) stop = absurd stop
 
 pub got_stop : (settings : Settings) (s : Sources) (e : RunStatus) → settings.mode ≡ Drive → ReadSources s (Err e) → GotInputs settings s (Err e)
 got_stop settings s e is read = record { inputs = subst (λ m. IsNoInput m s e) (sym is) (stops_day s e read.inputs); refused = read.refused }

@@ -3,3 +3,4 @@ pub mod ExitLemmas
 pub mod WriteLemmas
 pub mod CompleteLemmas
 pub mod InputLemmas
+pub mod AuditLemmas

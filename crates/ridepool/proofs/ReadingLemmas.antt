@@ -12,12 +12,12 @@ use Rattle.pool_io.specs.declared.reading.ReadAll.TheVariants as of_read
 use Rattle.road_network.specs.Roads.{Roads}
 use Rattle.script_rows.specs.Round.{NumberedLanes}
 use Rattle.ridepool.specs.Explained.{HidesNoMemory}
-use Rattle.ridepool.specs.Inputs.{IsWithin, Reads}
+use Rattle.ridepool.specs.Inputs.{IsWithin, Reads, most_bytes}
 use Rattle.ridepool.specs.Reading.{network_in, vehicles_in, IsFleetIn, script_in}
 use Rattle.dispatch_report.specs.Written.{Change}
 use Rattle.ridepool.specs.Seen.{SourceView}
 use Rattle.ridepool.specs.declared.status.RunStatus.{RunStatus}
-use Rattle.ridepool.specs.declared.status.RunStatus.TheVariants.{Done, Words, Network, Fleet, Script, TooLong, ReadFault, WriteFault, OutOfMemory, Day, TooLate}
+use Rattle.ridepool.specs.declared.status.RunStatus.TheVariants.{Done, Words, Network, Fleet, Script, TooLong, ReadFault, WriteFault, OutOfMemory, Day, TooLate, Report}
 use Rattle.ridepool.specs.work.Reading.{IsUnread, StopsAt, RefusesNetwork, RefusesFleet, RefusesRounds}
 
 -- bytes that were lost were told, where any were
@@ -29,20 +29,20 @@ told_so_many (Some xs) (Some ys) count least lost below =
     omega (arith, whole, lost.2, below)
 
 -- what holds of the bytes that were read
-pub reads_as : (s : Change SourceView) (bytes : List ℕ) (P : List ℕ → Type 0) → Reads s (λ came. came ≡ bytes) → P bytes → Reads s P
+pub reads_as : {w : Which} (s : Change SourceView) (bytes : List ℕ) (P : List ℕ → Type 0) → Reads w s (λ came. came ≡ bytes) → P bytes → Reads w s P
 reads_as s bytes P whole holds =
     record { bytes = whole.bytes; told = whole.told; ended = whole.ended; taken = whole.taken; short = whole.short; holds = subst P (sym whole.holds) holds }
 
 -- a source that was read to its end gave no more than may be
-pub reads_within : (s : Change SourceView) (P : List ℕ → Type 0) → Reads s P → IsWithin s
+pub reads_within : {w : Which} (s : Change SourceView) (P : List ℕ → Type 0) → Reads w s P → IsWithin w s
 reads_within s P r = omega (arith, r.taken, r.short)
 
 -- why a source wasn't read to its end, by the answer that came
-module _ {A : Type 0} (s : Change SourceView) (which : Which) (r : Result A ReadAll)
-    (moved : (count : ℕ) × (count ≤ 67108865) × (s.after.taken ≡ s.before.taken + count) × Loses s.before.left s.after.left count)
-    (too_long : (r ≡ Err (of_read.TooLong 67108864)) ↔ (s.after.taken ≡ s.before.taken + 67108865)) where
-  within : ((s.after.taken ≡ s.before.taken + 67108865) → ⊥) → IsWithin s
-  within few = (let at : s.after.taken ≡ s.before.taken + moved.0 = moved.2 in let most : moved.0 ≤ 67108865 = moved.1 in omega (arith, at, most, few))
+module _ {A : Type 0} (s : Change SourceView) (which : Which) (most : ℕ) (its : most ≡ most_bytes which) (r : Result A ReadAll)
+    (moved : (count : ℕ) × (count ≤ most + 1) × (s.after.taken ≡ s.before.taken + count) × Loses s.before.left s.after.left count)
+    (too_long : (r ≡ Err (of_read.TooLong most)) ↔ (s.after.taken ≡ s.before.taken + (most + 1))) where
+  within : ((s.after.taken ≡ s.before.taken + (most + 1)) → ⊥) → IsWithin which s
+  within few = (let at : s.after.taken ≡ s.before.taken + moved.0 = moved.2 in let least : moved.0 ≤ most + 1 = moved.1 in omega (arith, at, least, few, its))
 
   pub read_failed : r ≡ Err of_read.ReadFault → (r ≡ Err of_read.ReadFault → Rose s.before.faults s.after.faults) → IsUnread s which (ReadFault which)
   read_failed is fault = IsUnread.failed (within (λ long. cc (is, too_long.1 long))) (fault is)
@@ -50,19 +50,19 @@ module _ {A : Type 0} (s : Change SourceView) (which : Which) (r : Result A Read
   pub no_memory_left : r ≡ Err of_read.OutOfMemory → IsUnread s which OutOfMemory
   no_memory_left is = IsUnread.memory (within (λ long. cc (is, too_long.1 long)))
 
-  pub was_too_long : (limit : ℕ) → r ≡ Err (of_read.TooLong limit) → ((bound : ℕ) → r ≡ Err (of_read.TooLong bound) → bound ≡ 67108864) → IsUnread s which (TooLong which)
-  was_too_long limit is its =
-      let taken : s.after.taken ≡ s.before.taken + 67108865 = too_long.0 (is ∙ ap (λ b. Err (of_read.TooLong b)) (its limit is)) in
+  pub was_too_long : (limit : ℕ) → r ≡ Err (of_read.TooLong limit) → ((bound : ℕ) → r ≡ Err (of_read.TooLong bound) → bound ≡ most) → IsUnread s which (TooLong which)
+  was_too_long limit is bound =
+      let taken : s.after.taken ≡ s.before.taken + (most + 1) = too_long.0 (is ∙ ap (λ b. Err (of_read.TooLong b)) (bound limit is)) in
       let at : s.after.taken ≡ s.before.taken + moved.0 = moved.2 in
-      let count : moved.0 ≡ 67108865 = omega (arith, taken, at) in
-      IsUnread.long (record { taken = taken; told = told_so_many s.before.left s.after.left moved.0 67108864 moved.3 (omega (arith, count)) })
+      let count : moved.0 ≡ most + 1 = omega (arith, taken, at) in
+      IsUnread.long (record { taken = omega (arith, taken, its); told = told_so_many s.before.left s.after.left moved.0 (most_bytes which) moved.3 (omega (arith, count, its)) })
 
 module _ (s : Change SourceView) where
   stops_for_memory : {A F : Type 0} (which : Which) (refusal : Input F → RunStatus) (read : List ℕ → Result A (Input F)) (bytes : List ℕ)
-      → Reads s (λ came. came ≡ bytes) → StopsAt s which refusal read OutOfMemory
+      → Reads which s (λ came. came ≡ bytes) → StopsAt s which refusal read OutOfMemory
   stops_for_memory which refusal read bytes whole = StopsAt.unread OutOfMemory (IsUnread.memory (reads_within s (λ came. came ≡ bytes) whole))
 
-  pub network_stops : (bytes : List ℕ) (status : RunStatus) → Reads s (λ came. came ≡ bytes) → RefusesNetwork bytes status → HidesNoMemory status
+  pub network_stops : (bytes : List ℕ) (status : RunStatus) → Reads file.Network s (λ came. came ≡ bytes) → RefusesNetwork bytes status → HidesNoMemory status
       → StopsAt s file.Network Network network_in status
   network_stops bytes (Network fault) whole why hides = StopsAt.refused fault (reads_as s bytes (λ b. network_in b ≡ Err fault) whole why) hides
   network_stops bytes OutOfMemory whole why hides = stops_for_memory file.Network Network network_in bytes whole
@@ -75,8 +75,9 @@ module _ (s : Change SourceView) where
   network_stops bytes WriteFault whole why hides = absurd why
   network_stops bytes (Day fault) whole why hides = absurd why
   network_stops bytes (TooLate round made) whole why hides = absurd why
+  network_stops bytes (Report fault) whole why hides = absurd why
 
-  pub fleet_stops : (nodes bytes : List ℕ) (status : RunStatus) → Reads s (λ came. came ≡ bytes) → RefusesFleet nodes bytes status → HidesNoMemory status
+  pub fleet_stops : (nodes bytes : List ℕ) (status : RunStatus) → Reads file.Fleet s (λ came. came ≡ bytes) → RefusesFleet nodes bytes status → HidesNoMemory status
       → StopsAt s file.Fleet Fleet (vehicles_in nodes) status
   fleet_stops nodes bytes (Fleet fault) whole why hides = StopsAt.refused fault (reads_as s bytes (λ b. vehicles_in nodes b ≡ Err fault) whole why) hides
   fleet_stops nodes bytes OutOfMemory whole why hides = stops_for_memory file.Fleet Fleet (vehicles_in nodes) bytes whole
@@ -89,8 +90,9 @@ module _ (s : Change SourceView) where
   fleet_stops nodes bytes WriteFault whole why hides = absurd why
   fleet_stops nodes bytes (Day fault) whole why hides = absurd why
   fleet_stops nodes bytes (TooLate round made) whole why hides = absurd why
+  fleet_stops nodes bytes (Report fault) whole why hides = absurd why
 
-  pub script_stops : (bytes : List ℕ) (status : RunStatus) → Reads s (λ came. came ≡ bytes) → RefusesRounds (script_in bytes) status → HidesNoMemory status
+  pub script_stops : (bytes : List ℕ) (status : RunStatus) → Reads file.Script s (λ came. came ≡ bytes) → RefusesRounds (script_in bytes) status → HidesNoMemory status
       → StopsAt s file.Script Script script_in status
   script_stops bytes (Script fault) whole why hides = StopsAt.refused fault (reads_as s bytes (λ b. script_in b ≡ Err fault) whole why) hides
   script_stops bytes OutOfMemory whole why hides = stops_for_memory file.Script Script script_in bytes whole
@@ -103,22 +105,23 @@ module _ (s : Change SourceView) where
   script_stops bytes WriteFault whole why hides = absurd why
   script_stops bytes (Day fault) whole why hides = absurd why
   script_stops bytes (TooLate round made) whole why hides = absurd why
+  script_stops bytes (Report fault) whole why hides = absurd why
 
 -- what came of an input, from what came of its bytes
-pub network_read : (s : Change SourceView) (items bytes : List ℕ) (r : Result Roads RunStatus) → Reads s (λ came. came ≡ items) → bytes ≡ items
+pub network_read : (s : Change SourceView) (items bytes : List ℕ) (r : Result Roads RunStatus) → Reads file.Network s (λ came. came ≡ items) → bytes ≡ items
     → IfOk r (λ roads. network_in bytes ≡ Ok roads) → IfErr r (RefusesNetwork bytes) → IfErr r HidesNoMemory
-    → MatchResult r (λ roads. Reads s (λ b. network_in b ≡ Ok roads)) (StopsAt s file.Network Network network_in)
+    → MatchResult r (λ roads. Reads file.Network s (λ b. network_in b ≡ Ok roads)) (StopsAt s file.Network Network network_in)
 network_read s items bytes (Ok roads) whole is ok why hides = reads_as s items (λ b. network_in b ≡ Ok roads) whole (subst (λ b. network_in b ≡ Ok roads) is ok)
 network_read s items bytes (Err e) whole is ok why hides = network_stops s items e whole (subst (λ b. RefusesNetwork b e) is why) hides
 
-pub fleet_read : (s : Change SourceView) (nodes items bytes : List ℕ) (r : Result (List Vehicle) RunStatus) → Reads s (λ came. came ≡ items) → bytes ≡ items
+pub fleet_read : (s : Change SourceView) (nodes items bytes : List ℕ) (r : Result (List Vehicle) RunStatus) → Reads file.Fleet s (λ came. came ≡ items) → bytes ≡ items
     → IfOk r (λ fleet. IsFleetIn nodes bytes fleet) → IfErr r (RefusesFleet nodes bytes) → IfErr r HidesNoMemory
-    → MatchResult r (λ fleet. Reads s (λ b. IsFleetIn nodes b fleet)) (StopsAt s file.Fleet Fleet (vehicles_in nodes))
+    → MatchResult r (λ fleet. Reads file.Fleet s (λ b. IsFleetIn nodes b fleet)) (StopsAt s file.Fleet Fleet (vehicles_in nodes))
 fleet_read s nodes items bytes (Ok fleet) whole is ok why hides = reads_as s items (λ b. IsFleetIn nodes b fleet) whole (subst (λ b. IsFleetIn nodes b fleet) is ok)
 fleet_read s nodes items bytes (Err e) whole is ok why hides = fleet_stops s nodes items e whole (subst (λ b. RefusesFleet nodes b e) is why) hides
 
-pub script_read : (s : Change SourceView) (items bytes : List ℕ) (r : Result (List NumberedLanes) RunStatus) → Reads s (λ came. came ≡ items) → bytes ≡ items
+pub script_read : (s : Change SourceView) (items bytes : List ℕ) (r : Result (List NumberedLanes) RunStatus) → Reads file.Script s (λ came. came ≡ items) → bytes ≡ items
     → IfOk r (λ rounds. script_in bytes ≡ Ok rounds) → IfErr r (RefusesRounds (script_in bytes)) → IfErr r HidesNoMemory
-    → MatchResult r (λ rounds. Reads s (λ b. script_in b ≡ Ok rounds)) (StopsAt s file.Script Script script_in)
+    → MatchResult r (λ rounds. Reads file.Script s (λ b. script_in b ≡ Ok rounds)) (StopsAt s file.Script Script script_in)
 script_read s items bytes (Ok rounds) whole is ok why hides = reads_as s items (λ b. script_in b ≡ Ok rounds) whole (subst (λ b. script_in b ≡ Ok rounds) is ok)
 script_read s items bytes (Err e) whole is ok why hides = script_stops s items e whole (subst (λ b. RefusesRounds (script_in b) e) is why) hides

@@ -25,7 +25,7 @@ use Rattle.request_book.specs.declared.journal.Entry.{Entry}
 use Rattle.request_book.specs.declared.journal.Journal.{Journal}
 use Rattle.request_book.specs.declared.state.State.{State}
 use Rattle.rider_limits.specs.declared.settings.Mode.{Mode}
-use Rattle.rider_limits.specs.declared.settings.Mode.TheVariants.{Run, Load, Drive}
+use Rattle.rider_limits.specs.declared.settings.Mode.TheVariants.{Run, Load, Drive, Audit}
 use Rattle.rider_limits.specs.declared.settings.Settings.{Settings}
 use Rattle.road_network.specs.Roads.{Roads}
 use Rattle.route_drive.specs.Counts.{AreCounts, entries_of}
@@ -43,7 +43,7 @@ use Rattle.rider_notices.proofs.lemmas.HeardLemmas.{all-heard-nothing, all-heard
 use Rattle.ridepool.specs.Report.{AreAll, AreFirst, IsDayEnd, IsEnd, RunsDay, Runs, IsReport, first_text, added_text, begun_text, journals_of, rounds_text, rounds_notices, Begins, IsWhole, IsPart}
 use Rattle.ridepool.specs.work.Writing.{BeginsRounds, EndsRounds, NextJournal, HasPut, PutsRound, IsUnput, StopsIn, RunsAll, RunsFirst, RunsFrom, WritesReport, WritesRound, WritesRounds, IsReportFault, IsRoundsPart, IsTextFault, IsFlushed, IsRoundFault, IsRoundsFault, IsWritingFault, day_counts, day_ending, late_status, made_of, status_of}
 use Rattle.ridepool.specs.declared.status.RunStatus.{RunStatus}
-use Rattle.ridepool.specs.declared.status.RunStatus.TheVariants.{Done, Words, Network, Fleet, Script, TooLong, ReadFault, WriteFault, OutOfMemory, Day, TooLate}
+use Rattle.ridepool.specs.declared.status.RunStatus.TheVariants.{Done, Words, Network, Fleet, Script, TooLong, ReadFault, WriteFault, OutOfMemory, Day, TooLate, Report}
 
 -- positions of runs
 pub position_after_run-more : (position : ℕ) (js : List Journal) (j : Journal) → position_after_run position (js ++ j ∷ []) ≡ next_position (position_after_run position js) j.entries
@@ -265,6 +265,7 @@ module _ (settings : Settings) (roads : Roads) where
     unput_by made r a b c n m k low middle high (ReadFault f) first w up why same = absurd why
     unput_by made r a b c n m k low middle high (Day fault) first w up why same = absurd why
     unput_by made r a b c n m k low middle high (TooLate round late) first w up why same = absurd why
+    unput_by made r a b c n m k low middle high (Report fault) first w up why same = absurd why
 
     pub unput_fault : (made : List DayRound) (r : DayRound) (a b c : Option (List ℕ)) (n m k : List NotifierView) (low middle high : ℕ) (s : RunStatus)
         → P (made ++ r ∷ []) → HasPut settings roads made a b n m → low ≤ middle → IsUnput settings roads r b c m k middle high s → IsRoundsFault settings roads P Q a c n k low high s
@@ -410,6 +411,13 @@ pub text_unwritten : (text : List ℕ) (a b : Option (List ℕ)) (low high : ℕ
 text_unwritten text a b low high report.WriteFault s is part rose = subst (IsTextFault text a b low high) (sym is) (rose refl, (begins_part a b text part).0)
 text_unwritten text a b low high report.OutOfMemory s is part rose = subst (IsTextFault text a b low high) (sym is) (begins_part a b text part).0
 
+-- a beginning of a text that was written in part
+pub begins_of_part : (text bytes : List ℕ) (a b : Option (List ℕ)) → bytes ≡ text → AppendsPart a b bytes → Begins a b text
+begins_of_part text bytes a b is part = subst (Begins a b) is (begins_part a b bytes part).0
+
+pub appends_of : (text bytes : List ℕ) (a b : Option (List ℕ)) → bytes ≡ text → Appends a b bytes → Appends a b text
+appends_of text bytes a b is whole = subst (Appends a b) is whole
+
 -- the text before the first round
 abbrev pub head_of : Inputs → List ℕ
 head_of i = first_text i.settings.mode i.settings i.roads (length i.vehicles)
@@ -470,6 +478,7 @@ module _ (i : Inputs) (P : List DayRound → Type 0) (Q : List DayRound → List
   rounds_unwritten a b c n m low middle high (ReadFault f) head up why = absurd why
   rounds_unwritten a b c n m low middle high (Day fault) head up why = absurd why
   rounds_unwritten a b c n m low middle high (TooLate round made) head up why = absurd why
+  rounds_unwritten a b c n m low middle high (Report fault) head up why = absurd why
 
   -- first lines that weren't written
   unbegun_head : (a b : Option (List ℕ)) (n m : List NotifierView) (low high : ℕ) (s : RunStatus) → IsTextFault (head_of i) a b low high s → m ≡ n → IsWritingFault i a b n m low high s
@@ -484,6 +493,7 @@ module _ (i : Inputs) (P : List DayRound → Type 0) (Q : List DayRound → List
   unbegun_head a b n m low high (ReadFault f) why same = absurd why
   unbegun_head a b n m low high (Day fault) why same = absurd why
   unbegun_head a b n m low high (TooLate round made) why same = absurd why
+  unbegun_head a b n m low high (Report fault) why same = absurd why
 
   report_fault : (a c : Option (List ℕ)) (n m : List NotifierView) (low high : ℕ) (s : RunStatus) → IsReportFault i.settings i.roads P Q (head_of i) a c n m low high s → IsWritingFault i a c n m low high s
   report_fault a c n m low high _ (IsReportFault.unbegun s why same) = unbegun_head a c n m low high s why same
@@ -510,6 +520,7 @@ module _ (i : Inputs) (P : List DayRound → Type 0) (Q : List DayRound → List
 first_run : (m : Mode) (i : Inputs) (made : List DayRound) → (m ≡ Drive → ⊥) → (count : ℕ) × Runs i (take count i.rounds) made → AreFirst m i made
 first_run Run i made undriven first = first
 first_run (Load shape) i made undriven first = first
+first_run Audit i made undriven first = first
 first_run Drive i made undriven first = absurd (undriven refl)
 
 runs_of : (i : Inputs) (book : BookView) (rounds : List NumberedLanes) (made : List DayRound) → book ≡ opened i → RunsFrom i.settings i.roads book rounds made → Runs i rounds made
@@ -520,6 +531,8 @@ all_run : (m : Mode) (i : Inputs) (made : List DayRound) (end : List ℕ) → m 
 all_run Run i made end is undriven runs ends =
     record { all = subst (λ m. AreAll m i made) is runs; ends = subst (λ m. IsEnd m i made end) is ends }
 all_run (Load shape) i made end is undriven runs ends =
+    record { all = subst (λ m. AreAll m i made) is runs; ends = subst (λ m. IsEnd m i made end) is ends }
+all_run Audit i made end is undriven runs ends =
     record { all = subst (λ m. AreAll m i made) is runs; ends = subst (λ m. IsEnd m i made end) is ends }
 all_run Drive i made end is undriven runs ends = absurd (undriven refl)
 

@@ -1,8 +1,10 @@
 -- How a call ends, and what stands then.
 use Rattle.std.specs.Prelude.{◌≡◌, ◌≢◌, ℕ, ◌≤◌, List, Some, None, length, ◌⊎◌}
+use Rattle.std.specs.Io.KnownBytes.{Appends}
 use Rattle.fleet_state.specs.declared.fault.FleetFault.TheVariants as fleet
 use Rattle.load_maker.specs.Texts.{Texts}
 use Rattle.pool_base.specs.declared.which.Which.{Which}
+use Rattle.pool_base.specs.declared.which.Which.TheVariants as file
 use Rattle.pool_io.specs.Faults.{Rose}
 use Rattle.pool_io.specs.declared.input.Input.TheVariants.{Rows, Own}
 use Rattle.pool_io.specs.declared.records.RowFault.TheVariants as row
@@ -11,18 +13,23 @@ use Rattle.rider_limits.specs.Words.{fault_of}
 use Rattle.rider_limits.specs.declared.settings.Mode.TheVariants.{Drive}
 use Rattle.rider_limits.specs.declared.settings.Settings.{Settings}
 use Rattle.road_network.specs.declared.fault.NetworkFault.TheVariants as network
+use Rattle.report_audit.specs.Report.{IsReportOfRun}
+use Rattle.report_audit.specs.declared.fault.AuditFault.{AuditFault}
+use Rattle.report_audit.specs.declared.fault.AuditFault.TheVariants as audit
+use Rattle.report_audit.specs.declared.fault.Audited.{Audited}
 use Rattle.request_book.specs.Book.{opening}
 use Rattle.route_drive.specs.Day.{day_fault}
 use Rattle.route_drive.specs.Driven.{IsTooLateDay}
 use Rattle.route_drive.specs.declared.day.DayFault.{DayFault}
 use Rattle.route_drive.specs.declared.day_run.DayRound.{DayRound}
 use Rattle.script_rows.specs.declared.fault.ScriptFault.TheVariants as script
-use Rattle.ridepool.specs.Inputs.{Inputs, AreInputs, AreReadFrom, AreTexts, AreUntouched, IsDayFor, IsStop, IsWithin, ReadsSources}
-use Rattle.ridepool.specs.Report.{IsWhole, IsPart}
+use Rattle.ridepool.specs.Inputs.{Inputs, AreInputs, AreReadFrom, AreTexts, AreUntouched, IsDayFor, IsReportUnread, IsStop, IsWithin, Reads, ReadsReport, ReadsSources, most_bytes}
+use Rattle.ridepool.specs.Audit.{yes_text, IsRunReport, IsNoReport}
+use Rattle.ridepool.specs.Report.{Begins, IsWhole, IsPart}
 use Rattle.dispatch_report.specs.Written.{Change}
-use Rattle.ridepool.specs.Seen.{Seen, Sources, SourceView, IsSilent, source_at}
+use Rattle.ridepool.specs.Seen.{Seen, Sources, SourceView, IsSilent, IsUntouched, source_at}
 use Rattle.ridepool.specs.declared.status.RunStatus.{RunStatus}
-use Rattle.ridepool.specs.declared.status.RunStatus.TheVariants.{Done, Words, Network, Fleet, Script, TooLong, WriteFault, OutOfMemory, Day, TooLate}
+use Rattle.ridepool.specs.declared.status.RunStatus.TheVariants.{Done, Words, Network, Fleet, Script, TooLong, ReadFault, WriteFault, OutOfMemory, Day, TooLate, Report}
 
 -- the words are good, and give these settings
 pub record AreGood (words : List (List ℕ)) (settings : Settings) : Type 0 where
@@ -32,6 +39,10 @@ pub record AreGood (words : List (List ℕ)) (settings : Settings) : Type 0 wher
 -- the words are good for a call that reads its sources
 abbrev pub AreForSources : List (List ℕ) → Type 0
 AreForSources words = (s : Settings) × AreGood words s × ReadsSources s.mode
+
+-- the words are good for an audit
+abbrev pub AreForAudit : List (List ℕ) → Type 0
+AreForAudit words = (s : Settings) × AreGood words s × ReadsReport s.mode
 
 -- the words are good for a made workload
 abbrev pub AreForLoad : List (List ℕ) → Type 0
@@ -63,31 +74,73 @@ pub record IsLate (seen : Seen) (round : ℕ) (made : List DayRound) : Type 0 wh
 
 -- the inputs pass, all is written, and its notices were told
 abbrev pub WritesAll : Seen → Type 0
-WritesAll seen = (i : Inputs) × AreAccepted seen i × IsWhole i seen.out.before.written seen.out.after.written seen.notifiers.before seen.notifiers.after
+WritesAll seen = (i : Inputs) × AreAccepted seen i × (ReadsReport i.settings.mode → ⊥) × IsWhole i seen.out.before.written seen.out.after.written seen.notifiers.before seen.notifiers.after
 
 -- the inputs pass, and the first rounds stand in part
 abbrev pub WritesPart : Seen → Type 0
-WritesPart seen = (i : Inputs) × AreAccepted seen i × IsPart i seen.out.before.written seen.out.after.written seen.notifiers.before seen.notifiers.after
+WritesPart seen = (i : Inputs) × AreAccepted seen i × (ReadsReport i.settings.mode → ⊥) × IsPart i seen.out.before.written seen.out.after.written seen.notifiers.before seen.notifiers.after
+
+-- the inputs of an audit pass, and its report wasn't read to its end, or not judged for want of memory
+abbrev pub StopsAudit : Seen → RunStatus → Type 0
+StopsAudit seen status =
+    (i : Inputs) × AreAccepted seen i × ReadsReport i.settings.mode × IsReportUnread seen.sources.report status × IsSilent seen
+
+-- the inputs of an audit pass, and its report was read, of whose bytes this holds
+pub record HasReport (seen : Seen) (Holds : Inputs → List ℕ → Type 0) : Type 0 where
+  pub inputs : Inputs
+  pub accepted : AreAccepted seen inputs
+  pub mode : ReadsReport inputs.settings.mode
+  pub report : Reads file.Report seen.sources.report (Holds inputs)
+
+-- the report of an audit is that of a run with so many entries and batches, and this holds of the line that says so
+pub record Confirms (seen : Seen) (Holds : List ℕ → Type 0) : Type 0 where
+  pub audited : Audited
+  pub read : HasReport seen (λ i bytes. IsRunReport i bytes audited)
+  pub line : Holds (yes_text audited)
+  pub notifiers : IsUntouched seen.notifiers
+
+-- the line is written
+abbrev pub SaysYes : Seen → Type 0
+SaysYes seen = Confirms seen (Appends seen.out.before.written seen.out.after.written)
+
+-- a beginning of it stands
+abbrev pub BeginsYes : Seen → Type 0
+BeginsYes seen = Confirms seen (Begins seen.out.before.written seen.out.after.written)
+
+-- the report of an audit was read, and this is wrong with it: it is the report of no run
+abbrev pub RefusesReport : Seen → AuditFault → Type 0
+RefusesReport seen fault = HasReport seen (λ i bytes. IsNoReport i bytes fault) × IsSilent seen
 
 -- why a call ended as it did, what is written, and who was told what; where the flush behind the last line fails, the
 -- report is written whole
 abbrev pub Explains : Seen → RunStatus → Type 0
-Explains seen Done = WritesAll seen
+Explains seen Done = WritesAll seen ⊎ SaysYes seen
 Explains seen (Words fault) = (fault_of seen.words ≡ Some fault) × AreUntouched seen.sources × IsSilent seen
-Explains seen WriteFault = (WritesPart seen ⊎ WritesAll seen) × Rose seen.out.before.faults seen.out.after.faults
+Explains seen WriteFault = (WritesPart seen ⊎ WritesAll seen ⊎ BeginsYes seen) × Rose seen.out.before.faults seen.out.after.faults
 Explains seen OutOfMemory =
     StopsRun seen OutOfMemory ⊎ (AreForLoad seen.words × AreUntouched seen.sources × IsSilent seen) ⊎ WritesPart seen
+    ⊎ StopsAudit seen OutOfMemory ⊎ BeginsYes seen
 Explains seen (Day fault) = IsNoDay seen fault × IsSilent seen
 Explains seen (TooLate round made) = IsLate seen round made × IsSilent seen
+Explains seen (Report fault) = RefusesReport seen fault
+Explains seen (TooLong w) = StopsRun seen (TooLong w) ⊎ StopsAudit seen (TooLong w)
+Explains seen (ReadFault w) = StopsRun seen (ReadFault w) ⊎ StopsAudit seen (ReadFault w)
 Explains seen status = StopsRun seen status
 
--- a source tells these bytes at entry, at most 67,108,864, and no read of it fails
-pub record Tells (s : Change SourceView) (bytes : List ℕ) : Type 0 where
+-- the source of an input tells these bytes at entry, no more than may be, and no read of it fails
+pub record Tells (which : Which) (s : Change SourceView) (bytes : List ℕ) : Type 0 where
   pub told : s.before.left ≡ Some bytes
-  pub short : length bytes ≤ 67108864
+  pub short : length bytes ≤ most_bytes which
   pub faultless : Rose s.before.faults s.after.faults → ⊥
 
--- the words are good for a call that reads its sources, these tell texts that give inputs, and no read fails
+-- a report is told, and is one of a run of the script that the call accepts
+pub record TellsReport (seen : Seen) : Type 0 where
+  pub bytes : List ℕ
+  pub tells : Tells file.Report seen.sources.report bytes
+  pub right : (i : Inputs) → AreAccepted seen i → IsReportOfRun i.roads i.vehicles i.rounds i.settings.workers bytes
+
+-- the words are good for a call that reads its sources, these tell texts that give inputs, for an audit there is a
+-- right report, and no read fails
 pub record IsFaultlessRun (seen : Seen) : Type 0 where
   pub inputs : Inputs
   pub words : AreGood seen.words inputs.settings
@@ -95,18 +148,19 @@ pub record IsFaultlessRun (seen : Seen) : Type 0 where
   pub day : IsDayFor inputs.settings.mode inputs.rounds
   pub texts : Texts
   pub give : AreTexts texts inputs
-  pub network : Tells seen.sources.network texts.network
-  pub fleet : Tells seen.sources.fleet texts.fleet
-  pub script : Tells seen.sources.script texts.script
+  pub network : Tells file.Network seen.sources.network texts.network
+  pub fleet : Tells file.Fleet seen.sources.fleet texts.fleet
+  pub script : Tells file.Script seen.sources.script texts.script
+  pub report : ReadsReport inputs.settings.mode → TellsReport seen
 
 -- so is a call, or the words are good for a made workload; and no write fails
 pub record IsFaultless (seen : Seen) : Type 0 where
   pub inputs : IsFaultlessRun seen ⊎ AreForLoad seen.words
   pub sink : Rose seen.out.before.faults seen.out.after.faults → ⊥
 
--- at most 67,108,864 bytes were taken from each source, and one more only where it is answered as too long
+-- no more bytes than may be were taken from each source, and one more only where it is answered as too long
 abbrev pub IsLimited : Sources → RunStatus → Type 0
-IsLimited s status = (w : Which) → IsWithin (source_at s w) ⊎ (status ≡ TooLong w)
+IsLimited s status = (w : Which) → IsWithin w (source_at s w) ⊎ (status ≡ TooLong w)
 
 -- want of memory stands inside no other status
 abbrev pub HidesNoMemory : RunStatus → Type 0
@@ -116,6 +170,7 @@ HidesNoMemory (Fleet (Rows fault)) = fault ≢ row.OutOfMemory
 HidesNoMemory (Fleet (Own fault)) = fault ≢ fleet.OutOfMemory
 HidesNoMemory (Script (Rows fault)) = fault ≢ row.OutOfMemory
 HidesNoMemory (Script (Own fault)) = fault ≢ script.OutOfMemory
+HidesNoMemory (Report fault) = fault ≢ audit.OutOfMemory
 HidesNoMemory _ = Unit {0}
 
 -- all is done, or there is no memory, or a day comes too late
@@ -133,5 +188,7 @@ pub record Answers (seen : Seen) (status : RunStatus) : Type 0 where
   pub complete : IsFaultless seen → IsFaultlessEnd status
   -- a made workload's call touches no source
   pub untouched : AreForSources seen.words ⊎ AreUntouched seen.sources
+  -- only an audit touches the source of a report
+  pub report : AreForAudit seen.words ⊎ IsUntouched seen.sources.report
   pub limited : IsLimited seen.sources status
   pub refused : HidesNoMemory status

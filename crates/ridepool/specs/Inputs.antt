@@ -7,7 +7,7 @@ use Rattle.pool_base.specs.declared.which.Which.{Which}
 use Rattle.pool_base.specs.declared.which.Which.TheVariants as file
 use Rattle.pool_io.specs.Faults.{Rose}
 use Rattle.rider_limits.specs.declared.settings.Mode.{Mode}
-use Rattle.rider_limits.specs.declared.settings.Mode.TheVariants.{Load, Drive}
+use Rattle.rider_limits.specs.declared.settings.Mode.TheVariants.{Load, Drive, Audit}
 use Rattle.rider_limits.specs.declared.settings.Settings.{Settings}
 use Rattle.road_network.specs.Roads.{Roads}
 use Rattle.route_drive.specs.Day.{day_fault}
@@ -25,29 +25,34 @@ pub record Inputs : Type 0 where
   pub vehicles : List Vehicle
   pub rounds : List NumberedLanes
 
--- at most 67,108,864 bytes were taken from a source
-abbrev pub IsWithin : Change SourceView → Type 0
-IsWithin s = s.after.taken ≤ s.before.taken + 67108864
+-- the greatest number of bytes of an input
+abbrev pub most_bytes : Which → ℕ
+most_bytes file.Report = 268435456
+most_bytes _ = 67108864
+
+-- no more bytes than an input may have were taken from its source
+abbrev pub IsWithin : Which → Change SourceView → Type 0
+IsWithin which s = s.after.taken ≤ s.before.taken + most_bytes which
 
 -- one byte more was taken, and where the source tells its bytes, there are so many
-pub record IsSourceTooLong (s : Change SourceView) : Type 0 where
-  pub taken : s.after.taken ≡ s.before.taken + 67108865
-  pub told : IfSome s.before.left (λ left. 67108864 < length left)
+pub record IsSourceTooLong (which : Which) (s : Change SourceView) : Type 0 where
+  pub taken : s.after.taken ≡ s.before.taken + (most_bytes which + 1)
+  pub told : IfSome s.before.left (λ left. most_bytes which < length left)
 
--- a source was read to its end, and this holds of its bytes, at most 67,108,864
-pub record Reads (s : Change SourceView) (Holds : List ℕ → Type 0) : Type 0 where
+-- the source of an input was read to its end, and this holds of its bytes, which are no more than may be
+pub record Reads (which : Which) (s : Change SourceView) (Holds : List ℕ → Type 0) : Type 0 where
   pub bytes : List ℕ
   pub told : IfSome s.before.left (λ left. bytes ≡ left)
   pub ended : IsAtEnd s.after.left
   pub taken : s.after.taken ≡ s.before.taken + length bytes
-  pub short : length bytes ≤ 67108864
+  pub short : length bytes ≤ most_bytes which
   pub holds : Holds bytes
 
--- the three sources were read as these inputs
+-- network, fleet and script were read as these inputs
 pub record AreReadFrom (s : Sources) (i : Inputs) : Type 0 where
-  pub network : Reads s.network (λ bytes. network_in bytes ≡ Ok i.roads)
-  pub fleet : Reads s.fleet (λ bytes. IsFleetIn i.roads.nodes bytes i.vehicles)
-  pub script : Reads s.script (λ bytes. script_in bytes ≡ Ok i.rounds)
+  pub network : Reads file.Network s.network (λ bytes. network_in bytes ≡ Ok i.roads)
+  pub fleet : Reads file.Fleet s.fleet (λ bytes. IsFleetIn i.roads.nodes bytes i.vehicles)
+  pub script : Reads file.Script s.script (λ bytes. script_in bytes ≡ Ok i.rounds)
 
 -- three texts give these inputs
 pub record AreTexts (t : Texts) (i : Inputs) : Type 0 where
@@ -60,11 +65,17 @@ pub record AreUntouched (s : Sources) : Type 0 where
   pub network : IsUntouched s.network
   pub fleet : IsUntouched s.fleet
   pub script : IsUntouched s.script
+  pub report : IsUntouched s.report
 
 -- a command reads its sources, if it makes no workload
 abbrev pub ReadsSources : Mode → Type 0
 ReadsSources (Load shape) = ⊥
 ReadsSources _ = Unit {0}
+
+-- an audit reads a report, and prints none
+abbrev pub ReadsReport : Mode → Type 0
+ReadsReport Audit = Unit {0}
+ReadsReport _ = ⊥
 
 -- where vehicles are driven, these rounds are a day
 abbrev pub IsDayFor : Mode → List NumberedLanes → Type 0
@@ -76,20 +87,28 @@ abbrev pub AreInputs : Mode → Sources → Inputs → Type 0
 AreInputs (Load shape) s i = AreTexts (texts_of shape) i × AreUntouched s
 AreInputs mode s i = AreReadFrom s i × IsDayFor mode i.rounds
 
--- a call came to a source: those before it were read and pass, those behind it are untouched
+-- a call came to one of the first three sources: those before it were read and pass, those behind it are untouched
 abbrev pub CameTo : Sources → Which → Type 0
-CameTo s file.Network = IsUntouched s.fleet × IsUntouched s.script
-CameTo s file.Fleet = (roads : Roads) × Reads s.network (λ bytes. network_in bytes ≡ Ok roads) × IsUntouched s.script
+CameTo s file.Network = IsUntouched s.fleet × IsUntouched s.script × IsUntouched s.report
+CameTo s file.Fleet = (roads : Roads) × Reads file.Network s.network (λ bytes. network_in bytes ≡ Ok roads) × IsUntouched s.script × IsUntouched s.report
 CameTo s file.Script =
-    (roads : Roads) × (vehicles : List Vehicle) × Reads s.network (λ bytes. network_in bytes ≡ Ok roads)
-    × Reads s.fleet (λ bytes. IsFleetIn roads.nodes bytes vehicles)
+    (roads : Roads) × (vehicles : List Vehicle) × Reads file.Network s.network (λ bytes. network_in bytes ≡ Ok roads)
+    × Reads file.Fleet s.fleet (λ bytes. IsFleetIn roads.nodes bytes vehicles) × IsUntouched s.report
+CameTo s file.Report = ⊥
 
--- why a call stopped at a source: what was read is refused, or there was more than may be, or a read failed, or there was no memory
+-- why a call stopped at one of them: what was read is refused, or there was more than may be, or a read failed, or there was no memory
 abbrev pub IsStop : Sources → RunStatus → Type 0
-IsStop s (Network fault) = CameTo s file.Network × Reads s.network (λ bytes. network_in bytes ≡ Err fault)
-IsStop s (Fleet fault) = (came : CameTo s file.Fleet) × Reads s.fleet (λ bytes. vehicles_in came.0.nodes bytes ≡ Err fault)
-IsStop s (Script fault) = CameTo s file.Script × Reads s.script (λ bytes. script_in bytes ≡ Err fault)
-IsStop s (TooLong w) = CameTo s w × IsSourceTooLong (source_at s w)
-IsStop s (ReadFault w) = CameTo s w × IsWithin (source_at s w) × Rose (source_at s w).before.faults (source_at s w).after.faults
-IsStop s OutOfMemory = (w : Which) × CameTo s w × IsWithin (source_at s w)
+IsStop s (Network fault) = CameTo s file.Network × Reads file.Network s.network (λ bytes. network_in bytes ≡ Err fault)
+IsStop s (Fleet fault) = (came : CameTo s file.Fleet) × Reads file.Fleet s.fleet (λ bytes. vehicles_in came.0.nodes bytes ≡ Err fault)
+IsStop s (Script fault) = CameTo s file.Script × Reads file.Script s.script (λ bytes. script_in bytes ≡ Err fault)
+IsStop s (TooLong w) = CameTo s w × IsSourceTooLong w (source_at s w)
+IsStop s (ReadFault w) = CameTo s w × IsWithin w (source_at s w) × Rose (source_at s w).before.faults (source_at s w).after.faults
+IsStop s OutOfMemory = (w : Which) × CameTo s w × IsWithin w (source_at s w)
 IsStop s _ = ⊥
+
+-- why the report of an audit wasn't read to its end
+abbrev pub IsReportUnread : Change SourceView → RunStatus → Type 0
+IsReportUnread s (TooLong file.Report) = IsSourceTooLong file.Report s
+IsReportUnread s (ReadFault file.Report) = IsWithin file.Report s × Rose s.before.faults s.after.faults
+IsReportUnread s OutOfMemory = IsWithin file.Report s
+IsReportUnread s _ = ⊥

@@ -2,6 +2,7 @@ pub mod Seen
 pub mod Reading
 pub mod Inputs
 pub mod Report
+pub mod Audit
 pub mod Explained
 pub mod Status
 pub mod Text

@@ -2,7 +2,7 @@
 use Rattle.std.specs.Prelude.{◌≡◌, ℕ, List, Option}
 use Rattle.dispatch_report.specs.Written.{Change, SinkView}
 use Rattle.pool_base.specs.declared.which.Which.{Which}
-use Rattle.pool_base.specs.declared.which.Which.TheVariants.{Network, Fleet, Script}
+use Rattle.pool_base.specs.declared.which.Which.TheVariants.{Network, Fleet, Script, Report}
 use Rattle.rider_notices.specs.Told.{NotifierView}
 
 -- what a source tells: the bytes still to come, if it tells any; how many came so far; how many reads failed
@@ -23,17 +23,19 @@ source_seen left taken faults old new =
       after = record { left = left new; taken = taken new; faults = faults new };
     }
 
--- the three sources
+-- the sources of the inputs
 pub record Sources : Type 0 where
   pub network : Change SourceView
   pub fleet : Change SourceView
   pub script : Change SourceView
+  pub report : Change SourceView
 
 -- the source of an input
 abbrev pub source_at : Sources → Which → Change SourceView
 source_at s Network = s.network
 source_at s Fleet = s.fleet
 source_at s Script = s.script
+source_at s Report = s.report
 
 -- a call: its words, its sources, the sink of its report, and the notifiers of its riders
 pub record Seen : Type 0 where

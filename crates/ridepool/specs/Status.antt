@@ -1,6 +1,6 @@
 use Rattle.std.specs.Prelude.{ℕ}
 use Rattle.ridepool.specs.declared.status.RunStatus.{RunStatus}
-use Rattle.ridepool.specs.declared.status.RunStatus.TheVariants.{Done, Words, Network, Fleet, Script, TooLong, ReadFault, WriteFault, OutOfMemory, Day, TooLate}
+use Rattle.ridepool.specs.declared.status.RunStatus.TheVariants.{Done, Words, Network, Fleet, Script, TooLong, ReadFault, WriteFault, OutOfMemory, Day, TooLate, Report}
 
 -- the exit status
 abbrev pub code_of : RunStatus → ℕ
@@ -15,3 +15,4 @@ code_of WriteFault = 8
 code_of OutOfMemory = 9
 code_of (Day fault) = 11
 code_of (TooLate round made) = 12
+code_of (Report fault) = 13

@@ -4,10 +4,13 @@ use Rattle.dispatch_report.specs.Words.{numbered}
 use Rattle.fleet_state.specs.declared.fault.FleetFault.{FleetFault}
 use Rattle.fleet_state.specs.declared.fault.FleetFault.TheVariants as fleet
 use Rattle.pool_base.specs.Which.{file_name}
+use Rattle.pool_base.specs.declared.which.Which.{Which}
 use Rattle.pool_io.specs.declared.input.Input.{Input}
 use Rattle.pool_io.specs.declared.input.Input.TheVariants.{Rows, Own}
 use Rattle.pool_io.specs.declared.records.RowFault.{RowFault}
 use Rattle.pool_io.specs.declared.records.RowFault.TheVariants as row
+use Rattle.report_audit.specs.declared.fault.AuditFault.{AuditFault}
+use Rattle.report_audit.specs.declared.fault.AuditFault.TheVariants as audit
 use Rattle.rider_limits.specs.declared.word_fault.WordFault.{WordFault}
 use Rattle.rider_limits.specs.declared.word_fault.WordFault.TheVariants as word
 use Rattle.road_network.specs.declared.fault.NetworkFault.{NetworkFault}
@@ -16,12 +19,21 @@ use Rattle.route_drive.specs.declared.day.DayFault.{DayFault}
 use Rattle.route_drive.specs.declared.day.DayFault.TheVariants as day
 use Rattle.script_rows.specs.declared.fault.ScriptFault.{ScriptFault}
 use Rattle.script_rows.specs.declared.fault.ScriptFault.TheVariants as script
+use Rattle.ridepool.specs.Inputs.{most_bytes}
 use Rattle.ridepool.specs.declared.status.RunStatus.{RunStatus}
-use Rattle.ridepool.specs.declared.status.RunStatus.TheVariants.{Done, Words, Network, Fleet, Script, TooLong, ReadFault, WriteFault, OutOfMemory, Day, TooLate}
+use Rattle.ridepool.specs.declared.status.RunStatus.TheVariants.{Done, Words, Network, Fleet, Script, TooLong, ReadFault, WriteFault, OutOfMemory, Day, TooLate, Report}
 
 -- a number that isn't one, by its row and its column
 unfoldable pub at_place : ℕ → ℕ → List ℕ
 at_place row column = numbered (codes "bad number at row ") row ++ numbered (codes " column ") column
+
+-- more bytes than may be
+unfoldable pub longer_than : ℕ → List ℕ
+longer_than most = numbered (codes "longer than ") most ++ codes " bytes"
+
+-- an input is too long
+abbrev pub too_long_text : Which → List ℕ
+too_long_text w = file_name w ++ codes ": " ++ longer_than (most_bytes w)
 
 -- why words are refused
 abbrev pub word_text : WordFault → List ℕ
@@ -72,6 +84,15 @@ day_text (day.Command round lane) = numbered (codes "command at round ") round +
 day_text (day.Seals round) = numbered (codes "seals at round ") round
 day_text (day.SealBack round) = numbered (codes "seal goes back at round ") round
 
+-- why a report is none of a run of the script
+abbrev pub audit_text : AuditFault → List ℕ
+audit_text (audit.Cut n) = numbered (codes "cut at line ") n
+audit_text (audit.Form n) = numbered (codes "bad form at line ") n
+audit_text (audit.Head n) = numbered (codes "wrong head at line ") n
+audit_text (audit.Entry n) = numbered (codes "wrong entry at line ") n
+audit_text (audit.Batch n point) = numbered (codes "wrong batch at line ") n ++ numbered (codes " point ") point
+audit_text audit.OutOfMemory = codes "out of memory"
+
 -- the fault of an input: of its rows, or of what they say
 abbrev pub input_text : {F : Type 0} → (F → List ℕ) → Input F → List ℕ
 input_text own (Rows fault) = row_text fault
@@ -84,9 +105,10 @@ status_text (Words fault) = codes "words: " ++ word_text fault
 status_text (Network fault) = codes "network: " ++ input_text network_text fault
 status_text (Fleet fault) = codes "fleet: " ++ input_text fleet_text fault
 status_text (Script fault) = codes "script: " ++ input_text script_text fault
-status_text (TooLong w) = file_name w ++ codes ": longer than 67108864 bytes"
+status_text (TooLong w) = too_long_text w
 status_text (ReadFault w) = file_name w ++ codes ": read failed"
 status_text WriteFault = codes "report: write failed"
 status_text OutOfMemory = codes "out of memory"
 status_text (Day fault) = codes "script: " ++ day_text fault
 status_text (TooLate round made) = numbered (codes "script: day too late at round ") round
+status_text (Report fault) = codes "report: " ++ audit_text fault

@@ -1,3 +1,4 @@
 -- What only the bodies of this crate need.
 pub mod Reading
 pub mod Writing
+pub mod Auditing

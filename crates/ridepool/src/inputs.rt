@@ -2,7 +2,8 @@ ghost use Rattle.std.specs.Prelude.{◌≡◌, All, IfOk, IfErr};
 ghost use Rattle.made_inputs.specs.Accepted.{AreRead};
 ghost use Rattle.load_maker.specs.Texts.{texts_of};
 ghost use Rattle.request_book.specs.Consistent.{IsNode};
-ghost use Rattle.ridepool.specs.Seen.{source_seen};
+ghost use Rattle.dispatch_report.specs.Written.{Change};
+ghost use Rattle.ridepool.specs.Seen.{IsUntouched, SourceView, source_seen};
 ghost use Rattle.ridepool.specs.work.Reading.{GotInputs, ReadSources};
 
 use crate::reading::{fleet_from, network_from, script_from};
@@ -34,16 +35,18 @@ pub(crate) fn inputs_from<N: Source, F: Source, S: Source>(
     fleet: &mut F,
     script: &mut S,
 ) -> Result<ReadInputs, RunStatus>
-    ensures got { GotInputs settings.now (record {
+    ensures got { (report : Change SourceView) → IsUntouched report → GotInputs settings.now (record {
       network = source_seen N.left N.taken N.faults network.old network.new;
       fleet = source_seen F.left F.taken F.faults fleet.old fleet.new;
       script = source_seen S.left S.taken S.faults script.old script.new;
+      report = report;
     }) result }
     ensures named { IfOk result (λ got. All (λ vehicle. IsNode got.network.nodes vehicle.node) got.fleet) }
 {
     match &settings.mode {
         Mode::Load(shape) => made_inputs(alloc, shape),
         Mode::Run => read_inputs(alloc, network, fleet, script),
+        Mode::Audit => read_inputs(alloc, network, fleet, script),
         Mode::Drive => match read_inputs(alloc, network, fleet, script) {
             Ok(inputs) => match is_day(&inputs.script) {
                 Ok(()) => Ok(inputs),
@@ -61,10 +64,11 @@ fn read_inputs<N: Source, F: Source, S: Source>(
     fleet: &mut F,
     script: &mut S,
 ) -> Result<ReadInputs, RunStatus>
-    ensures read { ReadSources (record {
+    ensures read { (report : Change SourceView) → IsUntouched report → ReadSources (record {
       network = source_seen N.left N.taken N.faults network.old network.new;
       fleet = source_seen F.left F.taken F.faults fleet.old fleet.new;
       script = source_seen S.left S.taken S.faults script.old script.new;
+      report = report;
     }) result }
     ensures named { IfOk result (λ got. All (λ vehicle. IsNode got.network.nodes vehicle.node) got.fleet) }
 {

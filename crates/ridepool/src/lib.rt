@@ -3,18 +3,17 @@
 //! A successful run prints the report of one legal journal for each round of the script, with each lane's
 //! commands once, in their order, and a good outcome for each batch; for a made workload it prints one line
 //! for each batch instead. Where vehicles are driven, the script is a day, and the report is that of the day with
-//! all that is entered of them. Behind each round its notices are told. Every other answer has its cause in the
-//! contract of the call, and a refused input leaves nothing written.
+//! all that is entered of them. Behind each round its notices are told. An audit says whether a printed report is that of
+//! such a run. Every other answer has its cause in the contract of the call, and a refused input leaves nothing written.
 #![tactic(auto)]
 
+mod auditing;
 mod inputs;
 mod line_notifier;
 mod reading;
 mod run;
 mod setup;
 mod status;
-#[cfg(test)]
-mod tests;
 mod text;
 mod writing;
 

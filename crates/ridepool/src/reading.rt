@@ -4,7 +4,7 @@ ghost use Rattle.pool_base.specs.Header.{party_header};
 ghost use Rattle.pool_io.specs.Table.{table_of};
 ghost use Rattle.request_book.specs.Consistent.{IsNode};
 ghost use Rattle.ridepool.specs.Explained.{HidesNoMemory};
-ghost use Rattle.ridepool.specs.Inputs.{Reads};
+ghost use Rattle.ridepool.specs.Inputs.{Reads, most_bytes};
 ghost use Rattle.ridepool.specs.Reading.{network_in, vehicles_in, IsFleetIn, script_in, in_rows, own_fault};
 ghost use Rattle.ridepool.specs.Seen.{source_seen};
 ghost use Rattle.ridepool.specs.declared.status.RunStatus.TheVariants as status;
@@ -22,14 +22,25 @@ use script_rows::{Script, ScriptFault, ScriptVersion, read_script};
 use std::alloc::Global;
 
 /// The greatest number of bytes of an input.
-const LONGEST: u64 = 67_108_864;
-
-/// Reads a source to its end.
-fn read_input<S: Source>(alloc: Global, source: &mut S, which: Which) -> Result<Vec<u8>, RunStatus>
-    ensures { let seen = source_seen S.left S.taken S.faults source.old source.new in
-        MatchResult result (λ bytes. Reads seen (λ came. came ≡ bytes.items)) (IsUnread seen which) }
+pub(crate) fn most_bytes(which: Which) -> u64
+    ensures { result ≡ most_bytes which }
 {
-    match read_all(alloc, source, LONGEST) {
+    match which {
+        Which::Network | Which::Fleet | Which::Script => 67_108_864,
+        Which::Report => 268_435_456,
+    }
+}
+
+/// Reads the source of an input to its end.
+pub(crate) fn read_input<S: Source>(
+    alloc: Global,
+    source: &mut S,
+    which: Which,
+) -> Result<Vec<u8>, RunStatus>
+    ensures { let seen = source_seen S.left S.taken S.faults source.old source.new in
+        MatchResult result (λ bytes. Reads which seen (λ came. came ≡ bytes.items)) (IsUnread seen which) }
+{
+    match read_all(alloc, source, most_bytes(which)) {
         Ok(bytes) => Ok(bytes),
         Err(ReadAll::ReadFault) => Err(RunStatus::ReadFault(which)),
         Err(ReadAll::TooLong { .. }) => Err(RunStatus::TooLong(which)),
@@ -40,7 +51,7 @@ fn read_input<S: Source>(alloc: Global, source: &mut S, which: Which) -> Result<
 /// Reads the network from its source.
 pub(crate) fn network_from<S: Source>(alloc: Global, source: &mut S) -> Result<Network, RunStatus>
     ensures { let seen = source_seen S.left S.taken S.faults source.old source.new in
-        MatchResult result (λ network. Reads seen (λ bytes. network_in bytes ≡ Ok network)) (StopsAt seen file.Network status.Network network_in) }
+        MatchResult result (λ network. Reads file.Network seen (λ bytes. network_in bytes ≡ Ok network)) (StopsAt seen file.Network status.Network network_in) }
 {
     let bytes = read_input(alloc, source, Which::Network)?;
     accept_network(alloc, &bytes)
@@ -53,7 +64,7 @@ pub(crate) fn fleet_from<S: Source>(
     network: &Network,
 ) -> Result<Fleet, RunStatus>
     ensures read { let seen = source_seen S.left S.taken S.faults source.old source.new in
-        MatchResult result (λ fleet. Reads seen (λ bytes. IsFleetIn network.now.nodes bytes fleet))
+        MatchResult result (λ fleet. Reads file.Fleet seen (λ bytes. IsFleetIn network.now.nodes bytes fleet))
         (StopsAt seen file.Fleet status.Fleet (vehicles_in network.now.nodes)) }
     ensures named { IfOk result (All (λ vehicle. IsNode network.now.nodes vehicle.node)) }
 {
@@ -64,7 +75,7 @@ pub(crate) fn fleet_from<S: Source>(
 /// Reads the script from its source.
 pub(crate) fn script_from<S: Source>(alloc: Global, source: &mut S) -> Result<Script, RunStatus>
     ensures { let seen = source_seen S.left S.taken S.faults source.old source.new in
-        MatchResult result (λ script. Reads seen (λ bytes. script_in bytes ≡ Ok script)) (StopsAt seen file.Script status.Script script_in) }
+        MatchResult result (λ script. Reads file.Script seen (λ bytes. script_in bytes ≡ Ok script)) (StopsAt seen file.Script status.Script script_in) }
 {
     let bytes = read_input(alloc, source, Which::Script)?;
     accept_script(alloc, &bytes)

@@ -5,11 +5,12 @@ ghost use Rattle.dispatch_report.specs.Written.{sink_seen};
 ghost use Rattle.ridepool.specs.Seen.{source_seen};
 ghost use Rattle.rider_notices.specs.Seen.{notifier_seen};
 
+use crate::auditing::write_audit;
 use crate::inputs::inputs_from;
 use crate::status::RunStatus;
 use crate::writing::write_report;
 use pool_io::{Sink, Source};
-use rider_limits::read_words;
+use rider_limits::{Mode, read_words};
 use rider_notices::Notifier;
 use std::alloc::Global;
 use std::sync::Wait;
@@ -17,7 +18,7 @@ use std::thread::Threads;
 use worker_gate::Gate;
 
 /// Reads the words and the inputs, runs the script or drives the day, and writes the report, or of a made
-/// workload its summary.
+/// workload its summary; or judges a printed report, and writes whether it is one of a run of the script.
 ///
 /// The words are those behind the program's name: the command and its keys. For `run` and `drive` the inputs
 /// are read from the sources and judged in the order network, fleet, script, each to its end, and only then is
@@ -26,6 +27,9 @@ use worker_gate::Gate;
 /// For `drive` the script must be a day. Before each seal the stops that came due are entered, and then where each
 /// vehicle is; the report is that of the script with all this, has the day's counts before its last line, and is
 /// begun only where the whole day was driven.
+///
+/// For `audit` the report is read behind the script, and judged with the settings that its second line tells. Where it is
+/// the report of a run of the script, one line says so; else the answer is `Report`, with the first fault.
 ///
 /// The gate hears of each piece of growth and of each receipt of a lane.
 ///
@@ -36,7 +40,8 @@ use worker_gate::Gate;
 /// `Done` says that the report of a run of the whole script is written, and that each notifier that is left
 /// was told exactly the notices of that run. `Words` comes exactly where the
 /// words are refused. For `run` and `drive`, `Network`, `Fleet` and `Script` come exactly where that input is
-/// refused and the earlier ones pass; `TooLong` exactly where 67,108,865 bytes were taken from that source;
+/// refused and the earlier ones pass; `TooLong` exactly where 67,108,865 bytes were taken from that source, of a report
+/// 268,435,457;
 /// `ReadFault` only where that source's count of faults rose. Sources behind the one that is named are
 /// untouched, and those before it were read to their ends. For `drive` alone, `Day` comes exactly where the three
 /// pass and the script is no day, and `TooLate` exactly where a second above 1,000,000,000 would be entered; it
@@ -46,13 +51,14 @@ use worker_gate::Gate;
 /// beginning of the report of a run of the script's first rounds stands, and the notices told are those of
 /// the rounds that were written whole and flushed, of all such rounds or, without memory, of all but the
 /// last. Where the flush behind the last line fails, the whole report is written.
-pub fn ridepool<N: Source, F: Source, S: Source, K: Sink, G: Gate>(
+pub fn ridepool<N: Source, F: Source, S: Source, A: Source, K: Sink, G: Gate>(
     rt: &(impl Threads + Wait + Sync),
     alloc: Global,
     words: &[String],
     network: &mut N,
     fleet: &mut F,
     script: &mut S,
+    report: &mut A,
     out: &mut K,
     notifiers: &mut Vec<Box<dyn Notifier>>,
     gate: &G,
@@ -63,6 +69,7 @@ pub fn ridepool<N: Source, F: Source, S: Source, K: Sink, G: Gate>(
         network = source_seen N.left N.taken N.faults network.old network.new;
         fleet = source_seen F.left F.taken F.faults fleet.old fleet.new;
         script = source_seen S.left S.taken S.faults script.old script.new;
+        report = source_seen A.left A.taken A.faults report.old report.new;
       };
       out = sink_seen K.written K.faults out.old out.new;
       notifiers = record {
@@ -79,8 +86,14 @@ pub fn ridepool<N: Source, F: Source, S: Source, K: Sink, G: Gate>(
         Ok(inputs) => inputs,
         Err(status) => return status,
     };
-    match write_report(rt, alloc, out, &settings, inputs, notifiers, gate) {
-        Ok(()) => RunStatus::Done,
-        Err(status) => status,
+    match settings.mode {
+        Mode::Audit => match write_audit(rt, alloc, out, &settings, inputs, report, gate) {
+            Ok(()) => RunStatus::Done,
+            Err(status) => status,
+        },
+        _ => match write_report(rt, alloc, out, &settings, inputs, notifiers, gate) {
+            Ok(()) => RunStatus::Done,
+            Err(status) => status,
+        },
     }
 }

@@ -3,6 +3,7 @@ ghost use Rattle.std.specs.Prelude.{◌≡◌};
 use fleet_state::FleetFault;
 use pool_base::{Sequence, Which};
 use pool_io::Input;
+use report_audit::AuditFault;
 use rider_limits::WordFault;
 use road_network::NetworkFault;
 use route_drive::{DayFault, DayRound};
@@ -21,7 +22,7 @@ pub enum RunStatus {
     Fleet(Input<FleetFault>),
     /// The script is refused.
     Script(Input<ScriptFault>),
-    /// The input is longer than 67,108,864 bytes.
+    /// The input is longer than 67,108,864 bytes, or the report of an audit than 268,435,456.
     TooLong(Which),
     /// A read of the input failed.
     ReadFault(Which),
@@ -36,6 +37,8 @@ pub enum RunStatus {
         round: u32,
         rounds: Sequence<DayRound>,
     },
+    /// The report of an audit is none of a run of the script.
+    Report(AuditFault),
 }
 
 impl RunStatus {
@@ -57,6 +60,7 @@ impl RunStatus {
             RunStatus::OutOfMemory => 9,
             RunStatus::Day(_) => 11,
             RunStatus::TooLate { .. } => 12,
+            RunStatus::Report(_) => 13,
         }
     }
 }

@@ -1,11 +1,13 @@
-ghost use Rattle.std.specs.Prelude.{◌≡◌, ◌++◌, IfOk, OnOk};
+ghost use Rattle.std.specs.Prelude.{◌≡◌, ◌++◌, IfOk, OnOk, codes};
 ghost use Rattle.dispatch_report.specs.Words.{numbered};
-ghost use Rattle.ridepool.specs.Text.{at_place, word_text, row_text, network_text, fleet_text, script_text, day_text, input_text, status_text};
+ghost use Rattle.ridepool.specs.Text.{at_place, longer_than, too_long_text, word_text, row_text, network_text, fleet_text, script_text, day_text, audit_text, input_text, status_text};
 
+use crate::reading::most_bytes;
 use crate::status::RunStatus;
 use fleet_state::FleetFault;
-use pool_base::{OutOfMemory, put_bytes, put_number};
+use pool_base::{OutOfMemory, Which, put_bytes, put_number};
 use pool_io::{Input, RowFault};
+use report_audit::AuditFault;
 use rider_limits::WordFault;
 use road_network::NetworkFault;
 use route_drive::DayFault;
@@ -43,10 +45,7 @@ fn put_status(text: &mut Vec<u8>, status: &RunStatus) -> Result<(), OutOfMemory>
             put_bytes(text, b"script: ")?;
             put_script_input(text, fault)
         }
-        RunStatus::TooLong(which) => {
-            put_bytes(text, which.name().as_bytes())?;
-            put_bytes(text, b": longer than 67108864 bytes")
-        }
+        RunStatus::TooLong(which) => put_too_long(text, *which),
         RunStatus::ReadFault(which) => {
             put_bytes(text, which.name().as_bytes())?;
             put_bytes(text, b": read failed")
@@ -57,10 +56,34 @@ fn put_status(text: &mut Vec<u8>, status: &RunStatus) -> Result<(), OutOfMemory>
             put_bytes(text, b"script: ")?;
             put_day_fault(text, *fault)
         }
-        RunStatus::TooLate { round, .. } => {
-            put_at(text, b"script: day too late at round ", u64::from(*round))
+        RunStatus::TooLate { round, .. } => put_too_late(text, *round),
+        RunStatus::Report(fault) => {
+            put_bytes(text, b"report: ")?;
+            put_audit_fault(text, *fault)
         }
     }
+}
+
+fn put_too_long(text: &mut Vec<u8>, which: Which) -> Result<(), OutOfMemory>
+    ensures { OnOk result (text.new.items ≡ text.old.items ++ too_long_text which) }
+{
+    put_bytes(text, which.name().as_bytes())?;
+    put_bytes(text, b": ")?;
+    put_longer_than(text, most_bytes(which))
+}
+
+#[tactic(auto, unfolding(crate::specs::Text::longer_than))]
+fn put_longer_than(text: &mut Vec<u8>, most: u64) -> Result<(), OutOfMemory>
+    ensures { OnOk result (text.new.items ≡ text.old.items ++ longer_than most) }
+{
+    put_at(text, b"longer than ", most)?;
+    put_bytes(text, b" bytes")
+}
+
+fn put_too_late(text: &mut Vec<u8>, round: u32) -> Result<(), OutOfMemory>
+    ensures { OnOk result (text.new.items ≡ text.old.items ++ numbered (codes "script: day too late at round ") round) }
+{
+    put_at(text, b"script: day too late at round ", u64::from(round))
 }
 
 #[tactic(auto, unfolding(dispatch_report::specs::Words::numbered))]
@@ -91,6 +114,22 @@ fn put_word_fault(text: &mut Vec<u8>, fault: WordFault) -> Result<(), OutOfMemor
             put_bytes(text, b"missing ")?;
             put_bytes(text, which.name().as_bytes())
         }
+    }
+}
+
+fn put_audit_fault(text: &mut Vec<u8>, fault: AuditFault) -> Result<(), OutOfMemory>
+    ensures { OnOk result (text.new.items ≡ text.old.items ++ audit_text fault) }
+{
+    match fault {
+        AuditFault::Cut { line } => put_at(text, b"cut at line ", line),
+        AuditFault::Form { line } => put_at(text, b"bad form at line ", line),
+        AuditFault::Head { line } => put_at(text, b"wrong head at line ", line),
+        AuditFault::Entry { line } => put_at(text, b"wrong entry at line ", line),
+        AuditFault::Batch { line, point } => {
+            put_at(text, b"wrong batch at line ", line)?;
+            put_at(text, b" point ", u64::from(point))
+        }
+        AuditFault::OutOfMemory => put_bytes(text, b"out of memory"),
     }
 }
 

@@ -418,7 +418,7 @@ fn write_flushed<K: Sink>(
     }
 }
 
-fn flush<K: Sink>(out: &mut K) -> Result<(), RunStatus>
+pub(crate) fn flush<K: Sink>(out: &mut K) -> Result<(), RunStatus>
     ensures { IsFlushed (K.written out.old) (K.written out.new) (K.faults out.old) (K.faults out.new) result }
 {
     match out.flush() {

@@ -22,19 +22,27 @@ const HELP: &str = "\
 usage: ridepool run network=FILE fleet=FILE script=FILE [KEY=VALUE ..]
        ridepool drive network=FILE fleet=FILE script=FILE [KEY=VALUE ..]
        ridepool load [KEY=VALUE ..]
+       ridepool audit network=FILE fleet=FILE script=FILE report=FILE [workers=N]
 
 `run` reads a road network, a fleet and a script of commands as CSV, runs the script, and prints its
 report. Where an input is refused, one line on standard error names the file, the row and the column.
 `drive` reads a day, a script of requests and seals alone, lets the vehicles follow their plans, and
 prints the report with all that is entered of them, and how the riders were served.
 `load` makes these three from a seed, runs them the same way, and prints one line for each batch.
+`audit` reads a report that `run` printed with proof=1, by whatever machine, and says whether it is
+the report of a run of that script: every reply, both graphs, the plan, the tree that shows the bound.
 
-For `run` and `drive`:
+For `run`, `drive` and `audit`:
   network=FILE   streets: from,to,seconds
   fleet=FILE     vehicles: vehicle,seats,node,second
   script=FILE    commands: round,lane,command,a,b,c,d and, for parties, e
+
+For `run` and `drive`:
   notices=FILE   where to write what riders are told: a line for each rider of each batch (none)
   proof=0|1      print the tree that shows the bound (0)
+
+For `audit`:
+  report=FILE    the report to judge, with the settings that its second line tells
 
 For `load`:
   seed=N         what the workload is drawn from, 0 to 1000000000 (1)
@@ -43,22 +51,25 @@ For `load`:
   riders=N       requests of each batch, 1 to 1000 (150)
   rounds=N       batches, 1 to 100 (4)
 
-For all:
+For `run`, `drive` and `load`:
   wait=S         longest wait for the pickup, 0 to 7200 seconds (120)
   delay=S        longest delay of the arrival, 0 to 7200 seconds (180)
   trip=N         most riders of a trip, 1 to 6 (4)
   penalty=S      what a rider left out costs, 0 to 1000000000 (10000)
   budget=N       most nodes of the search tree, 1 to 50000 (200)
   pairs=N        most vehicle-trip pairs of a batch, 1 to 2000000 (200000)
-  workers=N      workers that look for trips, 1 to 64 (4)
   dwell=S        what each stop takes, 0 to 600 seconds (0)
   times=WAY      travel times by `rows`, searches in each batch, or by `labels`, made once (rows)
+
+For all:
+  workers=N      workers that look for trips, 1 to 64 (4)
 
   --help, -h     this text
   --version      the version
 
 Exit status: 0 done; 2 words; 3 network; 4 fleet; 5 script; 6 input too long; 7 read failed;
-8 write failed; 9 out of memory; 11 the script is no day; 12 the day comes too late.
+8 write failed; 9 out of memory; 11 the script is no day; 12 the day comes too late; 13 the report is
+that of no run of the script.
 ";
 
 const VERSION: &str = "ridepool 0.1.0\n";
@@ -109,7 +120,7 @@ fn page_of(words: &[String]) -> Option<&'static str> {
     match first.as_str() {
         "--help" | "-h" => Some(HELP),
         "--version" => Some(VERSION),
-        "run" | "drive" | "load" => {
+        "run" | "drive" | "load" | "audit" => {
             let second = words.get(1)?;
             match second.as_str() {
                 "--help" | "-h" => Some(HELP),
@@ -146,6 +157,7 @@ fn run(rt: &HostRuntime, threads: &(impl Threads + Wait + Sync), words: &[String
     let mut network = source_of(rt, words, "network");
     let mut fleet = source_of(rt, words, "fleet");
     let mut script = source_of(rt, words, "script");
+    let mut report = source_of(rt, words, "report");
     let terminal = if rt.stderr().is_terminal() {
         Some(rt.stderr())
     } else {
@@ -159,6 +171,7 @@ fn run(rt: &HostRuntime, threads: &(impl Threads + Wait + Sync), words: &[String
         &mut network,
         &mut fleet,
         &mut script,
+        &mut report,
         &mut sink,
         &mut notifiers,
         &FreeGate,

@@ -21,14 +21,14 @@ use Rattle.ridepool.specs.declared.status.RunStatus.TheVariants.{Network, Fleet,
 
 -- why a source wasn't read to its end
 pub data IsUnread (s : Change SourceView) (which : Which) : RunStatus → Type 0 where
-  long : IsSourceTooLong s → IsUnread s which (TooLong which)
-  failed : IsWithin s → Rose s.before.faults s.after.faults → IsUnread s which (ReadFault which)
-  memory : IsWithin s → IsUnread s which OutOfMemory
+  long : IsSourceTooLong which s → IsUnread s which (TooLong which)
+  failed : IsWithin which s → Rose s.before.faults s.after.faults → IsUnread s which (ReadFault which)
+  memory : IsWithin which s → IsUnread s which OutOfMemory
 
 -- why a source stopped a run: it wasn't read to its end, or what was read is refused
 pub data StopsAt {A F : Type 0} (s : Change SourceView) (which : Which) (refusal : Input F → RunStatus) (read : List ℕ → Result A (Input F)) : RunStatus → Type 0 where
   unread : (status : RunStatus) → IsUnread s which status → StopsAt s which refusal read status
-  refused : (fault : Input F) → Reads s (λ bytes. read bytes ≡ Err fault) → HidesNoMemory (refusal fault) → StopsAt s which refusal read (refusal fault)
+  refused : (fault : Input F) → Reads which s (λ bytes. read bytes ≡ Err fault) → HidesNoMemory (refusal fault) → StopsAt s which refusal read (refusal fault)
 
 -- why bytes are no network, no fleet, no script
 abbrev pub RefusesNetwork : List ℕ → RunStatus → Type 0

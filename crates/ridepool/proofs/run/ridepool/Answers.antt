@@ -1,18 +1,38 @@
 use Rattle.std.proofs.Common.{refl}
-use Rattle.ridepool.proofs.ExitLemmas.{words_answer, input_answer, done_answer, written_answer, got_is_day}
+use Rattle.ridepool.specs.Seen.{source_seen}
+use Rattle.ridepool.proofs.ExitLemmas.{words_answer, input_answer, done_answer, written_answer, yes_answer, no_answer, prints, got_is_day}
 use Rattle.ridepool.proofs.run.ridepool.Goals as goal
 
 pub returns-in-Err : goal.returns-in-Err
-returns-in-Err g c = words_answer _ c.in-Err.fault c.in-Err.ensures.refused (record { network = refl; fleet = refl; script = refl }) (record { out = refl; notifiers = refl })
+returns-in-Err g c =
+    words_answer _ c.in-Err.fault c.in-Err.ensures.refused (record { network = refl; fleet = refl; script = refl; report = refl }) (record { out = refl; notifiers = refl })
 
 pub returns-in-Err-inputs_from : goal.returns-in-Err-inputs_from
-returns-in-Err-inputs_from g c = input_answer _ c.in-Ok.settings c.in-Err-inputs_from.status (record { faultless = c.in-Ok.ensures.accepted.0; given = c.in-Ok.ensures.accepted.1 }) c.in-Err-inputs_from.ensures.got (record { out = refl; notifiers = refl })
+returns-in-Err-inputs_from g c =
+    input_answer _ c.in-Ok.settings c.in-Err-inputs_from.status (record { faultless = c.in-Ok.ensures.accepted.0; given = c.in-Ok.ensures.accepted.1 })
+    (c.in-Err-inputs_from.ensures.got _ refl) refl (record { out = refl; notifiers = refl })
+
+pub returns-in-Ok-write_audit : goal.returns-in-Ok-write_audit
+returns-in-Ok-write_audit g c =
+    yes_answer _ c.in-Ok.settings c.in-Ok-inputs_from.inputs (record { faultless = c.in-Ok.ensures.accepted.0; given = c.in-Ok.ensures.accepted.1 }) c.in-Audit.is
+    (c.in-Ok-inputs_from.ensures.got _ refl) refl c.in-Ok-write_audit.ensures.audited
+
+pub returns-in-Err-write_audit : goal.returns-in-Err-write_audit
+returns-in-Err-write_audit g c =
+    no_answer _ c.in-Ok.settings c.in-Ok-inputs_from.inputs (record { faultless = c.in-Ok.ensures.accepted.0; given = c.in-Ok.ensures.accepted.1 }) c.in-Audit.is
+    (c.in-Ok-inputs_from.ensures.got _ refl) refl c.in-Err-write_audit.status c.in-Err-write_audit.ensures.audited
 
 pub returns-in-Ok-write_report : goal.returns-in-Ok-write_report
-returns-in-Ok-write_report g c = done_answer _ c.in-Ok.settings c.in-Ok-inputs_from.inputs (record { faultless = c.in-Ok.ensures.accepted.0; given = c.in-Ok.ensures.accepted.1 }) c.in-Ok-inputs_from.ensures.got c.in-Ok-write_report.ensures.report
+returns-in-Ok-write_report g c =
+    done_answer _ c.in-Ok.settings c.in-Ok-inputs_from.inputs (record { faultless = c.in-Ok.ensures.accepted.0; given = c.in-Ok.ensures.accepted.1 })
+    (c.in-Ok-inputs_from.ensures.got _ refl) (prints c.in-Ok.settings.mode c.in_default.not-Audit) refl c.in-Ok-write_report.ensures.report
 
 pub returns-in-Err-write_report : goal.returns-in-Err-write_report
-returns-in-Err-write_report g c = written_answer _ c.in-Ok.settings c.in-Ok-inputs_from.inputs c.in-Err-write_report.status (record { faultless = c.in-Ok.ensures.accepted.0; given = c.in-Ok.ensures.accepted.1 }) c.in-Ok-inputs_from.ensures.got c.in-Err-write_report.ensures.report
+returns-in-Err-write_report g c =
+    written_answer _ c.in-Ok.settings c.in-Ok-inputs_from.inputs c.in-Err-write_report.status (record { faultless = c.in-Ok.ensures.accepted.0; given = c.in-Ok.ensures.accepted.1 })
+    (c.in-Ok-inputs_from.ensures.got _ refl) (prints c.in-Ok.settings.mode c.in_default.not-Audit) refl c.in-Err-write_report.ensures.report
 
 pub write_report-requires-clause-day : goal.write_report-requires-clause-day
-write_report-requires-clause-day g c κs within = got_is_day c.in-Ok.settings _ c.in-Ok-inputs_from.inputs c.in-Ok-inputs_from.ensures.got
+write_report-requires-clause-day g c κs within =
+    got_is_day c.in-Ok.settings _ c.in-Ok-inputs_from.inputs
+    (c.in-Ok-inputs_from.ensures.got (source_seen g.A.Source.left g.A.Source.taken g.A.Source.faults c.args.report.now c.args.report.now) refl)

@@ -1,0 +1,195 @@
+"""Audits printed reports: the report of each case and of each drawn run is confirmed, and with one change in it is refused.
+
+    audited.py PROGRAM [CHANGES [SEED]]
+
+A change takes one byte, one number or one line: it is altered, left out, put in twice, or changes places with the next, or
+the text is cut. A changed report is refused exactly where the judge of these tests refuses it (other multipliers may show
+the same bound, and another setting need not matter), and the refusal names the changed line, or the first of the batch's
+block in which it stands. The last line is `N passed, M failed`, by reports and by changes.
+"""
+
+import os
+import random
+import re
+import subprocess
+import sys
+import tempfile
+from concurrent.futures import ThreadPoolExecutor
+from pathlib import Path
+
+from drawn import inputs_of, output_of, write_inputs
+from inputs import Run
+from judge import Wrong, judge
+from run import CASES, prepare, text_in
+
+DRAWN = 60  # runs that are drawn, of which some are days or made workloads, and then aren't audited
+LARGEST = 60_000  # bytes of a report in which changes are made
+FILES = ("network", "fleet", "script")
+
+
+class Printed:
+    """A report that the program printed with proof=1, and the words that audit it."""
+
+    def __init__(self, name, program, words, folder):
+        self.name, self.folder = name, folder
+        words = [*(word for word in words if not word.startswith(("proof=", "notices="))), "proof=1"]
+        self.words, self.text = words, output_of(program, words, folder)
+        self.lines = self.text.split("\n")[:-1]
+        given = [word for word in words if word.startswith(tuple(f"{it}=" for it in FILES))]
+        self.audit = [program, "audit", *given]
+        begins = [at for at, line in enumerate(self.lines) if line.startswith("batch ")]
+        ends = [at for at, line in enumerate(self.lines) if line == "end"]
+        self.blocks = list(zip(begins, ends))
+
+    def verdict(self, text, number):
+        path = self.folder / f"audited-{number}"
+        path.write_text(text)
+        words = [*self.audit, f"report={path.name}"]
+        ran = subprocess.run(words, cwd=self.folder, capture_output=True, text=True, timeout=120)
+        path.unlink()
+        return ran
+
+    def confirm(self):
+        """The program confirms its own report, and counts its entries and batches."""
+        ran = self.verdict(self.text, "whole")
+        closes = sum(line.endswith(" closed") and line[:1].isdigit() for line in self.lines)
+        wanted = f"audit ok entries {self.lines[-1].removeprefix('done ')} batches {closes}\n"
+        if (ran.returncode, ran.stdout, ran.stderr) != (0, wanted, ""):
+            raise Wrong(f"{ran.returncode}, {ran.stdout!r}, {ran.stderr!r} in place of {wanted!r}")
+
+    def is_right(self, text):
+        """Whether the judge of these tests takes the text for the report of a run with the settings of its second line."""
+        settings = re.search(r"^settings (.*)$", text, re.M)
+        told = settings[1].split(" ") if settings else []
+        others = [it for it in self.words if it.partition("=")[0] not in ("wait", "delay", "trip", "penalty", "budget", "pairs", "proof", "dwell")]
+        try:
+            judge(Run(self.folder, [*others, *told]), text)
+        except (Wrong, ValueError, IndexError, KeyError):
+            return False
+        return True
+
+    def refuse(self, change, number):
+        """The changed report is refused, if it is none, at the changed line or at the batch in whose block it stands."""
+        way, at, text = change
+        ran = self.verdict(text, number)
+        if ran.returncode == 0 and self.is_right(text):
+            return
+        found = re.fullmatch(r"ridepool: report: (?:(?:cut at|bad form at|wrong head at|wrong entry at) line (\d+)|wrong batch at line (\d+) point [0-8])\n", ran.stderr)
+        if ran.returncode != 13 or ran.stdout or not found:
+            raise Wrong(f"{way} of line {at + 1}: {ran.returncode}, {ran.stdout!r}, {ran.stderr!r}")
+        block = [begin for begin, end in self.blocks if begin <= at <= end]
+        is_setting = at == 1 and not ran.stderr.endswith("line 2\n")
+        if not is_setting and (found[1] and int(found[1]) != at + 1 or found[2] and int(found[2]) - 1 not in block):
+            raise Wrong(f"{way} of line {at + 1}: {ran.stderr!r}")
+        if self.is_right(text):
+            raise Wrong(f"{way} of line {at + 1}: a right report is refused: {ran.stderr!r}")
+
+
+def altered_byte(draw, lines, at):
+    line = lines[at]
+    if not line:
+        return None
+    place = draw.randrange(len(line))
+    other = draw.choice([it for it in "0123456789 abz:@-" if it != line[place]])
+    return [*lines[:at], line[:place] + other + line[place + 1 :], *lines[at + 1 :]]
+
+
+def altered_number(draw, lines, at):
+    numbers = [*re.finditer(r"\d+", lines[at])]
+    if not numbers:
+        return None
+    number = draw.choice(numbers)
+    other = str(max(0, int(number[0]) + draw.choice([-2, -1, 1, 2, 10])))
+    line = lines[at][: number.start()] + other + lines[at][number.end() :]
+    return [*lines[:at], line, *lines[at + 1 :]] if line != lines[at] else None
+
+
+def dropped_line(draw, lines, at):
+    return [*lines[:at], *lines[at + 1 :]]
+
+
+def doubled_line(draw, lines, at):
+    return [*lines[: at + 1], *lines[at:]]
+
+
+def swapped_lines(draw, lines, at):
+    if at + 1 == len(lines) or lines[at] == lines[at + 1]:
+        return None
+    return [*lines[:at], lines[at + 1], lines[at], *lines[at + 2 :]]
+
+
+def zero_in_front(draw, lines, at):
+    line = re.sub(r"(\d+)", r"0\1", lines[at], count=1)
+    return [*lines[:at], line, *lines[at + 1 :]] if line != lines[at] else None
+
+
+WAYS = [altered_byte, altered_byte, altered_number, altered_number, dropped_line, doubled_line, swapped_lines, zero_in_front]
+
+
+def first_difference(one, other):
+    """The first line in which two texts differ."""
+    pairs = zip(one + [None], other + [None])
+    return next(at for at, (a, b) in enumerate(pairs) if a != b)
+
+
+def drawn_change(draw, printed):
+    """A changed text, what was done, and the first line that differs."""
+    while True:
+        if draw.random() < 0.1:
+            size = draw.randrange(len(printed.text))
+            return "a cut", printed.text[:size].count("\n"), printed.text[:size]
+        way, at = draw.choice(WAYS), draw.randrange(len(printed.lines))
+        lines = way(draw, printed.lines, at)
+        if lines and lines != printed.lines:
+            first = first_difference(printed.lines, lines)
+            return way.__name__.replace("_", " "), first, "".join(f"{line}\n" for line in lines)
+
+
+def of_cases(room):
+    for case in sorted(CASES.iterdir()):
+        words = text_in(case, "words").split("\n")[:-1]
+        if words[:1] == ["run"] and text_in(case, "status", "0\n") in ("0", "0\n") and (case / "stdout").exists():
+            folder = room / case.name
+            prepare(case, folder)
+            yield case.name, words, folder
+
+
+def of_draws(room):
+    for seed in range(1, DRAWN + 1):
+        drawn = inputs_of(seed)
+        if drawn.words[0] == "run":
+            folder = room / f"seed-{seed}"
+            folder.mkdir()
+            write_inputs(drawn, folder)
+            yield f"seed {seed}", drawn.words, folder
+
+
+def tries(name, call, *given):
+    try:
+        call(*given)
+    except (Wrong, OSError, subprocess.SubprocessError) as wrong:
+        print(f"{name}: {wrong}")
+        return False
+    return True
+
+
+def main():
+    if len(sys.argv) < 2:
+        sys.exit(__doc__)
+    program = os.path.abspath(sys.argv[1])
+    changes, seed = [*map(int, sys.argv[2:4]), *[2000, 1][len(sys.argv) - 2 :]][:2]
+    draw, passed = random.Random(seed), []
+    with tempfile.TemporaryDirectory() as room, ThreadPoolExecutor(len(os.sched_getaffinity(0))) as pool:
+        given = [*of_cases(Path(room)), *of_draws(Path(room))]
+        printed = [*pool.map(lambda it: Printed(it[0], program, *it[1:]), given)]
+        passed += pool.map(lambda it: tries(it.name, it.confirm), printed)
+        small = [it for it in printed if len(it.text) <= LARGEST]
+        drawn = [(number, it, drawn_change(draw, it)) for number, it in enumerate(draw.choices(small, k=changes))]
+        passed += pool.map(lambda it: tries(it[1].name, it[1].refuse, it[2], it[0]), drawn)
+    print(f"{len(printed)} reports were audited, and {changes} changed ones")
+    print(f"{sum(passed)} passed, {len(passed) - sum(passed)} failed")
+    return not all(passed)
+
+
+if __name__ == "__main__":
+    sys.exit(main())
