@@ -21,8 +21,8 @@ use Rattle.report_lines.specs.Outcome.{lines_of}
 use Rattle.report_lines.specs.declared.block.BlockFault.{BlockFault}
 use Rattle.report_lines.specs.declared.block.BlockFault.TheVariants.{OutOfMemory as MemoryFault}
 use Rattle.report_lines.specs.declared.block_line.BlockLine.{BlockLine}
-use Rattle.report_lines.proofs.OneBlock.{block_of_one, block_no_fault}
-use Rattle.report_lines.proofs.OutcomeLemmas.{outcome_block, outcome_texts}
+use Rattle.report_lines.proofs.lemmas.OneBlock.{block_of_one, block_no_fault}
+use Rattle.report_lines.proofs.lemmas.OutcomeLemmas.{outcome_block, outcome_texts}
 use Rattle.request_book.specs.declared.outcome.Answer.{Answer}
 use Rattle.request_book.specs.declared.outcome.Answer.TheVariants.{Planned as Plan}
 use Rattle.request_book.specs.declared.outcome.Outcome.{Outcome}

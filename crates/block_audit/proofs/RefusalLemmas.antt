@@ -21,7 +21,7 @@ use Rattle.report_lines.specs.declared.block.BlockFault.{BlockFault}
 use Rattle.report_lines.specs.declared.block.BlockFault.TheVariants as fault
 use Rattle.report_lines.specs.declared.block_line.BlockLine.{BlockLine}
 use Rattle.report_lines.specs.declared.block_line.BlockLine.TheVariants.{Batch as BatchLine, Expired, Lapsed, Late, Alone, Shared, End}
-use Rattle.report_lines.proofs.OneBlock.{block_of_one, block_no_fault, one_fault}
+use Rattle.report_lines.proofs.lemmas.OneBlock.{block_of_one, block_no_fault, one_fault}
 use Rattle.request_book.specs.declared.outcome.Answer.{Answer}
 use Rattle.request_book.specs.declared.outcome.Answer.TheVariants.{Overflow as TooMany, Planned as Plan}
 use Rattle.request_book.specs.declared.outcome.Outcome.{Outcome}

@@ -1,4 +1,4 @@
-pub mod LaneLemmas
+pub mod lemmas
 pub mod PassLemmas
 pub mod CrewLemmas
 pub mod RoundLemmas

@@ -24,7 +24,7 @@ use Rattle.dispatch_engine.specs.Lane.{of_lane, ClosesAreGood, IsLaneRun}
 use Rattle.dispatch_engine.specs.Run.{IsReady, IsRoundRun, IsSameRun, journal_of}
 use Rattle.dispatch_engine.specs.work.Crew.{HaveRunLanes}
 use Rattle.dispatch_engine.specs.work.Lanes.{ArePlain, HaveRun, IsJointRun, IsPlain}
-use Rattle.dispatch_engine.proofs.LaneLemmas.{joined}
+use Rattle.dispatch_engine.proofs.lemmas.LaneLemmas.{joined}
 
 -- what holds at all holds on an error
 pub on-err : {T E : Type 0} (r : Result T E) (P : Type 0) → P → OnErr r P

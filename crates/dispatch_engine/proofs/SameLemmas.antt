@@ -31,7 +31,7 @@ use Rattle.dispatch_engine.specs.Lane.{of_lane, IsCloseOf, IsLaneRunFrom, IsLane
 use Rattle.dispatch_engine.specs.Run.{IsRoundRun, IsRun}
 use Rattle.dispatch_engine.specs.Same.{IsInLaneZero, IsSameCommand, HaveSameCommands}
 use Rattle.dispatch_engine.specs.work.Lanes.{IsPlain}
-use Rattle.dispatch_engine.proofs.LaneLemmas.{IsQuiet, plain-quiet}
+use Rattle.dispatch_engine.proofs.lemmas.LaneLemmas.{IsQuiet, plain-quiet}
 
 -- what answers a seal or a close looks at: the last seal, the number of the batch that stands sealed, and how many there were
 pub record Clock : Type 0 where

@@ -11,8 +11,8 @@ use Rattle.entry_lines.specs.work.Told.{Told}
 use Rattle.entry_lines.proofs.ToldLemmas.{no_number}
 use Rattle.report_lines.specs.Ids.{IsId}
 use Rattle.report_lines.specs.Reading.{BeginsWith, BeginsWithNone, ends_number}
-use Rattle.report_lines.specs.work.Both.{both, BothAre}
-use Rattle.report_lines.proofs.ReadingLemmas.{EndsOnce, both_once, both_none_first, both_none_second, numbered_once, pair_once, spaced_apart}
+use Rattle.report_lines.specs.Both.{both, BothAre}
+use Rattle.report_lines.proofs.lemmas.ReadingLemmas.{EndsOnce, both_once, both_none_first, both_none_second, numbered_once, pair_once, spaced_apart}
 use Rattle.request_book.specs.declared.command.Command.TheVariants.{Submit, Cancel, Report, Pickup, Dropoff, Seal, Close}
 use Rattle.request_book.specs.declared.outcome.Answer.TheVariants.{Overflow}
 use Rattle.request_book.specs.declared.outcome.Outcome.{Outcome}

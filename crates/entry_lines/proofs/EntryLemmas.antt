@@ -9,8 +9,8 @@ use Rattle.entry_lines.specs.work.Commands.{told_text, IsTold}
 use Rattle.entry_lines.specs.work.Told.{Told}
 use Rattle.entry_lines.proofs.ToldLemmas.{no_head, tail_told}
 use Rattle.report_lines.specs.Reading.{BeginsWith, BeginsWithNone, ends_number}
-use Rattle.report_lines.specs.work.Both.{both, BothAre}
-use Rattle.report_lines.proofs.ReadingLemmas.{EndsOnce, decimal_once, numbered_once}
+use Rattle.report_lines.specs.Both.{both, BothAre}
+use Rattle.report_lines.proofs.lemmas.ReadingLemmas.{EndsOnce, decimal_once, numbered_once}
 use Rattle.request_book.specs.declared.command.Command.{Command}
 use Rattle.request_book.specs.declared.journal.Entry.{Entry}
 use Rattle.request_book.specs.declared.reply.Reply.{Reply}

@@ -1,5 +1,5 @@
+pub mod lemmas
 pub mod ToldLemmas
 pub mod CommandLemmas
 pub mod EntryLemmas
 pub mod ReplyLemmas
-pub mod NextLemmas

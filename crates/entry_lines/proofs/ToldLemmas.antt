@@ -6,9 +6,9 @@ use Rattle.std.proofs.lemmas.Bool.{and_parts}
 use Rattle.std.proofs.lemmas.Fmt.{decimal_is_IsNumeral_wide}
 use Rattle.entry_lines.specs.work.Told.{Told}
 use Rattle.report_lines.specs.Reading.{BeginsWith, BeginsWithNone, ends_number}
-use Rattle.report_lines.specs.work.Both.{both, BothAre}
-use Rattle.report_lines.proofs.NumeralLemmas.{decimal_digits}
-use Rattle.report_lines.proofs.ReadingLemmas.{EndsOnce, head_none, head_and_tail}
+use Rattle.report_lines.specs.Both.{both, BothAre}
+use Rattle.report_lines.proofs.lemmas.NumeralLemmas.{decimal_digits}
+use Rattle.report_lines.proofs.lemmas.ReadingLemmas.{EndsOnce, head_none, head_and_tail}
 
 module _ {X Y : Type 0} (t : X → List ℕ) (Is : X → Type 0) (u : Y → List ℕ) (Us : Y → Type 0) (text : List ℕ) where
   pub no_head : ((y : Y) → ends_number (u y) ≡ true) → BeginsWithNone t Is text → Told (both t u) (BothAre Is Us) text → ⊥

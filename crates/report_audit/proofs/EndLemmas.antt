@@ -5,9 +5,9 @@ use Rattle.dispatch_report.specs.Words.{numbered}
 use Rattle.entry_lines.specs.Next.{IsNextLine}
 use Rattle.entry_lines.specs.declared.next.NextLine.{NextLine}
 use Rattle.entry_lines.specs.declared.next.NextLine.TheVariants.{Done as DoneOf}
-use Rattle.entry_lines.proofs.NextLemmas.{one_kind}
+use Rattle.entry_lines.proofs.lemmas.NextLemmas.{one_kind}
 use Rattle.report_lines.specs.Cut.{is_one_line}
-use Rattle.report_lines.proofs.OneBlock.{cut_once}
+use Rattle.report_lines.proofs.lemmas.OneBlock.{cut_once}
 use Rattle.rider_limits.specs.declared.settings.Settings.{Settings}
 use Rattle.road_network.specs.Roads.{Roads}
 use Rattle.report_audit.specs.Fault.{HasLine}

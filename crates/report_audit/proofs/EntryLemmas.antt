@@ -18,7 +18,7 @@ use Rattle.dispatch_report.specs.Round.{entry_block}
 use Rattle.entry_lines.specs.Next.{IsEntry, IsNextLine}
 use Rattle.entry_lines.specs.declared.next.NextLine.{NextLine}
 use Rattle.entry_lines.specs.declared.next.NextLine.TheVariants.{Entry as EntryOf, Round as RoundOf, Done as DoneOf}
-use Rattle.entry_lines.proofs.NextLemmas.{one_kind}
+use Rattle.entry_lines.proofs.lemmas.NextLemmas.{one_kind}
 use Rattle.lane_progress.specs.declared.stand.LaneStand.{LaneStand}
 use Rattle.lane_progress.specs.Stand.{stand_at, stand_after, HaveCome, AreDone, IsNext, IsNextFrom}
 use Rattle.lane_progress.proofs.lemmas.LaneLemmas.{come_more}
@@ -35,7 +35,7 @@ use Rattle.request_book.specs.declared.outcome.Outcome.{Outcome}
 use Rattle.request_book.specs.declared.reply.Reply.{Reply}
 use Rattle.request_book.specs.declared.reply.Reply.TheVariants.{Closed}
 use Rattle.request_book.specs.declared.state.State.{State}
-use Rattle.request_book.proofs.BookLemmas.{replies-push}
+use Rattle.request_book.proofs.lemmas.BookLemmas.{replies-push}
 use Rattle.rider_limits.specs.declared.settings.Settings.{Settings}
 use Rattle.road_network.specs.Roads.{Roads}
 use Rattle.script_rows.specs.Round.{NumberedLanes, IsRound, MayStand, lane_at}

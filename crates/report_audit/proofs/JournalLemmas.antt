@@ -4,7 +4,7 @@ use Rattle.std.specs.Prelude.{option_map}
 use Rattle.batch_snapshot.specs.Batch.{Batch}
 use Rattle.dispatch_engine.specs.Lane.{IsGoodClose, ClosesAreGood, last_sealed}
 use Rattle.dispatch_engine.specs.work.Lanes.{IsPlain}
-use Rattle.dispatch_engine.proofs.LaneLemmas.{IsQuiet, plain-quiet}
+use Rattle.dispatch_engine.proofs.lemmas.LaneLemmas.{IsQuiet, plain-quiet}
 use Rattle.pool_base.specs.InOrder.{◌>>=◌, refused_where}
 use Rattle.pool_io.specs.Faults.{one_more}
 use Rattle.request_book.specs.Book.{next_position, would_seal}
@@ -26,7 +26,7 @@ use Rattle.rider_limits.specs.declared.settings.Settings.{Settings}
 use Rattle.road_network.specs.Roads.{Roads}
 use Rattle.shared_book.specs.Locked.{sealed_by}
 use Rattle.shared_book.specs.work.Locked.{snapshot_before}
-use Rattle.shared_book.proofs.LockedLemmas.{step-sealed}
+use Rattle.shared_book.proofs.lemmas.LockedLemmas.{step-sealed}
 use Rattle.report_audit.specs.Types.{IsTold, AreTold}
 use Rattle.report_audit.specs.work.Commands.{IsNoClose, sealed_next}
 use Rattle.report_audit.proofs.TextLemmas.{next-none, next-more}

@@ -7,7 +7,7 @@ use Rattle.std.proofs.lemmas.List.Elements.{filter-append}
 use Rattle.batch_snapshot.specs.Batch.{Batch}
 use Rattle.dispatch_engine.specs.Lane.{of_lane, IsCloseOf, IsLaneRun, IsLaneRunFrom, IsLaneBeginning, last_sealed}
 use Rattle.dispatch_engine.specs.work.Lanes.{IsPlain}
-use Rattle.dispatch_engine.proofs.LaneLemmas.{plain-quiet}
+use Rattle.dispatch_engine.proofs.lemmas.LaneLemmas.{plain-quiet}
 use Rattle.lane_progress.specs.declared.stand.LaneStand.{LaneStand}
 use Rattle.lane_progress.specs.Stand.{at_start, stand_at, IsRest, IsNext, IsNextFrom, stand_after, HaveCome, AreDone}
 use Rattle.request_book.specs.Step.{step}

@@ -12,13 +12,13 @@ use Rattle.dispatch_report.specs.Round.{entry_block}
 use Rattle.entry_lines.specs.Next.{IsEntry, IsNextLine}
 use Rattle.entry_lines.specs.declared.next.NextLine.{NextLine}
 use Rattle.entry_lines.specs.declared.next.NextLine.TheVariants.{Entry as EntryOf}
-use Rattle.entry_lines.proofs.NextLemmas.{one_kind}
+use Rattle.entry_lines.proofs.lemmas.NextLemmas.{one_kind}
 use Rattle.lane_progress.specs.declared.stand.LaneStand.{LaneStand}
 use Rattle.lane_progress.specs.Stand.{stand_at, stand_after, HaveCome, IsNext, IsNextFrom}
 use Rattle.lane_progress.proofs.lemmas.LaneLemmas.{come_more}
 use Rattle.pool_io.specs.Faults.{one_more}
 use Rattle.report_lines.specs.Cut.{is_one_line}
-use Rattle.report_lines.proofs.OneBlock.{cut_once}
+use Rattle.report_lines.proofs.lemmas.OneBlock.{cut_once}
 use Rattle.request_book.specs.Book.{BookView, IsApplied, IsBook, next_position}
 use Rattle.request_book.specs.Replay.{state_after, RepliesAreSteps}
 use Rattle.request_book.specs.Step.{step}
@@ -29,7 +29,7 @@ use Rattle.request_book.specs.declared.journal.Journal.{Journal}
 use Rattle.request_book.specs.declared.outcome.Outcome.{Outcome}
 use Rattle.request_book.specs.declared.reply.Reply.{Reply}
 use Rattle.request_book.specs.declared.state.State.{State}
-use Rattle.request_book.proofs.BookLemmas.{applied-book}
+use Rattle.request_book.proofs.lemmas.BookLemmas.{applied-book}
 use Rattle.rider_limits.specs.declared.settings.Settings.{Settings}
 use Rattle.road_network.specs.Roads.{Roads}
 use Rattle.script_rows.specs.Round.{NumberedLanes, lane_at}

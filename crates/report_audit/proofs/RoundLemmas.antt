@@ -11,18 +11,18 @@ use Rattle.dispatch_report.specs.Words.{numbered}
 use Rattle.entry_lines.specs.Next.{IsNextLine}
 use Rattle.entry_lines.specs.declared.next.NextLine.{NextLine}
 use Rattle.entry_lines.specs.declared.next.NextLine.TheVariants.{Round as RoundOf}
-use Rattle.entry_lines.proofs.NextLemmas.{one_kind}
+use Rattle.entry_lines.proofs.lemmas.NextLemmas.{one_kind}
 use Rattle.lane_progress.specs.declared.stand.LaneStand.{LaneStand}
 use Rattle.lane_progress.specs.Stand.{at_start, stand_at, HaveCome, AreDone}
 use Rattle.report_lines.specs.Cut.{is_one_line}
-use Rattle.report_lines.proofs.OneBlock.{cut_once}
+use Rattle.report_lines.proofs.lemmas.OneBlock.{cut_once}
 use Rattle.request_book.specs.Book.{BookView, next_position}
 use Rattle.request_book.specs.Replay.{state_after, RepliesAreSteps}
 use Rattle.request_book.specs.declared.command.Command.{Command}
 use Rattle.request_book.specs.declared.journal.Entry.{Entry}
 use Rattle.request_book.specs.declared.journal.Journal.{Journal}
 use Rattle.request_book.specs.declared.state.State.{State}
-use Rattle.request_book.proofs.BookLemmas.{round-book}
+use Rattle.request_book.proofs.lemmas.BookLemmas.{round-book}
 use Rattle.rider_limits.specs.declared.settings.Settings.{Settings}
 use Rattle.road_network.specs.Roads.{Roads}
 use Rattle.script_rows.specs.Round.{NumberedLanes, IsRound, lane_at}

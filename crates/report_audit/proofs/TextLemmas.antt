@@ -12,7 +12,7 @@ use Rattle.entry_lines.specs.Reply.{IsReply, IsRefusal, OrNone}
 use Rattle.pool_io.specs.Faults.{one_more}
 use Rattle.report_lines.specs.Cut.{is_one_line}
 use Rattle.report_lines.specs.Ids.{IsId}
-use Rattle.report_lines.proofs.OneBlock.{append_one_line, numbered_one_line}
+use Rattle.report_lines.proofs.lemmas.OneBlock.{append_one_line, numbered_one_line}
 use Rattle.request_book.specs.Book.{next_position}
 use Rattle.request_book.specs.declared.command.Command.{Command}
 use Rattle.request_book.specs.declared.command.Command.TheVariants.{Submit, Cancel, Report, Pickup, Dropoff, Seal, Close}

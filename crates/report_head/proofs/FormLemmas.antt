@@ -6,9 +6,9 @@ use Rattle.report_head.specs.Settings.{AreLawful}
 use Rattle.report_lines.specs.Head.{settings_text, AreSettings, sizes_text, AreSizes}
 use Rattle.report_lines.specs.Reading.{BeginsWith}
 use Rattle.report_lines.specs.declared.head.SettingsText.{SettingsText}
-use Rattle.report_lines.specs.work.Both.{BothAre}
-use Rattle.report_lines.proofs.HeadLemmas.{settings_of_one}
-use Rattle.report_lines.proofs.ReadingLemmas.{EndsOnce, StandsApart, both_once, numbered_once}
+use Rattle.report_lines.specs.Both.{BothAre}
+use Rattle.report_lines.proofs.lemmas.HeadLemmas.{settings_of_one}
+use Rattle.report_lines.proofs.lemmas.ReadingLemmas.{EndsOnce, StandsApart, both_once, numbered_once}
 use Rattle.road_network.specs.Roads.{Roads, IsNetwork}
 
 -- what is found not to hold

@@ -13,8 +13,8 @@ use Rattle.report_head.proofs.SettingsLemmas.{lawful_short, told_lawful, setting
 use Rattle.report_lines.specs.Cut.{is_one_line}
 use Rattle.report_lines.specs.Head.{settings_text, AreSettings, sizes_text, AreSizes}
 use Rattle.report_lines.specs.declared.head.SettingsText.{SettingsText}
-use Rattle.report_lines.proofs.HeadLemmas.{settings_of_one}
-use Rattle.report_lines.proofs.OneBlock.{append_one_line, numbered_one_line}
+use Rattle.report_lines.proofs.lemmas.HeadLemmas.{settings_of_one}
+use Rattle.report_lines.proofs.lemmas.OneBlock.{append_one_line, numbered_one_line}
 use Rattle.rider_limits.specs.declared.settings.Settings.{Settings}
 use Rattle.road_network.specs.Roads.{Roads}
 

@@ -5,7 +5,7 @@ use Rattle.report_head.specs.Line.{IsFirst}
 use Rattle.report_head.specs.declared.fault.HeadFault.{HeadFault}
 use Rattle.report_head.specs.declared.fault.HeadFault.TheVariants.{Cut, Form, Head}
 use Rattle.report_lines.specs.Cut.{is_one_line}
-use Rattle.report_lines.proofs.OneBlock.{cut_once, no_one_line}
+use Rattle.report_lines.proofs.lemmas.OneBlock.{cut_once, no_one_line}
 
 -- a text has one first line
 pub first_once : (text a b r s : List ℕ) → IsFirst text a r → IsFirst text b s → (a ≡ b) × (r ≡ s)

@@ -8,7 +8,7 @@ use Rattle.report_head.specs.Settings.{AreOf, AreLawful, told_of}
 use Rattle.report_lines.specs.Cut.{is_one_line}
 use Rattle.report_lines.specs.Head.{settings_text, AreSettings, IsShort, dwell_text}
 use Rattle.report_lines.specs.declared.head.SettingsText.{SettingsText}
-use Rattle.report_lines.proofs.OneBlock.{append_one_line, numbered_one_line}
+use Rattle.report_lines.proofs.lemmas.OneBlock.{append_one_line, numbered_one_line}
 use Rattle.rider_limits.specs.Range.{AreInRange}
 use Rattle.rider_limits.specs.declared.settings.Mode.{Mode}
 use Rattle.rider_limits.specs.declared.settings.Settings.{Settings}

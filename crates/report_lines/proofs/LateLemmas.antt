@@ -7,7 +7,7 @@ use Rattle.report_lines.specs.Reading.{BeginsWith, BeginsWithNone, ends_number}
 use Rattle.report_lines.specs.Stops.{IsStop, stops_text, AreStops}
 use Rattle.report_lines.specs.work.Late.{order_text, IsOrder}
 use Rattle.report_lines.proofs.ListLemmas.{many_end}
-use Rattle.report_lines.proofs.ReadingLemmas.{head_none, tail_none, numbered_once}
+use Rattle.report_lines.proofs.lemmas.ReadingLemmas.{head_none, tail_none, numbered_once}
 use Rattle.report_lines.proofs.StopLemmas.{stop_apart}
 use Rattle.request_book.specs.declared.outcome.PlannedStop.{PlannedStop}
 

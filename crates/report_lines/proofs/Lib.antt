@@ -1,11 +1,7 @@
-pub mod NumeralLemmas
-pub mod ReadingLemmas
+pub mod lemmas
 pub mod ListLemmas
 pub mod StopLemmas
 pub mod LateLemmas
 pub mod SignedLemmas
 pub mod BlockLemmas
 pub mod OneLine
-pub mod HeadLemmas
-pub mod OneBlock
-pub mod OutcomeLemmas

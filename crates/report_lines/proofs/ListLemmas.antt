@@ -6,7 +6,7 @@ use Rattle.std.proofs.lemmas.List.Elements.{All-append, All-cons, All-head, All-
 use Rattle.report_lines.specs.Reading.{BeginsWith, BeginsWithNone, ends_number}
 use Rattle.dispatch_report.specs.Words.{numbered, spaced}
 use Rattle.report_lines.specs.Ids.{IsId}
-use Rattle.report_lines.proofs.ReadingLemmas.{EndsOnce, StandsApart, numbered_once}
+use Rattle.report_lines.proofs.lemmas.ReadingLemmas.{EndsOnce, StandsApart, numbered_once}
 
 -- no such text is empty
 abbrev pub IsNeverEmpty : {X : Type 0} → (X → List ℕ) → Type 0

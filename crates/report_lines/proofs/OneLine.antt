@@ -19,12 +19,12 @@ use Rattle.report_lines.specs.Row.{row_text, IsRow}
 use Rattle.report_lines.specs.Signed.{IsWide, IsLong}
 use Rattle.report_lines.specs.Stops.{IsStop, stops_text, AreStops}
 use Rattle.report_lines.specs.Trips.{IsTrip, IsLate}
-use Rattle.report_lines.specs.work.Both.{both, BothAre}
+use Rattle.report_lines.specs.Both.{both, BothAre}
 use Rattle.report_lines.specs.work.Late.{order_text, IsOrder}
 use Rattle.report_lines.proofs.LateLemmas.{order_ends}
 use Rattle.report_lines.proofs.ListLemmas.{IsNeverEmpty, many_end, spaced_some, spaced_once}
-use Rattle.report_lines.proofs.NumeralLemmas.{decimal_digits}
-use Rattle.report_lines.proofs.ReadingLemmas.{EndsOnce, StandsApart, numbered_once, pair_once, spaced_apart, spaced_ends}
+use Rattle.report_lines.proofs.lemmas.NumeralLemmas.{decimal_digits}
+use Rattle.report_lines.proofs.lemmas.ReadingLemmas.{EndsOnce, StandsApart, numbered_once, pair_once, spaced_apart, spaced_ends}
 use Rattle.report_lines.proofs.SignedLemmas.{signed_words_once, signed_apart, signed_some, long_once}
 use Rattle.report_lines.proofs.StopLemmas.{stop_once, stop_apart, stop_some}
 use Rattle.request_book.specs.declared.outcome.ChosenTrip.{ChosenTrip}

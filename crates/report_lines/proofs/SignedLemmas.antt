@@ -11,8 +11,8 @@ use Rattle.dispatch_report.specs.Words.{signed}
 use Rattle.report_lines.specs.Reading.{BeginsWith, BeginsWithNone, ends_number}
 use Rattle.report_lines.specs.Signed.{IsWide, IsLong}
 use Rattle.report_lines.proofs.ListLemmas.{IsNeverEmpty}
-use Rattle.report_lines.proofs.NumeralLemmas.{decimal_digits}
-use Rattle.report_lines.proofs.ReadingLemmas.{EndsOnce, StandsApart, decimal_once, behind_once, behind_none, behind_none_words, behind_some}
+use Rattle.report_lines.proofs.lemmas.NumeralLemmas.{decimal_digits}
+use Rattle.report_lines.proofs.lemmas.ReadingLemmas.{EndsOnce, StandsApart, decimal_once, behind_once, behind_none, behind_none_words, behind_some}
 
 -- no number's text begins with a sign
 sign_is_no_digit : (digits text rest : List ℕ) → 0 < length digits → list_all is_ascii_digit digits ≡ true → 45 ∷ text ≡ digits ++ rest → ⊥

@@ -5,10 +5,10 @@ use Rattle.dispatch_report.specs.Words.{numbered}
 use Rattle.report_lines.specs.Ids.{IsId}
 use Rattle.report_lines.specs.Reading.{BeginsWith, BeginsWithNone, ends_number}
 use Rattle.report_lines.specs.Stops.{IsStop}
-use Rattle.report_lines.specs.work.Both.{both, BothAre}
+use Rattle.report_lines.specs.Both.{both, BothAre}
 use Rattle.report_lines.specs.work.Stops.{visit_text, IsVisit}
 use Rattle.report_lines.proofs.ListLemmas.{ReadSoFar, IsNeverEmpty, so_far_more}
-use Rattle.report_lines.proofs.ReadingLemmas.{EndsOnce, StandsApart, both_none_first, both_none_second, both_some, both_once, numbered_once}
+use Rattle.report_lines.proofs.lemmas.ReadingLemmas.{EndsOnce, StandsApart, both_none_first, both_none_second, both_some, both_once, numbered_once}
 use Rattle.request_book.specs.declared.outcome.PlannedStop.{PlannedStop}
 
 pick_is_no_drop : (x y : ℕ) (r s : List ℕ) → numbered (codes " pick:") x ++ r ≡ numbered (codes " drop:") y ++ s → ⊥

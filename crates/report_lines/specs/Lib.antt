@@ -1,5 +1,6 @@
 pub mod Reading
 pub mod Cut
+pub mod Both
 pub mod Ids
 pub mod Signed
 pub mod Leaf

@@ -1,5 +1,4 @@
 -- What only the bodies of this crate need.
-pub mod Both
 pub mod Stops
 pub mod Late
 pub mod LineKinds

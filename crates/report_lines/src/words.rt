@@ -1,7 +1,7 @@
 ghost use Rattle.std.specs.Prelude.{◌≡◌, ◌≢◌, ℕ, ◌≤◌, ◌<◌, ◌^◌, List, ◌++◌, MatchOption, codes, true};
 ghost use Rattle.dispatch_report.specs.Words.{numbered, spaced};
 ghost use Rattle.report_lines.specs.Reading.{BeginsWith, BeginsWithNone, Reads};
-ghost use Rattle.report_lines.specs.work.Both.{both, BothAre};
+ghost use Rattle.report_lines.specs.Both.{both, BothAre};
 
 use crate::numeral::number_first;
 

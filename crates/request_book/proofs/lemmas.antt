@@ -9,3 +9,4 @@ pub mod ConsistentLemmas
 pub mod NamedLemmas
 pub mod LawLemmas
 pub mod StepTable
+pub mod BookLemmas

@@ -15,7 +15,7 @@ use Rattle.shared_book.specs.declared.locked.BookRoot.{BookRoot}
 use Rattle.shared_book.specs.declared.locked.LockedReply.{LockedReply}
 use Rattle.shared_book.specs.Locked.{calls_from, call_of, entry_of, log_of, root_of}
 use Rattle.shared_book.specs.Shared.{BookPass, IsFinished}
-use Rattle.shared_book.proofs.LockedLemmas.{calls-length}
+use Rattle.shared_book.proofs.lemmas.LockedLemmas.{calls-length}
 
 module _ (nodes : List ℕ) (wait : ℕ) where
   pub calls-append : (s : State) (es later : List Entry) → calls_from nodes wait s (es ++ later) ≡ calls_from nodes wait s es ++ calls_from nodes wait (state_after nodes wait s es) later

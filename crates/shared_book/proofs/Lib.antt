@@ -1,2 +1,2 @@
-pub mod LockedLemmas
+pub mod lemmas
 pub mod FinishLemmas

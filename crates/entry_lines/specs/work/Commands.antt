@@ -6,7 +6,7 @@ use Rattle.entry_lines.specs.Command.{IsCommand, IsParty}
 use Rattle.entry_lines.specs.Reply.{IsReply}
 use Rattle.entry_lines.specs.work.Replies.{spaced_reply}
 use Rattle.report_lines.specs.Ids.{IsId}
-use Rattle.report_lines.specs.work.Both.{both, BothAre}
+use Rattle.report_lines.specs.Both.{both, BothAre}
 use Rattle.request_book.specs.declared.command.Command.{Command}
 use Rattle.request_book.specs.declared.reply.Reply.{Reply}
 

@@ -2,7 +2,7 @@
 use Rattle.std.specs.Prelude.{ℕ, List, codes}
 use Rattle.dispatch_report.specs.Words.{numbered}
 use Rattle.report_lines.specs.Head.{IsShort}
-use Rattle.report_lines.specs.work.Both.{both, BothAre}
+use Rattle.report_lines.specs.Both.{both, BothAre}
 
 abbrev pub limits_text : (ℕ × ℕ) × ℕ → List ℕ
 limits_text = both (both (numbered (codes "settings wait=")) (numbered (codes " delay="))) (numbered (codes " trip="))

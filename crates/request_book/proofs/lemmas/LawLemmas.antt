@@ -26,7 +26,7 @@ use Rattle.pool_io.specs.Faults.{one_more}
 use Rattle.request_book.specs.State.{find_rider}
 use Rattle.request_book.specs.Step.{rider_becomes, vehicle_becomes, stands_at, step}
 use Rattle.request_book.specs.work.Table.{answer, picked_up, dropped_off, submit_step, cancel_step, report_step, pickup_step, dropoff_step, seal_step, close_step, table_step}
-use Rattle.request_book.proofs.BookLemmas.{opening-consistent}
+use Rattle.request_book.proofs.lemmas.BookLemmas.{opening-consistent}
 use Rattle.request_book.proofs.lemmas.ConsistentLemmas.{step-consistent}
 use Rattle.request_book.proofs.lemmas.StepTable.{step-table}
 

@@ -4,7 +4,7 @@ use Rattle.entry_lines.specs.Reply.{IsReply}
 use Rattle.entry_lines.specs.work.Replies.{spaced_reply}
 use Rattle.entry_lines.proofs.CommandLemmas.{reply_ends}
 use Rattle.entry_lines.proofs.ToldLemmas.{no_head, tail_told, both_told}
-use Rattle.report_lines.proofs.ReadingLemmas.{numbered_once}
+use Rattle.report_lines.proofs.lemmas.ReadingLemmas.{numbered_once}
 use Rattle.entry_lines.proofs.command.is_single.Goals as goal
 
 pub returns-in_default-clause-whole : goal.returns-in_default-clause-whole

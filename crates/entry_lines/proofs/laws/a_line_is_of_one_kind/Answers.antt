@@ -1,4 +1,4 @@
-use Rattle.entry_lines.proofs.NextLemmas.{one_kind}
+use Rattle.entry_lines.proofs.lemmas.NextLemmas.{one_kind}
 use Rattle.entry_lines.proofs.laws.a_line_is_of_one_kind.Goals as goal
 
 pub returns : goal.returns

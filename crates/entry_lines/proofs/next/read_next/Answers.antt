@@ -1,4 +1,4 @@
-use Rattle.entry_lines.proofs.NextLemmas.{no_line}
+use Rattle.entry_lines.proofs.lemmas.NextLemmas.{no_line}
 use Rattle.entry_lines.proofs.next.read_next.Goals as goal
 
 pub returns-in-None : goal.returns-in-None

@@ -1,4 +1,4 @@
-use Rattle.report_lines.proofs.HeadLemmas.{costs_no_penalty, costs_no_budget, costs_no_pairs}
+use Rattle.report_lines.proofs.lemmas.HeadLemmas.{costs_no_penalty, costs_no_budget, costs_no_pairs}
 use Rattle.report_lines.proofs.head.costs_first.Goals as goal
 
 pub returns-in_default : goal.returns-in_default

@@ -1,4 +1,4 @@
-use Rattle.report_lines.proofs.HeadLemmas.{limits_no_wait, limits_no_delay, limits_no_trip, limits_some}
+use Rattle.report_lines.proofs.lemmas.HeadLemmas.{limits_no_wait, limits_no_delay, limits_no_trip, limits_some}
 use Rattle.report_lines.proofs.head.limits_first.Goals as goal
 
 pub returns-in_default : goal.returns-in_default

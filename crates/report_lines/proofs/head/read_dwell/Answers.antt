@@ -1,5 +1,5 @@
 use Rattle.std.proofs.Common.{sym, ◌∙◌}
-use Rattle.report_lines.proofs.HeadLemmas.{dwell_not_zero}
+use Rattle.report_lines.proofs.lemmas.HeadLemmas.{dwell_not_zero}
 use Rattle.report_lines.proofs.head.read_dwell.Goals as goal
 
 pub returns-in-Some-eq0 : goal.returns-in-Some-eq0

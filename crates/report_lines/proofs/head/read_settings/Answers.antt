@@ -1,4 +1,4 @@
-use Rattle.report_lines.proofs.HeadLemmas.{settings_no_limits, settings_no_costs, settings_no_proof, settings_no_dwell}
+use Rattle.report_lines.proofs.lemmas.HeadLemmas.{settings_no_limits, settings_no_costs, settings_no_proof, settings_no_dwell}
 use Rattle.report_lines.proofs.head.read_settings.Goals as goal
 
 pub returns-in_default : goal.returns-in_default

@@ -1,7 +1,7 @@
 use Rattle.std.proofs.Common.{◌≤◌, ◌<◌, ◌^◌, codes, arith}
 use Rattle.dispatch_report.specs.Words.{numbered}
-use Rattle.report_lines.proofs.HeadLemmas.{arcs_end}
-use Rattle.report_lines.proofs.ReadingLemmas.{head_none, tail_none, head_and_tail, numbered_once}
+use Rattle.report_lines.proofs.lemmas.HeadLemmas.{arcs_end}
+use Rattle.report_lines.proofs.lemmas.ReadingLemmas.{head_none, tail_none, head_and_tail, numbered_once}
 use Rattle.report_lines.proofs.head.read_sizes.Goals as goal
 
 pub returns-in_default : goal.returns-in_default

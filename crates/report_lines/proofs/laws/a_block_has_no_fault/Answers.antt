@@ -1,4 +1,4 @@
-use Rattle.report_lines.proofs.OneBlock.{block_no_fault}
+use Rattle.report_lines.proofs.lemmas.OneBlock.{block_no_fault}
 use Rattle.report_lines.proofs.laws.a_block_has_no_fault.Goals as goal
 
 pub returns : goal.returns

@@ -1,4 +1,4 @@
-use Rattle.report_lines.proofs.OneBlock.{one_fault}
+use Rattle.report_lines.proofs.lemmas.OneBlock.{one_fault}
 use Rattle.report_lines.proofs.laws.a_text_has_one_fault.Goals as goal
 
 pub returns : goal.returns

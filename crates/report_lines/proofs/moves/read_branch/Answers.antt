@@ -1,7 +1,7 @@
 use Rattle.std.proofs.Common.{◌≤◌, codes, sym, ◌∙◌, arith}
 use Rattle.dispatch_report.specs.Words.{numbered, spaced}
-use Rattle.report_lines.specs.work.Both.{both, BothAre}
-use Rattle.report_lines.proofs.ReadingLemmas.{line_more, pair_once}
+use Rattle.report_lines.specs.Both.{both, BothAre}
+use Rattle.report_lines.proofs.lemmas.ReadingLemmas.{line_more, pair_once}
 use Rattle.report_lines.proofs.moves.read_branch.Goals as goal
 
 pub returns-else-is_empty : goal.returns-else-is_empty

@@ -1,8 +1,8 @@
 use Rattle.std.proofs.Common.{codes, arith}
 use Rattle.dispatch_report.specs.Words.{numbered, spaced}
 use Rattle.report_lines.specs.Ids.{IsId}
-use Rattle.report_lines.specs.work.Both.{both, BothAre}
-use Rattle.report_lines.proofs.ReadingLemmas.{head_none, tail_none, pair_once, spaced_ends}
+use Rattle.report_lines.specs.Both.{both, BothAre}
+use Rattle.report_lines.proofs.lemmas.ReadingLemmas.{head_none, tail_none, pair_once, spaced_ends}
 use Rattle.report_lines.proofs.moves.read_move.Goals as goal
 
 pub returns-in_default : goal.returns-in_default

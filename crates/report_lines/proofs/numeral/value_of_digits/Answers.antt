@@ -1,5 +1,5 @@
 use Rattle.std.proofs.Common.{◌<◌, length, arith}
-use Rattle.report_lines.proofs.NumeralLemmas.{value_after-most}
+use Rattle.report_lines.proofs.lemmas.NumeralLemmas.{value_after-most}
 use Rattle.report_lines.proofs.numeral.value_of_digits.Goals as goal
 
 pub returns-in_default : goal.returns-in_default

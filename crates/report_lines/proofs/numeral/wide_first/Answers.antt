@@ -3,7 +3,7 @@ use Rattle.std.specs.Char.{is_ascii_digit}
 use Rattle.std.specs.List.{list_all}
 use Rattle.pool_base.specs.Number.{value_of}
 use Rattle.report_lines.specs.Reading.{ends_number}
-use Rattle.report_lines.proofs.NumeralLemmas.{begins_with_large, begins_with_other}
+use Rattle.report_lines.proofs.lemmas.NumeralLemmas.{begins_with_large, begins_with_other}
 use Rattle.report_lines.proofs.numeral.wide_first.Goals as goal
 
 pub returns-in_default : goal.returns-in_default

@@ -2,9 +2,9 @@ use Rattle.std.proofs.Common.{◌≤◌, codes, arith}
 use Rattle.dispatch_report.specs.Block.{stop_text}
 use Rattle.dispatch_report.specs.Words.{numbered, spaced}
 use Rattle.report_lines.specs.Stops.{IsStop, stops_text}
-use Rattle.report_lines.specs.work.Both.{both, BothAre}
+use Rattle.report_lines.specs.Both.{both, BothAre}
 use Rattle.report_lines.proofs.ListLemmas.{many_end}
-use Rattle.report_lines.proofs.ReadingLemmas.{head_none, tail_none, pair_once}
+use Rattle.report_lines.proofs.lemmas.ReadingLemmas.{head_none, tail_none, pair_once}
 use Rattle.report_lines.proofs.StopLemmas.{stop_apart}
 use Rattle.report_lines.proofs.trip.read_trip.Goals as goal
 

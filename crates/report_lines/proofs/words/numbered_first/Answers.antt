@@ -1,4 +1,4 @@
-use Rattle.report_lines.proofs.ReadingLemmas.{numbered_none_words, numbered_read}
+use Rattle.report_lines.proofs.lemmas.ReadingLemmas.{numbered_none_words, numbered_read}
 use Rattle.report_lines.proofs.words.numbered_first.Goals as goal
 
 pub returns-in_default : goal.returns-in_default

@@ -1,6 +1,6 @@
 use Rattle.std.proofs.Common.{◌≤◌, ◌<◌, ◌^◌, arith}
 use Rattle.dispatch_report.specs.Words.{numbered, spaced}
-use Rattle.report_lines.proofs.ReadingLemmas.{both_none_first, both_none_second, numbered_once, spaced_apart}
+use Rattle.report_lines.proofs.lemmas.ReadingLemmas.{both_none_first, both_none_second, numbered_once, spaced_apart}
 use Rattle.report_lines.proofs.words.pair_first.Goals as goal
 
 pub returns-in_default : goal.returns-in_default

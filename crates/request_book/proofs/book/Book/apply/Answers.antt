@@ -3,7 +3,7 @@ use Rattle.request_book.specs.declared.journal.Entry.{Entry}
 use Rattle.request_book.specs.declared.state.State.{State}
 use Rattle.request_book.specs.Book.{BookView, IsBook}
 use Rattle.request_book.specs.work.Register.{state_of, HasRoom}
-use Rattle.request_book.proofs.BookLemmas.{applied-book}
+use Rattle.request_book.proofs.lemmas.BookLemmas.{applied-book}
 use Rattle.request_book.proofs.book.Book.apply.Goals as goal
 
 pub invariant_of-self : goal.invariant_of-self

@@ -5,7 +5,7 @@ use Rattle.request_book.specs.declared.state.State.{State}
 use Rattle.request_book.specs.Book.{BookView, IsBook, opening}
 use Rattle.request_book.specs.Keyed.{KeysRise}
 use Rattle.request_book.specs.work.Register.{state_of}
-use Rattle.request_book.proofs.BookLemmas.{opening-book, fleet-rise}
+use Rattle.request_book.proofs.lemmas.BookLemmas.{opening-book, fleet-rise}
 use Rattle.request_book.proofs.lemmas.IndexLemmas.{no-room}
 use Rattle.request_book.proofs.book.Book.over.Goals as goal
 

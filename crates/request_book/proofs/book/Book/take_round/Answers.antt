@@ -4,7 +4,7 @@ use Rattle.request_book.specs.declared.journal.Entry.{Entry}
 use Rattle.request_book.specs.declared.state.State.{State}
 use Rattle.request_book.specs.Book.{BookView, IsBook}
 use Rattle.request_book.specs.work.Register.{state_of}
-use Rattle.request_book.proofs.BookLemmas.{round-book}
+use Rattle.request_book.proofs.lemmas.BookLemmas.{round-book}
 use Rattle.request_book.proofs.lemmas.IndexLemmas.{no-room}
 use Rattle.request_book.proofs.book.Book.take_round.Goals as goal
 

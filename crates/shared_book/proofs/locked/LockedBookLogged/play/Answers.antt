@@ -1,6 +1,6 @@
 use Rattle.std.proofs.Common.{◌≡◌, subst, sym, ap, ◌∙◌, arith}
 use Rattle.request_book.specs.Book.{BookView, IsApplied, IsBook}
-use Rattle.shared_book.proofs.LockedLemmas.{calls-length, applied-call, applied-fits}
+use Rattle.shared_book.proofs.lemmas.LockedLemmas.{calls-length, applied-call, applied-fits}
 use Rattle.shared_book.proofs.locked.LockedBookLogged.play.Goals as goal
 
 pub returns-clause-entry : goal.returns-clause-entry

@@ -7,7 +7,7 @@ use Rattle.entry_lines.specs.declared.next.NextLine.TheVariants.{Round, Done, En
 use Rattle.entry_lines.proofs.EntryLemmas.{same_lane, entry_begins}
 use Rattle.entry_lines.proofs.ToldLemmas.{no_number}
 use Rattle.report_lines.specs.Reading.{BeginsWith}
-use Rattle.report_lines.proofs.ReadingLemmas.{numbered_once}
+use Rattle.report_lines.proofs.lemmas.ReadingLemmas.{numbered_once}
 
 pub no_line : (line : List ℕ) → ((n : ℕ) → n ≤ 4294967295 → line ≢ numbered (codes "round ") n) → ((n : ℕ) → n ≤ 18446744073709551615 → line ≢ numbered (codes "done ") n) → ((lane : ℕ) → IsNextLine (EntryOf lane) line → ⊥) → (x : NextLine) → IsNextLine x line → ⊥
 no_line line round done entry (Round n) is =

@@ -20,7 +20,7 @@ use Rattle.report_lines.specs.Signed.{IsWide, IsLong}
 use Rattle.report_lines.specs.Stops.{IsStop, stops_text, AreStops}
 use Rattle.report_lines.specs.work.Late.{order_text, IsOrder}
 use Rattle.report_lines.specs.work.Stops.{visit_text}
-use Rattle.report_lines.proofs.NumeralLemmas.{decimal_digits}
+use Rattle.report_lines.proofs.lemmas.NumeralLemmas.{decimal_digits}
 use Rattle.report_lines.proofs.OneLine.{block_line_of_one}
 use Rattle.report_lines.proofs.SignedLemmas.{long_is_wide}
 use Rattle.request_book.specs.declared.outcome.PlannedStop.{PlannedStop}

@@ -3,8 +3,8 @@ use Rattle.std.proofs.Common.{◌≡◌, ◌≢◌, ℕ, ◌≤◌, ◌<◌, ◌
 use Rattle.std.proofs.lemmas.List.{append_cancel_left}
 use Rattle.dispatch_report.specs.Words.{numbered, spaced}
 use Rattle.report_lines.specs.Reading.{BeginsWith, BeginsWithNone, ends_number}
-use Rattle.report_lines.specs.work.Both.{both, BothAre}
-use Rattle.report_lines.proofs.NumeralLemmas.{digits_unique, decimal_digits, decimal_same}
+use Rattle.report_lines.specs.Both.{both, BothAre}
+use Rattle.report_lines.proofs.lemmas.NumeralLemmas.{digits_unique, decimal_digits, decimal_same}
 
 -- the text of a thing ends at one place alone, and is that of one thing
 abbrev pub EndsOnce : {X : Type 0} → (X → List ℕ) → (X → Type 0) → Type 0

@@ -4,9 +4,9 @@ use Rattle.dispatch_report.specs.Words.{numbered}
 use Rattle.report_lines.specs.Head.{IsShort, dwell_text, settings_text, AreSettings}
 use Rattle.report_lines.specs.Reading.{BeginsWith, BeginsWithNone, ends_number}
 use Rattle.report_lines.specs.declared.head.SettingsText.{SettingsText}
-use Rattle.report_lines.specs.work.Both.{both, BothAre}
+use Rattle.report_lines.specs.Both.{both, BothAre}
 use Rattle.report_lines.specs.work.Head.{limits_text, costs_text, AreThree}
-use Rattle.report_lines.proofs.ReadingLemmas.{EndsOnce, StandsApart, both_none_first, both_none_second, both_some, both_once, numbered_once, head_none, tail_none}
+use Rattle.report_lines.proofs.lemmas.ReadingLemmas.{EndsOnce, StandsApart, both_none_first, both_none_second, both_some, both_once, numbered_once, head_none, tail_none}
 
 short_once : (words : List ℕ) → EndsOnce (numbered words) IsShort
 short_once words = numbered_once words 4294967295 (omega arith)

@@ -1,0 +1,5 @@
+pub mod OneBlock
+pub mod OutcomeLemmas
+pub mod ReadingLemmas
+pub mod NumeralLemmas
+pub mod HeadLemmas
