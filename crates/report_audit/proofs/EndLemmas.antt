@@ -1,5 +1,5 @@
 -- The end of a report.
-use Rattle.std.proofs.Common.{◌≡◌, ◌≢◌, ℕ, ◌<◌, ◌^◌, true, List, [], ◌∷◌, ◌++◌, length, codes, refl, sym, ap, ◌∙◌, subst, append_assoc, append-nil}
+use Rattle.std.proofs.Common.{◌≡◌, ◌≢◌, ℕ, ◌<◌, ◌^◌, true, List, [], ◌∷◌, ◌++◌, length, codes, Result, Ok, Err, MatchResult, refl, sym, ap, ◌∙◌, subst, append_assoc, append-nil}
 use Rattle.dispatch_report.specs.Round.{end_text}
 use Rattle.dispatch_report.specs.Words.{numbered}
 use Rattle.entry_lines.specs.Next.{IsNextLine}
@@ -43,6 +43,11 @@ end_behind text line after x entries stop low has form is behind =
       stops = WhereEndStops.behind after whole behind;
       none = λ same. behind.some (same_behind entries after low (sym whole ∙ same));
     }
+
+pub end_match : (text line after : List ℕ) (x : NextLine) (entries : ℕ) (r : Result (Unit {0}) Stop) → entries < 2 ^ 64 → HasLine text line after → IsNextLine x line → x ≡ DoneOf entries
+    → MatchResult r (λ _. after ≡ []) (IsRestBehind after) → MatchResult r (λ _. IsEndText text entries) (EndStops text entries)
+end_match text line after x entries (Ok u) low has form is none = end_whole text line after x entries has form is none
+end_match text line after x entries (Err stop) low has form is behind = end_behind text line after x entries stop low has form is behind
 
 pub end_other : (text line after : List ℕ) (x : NextLine) (entries : ℕ) → entries < 2 ^ 64 → HasLine text line after → IsNextLine x line → (x ≡ DoneOf entries → ⊥) → EndStops text entries (Line (length text) wrong.Entry)
 end_other text line after x entries low has form other = record {

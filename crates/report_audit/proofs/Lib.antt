@@ -8,3 +8,4 @@ pub mod ReadLemmas
 pub mod RoundLemmas
 pub mod EndLemmas
 pub mod WholeLemmas
+pub mod FaultLemmas

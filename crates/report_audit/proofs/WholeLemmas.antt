@@ -1,6 +1,8 @@
 -- All rounds of a report.
-use Rattle.std.proofs.Common.{◌≡◌, ◌≢◌, ℕ, ◌+◌, ◌-◌, ◌<◌, ◌^◌, min, true, List, [], ◌∷◌, ◌++◌, length, refl, sym, ap, ◌∙◌, subst, append_assoc, append-nil, arith}
+use Rattle.std.proofs.Common.{◌≡◌, ◌≢◌, ℕ, ◌+◌, ◌-◌, ◌<◌, ◌≤◌, ◌^◌, drop, get_or, min, take, true, List, [], ◌∷◌, ◌++◌, length, refl, sym, ap, ◌∙◌, subst, append_assoc, append-nil, arith}
 use Rattle.std.specs.Prelude.{count_by}
+use Rattle.std.proofs.lemmas.List.{drop_all, drop_more, take_all}
+use Rattle.dispatch_engine.proofs.RoundLemmas.{take_next}
 use Rattle.dispatch_engine.specs.Run.{IsRun, IsRoundRun, journal_of, position_after_run}
 use Rattle.dispatch_report.specs.Round.{end_text, round_text}
 use Rattle.request_book.specs.Book.{BookView, next_position}
@@ -22,6 +24,7 @@ use Rattle.report_audit.specs.work.Rounds.{HasReadRound, IsRoundStart, RoundStop
 use Rattle.report_audit.specs.work.Steps.{StopsAt, StopsBehind}
 use Rattle.report_audit.specs.work.Whole.{AllStops, HasComeTo, HasReadAll, HasReadRounds, WhereAllStops}
 use Rattle.report_audit.proofs.RoundLemmas.{base_is, position_is, round_so_far}
+use Rattle.report_audit.proofs.TextLemmas.{next-none}
 
 module _ (settings : Settings) (roads : Roads) where
   -- one more round of a run
@@ -57,6 +60,10 @@ text_push settings roads s p (q ∷ qs) [] r j run = absurd run
 text_push settings roads s p (q ∷ qs) (k ∷ ks) r j run =
     ap (λ (t : List ℕ). round_text q.number true k ++ t) (text_push settings roads (state_after roads.nodes settings.wait s k.entries) (next_position p k.entries) qs ks r j run.3)
     ∙ sym (append_assoc (round_text q.number true k) (rounds_text qs ks) (round_text r.number true j))
+
+-- the next position of a book without entries is its first
+pub first_next : (settings : Settings) (roads : Roads) (b : BookView) → IsRoundStart settings roads b → next_position b.first b.entries ≡ b.first
+first_next settings roads b start = ap (next_position b.first) start.empty ∙ next-none b.first start.book.low
 
 module _ (settings : Settings) (roads : Roads) (s : State) (rounds : List NumberedLanes) (text : List ℕ) where
   -- before the first round
@@ -110,6 +117,30 @@ module _ (settings : Settings) (roads : Roads) (s : State) (rounds : List Number
             (record { run = come.has_read.run; told = come.has_read.told; printed = come.has_read.printed ∙ ap (λ (t : List ℕ). rounds_text before come.made ++ t) printed })
             (inside.has_read.base ∙ base_is settings roads r b come.start ∙ come.state) (inside.has_read.first ∙ come.position) inside.begins inside.going inside.stops.stops
 
+  -- the same by the number of the round
+  module _ (i : ℕ) (low : i < length rounds) (r : NumberedLanes) (is : r ≡ get_or rounds i r) (b : BookView) (rest : List ℕ) (batches : ℕ)
+    (come : HasComeTo settings roads s rounds text (take i rounds) (drop i rounds) rest b batches) where
+    left_is : drop i rounds ≡ r ∷ drop (i + 1) rounds
+    left_is = drop_more rounds i r low ∙ ap (λ (x : NumberedLanes). x ∷ drop (i + 1) rounds) (sym is)
+
+    here : HasComeTo settings roads s rounds text (take i rounds) (r ∷ drop (i + 1) rounds) rest b batches
+    here = subst (λ (later : List NumberedLanes). HasComeTo settings roads s rounds text (take i rounds) later rest b batches) left_is come
+
+    pub come_next : (new : BookView) (rest_new : List ℕ) (count : ℕ) → HasReadRound settings roads r b new rest rest_new count
+        → HasComeTo settings roads s rounds text (take (i + 1) rounds) (drop (i + 1) rounds) rest_new new (min (batches + count) (2 ^ 64 - 1))
+    come_next new rest_new count read =
+        subst (λ (before : List NumberedLanes). HasComeTo settings roads s rounds text before (drop (i + 1) rounds) rest_new new (min (batches + count) (2 ^ 64 - 1))) (take_next rounds i r low is)
+        (come_more (take i rounds) (drop (i + 1) rounds) r b rest batches here new rest_new count read)
+
+    pub stops_next : (stop : Stop) → RoundStops settings roads r b rest stop → AllStops settings roads rounds s text stop
+    stops_next stop stops = stops_in_round (take i rounds) (drop (i + 1) rounds) r b rest batches here stop stops
+
+  -- behind the last round
+  pub come_all : (i : ℕ) (b : BookView) (rest : List ℕ) (batches : ℕ) → length rounds ≤ i → HasComeTo settings roads s rounds text (take i rounds) (drop i rounds) rest b batches → HasComeTo settings roads s rounds text rounds [] rest b batches
+  come_all i b rest batches all come =
+      subst (λ (before : List NumberedLanes). HasComeTo settings roads s rounds text before [] rest b batches) (take_all i rounds all)
+      (subst (λ (later : List NumberedLanes). HasComeTo settings roads s rounds text (take i rounds) later rest b batches) (drop_all i rounds all) come)
+
   module _ (b : BookView) (rest : List ℕ) (batches entries : ℕ) (come : HasComeTo settings roads s rounds text rounds [] rest b batches) (at : entries ≡ b.first) where
     at_end : entries ≡ position_after_run 0 come.made
     at_end = at ∙ come.position
@@ -142,3 +173,10 @@ module _ (settings : Settings) (roads : Roads) (s : State) (rounds : List Number
             nothing : (made : List Journal) → IsRun settings roads b.state b.first [] made → rest ≡ rounds_text [] made ++ end_text (position_after_run b.first made) → ⊥
             nothing [] run printed = stops.none (printed ∙ ap end_text (sym at))
             nothing (j ∷ js) run printed = absurd run
+
+-- a stop for want of memory, before anything was read
+pub memory_at_start : (settings : Settings) (roads : Roads) (rounds : List NumberedLanes) (s : State) (text : List ℕ) → AllStops settings roads rounds s text OutOfMemory
+memory_at_start settings roads rounds s text = record {
+  stops = WhereAllStops.between [] rounds [] text refl (record { run = tt; told = tt; printed = refl }) tt;
+  none = λ other whole. absurd (other refl);
+}
