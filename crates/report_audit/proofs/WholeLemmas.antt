@@ -1,8 +1,8 @@
 -- All rounds of a report.
-use Rattle.std.proofs.Common.{◌≡◌, ◌≢◌, ℕ, ◌+◌, ◌-◌, ◌<◌, ◌≤◌, ◌^◌, drop, get_or, min, take, true, List, [], ◌∷◌, ◌++◌, length, refl, sym, ap, ◌∙◌, subst, append_assoc, append-nil, arith}
+use Rattle.std.proofs.Common.{◌≡◌, ◌≢◌, ℕ, ◌+◌, ◌-◌, ◌<◌, ◌≤◌, ◌^◌, add-one, drop, get_or, min, take, true, List, [], ◌∷◌, ◌++◌, length, refl, sym, ap, ◌∙◌, subst, append_assoc, append-nil, arith}
 use Rattle.std.specs.Prelude.{count_by}
+use Rattle.std.proofs.Math.Seq.{take-suc}
 use Rattle.std.proofs.lemmas.List.{drop_all, drop_more, take_all}
-use Rattle.dispatch_engine.proofs.RoundLemmas.{take_next}
 use Rattle.dispatch_engine.specs.Run.{IsRun, IsRoundRun, journal_of, position_after_run}
 use Rattle.dispatch_report.specs.Round.{end_text, round_text}
 use Rattle.request_book.specs.Book.{BookView, next_position}
@@ -25,6 +25,10 @@ use Rattle.report_audit.specs.work.Steps.{StopsAt, StopsBehind}
 use Rattle.report_audit.specs.work.Whole.{AllStops, HasComeTo, HasReadAll, HasReadRounds, WhereAllStops}
 use Rattle.report_audit.proofs.RoundLemmas.{base_is, position_is, round_so_far}
 use Rattle.report_audit.proofs.TextLemmas.{next-none}
+
+-- items up to the next one
+take_next : {X : Type 0} (xs : List X) (i : ℕ) (x : X) → i < length xs → x ≡ get_or xs i x → take i xs ++ x ∷ [] ≡ take (i + 1) xs
+take_next xs i x within is = ap (λ y. take i xs ++ y ∷ []) is ∙ sym (rw add-one (take-suc xs i x within))
 
 module _ (settings : Settings) (roads : Roads) where
   -- one more round of a run
