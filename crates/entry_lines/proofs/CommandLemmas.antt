@@ -1,9 +1,9 @@
 -- A command and the reply to it.
 use Rattle.std.proofs.Common.{◌≡◌, ◌≢◌, ℕ, zero, suc, ◌≤◌, ◌<◌, ◌^◌, ◌==◌, Bool, true, false, if◌then◌else◌, codes, get_or, drop, List, [], ◌∷◌, ◌++◌, decimal, refl, sym, ap, ◌∙◌, append_assoc, ne_eqb, arith}
 use Rattle.std.specs.Char.{is_ascii_digit}
-use Rattle.dispatch_report.specs.Entry.{command_text, reply_text}
+use Rattle.dispatch_report.specs.Entry.{reply_text}
 use Rattle.dispatch_report.specs.Words.{numbered, spaced}
-use Rattle.entry_lines.specs.Command.{IsCommand, IsParty}
+use Rattle.entry_lines.specs.Command.{IsParty}
 use Rattle.entry_lines.specs.Reply.{IsReply}
 use Rattle.entry_lines.specs.work.Commands.{told_text, IsTold, single_text, IsSingle, three_text, AreThree, ride_text, IsRide, four_text, AreFour, ending_text, IsEnding, submit_text, IsSubmit}
 use Rattle.entry_lines.specs.work.Replies.{spaced_reply}
@@ -13,7 +13,6 @@ use Rattle.report_lines.specs.Ids.{IsId}
 use Rattle.report_lines.specs.Reading.{BeginsWith, BeginsWithNone, ends_number}
 use Rattle.report_lines.specs.work.Both.{both, BothAre}
 use Rattle.report_lines.proofs.ReadingLemmas.{EndsOnce, both_once, both_none_first, both_none_second, numbered_once, pair_once, spaced_apart}
-use Rattle.request_book.specs.declared.command.Command.{Command}
 use Rattle.request_book.specs.declared.command.Command.TheVariants.{Submit, Cancel, Report, Pickup, Dropoff, Seal, Close}
 use Rattle.request_book.specs.declared.outcome.Answer.TheVariants.{Overflow}
 use Rattle.request_book.specs.declared.outcome.Outcome.{Outcome}

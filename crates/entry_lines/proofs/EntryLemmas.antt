@@ -1,18 +1,16 @@
 -- An entry's line.
-use Rattle.std.proofs.Common.{◌≡◌, ◌≢◌, ℕ, ◌≤◌, ◌<◌, ◌^◌, true, false, codes, get_or, List, [], ◌∷◌, ◌++◌, decimal, refl, sym, ap, ◌∙◌, append_assoc, arith}
+use Rattle.std.proofs.Common.{◌≡◌, ◌≢◌, ℕ, ◌≤◌, ◌<◌, ◌^◌, true, codes, List, ◌++◌, decimal, refl, sym, ap, ◌∙◌, append_assoc, arith}
 use Rattle.std.proofs.lemmas.List.{append_cancel_left}
 use Rattle.dispatch_report.specs.Entry.{entry_line, command_text, reply_text}
 use Rattle.dispatch_report.specs.Words.{numbered, spaced}
-use Rattle.entry_lines.specs.Next.{IsEntry, IsNextLine}
-use Rattle.entry_lines.specs.declared.next.NextLine.{NextLine}
-use Rattle.entry_lines.specs.declared.next.NextLine.TheVariants.{Round, Done, Entry as EntryOf}
+use Rattle.entry_lines.specs.Next.{IsNextLine}
+use Rattle.entry_lines.specs.declared.next.NextLine.TheVariants.{Entry as EntryOf}
 use Rattle.entry_lines.specs.work.Commands.{told_text, IsTold}
-use Rattle.entry_lines.specs.work.Replies.{spaced_reply}
 use Rattle.entry_lines.specs.work.Told.{Told}
 use Rattle.entry_lines.proofs.ToldLemmas.{no_head, tail_told}
 use Rattle.report_lines.specs.Reading.{BeginsWith, BeginsWithNone, ends_number}
 use Rattle.report_lines.specs.work.Both.{both, BothAre}
-use Rattle.report_lines.proofs.ReadingLemmas.{EndsOnce, decimal_once, numbered_once, both_once, spaced_apart}
+use Rattle.report_lines.proofs.ReadingLemmas.{EndsOnce, decimal_once, numbered_once}
 use Rattle.request_book.specs.declared.command.Command.{Command}
 use Rattle.request_book.specs.declared.journal.Entry.{Entry}
 use Rattle.request_book.specs.declared.reply.Reply.{Reply}

@@ -1,6 +1,6 @@
 -- A line is of one kind.
-use Rattle.std.proofs.Common.{◌≡◌, ◌≢◌, ℕ, ◌≤◌, ◌<◌, ◌^◌, true, false, codes, get_or, drop, List, [], ◌∷◌, ◌++◌, decimal, refl, sym, ap, ◌∙◌, append-nil, arith}
-use Rattle.dispatch_report.specs.Words.{numbered, spaced}
+use Rattle.std.proofs.Common.{◌≡◌, ◌≢◌, ℕ, ◌≤◌, ◌<◌, ◌^◌, codes, get_or, List, [], ◌++◌, decimal, refl, sym, ap, ◌∙◌, append-nil, arith}
+use Rattle.dispatch_report.specs.Words.{numbered}
 use Rattle.entry_lines.specs.Next.{IsNextLine}
 use Rattle.entry_lines.specs.declared.next.NextLine.{NextLine}
 use Rattle.entry_lines.specs.declared.next.NextLine.TheVariants.{Round, Done, Entry as EntryOf}

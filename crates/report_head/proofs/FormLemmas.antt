@@ -6,7 +6,7 @@ use Rattle.report_head.specs.Settings.{AreLawful}
 use Rattle.report_lines.specs.Head.{settings_text, AreSettings, sizes_text, AreSizes}
 use Rattle.report_lines.specs.Reading.{BeginsWith}
 use Rattle.report_lines.specs.declared.head.SettingsText.{SettingsText}
-use Rattle.report_lines.specs.work.Both.{both, BothAre}
+use Rattle.report_lines.specs.work.Both.{BothAre}
 use Rattle.report_lines.proofs.HeadLemmas.{settings_of_one}
 use Rattle.report_lines.proofs.ReadingLemmas.{EndsOnce, StandsApart, both_once, numbered_once}
 use Rattle.road_network.specs.Roads.{Roads, IsNetwork}
@@ -62,13 +62,6 @@ module _ (line : List ℕ) (told sizes : ℕ × ℕ) (small : AreSizes told) (fe
 
   pub other_arcs : told.1 ≢ sizes.1 → TellsSizesOf sizes line → ⊥
   other_arcs other same = other (ap (λ p. p.1) (sizes_of_one line told sizes small few e same))
-
--- equal sizes have the same line
-pub same_sizes : (line : List ℕ) (told sizes : ℕ × ℕ) → line ≡ sizes_text told → told.0 ≡ sizes.0 → told.1 ≡ sizes.1 → TellsSizesOf sizes line
-same_sizes line (a, b) (c, d) e ac bd =
-    let first : a ≡ c = ac in
-    let second : b ≡ d = bd in
-    e ∙ ap (λ n. sizes_text (n, b)) first ∙ ap (λ n. sizes_text (c, n)) second
 
 -- a network's sizes can be told
 pub few_sizes : (roads : Roads) → IsNetwork roads → AreSizes (sizes_of roads)

@@ -1,12 +1,12 @@
 -- The head of a report, line by line.
-use Rattle.std.proofs.Common.{◌≡◌, ℕ, ◌≤◌, ◌<◌, ◌^◌, true, length, List, [], ◌∷◌, ◌++◌, codes, refl, sym, ap, ◌∙◌, subst, arith}
+use Rattle.std.proofs.Common.{◌≡◌, ℕ, ◌<◌, ◌^◌, true, length, List, [], ◌∷◌, ◌++◌, codes, refl, sym, ap, ◌∙◌, arith}
 use Rattle.dispatch_report.specs.Head.{head_text, settings_line}
 use Rattle.dispatch_report.specs.Lines.{lines_text}
 use Rattle.dispatch_report.specs.Words.{numbered}
 use Rattle.report_head.specs.Fault.{sizes_of, IsName, TellsSettings, TellsLawful, TellsSizes, TellsSizesOf, TellsFleet, TellsFleetOf, LineFails}
 use Rattle.report_head.specs.Head.{BeginsWithHead}
 use Rattle.report_head.specs.Line.{IsFirst, Passes}
-use Rattle.report_head.specs.Settings.{AreOf, AreLawful, told_of}
+use Rattle.report_head.specs.Settings.{AreOf, told_of}
 use Rattle.report_head.specs.declared.fault.HeadFault.{HeadFault}
 use Rattle.report_head.proofs.LineLemmas.{first_once, said_behind, line_no_fault, line_more}
 use Rattle.report_head.proofs.SettingsLemmas.{lawful_short, told_lawful, settings_one_line, settings_line_is, same_settings}

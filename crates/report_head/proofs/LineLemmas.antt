@@ -1,7 +1,7 @@
 -- The first line of a text, and what fails of it.
-use Rattle.std.proofs.Common.{◌≡◌, ℕ, ◌<◌, ◌^◌, true, List, [], ◌∷◌, ◌++◌, refl, sym, ap, ◌∙◌, subst, append_assoc}
+use Rattle.std.proofs.Common.{◌≡◌, ℕ, true, List, [], ◌∷◌, ◌++◌, sym, ◌∙◌, subst, append_assoc}
 use Rattle.report_head.specs.Fault.{LineFails}
-use Rattle.report_head.specs.Line.{IsFirst, Passes}
+use Rattle.report_head.specs.Line.{IsFirst}
 use Rattle.report_head.specs.declared.fault.HeadFault.{HeadFault}
 use Rattle.report_head.specs.declared.fault.HeadFault.TheVariants.{Cut, Form, Head}
 use Rattle.report_lines.specs.Cut.{is_one_line}

@@ -1,6 +1,6 @@
 -- A command and the reply to it, by how they are read.
 use Rattle.std.specs.Prelude.{ℕ, ◌≤◌, ◌==◌, List, [], ◌++◌, codes, if◌then◌else◌}
-use Rattle.dispatch_report.specs.Entry.{command_text, reply_text}
+use Rattle.dispatch_report.specs.Entry.{command_text}
 use Rattle.dispatch_report.specs.Words.{numbered, spaced}
 use Rattle.entry_lines.specs.Command.{IsCommand, IsParty}
 use Rattle.entry_lines.specs.Reply.{IsReply}

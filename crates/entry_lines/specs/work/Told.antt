@@ -1,5 +1,5 @@
 -- Texts of things.
-use Rattle.std.specs.Prelude.{◌≡◌, ℕ, List, ◌++◌}
+use Rattle.std.specs.Prelude.{◌≡◌, ℕ, List}
 
 -- the text is that of a thing
 abbrev pub Told : {X : Type 0} → (X → List ℕ) → (X → Type 0) → List ℕ → Type 0

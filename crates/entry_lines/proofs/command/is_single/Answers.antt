@@ -1,4 +1,4 @@
-use Rattle.std.proofs.Common.{ℕ, ◌≤◌, ◌<◌, ◌^◌, arith}
+use Rattle.std.proofs.Common.{◌≤◌, ◌<◌, ◌^◌, arith}
 use Rattle.dispatch_report.specs.Words.{numbered}
 use Rattle.entry_lines.specs.Reply.{IsReply}
 use Rattle.entry_lines.specs.work.Replies.{spaced_reply}

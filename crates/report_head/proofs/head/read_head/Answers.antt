@@ -1,4 +1,4 @@
-use Rattle.std.proofs.Common.{◌≡◌, ℕ, ◌<◌, ◌≤◌, ◌^◌, List, Err, inl, inr, length, refl, sym, ◌∙◌, subst, arith}
+use Rattle.std.proofs.Common.{ℕ, ◌<◌, ◌^◌, inr, refl, subst, arith}
 use Rattle.std.proofs.lemmas.Result.{err_from_is_err_and}
 use Rattle.report_head.specs.Fault.{TellsSizes, TellsSizesOf, LineFails}
 use Rattle.report_head.specs.Line.{Passes}
@@ -48,14 +48,14 @@ returns-in_err-rest-clause-fault c =
     let sized = subst (λ (z : ℕ × ℕ). Passes (TellsSizesOf z) c.in_ok-told.after_settings.now c.in_ok-after_sizes.after_sizes.now) c.sizes_of-nodes.ensures.sizes c.in_ok-after_sizes.ensures in
     rw (p.1, p.2)
     (inr (
-        c.in_ok-after_name.after_name.now,
-        c.in_ok-after_name.ensures,
-        inr (
-            c.in_ok-told.after_settings.now,
-            (settings_text c.in_ok-told.told, set.0, (c.in_ok-told.told, set.1, set.2, refl)),
-            inr (c.in_ok-after_sizes.after_sizes.now, sized, c.in_err-rest.ensures),
-          ),
-      ))
+      c.in_ok-after_name.after_name.now,
+      c.in_ok-after_name.ensures,
+      inr (
+        c.in_ok-told.after_settings.now,
+        (settings_text c.in_ok-told.told, set.0, (c.in_ok-told.told, set.1, set.2, refl)),
+        inr (c.in_ok-after_sizes.after_sizes.now, sized, c.in_err-rest.ensures),
+      ),
+    ))
 
 pub returns-clause-read : goal.returns-clause-read
 returns-clause-read c =

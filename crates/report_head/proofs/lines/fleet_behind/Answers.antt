@@ -1,25 +1,23 @@
-use Rattle.std.proofs.Common.{◌≡◌, ℕ, ◌<◌, ◌≤◌, ◌^◌, codes, refl, ap, ◌∙◌, arith}
+use Rattle.std.proofs.Common.{◌<◌, ◌≤◌, ◌^◌, codes, refl, ap, ◌∙◌, arith}
 use Rattle.dispatch_report.specs.Words.{numbered}
 use Rattle.report_head.proofs.FormLemmas.{no_fleet_line, other_fleet}
 use Rattle.report_head.proofs.lines.fleet_behind.Goals as goal
 
 pub returns-in_default-read_numbered : goal.returns-in_default-read_numbered
-returns-in_default-read_numbered c =
-    (
-      refl,
-      c.in-Some.line.now,
-      c.in-Some.rest.now,
-      record { whole = c.in-Some.ensures.0; one = c.in-Some.ensures.1 },
-      no_fleet_line c.in-Some.line.now c.in_default-read_numbered.ensures,
-    )
+returns-in_default-read_numbered c = (
+  refl,
+  c.in-Some.line.now,
+  c.in-Some.rest.now,
+  record { whole = c.in-Some.ensures.0; one = c.in-Some.ensures.1 },
+  no_fleet_line c.in-Some.line.now c.in_default-read_numbered.ensures,
+)
 
 pub returns-then-told-vehicles : goal.returns-then-told-vehicles
-returns-then-told-vehicles c =
-    (
-      c.in-Some.line.now,
-      record { whole = c.in-Some.ensures.0; one = c.in-Some.ensures.1 },
-      c.in-Some-read_numbered.ensures.1 ∙ ap (numbered (codes "fleet vehicles=")) c.if-told-vehicles.true,
-    )
+returns-then-told-vehicles c = (
+  c.in-Some.line.now,
+  record { whole = c.in-Some.ensures.0; one = c.in-Some.ensures.1 },
+  c.in-Some-read_numbered.ensures.1 ∙ ap (numbered (codes "fleet vehicles=")) c.if-told-vehicles.true,
+)
 
 pub returns-else-told-vehicles : goal.returns-else-told-vehicles
 returns-else-told-vehicles c =
