@@ -1,5 +1,5 @@
 -- What a block tells without its tree.
-use Rattle.std.proofs.Common.{◌≡◌, ℕ, ◌≤◌, ℤ, List, [], ◌∷◌, ◌++◌, length, map, true, nat_le, Option, None, Some, MatchOption, ◌⊎◌, inl, inr, ⊎_elim, refl, sym, ap, ◌∙◌, subst, arith}
+use Rattle.std.proofs.Common.{◌≡◌, ℕ, ◌≤◌, List, [], ◌∷◌, ◌++◌, length, map, true, nat_le, Option, None, Some, MatchOption, ◌⊎◌, inl, inr, ⊎_elim, refl, sym, ap, ◌∙◌, subst, arith}
 use Rattle.std.specs.List.{All}
 use Rattle.std.proofs.lemmas.Bool.{cond_both, leb-true}
 use Rattle.std.proofs.lemmas.Grind.{flat_map-append}
@@ -20,7 +20,7 @@ use Rattle.request_book.specs.declared.outcome.RowLine.{RowLine}
 use Rattle.block_outcome.specs.Told.{IsNumbered, AreNumbered, Tells, TellsNone}
 use Rattle.block_audit.specs.Judged.{row_counted, bare_line, bare, IsJudgedAs}
 use Rattle.block_audit.proofs.OneOutcome.{answer_nested, outcome_nested, one_outcome}
-use Rattle.block_audit.proofs.ShapeLemmas.{Section, IsTreeToEnd, IsCounted, Moves, Lapses, Answers, IsWhole, whole_block}
+use Rattle.block_audit.proofs.ShapeLemmas.{IsTreeToEnd, IsCounted, Lapses, whole_block}
 
 -- a section of lines that are kept
 kept : {X : Type 0} (K : X → BlockLine) → ((x : X) → bare_line (K x) ≡ K x ∷ []) → (xs : List X) (rest : List BlockLine) → bare (map K xs ++ rest) ≡ map K xs ++ bare rest

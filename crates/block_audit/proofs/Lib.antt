@@ -3,3 +3,5 @@ pub mod OneOutcome
 pub mod BareLemmas
 pub mod NumberedLemmas
 pub mod AuditLemmas
+pub mod LawLemmas
+pub mod RefusalLemmas

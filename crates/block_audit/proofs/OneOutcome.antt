@@ -1,16 +1,15 @@
 -- Lines tell one outcome.
-use Rattle.std.proofs.Common.{◌≡◌, ◌≢◌, ℕ, zero, suc, ◌<◌, ◌≤◌, ℤ, true, List, [], ◌∷◌, ◌++◌, map, length, slice_get, unwrap_or, option_map, Some, Option, append_assoc, ⊎_elim, refl, sym, ap, ◌∙◌, subst, arith}
+use Rattle.std.proofs.Common.{◌≡◌, ℕ, ◌<◌, ◌≤◌, ℤ, List, [], ◌∷◌, ◌++◌, map, length, slice_get, unwrap_or, option_map, Some, append_assoc, ⊎_elim, refl, sym, ap, ◌∙◌, subst, arith}
 use Rattle.std.specs.List.{All}
 use Rattle.std.proofs.lemmas.Bool.{cases_lt}
 use Rattle.std.proofs.lemmas.List.Elements.{All-head, All-tail}
 use Rattle.std.proofs.lemmas.Option.{slice_get_within}
-use Rattle.arrayvec.specs.ArrayVec.{ArrayVec}
 use Rattle.plan_rules.specs.declared.node.Node.{Node}
 use Rattle.plan_rules.specs.declared.node.Node.TheVariants.{Branch as Branches, Leaf as Ends, Dead as Closed}
 use Rattle.report_lines.specs.Order.{place_of}
 use Rattle.report_lines.specs.Outcome.{row_line, tree_line, lines_of_answer, lines_of}
 use Rattle.report_lines.specs.declared.block_line.BlockLine.{BlockLine}
-use Rattle.report_lines.specs.declared.block_line.BlockLine.TheVariants.{Batch, Expired, Overflow, Lapsed, Late, Alone, Shared, Row, Trip, Out, Move, Cost, Bound, Nodes, Branch, Leaf, Dead, End}
+use Rattle.report_lines.specs.declared.block_line.BlockLine.TheVariants.{Batch, Expired, Overflow, Lapsed, Late, Alone, Shared, Row, Trip, Out, Move, Cost, Bound, Nodes, Branch, End}
 use Rattle.request_book.specs.declared.outcome.Answer.{Answer}
 use Rattle.request_book.specs.declared.outcome.Answer.TheVariants.{Overflow as TooMany, Planned as Plan}
 use Rattle.request_book.specs.declared.outcome.ChosenTrip.{ChosenTrip}
@@ -48,44 +47,44 @@ low_kind K p place at above [] s low = low
 low_kind K p place at above (x ∷ xs) s low = let e : place_of (K x) ≡ place = at x in omega (arith, e, above)
 
 -- what stands between the expired riders and the cost
-record Lists : Type 0 where
-  lapsed : List ℕ
-  late : List LateVehicle
-  rv : List (ℕ × ℕ)
-  rr : List (ℕ × ℕ)
-  rows : List RowLine
-  chosen : List ChosenTrip
-  left : List ℕ
-  moves : List MoveLine
+pub record Lists : Type 0 where
+  pub lapsed : List ℕ
+  pub late : List LateVehicle
+  pub rv : List (ℕ × ℕ)
+  pub rr : List (ℕ × ℕ)
+  pub rows : List RowLine
+  pub chosen : List ChosenTrip
+  pub left : List ℕ
+  pub moves : List MoveLine
 
-abbrev lists_in : Planned → Lists
+abbrev pub lists_in : Planned → Lists
 lists_in plan = record { lapsed = plan.lapsed; late = plan.late; rv = plan.rv; rr = plan.rr; rows = plan.rows; chosen = plan.chosen; left = plan.left; moves = plan.moves }
 
 abbrev no_lists : Lists
 no_lists = record { lapsed = []; late = []; rv = []; rr = []; rows = []; chosen = []; left = []; moves = [] }
 
-abbrev from_moves : Lists → List BlockLine → List BlockLine
+abbrev pub from_moves : Lists → List BlockLine → List BlockLine
 from_moves p t = map Move p.moves ++ t
 
-abbrev from_left : Lists → List BlockLine → List BlockLine
+abbrev pub from_left : Lists → List BlockLine → List BlockLine
 from_left p t = map Out p.left ++ from_moves p t
 
-abbrev from_chosen : Lists → List BlockLine → List BlockLine
+abbrev pub from_chosen : Lists → List BlockLine → List BlockLine
 from_chosen p t = map Trip p.chosen ++ from_left p t
 
-abbrev from_rows : Lists → List BlockLine → List BlockLine
+abbrev pub from_rows : Lists → List BlockLine → List BlockLine
 from_rows p t = map row_line p.rows ++ from_chosen p t
 
-abbrev from_rr : Lists → List BlockLine → List BlockLine
+abbrev pub from_rr : Lists → List BlockLine → List BlockLine
 from_rr p t = map Shared p.rr ++ from_rows p t
 
-abbrev from_rv : Lists → List BlockLine → List BlockLine
+abbrev pub from_rv : Lists → List BlockLine → List BlockLine
 from_rv p t = map Alone p.rv ++ from_rr p t
 
-abbrev from_late : Lists → List BlockLine → List BlockLine
+abbrev pub from_late : Lists → List BlockLine → List BlockLine
 from_late p t = map Late p.late ++ from_rv p t
 
-abbrev from_lapsed : Lists → List BlockLine → List BlockLine
+abbrev pub from_lapsed : Lists → List BlockLine → List BlockLine
 from_lapsed p t = map Lapsed p.lapsed ++ from_late p t
 
 row_one : (x y : RowLine) → row_line x ≡ row_line y → x ≡ y
@@ -144,7 +143,7 @@ same_lists p q t u lt lu e =
     record { lapsed = a.0; late = b.0; rv = c.0; rr = d.0; rows = f.0; chosen = g.0; left = h.0; moves = i.0; tail = i.1 }
 
 -- the numbers of a plan and its tree
-abbrev tail_of : Planned → List BlockLine
+abbrev pub tail_of : Planned → List BlockLine
 tail_of plan = Cost plan.cost ∷ Bound plan.bound ∷ Nodes (length plan.tree) ∷ (map (tree_line plan.rows) plan.tree ++ End ∷ [])
 
 parted : {X : Type 0} (xs ys s : List X) (all : List X) → all ≡ (xs ++ ys) ++ s → all ≡ xs ++ (ys ++ s)
