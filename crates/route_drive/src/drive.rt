@@ -11,7 +11,7 @@ ghost use Rattle.route_drive.specs.Driven.{IsDrivenDay, IsDrivenRound, IsLateAns
 ghost use Rattle.route_drive.specs.declared.day_run.DriveFault.TheVariants.{OutOfMemory as NoMemory};
 ghost use Rattle.route_drive.specs.work.Drive.{IsEnd, IsEndLate, IsLastLate, IsLastOn, IsRoundLate, IsRoundOn, IsStoppedAt, IsTaken, IsUnderWay};
 
-use crate::counts::counts_of;
+use crate::counts::{Counts, counts_of};
 use crate::course::Course;
 use crate::day_run::{DayRound, DayRun, DriveFault};
 use crate::entering::Stopped;
@@ -104,13 +104,20 @@ fn start(alloc: Global, book: Book) -> Result<Drive, OutOfMemory>
     ensures courses { IfOk result (λ drive. drive.courses.items ≡ map (λ v. at_rest) book.state.vehicles) }
     ensures made { IfOk result (λ drive. drive.made.items ≡ []) }
 {
-    let state = book.state()?;
-    let courses = first_courses(alloc, state.vehicles.as_slice())?;
+    let courses = courses_at_rest(alloc, &book)?;
     Ok(Drive {
         book,
         courses,
         made: Vec::new(alloc),
     })
+}
+
+/// Each vehicle of a book at rest.
+fn courses_at_rest(alloc: Global, book: &Book) -> Result<Vec<Course>, OutOfMemory>
+    ensures { IfOk result (λ courses. courses.items ≡ map (λ v. at_rest) book.now.state.vehicles) }
+{
+    let state = book.state()?;
+    first_courses(alloc, state.vehicles.as_slice())
 }
 
 /// Drives a round.
@@ -387,15 +394,21 @@ fn counted<W: Ways, G: Gate>(
     ensures counts { IfOk result (λ run. AreCounts setup.now.network.now end.book.state.riders (entries_of end.made.items) run.picked run.dropped run.worst_wait run.worst_delay) }
     ensures late { IfErr result (λ fault. fault ≡ NoMemory) }
 {
-    let Drive { book, made, .. } = end;
-    match counts_of(rt, alloc, &book, &made, setup.network, setup.ways) {
-        Ok(counts) => Ok(DayRun {
-            rounds: Sequence::of(made),
-            picked: counts.picked,
-            dropped: counts.dropped,
-            worst_wait: counts.worst_wait,
-            worst_delay: counts.worst_delay,
-        }),
+    match counts_of(rt, alloc, &end.book, &end.made, setup.network, setup.ways) {
+        Ok(counts) => Ok(day_run(end, counts)),
         Err(_) => Err(DriveFault::OutOfMemory),
+    }
+}
+
+/// What is told of a day with these counts.
+fn day_run(end: Drive, counts: Counts) -> DayRun
+    ensures { result ≡ record { rounds = end.made.items; picked = counts.picked; dropped = counts.dropped; worst_wait = counts.worst_wait; worst_delay = counts.worst_delay } }
+{
+    DayRun {
+        rounds: Sequence::of(end.made),
+        picked: counts.picked,
+        dropped: counts.dropped,
+        worst_wait: counts.worst_wait,
+        worst_delay: counts.worst_delay,
     }
 }
