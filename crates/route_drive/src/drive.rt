@@ -104,12 +104,17 @@ fn start(alloc: Global, book: Book) -> Result<Drive, OutOfMemory>
     ensures courses { IfOk result (λ drive. drive.courses.items ≡ map (λ v. at_rest) book.state.vehicles) }
     ensures made { IfOk result (λ drive. drive.made.items ≡ []) }
 {
-    let courses = courses_at_rest(alloc, &book)?;
-    Ok(Drive {
-        book,
-        courses,
-        made: Vec::new(alloc),
-    })
+    match courses_at_rest(alloc, &book) {
+        Ok(courses) => Ok(Drive {
+            book,
+            courses,
+            made: Vec::new(alloc),
+        }),
+        Err(fault) => {
+            drop(book);
+            Err(fault)
+        }
+    }
 }
 
 /// Each vehicle of a book at rest.
@@ -142,7 +147,11 @@ fn drive_round<W: Ways, G: Gate>(
     } = drive;
     match driven_of(alloc, setup.network, setup.settings, &book, &courses, round) {
         Ok(driven) => run_driven(rt, alloc, book, courses, made, round, &driven, setup),
-        Err(stopped) => Err(stopped_at(stopped, round.number(), made)),
+        Err(stopped) => {
+            drop(book);
+            drop(courses);
+            Err(stopped_at(stopped, round.number(), made))
+        }
     }
 }
 
@@ -234,7 +243,10 @@ fn take(book: Book) -> Result<(Book, Journal), OutOfMemory>
     let mut book = book;
     match book.take_round() {
         Ok(journal) => Ok((book, journal)),
-        Err(_) => Err(OutOfMemory),
+        Err(fault) => {
+            drop(book);
+            Err(fault)
+        }
     }
 }
 
@@ -254,8 +266,17 @@ fn keep(
 {
     let number = round.number();
     match next_courses(alloc, &book, round, &journal, &courses) {
-        Ok(courses) => with_round(book, courses, made, DayRound { number, journal }),
-        Err(_) => Err(DriveFault::OutOfMemory),
+        Ok(next) => {
+            drop(courses);
+            with_round(book, next, made, DayRound { number, journal })
+        }
+        Err(_) => {
+            drop(book);
+            drop(journal);
+            drop(courses);
+            drop(made);
+            Err(DriveFault::OutOfMemory)
+        }
     }
 }
 
@@ -293,7 +314,12 @@ fn with_round(
             courses,
             made,
         }),
-        Err(_) => Err(DriveFault::OutOfMemory),
+        Err(_) => {
+            drop(book);
+            drop(courses);
+            drop(made);
+            Err(DriveFault::OutOfMemory)
+        }
     }
 }
 
@@ -339,7 +365,11 @@ fn drive_last<W: Ways, G: Gate>(
     } = drive;
     match left_of(alloc, &book, &courses) {
         Ok(left) => run_last(rt, alloc, book, courses, made, number, &left, setup),
-        Err(stopped) => Err(stopped_at(stopped, number, made)),
+        Err(stopped) => {
+            drop(book);
+            drop(courses);
+            Err(stopped_at(stopped, number, made))
+        }
     }
 }
 
@@ -396,7 +426,10 @@ fn counted<W: Ways, G: Gate>(
 {
     match counts_of(rt, alloc, &end.book, &end.made, setup.network, setup.ways) {
         Ok(counts) => Ok(day_run(end, counts)),
-        Err(_) => Err(DriveFault::OutOfMemory),
+        Err(_) => {
+            drop(end);
+            Err(DriveFault::OutOfMemory)
+        }
     }
 }
 
@@ -404,8 +437,15 @@ fn counted<W: Ways, G: Gate>(
 fn day_run(end: Drive, counts: Counts) -> DayRun
     ensures { result ≡ record { rounds = end.made.items; picked = counts.picked; dropped = counts.dropped; worst_wait = counts.worst_wait; worst_delay = counts.worst_delay } }
 {
+    let Drive {
+        book,
+        courses,
+        made,
+    } = end;
+    drop(book);
+    drop(courses);
     DayRun {
-        rounds: Sequence::of(end.made),
+        rounds: Sequence::of(made),
         picked: counts.picked,
         dropped: counts.dropped,
         worst_wait: counts.worst_wait,
