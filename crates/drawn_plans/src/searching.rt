@@ -87,3 +87,42 @@ fn rises(alloc: Global, seed: u64) -> Option<bool> {
 fn a_relaxation_that_is_broken_off(rt: HostRuntime) {
     assert_eq!(rt; rises(rt.alloc(), 1), Some(true));
 }
+
+#[test]
+fn pairs_that_share_riders(rt: HostRuntime) -> Result<(), Fail> {
+    let alloc = rt.alloc();
+    let graph = three_pairs(alloc)?;
+    let found = search(alloc, &graph, 1)?;
+    assert_eq!(rt; found.cost, 110);
+    assert_eq!(rt; found.tree.nodes().len(), 1);
+    assert!(rt; found.bound >= 10 && found.bound <= 15);
+    let found = search(alloc, &graph, 16)?;
+    assert_eq!(rt; found.cost, 110);
+    assert_eq!(rt; found.bound, 110);
+    Ok(())
+}
+
+#[test]
+fn a_held_rider_stays(rt: HostRuntime) -> Result<(), Fail> {
+    let alloc = rt.alloc();
+    let graph = one_held(alloc)?;
+    let found = search(alloc, &graph, 1)?;
+    assert_eq!(rt; found.plan.chosen(), [Some(1), Some(6)].as_slice());
+    assert_eq!(rt; found.cost, 170);
+    assert_eq!(rt; found.tree.nodes().len(), 1);
+    assert!(rt; found.bound >= 130 && found.bound <= 170);
+    let found = search(alloc, &graph, 20)?;
+    assert_eq!(rt; found.cost, 170);
+    assert_eq!(rt; found.bound, 170);
+    Ok(())
+}
+
+#[test]
+fn a_graph_without_vehicles(rt: HostRuntime) -> Result<(), Fail> {
+    let alloc = rt.alloc();
+    let graph = TripGraph::new(alloc, 0, 2, 100, Vec::new(alloc), Vec::new(alloc))?;
+    let found = search(alloc, &graph, 1)?;
+    assert_eq!(rt; found.cost, 200);
+    assert_eq!(rt; found.bound, 200);
+    Ok(())
+}

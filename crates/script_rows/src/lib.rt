@@ -19,5 +19,3 @@ pub use round::Round;
 pub use script::Script;
 pub use version::ScriptVersion;
 
-#[cfg(test)]
-mod tests;
