@@ -1,29 +1,49 @@
 //! A replay of a second round, beside its book.
+ghost use Rattle.request_book.specs.Consistent.{IsConsistent};
+
 use crate::line::{ONE, book, network, rider_id};
 use crate::replying::{Ask, first_other, round, shows};
 use pool_base::RiderId;
 use request_book::BookRefusal::DuplicateRider;
 use request_book::Reply::{Accepted, Refused, Sealed};
-use request_book::{Book, Replay};
+use request_book::{Book, Entry, Journal, Replay};
 use std::alloc::Global;
 
 /// Whether a replay of the entries since the round's base comes to the book's batch and statuses.
 fn is_replayed(alloc: Global, book: &mut Book, riders: &[RiderId]) -> bool {
-    let Ok(journal) = book.take_round() else {
-        return false;
-    };
-    let Some(network) = network(alloc) else {
-        return false;
-    };
-    let Ok(mut replay) = Replay::of(alloc, &network, 120, &journal.base) else {
-        return false;
-    };
-    for entry in journal.entries.as_slice() {
+    match book.take_round() {
+        Ok(journal) => is_told(alloc, book, &journal, riders),
+        Err(_) => false,
+    }
+}
+
+fn is_told(alloc: Global, book: &Book, journal: &Journal, riders: &[RiderId]) -> bool
+    requires { IsConsistent journal.now.base }
+{
+    match network(alloc) {
+        Some(network) => match Replay::of(alloc, &network, 120, &journal.base) {
+            Ok(mut replay) => {
+                runs(&mut replay, journal.entries.as_slice())
+                    && agrees(alloc, &replay, book, riders)
+            }
+            Err(_) => false,
+        },
+        None => false,
+    }
+}
+
+/// Whether the replay replies as these entries say.
+fn runs(replay: &mut Replay, entries: &[Entry]) -> bool {
+    for entry in entries {
         match replay.run(&entry.command) {
             Ok(reply) if reply == entry.reply => {}
             _ => return false,
         }
     }
+    true
+}
+
+fn agrees(alloc: Global, replay: &Replay, book: &Book, riders: &[RiderId]) -> bool {
     for rider in riders {
         if replay.status_of(*rider) != book.status_of(*rider) {
             return false;

@@ -1,22 +1,35 @@
 //! Shortest walks by rows: of a worked town, and of a grid, where two versions agree.
 ghost use Rattle.std.specs.Prelude.{◌≤◌, All, Contains, length};
 
-use crate::networks::{TOWN, have_same_cells, network_of, nodes_of, put_arc, read};
+use crate::networks::{TOWN, have_same_cells, network_of, nodes_of, put_arc};
 use pool_base::{NodeId, OutOfMemory, Times};
 use road_network::Network;
 use std::alloc::Global;
-use std::process::Abort;
 use std::test::Fail;
 use std::thread::Threads;
 use travel_times::{NetworkWays, Ways, are_known, times_between, times_by_repeated_relaxation};
 
 // The nodes named 1 to `count`.
-fn nodes_to(alloc: Global, rt: &impl Abort, count: u64) -> Result<Vec<NodeId>, Fail> {
+fn nodes_to(alloc: Global, count: u64) -> Option<Vec<NodeId>> {
     let mut nodes = Vec::new(alloc);
     for name in 1..=count {
-        nodes.push(NodeId::new(name).expect(rt, "a node's name"))?;
+        nodes.push(NodeId::new(name)?).ok()?;
     }
-    Ok(nodes)
+    Some(nodes)
+}
+
+// The table between the nodes of a file named 1 to `count`.
+fn told_to(rt: &(impl Threads + Sync), alloc: Global, text: &[u8], count: u64) -> Option<Times> {
+    let network = network_of(alloc, text)?;
+    let nodes = nodes_to(alloc, count)?;
+    fast(rt, alloc, &network, &nodes)?.ok()
+}
+
+// The same by repeated relaxation.
+fn plain_to(alloc: Global, text: &[u8], count: u64) -> Option<Times> {
+    let network = network_of(alloc, text)?;
+    let nodes = nodes_to(alloc, count)?;
+    plain(alloc, &network, &nodes)?.ok()
 }
 
 // The table, where all nodes are known.
@@ -70,9 +83,7 @@ fn plain(alloc: Global, network: &Network, nodes: &[NodeId]) -> Option<Result<Ti
 
 #[test]
 fn shortest_walks_of_a_town(rt: HostRuntime) -> Result<(), Fail> {
-    let network = read(&rt, rt.alloc(), TOWN);
-    let nodes = nodes_to(rt.alloc(), &rt, 7)?;
-    let times = fast(&rt, rt.alloc(), &network, &nodes).ok_or("an unknown node")??;
+    let times = told_to(&rt, rt.alloc(), TOWN, 7).ok_or("no table")?;
     const N: u32 = Times::NEVER;
     let expected = [
         [0, 60, 80, 80, N, N, N],
@@ -124,9 +135,18 @@ fn put_grid_arc(text: &mut Vec<u8>, from: u64, to: u64) -> Result<(), OutOfMemor
 fn versions_agree(rt: &(impl Threads + Sync), alloc: Global, text: &[u8]) -> Option<bool> {
     let network = network_of(alloc, text)?;
     let nodes = nodes_of(alloc, &network).ok()?;
-    let fast = fast(rt, alloc, &network, &nodes)?.ok()?;
-    let plain = plain(alloc, &network, &nodes)?.ok()?;
-    let told = by_ways(rt, alloc, &network, &nodes)?.ok()?;
+    tables_agree(rt, alloc, &network, &nodes)
+}
+
+fn tables_agree(
+    rt: &(impl Threads + Sync),
+    alloc: Global,
+    network: &Network,
+    nodes: &[NodeId],
+) -> Option<bool> {
+    let fast = fast(rt, alloc, network, nodes)?.ok()?;
+    let plain = plain(alloc, network, nodes)?.ok()?;
+    let told = by_ways(rt, alloc, network, nodes)?.ok()?;
     Some(
         fast.len() == nodes.len()
             && have_same_cells(&fast, &plain)
@@ -143,17 +163,8 @@ fn threads_agree_with_repeated_relaxation(rt: HostRuntime) -> Result<(), Fail> {
 
 #[test]
 fn answers_with_memory(rt: HostRuntime) -> Result<(), Fail> {
-    let network = read(&rt, rt.alloc(), b"from,to,seconds\n1,2,10000\n");
-    let nodes = nodes_to(rt.alloc(), &rt, 2)?;
-    assert!(rt;
-        fast(&rt, rt.alloc(), &network, &nodes)
-            .ok_or("an unknown node")?
-            .is_ok()
-    );
-    assert!(rt;
-        plain(rt.alloc(), &network, &nodes)
-            .ok_or("an unknown node")?
-            .is_ok()
-    );
+    let road = b"from,to,seconds\n1,2,10000\n";
+    assert!(rt; told_to(&rt, rt.alloc(), road, 2).is_some());
+    assert!(rt; plain_to(rt.alloc(), road, 2).is_some());
     Ok(())
 }
