@@ -42,16 +42,17 @@ fn solved(alloc: Global) -> Result<Vec<Option<u32>>, OutOfMemory> {
 fn dived(alloc: Global) -> Result<usize, OutOfMemory> {
     let table = table_of_pairs(alloc)?;
     let mut relaxation = Relaxation::new(alloc, &table, &[Some(0), Some(3), Some(5)])?;
-    relaxation.fill_pool_whole(&table)?;
+    dived_from(alloc, &table, &mut relaxation)
+}
+
+fn dived_from(
+    alloc: Global,
+    table: &RowTable,
+    relaxation: &mut Relaxation,
+) -> Result<usize, OutOfMemory> {
+    relaxation.fill_pool_whole(table)?;
     let basis = Vec::from_slice(alloc, relaxation.columns())?;
-    let plan = dive(
-        alloc,
-        &table,
-        &mut relaxation,
-        &basis,
-        &mut Draws::new(1),
-        true,
-    )?;
+    let plan = dive(alloc, table, relaxation, &basis, &mut Draws::new(1), true)?;
     match plan {
         None => Ok(0),
         Some(plan) => Ok(plan.len()),

@@ -88,17 +88,35 @@ fn a_relaxation_that_is_broken_off(rt: HostRuntime) {
     assert_eq!(rt; rises(rt.alloc(), 1), Some(true));
 }
 
+/// Whether a search with this budget finds a plan of this cost, with a bound from the one to the other.
+fn finds(
+    alloc: Global,
+    graph: &TripGraph,
+    budget: u32,
+    cost: u64,
+    least: i128,
+    most: i128,
+) -> bool {
+    match told(alloc, graph, budget) {
+        Some((bound, found, _, _)) => found == cost && least <= bound && bound <= most,
+        None => false,
+    }
+}
+
+/// Whether it chooses these rows.
+fn chooses(alloc: Global, graph: &TripGraph, rows: &[Option<u32>]) -> bool {
+    match search(alloc, graph, 1) {
+        Ok(found) => found.plan.chosen() == rows && found.tree.nodes().len() == 1,
+        Err(_) => false,
+    }
+}
+
 #[test]
 fn pairs_that_share_riders(rt: HostRuntime) -> Result<(), Fail> {
     let alloc = rt.alloc();
     let graph = three_pairs(alloc)?;
-    let found = search(alloc, &graph, 1)?;
-    assert_eq!(rt; found.cost, 110);
-    assert_eq!(rt; found.tree.nodes().len(), 1);
-    assert!(rt; found.bound >= 10 && found.bound <= 15);
-    let found = search(alloc, &graph, 16)?;
-    assert_eq!(rt; found.cost, 110);
-    assert_eq!(rt; found.bound, 110);
+    assert!(rt; finds(alloc, &graph, 1, 110, 10, 15));
+    assert!(rt; finds(alloc, &graph, 16, 110, 110, 110));
     Ok(())
 }
 
@@ -106,14 +124,9 @@ fn pairs_that_share_riders(rt: HostRuntime) -> Result<(), Fail> {
 fn a_held_rider_stays(rt: HostRuntime) -> Result<(), Fail> {
     let alloc = rt.alloc();
     let graph = one_held(alloc)?;
-    let found = search(alloc, &graph, 1)?;
-    assert_eq!(rt; found.plan.chosen(), [Some(1), Some(6)].as_slice());
-    assert_eq!(rt; found.cost, 170);
-    assert_eq!(rt; found.tree.nodes().len(), 1);
-    assert!(rt; found.bound >= 130 && found.bound <= 170);
-    let found = search(alloc, &graph, 20)?;
-    assert_eq!(rt; found.cost, 170);
-    assert_eq!(rt; found.bound, 170);
+    assert!(rt; chooses(alloc, &graph, &[Some(1), Some(6)]));
+    assert!(rt; finds(alloc, &graph, 1, 170, 130, 170));
+    assert!(rt; finds(alloc, &graph, 20, 170, 170, 170));
     Ok(())
 }
 
@@ -121,8 +134,6 @@ fn a_held_rider_stays(rt: HostRuntime) -> Result<(), Fail> {
 fn a_graph_without_vehicles(rt: HostRuntime) -> Result<(), Fail> {
     let alloc = rt.alloc();
     let graph = TripGraph::new(alloc, 0, 2, 100, Vec::new(alloc), Vec::new(alloc))?;
-    let found = search(alloc, &graph, 1)?;
-    assert_eq!(rt; found.cost, 200);
-    assert_eq!(rt; found.bound, 200);
+    assert!(rt; finds(alloc, &graph, 1, 200, 200, 200));
     Ok(())
 }

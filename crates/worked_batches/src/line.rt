@@ -1,5 +1,5 @@
 //! A line of five nodes, books on it, and settings.
-ghost use Rattle.std.specs.Prelude.{◌≡◌, ◌≤◌, IfSome};
+ghost use Rattle.std.specs.Prelude.{◌≡◌, ◌≤◌, [], IfSome};
 ghost use Rattle.dispatch_engine.specs.Run.{IsReady};
 
 use fleet_state::{HEADER as FLEET_HEADER, read_fleet};
@@ -30,7 +30,8 @@ pub fn line(alloc: Global) -> Option<Network> {
 
 /// The book of a fleet on the network, before its first round.
 pub fn book_of(alloc: Global, network: &Network, fleet: &[u8], settings: &Settings) -> Option<Book>
-    ensures { IfSome result (IsReady settings.now network.now) }
+    ensures empty { IfSome result (λ book. book.entries ≡ []) }
+    ensures ready { IfSome result (IsReady settings.now network.now) }
 {
     match rows(alloc, fleet, FLEET_HEADER) {
         Ok(table) => match read_fleet(alloc, &table, network) {
