@@ -4,10 +4,13 @@ ghost use Rattle.plan_rules.specs.Plan.{IsLawful, cost_of};
 ghost use Rattle.plan_rules.specs.Greedy.{IsGreedy};
 ghost use Rattle.plan_rules.specs.Multipliers.{first_fit_value};
 ghost use Rattle.plan_rules.specs.Tree.{every_row, rounded_up};
+ghost use Rattle.dual_bound.specs.Index.{IsIndexOf};
+ghost use Rattle.plan_rules.specs.Graph.{IsGoodGraph};
 ghost use Rattle.assignment_search.specs.Change.{HasNoBetterChange};
 ghost use Rattle.assignment_search.specs.Found.{Shows, IsSearchAnswer};
-ghost use Rattle.assignment_search.specs.Growth.{choice_count};
+ghost use Rattle.assignment_search.specs.Growth.{IsGoodLeaf, choice_count};
 
+use crate::child::Judged;
 use crate::exchange::exchange;
 use crate::first_plan::first_plan;
 use crate::found::Found;
@@ -44,11 +47,34 @@ fn run(alloc: Global, graph: &TripGraph, budget: u32) -> Result<Found, OutOfMemo
     requires { 1 ≤ budget }
     ensures { IfOk result (IsSearchAnswer graph.now budget) }
 {
-    let mut plan = first_plan(alloc, graph)?;
-    let mut limit = cost_of(graph, &plan);
+    let plan = first_plan(alloc, graph)?;
     let mut guide = Guide::new(alloc, graph, budget as usize)?;
     let index = RiderIndex::new(alloc, graph, guide.table())?;
     let root = root_leaf(alloc, graph, &index, &guide)?;
+    branch(alloc, graph, budget, &index, &mut guide, plan, root)
+}
+
+/// Branches from the root, with this plan to begin with, until the bound meets the cost or the budget is spent.
+fn branch(
+    alloc: Global,
+    graph: &TripGraph,
+    budget: u32,
+    index: &RiderIndex,
+    guide: &mut Guide,
+    first: Plan,
+    root: Judged,
+) -> Result<Found, OutOfMemory>
+    requires budget { 1 ≤ budget }
+    requires good { IsGoodGraph graph.now }
+    requires index { IsIndexOf graph.now index.now }
+    requires lawful { IsLawful graph.now first }
+    requires held { cost_of graph.now first ≤ cost_of graph.now graph.now.held }
+    requires greedy { (chosen : List (Option ℕ)) → IsGreedy graph.now chosen → IsLawful graph.now chosen → cost_of graph.now first ≤ cost_of graph.now chosen }
+    requires leaf { IsGoodLeaf graph.now (rounded_up root.value) every_row root.multipliers root.value }
+    ensures { IfOk result (IsSearchAnswer graph.now budget) }
+{
+    let mut plan = first;
+    let mut limit = cost_of(graph, &plan);
     let mut nodes = Vec::new(alloc);
     nodes.push(Node::Leaf {
         multipliers: root.multipliers,
@@ -61,13 +87,13 @@ fn run(alloc: Global, graph: &TripGraph, budget: u32) -> Result<Found, OutOfMemo
         match next(
             alloc,
             graph,
-            &index,
+            index,
             &nodes,
             &values,
             place,
             limit,
             budget as usize,
-            &mut guide,
+            guide,
         )? {
             Outcome::Parted(ends) => grow(&mut nodes, &mut values, place, ends)?,
             Outcome::Better(better) => {

@@ -18,8 +18,6 @@ mod root;
 mod sole_plan;
 mod standing;
 mod step;
-#[cfg(test)]
-mod tests;
 
 pub use branch_and_bound::search;
 pub use exchange::better_change;

@@ -10,8 +10,6 @@ mod left;
 mod lines;
 mod moves;
 mod solving;
-#[cfg(test)]
-mod tests;
 mod told;
 mod trips;
 

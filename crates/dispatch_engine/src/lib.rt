@@ -11,8 +11,6 @@ mod lane;
 mod laws;
 mod round;
 mod setup;
-#[cfg(test)]
-mod tests;
 
 pub use lane::run_lane;
 pub use laws::commands_follow_from_the_input;

@@ -1,5 +1,5 @@
 ghost use Rattle.std.specs.Prelude.{◌≡◌, ℕ, ◌<◌, ◌≤◌, [], All, IfOk};
-ghost use Rattle.request_book.specs.Book.{IsBook};
+ghost use Rattle.request_book.specs.Book.{IsBook, IsSameBook};
 ghost use Rattle.script_rows.specs.Round.{IsRound, lane_at};
 ghost use Rattle.seat_lock.specs.Values.{AreAllPasses, IsNew};
 ghost use Rattle.dispatch_engine.specs.work.Crew.{HaveRunLanes, IsSharedBy};
@@ -51,12 +51,28 @@ pub fn run_round<W: Ways, G: Gate>(
         settings,
         gate,
     };
-    let mut book = book;
-    book.reserve(most_entries(round))?;
+    let book = with_room(book, round)?;
     let _entries = book.entries();
     match SharedBook::start(alloc, book, lanes_in_use(round)) {
         Ok((shared, passes)) => run_shared(rt, alloc, shared, passes, round, &setup),
-        Err(_refused) => Err(OutOfMemory),
+        Err(refused) => {
+            drop(refused);
+            Err(OutOfMemory)
+        }
+    }
+}
+
+/// A book with room for a round's entries.
+fn with_room(book: Book, round: &Round) -> Result<Book, OutOfMemory>
+    ensures { IfOk result (IsSameBook book) }
+{
+    let mut book = book;
+    match book.reserve(most_entries(round)) {
+        Ok(()) => Ok(book),
+        Err(fault) => {
+            drop(book);
+            Err(fault)
+        }
     }
 }
 
@@ -83,7 +99,10 @@ fn run_shared<W: Ways, G: Gate>(
     let passes = run_passes(rt, alloc, &shared, passes, round, setup)?;
     match shared.finish(passes) {
         Ok(book) => Ok(book),
-        Err(_unfinished) => Err(OutOfMemory),
+        Err(unfinished) => {
+            drop(unfinished);
+            Err(OutOfMemory)
+        }
     }
 }
 
@@ -108,6 +127,7 @@ fn run_passes<W: Ways, G: Gate>(
     if are_done(crew.as_slice()) {
         passes_of(alloc, crew)
     } else {
+        drop(crew);
         Err(OutOfMemory)
     }
 }

@@ -14,8 +14,6 @@ mod lines;
 mod reply;
 mod round;
 mod summary;
-#[cfg(test)]
-mod tests;
 mod words;
 
 pub use day::{DayCounts, write_day_end};

@@ -4,7 +4,7 @@ use pool_base::OutOfMemory;
 use std::alloc::Global;
 
 /// The rows that are forbidden at hand, in order.
-#[derive(Debug, Drop)]
+#[derive(Drop)]
 pub struct Bans {
     rows: Vec<u32>,
 }

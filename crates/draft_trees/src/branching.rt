@@ -33,22 +33,18 @@ pub struct Effort {
 }
 
 /// The work space of a choice.
-#[derive(Debug, Drop)]
+#[derive(Drop)]
 pub struct Branching {
     saved: Saved,
     ranks: Vec<u64>,
 }
 
 impl Branching {
-    pub fn new(
-        alloc: Global,
-        table: &RowTable,
-        relaxation: &Relaxation,
-    ) -> Result<Self, OutOfMemory> {
-        Ok(Branching {
-            saved: relaxation.saved(alloc, table)?,
+    pub fn new(alloc: Global) -> Self {
+        Branching {
+            saved: Saved::new(alloc),
             ranks: Vec::new(alloc),
-        })
+        }
     }
 
     /// The row to branch on, where the relaxation stands at the node; it stands there again afterwards. None

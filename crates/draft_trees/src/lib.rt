@@ -10,8 +10,6 @@ mod diving;
 mod draws;
 mod part;
 mod ranks;
-#[cfg(test)]
-mod tests;
 mod tree;
 mod whole;
 

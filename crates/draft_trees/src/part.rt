@@ -34,24 +34,44 @@ pub fn solve_part(
         return Vec::from_slice(alloc, start).map_err(OutOfMemory::from);
     };
     let mut relaxation = Relaxation::new(alloc, part, start)?;
+    relax(part, multipliers, &mut relaxation)?;
+    let mut tree = DraftTree::new(alloc, part, &mut relaxation, start, cost)?;
+    if seconds_of(relaxation.value()) < cost {
+        grow(alloc, part, &mut relaxation, &mut tree, most_nodes)?;
+    }
+    Ok(tree.plan)
+}
+
+/// Solves the relaxation over all rows, at first with little to pay for a rider who is left out.
+fn relax(
+    part: &RowTable,
+    multipliers: &[i64],
+    relaxation: &mut Relaxation,
+) -> Result<(), OutOfMemory> {
     relaxation.fill_pool_whole(part)?;
     relaxation.set_boxed_costs(part, multipliers, BOX);
     relaxation.pivot_on(part, u64::MAX)?;
     relaxation.set_true_costs(part);
-    relaxation.solve(part, i64::MAX, MOST_ROWS, u32::MAX)?;
-    let mut tree = DraftTree::new(alloc, part, &mut relaxation, start, cost)?;
-    if seconds_of(relaxation.value()) < cost {
-        let mut draws = Draws::new(0);
-        let basis = Vec::from_slice(alloc, relaxation.columns())?;
-        if let Some(plan) = dive(alloc, part, &mut relaxation, &basis, &mut draws, false)? {
-            tree.offer(alloc, part, plan)?;
-        }
-        let growth = Growth {
-            budget: most_nodes as usize,
-            effort: EFFORT,
-            probe: usize::MAX,
-        };
-        tree.grow(alloc, part, &mut relaxation, growth)?;
+    relaxation.solve(part, i64::MAX, MOST_ROWS, u32::MAX)
+}
+
+/// Offers the tree a plan of a dive, and grows it.
+fn grow(
+    alloc: Global,
+    part: &RowTable,
+    relaxation: &mut Relaxation,
+    tree: &mut DraftTree,
+    most_nodes: u32,
+) -> Result<(), OutOfMemory> {
+    let mut draws = Draws::new(0);
+    let basis = Vec::from_slice(alloc, relaxation.columns())?;
+    if let Some(plan) = dive(alloc, part, relaxation, &basis, &mut draws, false)? {
+        tree.offer(alloc, part, plan)?;
     }
-    Ok(tree.plan)
+    let growth = Growth {
+        budget: most_nodes as usize,
+        effort: EFFORT,
+        probe: usize::MAX,
+    };
+    tree.grow(alloc, part, relaxation, growth)
 }

@@ -29,7 +29,7 @@ struct Decision {
 }
 
 /// A node of the tree.
-#[derive(Debug, Drop)]
+#[derive(Drop)]
 struct DraftNode {
     /// What leads here; none at the root.
     decision: Option<Decision>,
@@ -55,7 +55,7 @@ pub struct Growth {
 }
 
 /// A tree, and the best plan known.
-#[derive(Debug, Drop)]
+#[derive(Drop)]
 pub struct DraftTree {
     nodes: Vec<DraftNode>,
     /// The open nodes, least value first.
@@ -78,19 +78,26 @@ impl DraftTree {
         plan: &[Option<u32>],
         cost: i64,
     ) -> Result<Self, OutOfMemory> {
+        let plan = Vec::from_slice(alloc, plan)?;
         let mut tree = DraftTree {
             nodes: Vec::new(alloc),
             open: BinaryHeap::new(alloc),
             bans: Bans::new(alloc),
-            branching: Branching::new(alloc, table, relaxation)?,
-            plan: Vec::from_slice(alloc, plan)?,
+            branching: Branching::new(alloc),
+            plan,
             cost,
             bound: seconds_of(relaxation.value()),
         };
-        let root = node_of(alloc, table, relaxation, None)?;
-        tree.open.push((root.value.wrapping_neg(), 0))?;
-        tree.nodes.push(root)?;
+        tree.put(node_of(alloc, table, relaxation, None)?)?;
         Ok(tree)
+    }
+
+    /// Puts in a node, which is open.
+    fn put(&mut self, node: DraftNode) -> Result<(), OutOfMemory> {
+        let number = self.nodes.len().min(u32::MAX as usize) as u32;
+        self.open.push((node.value.wrapping_neg(), number))?;
+        self.nodes.push(node)?;
+        Ok(())
     }
 
     /// Grows the tree until the bound meets the cost, or there is no room, or it isn't worth it.
@@ -254,17 +261,22 @@ impl DraftTree {
             .saturating_mul(1024)
             .saturating_add(1);
         relaxation.solve(table, most, MOST_ROWS, u32::MAX)?;
-        let mut node = node_of(alloc, table, relaxation, Some(decision))?;
-        if node.shares.is_empty() && node.value < most {
+        let node = node_of(alloc, table, relaxation, Some(decision))?;
+        let is_plan = node.shares.is_empty() && node.value < most;
+        self.put_below(node, decision.parent)?;
+        if is_plan {
             self.take_plan(alloc, table, relaxation)?;
         }
-        if decision.parent < self.nodes.len() {
-            inherit(&mut node, &self.nodes[decision.parent])?;
-        }
-        let number = self.nodes.len().min(u32::MAX as usize) as u32;
-        self.open.push((node.value.wrapping_neg(), number))?;
-        self.nodes.push(node)?;
         Ok(())
+    }
+
+    /// Puts in a node below this one.
+    fn put_below(&mut self, node: DraftNode, parent: usize) -> Result<(), OutOfMemory> {
+        let mut node = node;
+        if parent < self.nodes.len() {
+            inherit(&mut node, &self.nodes[parent])?;
+        }
+        self.put(node)
     }
 
     /// Takes the plan of a solution that chooses rows whole.

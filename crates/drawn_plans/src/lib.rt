@@ -1,12 +1,19 @@
-//! Drawn trip graphs whose plans are all listed, and drawn trees of them: what a check says of these.
+//! Tests of the crates that a plan comes from, `plan_rules` to `search_check`: worked graphs whose plans are
+//! known, and drawn trip graphs whose plans are all listed, with drawn trees of them.
 //!
-//! It has tests alone, of the crates from `plan_rules` to `bound_checker`, and judges by the rules as they
-//! are read plainly: it lists every plan, and writes costs, leaf values and first-fit multipliers anew. What
-//! the search of a batch finds, tests/drawn.py judges on the whole program.
+//! It has tests alone, so that a crate under test is proved once and not a second time with its tests. What is drawn is
+//! judged by the rules as they are read plainly: it lists every plan, and writes costs, leaf values and
+//! first-fit multipliers anew. What the search of a batch finds, tests/drawn.py judges on the whole program.
 #![tactic(auto)]
 
 #[cfg(test)]
 mod all_plans;
+#[cfg(test)]
+mod bounding;
+#[cfg(test)]
+mod checking;
+#[cfg(test)]
+mod drafting;
 #[cfg(test)]
 mod drawn_trees;
 #[cfg(test)]
@@ -16,11 +23,15 @@ mod judging;
 #[cfg(test)]
 mod judging_bounds;
 #[cfg(test)]
+mod moving;
+#[cfg(test)]
 mod plain_bounds;
 #[cfg(test)]
 mod plain_rules;
 #[cfg(test)]
 mod plain_tree;
+#[cfg(test)]
+mod relaxing;
 #[cfg(test)]
 mod searching;
 #[cfg(test)]

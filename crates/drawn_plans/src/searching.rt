@@ -87,3 +87,53 @@ fn rises(alloc: Global, seed: u64) -> Option<bool> {
 fn a_relaxation_that_is_broken_off(rt: HostRuntime) {
     assert_eq!(rt; rises(rt.alloc(), 1), Some(true));
 }
+
+/// Whether a search with this budget finds a plan of this cost, with a bound from the one to the other.
+fn finds(
+    alloc: Global,
+    graph: &TripGraph,
+    budget: u32,
+    cost: u64,
+    least: i128,
+    most: i128,
+) -> bool {
+    match told(alloc, graph, budget) {
+        Some((bound, found, _, _)) => found == cost && least <= bound && bound <= most,
+        None => false,
+    }
+}
+
+/// Whether it chooses these rows.
+fn chooses(alloc: Global, graph: &TripGraph, rows: &[Option<u32>]) -> bool {
+    match search(alloc, graph, 1) {
+        Ok(found) => found.plan.chosen() == rows && found.tree.nodes().len() == 1,
+        Err(_) => false,
+    }
+}
+
+#[test]
+fn pairs_that_share_riders(rt: HostRuntime) -> Result<(), Fail> {
+    let alloc = rt.alloc();
+    let graph = three_pairs(alloc)?;
+    assert!(rt; finds(alloc, &graph, 1, 110, 10, 15));
+    assert!(rt; finds(alloc, &graph, 16, 110, 110, 110));
+    Ok(())
+}
+
+#[test]
+fn a_held_rider_stays(rt: HostRuntime) -> Result<(), Fail> {
+    let alloc = rt.alloc();
+    let graph = one_held(alloc)?;
+    assert!(rt; chooses(alloc, &graph, &[Some(1), Some(6)]));
+    assert!(rt; finds(alloc, &graph, 1, 170, 130, 170));
+    assert!(rt; finds(alloc, &graph, 20, 170, 170, 170));
+    Ok(())
+}
+
+#[test]
+fn a_graph_without_vehicles(rt: HostRuntime) -> Result<(), Fail> {
+    let alloc = rt.alloc();
+    let graph = TripGraph::new(alloc, 0, 2, 100, Vec::new(alloc), Vec::new(alloc))?;
+    assert!(rt; finds(alloc, &graph, 1, 200, 200, 200));
+    Ok(())
+}

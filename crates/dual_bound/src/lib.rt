@@ -12,8 +12,6 @@ mod climbing;
 mod first_fit_pass;
 mod laws;
 mod rider_index;
-#[cfg(test)]
-mod tests;
 
 pub use ceiling::first_fit_ceiling;
 pub use climbing::{ascend, climb};

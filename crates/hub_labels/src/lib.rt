@@ -17,8 +17,6 @@ mod rank;
 mod search;
 mod space;
 mod take;
-#[cfg(test)]
-mod tests;
 mod via;
 mod ways;
 

@@ -6,7 +6,5 @@
 
 pub mod fixed_point;
 mod relaxation;
-#[cfg(test)]
-mod tests;
 
 pub use relaxation::{Relaxation, RowTable, Saved, Share, first_multipliers};

@@ -44,16 +44,25 @@ pub struct Share {
 }
 
 /// A basis and its factors, to come back to.
-#[derive(Debug, Drop)]
+#[derive(Drop)]
 pub struct Saved {
     basis: Basis,
+}
+
+impl Saved {
+    /// No basis.
+    pub fn new(alloc: Global) -> Self {
+        Saved {
+            basis: Basis::new(alloc),
+        }
+    }
 }
 
 /// A solution of the relaxation of some rows, and the work space for the next one.
 ///
 /// A number of a column is that of a row, or a rider's behind the rows, who is left out, or behind those a
 /// vehicle's without rows.
-#[derive(Debug, Drop)]
+#[derive(Drop)]
 pub struct Relaxation {
     basis: Basis,
     pool: Pool,
@@ -95,8 +104,8 @@ impl Relaxation {
         start: &[Option<u32>],
     ) -> Result<Self, OutOfMemory> {
         let mut relaxation = Relaxation {
-            basis: Basis::new(alloc, table, start)?,
-            pool: Pool::new(alloc, table)?,
+            basis: Basis::new(alloc),
+            pool: Pool::new(alloc),
             is_forbidden: Vec::new(alloc),
             row_costs: Vec::new(alloc),
             left_costs: Vec::new(alloc),
@@ -116,26 +125,38 @@ impl Relaxation {
             least: Vec::new(alloc),
             offers: Vec::new(alloc),
         };
-        relaxation.make_space(table)?;
-        relaxation.set_true_costs(table);
+        relaxation.begin(table, start)?;
         Ok(relaxation)
     }
 
-    fn make_space(&mut self, table: &RowTable) -> Result<(), OutOfMemory> {
-        let count = table.vehicle_count().saturating_add(table.rider_count());
+    fn begin(&mut self, table: &RowTable, start: &[Option<u32>]) -> Result<(), OutOfMemory> {
+        self.basis.make_space(table)?;
+        self.basis.begin(table, start)?;
+        self.pool.make_space(table)?;
+        self.make_space_for_rows(table)?;
+        self.make_space_for_conditions(table)?;
+        self.set_true_costs(table);
+        Ok(())
+    }
+
+    fn make_space_for_rows(&mut self, table: &RowTable) -> Result<(), OutOfMemory> {
         reset(&mut self.is_forbidden, table.row_count(), false)?;
         for row in 0..table.row_count() {
             self.row_costs.push(in_prices(table.cost(row), self.scale))?;
         }
         reset(&mut self.left_costs, table.rider_count(), 0)?;
+        reset(&mut self.multipliers, table.rider_count(), 0)?;
+        reset(&mut self.tried, table.rider_count(), 0)?;
+        reset(&mut self.least, table.vehicle_count(), 0)
+    }
+
+    fn make_space_for_conditions(&mut self, table: &RowTable) -> Result<(), OutOfMemory> {
+        let count = table.vehicle_count().saturating_add(table.rider_count());
         reset(&mut self.prices, count, 0)?;
         reset(&mut self.entering, count, 0)?;
         reset(&mut self.changes, count, 0)?;
         reset(&mut self.costs, count, 0)?;
-        reset(&mut self.parts, count, 0)?;
-        reset(&mut self.multipliers, table.rider_count(), 0)?;
-        reset(&mut self.tried, table.rider_count(), 0)?;
-        reset(&mut self.least, table.vehicle_count(), 0)
+        reset(&mut self.parts, count, 0)
     }
 
     /// Has it cost as much to leave out a rider as the table says.
@@ -288,13 +309,6 @@ impl Relaxation {
             }
         }
         Ok(())
-    }
-
-    /// Room for a basis.
-    pub fn saved(&self, alloc: Global, table: &RowTable) -> Result<Saved, OutOfMemory> {
-        Ok(Saved {
-            basis: Basis::new(alloc, table, &[])?,
-        })
     }
 
     /// Writes the basis there.

@@ -10,8 +10,6 @@ mod late;
 mod moves;
 mod orders;
 mod plan;
-#[cfg(test)]
-mod tests;
 mod trips;
 mod vehicles;
 mod verdict;

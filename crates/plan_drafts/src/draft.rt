@@ -100,33 +100,53 @@ pub fn make_draft(
 impl Drafting {
     /// Solves the relaxation.
     fn new(alloc: Global, table: &RowTable, held: &[Option<u32>]) -> Result<Self, OutOfMemory> {
+        let relaxation = Relaxation::new(alloc, table, held)?;
+        let plans = Plans::new(alloc, table)?;
+        let mut drafting = Drafting {
+            alloc,
+            relaxation,
+            plans,
+            multipliers: Vec::new(alloc),
+            value: i64::MIN,
+            basis: Vec::new(alloc),
+            shares: Vec::new(alloc),
+            plan: Vec::new(alloc),
+            cost: i64::MAX / 4096,
+            bound: i64::MIN,
+            draws: Draws::new(5),
+        };
+        drafting.relax(table)?;
+        Ok(drafting)
+    }
+
+    /// Solves the relaxation, at first with little to pay for a rider who is left out.
+    fn relax(&mut self, table: &RowTable) -> Result<(), OutOfMemory> {
         let turns = if table.row_count() > MANY_ROWS {
             MORE_TURNS
         } else {
             TURNS
         };
-        let first = first_multipliers(alloc, table, turns)?;
-        let mut relaxation = Relaxation::new(alloc, table, held)?;
-        relaxation.fill_pool(table, &first, MOST_ROWS)?;
-        relaxation.set_boxed_costs(table, &first, BOX);
-        relaxation.pivot_on(table, u64::MAX)?;
-        relaxation.set_true_costs(table);
-        relaxation.solve(table, i64::MAX, MOST_ROWS, u32::MAX)?;
-        let mut shares = Vec::new(alloc);
-        relaxation.find_shares(table, &mut shares)?;
-        Ok(Drafting {
-            alloc,
-            plans: Plans::new(alloc, table)?,
-            multipliers: relaxation.multipliers(alloc, table.rider_count())?,
-            value: relaxation.value(),
-            basis: Vec::from_slice(alloc, relaxation.columns())?,
-            shares: by_falling_part(alloc, &shares)?,
-            plan: Vec::new(alloc),
-            cost: i64::MAX / 4096,
-            bound: seconds_of(relaxation.value()),
-            relaxation,
-            draws: Draws::new(5),
-        })
+        let first = first_multipliers(self.alloc, table, turns)?;
+        self.relaxation.fill_pool(table, &first, MOST_ROWS)?;
+        self.relaxation.set_boxed_costs(table, &first, BOX);
+        self.relaxation.pivot_on(table, u64::MAX)?;
+        self.relaxation.set_true_costs(table);
+        self.relaxation.solve(table, i64::MAX, MOST_ROWS, u32::MAX)?;
+        self.note_solution(table)
+    }
+
+    /// Notes the solution at hand as the first one.
+    fn note_solution(&mut self, table: &RowTable) -> Result<(), OutOfMemory> {
+        let mut shares = Vec::new(self.alloc);
+        self.relaxation.find_shares(table, &mut shares)?;
+        self.shares = by_falling_part(self.alloc, &shares)?;
+        self.multipliers = self
+            .relaxation
+            .multipliers(self.alloc, table.rider_count())?;
+        self.value = self.relaxation.value();
+        self.basis = Vec::from_slice(self.alloc, self.relaxation.columns())?;
+        self.bound = seconds_of(self.value);
+        Ok(())
     }
 
     fn is_open(&self) -> bool {
@@ -234,13 +254,9 @@ impl Drafting {
         )
     }
 
-    /// A tree from the first solution. Rows whose reduced cost exceeds the gap leave the pool before it.
+    /// A tree from the first solution.
     fn tree(&mut self, table: &RowTable, growth: Growth) -> Result<DraftTree, OutOfMemory> {
-        self.relaxation.go_to(table, &self.basis)?;
-        self.relaxation.pivot_on(table, u64::MAX)?;
-        let gap = self.cost.saturating_mul(1024).saturating_sub(self.value);
-        self.relaxation.shrink_pool(table, &self.multipliers, gap)?;
-        self.relaxation.set_best(&self.multipliers, self.value);
+        self.go_back(table)?;
         let mut tree = DraftTree::new(
             self.alloc,
             table,
@@ -248,6 +264,27 @@ impl Drafting {
             &self.plan,
             self.cost,
         )?;
+        self.grow(table, growth, &mut tree)?;
+        Ok(tree)
+    }
+
+    /// Goes back to the first solution, without the rows whose reduced cost exceeds the gap.
+    fn go_back(&mut self, table: &RowTable) -> Result<(), OutOfMemory> {
+        self.relaxation.go_to(table, &self.basis)?;
+        self.relaxation.pivot_on(table, u64::MAX)?;
+        let gap = self.cost.saturating_mul(1024).saturating_sub(self.value);
+        self.relaxation.shrink_pool(table, &self.multipliers, gap)?;
+        self.relaxation.set_best(&self.multipliers, self.value);
+        Ok(())
+    }
+
+    /// Grows a tree, and takes its bound and plan where they are better.
+    fn grow(
+        &mut self,
+        table: &RowTable,
+        growth: Growth,
+        tree: &mut DraftTree,
+    ) -> Result<(), OutOfMemory> {
         if self.is_open() {
             tree.grow(self.alloc, table, &mut self.relaxation, growth)?;
         }
@@ -257,7 +294,7 @@ impl Drafting {
             self.plan.clear();
             self.plan.extend_from_slice(&tree.plan)?;
         }
-        Ok(tree)
+        Ok(())
     }
 
     /// Rounds of annealing, drawn dives and merges: annealing where more riders might be served.
@@ -296,11 +333,7 @@ impl Drafting {
         optima: &mut Vec<Vec<Option<u32>>>,
     ) -> Result<(), OutOfMemory> {
         if is_wide {
-            self.plans.adopt(table, &self.plan)?;
-            self.plans.anneal(table, round, MOVES)?;
-            self.plans.better(table, self.bound, MORE_IDLE, MORE_STEPS)?;
-            self.keep()?;
-            self.note(optima)?;
+            self.anneal(table, round, optima)?;
         }
         let idle = if is_wide { MORE_IDLE } else { 2 * MORE_IDLE };
         if self.is_open() && self.dive(table, round > 0, idle, MORE_STEPS)? {
@@ -314,6 +347,19 @@ impl Drafting {
             self.keep()?;
         }
         Ok(())
+    }
+
+    fn anneal(
+        &mut self,
+        table: &RowTable,
+        round: u32,
+        optima: &mut Vec<Vec<Option<u32>>>,
+    ) -> Result<(), OutOfMemory> {
+        self.plans.adopt(table, &self.plan)?;
+        self.plans.anneal(table, round, MOVES)?;
+        self.plans.better(table, self.bound, MORE_IDLE, MORE_STEPS)?;
+        self.keep()?;
+        self.note(optima)
     }
 
     fn merge(

@@ -6,7 +6,5 @@
 
 mod draft;
 mod plans;
-#[cfg(test)]
-mod tests;
 
 pub use draft::make_draft;

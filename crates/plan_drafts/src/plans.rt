@@ -14,8 +14,6 @@ mod neighbourhood;
 mod present;
 mod regrets;
 mod rounding;
-#[cfg(test)]
-mod tests;
 
 use crate::plans::annealing::Annealing;
 use crate::plans::flat::{at, narrow, put};
@@ -62,19 +60,28 @@ impl Plans {
     pub fn new(alloc: Global, table: &RowTable) -> Result<Plans, OutOfMemory> {
         let vehicles = table.vehicle_count();
         let riders = table.rider_count();
-        let chosen = vec![in alloc; None; vehicles]?;
-        let multipliers = vec![in alloc; 0; riders]?;
-        Ok(Plans {
+        let present = Present::new(alloc, vehicles, riders)?;
+        let neighbourhood = Neighbourhood::new(alloc, vehicles, riders)?;
+        let mut plans = Plans {
             alloc,
             draws: Draws::new(4242),
-            regrets: Regrets::new(alloc, table, &multipliers, &chosen)?,
-            present: Present::new(alloc, vehicles, riders)?,
-            neighbourhood: Neighbourhood::new(alloc, vehicles, riders)?,
+            regrets: Regrets::none(alloc),
+            present,
+            neighbourhood,
             annealing: None,
-            multipliers,
-            cost: cost_of(alloc, table, &chosen)?,
-            chosen,
-        })
+            multipliers: Vec::new(alloc),
+            chosen: Vec::new(alloc),
+            cost: 0,
+        };
+        plans.begin(table)?;
+        Ok(plans)
+    }
+
+    fn begin(&mut self, table: &RowTable) -> Result<(), OutOfMemory> {
+        self.multipliers = vec![in self.alloc; 0; table.rider_count()]?;
+        self.chosen = vec![in self.alloc; None; table.vehicle_count()]?;
+        self.cost = cost_of(self.alloc, table, &self.chosen)?;
+        self.list(table)
     }
 
     /// The rows of the present plan.

@@ -8,8 +8,6 @@ mod best_moves;
 mod law;
 mod matching;
 mod moves;
-#[cfg(test)]
-mod tests;
 mod tree;
 mod weights;
 

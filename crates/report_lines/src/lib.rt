@@ -19,8 +19,6 @@ mod riders;
 mod row;
 mod signed;
 mod stops;
-#[cfg(test)]
-mod tests;
 mod trip;
 mod words;
 

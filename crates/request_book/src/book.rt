@@ -139,13 +139,27 @@ impl Book {
         ensures heavy { (IsLight command → ⊥) → self.old.spare ≤ self.new.spare }
         ensures kept { OnErr result (self.old.spare ≤ self.new.spare) }
     {
-        self.make_room(&command)?;
-        let reply = self
+        match self.make_room(&command) {
+            Ok(()) => {}
+            Err(fault) => {
+                drop(command);
+                return Err(fault);
+            }
+        }
+        match self
             .register
-            .run(self.alloc, &self.nodes, self.wait, &command)?;
-        self.reserved -= 1;
-        append(&mut self.entries, lane, command, &reply);
-        Ok(reply)
+            .run(self.alloc, &self.nodes, self.wait, &command)
+        {
+            Ok(reply) => {
+                self.reserved -= 1;
+                append(&mut self.entries, lane, command, &reply);
+                Ok(reply)
+            }
+            Err(fault) => {
+                drop(command);
+                Err(fault)
+            }
+        }
     }
 
     /// A rider's status.

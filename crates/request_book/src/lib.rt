@@ -21,8 +21,6 @@ mod riding;
 mod running;
 mod sealing;
 mod state;
-#[cfg(test)]
-mod tests;
 
 pub use book::Book;
 pub use command::Command;

@@ -9,8 +9,6 @@ mod notice;
 mod notifier;
 mod noting;
 mod telling;
-#[cfg(test)]
-mod tests;
 
 pub use memory_notifier::MemoryNotifier;
 pub use notice::Notice;

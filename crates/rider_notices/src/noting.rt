@@ -1,6 +1,6 @@
 ghost use Rattle.std.specs.Prelude.{◌≡◌, ◌++◌, ◌∷◌, [], IfOk, OnOk, if◌then◌else◌};
 ghost use Rattle.request_book.specs.Consistent.{IsConsistent};
-ghost use Rattle.rider_notices.specs.Notices.{notices, entry_notices, batch_notices, is_asking, notice_of, trip_notice, pickup_second, dropoff_second};
+ghost use Rattle.rider_notices.specs.Notices.{notices, notices_from, entry_notices, batch_notices, is_asking, notice_of, trip_notice, pickup_second, dropoff_second};
 
 use crate::notice::Notice;
 use batch_snapshot::Snapshot;
@@ -27,11 +27,23 @@ pub fn notices_of(
 {
     let mut told = Vec::new(alloc);
     let mut replay = Replay::of(alloc, network, wait, &journal.base)?;
-    for entry in journal.entries.as_slice() {
-        note_entry(&mut told, &replay, entry)?;
+    note_entries(&mut told, &mut replay, journal.entries.as_slice())?;
+    Ok(told)
+}
+
+/// Notes what entries tell, as a replay runs them from where it stands.
+fn note_entries(
+    told: &mut Vec<Notice>,
+    replay: &mut Replay,
+    entries: &[Entry],
+) -> Result<(), OutOfMemory>
+    ensures { OnOk result (told.new.items ≡ told.old.items ++ notices_from replay.old.nodes replay.old.wait replay.old.state entries.now) }
+{
+    for entry in entries {
+        note_entry(told, replay, entry)?;
         replay.run(&entry.command)?;
     }
-    Ok(told)
+    Ok(())
 }
 
 /// Notes what an entry tells, in the state before it.

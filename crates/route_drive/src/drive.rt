@@ -11,7 +11,7 @@ ghost use Rattle.route_drive.specs.Driven.{IsDrivenDay, IsDrivenRound, IsLateAns
 ghost use Rattle.route_drive.specs.declared.day_run.DriveFault.TheVariants.{OutOfMemory as NoMemory};
 ghost use Rattle.route_drive.specs.work.Drive.{IsEnd, IsEndLate, IsLastLate, IsLastOn, IsRoundLate, IsRoundOn, IsStoppedAt, IsTaken, IsUnderWay};
 
-use crate::counts::counts_of;
+use crate::counts::{Counts, counts_of};
 use crate::course::Course;
 use crate::day_run::{DayRound, DayRun, DriveFault};
 use crate::entering::Stopped;
@@ -104,13 +104,25 @@ fn start(alloc: Global, book: Book) -> Result<Drive, OutOfMemory>
     ensures courses { IfOk result (λ drive. drive.courses.items ≡ map (λ v. at_rest) book.state.vehicles) }
     ensures made { IfOk result (λ drive. drive.made.items ≡ []) }
 {
+    match courses_at_rest(alloc, &book) {
+        Ok(courses) => Ok(Drive {
+            book,
+            courses,
+            made: Vec::new(alloc),
+        }),
+        Err(fault) => {
+            drop(book);
+            Err(fault)
+        }
+    }
+}
+
+/// Each vehicle of a book at rest.
+fn courses_at_rest(alloc: Global, book: &Book) -> Result<Vec<Course>, OutOfMemory>
+    ensures { IfOk result (λ courses. courses.items ≡ map (λ v. at_rest) book.now.state.vehicles) }
+{
     let state = book.state()?;
-    let courses = first_courses(alloc, state.vehicles.as_slice())?;
-    Ok(Drive {
-        book,
-        courses,
-        made: Vec::new(alloc),
-    })
+    first_courses(alloc, state.vehicles.as_slice())
 }
 
 /// Drives a round.
@@ -135,7 +147,11 @@ fn drive_round<W: Ways, G: Gate>(
     } = drive;
     match driven_of(alloc, setup.network, setup.settings, &book, &courses, round) {
         Ok(driven) => run_driven(rt, alloc, book, courses, made, round, &driven, setup),
-        Err(stopped) => Err(stopped_at(stopped, round.number(), made)),
+        Err(stopped) => {
+            drop(book);
+            drop(courses);
+            Err(stopped_at(stopped, round.number(), made))
+        }
     }
 }
 
@@ -227,7 +243,10 @@ fn take(book: Book) -> Result<(Book, Journal), OutOfMemory>
     let mut book = book;
     match book.take_round() {
         Ok(journal) => Ok((book, journal)),
-        Err(_) => Err(OutOfMemory),
+        Err(fault) => {
+            drop(book);
+            Err(fault)
+        }
     }
 }
 
@@ -247,8 +266,17 @@ fn keep(
 {
     let number = round.number();
     match next_courses(alloc, &book, round, &journal, &courses) {
-        Ok(courses) => with_round(book, courses, made, DayRound { number, journal }),
-        Err(_) => Err(DriveFault::OutOfMemory),
+        Ok(next) => {
+            drop(courses);
+            with_round(book, next, made, DayRound { number, journal })
+        }
+        Err(_) => {
+            drop(book);
+            drop(journal);
+            drop(courses);
+            drop(made);
+            Err(DriveFault::OutOfMemory)
+        }
     }
 }
 
@@ -286,7 +314,12 @@ fn with_round(
             courses,
             made,
         }),
-        Err(_) => Err(DriveFault::OutOfMemory),
+        Err(_) => {
+            drop(book);
+            drop(courses);
+            drop(made);
+            Err(DriveFault::OutOfMemory)
+        }
     }
 }
 
@@ -332,7 +365,11 @@ fn drive_last<W: Ways, G: Gate>(
     } = drive;
     match left_of(alloc, &book, &courses) {
         Ok(left) => run_last(rt, alloc, book, courses, made, number, &left, setup),
-        Err(stopped) => Err(stopped_at(stopped, number, made)),
+        Err(stopped) => {
+            drop(book);
+            drop(courses);
+            Err(stopped_at(stopped, number, made))
+        }
     }
 }
 
@@ -387,15 +424,31 @@ fn counted<W: Ways, G: Gate>(
     ensures counts { IfOk result (λ run. AreCounts setup.now.network.now end.book.state.riders (entries_of end.made.items) run.picked run.dropped run.worst_wait run.worst_delay) }
     ensures late { IfErr result (λ fault. fault ≡ NoMemory) }
 {
-    let Drive { book, made, .. } = end;
-    match counts_of(rt, alloc, &book, &made, setup.network, setup.ways) {
-        Ok(counts) => Ok(DayRun {
-            rounds: Sequence::of(made),
-            picked: counts.picked,
-            dropped: counts.dropped,
-            worst_wait: counts.worst_wait,
-            worst_delay: counts.worst_delay,
-        }),
-        Err(_) => Err(DriveFault::OutOfMemory),
+    match counts_of(rt, alloc, &end.book, &end.made, setup.network, setup.ways) {
+        Ok(counts) => Ok(day_run(end, counts)),
+        Err(_) => {
+            drop(end);
+            Err(DriveFault::OutOfMemory)
+        }
+    }
+}
+
+/// What is told of a day with these counts.
+fn day_run(end: Drive, counts: Counts) -> DayRun
+    ensures { result ≡ record { rounds = end.made.items; picked = counts.picked; dropped = counts.dropped; worst_wait = counts.worst_wait; worst_delay = counts.worst_delay } }
+{
+    let Drive {
+        book,
+        courses,
+        made,
+    } = end;
+    drop(book);
+    drop(courses);
+    DayRun {
+        rounds: Sequence::of(made),
+        picked: counts.picked,
+        dropped: counts.dropped,
+        worst_wait: counts.worst_wait,
+        worst_delay: counts.worst_delay,
     }
 }

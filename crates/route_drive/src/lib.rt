@@ -22,6 +22,3 @@ pub use day::{DayFault, is_day};
 pub use day_run::{DayRound, DayRun, DriveFault};
 pub use promised::drive_day;
 pub use walk::{WalkStep, shortest_walk};
-
-#[cfg(test)]
-mod tests;

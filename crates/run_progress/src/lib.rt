@@ -5,8 +5,6 @@
 
 mod progress;
 mod reading;
-#[cfg(test)]
-mod tests;
 mod watched_sink;
 
 pub use watched_sink::WatchedSink;

@@ -18,6 +18,3 @@ pub use reading::read_script;
 pub use round::Round;
 pub use script::Script;
 pub use version::ScriptVersion;
-
-#[cfg(test)]
-mod tests;

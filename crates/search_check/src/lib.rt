@@ -9,8 +9,6 @@ mod bound;
 mod choices;
 mod limit;
 mod nodes;
-#[cfg(test)]
-mod tests;
 mod tight;
 
 pub use best::is_best_near;

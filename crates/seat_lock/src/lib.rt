@@ -13,8 +13,6 @@ mod logged;
 mod moves;
 mod pass;
 mod steps;
-#[cfg(test)]
-mod tests;
 mod turn;
 mod view;
 

@@ -7,8 +7,6 @@
 
 mod locked;
 mod shared;
-#[cfg(test)]
-mod tests;
 
 pub use locked::{BookRoot, LockedBook, LockedReply};
 pub use shared::{Pass, Receipt, SealReceipt, SharedBook, UnfinishedBook};

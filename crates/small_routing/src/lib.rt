@@ -16,6 +16,3 @@ pub use kept::Workspace;
 pub use least::{least_delay, least_delay_with};
 pub use stop_orders::Route;
 pub use unlimited::least_delay_unlimited;
-
-#[cfg(test)]
-mod tests;

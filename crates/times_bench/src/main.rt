@@ -85,14 +85,26 @@ fn measure(rt: &HostRuntime, threads: &(impl Threads + Sync)) -> Result<(), Faul
         return Err(Fault::Words);
     };
     let network = network_of(rt, &wish.network)?;
-    let nodes = spread_nodes(rt.alloc(), &network, wish.points)?;
+    measure_on(rt, threads, &network, &wish)
+}
+
+fn measure_on(
+    rt: &HostRuntime,
+    threads: &(impl Threads + Sync),
+    network: &Network,
+    wish: &Wish,
+) -> Result<(), Fault>
+    requires { wish.now.points ≤ 12500 }
+{
+    let nodes = spread_nodes(rt.alloc(), network, wish.points)?;
     println!(rt; "threads {}", available_parallelism(threads)?)?;
     if wish.by_labels {
-        let ways = LabelWays::of(&network, labels_of(rt, &network)?);
-        measure_tables(rt, threads, &network, &ways, &nodes, wish.repeats)
+        let labels = labels_of(rt, network)?;
+        let ways = LabelWays::of(network, labels);
+        measure_tables(rt, threads, network, &ways, &nodes, wish.repeats)
     } else {
-        let ways = NetworkWays { network: &network };
-        measure_tables(rt, threads, &network, &ways, &nodes, wish.repeats)
+        let ways = NetworkWays { network };
+        measure_tables(rt, threads, network, &ways, &nodes, wish.repeats)
     }
 }
 

@@ -12,8 +12,6 @@ mod search;
 mod short_hop;
 mod single;
 mod table;
-#[cfg(test)]
-mod tests;
 mod ways;
 
 pub use plain::times_by_repeated_relaxation;

@@ -1,17 +1,18 @@
 //! What the crates answer to the batch, as texts.
-ghost use Rattle.std.specs.Prelude.{◌≡◌, ℕ, ◌<◌, ◌≤◌, Contains, IfOk, length};
+ghost use Rattle.std.specs.Prelude.{◌≡◌, ℕ, ◌<◌, Contains, IfOk, length};
 ghost use Rattle.pool_base.specs.Times.{point_count, travel_time};
 ghost use Rattle.batch_snapshot.specs.Points.{ArePoints};
 ghost use Rattle.stop_orders.specs.Settled.{IsRrEdge};
 ghost use Rattle.stop_orders.specs.Sound.{IsSound};
 
 use crate::asking::batch;
+use crate::line::settings;
 use batch_snapshot::{Points, Snapshot};
 use pair_graph::{rider_rider, rider_vehicle};
 use plan_rules::TripRow;
 use pool_base::{NodeId, OutOfMemory, Steps, Times};
 use promise_check::settle;
-use rider_limits::{Mode, Settings, TimesWay};
+use rider_limits::Settings;
 use std::alloc::Global;
 use std::marker::Brand;
 use std::sync::ledger::{Blank, Ledger};
@@ -32,26 +33,6 @@ pub enum Asked {
     Singles { room: u64 },
     /// The rows of the trip graph.
     Rows,
-}
-
-/// The settings, with so many rows allowed.
-fn settings(pairs: u32) -> Settings
-    requires some { 1 ≤ pairs }
-    requires most { pairs ≤ 2000000 }
-{
-    Settings {
-        mode: Mode::Run,
-        wait: 120,
-        delay: 180,
-        trip: 4,
-        penalty: 10_000,
-        budget: 200,
-        pairs,
-        workers: 4,
-        proof: false,
-        dwell: 0,
-        times: TimesWay::Rows,
-    }
 }
 
 /// The seconds between two nodes of the line.
@@ -82,8 +63,10 @@ pub fn told(
     alloc: Global,
     asked: Asked,
 ) -> Result<String, OutOfMemory> {
-    let snapshot = batch(alloc)?;
-    told_of_batch(rt, alloc, &snapshot, &settings(200_000), asked)
+    match batch(alloc) {
+        Some(batch) => told_of_batch(rt, alloc, &batch, &settings(200_000, 0), asked),
+        None => Err(OutOfMemory),
+    }
 }
 
 fn told_of_batch(

@@ -11,8 +11,6 @@ mod gate;
 mod job;
 mod order;
 mod run;
-#[cfg(test)]
-mod tests;
 mod worker;
 
 pub use gate::{FreeGate, Gate};

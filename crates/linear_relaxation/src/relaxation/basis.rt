@@ -19,7 +19,7 @@ const LEAST_PIVOT: i64 = ONE / 1000;
 const SEED: u64 = 77;
 
 /// Which column stands at each place, and the factors of those columns.
-#[derive(Debug, Drop)]
+#[derive(Drop)]
 pub struct Basis {
     columns: Vec<u32>,
     /// For each column one more than its place, 0 where it isn't in the basis.
@@ -38,14 +38,9 @@ pub struct Basis {
 }
 
 impl Basis {
-    /// These rows, of which no two have a rider in common, one for each vehicle that has any, and all other
-    /// riders as left out.
-    pub fn new(
-        alloc: Global,
-        table: &RowTable,
-        start: &[Option<u32>],
-    ) -> Result<Self, OutOfMemory> {
-        let mut basis = Basis {
+    /// No column.
+    pub fn new(alloc: Global) -> Self {
+        Basis {
             columns: Vec::new(alloc),
             places: Vec::new(alloc),
             levels: Vec::new(alloc),
@@ -53,18 +48,20 @@ impl Basis {
             factors: Factors::new(alloc),
             is_factored: false,
             good: Vec::new(alloc),
-            elimination: Elimination::new(alloc)?,
-            matrix: Lists::new(alloc)?,
+            elimination: Elimination::new(alloc),
+            matrix: Lists::new(alloc),
             numbers: Vec::new(alloc),
-        };
+        }
+    }
+
+    /// Makes room for the columns of a table.
+    pub fn make_space(&mut self, table: &RowTable) -> Result<(), OutOfMemory> {
         let count = table.vehicle_count().saturating_add(table.rider_count());
         let columns = table.row_count().saturating_add(count);
-        reset(&mut basis.places, columns, 0)?;
-        reset(&mut basis.levels, count, 0)?;
-        reset(&mut basis.numbers, count, 0)?;
-        basis.draw_capacities(table)?;
-        basis.begin(table, start)?;
-        Ok(basis)
+        reset(&mut self.places, columns, 0)?;
+        reset(&mut self.levels, count, 0)?;
+        reset(&mut self.numbers, count, 0)?;
+        self.draw_capacities(table)
     }
 
     fn draw_capacities(&mut self, table: &RowTable) -> Result<(), OutOfMemory> {
@@ -78,7 +75,9 @@ impl Basis {
         Ok(())
     }
 
-    fn begin(&mut self, table: &RowTable, start: &[Option<u32>]) -> Result<(), OutOfMemory> {
+    /// Takes these rows, of which no two have a rider in common, one for each vehicle that has any, and all other
+    /// riders as left out.
+    pub fn begin(&mut self, table: &RowTable, start: &[Option<u32>]) -> Result<(), OutOfMemory> {
         self.columns.clear();
         let riders_end = table.row_count().saturating_add(table.rider_count());
         for vehicle in 0..table.vehicle_count() {

@@ -2,7 +2,7 @@
 //!
 //! Steps are as long as Polyak's rule says (1969), toward a tenth of all penalties, and halved after eight
 //! turns without a rise.
-use crate::fixed_point::{at, copy, set_at};
+use crate::fixed_point::{add_at, at, copy, set_at};
 use crate::relaxation::elimination::reset;
 use crate::relaxation::pricing::{reduced_cost, value_of_riders};
 use crate::relaxation::row_table::RowTable;
@@ -41,7 +41,7 @@ pub fn first_multipliers(
     Ok(best)
 }
 
-#[derive(Debug, Drop)]
+#[derive(Drop)]
 struct Climb {
     point: Vec<i64>,
     best: Vec<i64>,
@@ -64,31 +64,36 @@ impl Climb {
             scale: UNIT,
             idle: 0,
         };
-        climb.best.extend_from_slice(&climb.point)?;
-        reset(&mut climb.slopes, table.rider_count(), 0)?;
-        reset(&mut climb.direction, table.rider_count(), 0)?;
+        climb.make_space(table.rider_count())?;
         Ok(climb)
+    }
+
+    fn make_space(&mut self, riders: usize) -> Result<(), OutOfMemory> {
+        self.best.extend_from_slice(&self.point)?;
+        reset(&mut self.slopes, riders, 0)?;
+        reset(&mut self.direction, riders, 0)
     }
 
     /// The value at the point. Computes the slopes there.
     fn look(&mut self, table: &RowTable) -> i64 {
-        let most = table.penalty().wrapping_mul(UNIT);
+        self.mark_rising(table);
         let mut value = value_of_riders(table, &self.point);
+        for vehicle in 0..table.vehicle_count() {
+            if let Some((row, cost)) = best_row(table, &self.point, vehicle) {
+                value = value.wrapping_add(cost);
+                take_one(&mut self.slopes, table.riders_of(row));
+            }
+        }
+        value
+    }
+
+    /// A rider's slope is one where her multiplier counts if it rises.
+    fn mark_rising(&mut self, table: &RowTable) {
+        let most = table.penalty().wrapping_mul(UNIT);
         for rider in 0..self.slopes.len() {
             let rises = table.must(rider) || at(&self.point, rider) < most;
             set_at(&mut self.slopes, rider, if rises { 1 } else { 0 });
         }
-        for vehicle in 0..table.vehicle_count() {
-            if let Some((row, cost)) = best_row(table, &self.point, vehicle) {
-                value = value.wrapping_add(cost);
-                for rider in table.riders_of(row) {
-                    let rider = *rider as usize;
-                    let slope = at(&self.slopes, rider).wrapping_sub(1);
-                    set_at(&mut self.slopes, rider, slope);
-                }
-            }
-        }
-        value
     }
 
     /// Keeps the point where it is the best so far, and goes back to that after some turns without a rise.
@@ -133,6 +138,13 @@ impl Climb {
             let most = if table.must(rider) { i64::MAX } else { most };
             set_at(&mut self.point, rider, next.min(most));
         }
+    }
+}
+
+/// Takes one from each of these riders' slopes.
+fn take_one(slopes: &mut [i64], riders: &[u32]) {
+    for rider in riders {
+        add_at(slopes, *rider as usize, -1);
     }
 }
 

@@ -14,7 +14,7 @@ use std::alloc::Global;
 const LEAST_PIVOT: i64 = ONE / 1000;
 
 /// The work space of a factorisation.
-#[derive(Debug, Drop)]
+#[derive(Drop)]
 pub struct Elimination {
     /// For each condition the places whose columns have it.
     conditions: Lists,
@@ -34,9 +34,9 @@ pub struct Elimination {
 }
 
 impl Elimination {
-    pub fn new(alloc: Global) -> Result<Self, OutOfMemory> {
-        Ok(Elimination {
-            conditions: Lists::new(alloc)?,
+    pub fn new(alloc: Global) -> Self {
+        Elimination {
+            conditions: Lists::new(alloc),
             is_place_done: Vec::new(alloc),
             is_condition_done: Vec::new(alloc),
             place_counts: Vec::new(alloc),
@@ -46,7 +46,7 @@ impl Elimination {
             column: Vec::new(alloc),
             touched: Vec::new(alloc),
             is_touched: Vec::new(alloc),
-        })
+        }
     }
 
     /// Makes the factors of these columns. False where a column can't be divided.
@@ -75,12 +75,7 @@ impl Elimination {
     fn load(&mut self, columns: &Lists) -> Result<(), OutOfMemory> {
         let count = columns.len();
         self.conditions.transpose(columns, count)?;
-        reset(&mut self.is_place_done, count, false)?;
-        reset(&mut self.is_condition_done, count, false)?;
-        reset(&mut self.is_touched, count, false)?;
-        reset(&mut self.place_counts, count, 0)?;
-        reset(&mut self.condition_counts, count, 0)?;
-        reset(&mut self.column, count, 0)?;
+        self.make_space(count)?;
         self.queue.clear();
         for place in 0..count {
             let size = columns.list(place).len();
@@ -90,6 +85,15 @@ impl Elimination {
             }
         }
         Ok(())
+    }
+
+    fn make_space(&mut self, count: usize) -> Result<(), OutOfMemory> {
+        reset(&mut self.is_place_done, count, false)?;
+        reset(&mut self.is_condition_done, count, false)?;
+        reset(&mut self.is_touched, count, false)?;
+        reset(&mut self.place_counts, count, 0)?;
+        reset(&mut self.condition_counts, count, 0)?;
+        reset(&mut self.column, count, 0)
     }
 
     /// Divides the places of which one condition is left, one after the other.

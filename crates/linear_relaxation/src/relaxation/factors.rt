@@ -12,7 +12,7 @@ use pool_base::OutOfMemory;
 use std::alloc::Global;
 
 /// The parts of columns or rows, one behind the other, where they aren't 0.
-#[derive(Debug, Drop)]
+#[derive(Drop)]
 pub struct Entries {
     /// Where each ends.
     ends: Vec<u32>,
@@ -138,7 +138,7 @@ pub struct Pivot {
 }
 
 /// The factors of a basis.
-#[derive(Debug, Drop)]
+#[derive(Drop)]
 pub struct Factors {
     pivots: Vec<Pivot>,
     /// Below each pivot, in its column, over the conditions.

@@ -16,7 +16,7 @@ pub struct Candidate {
 }
 
 /// Some rows of a table, each at a place of its own.
-#[derive(Debug, Drop)]
+#[derive(Drop)]
 pub struct Pool {
     rows: Vec<u32>,
     /// For each place what its row costs and its conditions: they lie side by side, unlike those of a table,
@@ -30,16 +30,19 @@ pub struct Pool {
 
 impl Pool {
     /// No row.
-    pub fn new(alloc: Global, table: &RowTable) -> Result<Self, OutOfMemory> {
-        let mut pool = Pool {
+    pub fn new(alloc: Global) -> Self {
+        Pool {
             rows: Vec::new(alloc),
             costs: Vec::new(alloc),
-            conditions: Lists::new(alloc)?,
+            conditions: Lists::new(alloc),
             is_in: Vec::new(alloc),
             cursor: 0,
-        };
-        reset(&mut pool.is_in, table.row_count(), false)?;
-        Ok(pool)
+        }
+    }
+
+    /// Makes room for the rows of a table.
+    pub fn make_space(&mut self, table: &RowTable) -> Result<(), OutOfMemory> {
+        reset(&mut self.is_in, table.row_count(), false)
     }
 
     pub fn len(&self) -> usize {

@@ -13,12 +13,12 @@ const MUST_COST: i64 = 10_000_000;
 ///
 /// Vehicles, riders and rows are numbers from 0; costs are in seconds. What is asked of a number past the
 /// last one is nothing, or nobody, at no cost.
-#[derive(Debug, Drop)]
+#[derive(Drop)]
 pub struct RowTable {
     penalty: i64,
     must: Vec<bool>,
-    /// Each vehicle's first row, and the number of rows.
-    starts: Vec<u32>,
+    /// Where each vehicle's rows end.
+    ends: Vec<u32>,
     vehicles: Vec<u32>,
     costs: Vec<i64>,
     riders: Lists,
@@ -27,18 +27,16 @@ pub struct RowTable {
 
 impl RowTable {
     /// A table without vehicles. The marks say which riders must be served.
-    pub fn new(alloc: Global, penalty: i64, must: Vec<bool>) -> Result<Self, OutOfMemory> {
-        let mut table = RowTable {
+    pub fn new(alloc: Global, penalty: i64, must: Vec<bool>) -> Self {
+        RowTable {
             penalty,
             must,
-            starts: Vec::new(alloc),
+            ends: Vec::new(alloc),
             vehicles: Vec::new(alloc),
             costs: Vec::new(alloc),
-            riders: Lists::new(alloc)?,
-            rows: Lists::new(alloc)?,
-        };
-        table.starts.push(0)?;
-        Ok(table)
+            riders: Lists::new(alloc),
+            rows: Lists::new(alloc),
+        }
     }
 
     /// All rows of a graph.
@@ -47,7 +45,7 @@ impl RowTable {
         for rider in 0..graph.rider_count() {
             must.push(graph.must(rider))?;
         }
-        let mut table = RowTable::new(alloc, i64::from(graph.penalty()), must)?;
+        let mut table = RowTable::new(alloc, i64::from(graph.penalty()), must);
         for vehicle in 0..graph.vehicle_count() {
             table.push_vehicle(graph, vehicle)?;
         }
@@ -85,7 +83,7 @@ impl RowTable {
 
     /// Ends the rows of the vehicle at hand: later ones are those of the next.
     pub fn end_vehicle(&mut self) -> Result<(), OutOfMemory> {
-        self.starts.push(short(self.costs.len()))?;
+        self.ends.push(short(self.costs.len()))?;
         Ok(())
     }
 
@@ -95,7 +93,7 @@ impl RowTable {
     }
 
     pub fn vehicle_count(&self) -> usize {
-        self.starts.len().saturating_sub(1)
+        self.ends.len()
     }
 
     pub fn rider_count(&self) -> usize {
@@ -108,9 +106,12 @@ impl RowTable {
 
     /// The vehicle's rows.
     pub fn rows_of(&self, vehicle: usize) -> Range<usize> {
-        let from = item(&self.starts, vehicle, 0) as usize;
-        let to = item(&self.starts, vehicle.saturating_add(1), 0) as usize;
-        from..to
+        let from = if vehicle == 0 {
+            0
+        } else {
+            item(&self.ends, vehicle - 1, 0)
+        };
+        from as usize..item(&self.ends, vehicle, 0) as usize
     }
 
     /// The row's riders.

@@ -55,21 +55,32 @@ pub struct Annealing {
 
 impl Annealing {
     pub fn new(alloc: Global, table: &RowTable) -> Result<Self, OutOfMemory> {
-        Ok(Annealing {
-            beside: Beside::new(alloc, table)?,
-            chances: Chances::new(alloc)?,
+        let chances = Chances::new(alloc)?;
+        let beside = Beside::new(alloc, table)?;
+        let mut annealing = Annealing {
+            beside,
+            chances,
             draws: Draws::new(999),
             proposals: Groups::new(alloc),
-            rows: vec![in alloc; NONE; table.vehicle_count()]?,
-            servers: vec![in alloc; NONE; table.rider_count()]?,
+            rows: Vec::new(alloc),
+            servers: Vec::new(alloc),
             change: 0,
             log: Vec::new(alloc),
             dropped: Vec::new(alloc),
             short: Vec::new(alloc),
             above: 0,
             least: 0,
-            best: vec![in alloc; None; table.vehicle_count()]?,
-        })
+            best: Vec::new(alloc),
+        };
+        annealing.make_space(alloc, table)?;
+        Ok(annealing)
+    }
+
+    fn make_space(&mut self, alloc: Global, table: &RowTable) -> Result<(), OutOfMemory> {
+        self.rows = vec![in alloc; NONE; table.vehicle_count()]?;
+        self.servers = vec![in alloc; NONE; table.rider_count()]?;
+        self.best = vec![in alloc; None; table.vehicle_count()]?;
+        Ok(())
     }
 
     /// Makes so many moves from this plan, fewer where there are few rows. Whether it found a better one.
@@ -181,18 +192,28 @@ impl Annealing {
             self.dropped.push(*rider)?;
         }
         self.set_row(table, vehicle, row)?;
+        self.insert_dropped(table)?;
+        self.fill_short(table)?;
+        self.fill(table, vehicle)?;
+        Ok(true)
+    }
+
+    fn insert_dropped(&mut self, table: &RowTable) -> Result<(), OutOfMemory> {
         for place in 0..self.dropped.len() {
             let rider = at(&self.dropped, place, NONE);
             if self.server_of(rider) == NONE {
                 self.insert(table, rider)?;
             }
         }
+        Ok(())
+    }
+
+    fn fill_short(&mut self, table: &RowTable) -> Result<(), OutOfMemory> {
         for place in 0..self.short.len() {
             let server = at(&self.short, place, NONE);
             self.fill(table, server)?;
         }
-        self.fill(table, vehicle)?;
-        Ok(true)
+        Ok(())
     }
 
     /// Takes the row's riders from the vehicles that serve them. Whether these have rows for that.

@@ -19,27 +19,37 @@ pub struct Beside {
 
 impl Beside {
     pub fn new(alloc: Global, table: &RowTable) -> Result<Self, OutOfMemory> {
-        let without = rows_without(alloc, table)?;
-        let counts = count_wider(alloc, table, &without)?;
-        let mut added = Groups::with_room(alloc, &counts)?;
-        let mut wider = Groups::with_room(alloc, &counts)?;
-        let mut ends_of_added = added.cursors(alloc)?;
-        let mut ends_of_wider = wider.cursors(alloc)?;
+        let mut beside = Beside {
+            without: rows_without(alloc, table)?,
+            added: Groups::new(alloc),
+            wider: Groups::new(alloc),
+            vehicles: Groups::new(alloc),
+        };
+        beside.list_wider(alloc, table)?;
+        Ok(beside)
+    }
+
+    fn list_wider(&mut self, alloc: Global, table: &RowTable) -> Result<(), OutOfMemory> {
+        self.vehicles = vehicles_with(alloc, table)?;
+        let counts = count_wider(alloc, table, &self.without)?;
+        self.added = Groups::with_room(alloc, &counts)?;
+        self.wider = Groups::with_room(alloc, &counts)?;
+        let mut ends_of_added = self.added.cursors(alloc)?;
+        let mut ends_of_wider = self.wider.cursors(alloc)?;
+        self.write_wider(table, &mut ends_of_added, &mut ends_of_wider);
+        Ok(())
+    }
+
+    fn write_wider(&mut self, table: &RowTable, added: &mut [u32], wider: &mut [u32]) {
         for rider in 0..table.rider_count() {
             for row in table.rows_with(rider) {
-                let narrower = row_without(table, &without, *row as usize, narrow(rider));
+                let narrower = self.without(table, *row as usize, narrow(rider));
                 if narrower != NONE {
-                    added.write(&mut ends_of_added, narrower as usize, narrow(rider));
-                    wider.write(&mut ends_of_wider, narrower as usize, *row);
+                    self.added.write(added, narrower as usize, narrow(rider));
+                    self.wider.write(wider, narrower as usize, *row);
                 }
             }
         }
-        Ok(Beside {
-            without,
-            added,
-            wider,
-            vehicles: vehicles_with(alloc, table)?,
-        })
     }
 
     /// The row without this rider of its own, or `NONE`.

@@ -44,8 +44,7 @@ pub fn solve(
     };
     part.find_places(regrets, present, wanted)?;
     let rows = part.rows(alloc, table, regrets, present, wanted.vehicles)?;
-    let prices = part.prices(alloc, multipliers)?;
-    let chosen = solve_part(alloc, &rows, &part.start, &prices, most_nodes)?;
+    let chosen = part.choose(alloc, &rows, multipliers, most_nodes)?;
     Ok(part.give(regrets, present, &chosen))
 }
 
@@ -97,32 +96,71 @@ impl Part {
         present: &Present,
         vehicles: &[u32],
     ) -> Result<RowTable, OutOfMemory> {
+        let must = self.must(alloc, table)?;
+        let mut rows = RowTable::new(alloc, table.penalty(), must);
+        self.put_rows(alloc, table, regrets, present, vehicles, &mut rows)?;
+        Ok(rows)
+    }
+
+    /// Which of the part's riders must be served.
+    fn must(&self, alloc: Global, table: &RowTable) -> Result<Vec<bool>, OutOfMemory> {
         let mut must = Vec::new(alloc);
         for rider in &self.riders {
             must.push(table.must(*rider as usize))?;
         }
-        let mut rows = RowTable::new(alloc, table.penalty(), must)?;
+        Ok(must)
+    }
+
+    fn put_rows(
+        &mut self,
+        alloc: Global,
+        table: &RowTable,
+        regrets: &Regrets,
+        present: &Present,
+        vehicles: &[u32],
+        rows: &mut RowTable,
+    ) -> Result<(), OutOfMemory> {
         let mut trip = Vec::new(alloc);
         let mut next = 0;
         for vehicle in vehicles {
-            let mut start = None;
-            for row in next..self.places.len() {
+            let first = next;
+            next = self.end_of(regrets, *vehicle as usize, first);
+            for row in first..next {
                 let place = at(&self.places, row, NONE) as usize;
-                if regrets.vehicle(place) != *vehicle as usize {
-                    break;
-                }
-                if present.place(*vehicle as usize) == Some(place) {
-                    start = Some(narrow(row));
-                }
                 self.write_trip(regrets.riders(place), &mut trip)?;
                 rows.push_row(table.cost(regrets.row(place) as usize), &trip)?;
-                next = row.saturating_add(1);
             }
             rows.end_vehicle()?;
+            let start = self.present_row(present, *vehicle as usize, first, next);
             self.start.push(start)?;
         }
-        rows.index()?;
-        Ok(rows)
+        rows.index()
+    }
+
+    /// Where the rows of a vehicle end that begin here.
+    fn end_of(&self, regrets: &Regrets, vehicle: usize, first: usize) -> usize {
+        for row in first..self.places.len() {
+            if regrets.vehicle(at(&self.places, row, NONE) as usize) != vehicle {
+                return row;
+            }
+        }
+        self.places.len().max(first)
+    }
+
+    /// Which of these rows is the vehicle's present one.
+    fn present_row(
+        &self,
+        present: &Present,
+        vehicle: usize,
+        first: usize,
+        end: usize,
+    ) -> Option<u32> {
+        for row in first..end {
+            if present.place(vehicle) == Some(at(&self.places, row, NONE) as usize) {
+                return Some(narrow(row));
+            }
+        }
+        None
     }
 
     /// Writes the numbers that these riders have in the part.
@@ -132,6 +170,18 @@ impl Part {
             trip.push(at(&self.numbers, *rider as usize, NONE))?;
         }
         Ok(())
+    }
+
+    /// The rows that a solution of the part chooses.
+    fn choose(
+        &self,
+        alloc: Global,
+        rows: &RowTable,
+        multipliers: &[i64],
+        most_nodes: u32,
+    ) -> Result<Vec<Option<u32>>, OutOfMemory> {
+        let prices = self.prices(alloc, multipliers)?;
+        solve_part(alloc, rows, &self.start, &prices, most_nodes)
     }
 
     /// The multipliers of the part's riders.

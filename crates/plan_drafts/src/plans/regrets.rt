@@ -43,26 +43,42 @@ impl Regrets {
         multipliers: &[i64],
         kept: &[Option<u32>],
     ) -> Result<Self, OutOfMemory> {
-        let mut regrets = Regrets {
+        let mut regrets = Regrets::none(alloc);
+        regrets.left = left_costs(alloc, table, multipliers)?;
+        regrets.list(alloc, table, multipliers, kept)?;
+        Ok(regrets)
+    }
+
+    /// Nobody's rows.
+    pub fn none(alloc: Global) -> Self {
+        Regrets {
             ends: Vec::new(alloc),
             rows: Vec::new(alloc),
             vehicles: Vec::new(alloc),
             above: Vec::new(alloc),
             riders: Groups::new(alloc),
             with: Groups::new(alloc),
-            left: left_costs(alloc, table, multipliers)?,
+            left: Vec::new(alloc),
             order: Vec::new(alloc),
-        };
+        }
+    }
+
+    fn list(
+        &mut self,
+        alloc: Global,
+        table: &RowTable,
+        multipliers: &[i64],
+        kept: &[Option<u32>],
+    ) -> Result<(), OutOfMemory> {
         let mut costs = Vec::new(alloc);
         let mut ranks = Vec::new(alloc);
         for vehicle in 0..table.vehicle_count() {
             let kept = at(kept, vehicle, None);
             rank_rows(table, multipliers, vehicle, kept, &mut costs, &mut ranks)?;
-            regrets.add_vehicle(table, vehicle, &ranks)?;
+            self.add_vehicle(table, vehicle, &ranks)?;
         }
-        regrets.put_in_order(alloc)?;
-        regrets.list_by_rider(alloc, table.rider_count())?;
-        Ok(regrets)
+        self.put_in_order(alloc)?;
+        self.list_by_rider(alloc, table.rider_count())
     }
 
     /// Takes these rows as the vehicle's.
@@ -101,21 +117,24 @@ impl Regrets {
 
     fn list_by_rider(&mut self, alloc: Global, riders: usize) -> Result<(), OutOfMemory> {
         let mut counts = vec![in alloc; 0; riders]?;
-        for place in 0..self.rows.len() {
-            for rider in self.riders.of(place) {
-                let count = at(&counts, *rider as usize, 0_u32);
-                put(&mut counts, *rider as usize, count.saturating_add(1));
-            }
-        }
-        let mut with = Groups::with_room(alloc, &counts)?;
-        let mut cursors = with.cursors(alloc)?;
+        self.count_by_rider(&mut counts);
+        self.with = Groups::with_room(alloc, &counts)?;
+        let mut cursors = self.with.cursors(alloc)?;
         for place in &self.order {
             for rider in self.riders.of(*place as usize) {
-                with.write(&mut cursors, *rider as usize, *place);
+                self.with.write(&mut cursors, *rider as usize, *place);
             }
         }
-        self.with = with;
         Ok(())
+    }
+
+    fn count_by_rider(&self, counts: &mut [u32]) {
+        for place in 0..self.rows.len() {
+            for rider in self.riders.of(place) {
+                let count = at(counts, *rider as usize, 0);
+                put(counts, *rider as usize, count.saturating_add(1));
+            }
+        }
     }
 
     pub fn vehicle_count(&self) -> usize {

@@ -1,0 +1,84 @@
+//! What a check of a search says of trees and plans of the worked pairs.
+use crate::worked::three_pairs;
+use assignment_search::{Found, search};
+use plan_rules::{Multipliers, Node, Tree, TripGraph, held_plan};
+use search_check::{is_best_near, is_close, is_fair, shows_bound};
+use std::alloc::Global;
+use std::test::Fail;
+
+/// Whether the tree has this bound, which is good enough, and is well made.
+fn is_shown(
+    alloc: Global,
+    graph: &TripGraph,
+    budget: u32,
+    cost: u64,
+    bound: &i128,
+    tree: &Tree,
+) -> Result<bool, Fail> {
+    if !shows_bound(alloc, graph, budget, bound, tree)? {
+        return Ok(false);
+    }
+    if !is_close(alloc, graph, budget, cost, bound, tree)? {
+        return Ok(false);
+    }
+    Ok(is_fair(alloc, graph, bound, tree)?)
+}
+
+fn passes(alloc: Global, graph: &TripGraph, budget: u32, found: &Found) -> Result<bool, Fail> {
+    is_shown(alloc, graph, budget, found.cost, &found.bound, &found.tree)
+}
+
+#[test]
+fn what_a_search_finds_passes(rt: HostRuntime) -> Result<(), Fail> {
+    let alloc = rt.alloc();
+    let graph = three_pairs(alloc)?;
+    let quick = search(alloc, &graph, 1)?;
+    assert!(rt; passes(alloc, &graph, 1, &quick)?);
+    assert!(rt; is_best_near(alloc, &graph, &quick.plan)?);
+    let whole = search(alloc, &graph, 16)?;
+    assert!(rt; passes(alloc, &graph, 16, &whole)?);
+    Ok(())
+}
+
+#[test]
+fn a_tree_beyond_the_budget_is_refused(rt: HostRuntime) -> Result<(), Fail> {
+    let alloc = rt.alloc();
+    let graph = three_pairs(alloc)?;
+    let whole = search(alloc, &graph, 16)?;
+    assert!(rt; whole.tree.nodes().len() > 2);
+    assert!(rt; !passes(alloc, &graph, 2, &whole)?);
+    Ok(())
+}
+
+#[test]
+fn a_leaf_of_zeros_is_refused(rt: HostRuntime) -> Result<(), Fail> {
+    let alloc = rt.alloc();
+    let graph = three_pairs(alloc)?;
+    let zeros = Node::Leaf {
+        multipliers: Multipliers::of(vec![in alloc; 0, 0, 0]?),
+    };
+    let tree = Tree::of(vec![in alloc; zeros]?);
+    assert!(rt; shows_bound(alloc, &graph, 1, &0, &tree)?);
+    assert!(rt; !shows_bound(alloc, &graph, 1, &1, &tree)?);
+    assert!(rt; !is_shown(alloc, &graph, 1, 110, &0, &tree)?);
+    Ok(())
+}
+
+#[test]
+fn the_held_plan_is_not_best(rt: HostRuntime) -> Result<(), Fail> {
+    let alloc = rt.alloc();
+    let graph = three_pairs(alloc)?;
+    let held = held_plan(alloc, &graph)?;
+    assert!(rt; !is_best_near(alloc, &graph, &held)?);
+    Ok(())
+}
+
+#[test]
+fn answers_with_memory(rt: HostRuntime) -> Result<(), Fail> {
+    let alloc = rt.alloc();
+    let graph = TripGraph::new(alloc, 0, 0, 100, Vec::new(alloc), Vec::new(alloc))?;
+    let found = search(alloc, &graph, 1)?;
+    assert!(rt; passes(alloc, &graph, 1, &found)?);
+    assert!(rt; is_best_near(alloc, &graph, &found.plan)?);
+    Ok(())
+}

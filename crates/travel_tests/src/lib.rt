@@ -1,0 +1,14 @@
+//! Walks of worked and drawn networks, and routes of worked tasks.
+//!
+//! It has tests alone, of `travel_times`, `hub_labels` and `small_routing`, so that a crate under test is proved once
+//! and not a second time with its tests.
+#![tactic(auto)]
+
+#[cfg(test)]
+mod labelling;
+#[cfg(test)]
+mod networks;
+#[cfg(test)]
+mod routing;
+#[cfg(test)]
+mod walking;
