@@ -119,7 +119,7 @@ module _ (settings : Settings) (roads : Roads) (s : State) (rounds : List Number
 
   -- the same by the number of the round
   module _ (i : ℕ) (low : i < length rounds) (r : NumberedLanes) (is : r ≡ get_or rounds i r) (b : BookView) (rest : List ℕ) (batches : ℕ)
-    (come : HasComeTo settings roads s rounds text (take i rounds) (drop i rounds) rest b batches) where
+      (come : HasComeTo settings roads s rounds text (take i rounds) (drop i rounds) rest b batches) where
     left_is : drop i rounds ≡ r ∷ drop (i + 1) rounds
     left_is = drop_more rounds i r low ∙ ap (λ (x : NumberedLanes). x ∷ drop (i + 1) rounds) (sym is)
 
