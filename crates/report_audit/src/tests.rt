@@ -1,6 +1,4 @@
 //! Reports of one rider and one vehicle: as printed, and with one thing changed in each.
-ghost use Rattle.std.specs.Prelude.{◌≤◌};
-
 use crate::{AuditFault, Audited, audit};
 use batch_snapshot::Fleet;
 use fleet_state::{HEADER as FLEET_HEADER, read_fleet};
