@@ -1,4 +1,7 @@
 //! Reports of one rider and one vehicle: as printed, and with one thing changed in each.
+ghost use Rattle.std.specs.Prelude.{All, IfSome};
+ghost use Rattle.request_book.specs.Consistent.{IsNode};
+
 use crate::{AuditFault, Audited, audit};
 use batch_snapshot::Fleet;
 use fleet_state::{HEADER as FLEET_HEADER, read_fleet};
@@ -51,7 +54,9 @@ fn line(alloc: Global) -> Option<Network> {
     }
 }
 
-fn fleet_of(alloc: Global, network: &Network) -> Option<Fleet> {
+fn fleet_of(alloc: Global, network: &Network) -> Option<Fleet>
+    ensures { IfSome result (λ fleet. All (λ vehicle. IsNode network.now.nodes vehicle.node) fleet) }
+{
     match rows(alloc, FLEET, FLEET_HEADER) {
         Ok(table) => match read_fleet(alloc, &table, network) {
             Ok(fleet) => Some(fleet),
