@@ -1,15 +1,12 @@
 -- An entry that an audit reads.
-use Rattle.std.proofs.Common.{◌≡◌, ◌≢◌, ◌==◌, ℕ, suc, ◌+◌, ◌<◌, ◌≤◌, ◌^◌, true, false, Bool, List, [], ◌∷◌, ◌++◌, length, get_or, set, slice_get, codes, decimal, Option, Some, None, refl, sym, ap, ◌∙◌, subst, append-nil, append_assoc, length-append, arith}
-use Rattle.std.specs.Prelude.{option_map}
-use Rattle.std.specs.List.{All}
+use Rattle.std.proofs.Common.{◌≡◌, ℕ, ◌<◌, ◌≤◌, ◌^◌, true, List, [], ◌∷◌, ◌++◌, length, set, slice_get, Option, Some, None, refl, sym, ap, ◌∙◌, subst, length-append, arith}
 use Rattle.std.proofs.lemmas.List.{length-set}
 use Rattle.std.proofs.lemmas.Option.{slice_get_within, get_or_from_slice_get}
 use Rattle.batch_snapshot.specs.Batch.{Batch}
 use Rattle.batch_solver.specs.Outcome.{IsGoodOutcome}
 use Rattle.block_audit.specs.Block.{BeginsWithGood}
 use Rattle.block_audit.specs.Fits.{Fits}
-use Rattle.block_audit.specs.declared.refusal.BlockRefusal.{BlockRefusal}
-use Rattle.dispatch_engine.specs.Lane.{of_lane, IsCloseOf, IsLaneRun, IsGoodClose, last_sealed}
+use Rattle.dispatch_engine.specs.Lane.{IsCloseOf, IsGoodClose, last_sealed}
 use Rattle.dispatch_engine.specs.Run.{journal_of}
 use Rattle.dispatch_report.specs.Block.{block_lines}
 use Rattle.dispatch_report.specs.Entry.{entry_line}
@@ -17,15 +14,12 @@ use Rattle.dispatch_report.specs.Lines.{lines_text}
 use Rattle.dispatch_report.specs.Round.{entry_block}
 use Rattle.entry_lines.specs.Next.{IsEntry, IsNextLine}
 use Rattle.entry_lines.specs.declared.next.NextLine.{NextLine}
-use Rattle.entry_lines.specs.declared.next.NextLine.TheVariants.{Entry as EntryOf, Round as RoundOf, Done as DoneOf}
+use Rattle.entry_lines.specs.declared.next.NextLine.TheVariants.{Entry as EntryOf}
 use Rattle.entry_lines.proofs.lemmas.NextLemmas.{one_kind}
 use Rattle.lane_progress.specs.declared.stand.LaneStand.{LaneStand}
 use Rattle.lane_progress.specs.Stand.{stand_at, stand_after, HaveCome, AreDone, IsNext, IsNextFrom}
 use Rattle.lane_progress.proofs.lemmas.LaneLemmas.{come_more}
-use Rattle.pool_io.specs.Faults.{one_more}
-use Rattle.request_book.specs.Book.{BookView, IsApplied, IsBook, next_position}
-use Rattle.request_book.specs.Closing.{after_answer}
-use Rattle.request_book.specs.Replay.{state_after, RepliesAreSteps}
+use Rattle.request_book.specs.Book.{BookView}
 use Rattle.request_book.specs.Step.{step}
 use Rattle.request_book.specs.declared.command.Command.{Command}
 use Rattle.request_book.specs.declared.command.Command.TheVariants.{Submit, Cancel, Report, Pickup, Dropoff, Seal, Close}
@@ -38,21 +32,21 @@ use Rattle.request_book.specs.declared.state.State.{State}
 use Rattle.request_book.proofs.lemmas.BookLemmas.{replies-push}
 use Rattle.rider_limits.specs.declared.settings.Settings.{Settings}
 use Rattle.road_network.specs.Roads.{Roads}
-use Rattle.script_rows.specs.Round.{NumberedLanes, IsRound, MayStand, lane_at}
-use Rattle.report_audit.specs.Fault.{HasLine, IsWrongBlock}
-use Rattle.report_audit.specs.Place.{Place, BeginsRound, MayComeNext, MayFollow, AreAtEnd, with_entry, position_behind, state_behind}
-use Rattle.report_audit.specs.Types.{HasFittingBlock, IsTold, AreTold}
+use Rattle.script_rows.specs.Round.{NumberedLanes, MayStand, lane_at}
+use Rattle.report_audit.specs.Fault.{HasLine}
+use Rattle.report_audit.specs.Place.{Place, BeginsRound, MayComeNext, AreAtEnd, with_entry, position_behind, state_behind}
+use Rattle.report_audit.specs.Types.{HasFittingBlock, IsTold}
 use Rattle.report_audit.specs.declared.stop.LineFault.{LineFault}
 use Rattle.report_audit.specs.declared.stop.LineFault.TheVariants as wrong
 use Rattle.report_audit.specs.declared.stop.Stop.{Stop}
 use Rattle.report_audit.specs.declared.stop.Stop.TheVariants.{OutOfMemory, Line, Block}
-use Rattle.report_audit.specs.work.Closing.{TakesClose, CloseStops, BlockFails, close_line}
-use Rattle.report_audit.specs.work.Commands.{IsNoClose, sealed_next}
-use Rattle.report_audit.specs.work.Rest.{IsRestOfRound, entries_text}
-use Rattle.report_audit.specs.work.Steps.{StopsAt, HasNoNext, IsBookOf, IsWithin, HasRead, StopsWithin, Waits}
+use Rattle.report_audit.specs.work.Closing.{TakesClose, CloseStops}
+use Rattle.report_audit.specs.work.Commands.{IsNoClose}
+use Rattle.report_audit.specs.work.Rest.{IsRestOfRound}
+use Rattle.report_audit.specs.work.Steps.{StopsAt, HasNoNext, IsWithin, HasRead, StopsWithin, Waits}
 use Rattle.report_audit.specs.work.Taking.{TakesCommand, CommandStops}
 use Rattle.report_audit.proofs.JournalLemmas.{closes-push, told-push, sealed-after, close-is}
-use Rattle.report_audit.proofs.LaneLemmas.{come_begins, end_done, no_close_of, no_outcome, none_beyond, waits_command, waits_close, waits_for, waits_some}
+use Rattle.report_audit.proofs.LaneLemmas.{come_begins, end_done, no_close_of, no_outcome, none_beyond, waits_command, waits_close, waits_for}
 use Rattle.report_audit.proofs.NextLemmas.{HasNext, has_next, first_is, wrong_is_none, no_next_within, book_state, book_step, journal_applied, book_of_applied, entry_by, candidate_lane, candidate_next, candidate_command, next_begins, read_one, close_of}
 use Rattle.report_audit.proofs.TextLemmas.{lines-none, next-low}
 

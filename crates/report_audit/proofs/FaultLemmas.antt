@@ -1,7 +1,6 @@
 -- From where an audit stops to what it says of the report.
-use Rattle.std.proofs.Common.{◌≡◌, ◌≢◌, ℕ, suc, ◌+◌, ◌-◌, ◌<◌, ◌≤◌, ◌^◌, min, true, List, [], ◌∷◌, ◌++◌, length, take, refl, sym, ap, ◌∙◌, subst, append_assoc, length-append, arith}
+use Rattle.std.proofs.Common.{◌≡◌, ◌≢◌, ℕ, ◌+◌, ◌-◌, ◌≤◌, ◌^◌, min, true, List, [], ◌∷◌, ◌++◌, length, take, refl, sym, ap, ◌∙◌, subst, append_assoc, length-append, arith}
 use Rattle.batch_snapshot.specs.declared.vehicle.Vehicle.{Vehicle}
-use Rattle.block_audit.specs.declared.refusal.BlockRefusal.{BlockRefusal}
 use Rattle.block_audit.specs.declared.refusal.BlockRefusal.TheVariants as block
 use Rattle.dispatch_engine.specs.Run.{IsRun, position_after_run}
 use Rattle.dispatch_report.specs.Head.{head_text}
@@ -12,24 +11,20 @@ use Rattle.report_head.specs.Fault.{HeadFails}
 use Rattle.report_head.specs.declared.fault.HeadFault.{HeadFault}
 use Rattle.report_head.specs.declared.fault.HeadFault.TheVariants as head
 use Rattle.request_book.specs.Book.{opening}
-use Rattle.request_book.specs.declared.journal.Journal.{Journal}
 use Rattle.rider_limits.specs.declared.settings.Settings.{Settings}
 use Rattle.road_network.specs.Roads.{Roads}
 use Rattle.script_rows.specs.Round.{NumberedLanes}
 use Rattle.report_audit.specs.Fault.{FailsAt, HasFault, IsCut, IsCutAt, IsOutOfForm, IsOutOfFormAt, IsWrongBatch, IsWrongLine, next_line}
 use Rattle.report_audit.specs.Place.{Place, IsRightUpTo, rounds_so_far}
-use Rattle.report_audit.specs.Report.{IsAudited, IsReportOfRun, batches_after, rounds_text}
-use Rattle.report_audit.specs.declared.fault.AuditFault.{AuditFault}
+use Rattle.report_audit.specs.Report.{IsAudited, IsReportOfRun, rounds_text}
 use Rattle.report_audit.specs.declared.fault.AuditFault.TheVariants as fault
 use Rattle.report_audit.specs.declared.fault.Audited.{Audited}
-use Rattle.report_audit.specs.declared.stop.LineFault.{LineFault}
 use Rattle.report_audit.specs.declared.stop.LineFault.TheVariants as wrong
 use Rattle.report_audit.specs.declared.stop.Stop.{Stop}
 use Rattle.report_audit.specs.declared.stop.Stop.TheVariants.{OutOfMemory, Line, Block}
 use Rattle.report_audit.specs.work.Faults.{IsLeftOf, fault_of, fault_of_head, higher, line_left}
-use Rattle.report_audit.specs.work.Rest.{IsRestOfRounds}
 use Rattle.report_audit.specs.work.Steps.{StopsAt}
-use Rattle.report_audit.specs.work.Whole.{AllStops, HasReadAll, HasReadRounds, WhereAllStops}
+use Rattle.report_audit.specs.work.Whole.{AllStops, HasReadAll, WhereAllStops}
 
 take_front : (xs ys : List ℕ) → take (length xs) (xs ++ ys) ≡ xs
 take_front [] ys = refl

@@ -1,23 +1,21 @@
 -- Journals, entry by entry.
-use Rattle.std.proofs.Common.{◌≡◌, ◌≢◌, ℕ, suc, ◌+◌, ◌<◌, ◌^◌, true, false, Bool, List, [], ◌∷◌, ◌++◌, length, Option, Some, None, refl, sym, ap, ◌∙◌, subst, append-nil, append_assoc, eq-eqb, arith}
+use Rattle.std.proofs.Common.{◌≡◌, ℕ, ◌<◌, ◌^◌, List, [], ◌∷◌, ◌++◌, Option, Some, None, refl, sym, ap, ◌∙◌, subst, eq-eqb, arith}
 use Rattle.std.specs.Prelude.{option_map}
 use Rattle.batch_snapshot.specs.Batch.{Batch}
 use Rattle.dispatch_engine.specs.Lane.{IsGoodClose, ClosesAreGood, last_sealed}
 use Rattle.dispatch_engine.specs.work.Lanes.{IsPlain}
-use Rattle.dispatch_engine.proofs.lemmas.LaneLemmas.{IsQuiet, plain-quiet}
-use Rattle.pool_base.specs.InOrder.{◌>>=◌, refused_where}
+use Rattle.dispatch_engine.proofs.lemmas.LaneLemmas.{plain-quiet}
 use Rattle.pool_io.specs.Faults.{one_more}
 use Rattle.request_book.specs.Book.{next_position, would_seal}
 use Rattle.request_book.specs.Closing.{after_answer}
 use Rattle.request_book.specs.Replay.{state_after, RepliesAreSteps}
 use Rattle.request_book.specs.Sealing.{batch_of, sealed_state}
-use Rattle.request_book.specs.Step.{step, close, answered}
+use Rattle.request_book.specs.Step.{step, close}
 use Rattle.request_book.specs.declared.command.Command.{Command}
 use Rattle.request_book.specs.declared.command.Command.TheVariants.{Submit, Cancel, Report, Pickup, Dropoff, Seal, Close}
 use Rattle.request_book.specs.declared.journal.Entry.{Entry}
 use Rattle.request_book.specs.declared.outcome.Outcome.{Outcome}
 use Rattle.request_book.specs.declared.reply.BookRefusal.{BookRefusal}
-use Rattle.request_book.specs.declared.reply.Reply.{Reply}
 use Rattle.request_book.specs.declared.reply.Reply.TheVariants.{Closed, Sealed}
 use Rattle.request_book.specs.declared.state.State.{State}
 use Rattle.request_book.specs.work.Table.{answer, seal_refusal, seal_step, table_step, batch_unless}

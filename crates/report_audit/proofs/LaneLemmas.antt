@@ -1,11 +1,11 @@
 -- Lanes, entry by entry.
-use Rattle.std.proofs.Common.{◌≡◌, ◌≢◌, ◌==◌, ◌↔◌, ℕ, zero, suc, ◌+◌, ◌<◌, ◌≤◌, Bool, true, false, List, [], ◌∷◌, ◌++◌, length, get_or, set, drop, slice_get, Option, Some, None, refl, sym, ap, ◌∙◌, subst, ⊎_elim, arith, append-nil, append_assoc, eq-eqb}
+use Rattle.std.proofs.Common.{◌≡◌, ◌≢◌, ◌==◌, ℕ, zero, suc, ◌<◌, ◌≤◌, List, [], ◌∷◌, ◌++◌, length, set, drop, slice_get, Option, Some, None, refl, sym, ap, ◌∙◌, subst, ⊎_elim, arith, append-nil, append_assoc, eq-eqb}
 use Rattle.std.specs.Prelude.{option_map}
-use Rattle.std.proofs.lemmas.Bool.{cases_eq, cases_lt, ne_eqb, cond-true, cond-false}
+use Rattle.std.proofs.lemmas.Bool.{cases_eq, cond-true}
 use Rattle.std.proofs.lemmas.List.{get_or_past, get_or-set_same, get_or-set_other}
 use Rattle.std.proofs.lemmas.List.Elements.{filter-append}
 use Rattle.batch_snapshot.specs.Batch.{Batch}
-use Rattle.dispatch_engine.specs.Lane.{of_lane, IsCloseOf, IsLaneRun, IsLaneRunFrom, IsLaneBeginning, last_sealed}
+use Rattle.dispatch_engine.specs.Lane.{of_lane, IsLaneRun, IsLaneRunFrom, IsLaneBeginning, last_sealed}
 use Rattle.dispatch_engine.specs.work.Lanes.{IsPlain}
 use Rattle.dispatch_engine.proofs.lemmas.LaneLemmas.{plain-quiet}
 use Rattle.lane_progress.specs.declared.stand.LaneStand.{LaneStand}

@@ -1,16 +1,13 @@
 -- What comes next within a round.
-use Rattle.std.proofs.Common.{◌≡◌, ◌≢◌, ◌==◌, ℕ, suc, ◌+◌, ◌<◌, ◌^◌, true, false, Bool, List, [], ◌∷◌, ◌++◌, length, set, slice_get, codes, Option, Some, None, refl, sym, ap, ◌∙◌, subst, append-nil, append_assoc, length-append, arith}
-use Rattle.std.specs.List.{list_all}
+use Rattle.std.proofs.Common.{◌≡◌, ◌==◌, ℕ, ◌<◌, true, false, List, [], ◌∷◌, ◌++◌, length, set, slice_get, Option, Some, None, refl, sym, ap, ◌∙◌, subst, append-nil, append_assoc, length-append, arith}
 use Rattle.std.specs.Prelude.{not}
 use Rattle.std.proofs.lemmas.Bool.{and_parts}
-use Rattle.batch_snapshot.specs.Batch.{Batch}
-use Rattle.dispatch_engine.specs.Lane.{of_lane, IsCloseOf, IsLaneRun, IsLaneBeginning, IsGoodClose, ClosesAreGood}
+use Rattle.dispatch_engine.specs.Lane.{of_lane, IsCloseOf, IsLaneRun, IsLaneBeginning, IsGoodClose}
 use Rattle.dispatch_engine.specs.Run.{IsRoundRun, journal_of}
 use Rattle.dispatch_report.specs.Entry.{entry_line}
 use Rattle.dispatch_report.specs.Lines.{lines_text}
 use Rattle.dispatch_report.specs.Round.{entry_block}
-use Rattle.entry_lines.specs.Next.{IsEntry, IsNextLine}
-use Rattle.entry_lines.specs.declared.next.NextLine.{NextLine}
+use Rattle.entry_lines.specs.Next.{IsNextLine}
 use Rattle.entry_lines.specs.declared.next.NextLine.TheVariants.{Entry as EntryOf}
 use Rattle.entry_lines.proofs.lemmas.NextLemmas.{one_kind}
 use Rattle.lane_progress.specs.declared.stand.LaneStand.{LaneStand}
@@ -20,7 +17,7 @@ use Rattle.pool_io.specs.Faults.{one_more}
 use Rattle.report_lines.specs.Cut.{is_one_line}
 use Rattle.report_lines.proofs.lemmas.OneBlock.{cut_once}
 use Rattle.request_book.specs.Book.{BookView, IsApplied, IsBook, next_position}
-use Rattle.request_book.specs.Replay.{state_after, RepliesAreSteps}
+use Rattle.request_book.specs.Replay.{state_after}
 use Rattle.request_book.specs.Step.{step}
 use Rattle.request_book.specs.declared.command.Command.{Command}
 use Rattle.request_book.specs.declared.command.Command.TheVariants.{Submit, Cancel, Report, Pickup, Dropoff, Seal, Close}
@@ -28,14 +25,13 @@ use Rattle.request_book.specs.declared.journal.Entry.{Entry}
 use Rattle.request_book.specs.declared.journal.Journal.{Journal}
 use Rattle.request_book.specs.declared.outcome.Outcome.{Outcome}
 use Rattle.request_book.specs.declared.reply.Reply.{Reply}
-use Rattle.request_book.specs.declared.state.State.{State}
 use Rattle.request_book.proofs.lemmas.BookLemmas.{applied-book}
 use Rattle.rider_limits.specs.declared.settings.Settings.{Settings}
 use Rattle.road_network.specs.Roads.{Roads}
 use Rattle.script_rows.specs.Round.{NumberedLanes, lane_at}
-use Rattle.report_audit.specs.Fault.{HasLine, IsCut, IsOutOfForm, IsWrongLine}
-use Rattle.report_audit.specs.Place.{Place, MayComeNext, MayFollow, IsInForm, AreAtEnd, with_entry, position_behind, state_behind}
-use Rattle.report_audit.specs.Types.{HasFittingBlock, IsTold, AreTold}
+use Rattle.report_audit.specs.Fault.{HasLine}
+use Rattle.report_audit.specs.Place.{Place, MayComeNext, AreAtEnd, with_entry, position_behind, state_behind}
+use Rattle.report_audit.specs.Types.{HasFittingBlock, AreTold}
 use Rattle.report_audit.specs.declared.stop.LineFault.{LineFault}
 use Rattle.report_audit.specs.declared.stop.LineFault.TheVariants as wrong
 use Rattle.report_audit.specs.declared.stop.Stop.{Stop}
@@ -44,7 +40,7 @@ use Rattle.report_audit.specs.work.Rest.{IsRestOfRound, IsRestOfRounds, entries_
 use Rattle.report_audit.specs.work.Steps.{StopsAt, HasNoNext, IsBookOf}
 use Rattle.report_audit.proofs.JournalLemmas.{reply-at, close-at}
 use Rattle.report_audit.proofs.LaneLemmas.{of_lane-append, begins_next, come_begins}
-use Rattle.report_audit.proofs.TextLemmas.{entries-more, entry_one, lines-none, entries-none}
+use Rattle.report_audit.proofs.TextLemmas.{entries-more, entry_one, entries-none}
 
 -- a line that ends has a line feed behind it
 pub not_one : (a r : List ℕ) → is_one_line (a ++ 10 ∷ r) ≡ true → ⊥

@@ -1,7 +1,6 @@
 -- An entry that was read, and a stop at one.
-use Rattle.std.proofs.Common.{◌≡◌, ◌≢◌, ℕ, ◌<◌, List, ◌∷◌, ◌++◌, [], length, set, Option, Some, None, refl, sym, ap, ◌∙◌, subst}
+use Rattle.std.proofs.Common.{◌≡◌, ℕ, List, [], length, set, Option, Some, None, refl, sym, subst}
 use Rattle.batch_snapshot.specs.Batch.{Batch}
-use Rattle.block_audit.specs.Block.{BeginsWithGood}
 use Rattle.dispatch_engine.specs.Lane.{last_sealed}
 use Rattle.dispatch_engine.specs.Run.{journal_of}
 use Rattle.lane_progress.specs.declared.stand.LaneStand.{LaneStand}

@@ -1,5 +1,5 @@
 -- Rounds of a report.
-use Rattle.std.proofs.Common.{◌≡◌, ◌≢◌, ◌==◌, ℕ, zero, suc, ◌+◌, ◌<◌, ◌≤◌, ◌^◌, true, false, Bool, List, [], ◌∷◌, ◌++◌, length, get_or, replicate, drop, codes, Option, Some, None, refl, sym, ap, ◌∙◌, subst, ⊎_elim, append-nil, append_assoc, length-append, arith}
+use Rattle.std.proofs.Common.{◌≡◌, ◌≢◌, ℕ, ◌<◌, ◌≤◌, ◌^◌, true, List, [], ◌∷◌, ◌++◌, length, replicate, drop, codes, Option, Some, None, refl, sym, ap, ◌∙◌, subst, ⊎_elim, append-nil, append_assoc, arith}
 use Rattle.std.specs.Prelude.{option_map, count_by}
 use Rattle.std.proofs.lemmas.Bool.{cases_lt}
 use Rattle.std.proofs.lemmas.List.{get_or_past, get_or-replicate, length-replicate}
@@ -28,18 +28,17 @@ use Rattle.road_network.specs.Roads.{Roads}
 use Rattle.script_rows.specs.Round.{NumberedLanes, IsRound, lane_at}
 use Rattle.shared_book.specs.Locked.{sealed_by}
 use Rattle.report_audit.specs.Fault.{HasLine}
-use Rattle.report_audit.specs.Place.{Place, BeginsRound, MayFollow, IsInForm, AreAtEnd, position_behind, state_behind}
+use Rattle.report_audit.specs.Place.{Place, AreAtEnd, position_behind, state_behind}
 use Rattle.report_audit.specs.Report.{closes, rounds_text}
 use Rattle.report_audit.specs.Types.{AreTold, JournalsAreTold}
-use Rattle.report_audit.specs.declared.stop.LineFault.{LineFault}
 use Rattle.report_audit.specs.declared.stop.LineFault.TheVariants as wrong
 use Rattle.report_audit.specs.declared.stop.Stop.{Stop}
 use Rattle.report_audit.specs.declared.stop.Stop.TheVariants.{OutOfMemory, Line, Block}
 use Rattle.report_audit.specs.work.Rest.{IsRestOfRound, IsRestOfRounds, entries_text, with_more}
 use Rattle.report_audit.specs.work.Rounds.{IsRoundStart, HasRoundLine, IsNoRoundLine, EntriesStop, HasReadEntries, HasReadRound, RoundStops, WhereRoundStops}
-use Rattle.report_audit.specs.work.Steps.{EntryRead, HasNoNext, HasRead, IsBookOf, IsWithin, StopsAt, StopsBehind, StopsWithin, Waits}
+use Rattle.report_audit.specs.work.Steps.{HasNoNext, HasRead, IsBookOf, IsWithin, StopsAt, StopsBehind, StopsWithin}
 use Rattle.report_audit.proofs.JournalLemmas.{after-none, closes-none}
-use Rattle.report_audit.proofs.LaneLemmas.{come_begins, done_end, of_lane-append, own-lane}
+use Rattle.report_audit.proofs.LaneLemmas.{come_begins, done_end, own-lane}
 use Rattle.report_audit.proofs.NextLemmas.{book_state, no_next_between, not_one}
 use Rattle.report_audit.proofs.EntryLemmas.{not_at_end}
 use Rattle.report_audit.proofs.TextLemmas.{words_one, entries-append, entries-none, next-append, next-low, next-none, round-is}

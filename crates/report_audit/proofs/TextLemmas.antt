@@ -1,14 +1,14 @@
 -- Texts of entries and rounds.
-use Rattle.std.proofs.Common.{◌≡◌, ℕ, suc, ◌+◌, ◌-◌, ◌<◌, ◌≤◌, ◌^◌, Bool, true, false, cond, eqb, List, [], ◌∷◌, ◌++◌, length, min, codes, decimal, Option, Some, None, refl, sym, ap, ◌∙◌, subst, append-nil, append_assoc, length-append, arith}
+use Rattle.std.proofs.Common.{◌≡◌, ℕ, ◌<◌, ◌≤◌, ◌^◌, Bool, true, false, cond, eqb, List, [], ◌∷◌, ◌++◌, codes, decimal, Some, None, refl, sym, ap, ◌∙◌, append_assoc, length-append, arith}
 use Rattle.std.specs.List.{flat_map}
 use Rattle.std.proofs.lemmas.Grind.{flat_map-append}
-use Rattle.dispatch_report.specs.Entry.{command_text, entry_line, refusal_text, reply_text, rider_status_text, spaced_or_none}
+use Rattle.dispatch_report.specs.Entry.{command_text, entry_line, refusal_text, reply_text, rider_status_text}
 use Rattle.dispatch_report.specs.Lines.{lines_text}
 use Rattle.dispatch_report.specs.Round.{entries_lines, entry_block, round_text, end_text}
 use Rattle.dispatch_report.specs.Words.{numbered, spaced}
 use Rattle.entry_lines.specs.Command.{IsCommand}
 use Rattle.entry_lines.specs.Next.{IsEntry}
-use Rattle.entry_lines.specs.Reply.{IsReply, IsRefusal, OrNone}
+use Rattle.entry_lines.specs.Reply.{IsReply, IsRefusal}
 use Rattle.pool_io.specs.Faults.{one_more}
 use Rattle.report_lines.specs.Cut.{is_one_line}
 use Rattle.report_lines.specs.Ids.{IsId}

@@ -1,9 +1,8 @@
 -- All rounds of a report.
-use Rattle.std.proofs.Common.{◌≡◌, ◌≢◌, ℕ, ◌+◌, ◌-◌, ◌<◌, ◌≤◌, ◌^◌, add-one, drop, get_or, min, take, true, List, [], ◌∷◌, ◌++◌, length, refl, sym, ap, ◌∙◌, subst, append_assoc, append-nil, arith}
-use Rattle.std.specs.Prelude.{count_by}
+use Rattle.std.proofs.Common.{◌≡◌, ℕ, ◌+◌, ◌-◌, ◌<◌, ◌≤◌, ◌^◌, add-one, drop, get_or, min, take, true, List, [], ◌∷◌, ◌++◌, length, refl, sym, ap, ◌∙◌, subst, append_assoc, append-nil}
 use Rattle.std.proofs.Math.Seq.{take-suc}
 use Rattle.std.proofs.lemmas.List.{drop_all, drop_more, take_all}
-use Rattle.dispatch_engine.specs.Run.{IsRun, IsRoundRun, journal_of, position_after_run}
+use Rattle.dispatch_engine.specs.Run.{IsRun, IsRoundRun, position_after_run}
 use Rattle.dispatch_report.specs.Round.{end_text, round_text}
 use Rattle.request_book.specs.Book.{BookView, next_position}
 use Rattle.request_book.specs.Replay.{state_after}
@@ -12,18 +11,17 @@ use Rattle.request_book.specs.declared.state.State.{State}
 use Rattle.rider_limits.specs.declared.settings.Settings.{Settings}
 use Rattle.road_network.specs.Roads.{Roads}
 use Rattle.script_rows.specs.Round.{NumberedLanes}
-use Rattle.report_audit.specs.Place.{Place, state_after_rounds, state_behind, position_behind}
-use Rattle.report_audit.specs.Report.{batches_after, batches_in, closes, rounds_text}
+use Rattle.report_audit.specs.Place.{Place, state_after_rounds}
+use Rattle.report_audit.specs.Report.{batches_after, batches_in, rounds_text}
 use Rattle.report_audit.specs.Types.{AreTold, JournalsAreTold}
-use Rattle.report_audit.specs.declared.fault.Audited.{Audited}
 use Rattle.report_audit.specs.declared.stop.Stop.{Stop}
 use Rattle.report_audit.specs.declared.stop.Stop.TheVariants.{OutOfMemory}
 use Rattle.report_audit.specs.work.Ends.{EndStops, IsEndText, WhereEndStops}
 use Rattle.report_audit.specs.work.Rest.{IsRestOfRounds}
 use Rattle.report_audit.specs.work.Rounds.{HasReadRound, IsRoundStart, RoundStops, WhereRoundStops}
-use Rattle.report_audit.specs.work.Steps.{StopsAt, StopsBehind}
-use Rattle.report_audit.specs.work.Whole.{AllStops, HasComeTo, HasReadAll, HasReadRounds, WhereAllStops}
-use Rattle.report_audit.proofs.RoundLemmas.{base_is, position_is, round_so_far}
+use Rattle.report_audit.specs.work.Steps.{StopsAt}
+use Rattle.report_audit.specs.work.Whole.{AllStops, HasComeTo, HasReadAll, WhereAllStops}
+use Rattle.report_audit.proofs.RoundLemmas.{base_is, round_so_far}
 use Rattle.report_audit.proofs.TextLemmas.{next-none}
 
 -- items up to the next one
@@ -123,7 +121,7 @@ module _ (settings : Settings) (roads : Roads) (s : State) (rounds : List Number
 
   -- the same by the number of the round
   module _ (i : ℕ) (low : i < length rounds) (r : NumberedLanes) (is : r ≡ get_or rounds i r) (b : BookView) (rest : List ℕ) (batches : ℕ)
-    (come : HasComeTo settings roads s rounds text (take i rounds) (drop i rounds) rest b batches) where
+      (come : HasComeTo settings roads s rounds text (take i rounds) (drop i rounds) rest b batches) where
     left_is : drop i rounds ≡ r ∷ drop (i + 1) rounds
     left_is = drop_more rounds i r low ∙ ap (λ (x : NumberedLanes). x ∷ drop (i + 1) rounds) (sym is)
 

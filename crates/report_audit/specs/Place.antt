@@ -1,5 +1,5 @@
 -- How far a report is right, and which lines may follow there.
-use Rattle.std.specs.Prelude.{◌≡◌, ◌≢◌, ℕ, true, List, [], ◌∷◌, ◌++◌, length, codes}
+use Rattle.std.specs.Prelude.{◌≡◌, ℕ, true, List, [], ◌∷◌, ◌++◌, length, codes}
 use Rattle.batch_snapshot.specs.declared.vehicle.Vehicle.{Vehicle}
 use Rattle.dispatch_engine.specs.Lane.{of_lane, IsLaneRun, IsLaneBeginning, ClosesAreGood}
 use Rattle.dispatch_engine.specs.Run.{IsRun, position_after_run}
@@ -9,7 +9,6 @@ use Rattle.dispatch_report.specs.Round.{round_text, end_text}
 use Rattle.dispatch_report.specs.Words.{numbered}
 use Rattle.entry_lines.specs.Next.{IsEntry, IsNextLine}
 use Rattle.entry_lines.specs.declared.next.NextLine.{NextLine}
-use Rattle.report_lines.specs.Cut.{is_one_line}
 use Rattle.request_book.specs.Book.{next_position, opening}
 use Rattle.request_book.specs.Replay.{state_after, RepliesAreSteps}
 use Rattle.request_book.specs.Step.{step}

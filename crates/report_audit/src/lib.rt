@@ -17,6 +17,8 @@ mod round;
 mod rounds;
 mod setup;
 mod stop;
+#[cfg(test)]
+mod tests;
 
 pub use fault::{AuditFault, Audited};
 pub use report::audit;

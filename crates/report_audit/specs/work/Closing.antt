@@ -1,5 +1,5 @@
 -- The close of a batch.
-use Rattle.std.specs.Prelude.{◌≡◌, ◌≢◌, ℕ, ◌<◌, ◌^◌, List, [], ◌++◌, codes, decimal}
+use Rattle.std.specs.Prelude.{◌≡◌, ◌≢◌, ℕ, ◌<◌, ◌^◌, List, ◌++◌, codes, decimal}
 use Rattle.batch_snapshot.specs.Batch.{Batch}
 use Rattle.block_audit.specs.Block.{BeginsWithGood, Refuses}
 use Rattle.block_audit.specs.declared.refusal.BlockRefusal.{BlockRefusal}

@@ -1,13 +1,10 @@
 -- The end of an audit.
-use Rattle.std.specs.Prelude.{◌≡◌, ◌≢◌, ℕ, List, [], ◌∷◌, ◌++◌, codes}
+use Rattle.std.specs.Prelude.{◌≡◌, ◌≢◌, ℕ, List, [], ◌++◌}
 use Rattle.dispatch_report.specs.Round.{end_text}
-use Rattle.dispatch_report.specs.Words.{numbered}
 use Rattle.rider_limits.specs.declared.settings.Settings.{Settings}
 use Rattle.road_network.specs.Roads.{Roads}
-use Rattle.report_audit.specs.Fault.{HasLine}
 use Rattle.report_audit.specs.Place.{Place}
 use Rattle.report_audit.specs.declared.stop.Stop.{Stop}
-use Rattle.report_audit.specs.declared.stop.Stop.TheVariants.{OutOfMemory}
 use Rattle.report_audit.specs.work.Steps.{StopsAt}
 
 -- the text is the last line, and nothing else

@@ -1,10 +1,8 @@
 -- What a text still has to be, from a place on, where it is the report of a run.
-use Rattle.std.specs.Prelude.{◌≡◌, ℕ, true, List, [], ◌∷◌, ◌++◌}
+use Rattle.std.specs.Prelude.{◌≡◌, ℕ, true, List, ◌++◌}
 use Rattle.dispatch_engine.specs.Run.{IsRoundRun, IsRun, position_after_run}
 use Rattle.dispatch_report.specs.Lines.{lines_text}
 use Rattle.dispatch_report.specs.Round.{entries_lines, end_text}
-use Rattle.request_book.specs.Book.{next_position}
-use Rattle.request_book.specs.Replay.{state_after}
 use Rattle.request_book.specs.declared.journal.Entry.{Entry}
 use Rattle.request_book.specs.declared.journal.Journal.{Journal}
 use Rattle.request_book.specs.declared.state.State.{State}

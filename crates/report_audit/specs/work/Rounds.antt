@@ -11,7 +11,7 @@ use Rattle.rider_limits.specs.declared.settings.Settings.{Settings}
 use Rattle.road_network.specs.Roads.{Roads}
 use Rattle.script_rows.specs.Round.{NumberedLanes}
 use Rattle.report_audit.specs.Fault.{HasLine}
-use Rattle.report_audit.specs.Place.{Place, BeginsRound, AreAtEnd, position_behind, state_behind}
+use Rattle.report_audit.specs.Place.{Place, position_behind, state_behind}
 use Rattle.report_audit.specs.Report.{closes}
 use Rattle.report_audit.specs.Types.{AreTold}
 use Rattle.report_audit.specs.declared.stop.Stop.{Stop}

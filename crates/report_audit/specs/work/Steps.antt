@@ -1,14 +1,12 @@
 -- The steps of an audit.
-use Rattle.std.specs.Prelude.{◌≡◌, ◌≢◌, ℕ, ◌+◌, ◌<◌, ◌≤◌, ◌^◌, true, List, [], ◌∷◌, ◌++◌, length, Option, None, Some, option_map}
+use Rattle.std.specs.Prelude.{◌≡◌, ◌≢◌, ℕ, ◌<◌, ◌^◌, true, List, ◌++◌, length, Option, None, option_map}
 use Rattle.batch_snapshot.specs.Batch.{Batch}
-use Rattle.block_audit.specs.declared.refusal.BlockRefusal.{BlockRefusal}
 use Rattle.block_audit.specs.declared.refusal.BlockRefusal.TheVariants as refusal
-use Rattle.dispatch_engine.specs.Run.{journal_of, IsRoundRun}
-use Rattle.dispatch_report.specs.Round.{round_text}
+use Rattle.dispatch_engine.specs.Run.{journal_of}
 use Rattle.entry_lines.specs.Next.{IsNextLine}
 use Rattle.entry_lines.specs.declared.next.NextLine.{NextLine}
 use Rattle.entry_lines.specs.declared.next.NextLine.TheVariants.{Entry as EntryOf}
-use Rattle.lane_progress.specs.Stand.{HaveCome, AreDone, stand_at}
+use Rattle.lane_progress.specs.Stand.{HaveCome, stand_at}
 use Rattle.lane_progress.specs.declared.stand.LaneStand.{LaneStand}
 use Rattle.report_lines.specs.Cut.{is_one_line}
 use Rattle.request_book.specs.Book.{BookView, IsBook}
@@ -18,13 +16,12 @@ use Rattle.rider_limits.specs.declared.settings.Settings.{Settings}
 use Rattle.road_network.specs.Roads.{Roads}
 use Rattle.script_rows.specs.Round.{IsRound, NumberedLanes}
 use Rattle.report_audit.specs.Fault.{HasLine, IsCut, IsOutOfForm, IsWrongLine, IsWrongBatch}
-use Rattle.report_audit.specs.Place.{Place, BeginsRound, AreAtEnd, with_entry, position_behind, state_behind}
-use Rattle.report_audit.specs.Types.{AreTold}
+use Rattle.report_audit.specs.Place.{Place, BeginsRound, AreAtEnd, position_behind}
 use Rattle.report_audit.specs.declared.stop.LineFault.{LineFault}
 use Rattle.report_audit.specs.declared.stop.LineFault.TheVariants as wrong
 use Rattle.report_audit.specs.declared.stop.Stop.{Stop}
 use Rattle.report_audit.specs.declared.stop.Stop.TheVariants.{OutOfMemory, Line, Block}
-use Rattle.report_audit.specs.work.Rest.{IsRestOfRound, IsRestOfRounds, entries_text}
+use Rattle.report_audit.specs.work.Rest.{IsRestOfRound, entries_text}
 
 -- the line is wrong in this way
 abbrev pub IsWrong : Settings → Roads → Place → List ℕ → LineFault → Type 0

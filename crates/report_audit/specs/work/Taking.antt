@@ -1,5 +1,5 @@
 -- A lane's next command.
-use Rattle.std.specs.Prelude.{◌≡◌, ◌≢◌, ℕ, List, Option, slice_set}
+use Rattle.std.specs.Prelude.{◌≡◌, ◌≢◌, ℕ, List, Option}
 use Rattle.batch_snapshot.specs.Batch.{Batch}
 use Rattle.dispatch_report.specs.Entry.{entry_line}
 use Rattle.entry_lines.specs.Command.{IsCommand}

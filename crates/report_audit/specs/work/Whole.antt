@@ -1,5 +1,5 @@
 -- A whole audit behind the head.
-use Rattle.std.specs.Prelude.{◌≡◌, ◌≢◌, ℕ, true, List, [], ◌∷◌, ◌++◌}
+use Rattle.std.specs.Prelude.{◌≡◌, ◌≢◌, ℕ, true, List, ◌∷◌, ◌++◌}
 use Rattle.dispatch_engine.specs.Run.{IsRun, position_after_run}
 use Rattle.dispatch_report.specs.Round.{round_text, end_text}
 use Rattle.request_book.specs.Book.{BookView}

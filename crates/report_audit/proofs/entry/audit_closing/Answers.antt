@@ -1,4 +1,4 @@
-use Rattle.std.proofs.Common.{◌≡◌, Option, Some, sym, ◌∙◌}
+use Rattle.std.proofs.Common.{◌≡◌, Some}
 use Rattle.batch_snapshot.specs.Batch.{Batch}
 use Rattle.report_audit.proofs.ReadLemmas.{closing_read, closing_stops}
 use Rattle.report_audit.proofs.entry.audit_closing.Goals as goal

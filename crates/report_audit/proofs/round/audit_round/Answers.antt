@@ -4,7 +4,7 @@ use Rattle.request_book.specs.declared.journal.Entry.{Entry}
 use Rattle.request_book.specs.declared.journal.Journal.{Journal}
 use Rattle.report_audit.specs.Report.{closes}
 use Rattle.report_audit.specs.work.Rounds.{HasRoundLine, IsNoRoundLine}
-use Rattle.report_audit.proofs.RoundLemmas.{next_start, round_read, round_stops_before, round_stops_entries, round_stops_memory}
+use Rattle.report_audit.proofs.RoundLemmas.{next_start, round_read, round_stops_before, round_stops_entries}
 use Rattle.report_audit.proofs.round.audit_round.Goals as goal
 
 pub returns-in-Err : goal.returns-in-Err
