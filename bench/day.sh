@@ -1,5 +1,5 @@
 #!/usr/bin/env bash
-# Drives made days (made_day.py) and prints what each takes and how its riders are served; then judges each report but for
+# Drives made days (tests/make_day.py) and prints what each takes and how its riders are served; then judges each report but for
 # its plans (tests/walked.py), and runs the driven script in one lane, whose report has to be the same but for lanes.
 # Use: bench/day.sh [PROGRAM], from the top of the repository.
 set -u -o pipefail
@@ -11,7 +11,7 @@ in_one_lane() { sed -E '/^day /d; s/^([0-9]+) [0-9]+ /\1 0 /' "$1"; }
 drive() { # SEED SIDE VEHICLES RIDERS BATCHES KEY=VALUE ..
   local folder
   folder=$(mktemp -d) || exit 1
-  python3 "$here/made_day.py" "$folder" "$@" || exit 1
+  python3 "$here/../tests/make_day.py" "$folder" "$@" || exit 1
   (
     cd "$folder" || exit 1
     echo "== $*"

@@ -1,6 +1,6 @@
 """Makes a day on a square network: a made workload without its reports, for `drive`.
 
-    made_day.py FOLDER [SEED [SIDE [VEHICLES [RIDERS [BATCHES [KEY=VALUE ..]]]]]]
+    make_day.py FOLDER [SEED [SIDE [VEHICLES [RIDERS [BATCHES [KEY=VALUE ..]]]]]]
 
 Without numbers: seed 1, a square of 40 nodes a side, 500 vehicles, and 20 batches of 250 requests, one each minute. The
 folder gets the three files and `words`, the words of a call.
@@ -9,7 +9,8 @@ folder gets the three files and `words`, the words of a call.
 import sys
 from pathlib import Path
 
-from made_texts import texts
+sys.path.append(str(Path(__file__).resolve().parent.parent / "bench"))
+from made_texts import texts  # noqa: E402
 
 DEFAULTS = [1, 40, 500, 250, 20]
 
