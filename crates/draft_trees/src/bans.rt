@@ -1,6 +1,7 @@
 //! Rows that a decision forbids.
-use linear_relaxation::{Relaxation, RowTable};
+use linear_relaxation::Relaxation;
 use pool_base::OutOfMemory;
+use row_tables::RowTable;
 use std::alloc::Global;
 
 /// The rows that are forbidden at hand, in order.

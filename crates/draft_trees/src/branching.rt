@@ -4,8 +4,9 @@
 //! the row taken and with the row forbidden, over the rows at hand, and the greatest product of the two
 //! rises wins.
 use crate::bans::{Bans, has_choice};
-use linear_relaxation::{Relaxation, RowTable, Saved, Share};
+use linear_relaxation::{Relaxation, Saved};
 use pool_base::OutOfMemory;
+use row_tables::{RowTable, Share};
 use std::alloc::Global;
 
 /// One, and less and more of a row than counts as chosen in part, in units of 2^-32.

@@ -1,10 +1,10 @@
 //! A plan from the relaxation: rows that it chooses nearly whole are taken, and it is solved again.
 use crate::bans::{Bans, has_choice};
-use crate::draws::Draws;
 use crate::ranks::{place_of, rank_of};
 use crate::whole::whole_plan;
-use linear_relaxation::{Relaxation, RowTable, Share};
+use linear_relaxation::Relaxation;
 use pool_base::OutOfMemory;
+use row_tables::{Draws, RowTable, Share};
 use std::alloc::Global;
 
 /// From this share on, in units of 2^-32, a row is chosen whole.

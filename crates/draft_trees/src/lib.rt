@@ -7,7 +7,6 @@
 mod bans;
 mod branching;
 mod diving;
-mod draws;
 mod part;
 mod ranks;
 mod tree;
@@ -15,7 +14,6 @@ mod whole;
 
 pub use branching::Effort;
 pub use diving::dive;
-pub use draws::Draws;
 pub use part::solve_part;
 pub use ranks::by_falling_part;
 pub use tree::{DraftTree, Growth, seconds_of};

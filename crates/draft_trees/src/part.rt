@@ -1,11 +1,11 @@
 //! The best plan of a part of a graph, by a small search of its own.
 use crate::branching::Effort;
 use crate::diving::dive;
-use crate::draws::Draws;
 use crate::tree::{DraftTree, Growth, seconds_of};
 use crate::whole::plan_cost;
-use linear_relaxation::{Relaxation, RowTable};
+use linear_relaxation::Relaxation;
 use pool_base::OutOfMemory;
+use row_tables::{Draws, RowTable};
 use std::alloc::Global;
 
 /// How much a branch is tried for.

@@ -1,6 +1,6 @@
 //! Shares by falling part, as numbers that are sorted.
-use linear_relaxation::Share;
 use pool_base::OutOfMemory;
+use row_tables::Share;
 use std::alloc::Global;
 
 /// More places than shares have.

@@ -3,8 +3,9 @@
 use crate::bans::Bans;
 use crate::branching::{Branching, Effort};
 use crate::whole::{plan_cost, whole_plan};
-use linear_relaxation::{Relaxation, RowTable, Share};
+use linear_relaxation::Relaxation;
 use pool_base::OutOfMemory;
+use row_tables::{RowTable, Share};
 use std::alloc::Global;
 use std::collections::BinaryHeap;
 use std::mem;

@@ -1,6 +1,6 @@
 //! The plan of a solution that chooses rows whole, and what plans cost.
-use linear_relaxation::{RowTable, Share};
 use pool_base::OutOfMemory;
+use row_tables::{RowTable, Share};
 use std::alloc::Global;
 
 /// More than half of a row, in units of 2^-32.

@@ -1,9 +1,9 @@
 //! Multipliers of the worked pairs by each way to make them.
 use crate::worked::three_pairs;
 use dual_bound::{RiderIndex, ascend, climb, first_fit, first_fit_by};
-use linear_relaxation::RowTable;
 use plan_rules::{Multipliers, TripGraph};
 use pool_base::OutOfMemory;
+use row_tables::RowTable;
 use std::alloc::Global;
 use std::test::Fail;
 

@@ -1,8 +1,9 @@
 //! Drafts of three vehicles whose pairs share riders, and the dives and small searches that they are made of.
-use draft_trees::{Draws, by_falling_part, dive, solve_part};
-use linear_relaxation::{Relaxation, RowTable, Share};
+use draft_trees::{by_falling_part, dive, solve_part};
+use linear_relaxation::Relaxation;
 use plan_drafts::make_draft;
 use pool_base::OutOfMemory;
+use row_tables::{Draws, RowTable, Share};
 use std::alloc::Global;
 use std::test::Fail;
 

@@ -1,8 +1,9 @@
 //! What the relaxation of the worked pairs chooses, and what is asked of it on the way.
 use crate::worked::three_pairs;
-use linear_relaxation::{Relaxation, RowTable, Saved, Share, first_multipliers};
+use linear_relaxation::{Relaxation, Saved, first_multipliers};
 use plan_rules::{TripGraph, leaf_value};
 use pool_base::OutOfMemory;
+use row_tables::{RowTable, Share};
 use std::alloc::Global;
 use std::test::Fail;
 

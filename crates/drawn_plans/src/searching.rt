@@ -4,11 +4,12 @@ use crate::worked::{one_held, three_pairs};
 use assignment_search::search;
 use bound_checker::check;
 use dual_bound::leaf_value;
-use linear_relaxation::{Relaxation, RowTable};
+use linear_relaxation::Relaxation;
 use plan_rules::TripGraph;
 use pool_base::OutOfMemory;
 use rand_xoshiro::Xoshiro256PlusPlus;
 use rand_xoshiro::rand_core::SeedableRng;
+use row_tables::RowTable;
 use std::alloc::Global;
 use std::test::Fail;
 

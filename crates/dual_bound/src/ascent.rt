@@ -4,9 +4,9 @@
 //! (Held, Wolfe and Crowder, 1974). A step is as long as Polyak's rule says (1969), toward the cost of the
 //! best plan seen, and deflected from the one before it as by Camerini, Fratta and Maffioli (1975). Nothing
 //! is proved of how far an ascent comes: a leaf value judges each point.
-use linear_relaxation::fixed_point::{add_at, at, quotient, set_at, times};
 use plan_rules::TripGraph;
 use pool_base::OutOfMemory;
+use row_tables::fixed_point::{add_at, at, quotient, set_at, times};
 use std::alloc::Global;
 
 /// One, of slopes, directions and step lengths.

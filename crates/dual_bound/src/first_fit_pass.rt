@@ -8,9 +8,9 @@ ghost use Rattle.dual_bound.specs.Index.{IsIndexOf, ListsAll, IsRowListed};
 
 use crate::cheapest::least_costs;
 use crate::rider_index::RiderIndex;
-use linear_relaxation::RowTable;
 use plan_rules::{Multipliers, TripGraph, TripRow};
 use pool_base::OutOfMemory;
+use row_tables::RowTable;
 use std::alloc::Global;
 
 /// For each rider by rising index the least of the penalty and, over the allowed rows that have her, of

@@ -3,10 +3,10 @@ ghost use Rattle.std.specs.Prelude.{◌≡◌, ◌<◌, ℕ, true, IfOk, length,
 ghost use Rattle.plan_rules.specs.Graph.{riders_at};
 ghost use Rattle.dual_bound.specs.Index.{IsIndexOf, IsListed, ListsAll};
 
-use linear_relaxation::RowTable;
-use linear_relaxation::fixed_point::item;
 use plan_rules::TripGraph;
 use pool_base::OutOfMemory;
+use row_tables::RowTable;
+use row_tables::fixed_point::item;
 use std::alloc::Global;
 
 /// For each rider the numbers of the rows that have her, one list behind the other.

@@ -4,7 +4,6 @@
 //! point, so that each machine does the same.
 #![tactic(auto)]
 
-pub mod fixed_point;
 mod relaxation;
 
-pub use relaxation::{Relaxation, RowTable, Saved, Share, first_multipliers};
+pub use relaxation::{Relaxation, Saved, first_multipliers};

@@ -10,20 +10,18 @@ mod basis;
 mod climb;
 mod elimination;
 mod factors;
-mod lists;
 mod pivots;
 mod pool;
 mod pricing;
-mod row_table;
 
-use crate::fixed_point::{ONE, at, copy, item, set_at, times};
 use crate::relaxation::basis::Basis;
 use crate::relaxation::elimination::reset;
-use crate::relaxation::lists::short;
 use crate::relaxation::pool::{Candidate, Pool};
 pub use climb::first_multipliers;
 use pool_base::OutOfMemory;
-pub use row_table::RowTable;
+use row_tables::fixed_point::{ONE, at, copy, item, set_at, times};
+use row_tables::lists::short;
+use row_tables::{RowTable, Share};
 use std::alloc::Global;
 
 /// Within so much of what it may be at most a solution counts as the best, in 1/1024 second.
@@ -34,14 +32,6 @@ const MOST_COST: i64 = 10_000_000;
 
 /// How many passes over all rows a solution takes at most.
 const MOST_PASSES: u32 = 1000;
-
-/// A part of a row that a solution chooses.
-#[derive(Clone, Copy, Debug)]
-pub struct Share {
-    pub row: u32,
-    /// How much of it, in units of 2^-32.
-    pub part: i64,
-}
 
 /// A basis and its factors, to come back to.
 #[derive(Drop)]

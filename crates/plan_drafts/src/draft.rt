@@ -1,8 +1,9 @@
 //! A draft: the relaxation of all rows, plans made from it, and a tree where they leave a gap.
 use crate::plans::Plans;
-use draft_trees::{DraftTree, Draws, Effort, Growth, by_falling_part, dive, seconds_of};
-use linear_relaxation::{Relaxation, RowTable, Share, first_multipliers};
+use draft_trees::{DraftTree, Effort, Growth, by_falling_part, dive, seconds_of};
+use linear_relaxation::{Relaxation, first_multipliers};
 use pool_base::OutOfMemory;
+use row_tables::{Draws, RowTable, Share};
 use std::alloc::Global;
 
 /// Beyond so many rows the first multipliers take more turns.

@@ -4,27 +4,14 @@
 //! Nothing is proved of the plans that come out: they are judged before they are used. All choices follow
 //! from counts and drawn numbers, so that the same rows give the same plan.
 
-mod annealing;
-mod beside;
-mod choices;
-mod cooling;
-mod flat;
 mod merge;
-mod neighbourhood;
-mod present;
-mod regrets;
-mod rounding;
 
-use crate::plans::annealing::Annealing;
-use crate::plans::flat::{at, narrow, put};
 use crate::plans::merge::{Wanted, solve};
-use crate::plans::neighbourhood::Neighbourhood;
-use crate::plans::present::Present;
-use crate::plans::regrets::Regrets;
-use crate::plans::rounding::round;
-use draft_trees::Draws;
-use linear_relaxation::{RowTable, Share};
+use plan_moves::{Annealing, Neighbourhood, Present, Regrets, round};
 use pool_base::OutOfMemory;
+use row_tables::fixed_point::{item, set_at};
+use row_tables::lists::short;
+use row_tables::{Draws, RowTable, Share};
 use std::alloc::Global;
 
 /// How many neighbourhoods are tried at most in one call.
@@ -183,7 +170,7 @@ impl Plans {
         let mut vehicles = Vec::new(self.alloc);
         for vehicle in 0..table.vehicle_count() {
             if self.mark_rows(vehicle, optima, &mut marks) {
-                vehicles.push(narrow(vehicle))?;
+                vehicles.push(short(vehicle))?;
             }
         }
         let regret = width.saturating_mul(1024);
@@ -210,9 +197,9 @@ impl Plans {
     fn mark_rows(&self, vehicle: usize, optima: &[Vec<Option<u32>>], marks: &mut [bool]) -> bool {
         let mut differs = false;
         for optimum in optima {
-            if let Some(row) = at(optimum, vehicle, None) {
+            if let Some(row) = item(optimum, vehicle, None) {
                 if let Some(place) = self.regrets.place_of(vehicle, row) {
-                    put(marks, place, true);
+                    set_at(marks, place, true);
                     differs = differs || self.present.place(vehicle) != Some(place);
                 }
             }
@@ -295,12 +282,12 @@ fn cost_of(alloc: Global, table: &RowTable, chosen: &[Option<u32>]) -> Result<i6
         if let Some(row) = *row {
             cost = cost.saturating_add(table.cost(row as usize));
             for rider in table.riders_of(row as usize) {
-                flat::put(&mut is_left, *rider as usize, false);
+                set_at(&mut is_left, *rider as usize, false);
             }
         }
     }
     for rider in 0..table.rider_count() {
-        if at(&is_left, rider, false) {
+        if item(&is_left, rider, false) {
             cost = cost.saturating_add(table.cost_left(rider));
         }
     }

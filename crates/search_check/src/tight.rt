@@ -8,9 +8,9 @@ ghost use Rattle.search_check.specs.Points.{IsClose};
 
 use crate::choices::is_closable;
 use dual_bound::{RiderIndex, first_fit_by};
-use linear_relaxation::RowTable;
 use plan_rules::{Tree, TripGraph, leaf_value, rounded_up};
 use pool_base::OutOfMemory;
+use row_tables::RowTable;
 use std::alloc::Global;
 
 /// Whether the bound is the plan's cost unless the budget was spent, and no worse than the first-fit

@@ -1,12 +1,12 @@
 //! A basis of the relaxation, with how much of each column it takes.
-use crate::fixed_point::{ONE, at, copy, is_quotient_above, item, quotient, set_at, times};
 use crate::relaxation::elimination::{Elimination, reset};
 use crate::relaxation::factors::Factors;
-use crate::relaxation::lists::{Lists, short};
-use crate::relaxation::row_table::RowTable;
 use pool_base::OutOfMemory;
 use rand_xoshiro::SplitMix64;
 use rand_xoshiro::rand_core::{Rng, SeedableRng};
+use row_tables::RowTable;
+use row_tables::fixed_point::{ONE, at, copy, is_quotient_above, item, quotient, set_at, times};
+use row_tables::lists::{Lists, short};
 use std::alloc::Global;
 
 /// After so many exchanges the factors are made anew.

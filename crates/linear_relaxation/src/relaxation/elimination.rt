@@ -4,10 +4,10 @@
 //! arithmetic. The rest, from left to right by rising size, is divided at the emptiest condition whose
 //! number is at least a third of the greatest (threshold pivoting; Duff, Erisman and Reid, Direct Methods
 //! for Sparse Matrices).
-use crate::fixed_point::{ONE, at, is_noise, item, quotient, set_at};
 use crate::relaxation::factors::{Factors, Pivot};
-use crate::relaxation::lists::{Lists, short};
 use pool_base::OutOfMemory;
+use row_tables::fixed_point::{ONE, at, is_noise, item, quotient, set_at};
+use row_tables::lists::{Lists, short};
 use std::alloc::Global;
 
 /// A number of a column may be divided by from here on.

@@ -3,12 +3,12 @@
 //! The product form of the inverse (Dantzig and Orchard-Hays, 1954) over a factorisation that keeps the
 //! zeros. The basis is a square matrix of zeros and ones; a row of it is called a condition, a column a
 //! place.
-use crate::fixed_point::{
+use crate::relaxation::elimination::reset;
+use pool_base::OutOfMemory;
+use row_tables::fixed_point::{
     at, is_noise, item, less_products, part, quotient, set_at, take_products,
 };
-use crate::relaxation::elimination::reset;
-use crate::relaxation::lists::short;
-use pool_base::OutOfMemory;
+use row_tables::lists::short;
 use std::alloc::Global;
 
 /// The parts of columns or rows, one behind the other, where they aren't 0.

@@ -1,10 +1,10 @@
 //! The primal simplex over the pool.
-use crate::fixed_point::{ONE, at, copy, item, set_at, times};
-use crate::relaxation::lists::short;
 use crate::relaxation::pool::{Candidate, offer};
-use crate::relaxation::row_table::RowTable;
 use crate::relaxation::{MOST_COST, Relaxation};
 use pool_base::OutOfMemory;
+use row_tables::RowTable;
+use row_tables::fixed_point::{ONE, at, copy, item, set_at, times};
+use row_tables::lists::short;
 
 /// How many candidates a look at the columns keeps, and for how many turns they are used.
 const MOST_CANDIDATES: usize = 8;

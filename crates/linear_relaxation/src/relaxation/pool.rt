@@ -1,11 +1,11 @@
 //! The rows over which a solution is sought.
-use crate::fixed_point::{at, item, set_at};
 use crate::relaxation::basis::Basis;
 use crate::relaxation::elimination::reset;
-use crate::relaxation::lists::{Lists, short};
 use crate::relaxation::pricing::reduced_cost;
-use crate::relaxation::row_table::RowTable;
 use pool_base::OutOfMemory;
+use row_tables::RowTable;
+use row_tables::fixed_point::{at, item, set_at};
+use row_tables::lists::{Lists, short};
 use std::alloc::Global;
 
 /// A column that may come in, and its reduced cost.

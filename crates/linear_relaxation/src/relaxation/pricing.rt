@@ -1,9 +1,9 @@
 //! Multipliers from prices, their value over all rows, and rows that better a solution.
-use crate::fixed_point::{at, copy, item, set_at};
 use crate::relaxation::Relaxation;
-use crate::relaxation::lists::short;
-use crate::relaxation::row_table::RowTable;
 use pool_base::OutOfMemory;
+use row_tables::RowTable;
+use row_tables::fixed_point::{at, copy, item, set_at};
+use row_tables::lists::short;
 
 /// What a vehicle adds to a value that has no row left: more than any plan costs.
 const NO_ROW: i64 = 1 << 41;

@@ -1,11 +1,12 @@
 //! Some vehicles and some of their rows as a small table of their own.
 
-use crate::plans::flat::{NONE, at, narrow, put};
-use crate::plans::present::Present;
-use crate::plans::regrets::Regrets;
 use draft_trees::solve_part;
-use linear_relaxation::RowTable;
+use plan_moves::groups::NONE;
+use plan_moves::{Present, Regrets};
 use pool_base::OutOfMemory;
+use row_tables::RowTable;
+use row_tables::fixed_point::{item, set_at};
+use row_tables::lists::short;
 use std::alloc::Global;
 
 /// Which rows a part takes: those within a regret, and those that are marked.
@@ -63,9 +64,9 @@ impl Part {
                 let is_wanted = regrets.above(place) <= wanted.regret
                     || riders.is_empty()
                     || present.place(*vehicle as usize) == Some(place)
-                    || at(wanted.marks, place, false);
+                    || item(wanted.marks, place, false);
                 if is_wanted && present.are_free(riders) {
-                    self.places.push(narrow(place))?;
+                    self.places.push(short(place))?;
                     self.number(riders)?;
                 }
             }
@@ -75,12 +76,8 @@ impl Part {
 
     fn number(&mut self, riders: &[u32]) -> Result<(), OutOfMemory> {
         for rider in riders {
-            if at(&self.numbers, *rider as usize, 0) == NONE {
-                put(
-                    &mut self.numbers,
-                    *rider as usize,
-                    narrow(self.riders.len()),
-                );
+            if item(&self.numbers, *rider as usize, 0) == NONE {
+                set_at(&mut self.numbers, *rider as usize, short(self.riders.len()));
                 self.riders.push(*rider)?;
             }
         }
@@ -126,7 +123,7 @@ impl Part {
             let first = next;
             next = self.end_of(regrets, *vehicle as usize, first);
             for row in first..next {
-                let place = at(&self.places, row, NONE) as usize;
+                let place = item(&self.places, row, NONE) as usize;
                 self.write_trip(regrets.riders(place), &mut trip)?;
                 rows.push_row(table.cost(regrets.row(place) as usize), &trip)?;
             }
@@ -140,7 +137,7 @@ impl Part {
     /// Where the rows of a vehicle end that begin here.
     fn end_of(&self, regrets: &Regrets, vehicle: usize, first: usize) -> usize {
         for row in first..self.places.len() {
-            if regrets.vehicle(at(&self.places, row, NONE) as usize) != vehicle {
+            if regrets.vehicle(item(&self.places, row, NONE) as usize) != vehicle {
                 return row;
             }
         }
@@ -156,8 +153,8 @@ impl Part {
         end: usize,
     ) -> Option<u32> {
         for row in first..end {
-            if present.place(vehicle) == Some(at(&self.places, row, NONE) as usize) {
-                return Some(narrow(row));
+            if present.place(vehicle) == Some(item(&self.places, row, NONE) as usize) {
+                return Some(short(row));
             }
         }
         None
@@ -167,7 +164,7 @@ impl Part {
     fn write_trip(&self, riders: &[u32], trip: &mut Vec<u32>) -> Result<(), OutOfMemory> {
         trip.clear();
         for rider in riders {
-            trip.push(at(&self.numbers, *rider as usize, NONE))?;
+            trip.push(item(&self.numbers, *rider as usize, NONE))?;
         }
         Ok(())
     }
@@ -188,7 +185,7 @@ impl Part {
     fn prices(&self, alloc: Global, multipliers: &[i64]) -> Result<Vec<i64>, OutOfMemory> {
         let mut prices = Vec::new(alloc);
         for rider in &self.riders {
-            prices.push(at(multipliers, *rider as usize, 0))?;
+            prices.push(item(multipliers, *rider as usize, 0))?;
         }
         Ok(prices)
     }
@@ -197,7 +194,7 @@ impl Part {
     fn give(&self, regrets: &Regrets, present: &mut Present, chosen: &[Option<u32>]) -> bool {
         for row in chosen {
             if let Some(row) = *row {
-                let place = at(&self.places, row as usize, NONE) as usize;
+                let place = item(&self.places, row as usize, NONE) as usize;
                 if !present.are_free(regrets.riders(place)) {
                     return false;
                 }

@@ -1,9 +1,11 @@
 //! A plan that changes.
 
-use crate::plans::flat::{NONE, at, narrow, put};
-use crate::plans::regrets::Regrets;
-use linear_relaxation::RowTable;
+use crate::groups::NONE;
+use crate::regrets::Regrets;
 use pool_base::OutOfMemory;
+use row_tables::RowTable;
+use row_tables::fixed_point::{item, set_at};
+use row_tables::lists::short;
 use std::alloc::Global;
 
 /// The present plan: for each vehicle the place of its row, and for each rider who serves her.
@@ -30,7 +32,7 @@ impl Present {
     /// The place of the vehicle's row.
     #[inline]
     pub fn place(&self, vehicle: usize) -> Option<usize> {
-        let place = at(&self.places, vehicle, NONE);
+        let place = item(&self.places, vehicle, NONE);
         if place == NONE {
             None
         } else {
@@ -41,7 +43,7 @@ impl Present {
     /// The vehicle that serves this rider.
     #[inline]
     pub fn server(&self, rider: usize) -> Option<usize> {
-        let server = at(&self.servers, rider, NONE);
+        let server = item(&self.servers, rider, NONE);
         if server == NONE {
             None
         } else {
@@ -53,7 +55,7 @@ impl Present {
     #[inline]
     pub fn are_free(&self, riders: &[u32]) -> bool {
         for rider in riders {
-            if at(&self.servers, *rider as usize, NONE) != NONE {
+            if item(&self.servers, *rider as usize, NONE) != NONE {
                 return false;
             }
         }
@@ -63,9 +65,9 @@ impl Present {
     /// Gives its row to the place's vehicle.
     pub fn give(&mut self, regrets: &Regrets, place: usize) {
         let vehicle = regrets.vehicle(place);
-        put(&mut self.places, vehicle, narrow(place));
+        set_at(&mut self.places, vehicle, short(place));
         for rider in regrets.riders(place) {
-            put(&mut self.servers, *rider as usize, narrow(vehicle));
+            set_at(&mut self.servers, *rider as usize, short(vehicle));
         }
     }
 
@@ -73,7 +75,7 @@ impl Present {
     pub fn release(&mut self, regrets: &Regrets, vehicle: usize) {
         if let Some(place) = self.place(vehicle) {
             for rider in regrets.riders(place) {
-                put(&mut self.servers, *rider as usize, NONE);
+                set_at(&mut self.servers, *rider as usize, NONE);
             }
         }
     }

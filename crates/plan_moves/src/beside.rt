@@ -1,8 +1,10 @@
 //! Which rows of a vehicle have one rider less than a row, or one more.
 
-use crate::plans::flat::{Groups, NONE, at, narrow, put};
-use linear_relaxation::RowTable;
+use crate::groups::{Groups, NONE};
 use pool_base::OutOfMemory;
+use row_tables::RowTable;
+use row_tables::fixed_point::{item, set_at};
+use row_tables::lists::short;
 use std::alloc::Global;
 
 /// The rows beside each row.
@@ -43,9 +45,9 @@ impl Beside {
     fn write_wider(&mut self, table: &RowTable, added: &mut [u32], wider: &mut [u32]) {
         for rider in 0..table.rider_count() {
             for row in table.rows_with(rider) {
-                let narrower = self.without(table, *row as usize, narrow(rider));
+                let narrower = self.without(table, *row as usize, short(rider));
                 if narrower != NONE {
-                    self.added.write(added, narrower as usize, narrow(rider));
+                    self.added.write(added, narrower as usize, short(rider));
                     self.wider.write(wider, narrower as usize, *row);
                 }
             }
@@ -82,14 +84,14 @@ impl Beside {
                 break;
             }
             let middle = low + (high - low) / 2;
-            if at(riders, middle, NONE) < rider {
+            if item(riders, middle, NONE) < rider {
                 low = middle.saturating_add(1);
             } else {
                 high = middle;
             }
         }
-        if at(riders, low, NONE) == rider {
-            at(self.wider.of(row), low, NONE)
+        if item(riders, low, NONE) == rider {
+            item(self.wider.of(row), low, NONE)
         } else {
             NONE
         }
@@ -127,7 +129,7 @@ fn find(table: &RowTable, first: usize, end: usize, riders: &[u32], skipped: usi
         }
     }
     if low < end && are_same(table.riders_of(low), riders, skipped) {
-        narrow(low)
+        short(low)
     } else {
         NONE
     }
@@ -161,9 +163,9 @@ fn are_same(these: &[u32], riders: &[u32], skipped: usize) -> bool {
 /// The rider at this place, where the skipped one isn't counted.
 fn rider_at(riders: &[u32], skipped: usize, place: usize) -> u32 {
     if place < skipped {
-        at(riders, place, NONE)
+        item(riders, place, NONE)
     } else {
-        at(riders, place.saturating_add(1), NONE)
+        item(riders, place.saturating_add(1), NONE)
     }
 }
 
@@ -171,7 +173,7 @@ fn rider_at(riders: &[u32], skipped: usize, place: usize) -> u32 {
 fn row_without(table: &RowTable, without: &Groups, row: usize, rider: u32) -> u32 {
     for (place, member) in table.riders_of(row).iter().enumerate() {
         if *member == rider {
-            return at(without.of(row), place, NONE);
+            return item(without.of(row), place, NONE);
         }
     }
     NONE
@@ -182,8 +184,8 @@ fn count_wider(alloc: Global, table: &RowTable, without: &Groups) -> Result<Vec<
     let mut counts = vec![in alloc; 0; table.row_count()]?;
     for row in 0..table.row_count() {
         for narrower in without.of(row) {
-            let count: u32 = at(&counts, *narrower as usize, 0);
-            put(&mut counts, *narrower as usize, count.saturating_add(1));
+            let count: u32 = item(&counts, *narrower as usize, 0);
+            set_at(&mut counts, *narrower as usize, count.saturating_add(1));
         }
     }
     Ok(counts)
@@ -195,7 +197,7 @@ fn vehicles_with(alloc: Global, table: &RowTable) -> Result<Groups, OutOfMemory>
     for rider in 0..table.rider_count() {
         let mut last = NONE;
         for row in table.rows_with(rider) {
-            let vehicle = narrow(table.vehicle(*row as usize));
+            let vehicle = short(table.vehicle(*row as usize));
             if vehicle != last {
                 vehicles.push(vehicle)?;
                 last = vehicle;

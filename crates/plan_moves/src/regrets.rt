@@ -4,9 +4,11 @@
 //! cost of its row lies above the vehicle's least, and for each rider who is left out what that costs above
 //! her multiplier. Of each vehicle's rows only those of least regret are looked at.
 
-use crate::plans::flat::{Groups, NONE, at, narrow, put};
-use linear_relaxation::RowTable;
+use crate::groups::{Groups, NONE};
 use pool_base::OutOfMemory;
+use row_tables::RowTable;
+use row_tables::fixed_point::{item, set_at};
+use row_tables::lists::short;
 use std::alloc::Global;
 
 /// How many rows of a vehicle are looked at.
@@ -73,7 +75,7 @@ impl Regrets {
         let mut costs = Vec::new(alloc);
         let mut ranks = Vec::new(alloc);
         for vehicle in 0..table.vehicle_count() {
-            let kept = at(kept, vehicle, None);
+            let kept = item(kept, vehicle, None);
             rank_rows(table, multipliers, vehicle, kept, &mut costs, &mut ranks)?;
             self.add_vehicle(table, vehicle, &ranks)?;
         }
@@ -91,15 +93,15 @@ impl Regrets {
         let first = table.rows_of(vehicle).start;
         for rank in ranks {
             let row = first.saturating_add((*rank % ROWS) as usize);
-            self.rows.push(narrow(row))?;
-            self.vehicles.push(narrow(vehicle))?;
+            self.rows.push(short(row))?;
+            self.vehicles.push(short(vehicle))?;
             self.above.push((*rank / ROWS) as i64)?;
             for rider in table.riders_of(row) {
                 self.riders.push(*rider)?;
             }
             self.riders.close()?;
         }
-        self.ends.push(narrow(self.rows.len()))?;
+        self.ends.push(short(self.rows.len()))?;
         Ok(())
     }
 
@@ -131,8 +133,8 @@ impl Regrets {
     fn count_by_rider(&self, counts: &mut [u32]) {
         for place in 0..self.rows.len() {
             for rider in self.riders.of(place) {
-                let count = at(counts, *rider as usize, 0);
-                put(counts, *rider as usize, count.saturating_add(1));
+                let count = item(counts, *rider as usize, 0);
+                set_at(counts, *rider as usize, count.saturating_add(1));
             }
         }
     }
@@ -155,9 +157,9 @@ impl Regrets {
         let start = if vehicle == 0 {
             0
         } else {
-            at(&self.ends, vehicle - 1, 0) as usize
+            item(&self.ends, vehicle - 1, 0) as usize
         };
-        (start, at(&self.ends, vehicle, 0) as usize)
+        (start, item(&self.ends, vehicle, 0) as usize)
     }
 
     /// The vehicle's place for this row.
@@ -173,18 +175,18 @@ impl Regrets {
 
     #[inline]
     pub fn row(&self, place: usize) -> u32 {
-        at(&self.rows, place, NONE)
+        item(&self.rows, place, NONE)
     }
 
     #[inline]
     pub fn vehicle(&self, place: usize) -> usize {
-        at(&self.vehicles, place, NONE) as usize
+        item(&self.vehicles, place, NONE) as usize
     }
 
     /// The regret of the row at this place.
     #[inline]
     pub fn above(&self, place: usize) -> i64 {
-        at(&self.above, place, 0)
+        item(&self.above, place, 0)
     }
 
     #[inline]
@@ -201,7 +203,7 @@ impl Regrets {
     /// The regret of leaving this rider out.
     #[inline]
     pub fn left(&self, rider: usize) -> i64 {
-        at(&self.left, rider, 0)
+        item(&self.left, rider, 0)
     }
 }
 
@@ -233,7 +235,7 @@ fn left_cost(table: &RowTable, rider: usize) -> i64 {
 /// The rider's multiplier, and at most what it costs to leave her out.
 #[inline]
 fn price(table: &RowTable, multipliers: &[i64], rider: usize) -> i64 {
-    at(multipliers, rider, 0).min(left_cost(table, rider))
+    item(multipliers, rider, 0).min(left_cost(table, rider))
 }
 
 /// The ranks of the vehicle's rows that are looked at, rising; a row counts from the vehicle's first one.
@@ -298,8 +300,8 @@ fn width_of(costs: &[i64], least: i64) -> usize {
     let mut counts: [usize; 65] = [0; 65];
     for cost in costs {
         let width = width(cost.saturating_sub(least));
-        let count = at(&counts, width, 0);
-        put(&mut counts, width, count.saturating_add(1));
+        let count = item(&counts, width, 0);
+        set_at(&mut counts, width, count.saturating_add(1));
     }
     let mut total: usize = 0;
     for (width, count) in counts.iter().enumerate() {

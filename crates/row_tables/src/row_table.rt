@@ -1,6 +1,6 @@
 //! The rows of a trip graph, or of a part of one, in flat tables.
 use crate::fixed_point::item;
-use crate::relaxation::lists::{Lists, short};
+use crate::lists::{Lists, short};
 use plan_rules::TripGraph;
 use pool_base::OutOfMemory;
 use std::alloc::Global;
@@ -92,19 +92,23 @@ impl RowTable {
         self.rows.transpose(&self.riders, self.must.len())
     }
 
+    #[inline]
     pub fn vehicle_count(&self) -> usize {
         self.ends.len()
     }
 
+    #[inline]
     pub fn rider_count(&self) -> usize {
         self.must.len()
     }
 
+    #[inline]
     pub fn row_count(&self) -> usize {
         self.costs.len()
     }
 
     /// The vehicle's rows.
+    #[inline]
     pub fn rows_of(&self, vehicle: usize) -> Range<usize> {
         let from = if vehicle == 0 {
             0
@@ -115,34 +119,41 @@ impl RowTable {
     }
 
     /// The row's riders.
+    #[inline]
     pub fn riders_of(&self, row: usize) -> &[u32] {
         self.riders.list(row)
     }
 
     /// The rows that have this rider, rising.
+    #[inline]
     pub fn rows_with(&self, rider: usize) -> &[u32] {
         self.rows.list(rider)
     }
 
+    #[inline]
     pub fn cost(&self, row: usize) -> i64 {
         item(&self.costs, row, 0)
     }
 
+    #[inline]
     pub fn vehicle(&self, row: usize) -> usize {
         item(&self.vehicles, row, 0) as usize
     }
 
     /// Whether the rider must be served.
+    #[inline]
     pub fn must(&self, rider: usize) -> bool {
         item(&self.must, rider, false)
     }
 
     /// What it costs to leave out a rider who may be.
+    #[inline]
     pub fn penalty(&self) -> i64 {
         self.penalty
     }
 
     /// What it costs to leave out this rider: the penalty, or a very large cost where she must be served.
+    #[inline]
     pub fn cost_left(&self, rider: usize) -> i64 {
         if self.must(rider) {
             self.penalty.saturating_mul(100).max(MUST_COST)

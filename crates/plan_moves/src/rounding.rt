@@ -1,9 +1,9 @@
 //! A plan from a solution of the relaxation: the rows by falling share, then all by rising regret, where
 //! they still fit.
 
-use crate::plans::present::Present;
-use crate::plans::regrets::Regrets;
-use linear_relaxation::{RowTable, Share};
+use crate::present::Present;
+use crate::regrets::Regrets;
+use row_tables::{RowTable, Share};
 
 /// Makes this the present plan.
 pub fn round(table: &RowTable, regrets: &Regrets, shares: &[Share], present: &mut Present) {

@@ -4,10 +4,12 @@
 //! the regrets so far and the least of the vehicles to come stay below the best choice's. What it costs to
 //! leave a rider out counts as soon as the last vehicle that could serve her has its row.
 
-use crate::plans::flat::{Groups, NONE, at, narrow, put};
-use crate::plans::present::Present;
-use crate::plans::regrets::Regrets;
+use crate::groups::{Groups, NONE};
+use crate::present::Present;
+use crate::regrets::Regrets;
 use pool_base::OutOfMemory;
+use row_tables::fixed_point::{item, set_at};
+use row_tables::lists::short;
 use std::alloc::Global;
 use std::ops::Range;
 
@@ -95,7 +97,7 @@ impl Choices {
             return Ok(0);
         }
         for depth in 0..self.depths() {
-            let entry = at(&self.best, depth, 0);
+            let entry = item(&self.best, depth, 0);
             present.give(regrets, self.fits.member(entry) as usize);
         }
         Ok(before.saturating_sub(after))
@@ -128,7 +130,7 @@ impl Choices {
     }
 
     fn add_fit(&mut self, regrets: &Regrets, place: usize) -> Result<(), OutOfMemory> {
-        self.fits.push(narrow(place))?;
+        self.fits.push(short(place))?;
         self.above.push(regrets.above(place))?;
         for rider in regrets.riders(place) {
             self.trips.push(*rider)?;
@@ -139,16 +141,16 @@ impl Choices {
     /// Puts the shorter lists first.
     fn order_turns(&mut self) {
         for list in 0..self.depths() {
-            put(&mut self.turns, list, list);
+            set_at(&mut self.turns, list, list);
             for later in 0..list {
                 let depth = list - later;
-                let here = at(&self.turns, depth, 0);
-                let before = at(&self.turns, depth - 1, 0);
+                let here = item(&self.turns, depth, 0);
+                let before = item(&self.turns, depth - 1, 0);
                 if self.fits.of(before).len() <= self.fits.of(here).len() {
                     break;
                 }
-                put(&mut self.turns, depth, before);
-                put(&mut self.turns, depth - 1, here);
+                set_at(&mut self.turns, depth, before);
+                set_at(&mut self.turns, depth - 1, here);
             }
         }
     }
@@ -156,7 +158,7 @@ impl Choices {
     /// The entries that this depth may take.
     #[inline]
     fn entries_at(&self, depth: usize) -> Range<usize> {
-        let list = at(&self.turns, depth, 0);
+        let list = item(&self.turns, depth, 0);
         self.fits.start(list)..self.fits.start(list.saturating_add(1))
     }
 
@@ -177,11 +179,11 @@ impl Choices {
     fn close_riders(&mut self, regrets: &Regrets, depth: usize, entry: usize) {
         for rider in self.trips.of(entry) {
             let number = *rider as usize;
-            if !at(&self.is_listed, number, true) {
-                put(&mut self.is_listed, number, true);
-                put(&mut self.closings, number, narrow(depth));
-                let left = at(&self.left, depth, 0);
-                put(
+            if !item(&self.is_listed, number, true) {
+                set_at(&mut self.is_listed, number, true);
+                set_at(&mut self.closings, number, short(depth));
+                let left = item(&self.left, depth, 0);
+                set_at(
                     &mut self.left,
                     depth,
                     left.saturating_add(regrets.left(number)),
@@ -192,17 +194,17 @@ impl Choices {
 
     fn find_least(&mut self) {
         let depths = self.depths();
-        put(&mut self.least, depths, 0);
+        set_at(&mut self.least, depths, 0);
         for later in 0..depths {
             let depth = depths - 1 - later;
             let entries = self.entries_at(depth);
             let first = if entries.is_empty() {
                 0
             } else {
-                at(&self.above, entries.start, 0)
+                item(&self.above, entries.start, 0)
             };
-            let sum = at(&self.least, depth.saturating_add(1), 0);
-            put(&mut self.least, depth, sum.saturating_add(first));
+            let sum = item(&self.least, depth.saturating_add(1), 0);
+            set_at(&mut self.least, depth, sum.saturating_add(first));
         }
     }
 
@@ -256,7 +258,7 @@ impl Choices {
         let depth = state.depth;
         let below = depth.saturating_add(1);
         let sum = self.take(regrets, depth, entry);
-        if sum.saturating_add(at(&self.least, below, 0)) >= state.limit {
+        if sum.saturating_add(item(&self.least, below, 0)) >= state.limit {
             self.leave(regrets, depth);
             return false;
         }
@@ -272,28 +274,32 @@ impl Choices {
     }
 
     fn enter(&mut self, depth: usize, sum: i64) {
-        put(&mut self.sums, depth, sum);
+        set_at(&mut self.sums, depth, sum);
         let first = self.entries_at(depth).start;
-        put(&mut self.nexts, depth, first);
+        set_at(&mut self.nexts, depth, first);
     }
 
     /// The next row at this depth that fits, if its regret leaves a choice below the limit.
     fn next_entry(&mut self, state: State) -> Option<usize> {
         let depth = state.depth;
-        let rest = at(&self.least, depth.saturating_add(1), 0);
+        let rest = item(&self.least, depth.saturating_add(1), 0);
         let room = state
             .limit
-            .saturating_sub(at(&self.sums, depth, 0))
+            .saturating_sub(item(&self.sums, depth, 0))
             .saturating_sub(rest);
-        let entry = self.first_fit(at(&self.nexts, depth, 0), self.entries_at(depth).end, room)?;
-        put(&mut self.nexts, depth, entry.saturating_add(1));
+        let entry = self.first_fit(
+            item(&self.nexts, depth, 0),
+            self.entries_at(depth).end,
+            room,
+        )?;
+        set_at(&mut self.nexts, depth, entry.saturating_add(1));
         Some(entry)
     }
 
     /// The first of these entries that fits, if it has less regret than this.
     fn first_fit(&self, from: usize, end: usize, room: i64) -> Option<usize> {
         for entry in from..end {
-            if at(&self.above, entry, i64::MAX) >= room {
+            if item(&self.above, entry, i64::MAX) >= room {
                 return None;
             }
             if !is_any_marked(&self.is_served, self.trips.of(entry)) {
@@ -305,15 +311,15 @@ impl Choices {
 
     /// Chooses the row; the regret so far, with the riders who can't be served any more.
     fn take(&mut self, regrets: &Regrets, depth: usize, entry: usize) -> i64 {
-        put(&mut self.picks, depth, entry);
+        set_at(&mut self.picks, depth, entry);
         self.mark(regrets, entry, true);
-        at(&self.sums, depth, 0)
-            .saturating_add(at(&self.above, entry, 0))
-            .saturating_add(at(&self.left, depth, 0))
+        item(&self.sums, depth, 0)
+            .saturating_add(item(&self.above, entry, 0))
+            .saturating_add(item(&self.left, depth, 0))
     }
 
     fn leave(&mut self, regrets: &Regrets, depth: usize) {
-        let entry = at(&self.picks, depth, 0);
+        let entry = item(&self.picks, depth, 0);
         self.mark(regrets, entry, false);
     }
 
@@ -321,16 +327,16 @@ impl Choices {
     fn mark(&mut self, regrets: &Regrets, entry: usize, is_served: bool) {
         for rider in self.trips.of(entry) {
             let number = *rider as usize;
-            put(&mut self.is_served, number, is_served);
-            let depth = at(&self.closings, number, NONE) as usize;
-            let left = at(&self.left, depth, 0);
+            set_at(&mut self.is_served, number, is_served);
+            let depth = item(&self.closings, number, NONE) as usize;
+            let left = item(&self.left, depth, 0);
             let regret = regrets.left(number);
             let change = if is_served {
                 regret.wrapping_neg()
             } else {
                 regret
             };
-            put(&mut self.left, depth, left.wrapping_add(change));
+            set_at(&mut self.left, depth, left.wrapping_add(change));
         }
     }
 }
@@ -347,7 +353,7 @@ fn regret_at(regrets: &Regrets, place: usize) -> i64 {
 #[inline]
 fn is_any_marked(marks: &[bool], riders: &[u32]) -> bool {
     for rider in riders {
-        if at(marks, *rider as usize, true) {
+        if item(marks, *rider as usize, true) {
             return true;
         }
     }

@@ -1,38 +1,12 @@
-//! Flat lists of numbers that answer for every place, and groups of numbers in one such list.
+//! Groups of numbers in one flat list.
 
 use pool_base::OutOfMemory;
+use row_tables::fixed_point::{item, set_at};
+use row_tables::lists::short;
 use std::alloc::Global;
 
 /// Stands where there is no number.
 pub const NONE: u32 = u32::MAX;
-
-/// What stands at this place, and past the end this other value.
-#[inline]
-pub fn at<T: Copy>(list: &[T], place: usize, other: T) -> T {
-    if place < list.len() {
-        list[place]
-    } else {
-        other
-    }
-}
-
-/// Writes at this place, if there is one.
-#[inline]
-pub fn put<T: Copy>(list: &mut [T], place: usize, value: T) {
-    if place < list.len() {
-        list[place] = value;
-    }
-}
-
-/// The number in 32 bits, `NONE` where it is too large.
-#[inline]
-pub fn narrow(number: usize) -> u32 {
-    if number < NONE as usize {
-        number as u32
-    } else {
-        NONE
-    }
-}
 
 /// Lists of numbers, one behind the other.
 #[derive(Drop)]
@@ -75,7 +49,7 @@ impl Groups {
 
     /// The list at hand ends.
     pub fn close(&mut self) -> Result<(), OutOfMemory> {
-        self.ends.push(narrow(self.members.len()))?;
+        self.ends.push(short(self.members.len()))?;
         Ok(())
     }
 
@@ -90,21 +64,21 @@ impl Groups {
         if group == 0 {
             0
         } else {
-            at(&self.ends, group - 1, 0) as usize
+            item(&self.ends, group - 1, 0) as usize
         }
     }
 
     /// The number at this place in all lists, one behind the other.
     #[inline]
     pub fn member(&self, place: usize) -> u32 {
-        at(&self.members, place, NONE)
+        item(&self.members, place, NONE)
     }
 
     /// The numbers of this list.
     #[inline]
     pub fn of(&self, group: usize) -> &[u32] {
         let start = self.start(group);
-        let end = at(&self.ends, group, 0) as usize;
+        let end = item(&self.ends, group, 0) as usize;
         if start <= end && end <= self.members.len() {
             &self.members[start..end]
         } else {
@@ -114,16 +88,16 @@ impl Groups {
 
     /// Writes at the place that the cursor of this list names, and moves the cursor on.
     pub fn write(&mut self, cursors: &mut [u32], group: usize, member: u32) {
-        let cursor = at(cursors, group, NONE);
-        put(&mut self.members, cursor as usize, member);
-        put(cursors, group, cursor.saturating_add(1));
+        let cursor = item(cursors, group, NONE);
+        set_at(&mut self.members, cursor as usize, member);
+        set_at(cursors, group, cursor.saturating_add(1));
     }
 
     /// Where each list begins.
     pub fn cursors(&self, alloc: Global) -> Result<Vec<u32>, OutOfMemory> {
         let mut cursors = Vec::new(alloc);
         for group in 0..self.ends.len() {
-            cursors.push(narrow(self.start(group)))?;
+            cursors.push(short(self.start(group)))?;
         }
         Ok(cursors)
     }

@@ -3,12 +3,13 @@
 //! They are found by a walk over riders, rows with these, and the vehicles that serve the riders of such
 //! rows. It begins at a rider who is left out, or at a vehicle with regret.
 
-use crate::plans::choices::Choices;
-use crate::plans::flat::{at, narrow, put};
-use crate::plans::present::Present;
-use crate::plans::regrets::Regrets;
-use draft_trees::Draws;
+use crate::choices::Choices;
+use crate::present::Present;
+use crate::regrets::Regrets;
 use pool_base::OutOfMemory;
+use row_tables::Draws;
+use row_tables::fixed_point::{item, set_at};
+use row_tables::lists::short;
 use std::alloc::Global;
 
 /// A walk, and the work space for the next one.
@@ -79,7 +80,7 @@ impl Neighbourhood {
     ) -> Result<(), OutOfMemory> {
         let left = left_rider(regrets, present, draws);
         if let Some(rider) = left {
-            self.frontier.push(narrow(rider))?;
+            self.frontier.push(short(rider))?;
         }
         if left.is_none() || draws.below(3) == 0 {
             self.add(regrets, present, regretted(regrets, present, draws))?;
@@ -99,7 +100,7 @@ impl Neighbourhood {
             let vehicle = draws.below(regrets.vehicle_count());
             return self.add(regrets, present, vehicle);
         }
-        let rider = at(&self.frontier, draws.below(self.frontier.len()), 0) as usize;
+        let rider = item(&self.frontier, draws.below(self.frontier.len()), 0) as usize;
         let places = regrets.with(rider);
         if places.is_empty() {
             return Ok(());
@@ -109,7 +110,7 @@ impl Neighbourhood {
             .saturating_add(4)
             .min(places.len());
         let most = draws.below(most).saturating_add(1);
-        let place = at(places, draws.below(most), 0) as usize;
+        let place = item(places, draws.below(most), 0) as usize;
         self.add(regrets, present, regrets.vehicle(place))?;
         for rider in regrets.riders(place) {
             match present.server(*rider as usize) {
@@ -131,12 +132,12 @@ impl Neighbourhood {
         present: &Present,
         vehicle: usize,
     ) -> Result<(), OutOfMemory> {
-        if at(&self.is_in, vehicle, true) {
+        if item(&self.is_in, vehicle, true) {
             return Ok(());
         }
         if let Some(place) = present.place(vehicle) {
-            put(&mut self.is_in, vehicle, true);
-            self.vehicles.push(narrow(vehicle))?;
+            set_at(&mut self.is_in, vehicle, true);
+            self.vehicles.push(short(vehicle))?;
             for rider in regrets.riders(place) {
                 self.frontier.push(*rider)?;
             }

@@ -7,6 +7,7 @@
 pub const ONE: i64 = 1 << 32;
 
 /// The item at this place, and this one where there is none.
+#[inline]
 pub fn item<T: Copy>(items: &[T], place: usize, other: T) -> T {
     if place < items.len() {
         items[place]
@@ -16,6 +17,7 @@ pub fn item<T: Copy>(items: &[T], place: usize, other: T) -> T {
 }
 
 /// The items from one place to another, and none where these aren't places.
+#[inline]
 pub fn part<T>(items: &[T], from: usize, to: usize) -> &[T] {
     if from <= to && to <= items.len() {
         &items[from..to]
@@ -25,11 +27,13 @@ pub fn part<T>(items: &[T], from: usize, to: usize) -> &[T] {
 }
 
 /// The number at this place, 0 where there is none.
+#[inline]
 pub fn at(numbers: &[i64], place: usize) -> i64 {
     item(numbers, place, 0)
 }
 
 /// Adds to the number at this place, if there is one.
+#[inline]
 pub fn add_at(numbers: &mut [i64], place: usize, more: i64) {
     if place < numbers.len() {
         numbers[place] = numbers[place].wrapping_add(more);
@@ -37,6 +41,7 @@ pub fn add_at(numbers: &mut [i64], place: usize, more: i64) {
 }
 
 /// Writes the item at this place, if there is one.
+#[inline]
 pub fn set_at<T: Copy>(items: &mut [T], place: usize, item: T) {
     if place < items.len() {
         items[place] = item;
@@ -44,11 +49,13 @@ pub fn set_at<T: Copy>(items: &mut [T], place: usize, item: T) {
 }
 
 /// Whether a number is no more than what rounding leaves of 0.
+#[inline]
 pub fn is_noise(number: i64) -> bool {
     -64 < number && number < 64
 }
 
 /// The product of a number and one in units of 2^-32.
+#[inline]
 pub fn times(number: i64, factor: i64) -> i64 {
     if factor == ONE {
         return number;
@@ -58,6 +65,7 @@ pub fn times(number: i64, factor: i64) -> i64 {
 }
 
 /// The quotient of two numbers in units of 2^-32, 0 where the divisor is.
+#[inline]
 pub fn quotient(number: i64, divisor: i64) -> i64 {
     if divisor == ONE || number == 0 {
         return number;
@@ -70,6 +78,7 @@ pub fn quotient(number: i64, divisor: i64) -> i64 {
 }
 
 /// Whether the quotient of a number and a divisor above 0 is greater than this.
+#[inline]
 pub fn is_quotient_above(number: i64, divisor: i64, bound: i64) -> bool {
     let wide = i128::from(number).wrapping_mul(i128::from(ONE));
     let next = i128::from(bound).wrapping_add(1);
@@ -77,6 +86,7 @@ pub fn is_quotient_above(number: i64, divisor: i64, bound: i64) -> bool {
 }
 
 /// The nearest number of 64 bits.
+#[inline]
 fn narrowed(value: i128) -> i64 {
     if value > i128::from(i64::MAX) {
         i64::MAX
@@ -88,6 +98,7 @@ fn narrowed(value: i128) -> i64 {
 }
 
 /// Takes from the numbers at these places the products of a factor with these values.
+#[inline]
 pub fn take_products(numbers: &mut [i64], places: &[u32], values: &[i64], factor: i64) {
     for (place, value) in places.iter().zip(values) {
         let place = *place as usize;
@@ -98,6 +109,7 @@ pub fn take_products(numbers: &mut [i64], places: &[u32], values: &[i64], factor
 }
 
 /// The number, less the products of these values with the numbers at these places.
+#[inline]
 pub fn less_products(number: i64, numbers: &[i64], places: &[u32], values: &[i64]) -> i64 {
     let mut rest = number;
     for (place, value) in places.iter().zip(values) {
@@ -110,6 +122,7 @@ pub fn less_products(number: i64, numbers: &[i64], places: &[u32], values: &[i64
 }
 
 /// Writes numbers over others, as far as both lists go.
+#[inline]
 pub fn copy(from: &[i64], to: &mut [i64]) {
     for (number, other) in to.iter_mut().zip(from) {
         *number = *other;

@@ -1,8 +1,8 @@
 //! How warm an annealing is, and which losses it takes.
 
-use crate::plans::flat::at;
-use draft_trees::Draws;
 use pool_base::OutOfMemory;
+use row_tables::Draws;
+use row_tables::fixed_point::item;
 use std::alloc::Global;
 
 /// How many chances there are: a drawn number below this picks one.
@@ -72,7 +72,7 @@ impl Chances {
         if loss <= 0 {
             return true;
         }
-        let logarithm = at(&self.logarithms, draws.below(CHANCES), 0);
+        let logarithm = item(&self.logarithms, draws.below(CHANCES), 0);
         loss.saturating_mul(1024 * 1024) <= temperature.saturating_mul(logarithm)
     }
 }

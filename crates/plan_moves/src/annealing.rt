@@ -4,13 +4,14 @@
 //! fall back to their rows without them, the riders whom the vehicle served before go where they are
 //! cheapest, and the vehicles that lost riders fill up. A move that isn't taken is undone by its log.
 
-use crate::plans::beside::Beside;
-use crate::plans::cooling::{Chances, Cooling};
-use crate::plans::flat::{Groups, NONE, at, narrow, put};
-use crate::plans::regrets::Regrets;
-use draft_trees::Draws;
-use linear_relaxation::RowTable;
+use crate::beside::Beside;
+use crate::cooling::{Chances, Cooling};
+use crate::groups::{Groups, NONE};
+use crate::regrets::Regrets;
 use pool_base::OutOfMemory;
+use row_tables::fixed_point::{item, set_at};
+use row_tables::lists::short;
+use row_tables::{Draws, RowTable};
 use std::alloc::Global;
 
 /// How many moves have the same temperature.
@@ -113,7 +114,7 @@ impl Annealing {
 
     /// Lists for each rider the rows of least regret of each vehicle.
     fn propose(&mut self, regrets: &Regrets, round: u32) -> Result<(), OutOfMemory> {
-        let width = at(&WIDTHS, (round % 3) as usize, 0);
+        let width = item(&WIDTHS, (round % 3) as usize, 0);
         self.proposals.clear();
         for rider in 0..regrets.rider_count() {
             for place in regrets.with(rider) {
@@ -134,10 +135,10 @@ impl Annealing {
         self.rows.as_mut_slice().fill(NONE);
         self.servers.as_mut_slice().fill(NONE);
         for (vehicle, row) in chosen.iter().enumerate() {
-            put(&mut self.best, vehicle, *row);
+            set_at(&mut self.best, vehicle, *row);
             if let Some(row) = *row {
-                put(&mut self.rows, vehicle, row);
-                self.serve(table, row, narrow(vehicle));
+                set_at(&mut self.rows, vehicle, row);
+                self.serve(table, row, short(vehicle));
             }
         }
     }
@@ -149,7 +150,7 @@ impl Annealing {
         self.dropped.clear();
         self.short.clear();
         let row = self.proposal();
-        if row == NONE || self.row_of(narrow(table.vehicle(row as usize))) == row {
+        if row == NONE || self.row_of(short(table.vehicle(row as usize))) == row {
             return Ok(());
         }
         let is_made = self.make(table, row)?;
@@ -171,19 +172,19 @@ impl Annealing {
         let mut rider = self.draws.below(riders);
         if self.draws.below(2) == 1 {
             for _ in 0..6 {
-                if at(&self.servers, rider, NONE) == NONE {
+                if item(&self.servers, rider, NONE) == NONE {
                     break;
                 }
                 rider = self.draws.below(riders);
             }
         }
         let rows = self.proposals.of(rider);
-        at(rows, self.draws.below(rows.len()), NONE)
+        item(rows, self.draws.below(rows.len()), NONE)
     }
 
     /// Gives the row to its vehicle and mends the rest, where others have rows without its riders.
     fn make(&mut self, table: &RowTable, row: u32) -> Result<bool, OutOfMemory> {
-        let vehicle = narrow(table.vehicle(row as usize));
+        let vehicle = short(table.vehicle(row as usize));
         let old = self.row_of(vehicle);
         if old == NONE || !self.take_riders(table, row, vehicle)? {
             return Ok(false);
@@ -200,7 +201,7 @@ impl Annealing {
 
     fn insert_dropped(&mut self, table: &RowTable) -> Result<(), OutOfMemory> {
         for place in 0..self.dropped.len() {
-            let rider = at(&self.dropped, place, NONE);
+            let rider = item(&self.dropped, place, NONE);
             if self.server_of(rider) == NONE {
                 self.insert(table, rider)?;
             }
@@ -210,7 +211,7 @@ impl Annealing {
 
     fn fill_short(&mut self, table: &RowTable) -> Result<(), OutOfMemory> {
         for place in 0..self.short.len() {
-            let server = at(&self.short, place, NONE);
+            let server = item(&self.short, place, NONE);
             self.fill(table, server)?;
         }
         Ok(())
@@ -254,7 +255,7 @@ impl Annealing {
             }
         }
         if best != NONE {
-            self.set_row(table, narrow(table.vehicle(best as usize)), best)?;
+            self.set_row(table, short(table.vehicle(best as usize)), best)?;
         }
         Ok(())
     }
@@ -291,11 +292,11 @@ impl Annealing {
     }
 
     fn row_of(&self, vehicle: u32) -> u32 {
-        at(&self.rows, vehicle as usize, NONE)
+        item(&self.rows, vehicle as usize, NONE)
     }
 
     fn server_of(&self, rider: u32) -> u32 {
-        at(&self.servers, rider as usize, NONE)
+        item(&self.servers, rider as usize, NONE)
     }
 
     /// Gives the vehicle this row.
@@ -303,7 +304,7 @@ impl Annealing {
         let old = self.row_of(vehicle);
         self.log.push(Step { vehicle, row: old })?;
         self.serve(table, old, NONE);
-        put(&mut self.rows, vehicle as usize, row);
+        set_at(&mut self.rows, vehicle as usize, row);
         self.serve(table, row, vehicle);
         self.change = self
             .change
@@ -315,7 +316,7 @@ impl Annealing {
     /// Writes who serves the riders of this row.
     fn serve(&mut self, table: &RowTable, row: u32, server: u32) {
         for rider in table.riders_of(row as usize) {
-            put(&mut self.servers, *rider as usize, server);
+            set_at(&mut self.servers, *rider as usize, server);
         }
     }
 
@@ -325,7 +326,7 @@ impl Annealing {
             self.least = self.above;
             for (vehicle, row) in self.rows.iter().enumerate() {
                 let row = if *row == NONE { None } else { Some(*row) };
-                put(&mut self.best, vehicle, row);
+                set_at(&mut self.best, vehicle, row);
             }
         }
     }
@@ -336,7 +337,7 @@ impl Annealing {
             let step = self.step_before(later);
             let row = self.row_of(step.vehicle);
             self.serve(table, row, NONE);
-            put(&mut self.rows, step.vehicle as usize, step.row);
+            set_at(&mut self.rows, step.vehicle as usize, step.row);
         }
         for later in 0..self.log.len() {
             let step = self.step_before(later);
@@ -352,7 +353,7 @@ impl Annealing {
             row: NONE,
         };
         let place = self.log.len().saturating_sub(later).saturating_sub(1);
-        at(&self.log, place, nothing)
+        item(&self.log, place, nothing)
     }
 }
 
