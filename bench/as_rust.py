@@ -14,7 +14,7 @@ import re
 import sys
 
 TOP = os.path.join(os.path.dirname(os.path.abspath(__file__)), "..", "crates")
-CRATES = ["plan_rules", "linear_relaxation", "dual_bound", "draft_trees", "plan_drafts", "assignment_search"]
+CRATES = ["plan_rules", "row_tables", "linear_relaxation", "dual_bound", "draft_trees", "plan_moves", "plan_drafts", "assignment_search"]
 SHIMS = ["pool_base", "arrayvec", "rand_xoshiro"]
 
 POOL_BASE = """
