@@ -1,4 +1,7 @@
-use crate::*;
+use pool_io::{
+    MemorySink, MemorySource, PlainSink, PlainSource, ReadAll, Sink, StdSink, StdSource, WriteAll,
+    read_all, rows, write_all,
+};
 use std::alloc::{AllocError, Global};
 use std::test::Fail;
 

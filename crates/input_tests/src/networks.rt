@@ -1,6 +1,6 @@
-use crate::*;
-use pool_base::{NodeId, put_number};
+use pool_base::NodeId;
 use pool_io::rows;
+use road_network::{Hop, Network, NetworkFault, read_network};
 use std::alloc::Global;
 use std::process::Abort;
 use std::test::Fail;
