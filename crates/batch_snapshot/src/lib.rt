@@ -11,8 +11,6 @@ mod points;
 mod promise;
 mod rider;
 mod snapshot;
-#[cfg(test)]
-mod tests;
 mod vehicle;
 
 pub use fleet::Fleet;

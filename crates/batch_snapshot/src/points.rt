@@ -77,7 +77,7 @@ fn name_vehicles(nodes: &mut Vec<NodeId>, vehicles: &[Vehicle]) -> Result<(), Ou
     Ok(())
 }
 
-pub(crate) fn name_vehicle(nodes: &mut Vec<NodeId>, vehicle: &Vehicle) -> Result<(), OutOfMemory>
+fn name_vehicle(nodes: &mut Vec<NodeId>, vehicle: &Vehicle) -> Result<(), OutOfMemory>
     ensures nodes { OnOk result (nodes.new.items ≡ nodes.old.items ++ vehicle_nodes vehicle.now) }
     ensures most { OnOk result (length nodes.new.items ≤ length nodes.old.items + 21) }
 {
@@ -101,7 +101,7 @@ fn name_riders(nodes: &mut Vec<NodeId>, riders: &[Rider]) -> Result<(), OutOfMem
 }
 
 /// Sorts the nodes and drops what stands twice.
-pub(crate) fn make_distinct(nodes: &mut Vec<NodeId>)
+fn make_distinct(nodes: &mut Vec<NodeId>)
     ensures rise { IsStrictlyIncreasing nodes.new.items }
     ensures same { (node : ℕ) → Contains nodes.new.items node ↔ Contains nodes.old.items node }
     ensures most { length nodes.new.items ≤ length nodes.old.items }

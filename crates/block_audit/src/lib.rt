@@ -9,8 +9,6 @@ mod bare;
 mod judged;
 mod laws;
 mod refusal;
-#[cfg(test)]
-mod tests;
 
 pub use audit::{AuditedBlock, audit_block};
 pub use laws::{

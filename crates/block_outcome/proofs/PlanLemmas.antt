@@ -12,8 +12,8 @@ use Rattle.report_lines.specs.declared.block_line.BlockLine.TheVariants.{Lapsed,
 use Rattle.request_book.specs.declared.outcome.Answer.TheVariants.{Planned as Plan}
 use Rattle.request_book.specs.declared.outcome.Planned.{Planned}
 use Rattle.request_book.specs.declared.outcome.RowLine.{RowLine}
-use Rattle.block_outcome.specs.work.Exact.{IsEnded, next_place, AreOnlyGraphs, IsBehindChoice, HasNoCounts, TellsNoPlan}
-use Rattle.block_outcome.specs.work.Parts.{graphs_lines, choice_lines, counts_lines}
+use Rattle.block_outcome.specs.work.Exact.{IsEnded, next_place, AreOnlyGraphs, IsBehindChoice, TellsNoTail, TellsNoPlan}
+use Rattle.block_outcome.specs.work.Parts.{graphs_lines, choice_lines, counts_lines, tail_lines}
 use Rattle.block_outcome.specs.declared.planning.Graphs.{Graphs}
 use Rattle.block_outcome.specs.declared.planning.Choice.{Choice}
 use Rattle.block_outcome.specs.declared.counts.Counts.{Counts}
@@ -118,24 +118,23 @@ known g lines chosen counted only after plan trips e =
     let a = only (graphs_in plan) (choice_lines (choice_in plan) ++ tail_of plan) trips (next_choice (choice_in plan) (tail_of plan) (omega arith)) (plan_parted plan lines e) in
     record { rows = a.0; tail = after (choice_in plan) (tail_of plan) (omega arith) a.1 }
 
-pub no_plan_counts : (g : Graphs) (lines chosen counted : List BlockLine) → AreOnlyGraphs lines g chosen → IsBehindChoice chosen counted → HasNoCounts counted → TellsNoPlan lines
-no_plan_counts g lines chosen counted only after none plan trips e =
-    none (counts_in plan) (map (tree_line plan.rows) plan.tree ++ End ∷ []) (known g lines chosen counted only after plan trips e).tail
+-- where no numbers and no tree are behind the choice, no plan has these lines
+pub no_plan_tail : (g : Graphs) (lines chosen counted : List BlockLine) → AreOnlyGraphs lines g chosen → IsBehindChoice chosen counted → TellsNoTail g.rows counted → TellsNoPlan lines
+no_plan_tail g lines chosen counted only after none plan trips e =
+    let k = known g lines chosen counted only after plan trips e in
+    none (counts_in plan) plan.tree refl (k.tail ∙ ap (λ t. counts_lines (counts_in plan) ++ (t ++ End ∷ [])) (sym (same_tree g.rows plan.rows k.rows plan.tree)))
 
 abbrev nodes_told : ℕ → List BlockLine → ℕ
 nodes_told d (_ ∷ _ ∷ Nodes n ∷ _) = n
 nodes_told d _ = d
 
--- such a plan's tree is told whole, and has the number of nodes that is told
-pub plan_known : (g : Graphs) (lines chosen counted : List BlockLine) → AreOnlyGraphs lines g chosen → IsBehindChoice chosen counted
-    → (counts : Counts) (nodes : List Node) (drawn rest : List BlockLine) → counted ≡ counts_lines counts ++ drawn → drawn ≡ map (tree_line g.rows) nodes ++ rest → IsEnded (tree_line g.rows) (λ _. true) rest
-    → (plan : Planned) → All (λ row. length row.riders.items ≤ 6) plan.rows → lines ≡ lines_of_answer (Plan plan) ++ End ∷ [] → (rest ≡ End ∷ []) × (length nodes ≡ counts.nodes)
-plan_known g lines chosen counted only after counts nodes drawn rest n t ended plan trips e =
-    let k = known g lines chosen counted only after plan trips e in
-    let same : counts_lines counts ++ drawn ≡ tail_of plan = sym n ∙ k.tail in
-    let size : counts.nodes ≡ length plan.tree = ap (nodes_told 0) same in
-    let told : drawn ≡ map (tree_line plan.rows) plan.tree ++ End ∷ [] = ap (λ l. behind (behind (behind l))) same in
-    let tree : drawn ≡ map (tree_line g.rows) plan.tree ++ End ∷ [] = told ∙ ap (λ l. l ++ End ∷ []) (sym (same_tree g.rows plan.rows k.rows plan.tree)) in
-    let s = step (tree_line g.rows) (λ _. true) 14 (tree_place g.rows) nodes plan.tree drawn rest (End ∷ []) t ended (λ i d w. refl) (omega arith) tree in
-    let long : length nodes ≡ length plan.tree = sym (length-map nodes (tree_line g.rows)) ∙ ap length s.0 ∙ length-map plan.tree (tree_line g.rows) in
+-- where numbers and nodes stand first, a tree with these lines is told whole, and has the number of nodes that is told
+pub tail_known : (rows : List RowLine) (counts : Counts) (nodes : List Node) (lines drawn rest : List BlockLine) → lines ≡ counts_lines counts ++ drawn → drawn ≡ map (tree_line rows) nodes ++ rest → IsEnded (tree_line rows) (λ _. true) rest
+    → (other : Counts) (tree : List Node) → other.nodes ≡ length tree → lines ≡ tail_lines rows other tree → (rest ≡ End ∷ []) × (length nodes ≡ counts.nodes)
+tail_known rows counts nodes lines drawn rest n t ended other tree h e =
+    let same : counts_lines counts ++ drawn ≡ tail_lines rows other tree = sym n ∙ e in
+    let size : counts.nodes ≡ length tree = ap (nodes_told 0) same ∙ h in
+    let told : drawn ≡ map (tree_line rows) tree ++ End ∷ [] = ap (λ l. behind (behind (behind l))) same in
+    let s = step (tree_line rows) (λ _. true) 14 (tree_place rows) nodes tree drawn rest (End ∷ []) t ended (λ i d w. refl) (omega arith) told in
+    let long : length nodes ≡ length tree = sym (length-map nodes (tree_line rows)) ∙ ap length s.0 ∙ length-map tree (tree_line rows) in
     (s.1, long ∙ sym size)

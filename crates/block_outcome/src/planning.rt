@@ -1,11 +1,11 @@
-ghost use Rattle.std.specs.Prelude.{◌≡◌, ◌++◌, ◌∷◌, [], IfOk, IfSome, IfNone};
+ghost use Rattle.std.specs.Prelude.{◌≡◌, ◌++◌, ◌∷◌, [], IfOk, IfSome, IfNone, length};
 ghost use Rattle.std.specs.List.{All};
 ghost use Rattle.report_lines.specs.Outcome.{lines_of_answer};
 ghost use Rattle.report_lines.specs.declared.block_line.BlockLine.TheVariants.{End as EndLine};
 ghost use Rattle.request_book.specs.declared.outcome.Answer.TheVariants.{Planned as Plan};
 ghost use Rattle.block_outcome.specs.Told.{IsNumbered};
-ghost use Rattle.block_outcome.specs.work.Exact.{AreOnlyGraphs, IsBehindChoice, TellsNoPlan};
-ghost use Rattle.block_outcome.specs.work.Parts.{graphs_lines, choice_lines, planned_of};
+ghost use Rattle.block_outcome.specs.work.Exact.{AreOnlyGraphs, IsBehindChoice, TellsNoTail, TellsNoPlan};
+ghost use Rattle.block_outcome.specs.work.Parts.{graphs_lines, choice_lines, tail_lines, planned_of};
 
 use crate::counts::{Counts, counts_first, is_end};
 use crate::kinds::{Alone, Lapsed, Late, Move, Out, Row, Shared, Trip};
@@ -47,17 +47,44 @@ pub(crate) fn plan_told(
 {
     let (graphs, chosen) = graphs_first(alloc, lines)?;
     let (choice, counted) = choice_first(alloc, chosen)?;
-    let Some((counts, drawn)) = counts_first(counted) else {
+    match tail_told(alloc, graphs.rows.as_slice(), ids, counted) {
+        Ok(Some((counts, nodes))) => Ok(Some(planned(graphs, choice, counts, nodes))),
+        Ok(None) => {
+            drop(graphs);
+            drop(choice);
+            Ok(None)
+        }
+        Err(fault) => {
+            drop(graphs);
+            drop(choice);
+            Err(fault)
+        }
+    }
+}
+
+/// The numbers and the tree that these lines tell up to the block's end.
+fn tail_told(
+    alloc: Global,
+    rows: &[RowLine],
+    ids: &[VehicleId],
+    lines: &[BlockLine],
+) -> Result<Option<(Counts, Vec<Node>)>, OutOfMemory>
+    ensures lines { IfOk result (λ told. IfSome told (λ t. lines.now ≡ tail_lines rows.now t.0 t.1.items)) }
+    ensures size { IfOk result (λ told. IfSome told (λ t. t.0.nodes ≡ length t.1.items)) }
+    ensures numbered { IfOk result (λ told. IfSome told (λ t. All (IsNumbered ids.now rows.now) t.1.items)) }
+    ensures none { IfOk result (λ told. IfNone told (TellsNoTail rows.now lines.now)) }
+{
+    let Some((counts, drawn)) = counts_first(lines) else {
         return Ok(None);
     };
-    let (nodes, rest) = nodes_first(alloc, graphs.rows.as_slice(), ids, drawn)?;
+    let (nodes, rest) = nodes_first(alloc, rows, ids, drawn)?;
     if !is_end(rest) {
         return Ok(None);
     }
     if nodes.len() as u64 != counts.nodes {
         return Ok(None);
     }
-    Ok(Some(planned(graphs, choice, counts, nodes)))
+    Ok(Some((counts, nodes)))
 }
 
 /// The graphs that stand first, and the lines behind them.

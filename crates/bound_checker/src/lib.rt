@@ -6,8 +6,6 @@
 
 mod checker;
 mod fault;
-#[cfg(test)]
-mod tests;
 mod walk;
 
 pub use checker::check;

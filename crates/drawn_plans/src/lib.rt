@@ -13,6 +13,8 @@ mod bounding;
 #[cfg(test)]
 mod checking;
 #[cfg(test)]
+mod checking_trees;
+#[cfg(test)]
 mod drafting;
 #[cfg(test)]
 mod drawn_trees;
@@ -30,6 +32,8 @@ mod plain_bounds;
 mod plain_rules;
 #[cfg(test)]
 mod plain_tree;
+#[cfg(test)]
+mod planning;
 #[cfg(test)]
 mod relaxing;
 #[cfg(test)]

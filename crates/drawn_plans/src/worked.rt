@@ -1,11 +1,11 @@
 //! Two worked graphs, and the bounds that they show.
 use crate::draws::trip_of;
 use crate::judging_bounds::{told_first_fit, told_value};
-use plan_rules::{TripGraph, TripRow};
-use std::alloc::Global;
+use plan_rules::{GraphFault, TripGraph, TripRow};
+use std::alloc::{AllocError, Global};
 use std::test::Fail;
 
-fn row(vehicle: usize, riders: &[usize], cost: u64) -> TripRow {
+pub fn row(vehicle: usize, riders: &[usize], cost: u64) -> TripRow {
     TripRow {
         vehicle,
         riders: trip_of(riders),
@@ -14,17 +14,33 @@ fn row(vehicle: usize, riders: &[usize], cost: u64) -> TripRow {
 }
 
 /// Three vehicles, each with an empty row and a pair; each two pairs share a rider.
-pub fn three_pairs(alloc: Global) -> Result<TripGraph, Fail> {
-    let rows = vec![in alloc;
+pub fn pair_rows(alloc: Global) -> Result<Vec<TripRow>, AllocError> {
+    Ok(vec![in alloc;
         row(0, &[], 0),
         row(0, &[0, 1], 10),
         row(1, &[], 0),
         row(1, &[1, 2], 10),
         row(2, &[], 0),
         row(2, &[0, 2], 10),
-    ]?;
+    ]?)
+}
+
+/// The graph of three vehicles, three riders and these rows, if there are few.
+pub fn graph_of(
+    alloc: Global,
+    rows: Vec<TripRow>,
+    held: Vec<Option<u32>>,
+) -> Result<TripGraph, GraphFault> {
+    if rows.len() > 100 {
+        return Err(GraphFault::OutOfMemory);
+    }
+    TripGraph::new(alloc, 3, 3, 100, rows, held)
+}
+
+/// The graph of the pairs, in which each vehicle holds nobody.
+pub fn three_pairs(alloc: Global) -> Result<TripGraph, Fail> {
     let held = vec![in alloc; Some(0), Some(2), Some(4)]?;
-    Ok(TripGraph::new(alloc, 3, 3, 100, rows, held)?)
+    Ok(graph_of(alloc, pair_rows(alloc)?, held)?)
 }
 
 /// A vehicle that holds rider 0, and one that could fetch rider 2.

@@ -12,8 +12,6 @@ mod laws;
 mod next;
 mod refusal;
 mod reply;
-#[cfg(test)]
-mod tests;
 
 pub use laws::a_line_is_of_one_kind;
 pub use next::{NextLine, read_next};

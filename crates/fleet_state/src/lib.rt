@@ -12,6 +12,3 @@ mod reading;
 pub use batch_snapshot::Fleet;
 pub use fault::FleetFault;
 pub use reading::{HEADER, read_fleet};
-
-#[cfg(test)]
-mod tests;

@@ -6,8 +6,6 @@
 
 mod progress;
 mod stand;
-#[cfg(test)]
-mod tests;
 
 pub use progress::Progress;
 pub use stand::LaneStand;

@@ -13,6 +13,3 @@ mod script;
 
 pub use made::{Made, make};
 pub use row::Field;
-
-#[cfg(test)]
-mod tests;

@@ -16,6 +16,3 @@ pub fn made_inputs_are_accepted(shape: &LoadShape)
 {
     let _ = shape;
 }
-
-#[cfg(test)]
-mod tests;

@@ -21,8 +21,6 @@ mod row;
 mod row_index;
 mod row_order;
 mod rules;
-#[cfg(test)]
-mod tests;
 mod tree;
 mod value;
 

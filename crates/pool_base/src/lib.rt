@@ -31,6 +31,3 @@ pub use steps::Steps;
 pub use times::{Times, TimesFault};
 pub use vehicle_id::VehicleId;
 pub use which::Which;
-
-#[cfg(test)]
-mod tests;

@@ -33,6 +33,3 @@ pub use std_sink::StdSink;
 pub use std_source::StdSource;
 pub use table::Rows;
 pub use writing::{WriteAll, write_all};
-
-#[cfg(test)]
-mod tests;

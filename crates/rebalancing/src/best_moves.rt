@@ -108,7 +108,14 @@ fn negated(alloc: Global, prices: &[u64]) -> Result<Vec<i64>, OutOfMemory>
 {
     let mut potentials = Vec::with_capacity(alloc, prices.len())?;
     for &price in prices {
-        potentials.push(-(price as i64))?;
+        potentials.push(below_zero(price))?;
     }
     Ok(potentials)
+}
+
+fn below_zero(price: u64) -> i64
+    requires { price < 2 ^ 63 }
+    ensures { result ≡ neg_ℤ (pos price) }
+{
+    -(price as i64)
 }

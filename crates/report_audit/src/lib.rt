@@ -17,8 +17,6 @@ mod round;
 mod rounds;
 mod setup;
 mod stop;
-#[cfg(test)]
-mod tests;
 
 pub use fault::{AuditFault, Audited};
 pub use report::audit;

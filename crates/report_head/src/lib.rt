@@ -8,8 +8,6 @@ mod fault;
 mod head;
 mod lines;
 mod settings;
-#[cfg(test)]
-mod tests;
 
 pub use fault::HeadFault;
 pub use head::read_head;

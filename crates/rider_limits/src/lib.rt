@@ -17,6 +17,3 @@ pub use reading::read_words;
 pub use settings::{Mode, Settings, TimesWay};
 pub use word_fault::WordFault;
 pub use words::value_of;
-
-#[cfg(test)]
-mod tests;

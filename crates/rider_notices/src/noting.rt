@@ -26,9 +26,23 @@ pub fn notices_of(
     ensures { IfOk result (λ told. told.items ≡ notices network.now.nodes wait journal.now) }
 {
     let mut told = Vec::new(alloc);
-    let mut replay = Replay::of(alloc, network, wait, &journal.base)?;
-    note_entries(&mut told, &mut replay, journal.entries.as_slice())?;
+    note_journal(alloc, &mut told, journal, network, wait)?;
     Ok(told)
+}
+
+/// Notes what a journal tells.
+fn note_journal(
+    alloc: Global,
+    told: &mut Vec<Notice>,
+    journal: &Journal,
+    network: &Network,
+    wait: u32,
+) -> Result<(), OutOfMemory>
+    requires { IsConsistent journal.now.base }
+    ensures { OnOk result (told.new.items ≡ told.old.items ++ notices network.now.nodes wait journal.now) }
+{
+    let mut replay = Replay::of(alloc, network, wait, &journal.base)?;
+    note_entries(told, &mut replay, journal.entries.as_slice())
 }
 
 /// Notes what entries tell, as a replay runs them from where it stands.

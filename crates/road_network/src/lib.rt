@@ -16,6 +16,3 @@ pub use fault::NetworkFault;
 pub use hop::Hop;
 pub use network::Network;
 pub use reading::read_network;
-
-#[cfg(test)]
-mod tests;

@@ -3,6 +3,7 @@ ghost use Rattle.pool_io.specs.Table.{record_at};
 ghost use Rattle.script_rows.specs.Word.{columns_of};
 ghost use Rattle.script_rows.specs.work.Row.{IsScriptRow};
 ghost use Rattle.script_rows.specs.Line.{line_in};
+ghost use Rattle.script_rows.specs.Round.{empty_round, with_command};
 ghost use Rattle.script_rows.specs.work.Building.{IsBehind, joins, with_line};
 ghost use Rattle.script_rows.specs.Script.{script_of};
 
@@ -41,9 +42,11 @@ fn read_line(
     };
     let command = command(rows, row, version, word)?;
     if !leaves_empty(rows, row, version, word) {
+        drop(command);
         return Err(ScriptFault::ExtraField { row: place });
     }
     if word == Word::Seal && lane != 0 {
+        drop(command);
         return Err(ScriptFault::SealLane { row: place });
     }
     Ok(Line {
@@ -70,19 +73,34 @@ fn add_line(alloc: Global, rounds: &mut Vec<Round>, line: Line) -> Result<(), Sc
     ensures added { OnOk result (rounds.new.items ≡ with_line rounds.old.items line) }
     ensures refused { IfErr result (λ fault. fault ≡ ScriptFault.OutOfMemory) }
 {
-    let Line {
-        round: number,
-        lane,
-        command,
-    } = line;
-    if joins(rounds, number) {
+    if joins(rounds, line.round) {
         let last = rounds.len() - 1;
-        return rounds[last].add(lane, command);
+        return rounds[last].add(line.lane, line.command);
     }
-    let mut round = Round::new(alloc, number)?;
-    round.add(lane, command)?;
+    let round = begun(alloc, line)?;
     rounds.push(round)?;
     Ok(())
+}
+
+/// A new round with a row's command.
+fn begun(alloc: Global, line: Line) -> Result<Round, ScriptFault>
+    requires { IsBehind 0 line }
+    ensures begun { IfOk result (λ round. round ≡ with_command (empty_round line.round) line.lane line.command) }
+    ensures refused { IfErr result (λ fault. fault ≡ ScriptFault.OutOfMemory) }
+{
+    match Round::new(alloc, line.round) {
+        Ok(mut round) => match round.add(line.lane, line.command) {
+            Ok(()) => Ok(round),
+            Err(fault) => {
+                drop(round);
+                Err(fault)
+            }
+        },
+        Err(fault) => {
+            drop(line);
+            Err(fault)
+        }
+    }
 }
 
 /// The script that rows give: of the first version without a party, of the second with one.

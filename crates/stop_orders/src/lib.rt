@@ -39,6 +39,3 @@ pub use task::Task;
 pub use trip::task_of;
 pub use validity::is_valid;
 pub use visit::Visit;
-
-#[cfg(test)]
-mod tests;

@@ -1,6 +1,6 @@
-//! Walks of worked and drawn networks, and routes of worked tasks.
+//! Walks of worked and drawn networks, and orders and routes of worked tasks.
 //!
-//! It has tests alone, of `travel_times`, `hub_labels` and `small_routing`, so that a crate under test is proved once
+//! It has tests alone, of `travel_times`, `hub_labels`, `stop_orders` and `small_routing`, so that a crate under test is proved once
 //! and not a second time with its tests.
 #![tactic(auto)]
 
@@ -8,6 +8,8 @@
 mod labelling;
 #[cfg(test)]
 mod networks;
+#[cfg(test)]
+mod orders;
 #[cfg(test)]
 mod routing;
 #[cfg(test)]

@@ -1,13 +1,14 @@
 -- That no other parts have the same lines.
 use Rattle.std.specs.Prelude.{◌≡◌, ◌≢◌, ℕ, ◌<◌, ◌≤◌, Bool, true, List, [], ◌∷◌, ◌++◌, map, nat_le, length}
 use Rattle.std.specs.List.{All}
+use Rattle.plan_rules.specs.declared.node.Node.{Node}
 use Rattle.report_lines.specs.Outcome.{row_line, lines_of_answer}
 use Rattle.report_lines.specs.declared.block_line.BlockLine.TheVariants.{End}
 use Rattle.request_book.specs.declared.outcome.Answer.{Answer}
 use Rattle.request_book.specs.declared.outcome.Answer.TheVariants.{Planned as Plan}
 use Rattle.request_book.specs.declared.outcome.Planned.{Planned}
 use Rattle.block_outcome.specs.Told.{HasTrips}
-use Rattle.block_outcome.specs.work.Parts.{graphs_lines, choice_lines, counts_lines}
+use Rattle.block_outcome.specs.work.Parts.{graphs_lines, choice_lines, counts_lines, tail_lines}
 use Rattle.block_outcome.specs.declared.planning.Graphs.{Graphs}
 use Rattle.block_outcome.specs.declared.planning.Choice.{Choice}
 use Rattle.block_outcome.specs.declared.counts.Counts.{Counts}
@@ -45,6 +46,10 @@ IsBehindChoice lines rest = (other : Choice) (s : List BlockLine) → 10 < next_
 -- no numbers stand first
 abbrev pub HasNoCounts : List BlockLine → Type 0
 HasNoCounts lines = (other : Counts) (s : List BlockLine) → lines ≢ counts_lines other ++ s
+
+-- the lines are those of no numbers and no tree of so many nodes up to the end
+abbrev pub TellsNoTail : List RowLine → List BlockLine → Type 0
+TellsNoTail rows lines = (other : Counts) (tree : List Node) → other.nodes ≡ length tree → lines ≢ tail_lines rows other tree
 
 -- the lines are those of no plan up to the end
 abbrev pub TellsNoPlan : List BlockLine → Type 0

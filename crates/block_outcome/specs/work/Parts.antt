@@ -3,7 +3,7 @@ use Rattle.std.specs.Prelude.{◌≡◌, ℕ, List, [], ◌∷◌, ◌++◌, map
 use Rattle.plan_rules.specs.declared.node.Node.{Node}
 use Rattle.report_lines.specs.Outcome.{row_line, tree_line}
 use Rattle.report_lines.specs.declared.block_line.BlockLine.{BlockLine}
-use Rattle.report_lines.specs.declared.block_line.BlockLine.TheVariants.{Lapsed, Late, Alone, Shared, Trip, Out, Move, Cost, Bound, Nodes}
+use Rattle.report_lines.specs.declared.block_line.BlockLine.TheVariants.{Lapsed, Late, Alone, Shared, Trip, Out, Move, Cost, Bound, Nodes, End}
 use Rattle.request_book.specs.declared.outcome.Planned.{Planned}
 use Rattle.request_book.specs.declared.outcome.RowLine.{RowLine}
 use Rattle.std.specs.List.{All}
@@ -24,6 +24,10 @@ choice_lines choice = map Trip choice.chosen ++ map Out choice.left ++ map Move 
 -- the plan's cost, its bound, and the size of the tree
 abbrev pub counts_lines : Counts → List BlockLine
 counts_lines counts = (Cost counts.cost ∷ []) ++ (Bound counts.bound ∷ []) ++ (Nodes counts.nodes ∷ [])
+
+-- these numbers, a tree's nodes and the end
+abbrev pub tail_lines : List RowLine → Counts → List Node → List BlockLine
+tail_lines rows counts nodes = counts_lines counts ++ (map (tree_line rows) nodes ++ End ∷ [])
 
 -- so many nodes stand first, each numbered, and the lines behind them
 pub record NodesSoFar (ids : List ℕ) (rows : List RowLine) (lines : List BlockLine) (nodes : List Node) (rest : List BlockLine) : Type 0 where

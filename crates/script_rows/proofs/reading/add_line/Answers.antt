@@ -1,6 +1,5 @@
 use Rattle.std.proofs.Common.{◌≡◌, ◌-◌, ◌++◌, [], ◌∷◌, true, false, length, set, sym, ap, ◌∙◌}
 use Rattle.std.proofs.lemmas.Result.{on_ok_weaker}
-use Rattle.script_rows.specs.Round.{with_command}
 use Rattle.script_rows.specs.work.Building.{joins}
 use Rattle.script_rows.proofs.ScriptLemmas.{with_line-begins, added_to_last}
 use Rattle.script_rows.proofs.reading.add_line.Goals as goal
@@ -24,5 +23,5 @@ returns-clause-added c =
     let apart : joins items line.round ≡ false =
     ap (λ rs. joins rs line.round) (sym c.deref.ensures.value) ∙ sym c.joins.ensures.value ∙ c.if-joins.false in
     c.in_ok-push.ensures.items
-    ∙ ap (λ r. items ++ r ∷ []) (c.in_ok-add.ensures.added ∙ ap (λ r. with_command r line.lane line.command) c.in_ok-round.ensures.empty)
+    ∙ ap (λ r. items ++ r ∷ []) c.in_ok-round.ensures.begun
     ∙ sym (with_line-begins items line apart)

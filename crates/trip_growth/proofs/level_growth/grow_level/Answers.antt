@@ -1,6 +1,6 @@
 use Rattle.std.proofs.Common.{◌-◌}
 use Rattle.pool_base.specs.Times.{point_count, travel_time}
-use Rattle.trip_growth.proofs.AllRows.{below_of_rows}
+use Rattle.trip_growth.proofs.AllRows.{below_of_rows, more_of_level}
 use Rattle.trip_growth.proofs.Rule.{rule_of, edge_of}
 use Rattle.trip_growth.proofs.level_growth.grow_level.Goals as goal
 
@@ -17,3 +17,7 @@ grow_size-requires-clause-can g c =
 pub grow_size-requires-clause-below : goal.grow_size-requires-clause-below
 grow_size-requires-clause-below g c =
     rw c.rows.ensures (below_of_rows (travel_time c.args.times.now) c.args.settled.now c.args.vehicle (c.args.level - 1) c.args.below.now c.requires.below)
+
+pub returns-clause-level : goal.returns-clause-level
+returns-clause-level g c =
+    more_of_level (travel_time c.args.times.now) c.args.settled.now c.args.vehicle c.args.level c.args.room (rw c.if-all.false at c.in_ok-all.ensures.answer)

@@ -80,3 +80,9 @@ returns-clause-steps g c =
     steps_so_far (travel_time c.args.times.now) c.args.settled.now c.args.vehicle c.loop-size.size c.loop-size.smaller.items c.loop-size.below c.loop-size.invariant.smaller c.loop-size.invariant.below
     c.args.trip c.args.room c.args.steps.now c.loop-size.steps (omega arith) (let fits = c.loop-size.invariant.room in omega arith)
     (let so_far = c.loop-size.invariant.cost in omega arith)
+
+pub returns-in_err-append-2-clause-steps : goal.returns-in_err-append-2-clause-steps
+returns-in_err-append-2-clause-steps g c =
+    steps_so_far (travel_time c.args.times.now) c.args.settled.now c.args.vehicle c.loop-size.size c.loop-size.smaller.items c.loop-size.below c.loop-size.invariant.smaller c.loop-size.invariant.below
+    c.args.trip c.args.room c.args.steps.now c.loop-size.steps (omega arith) (let fits = c.loop-size.invariant.room in omega arith)
+    (let so_far = c.loop-size.invariant.cost in omega arith)

@@ -1,4 +1,4 @@
-use Rattle.std.proofs.Common.{◌≡◌, ◌+◌, ◌<◌, ◌≤◌, [], ◌∷◌, ◌++◌, length, slice_index, set, refl, sym, ◌∙◌, ⊎_elim, arith}
+use Rattle.std.proofs.Common.{◌≡◌, ◌+◌, ◌<◌, ◌≤◌, [], ◌∷◌, ◌++◌, length, slice_index, set, refl, sym, ap, ◌∙◌, ⊎_elim, arith}
 use Rattle.std.proofs.lemmas.List.{with_items_is, get_or_read, get_or_append_left, get_or_push}
 use Rattle.rebalancing.specs.work.Prices.{weight_in}
 use Rattle.rebalancing.specs.work.Relaxation.{Relaxes, IsCheaper}
@@ -67,3 +67,21 @@ returns-clause-tree c =
           (IsReached-more priced tree.grown tree.reached tree.cheapest c.requires.within c.requires.outside c.requires.tight c.requires.matched ev c.row.ensures.length c.row.ensures.weights relaxes);
       cheapest = rw vehicles cheapest;
     }
+
+pub overflow_add-index : goal.overflow_add-index
+overflow_add-index c =
+    let s = c.args.self.now in
+    let priced = c.requires.priced in
+    let t = c.requires.tree in
+    let v = c.index-vehicle.result.now in
+    let ev : slice_index s.vehicle_of.items c.args.rider ≡ v = sym (get_or_read s.vehicle_of.items c.args.rider v (rw priced.p_length c.requires.within) c.index-vehicle.ensures 0) in
+    let hv : c.index-vehicle.result.now < c.args.self.now.vehicles = rw ev at c.requires.matched in
+    let price : c.index-2.result.now ≡ slice_index c.args.self.now.vehicle_price.items c.index-vehicle.result.now = get_or_read s.vehicle_price.items v c.index-2.result.now (rw priced.a_length hv) c.index-2.ensures 0 in
+    let fits : slice_index c.args.self.now.vehicle_price.items c.index-vehicle.result.now + c.args.tree.now.lowered + slice_index c.args.self.now.rider_price.items c.args.rider < 2000000000000 = offset_fits priced t.grown t.reached t.cheapest c.requires.within c.requires.outside c.requires.tight c.requires.matched ev c.args.rider c.requires.within in
+    omega (arith, price, fits)
+
+pub returns-clause-nearest : goal.returns-clause-nearest
+returns-clause-nearest c =
+    let t = c.args.tree.now in
+    let tight_length : length c.relax.new.tight_at ≡ t.tight_at.len = omega (arith, ap length c.deref_mut.ensures.value, c.relax.ensures.relaxes.tight_length, t.tight_at.ok.0) in
+    rw (with_items_is t.tight_at c.relax.new.tight_at tight_length) (rw (c.row.ensures.length, c.deref-3.ensures.value) at c.relax.ensures.nearest)

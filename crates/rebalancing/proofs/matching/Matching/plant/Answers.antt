@@ -1,7 +1,8 @@
-use Rattle.std.proofs.Common.{◌≡◌, ℕ, [], ◌∷◌, length, slice_index, replicate, arith}
+use Rattle.std.proofs.Common.{◌≡◌, ℕ, ◌<◌, ◌≤◌, [], ◌∷◌, length, slice_index, replicate, arith}
 use Rattle.std.proofs.lemmas.List.{with_items_is, get_or_read, get_or-replicate, length-replicate}
+use Rattle.rebalancing.specs.Potentials.{pair_worth}
 use Rattle.rebalancing.specs.work.Relaxation.{Relaxes}
-use Rattle.rebalancing.proofs.Growing.{IsGrown-root, IsReached-root, IsCheapest-root}
+use Rattle.rebalancing.proofs.Growing.{b_most, IsGrown-root, IsReached-root, IsCheapest-root}
 use Rattle.rebalancing.proofs.matching.Matching.plant.Goals as goal
 
 pub returns-clause-tree : goal.returns-clause-tree
@@ -29,3 +30,13 @@ returns-clause-tree c =
           (IsReached-root priced hk {huge = 18446744073709551615} c.row.ensures.length far_length po_length c.row.ensures.weights (λ j hj. rw far (get_or-replicate {A = ℕ} s.riders j 18446744073709551615 0 hj)) (omega arith) relaxes);
       cheapest = rw (vehicles, c.clear.ensures.cheapest, c.clear.ensures.lowered) (IsCheapest-root priced hk);
     }
+
+pub relax-requires-clause-fits : goal.relax-requires-clause-fits
+relax-requires-clause-fits c = λ j h.
+    let s = c.args.self.now in
+    let priced = c.requires.priced in
+    let hj : j < c.args.self.now.riders = rw c.row.ensures.length at h in
+    let price : c.index.result.now ≡ slice_index c.args.self.now.vehicle_price.items c.args.vehicle = get_or_read s.vehicle_price.items c.args.vehicle c.index.result.now (rw priced.a_length c.requires.within) c.index.ensures 0 in
+    let most : slice_index c.args.self.now.vehicle_price.items c.args.vehicle ≤ pair_worth = priced.a_most c.args.vehicle c.requires.within in
+    let rider_most : slice_index c.args.self.now.rider_price.items j ≤ pair_worth = b_most priced j hj in
+    rw c.deref-2.ensures.value (omega (arith, price, most, rider_most))

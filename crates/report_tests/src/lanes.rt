@@ -1,4 +1,4 @@
-use crate::Progress;
+use lane_progress::Progress;
 use pool_io::rows;
 use request_book::{Command, Reply};
 use script_rows::{Round, Script, ScriptVersion, read_script};

@@ -1,4 +1,4 @@
-use crate::make_inputs;
+use made_inputs::make_inputs;
 use rider_limits::LoadShape;
 use std::test::Fail;
 

@@ -1,8 +1,8 @@
 ghost use Rattle.std.specs.Prelude.{◌≡◌, ◌≢◌, []};
 ghost use Rattle.batch_snapshot.specs.Vehicle.{HasSeats};
 
-use crate::{Passenger, Rider, Snapshot, Vehicle, copied_vehicles};
 use arrayvec::ArrayVec;
+use batch_snapshot::{Rider, Snapshot, Vehicle, copied_vehicles};
 use pool_base::{NodeId, OutOfMemory, Party, RiderId, Second, Sequence, VehicleId};
 use std::alloc::Global;
 use std::test::Fail;
@@ -15,18 +15,6 @@ fn rider_id(name: u64) -> RiderId {
     RiderId::new(name).unwrap_or(RiderId::default())
 }
 
-fn vehicle_with(passenger: Passenger) -> Vehicle {
-    let mut aboard = ArrayVec::new();
-    aboard.push(passenger);
-    Vehicle {
-        id: VehicleId::default(),
-        seats: 4,
-        node: node(7),
-        time: Second::default(),
-        aboard,
-    }
-}
-
 fn empty_snapshot(alloc: Global, batch: u64) -> Snapshot {
     Snapshot {
         batch,
@@ -35,24 +23,6 @@ fn empty_snapshot(alloc: Global, batch: u64) -> Snapshot {
         riders: Sequence::empty(alloc),
         expired: Sequence::empty(alloc),
     }
-}
-
-#[test]
-fn names_each_node_once(rt: HostRuntime) -> Result<(), Fail> {
-    let passenger = Passenger {
-        rider: rider_id(1),
-        origin: node(9),
-        destination: node(7),
-        time: Second::default(),
-        party: Party::ONE,
-    };
-    let mut nodes = Vec::new(rt.alloc());
-    let vehicle = vehicle_with(passenger);
-    crate::points::name_vehicle(&mut nodes, &vehicle)?;
-    assert_eq!(rt; nodes.as_slice(), [node(7), node(9), node(7)].as_slice());
-    crate::points::make_distinct(&mut nodes);
-    assert_eq!(rt; nodes.as_slice(), [node(7), node(9)].as_slice());
-    Ok(())
 }
 
 /// A batch of this vehicle with nobody aboard, this rider, and one whose wait ended.
@@ -95,7 +65,7 @@ fn empty_vehicle() -> Vehicle
     Vehicle {
         id: VehicleId::default(),
         seats: 4,
-        node: node(8),
+        node: node(7),
         time: Second::default(),
         aboard: ArrayVec::new(),
     }
@@ -111,17 +81,18 @@ fn small_batch(alloc: Global) -> Result<Snapshot, OutOfMemory> {
     one_of_each(alloc, empty_vehicle(), asking(asks), expired)
 }
 
-/// Whether a copy tells the same, and how many nodes are named.
-fn copied(alloc: Global, snapshot: &Snapshot) -> Result<(bool, usize), OutOfMemory> {
+/// Whether a copy tells the same, and each node that is named stands once.
+fn copied(alloc: Global, snapshot: &Snapshot) -> Result<(bool, bool), OutOfMemory> {
     let copy = snapshot.copy(alloc)?;
     let points = snapshot.points(alloc)?;
-    Ok((copy.same(snapshot), points.nodes().len()))
+    let once = points.nodes() == [node(7), node(9)].as_slice();
+    Ok((copy.same(snapshot), once))
 }
 
 #[test]
 fn answers_with_memory(rt: HostRuntime) -> Result<(), Fail> {
     let batch = small_batch(rt.alloc())?;
-    assert_eq!(rt; copied(rt.alloc(), &batch)?, (true, 3));
+    assert_eq!(rt; copied(rt.alloc(), &batch)?, (true, true));
     let vehicles = copied_vehicles(rt.alloc(), batch.vehicles.as_slice())?;
     assert_eq!(rt; vehicles.len(), 1);
     Ok(())

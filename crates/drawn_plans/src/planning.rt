@@ -1,65 +1,13 @@
-use crate::{GraphFault, Plan, TripGraph, TripRow, cost_of, greedy, held_plan, is_lawful};
-use arrayvec::ArrayVec;
-use std::alloc::{AllocError, Global};
+//! Plans of the two worked graphs, and graphs that are refused.
+use crate::worked::{graph_of, one_held, pair_rows, row, three_pairs};
+use plan_rules::{GraphFault, Plan, TripGraph, TripRow, cost_of, greedy, held_plan, is_lawful};
+use std::alloc::Global;
 use std::test::Fail;
-
-fn row(vehicle: usize, riders: &[usize], cost: u64) -> TripRow {
-    let mut trip: ArrayVec<usize, 6> = ArrayVec::new();
-    for rider in riders {
-        if !trip.is_full() {
-            trip.push(*rider);
-        }
-    }
-    TripRow {
-        vehicle,
-        riders: trip,
-        cost,
-    }
-}
-
-fn graph(
-    alloc: Global,
-    vehicles: u8,
-    riders: u8,
-    rows: Vec<TripRow>,
-    held: Vec<Option<u32>>,
-) -> Result<TripGraph, GraphFault> {
-    if rows.len() > 100 {
-        return Err(GraphFault::OutOfMemory);
-    }
-    TripGraph::new(alloc, vehicles as usize, riders as usize, 100, rows, held)
-}
-
-/// Three vehicles, each with an empty row and a pair; each two pairs share a rider.
-fn three_pairs(alloc: Global) -> Result<Vec<TripRow>, AllocError> {
-    Ok(vec![in alloc;
-        row(0, &[], 0),
-        row(0, &[0, 1], 10),
-        row(1, &[], 0),
-        row(1, &[1, 2], 10),
-        row(2, &[], 0),
-        row(2, &[0, 2], 10),
-    ]?)
-}
-
-/// A vehicle that holds rider 0, and one that could fetch rider 2.
-fn one_held(alloc: Global) -> Result<Vec<TripRow>, AllocError> {
-    Ok(vec![in alloc;
-        row(0, &[], 0),
-        row(0, &[0], 60),
-        row(0, &[1], 60),
-        row(0, &[2], 60),
-        row(0, &[1, 2], 120),
-        row(1, &[], 0),
-        row(1, &[2], 10),
-    ]?)
-}
 
 #[test]
 fn greedy_takes_the_first_pair(rt: HostRuntime) -> Result<(), Fail> {
     let alloc = rt.alloc();
-    let held = vec![in alloc; Some(0), Some(2), Some(4)]?;
-    let graph = graph(alloc, 3, 3, three_pairs(alloc)?, held)?;
+    let graph = three_pairs(alloc)?;
     let plan = greedy(alloc, &graph)?;
     assert_eq!(rt; plan.chosen(), [Some(1), Some(2), Some(4)].as_slice());
     assert!(rt; is_lawful(&graph, &plan));
@@ -78,8 +26,7 @@ fn greedy_takes_the_first_pair(rt: HostRuntime) -> Result<(), Fail> {
 #[test]
 fn greedy_leaves_a_held_rider_out(rt: HostRuntime) -> Result<(), Fail> {
     let alloc = rt.alloc();
-    let held = vec![in alloc; Some(1), Some(5)]?;
-    let graph = graph(alloc, 2, 3, one_held(alloc)?, held)?;
+    let graph = one_held(alloc)?;
     let plan = greedy(alloc, &graph)?;
     assert_eq!(rt; plan.chosen(), [Some(4), Some(5)].as_slice());
     assert!(rt; !is_lawful(&graph, &plan));
@@ -102,7 +49,7 @@ fn refusal(outcome: Result<TripGraph, GraphFault>) -> Option<GraphFault> {
 fn refusals_name_the_first(rt: HostRuntime) -> Result<(), Fail> {
     let alloc = rt.alloc();
     let rows = vec![in alloc; row(0, &[], 0), row(0, &[1, 0], 0), row(3, &[], 0)]?;
-    let fault = refusal(graph(alloc, 3, 3, rows, Vec::new(alloc)));
+    let fault = refusal(graph_of(alloc, rows, Vec::new(alloc)));
     assert_eq!(rt; fault, Some(GraphFault::Range { row: 1 }));
     let rows = vec![in alloc;
         row(0, &[], 0),
@@ -110,20 +57,20 @@ fn refusals_name_the_first(rt: HostRuntime) -> Result<(), Fail> {
         row(0, &[1], 0),
         row(0, &[0], 0),
     ]?;
-    let fault = refusal(graph(alloc, 3, 3, rows, Vec::new(alloc)));
+    let fault = refusal(graph_of(alloc, rows, Vec::new(alloc)));
     assert_eq!(rt; fault, Some(GraphFault::Order { row: 2 }));
     let held = vec![in alloc; Some(1), Some(3), Some(5)]?;
-    let fault = refusal(graph(alloc, 3, 3, three_pairs(alloc)?, held));
+    let fault = refusal(graph_of(alloc, pair_rows(alloc)?, held));
     assert_eq!(rt; fault, Some(GraphFault::Held { vehicle: 1 }));
     let held = vec![in alloc; Some(0), Some(2), Some(4), None]?;
-    let fault = refusal(graph(alloc, 3, 3, three_pairs(alloc)?, held));
+    let fault = refusal(graph_of(alloc, pair_rows(alloc)?, held));
     assert_eq!(rt; fault, Some(GraphFault::Held { vehicle: 3 }));
     Ok(())
 }
 
 /// The refusal of these rows of three vehicles, three riders and nothing held.
 fn refused_rows(alloc: Global, rows: Vec<TripRow>) -> Option<GraphFault> {
-    refusal(graph(alloc, 3, 3, rows, Vec::new(alloc)))
+    refusal(graph_of(alloc, rows, Vec::new(alloc)))
 }
 
 #[test]
@@ -161,7 +108,7 @@ fn ranges_are_judged_row_by_row(rt: HostRuntime) -> Result<(), Fail> {
 #[test]
 fn answers_with_memory(rt: HostRuntime) -> Result<(), Fail> {
     let alloc = rt.alloc();
-    let empty = graph(alloc, 0, 2, Vec::new(alloc), Vec::new(alloc))?;
+    let empty = TripGraph::new(alloc, 0, 2, 100, Vec::new(alloc), Vec::new(alloc))?;
     assert!(rt; greedy(alloc, &empty).is_ok());
     let plan = held_plan(alloc, &empty)?;
     assert_eq!(rt; cost_of(&empty, &plan), 200);

@@ -2,10 +2,10 @@
 ghost use Rattle.std.specs.Prelude.{All, IfSome};
 ghost use Rattle.request_book.specs.Consistent.{IsNode};
 
-use crate::{AuditFault, Audited, audit};
 use batch_snapshot::Fleet;
 use fleet_state::{HEADER as FLEET_HEADER, read_fleet};
 use pool_io::rows;
+use report_audit::{AuditFault, Audited, audit};
 use road_network::{Network, read_network};
 use script_rows::{Script, ScriptVersion, read_script};
 use std::alloc::Global;

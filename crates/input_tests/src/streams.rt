@@ -1,4 +1,9 @@
-use crate::*;
+ghost use Rattle.std.specs.Prelude.{◌≡◌};
+
+use pool_io::{
+    MemorySink, MemorySource, PlainSink, PlainSource, ReadAll, Rows, Sink, StdSink, StdSource,
+    WriteAll, read_all, rows, write_all,
+};
 use std::alloc::{AllocError, Global};
 use std::test::Fail;
 
@@ -7,20 +12,37 @@ fn owned(alloc: Global, text: &[u8]) -> Result<Vec<u8>, AllocError> {
     Vec::from_slice(alloc, text)
 }
 
+// Whether a source of these bytes is read.
+fn is_read(alloc: Global, text: &[u8]) -> bool {
+    match owned(alloc, text) {
+        Ok(bytes) => {
+            let mut source = PlainSource::new(bytes);
+            match read_all(alloc, &mut source, 16) {
+                Ok(read) => read.as_slice() == text,
+                Err(_) => false,
+            }
+        }
+        Err(_) => false,
+    }
+}
+
+fn is_written(alloc: Global) -> bool {
+    let mut sink = PlainSink::new(alloc);
+    sink.write(b"more ") == Ok(5)
+        && write_all(&mut sink, b"bytes").is_ok()
+        && sink.written() == b"more bytes".as_slice()
+}
+
+fn is_short(alloc: Global) -> bool {
+    let mut sink = MemorySink::new(alloc, 2, Vec::new(alloc));
+    sink.write(b"more") == Ok(2)
+}
+
 #[test]
-fn answers_with_memory(rt: HostRuntime) -> Result<(), Fail> {
-    let mut source = PlainSource::new(owned(rt.alloc(), b"bytes")?);
-    let bytes = read_all(rt.alloc(), &mut source, 16)?;
-    assert_eq!(rt; bytes.as_slice(), b"bytes".as_slice());
-    let mut sink = PlainSink::new(rt.alloc());
-    assert!(rt; sink.write(b"more ") == Ok(5));
-    write_all(&mut sink, bytes.as_slice())?;
-    assert_eq!(rt; sink.written(), b"more bytes".as_slice());
-    let mut short = MemorySink::new(rt.alloc(), 2, Vec::new(rt.alloc()));
-    assert!(rt; short.write(b"more") == Ok(2));
-    let table = rows(rt.alloc(), b"a,b\n1,2\n", b"a,b")?;
-    assert_eq!(rt; table.len(), 1);
-    Ok(())
+fn answers_with_memory(rt: HostRuntime) {
+    assert!(rt; is_read(rt.alloc(), b"bytes"));
+    assert!(rt; is_written(rt.alloc()));
+    assert!(rt; is_short(rt.alloc()));
 }
 
 #[test]
@@ -77,22 +99,23 @@ fn a_planned_flush_fails_and_keeps_the_bytes(rt: HostRuntime) -> Result<(), Fail
     Ok(())
 }
 
+fn has_fields(table: &Rows, row: usize, first: &[u8], second: &[u8]) -> bool
+    requires { table.now.columns ≡ 2 }
+{
+    row < table.len() && table.field(row, 0) == first && table.field(row, 1) == second
+}
+
 #[test]
-fn rows_follow_csv(rt: HostRuntime) -> Result<(), Fail> {
+fn rows_follow_csv(rt: HostRuntime) {
     let text = b"\xEF\xBB\xBF\"from\",to\r\n1,\"2,\"\"3\"\"\"\r\r\n\n , x ";
-    let table = rows(rt.alloc(), text, b"from,to")?;
-    assert_eq!(rt; table.len(), 2);
-    let mut shown = Vec::new(rt.alloc());
-    if table.len() == 2 {
-        for row in 0..2 {
-            shown.extend_from_slice(table.field(row, 0))?;
-            shown.push(b'|')?;
-            shown.extend_from_slice(table.field(row, 1))?;
-            shown.push(b';')?;
+    match rows(rt.alloc(), text, b"from,to") {
+        Ok(table) => {
+            assert_eq!(rt; table.len(), 2);
+            assert!(rt; has_fields(&table, 0, b"1", b"2,\"3\""));
+            assert!(rt; has_fields(&table, 1, b" ", b" x "));
         }
+        Err(_) => assert!(rt; false),
     }
-    assert_eq!(rt; shown.as_slice(), b"1|2,\"3\"; | x ;".as_slice());
-    Ok(())
 }
 
 #[test]

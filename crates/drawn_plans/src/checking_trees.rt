@@ -1,36 +1,9 @@
-use crate::{CheckFault, check};
-use arrayvec::ArrayVec;
-use plan_rules::{Multipliers, Node, Tree, TripGraph, TripRow};
+//! Trees of the worked pairs that are sound, and trees whose first wrong node is named.
+use crate::worked::three_pairs;
+use bound_checker::{CheckFault, check};
+use plan_rules::{Multipliers, Node, Tree, TripGraph};
 use std::alloc::{AllocError, Global};
 use std::test::Fail;
-
-fn row(vehicle: usize, riders: &[usize], cost: u64) -> TripRow {
-    let mut trip: ArrayVec<usize, 6> = ArrayVec::new();
-    for rider in riders {
-        if !trip.is_full() {
-            trip.push(*rider);
-        }
-    }
-    TripRow {
-        vehicle,
-        riders: trip,
-        cost,
-    }
-}
-
-/// Three vehicles, each with an empty row and a pair; each two pairs share a rider.
-fn three_pairs(alloc: Global) -> Result<TripGraph, Fail> {
-    let rows = vec![in alloc;
-        row(0, &[], 0),
-        row(0, &[0, 1], 10),
-        row(1, &[], 0),
-        row(1, &[1, 2], 10),
-        row(2, &[], 0),
-        row(2, &[0, 2], 10),
-    ]?;
-    let held = vec![in alloc; Some(0), Some(2), Some(4)]?;
-    Ok(TripGraph::new(alloc, 3, 3, 100, rows, held)?)
-}
 
 fn leaf(alloc: Global, multiplier: i64) -> Result<Node, AllocError> {
     Ok(Node::Leaf {

@@ -1,4 +1,4 @@
-use crate::{
+use pool_base::{
     NodeId, NumberFault, Party, RiderId, Second, Times, TimesFault, VehicleId, put_number,
     put_signed, read_number,
 };

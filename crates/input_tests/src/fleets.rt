@@ -1,4 +1,4 @@
-use crate::{Fleet, FleetFault, HEADER, read_fleet};
+use fleet_state::{Fleet, FleetFault, HEADER, read_fleet};
 use pool_io::rows;
 use road_network::{Network, read_network};
 use std::alloc::{AllocError, Global};

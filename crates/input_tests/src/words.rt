@@ -1,5 +1,5 @@
-use crate::{LoadShape, Mode, Settings, TimesWay, WordFault, read_words, value_of};
 use pool_base::Which;
+use rider_limits::{LoadShape, Mode, Settings, TimesWay, WordFault, read_words, value_of};
 use std::alloc::{AllocError, Global};
 use std::test::Fail;
 

@@ -1,4 +1,4 @@
-use crate::make;
+use load_maker::make;
 use rider_limits::LoadShape;
 use std::test::Fail;
 

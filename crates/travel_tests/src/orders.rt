@@ -1,9 +1,12 @@
 //! Worked orders on a line of five places, 60 seconds between neighbours.
-use super::*;
 use arrayvec::ArrayVec;
 use pool_base::{OutOfMemory, Party, RiderId, Times, VehicleId};
 use std::alloc::Global;
 use std::test::Fail;
+use stop_orders::{
+    Leg, Settled, SettledRider, SettledRiders, SettledVehicle, SettledVehicles, Stop, Task,
+    delay_of, is_order, is_valid, least_over_all_orders, serves, stop_second,
+};
 
 fn line(alloc: Global) -> Result<Times, Fail> {
     let cells = vec![in alloc;

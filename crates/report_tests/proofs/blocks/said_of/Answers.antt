@@ -1,6 +1,6 @@
 use Rattle.std.proofs.Common.{ℕ, List, All, Contains, subst}
 use Rattle.batch_solver.proofs.lemmas.PointLemmas.{named_known}
-use Rattle.block_audit.proofs.tests.said_of.Goals as goal
+use Rattle.report_tests.proofs.blocks.said_of.Goals as goal
 
 pub audit_block-requires-clause-nodes : goal.audit_block-requires-clause-nodes
 audit_block-requires-clause-nodes g c κs within =

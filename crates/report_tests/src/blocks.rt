@@ -1,6 +1,6 @@
 //! The block of a batch of one rider, as it was printed and changed.
-use crate::{BlockRefusal, audit_block};
 use batch_snapshot::Snapshot;
+use block_audit::{BlockRefusal, audit_block};
 use fleet_state::{HEADER as FLEET_HEADER, read_fleet};
 use pool_base::{NodeId, Party, RiderId, Second};
 use pool_io::rows;
