@@ -180,16 +180,28 @@ fn list_all(
     ensures bound { planned.new.bound ≡ planned.old.bound }
     ensures tree { planned.new.tree ≡ planned.old.tree }
 {
-    planned.lapsed = Sequence::of(lapsed_ids(alloc, settled)?);
-    planned.late = Sequence::of(late_lines(alloc, points, times, settled)?);
-    planned.rv = Sequence::of(rv_lines(alloc, settled, rv)?);
-    planned.rr = Sequence::of(rr_lines(alloc, settled, rr.all())?);
-    planned.rows = Sequence::of(row_lines(alloc, settled, graph.rows())?);
-    planned.chosen = Sequence::of(chosen_trips(alloc, points, times, settled, graph, chosen)?);
+    put(&mut planned.lapsed, lapsed_ids(alloc, settled)?);
+    put(
+        &mut planned.late,
+        late_lines(alloc, points, times, settled)?,
+    );
+    put(&mut planned.rv, rv_lines(alloc, settled, rv)?);
+    put(&mut planned.rr, rr_lines(alloc, settled, rr.all())?);
+    put(&mut planned.rows, row_lines(alloc, settled, graph.rows())?);
+    let trips = chosen_trips(alloc, points, times, settled, graph, chosen)?;
+    put(&mut planned.chosen, trips);
     let left = left_riders(alloc, graph, chosen)?;
-    planned.left = Sequence::of(rider_ids(alloc, settled, &left)?);
-    planned.moves = Sequence::of(move_lines(alloc, times, settled, graph, chosen, &left)?);
+    put(&mut planned.left, rider_ids(alloc, settled, &left)?);
+    let moves = move_lines(alloc, times, settled, graph, chosen, &left)?;
+    put(&mut planned.moves, moves);
     Ok(())
+}
+
+/// Puts these items in place of a list.
+fn put<T: Drop>(list: &mut Sequence<T>, items: Vec<T>)
+    ensures { list.new ≡ items.items }
+{
+    *list = Sequence::of(items);
 }
 
 /// A plan of the graph, and a bound below which no lawful plan costs.
