@@ -1,3 +1,4 @@
 pub mod Left
 pub mod Moves
 pub mod Told
+pub mod Lists

@@ -1,14 +1,16 @@
-ghost use Rattle.std.specs.Prelude.{◌≡◌, ◌≤◌, All, Contains, IfOk, length};
+ghost use Rattle.std.specs.Prelude.{◌≡◌, ◌≤◌, ℕ, All, Contains, IfOk, OnOk, length};
 ghost use Rattle.assignment_search.specs.Found.{IsSearchAnswer};
 ghost use Rattle.batch_snapshot.specs.Points.{named_nodes};
 ghost use Rattle.pair_graph.specs.RrGraph.{IsRrGraph};
 ghost use Rattle.pair_graph.specs.RvGraph.{IsRvGraph};
 ghost use Rattle.plan_rules.specs.Graph.{IsGoodGraph};
-ghost use Rattle.plan_rules.specs.Plan.{IsBound};
+ghost use Rattle.plan_rules.specs.Plan.{IsBound, IsLawful};
 ghost use Rattle.pool_base.specs.Times.{point_count, travel_time};
 ghost use Rattle.stop_orders.specs.Sound.{IsSound};
 ghost use Rattle.trip_graph.specs.Answer.{IsTripGraphOf};
+ghost use Rattle.rider_limits.specs.declared.settings.Settings.{Settings as SettingsValue};
 ghost use Rattle.batch_solver.specs.Outcome.{IsGoodAnswer, IsGoodOutcome, IsGoodPlan};
+ghost use Rattle.batch_solver.specs.work.Lists.{AreLists};
 
 use crate::late::late_lines;
 use crate::left::left_riders;
@@ -18,7 +20,7 @@ use crate::trips::chosen_trips;
 use assignment_search::{Found, search};
 use batch_snapshot::{Points, Snapshot};
 use pair_graph::RvEdge;
-use plan_rules::{TripGraph, tree_value_is_a_bound};
+use plan_rules::{Tree, TripGraph, tree_value_is_a_bound};
 use pool_base::{OutOfMemory, Sequence, Times};
 use promise_check::settle;
 use request_book::{Answer, Outcome, Planned};
@@ -112,21 +114,94 @@ fn planned_of(
     ensures { IfOk result (IsGoodPlan settings.now points.now (travel_time times.now) settled.entry.now) }
 {
     let found = bounded_plan(alloc, graph, settings.budget)?;
+    let bound = bound_of(&found);
+    let mut planned = unlisted(alloc, found.cost, bound, found.tree);
     let chosen = found.plan.chosen();
+    match list_all(
+        &mut planned,
+        alloc,
+        points,
+        times,
+        settled,
+        graph,
+        rv,
+        rr,
+        chosen,
+    ) {
+        Ok(()) => Ok(planned),
+        Err(fault) => {
+            drop(planned);
+            Err(fault)
+        }
+    }
+}
+
+/// A plan of this cost, with this bound and its tree, and with nothing in its lists.
+fn unlisted(alloc: Global, cost: u64, bound: i128, tree: Tree) -> Planned
+    ensures cost { result.cost ≡ cost }
+    ensures bound { result.bound ≡ bound }
+    ensures tree { result.tree ≡ tree }
+{
+    Planned {
+        lapsed: Sequence::empty(alloc),
+        late: Sequence::empty(alloc),
+        rv: Sequence::empty(alloc),
+        rr: Sequence::empty(alloc),
+        rows: Sequence::empty(alloc),
+        chosen: Sequence::empty(alloc),
+        left: Sequence::empty(alloc),
+        moves: Sequence::empty(alloc),
+        cost,
+        bound,
+        tree,
+    }
+}
+
+/// Fills the lists of a plan. A literal would drop, where one list fails, all lists before it.
+fn list_all(
+    planned: &mut Planned,
+    alloc: Global,
+    points: &Points,
+    times: &Times,
+    settled: &Settled,
+    graph: &TripGraph,
+    rv: &[RvEdge],
+    rr: &PairList,
+    chosen: &[Option<u32>],
+) -> Result<(), OutOfMemory>
+    requires table { point_count times.now ≡ length points.now }
+    requires sound { (k : ℕ) × IsSound k (point_count times.now) (travel_time times.now) settled.now }
+    requires graph { (settings : SettingsValue) × IsTripGraphOf settings (travel_time times.now) settled.now graph.now }
+    requires rv { IsRvGraph (travel_time times.now) settled.now rv.now }
+    requires rr { IsRrGraph (travel_time times.now) settled.now rr.now }
+    requires lawful { IsLawful graph.now chosen.now }
+    ensures lists { OnOk result (AreLists points.entry.now (travel_time times.entry.now) settled.entry.now graph.entry.now chosen.entry.now rv.entry.now rr.entry.now planned.new) }
+    ensures cost { planned.new.cost ≡ planned.old.cost }
+    ensures bound { planned.new.bound ≡ planned.old.bound }
+    ensures tree { planned.new.tree ≡ planned.old.tree }
+{
+    put(&mut planned.lapsed, lapsed_ids(alloc, settled)?);
+    put(
+        &mut planned.late,
+        late_lines(alloc, points, times, settled)?,
+    );
+    put(&mut planned.rv, rv_lines(alloc, settled, rv)?);
+    put(&mut planned.rr, rr_lines(alloc, settled, rr.all())?);
+    put(&mut planned.rows, row_lines(alloc, settled, graph.rows())?);
+    let trips = chosen_trips(alloc, points, times, settled, graph, chosen)?;
+    put(&mut planned.chosen, trips);
     let left = left_riders(alloc, graph, chosen)?;
-    Ok(Planned {
-        lapsed: Sequence::of(lapsed_ids(alloc, settled)?),
-        late: Sequence::of(late_lines(alloc, points, times, settled)?),
-        rv: Sequence::of(rv_lines(alloc, settled, rv)?),
-        rr: Sequence::of(rr_lines(alloc, settled, rr.all())?),
-        rows: Sequence::of(row_lines(alloc, settled, graph.rows())?),
-        chosen: Sequence::of(chosen_trips(alloc, points, times, settled, graph, chosen)?),
-        left: Sequence::of(rider_ids(alloc, settled, &left)?),
-        moves: Sequence::of(move_lines(alloc, times, settled, graph, chosen, &left)?),
-        cost: found.cost,
-        bound: bound_of(&found),
-        tree: found.tree,
-    })
+    put(&mut planned.left, rider_ids(alloc, settled, &left)?);
+    let moves = move_lines(alloc, times, settled, graph, chosen, &left)?;
+    put(&mut planned.moves, moves);
+    Ok(())
+}
+
+/// Puts these items in place of a list.
+fn put<T: Drop>(list: &mut Sequence<T>, items: Vec<T>)
+    ensures { list.new ≡ items.items }
+{
+    *list = Sequence::of(items);
 }
 
 /// A plan of the graph, and a bound below which no lawful plan costs.

@@ -75,18 +75,30 @@ impl Book {
         ensures { IfOk result (λ book. book ≡ record { nodes = nodes.keys; wait = wait; first = 0; base = opening fleet; entries = []; state = opening fleet; spare = 0 }) }
     {
         let vehicles = fleet.into_vehicles();
-        let base = opening(alloc, copied_vehicles(alloc, &vehicles)?);
-        let register = Register::of(alloc, vehicles)?;
-        Ok(Book {
-            alloc,
-            nodes,
-            wait,
-            first: 0,
-            base,
-            entries: Vec::new(alloc),
-            register,
-            reserved: 0,
-        })
+        match copied_vehicles(alloc, &vehicles) {
+            Ok(copy) => match Register::of(alloc, vehicles) {
+                Ok(register) => Ok(Book {
+                    alloc,
+                    nodes,
+                    wait,
+                    first: 0,
+                    base: opening(alloc, copy),
+                    entries: Vec::new(alloc),
+                    register,
+                    reserved: 0,
+                }),
+                Err(fault) => {
+                    drop(nodes);
+                    drop(copy);
+                    Err(fault)
+                }
+            },
+            Err(fault) => {
+                drop(nodes);
+                drop(vehicles);
+                Err(fault)
+            }
+        }
     }
 
     /// Makes room, so that at least `n` commands other than a seal need no memory.

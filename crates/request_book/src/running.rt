@@ -28,19 +28,27 @@ impl Register {
         ensures state { IfOk result (λ register. state_of register ≡ opening vehicles.items) }
         ensures indexed { IfOk result IsIndexed }
     {
-        let vehicle_ids = listed_vehicles(alloc, &vehicles)?;
-        let ids = IndexSet::with_capacity(alloc, 0)?;
-        let pool = Vec::with_capacity(alloc, POOL)?;
-        Ok(Register {
-            riders: Vec::new(alloc),
-            ids,
-            pool,
-            vehicles,
-            vehicle_ids,
-            last_seal: None,
-            sealed: None,
-            batches: 0,
-        })
+        let mut register = unnumbered(alloc, vehicles);
+        match register.number(alloc) {
+            Ok(()) => Ok(register),
+            Err(fault) => {
+                drop(register);
+                Err(fault)
+            }
+        }
+    }
+
+    /// Numbers the vehicles of a register without riders, and makes room for the pool.
+    fn number(&mut self, alloc: Global) -> Result<(), OutOfMemory>
+        requires rise { KeysRise (λ v. v.id) self.old.vehicles.items }
+        requires riders { self.old.riders.items ≡ [] }
+        requires ids { self.old.ids.keys ≡ [] }
+        ensures state { OnOk result (state_of self.new ≡ state_of self.old) }
+        ensures indexed { OnOk result (IsIndexed self.new) }
+    {
+        self.pool = Vec::with_capacity(alloc, POOL)?;
+        self.vehicle_ids = listed_vehicles(alloc, &self.vehicles)?;
+        Ok(())
     }
 
     /// The register of a state of a book.
@@ -49,22 +57,33 @@ impl Register {
         ensures state { IfOk result (λ register. state_of register ≡ state.now) }
         ensures indexed { IfOk result IsIndexed }
     {
-        let riders = Vec::from_slice(alloc, state.riders.as_slice())?;
-        let ids = listed_riders(alloc, &riders)?;
-        let pool = listed_pool(alloc, &riders)?;
         let vehicles = copied_vehicles(alloc, state.vehicles.as_slice())?;
-        let vehicle_ids = listed_vehicles(alloc, &vehicles)?;
-        let sealed = copied_snapshot(alloc, &state.sealed)?;
-        Ok(Register {
-            riders,
-            ids,
-            pool,
-            vehicles,
-            vehicle_ids,
-            last_seal: state.last_seal,
-            sealed,
-            batches: state.batches,
-        })
+        let mut register = unnumbered(alloc, vehicles);
+        match register.hold(alloc, state) {
+            Ok(()) => Ok(register),
+            Err(fault) => {
+                drop(register);
+                Err(fault)
+            }
+        }
+    }
+
+    /// Takes over a state whose vehicles the register has. It fills a register that is there, since a literal
+    /// would drop, where one part fails, all parts before it.
+    fn hold(&mut self, alloc: Global, state: &State) -> Result<(), OutOfMemory>
+        requires consistent { IsConsistent state.now }
+        requires vehicles { self.old.vehicles.items ≡ state.now.vehicles }
+        ensures state { OnOk result (state_of self.new ≡ state.now) }
+        ensures indexed { OnOk result (IsIndexed self.new) }
+    {
+        self.riders = Vec::from_slice(alloc, state.riders.as_slice())?;
+        self.ids = listed_riders(alloc, &self.riders)?;
+        self.pool = listed_pool(alloc, &self.riders)?;
+        self.vehicle_ids = listed_vehicles(alloc, &self.vehicles)?;
+        self.sealed = copied_snapshot(alloc, &state.sealed)?;
+        self.last_seal = state.last_seal;
+        self.batches = state.batches;
+        Ok(())
     }
 
     /// One command of any kind. Only a seal takes memory where there is room for one more rider; after an
@@ -152,6 +171,23 @@ impl Register {
         self.riders.reserve(additional)?;
         self.ids.reserve(additional)?;
         Ok(())
+    }
+}
+
+/// The register of these vehicles, without a rider and without the numbers by which they are found.
+fn unnumbered(alloc: Global, vehicles: Vec<Vehicle>) -> Register
+    ensures state { state_of result ≡ opening vehicles.items }
+    ensures ids { result.ids.keys ≡ [] }
+{
+    Register {
+        riders: Vec::new(alloc),
+        ids: IndexSet::new(alloc),
+        pool: Vec::new(alloc),
+        vehicles,
+        vehicle_ids: IndexSet::new(alloc),
+        last_seal: None,
+        sealed: None,
+        batches: 0,
     }
 }
 

@@ -108,8 +108,8 @@ impl Register {
         if let Some(refusal) = self.seal_refusal(second) {
             return Ok(Reply::Refused(refusal));
         }
-        let snapshot = self.snapshot(alloc, wait, second)?;
         let pool = self.staying(alloc, wait, second)?;
+        let snapshot = self.snapshot(alloc, wait, second)?;
         let batch = snapshot.batch;
         expire(&mut self.riders, &self.ids, snapshot.expired.as_slice());
         self.pool = pool;

@@ -19,16 +19,16 @@ invariant_of-result c =
     let nodes = c.args.nodes.keys in
     let taken = c.into_vehicles-vehicles.ensures.vehicles in
     let view : List ℕ → State → List Entry → State → BookView = λ ns base es s. record { nodes = ns; wait = c.args.wait; first = 0; base = base; entries = es; state = s; spare = 0 } in
-    let base : c.opening-base.result ≡ opening fleet =
-    c.opening-base.ensures ∙ ap opening (c.in_ok-copied_vehicles.ensures ∙ c.deref.ensures.value ∙ taken) in
-    let state : state_of c.in_ok-register.register ≡ opening fleet = c.in_ok-register.ensures.state ∙ ap opening taken in
-    let same : view nodes c.opening-base.result c.new.result.items (state_of c.in_ok-register.register) ≡ view nodes (opening fleet) [] (opening fleet) =
-    ap (λ t. view nodes t c.new.result.items (state_of c.in_ok-register.register)) base
-    ∙ ap (λ es. view nodes (opening fleet) es (state_of c.in_ok-register.register)) c.new.ensures.items
+    let base : c.opening.result ≡ opening fleet =
+    c.opening.ensures ∙ ap opening (c.in-Ok.ensures ∙ c.deref.ensures.value ∙ taken) in
+    let state : state_of c.in-Ok-of.register ≡ opening fleet = c.in-Ok-of.ensures.state ∙ ap opening taken in
+    let same : view nodes c.opening.result c.new.result.items (state_of c.in-Ok-of.register) ≡ view nodes (opening fleet) [] (opening fleet) =
+    ap (λ t. view nodes t c.new.result.items (state_of c.in-Ok-of.register)) base
+    ∙ ap (λ es. view nodes (opening fleet) es (state_of c.in-Ok-of.register)) c.new.ensures.items
     ∙ ap (view nodes (opening fleet) []) state in
     record {
       book = subst IsBook (sym same) (opening-book nodes fleet c.into_vehicles-vehicles.ensures.kept c.args.wait c.requires);
-      indexed = c.in_ok-register.ensures.indexed;
-      room = no-room c.in_ok-register.register;
+      indexed = c.in-Ok-of.ensures.indexed;
+      room = no-room c.in-Ok-of.register;
       entries = omega (arith, c.new.result.ok.1);
     }

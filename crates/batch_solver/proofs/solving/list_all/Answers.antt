@@ -1,0 +1,44 @@
+use Rattle.std.proofs.Common.{◌≡◌, ◌<◌, ◌≤◌, ℕ, List, length, map, All, sym, ap, ◌∙◌, subst, arith}
+use Rattle.plan_rules.specs.declared.row.TripRow.{TripRow}
+use Rattle.pool_base.specs.Times.{travel_time}
+use Rattle.request_book.specs.declared.outcome.ChosenTrip.{ChosenTrip}
+use Rattle.request_book.specs.declared.outcome.LateVehicle.{LateVehicle}
+use Rattle.request_book.specs.declared.outcome.MoveLine.{MoveLine}
+use Rattle.batch_solver.specs.Told.{rider_id, rr_line, row_line, left_riders}
+use Rattle.batch_solver.specs.Trips.{AreTrips, AreLate}
+use Rattle.batch_solver.specs.Moves.{AreMoves, idle_vehicles}
+use Rattle.batch_solver.proofs.GraphLemmas.{rows_of_riders, rows_are_few}
+use Rattle.batch_solver.proofs.solving.list_all.Goals as goal
+
+pub rv_lines-requires-clause-riders : goal.rv_lines-requires-clause-riders
+rv_lines-requires-clause-riders c = λ k d l. (c.requires.rv.right k d l).riders.within 0 0 (omega arith)
+
+pub row_lines-requires-clause-riders : goal.row_lines-requires-clause-riders
+row_lines-requires-clause-riders c =
+    subst (λ (rows : List TripRow). All (λ row. All (λ r. r < length c.args.settled.now.riders) row.riders.items) rows) (sym c.rows.ensures.value)
+    (rows_of_riders c.args.graph.now (length c.args.settled.now.riders) c.requires.graph.1.good c.requires.graph.1.rider_total)
+
+pub row_lines-requires-clause-few : goal.row_lines-requires-clause-few
+row_lines-requires-clause-few c =
+    subst (λ (rows : List TripRow). All (λ row. length row.riders.items ≤ 6) rows) (sym c.rows.ensures.value)
+    (rows_are_few c.args.graph.now c.requires.graph.1.good)
+
+pub returns-clause-lists : goal.returns-clause-lists
+returns-clause-lists c =
+    let graph = c.args.graph.now in
+    let settled = c.args.settled.now in
+    let chosen = c.args.chosen.now in
+    let points = c.args.points.now in
+    let tau = travel_time c.args.times.now in
+    let left = c.in_ok-left.ensures.left in
+    record {
+      lapsed = c.put.ensures ∙ c.in_ok-lapsed_ids.ensures;
+      late = subst (λ (late : List LateVehicle). AreLate points tau settled late) (sym c.put-2.ensures) c.in_ok-late_lines.ensures;
+      rv = c.put-3.ensures ∙ c.in_ok-rv_lines.ensures;
+      rr = c.put-4.ensures ∙ c.in_ok-rr_lines.ensures ∙ ap (λ (pairs : List (ℕ × ℕ)). map (rr_line settled) pairs) c.all.ensures;
+      rows = c.put-5.ensures ∙ c.in_ok-row_lines.ensures ∙ ap (λ (rows : List TripRow). map (row_line settled) rows) c.rows.ensures.value;
+      trips = subst (λ (trips : List ChosenTrip). AreTrips points tau settled graph chosen trips) (sym c.put-6.ensures) c.in_ok-trips.ensures;
+      left = c.put-7.ensures ∙ c.in_ok-rider_ids.ensures ∙ ap (λ (riders : List ℕ). map (rider_id settled) riders) (c.deref.ensures.value ∙ left);
+      moves = subst (λ (moves : List MoveLine). AreMoves tau settled (idle_vehicles settled graph chosen) (left_riders graph chosen) moves) (sym c.put-8.ensures)
+          (subst (λ (riders : List ℕ). AreMoves tau settled (idle_vehicles settled graph chosen) riders c.in_ok-moves.moves.items) (c.deref-2.ensures.value ∙ left) c.in_ok-moves.ensures);
+    }

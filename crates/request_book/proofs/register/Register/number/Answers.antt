@@ -1,0 +1,36 @@
+use Rattle.std.proofs.Common.{ℕ, List, [], map, sym, ap, subst, ◌∙◌, arith}
+use Rattle.std.specs.Prelude.{option_and_then}
+use Rattle.batch_snapshot.specs.declared.vehicle.Vehicle.{Vehicle}
+use Rattle.request_book.specs.declared.rider.BookRider.{BookRider}
+use Rattle.request_book.specs.Keyed.{look_up, KeysRise, KeysDiffer}
+use Rattle.request_book.specs.work.Register.{pool_id}
+use Rattle.request_book.specs.State.{find_rider}
+use Rattle.request_book.proofs.lemmas.KeyedLemmas.{look_up-nil, KeysDiffer-from_rise}
+use Rattle.request_book.proofs.register.Register.number.Goals as goal
+
+pub listed_vehicles-requires : goal.listed_vehicles-requires
+listed_vehicles-requires c =
+    subst (KeysDiffer (λ (v : Vehicle). v.id)) (sym c.deref.ensures.value) (KeysDiffer-from_rise (λ (v : Vehicle). v.id) c.args.self.now.vehicles.items c.requires.rise)
+
+nothing-differs : KeysDiffer (λ (r : BookRider). r.id) []
+unfolding KeysDiffer
+nothing-differs = tt
+
+nothing-rises : KeysRise (λ (n : ℕ). n) []
+unfolding KeysRise
+nothing-rises = tt
+
+pub returns-clause-indexed : goal.returns-clause-indexed
+returns-clause-indexed c =
+    let pool = c.in_ok-self.ensures.items in
+    let riders = c.requires.riders in
+    record {
+      ids = c.requires.ids ∙ sym (ap (map (λ (r : BookRider). r.id)) riders);
+      vehicle_ids = c.in_ok-self-2.ensures ∙ ap (map (λ (v : Vehicle). v.id)) c.deref.ensures.value;
+      riders = subst (KeysDiffer (λ (r : BookRider). r.id)) (sym riders) nothing-differs;
+      vehicles = c.requires.rise;
+      pool_rise = subst (KeysRise (λ (n : ℕ). n)) (sym pool) nothing-rises;
+      pool = λ id. ap (look_up (λ (n : ℕ). n) id) pool ∙ look_up-nil (λ (n : ℕ). n) id
+          ∙ sym (ap (λ rs. option_and_then pool_id (find_rider id rs)) riders ∙ ap (option_and_then pool_id) (look_up-nil (λ (r : BookRider). r.id) id));
+      pool_room = omega (arith, c.in_ok-self.ensures.capacity);
+    }
