@@ -41,7 +41,10 @@ pub(crate) fn write_audit<A: Source, K: Sink, G: Gate>(
 {
     let bytes = match read_input(alloc, report, Which::Report) {
         Ok(bytes) => bytes,
-        Err(status) => return Err(status),
+        Err(status) => {
+            drop(inputs);
+            return Err(status);
+        }
     };
     match judge_report(rt, alloc, settings, inputs, &bytes, gate) {
         Ok(audited) => write_yes(alloc, out, &audited),
@@ -69,7 +72,7 @@ fn judge_report<G: Gate>(
         fleet,
         script,
     } = inputs;
-    match audit(
+    let audited = audit(
         rt,
         alloc,
         bytes,
@@ -78,7 +81,10 @@ fn judge_report<G: Gate>(
         &script,
         settings.workers,
         gate,
-    ) {
+    );
+    drop(network);
+    drop(script);
+    match audited {
         Ok(audited) => Ok(audited),
         Err(AuditFault::OutOfMemory) => Err(RunStatus::OutOfMemory),
         Err(fault) => Err(RunStatus::Report(fault)),

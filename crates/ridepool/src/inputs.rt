@@ -50,7 +50,10 @@ pub(crate) fn inputs_from<N: Source, F: Source, S: Source>(
         Mode::Drive => match read_inputs(alloc, network, fleet, script) {
             Ok(inputs) => match is_day(&inputs.script) {
                 Ok(()) => Ok(inputs),
-                Err(fault) => Err(RunStatus::Day(fault)),
+                Err(fault) => {
+                    drop(inputs);
+                    Err(RunStatus::Day(fault))
+                }
             },
             Err(status) => Err(status),
         },
@@ -73,8 +76,21 @@ fn read_inputs<N: Source, F: Source, S: Source>(
     ensures named { IfOk result (λ got. All (λ vehicle. IsNode got.network.nodes vehicle.node) got.fleet) }
 {
     let network = network_from(alloc, network)?;
-    let fleet = fleet_from(alloc, fleet, &network)?;
-    let script = script_from(alloc, script)?;
+    let fleet = match fleet_from(alloc, fleet, &network) {
+        Ok(fleet) => fleet,
+        Err(status) => {
+            drop(network);
+            return Err(status);
+        }
+    };
+    let script = match script_from(alloc, script) {
+        Ok(script) => script,
+        Err(status) => {
+            drop(network);
+            drop(fleet);
+            return Err(status);
+        }
+    };
     Ok(ReadInputs {
         network,
         fleet,

@@ -65,29 +65,60 @@ pub(crate) fn write_report<K: Sink, G: Gate>(
         fleet,
         script,
     } = inputs;
+    let written = write_in(
+        rt, alloc, out, settings, &network, fleet, &script, notifiers, gate,
+    );
+    drop(network);
+    drop(script);
+    written
+}
+
+/// The same, over inputs that outlive the call.
+fn write_in<K: Sink, G: Gate>(
+    rt: &(impl Threads + Wait + Sync),
+    alloc: Global,
+    out: &mut K,
+    settings: &Settings,
+    network: &Network,
+    fleet: Fleet,
+    script: &Script,
+    notifiers: &mut Vec<Box<dyn Notifier>>,
+    gate: &G,
+) -> Result<(), RunStatus>
+    requires named { All (λ vehicle. IsNode network.now.nodes vehicle.node) fleet }
+    requires day { IsDayFor settings.now.mode script.now }
+    ensures report { let i : Inputs = record { settings = settings.now; roads = network.now; vehicles = fleet; rounds = script.now } in
+        let all = map (λ n. notifier_seen (⟦<dyn Notifier as Notifier>⟧ n.vtable) n.value) notifiers.old.items in
+        let left = map (λ n. notifier_seen (⟦<dyn Notifier as Notifier>⟧ n.vtable) n.value) notifiers.new.items in
+        MatchResult result
+        (λ _. IsWhole i (K.written out.old) (K.written out.new) all left)
+        (IsWritingFault i (K.written out.old) (K.written out.new) all left (K.faults out.old) (K.faults out.new)) }
+    ensures never_falls { K.faults out.old ≤ K.faults out.new }
+{
     match settings.times {
         TimesWay::Rows => {
-            let ways = NetworkWays { network: &network };
+            let ways = NetworkWays { network };
             let setup = Setup {
-                network: &network,
+                network,
                 ways: &ways,
                 settings,
                 gate,
             };
-            write_by(rt, alloc, out, fleet, &script, &setup, notifiers)
+            write_by(rt, alloc, out, fleet, script, &setup, notifiers)
         }
         TimesWay::Labels => {
-            let Ok(labels) = Labels::build(alloc, &network) else {
+            let Ok(labels) = Labels::build(alloc, network) else {
+                drop(fleet);
                 return Err(RunStatus::OutOfMemory);
             };
-            let ways = LabelWays::of(&network, labels);
+            let ways = LabelWays::of(network, labels);
             let setup = Setup {
-                network: &network,
+                network,
                 ways: &ways,
                 settings,
                 gate,
             };
-            write_by(rt, alloc, out, fleet, &script, &setup, notifiers)
+            write_by(rt, alloc, out, fleet, script, &setup, notifiers)
         }
     }
 }
@@ -130,15 +161,15 @@ fn write_by<K: Sink, W: Ways, G: Gate>(
                 setup.gate,
             );
             match driven {
-                Ok(run) => write_day(
-                    alloc,
-                    out,
-                    vehicles,
-                    &run,
-                    setup.settings,
-                    setup.network,
-                    notifiers,
-                ),
+                Ok(run) => {
+                    let settings = setup.settings;
+                    let network = setup.network;
+                    let written = write_day(
+                        alloc, out, vehicles, &run, settings, network, notifiers,
+                    );
+                    drop(run);
+                    written
+                }
                 Err(fault) => Err(late_status(fault)),
             }
         }
@@ -205,7 +236,10 @@ fn write_run<K: Sink, W: Ways, G: Gate>(
 {
     match write_first(alloc, out, setup.settings, setup.network, vehicles) {
         Ok(()) => write_each(rt, alloc, out, book, rounds, setup, notifiers),
-        Err(fault) => Err(status_of(fault)),
+        Err(fault) => {
+            drop(book);
+            Err(status_of(fault))
+        }
     }
 }
 
@@ -231,9 +265,14 @@ fn write_each<K: Sink, W: Ways, G: Gate>(
 {
     let mut current = book;
     for round in rounds {
-        current = write_next(rt, alloc, out, current, round, setup, notifiers)?;
+        match write_next(rt, alloc, out, current, round, setup, notifiers) {
+            Ok(next) => current = next,
+            Err(status) => return Err(status),
+        }
     }
-    match write_end(alloc, out, current.next_position()) {
+    let position = current.next_position();
+    drop(current);
+    match write_end(alloc, out, position) {
         Ok(()) => flush(out),
         Err(fault) => Err(status_of(fault)),
     }
@@ -268,15 +307,21 @@ fn write_next<K: Sink, W: Ways, G: Gate>(
         return Err(RunStatus::OutOfMemory);
     };
     let Ok(journal) = book.take_round() else {
+        drop(book);
         return Err(RunStatus::OutOfMemory);
     };
     let made = DayRound {
         number: round.number(),
         journal,
     };
-    match put_round(alloc, out, &made, settings, network, notifiers) {
+    let put = put_round(alloc, out, &made, settings, network, notifiers);
+    drop(made);
+    match put {
         Ok(()) => Ok(book),
-        Err(status) => Err(status),
+        Err(status) => {
+            drop(book);
+            Err(status)
+        }
     }
 }
 

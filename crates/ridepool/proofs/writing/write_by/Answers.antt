@@ -17,8 +17,8 @@ drive_day-driven-requires-clause-new g c κs within =
 pub drive_day-driven-requires-clause-day : goal.drive_day-driven-requires-clause-day
 drive_day-driven-requires-clause-day g c κs within = subst (λ m. IsDayFor m c.args.script.now) c.in-Drive.is c.requires.day
 
-pub write_day-requires : goal.write_day-requires
-write_day-requires g c =
+pub write_day-written-requires : goal.write_day-written-requires
+write_day-written-requires g c =
     let i : Inputs = record { settings = c.args.setup.now.settings.now; roads = c.args.setup.now.network.now; vehicles = c.args.fleet; rounds = c.args.script.now } in
     day_bases i c.in-Ok.book c.in-Ok-driven.run'.rounds c.in-Ok.ensures
     (λ entries. c.states_are_consistent.ensures i.roads.nodes i.settings.wait i.vehicles entries c.vehicles-vehicles.ensures.kept) c.in-Ok-driven.ensures.run
@@ -43,8 +43,8 @@ returns-in-Ok-driven-clause-report g c =
     let run = c.in-Ok-driven.run' in
     report_counted i (BeginsRounds run.rounds) (EndsRounds run.rounds (day_ending run)) (day_serves i c.in-Ok.book run c.in-Drive.is c.in-Ok.ensures c.in-Ok-driven.ensures.run c.in-Ok-driven.ensures.counts
     c.in-Ok-driven.ensures.keeps c.in-Ok-driven.ensures.worst)
-    _ (g.K.Sink.written c.args.out.now) (g.K.Sink.written c.write_day.new.out) _ _ (g.K.Sink.faults c.args.out.now) (g.K.Sink.faults c.write_day.new.out) c.write_day.result
-    (ap length c.vehicles-vehicles.ensures.vehicles) c.write_day.ensures.report
+    _ (g.K.Sink.written c.args.out.now) (g.K.Sink.written c.write_day-written.new.out) _ _ (g.K.Sink.faults c.args.out.now) (g.K.Sink.faults c.write_day-written.new.out) c.write_day-written.result
+    (ap length c.vehicles-vehicles.ensures.vehicles) c.write_day-written.ensures.report
 
 pub returns-in_default-mode-clause-report : goal.returns-in_default-mode-clause-report
 returns-in_default-mode-clause-report g c =

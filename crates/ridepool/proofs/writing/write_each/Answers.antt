@@ -1,5 +1,4 @@
 use Rattle.std.proofs.Common.{◌<◌, ◌≡◌, Err, length, ap, arith}
-use Rattle.std.proofs.lemmas.Result.{err_from_is_err_and}
 use Rattle.ridepool.specs.work.Writing.{RunsAll, RunsFirst}
 use Rattle.ridepool.proofs.WriteLemmas.{written_none, written_next, written_whole, round_fault, run_written, run_lacks_end, end_unwritten, flushed_end}
 use Rattle.ridepool.proofs.writing.write_each.Goals as goal
@@ -12,26 +11,24 @@ loop-round-preserved g c =
     let rounds = c.args.rounds.now in
     let i = c.loop-round.round-index in
     let within : i < length rounds = omega arith in (
-      written_next c.args.setup.now.settings.now c.args.setup.now.network.now c.args.book c.loop-round.current c.in_ok-current.current rounds i c.round-item.result
+      written_next c.args.setup.now.settings.now c.args.setup.now.network.now c.args.book c.loop-round.current c.in-Ok.next rounds i c.round-item.result
           (g.K.Sink.written c.args.out.now) (g.K.Sink.written c.loop-round.out) (g.K.Sink.written c.write_next.new.out) _ _ _
-          within c.round-item.is c.loop-round.invariant.0 c.in_ok-current.ensures.round,
+          within c.round-item.is c.loop-round.invariant.0 c.in-Ok.ensures.round,
       omega (arith, c.loop-round.invariant.1, c.write_next.ensures.never_falls),
     )
 
-pub returns-in_err-current-clause-rounds : goal.returns-in_err-current-clause-rounds
-returns-in_err-current-clause-rounds g c =
+pub returns-in-Err-clause-rounds : goal.returns-in-Err-clause-rounds
+returns-in-Err-clause-rounds g c =
     let rounds = c.args.rounds.now in
     let i = c.loop-round.round-index in
     let within : i < length rounds = omega arith in
-    let p = err_from_is_err_and c.from_residual.result c.from_residual.ensures.1 in
-    rw (p.1, p.2)
-    (round_fault c.args.setup.now.settings.now c.args.setup.now.network.now c.args.book c.loop-round.current rounds i c.round-item.result
+    round_fault c.args.setup.now.settings.now c.args.setup.now.network.now c.args.book c.loop-round.current rounds i c.round-item.result
     (g.K.Sink.written c.args.out.now) (g.K.Sink.written c.loop-round.out) (g.K.Sink.written c.write_next.new.out) _ _ _
     (g.K.Sink.faults c.args.out.now) (g.K.Sink.faults c.loop-round.out) (g.K.Sink.faults c.write_next.new.out)
-    c.in_err-current.field-0.0 within c.round-item.is c.loop-round.invariant.1 c.loop-round.invariant.0 c.in_err-current.ensures.round)
+    c.in-Err.status within c.round-item.is c.loop-round.invariant.1 c.loop-round.invariant.0 c.in-Err.ensures.round
 
-pub returns-in-Ok-clause-rounds : goal.returns-in-Ok-clause-rounds
-returns-in-Ok-clause-rounds g c =
+pub returns-in-Ok-write_end-clause-rounds : goal.returns-in-Ok-write_end-clause-rounds
+returns-in-Ok-write_end-clause-rounds g c =
     let s = c.args.setup.now.settings.now in
     let roads = c.args.setup.now.network.now in
     let rounds = c.args.rounds.now in
@@ -42,8 +39,8 @@ returns-in-Ok-clause-rounds g c =
     flushed_end s roads (RunsFirst s roads c.args.book rounds) (RunsAll s roads c.args.book rounds) before (g.K.Sink.written c.write_end.new.sink) (g.K.Sink.written c.flush.new.out) _ _
     (g.K.Sink.faults c.args.out.now) (g.K.Sink.faults c.write_end.new.sink) (g.K.Sink.faults c.flush.new.out) c.flush.result
     (omega (arith, c.loop-round.invariant.1, c.write_end.ensures.never_falls))
-    (run_written s roads c.args.book c.loop-round.current rounds before here (g.K.Sink.written c.write_end.new.sink) _ _ c.next_position.result
-    (written_whole s roads c.args.book c.loop-round.current rounds i before here _ _ end c.loop-round.invariant.0) c.next_position.ensures c.in-Ok.ensures.bytes)
+    (run_written s roads c.args.book c.loop-round.current rounds before here (g.K.Sink.written c.write_end.new.sink) _ _ c.next_position-position.result
+    (written_whole s roads c.args.book c.loop-round.current rounds i before here _ _ end c.loop-round.invariant.0) c.next_position-position.ensures c.in-Ok-write_end.ensures.bytes)
     c.flush.ensures
 
 pub returns-clause-rounds : goal.returns-clause-rounds
@@ -58,7 +55,7 @@ returns-clause-rounds g c =
     let end : i ≡ length rounds = omega arith in
     end_unwritten s roads (RunsFirst s roads c.args.book rounds) (RunsAll s roads c.args.book rounds) before after _ _
     (g.K.Sink.faults c.args.out.now) (g.K.Sink.faults c.loop-round.out) (g.K.Sink.faults c.write_end.new.sink)
-    c.in-Err.fault c.status_of.result c.status_of.ensures
-    (run_lacks_end s roads c.args.book c.loop-round.current rounds before here after _ _ c.next_position.result
-    (written_whole s roads c.args.book c.loop-round.current rounds i before here _ _ end c.loop-round.invariant.0) c.next_position.ensures c.in-Err.ensures.bytes)
-    c.loop-round.invariant.1 (λ is. c.in-Err.ensures.fault (ap Err is))
+    c.in-Err-write_end.fault c.status_of.result c.status_of.ensures
+    (run_lacks_end s roads c.args.book c.loop-round.current rounds before here after _ _ c.next_position-position.result
+    (written_whole s roads c.args.book c.loop-round.current rounds i before here _ _ end c.loop-round.invariant.0) c.next_position-position.ensures c.in-Err-write_end.ensures.bytes)
+    c.loop-round.invariant.1 (λ is. c.in-Err-write_end.ensures.fault (ap Err is))

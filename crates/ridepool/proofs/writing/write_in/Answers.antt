@@ -1,8 +1,8 @@
 use Rattle.ridepool.specs.Inputs.{Inputs}
 use Rattle.ridepool.proofs.WriteLemmas.{nothing_written}
-use Rattle.ridepool.proofs.writing.write_report.Goals as goal
+use Rattle.ridepool.proofs.writing.write_in.Goals as goal
 
 pub returns-in_default-clause-report : goal.returns-in_default-clause-report
 returns-in_default-clause-report g c =
-    let i : Inputs = record { settings = c.args.settings.now; roads = c.args.inputs.network; vehicles = c.args.inputs.fleet; rounds = c.args.inputs.script } in
+    let i : Inputs = record { settings = c.args.settings.now; roads = c.args.network.now; vehicles = c.args.fleet; rounds = c.args.script.now } in
     nothing_written i (g.K.Sink.written c.args.out.now) _
