@@ -131,12 +131,7 @@ fn least_cost_by(
 }
 
 /// The row that is listed for the vehicle, where it is the vehicle's and allowed.
-fn allowed_row(
-    graph: &TripGraph,
-    allowed: &[bool],
-    listed: &[u32],
-    vehicle: usize,
-) -> Option<usize>
+fn allowed_row(graph: &TripGraph, allowed: &[bool], listed: &[u32], vehicle: usize) -> Option<usize>
     requires { length allowed.now ≡ length graph.now.rows }
     ensures { IfSome result (λ k. (k ≡ slice_index_or listed.now vehicle 0) × MayUse graph.now (usable_of allowed.now) vehicle k) }
 {
