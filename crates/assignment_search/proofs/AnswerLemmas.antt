@@ -116,12 +116,6 @@ lowest_small g low limit nodes values place grown lowest =
 inner : (a b : List ℤ) → Leaf a ≡ Leaf b → a ≡ b
 inner a b e = cc
 
-pub parent_sized : (g : Graph) (low : ℤ) (limit : ℕ) (nodes : List Node) (values : List ℤ) (place : ℕ) (ms : List ℤ) → IsGrown g low limit (every_row ∷ []) nodes values [] → IsLowest nodes values place → get_or nodes place Dead ≡ Leaf ms → length ms ≡ g.riders
-parent_sized g low limit nodes values place ms grown lowest is =
-    let s = grown_split g low limit nodes values (every_row ∷ []) [] place grown lowest.within in
-    let same : ms ≡ lowest.multipliers = inner ms lowest.multipliers (sym is ∙ lowest.leaf) in
-    ap (λ (xs : List ℤ). length xs) same ∙ (leaf_here g low limit nodes values place s lowest).sized
-
 -- where a walk came to the leaf, these are the rows that may be chosen
 stands_at : (g : Graph) (low : ℤ) (limit : ℕ) (nodes : List Node) (values : List ℤ) (place : ℕ) (u : Usable) (later : List Usable) (s : IsSplit g low limit (every_row ∷ []) nodes values [] place) → ReadsTo g (every_row ∷ []) (take place nodes) (u ∷ later) → u ≡ s.usable
 stands_at g low limit nodes values place u later s reads =

@@ -17,11 +17,7 @@ pub struct Lookups {
 
 impl Lookups {
     /// Those of a graph, whose rows the table has too.
-    pub fn new(
-        alloc: Global,
-        graph: &TripGraph,
-        table: &RowTable,
-    ) -> Result<Lookups, OutOfMemory>
+    pub fn new(alloc: Global, graph: &TripGraph, table: &RowTable) -> Result<Lookups, OutOfMemory>
         ensures { IfOk result (AreLookupsOf graph.now) }
     {
         let index = RiderIndex::new(alloc, graph, table)?;

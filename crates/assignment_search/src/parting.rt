@@ -55,9 +55,13 @@ pub fn part(
     let Suggested { taken, left } = suggested;
     let mut path = path;
     path.enter(vehicle as u32, row as u32)?;
-    let first = end_of(alloc, graph, lookups, &path, before, parent, value, vehicle, taken)?;
+    let first = end_of(
+        alloc, graph, lookups, &path, before, parent, value, vehicle, taken,
+    )?;
     path.leave();
-    let second = end_of(alloc, graph, lookups, &path, before, parent, value, vehicle, left)?;
+    let second = end_of(
+        alloc, graph, lookups, &path, before, parent, value, vehicle, left,
+    )?;
     Ok(Ends {
         vehicle: vehicle as u32,
         row: row as u32,

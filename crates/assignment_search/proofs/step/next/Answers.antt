@@ -7,9 +7,9 @@ use Rattle.plan_rules.specs.Path.{standing_of}
 use Rattle.plan_rules.proofs.lemmas.UsableLemmas.{can_branch_agrees}
 use Rattle.plan_rules.specs.declared.node.Node.{Node}
 use Rattle.plan_rules.specs.declared.node.Node.TheVariants.{Leaf, Dead}
-use Rattle.assignment_search.specs.Growth.{IsFixed, IsSolePlan, choice_count}
+use Rattle.assignment_search.specs.Growth.{IsFixed, IsSolePlan, IsJudged, choice_count}
 use Rattle.assignment_search.proofs.GrowthLemmas.{grown_reads, grown_length}
-use Rattle.assignment_search.proofs.AnswerLemmas.{lowest_small, parent_sized, fixed_answer, full_answer}
+use Rattle.assignment_search.proofs.AnswerLemmas.{small_back, lowest_small, judged_here, fixed_answer, full_answer}
 use Rattle.assignment_search.proofs.step.next.Goals as goal
 
 pub is_met-requires-clause-place : goal.is_met-requires-clause-place
@@ -57,7 +57,20 @@ part-requires-clause-can c =
     (subst (λ (xs : List Bool). CanBranch g (usable_of xs) v k) c.deref.ensures.value (c.in-Some-branch_row.ensures.found.0))
 
 pub part-requires-clause-parent : goal.part-requires-clause-parent
-part-requires-clause-parent c = ?
+part-requires-clause-parent c =
+    let g = c.args.graph.now in
+    let path = c.in_ok-path.path in
+    let nodes : List Node = c.args.nodes.now in
+    let values : List ℤ = c.args.values.now in
+    let allowed : List Bool = c.in_ok-allowed.allowed.items in
+    let parent : List ℤ = c.multipliers_of-parent.result.now in
+    let node : Node = c.index-nodes-place.result in
+    let here : node ≡ get_or nodes c.args.place Dead = get_or_read nodes c.args.place node c.requires.lowest.within c.index-nodes-place.is Dead in
+    let value : ℤ = get_or values c.args.place (pos 0) in
+    let judged : IsJudged g (usable_of allowed) parent value = judged_here g c.requires.grown.0 c.args.place nodes values (standing_of g path).usable (standing_of g path).coming allowed c.allowed_at.ensures.good
+    c.requires.lowest c.requires.grown.1 c.in_ok-path.ensures.reads c.in_ok-allowed.ensures.allowed parent (sym here ∙ c.multipliers_of-parent.ensures) in
+    subst (IsJudged g (usable_of c.deref-in-Some-branch_row.result.now) parent) (sym (small_back value judged.small))
+    (subst (λ (xs : List Bool). IsJudged g (usable_of xs) parent value) (sym c.deref-in-Some-branch_row.ensures.value) judged)
 
 pub returns-in_ok-chosen-in-None : goal.returns-in_ok-chosen-in-None
 returns-in_ok-chosen-in-None c =
