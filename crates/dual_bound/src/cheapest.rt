@@ -12,7 +12,7 @@ use pool_base::OutOfMemory;
 use std::alloc::Global;
 
 /// For each vehicle a row that costs no more than any of its rows, allowed or not.
-#[derive(Debug, Drop)]
+#[derive(Drop)]
 pub struct CheapestRows {
     pub rows: Vec<u32>,
     /// Whether that was found of each row of the graph.
