@@ -18,7 +18,7 @@ use Rattle.plan_rules.proofs.lemmas.SearchTreeLemmas.{tree_of_reads, places_are,
 use Rattle.plan_rules.proofs.lemmas.UsableLemmas.{Agree, agree_back, leaf_value_agrees, first_fit_agrees, first_fit_value_agrees, dead_end_agrees, may_use_agrees, can_branch_agrees}
 use Rattle.std.proofs.lemmas.Bool.{both_ways}
 use Rattle.plan_rules.specs.Size.{IsSmallSum}
-use Rattle.assignment_search.specs.Growth.{IsWorthBranching, IsGoodLeaf, IsGoodNode, IsGrown, HasUsable, IsFixed, IsSolePlan, IsLowest, HasLeaf, IsNewLeaf, IsNewEnd, choice_count}
+use Rattle.assignment_search.specs.Growth.{IsWorthBranching, IsGoodLeaf, IsGoodNode, IsGrown, HasUsable, IsFixed, IsSolePlan, IsLowest, HasLeaf, IsNewLeaf, IsNewEnd, IsJudged, choice_count}
 use Rattle.assignment_search.specs.Found.{IsAtLeastFirstFit, IsBranchJustified, IsRightPlan, IsSearchAnswer, IsTreeSoFar, Shows}
 use Rattle.assignment_search.specs.Next.{IsParting, IsPartedAt, IsNext}
 use Rattle.assignment_search.specs.declared.parting.Ends.{Ends}
@@ -116,12 +116,6 @@ lowest_small g low limit nodes values place grown lowest =
 inner : (a b : List ℤ) → Leaf a ≡ Leaf b → a ≡ b
 inner a b e = cc
 
-pub parent_sized : (g : Graph) (low : ℤ) (limit : ℕ) (nodes : List Node) (values : List ℤ) (place : ℕ) (ms : List ℤ) → IsGrown g low limit (every_row ∷ []) nodes values [] → IsLowest nodes values place → get_or nodes place Dead ≡ Leaf ms → length ms ≡ g.riders
-parent_sized g low limit nodes values place ms grown lowest is =
-    let s = grown_split g low limit nodes values (every_row ∷ []) [] place grown lowest.within in
-    let same : ms ≡ lowest.multipliers = inner ms lowest.multipliers (sym is ∙ lowest.leaf) in
-    ap (λ (xs : List ℤ). length xs) same ∙ (leaf_here g low limit nodes values place s lowest).sized
-
 -- where a walk came to the leaf, these are the rows that may be chosen
 stands_at : (g : Graph) (low : ℤ) (limit : ℕ) (nodes : List Node) (values : List ℤ) (place : ℕ) (u : Usable) (later : List Usable) (s : IsSplit g low limit (every_row ∷ []) nodes values [] place) → ReadsTo g (every_row ∷ []) (take place nodes) (u ∷ later) → u ≡ s.usable
 stands_at g low limit nodes values place u later s reads =
@@ -183,6 +177,20 @@ module _ (g : Graph) (limit place : ℕ) (nodes : List Node) (values : List ℤ)
         sole_is_lawful g (usable_of allowed) chosen good sized sole fixed has_here alive,
         sole_reaches g (usable_of allowed) chosen good sized sole fixed has_here alive (get_or values place (pos 0)) (subst (λ (z : ℤ). z ≤ℤ get_or values place (pos 0)) fit here.first_fit),
       )
+
+  pub judged_here : (ms : List ℤ) → get_or nodes place Dead ≡ Leaf ms → IsJudged g (usable_of allowed) ms (get_or values place (pos 0))
+  judged_here ms is =
+      let low = rounded_up (get_or values place (pos 0)) in
+      let s = grown_split g low limit nodes values (every_row ∷ []) [] place grown lowest.within in
+      let here = leaf_here g low limit nodes values place s lowest in
+      let stands : u ≡ s.usable = stands_at g low limit nodes values place u later s reads in
+      let same : Agree g (usable_of allowed) s.usable = λ k l. agree k l ∙ ap (λ (w : Usable). w k) stands in
+      let parent_is : ms ≡ lowest.multipliers = inner ms lowest.multipliers (sym is ∙ lowest.leaf) in
+      record {
+        sized = ap (λ (xs : List ℤ). length xs) parent_is ∙ here.sized;
+        judged = here.judged ∙ ap (leaf_value g s.usable) (sym parent_is) ∙ sym (leaf_value_agrees g (usable_of allowed) s.usable ms same);
+        small = here.small;
+      }
 
   pub full_answer : (v k : ℕ) → v < g.vehicles → CanBranch g (usable_of allowed) v k → length nodes + 3 ≤ 2 * choice_count g every_row
   full_answer v k below can =

@@ -9,3 +9,4 @@ pub mod LeafLemmas
 pub mod StandingLemmas
 pub mod EditLemmas
 pub mod AnswerLemmas
+pub mod ApartLemmas

@@ -4,8 +4,8 @@ ghost use Rattle.plan_rules.specs.Plan.{IsLawful, cost_of};
 ghost use Rattle.plan_rules.specs.Greedy.{IsGreedy};
 ghost use Rattle.plan_rules.specs.Multipliers.{first_fit_value};
 ghost use Rattle.plan_rules.specs.Tree.{every_row, rounded_up};
-ghost use Rattle.dual_bound.specs.Index.{IsIndexOf};
 ghost use Rattle.plan_rules.specs.Graph.{IsGoodGraph};
+ghost use Rattle.assignment_search.specs.Lookups.{AreLookupsOf};
 ghost use Rattle.assignment_search.specs.Change.{HasNoBetterChange};
 ghost use Rattle.assignment_search.specs.Found.{Shows, IsSearchAnswer};
 ghost use Rattle.assignment_search.specs.Growth.{IsGoodLeaf, choice_count};
@@ -16,10 +16,10 @@ use crate::first_plan::first_plan;
 use crate::found::Found;
 use crate::growth::grow;
 use crate::guide::Guide;
+use crate::lookups::Lookups;
 use crate::lowest_leaf::{bound_at, lowest};
 use crate::root::root_leaf;
 use crate::step::{Outcome, next};
-use dual_bound::RiderIndex;
 use plan_rules::{Node, Plan, Tree, TripGraph, cost_of};
 use pool_base::OutOfMemory;
 use std::alloc::Global;
@@ -49,9 +49,9 @@ fn run(alloc: Global, graph: &TripGraph, budget: u32) -> Result<Found, OutOfMemo
 {
     let plan = first_plan(alloc, graph)?;
     let mut guide = Guide::new(alloc, graph, budget as usize)?;
-    let index = RiderIndex::new(alloc, graph, guide.table())?;
-    let root = root_leaf(alloc, graph, &index, &guide)?;
-    branch(alloc, graph, budget, &index, &mut guide, plan, root)
+    let lookups = Lookups::new(alloc, graph, guide.table())?;
+    let root = root_leaf(alloc, graph, &lookups, &guide)?;
+    branch(alloc, graph, budget, &lookups, &mut guide, plan, root)
 }
 
 /// Branches from the root, with this plan to begin with, until the bound meets the cost or the budget is spent.
@@ -59,14 +59,14 @@ fn branch(
     alloc: Global,
     graph: &TripGraph,
     budget: u32,
-    index: &RiderIndex,
+    lookups: &Lookups,
     guide: &mut Guide,
     first: Plan,
     root: Judged,
 ) -> Result<Found, OutOfMemory>
     requires budget { 1 ≤ budget }
     requires good { IsGoodGraph graph.now }
-    requires index { IsIndexOf graph.now index.now }
+    requires lookups { AreLookupsOf graph.now lookups.now }
     requires lawful { IsLawful graph.now first }
     requires held { cost_of graph.now first ≤ cost_of graph.now graph.now.held }
     requires greedy { (chosen : List (Option ℕ)) → IsGreedy graph.now chosen → IsLawful graph.now chosen → cost_of graph.now first ≤ cost_of graph.now chosen }
@@ -87,7 +87,7 @@ fn branch(
         match next(
             alloc,
             graph,
-            index,
+            lookups,
             &nodes,
             &values,
             place,

@@ -12,6 +12,7 @@ mod first_plan;
 mod found;
 mod growth;
 mod guide;
+mod lookups;
 mod lowest_leaf;
 mod parting;
 mod root;

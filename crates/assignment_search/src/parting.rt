@@ -4,13 +4,14 @@ ghost use Rattle.plan_rules.specs.Multipliers.{usable_of};
 ghost use Rattle.plan_rules.specs.Graph.{IsGoodGraph};
 ghost use Rattle.plan_rules.specs.Tree.{CanBranch};
 ghost use Rattle.plan_rules.specs.Path.{standing_of, IsPathOf};
-ghost use Rattle.dual_bound.specs.Index.{IsIndexOf};
-ghost use Rattle.assignment_search.specs.Growth.{IsNewEnd};
+ghost use Rattle.assignment_search.specs.Lookups.{AreLookupsOf};
+ghost use Rattle.assignment_search.specs.work.Apart.{AgreeApart};
+ghost use Rattle.assignment_search.specs.Growth.{IsJudged, IsNewEnd};
 ghost use Rattle.assignment_search.specs.Next.{IsParting};
 
-use crate::child::{End, new_end};
+use crate::child::{End, inherited_value, new_end};
 use crate::guide::Suggested;
-use dual_bound::RiderIndex;
+use crate::lookups::Lookups;
 use plan_rules::{Path, TripGraph};
 use pool_base::OutOfMemory;
 use std::alloc::Global;
@@ -24,22 +25,27 @@ pub struct Ends {
     pub second: End,
 }
 
-/// Parts the rows at the end of this path. Multipliers may be suggested for the two ends.
+/// Parts the rows at the end of this path, where these are allowed and the parent's multipliers are worth
+/// this. Multipliers may be suggested for the two ends.
 pub fn part(
     alloc: Global,
     graph: &TripGraph,
-    index: &RiderIndex,
+    lookups: &Lookups,
     path: Path,
+    before: &[bool],
     parent: &[i64],
+    value: i128,
     vehicle: usize,
     row: usize,
     suggested: Suggested,
 ) -> Result<Ends, OutOfMemory>
-    requires index { IsIndexOf graph.now index.now }
+    requires lookups { AreLookupsOf graph.now lookups.now }
     requires path { IsPathOf graph.now path }
+    requires len { length before.now ≡ length graph.now.rows }
+    requires before { (j : ℕ) → j < length graph.now.rows → usable_of before.now j ≡ (standing_of graph.now path).usable j }
     requires can { CanBranch graph.now (standing_of graph.now path).usable vehicle row }
     requires vehicle { vehicle < graph.now.vehicles }
-    requires parent { length parent.now ≡ graph.now.riders }
+    requires parent { IsJudged graph.now (usable_of before.now) parent.now value }
     ensures { IfOk result (IsParting graph.now (standing_of graph.now path).usable parent.now) }
 {
     let count = graph.vehicle_count();
@@ -49,9 +55,13 @@ pub fn part(
     let Suggested { taken, left } = suggested;
     let mut path = path;
     path.enter(vehicle as u32, row as u32)?;
-    let first = end_of(alloc, graph, index, &path, parent, taken)?;
+    let first = end_of(
+        alloc, graph, lookups, &path, before, parent, value, vehicle, taken,
+    )?;
     path.leave();
-    let second = end_of(alloc, graph, index, &path, parent, left)?;
+    let second = end_of(
+        alloc, graph, lookups, &path, before, parent, value, vehicle, left,
+    )?;
     Ok(Ends {
         vehicle: vehicle as u32,
         row: row as u32,
@@ -60,22 +70,29 @@ pub fn part(
     })
 }
 
-/// The end where this path leads.
+/// The end where this path leads. Of vehicles but this one it allows the same rows as before.
 fn end_of(
     alloc: Global,
     graph: &TripGraph,
-    index: &RiderIndex,
+    lookups: &Lookups,
     path: &Path,
+    before: &[bool],
     parent: &[i64],
+    value: i128,
+    vehicle: usize,
     suggested: Vec<i64>,
 ) -> Result<End, OutOfMemory>
-    requires index { IsIndexOf graph.now index.now }
+    requires lookups { AreLookupsOf graph.now lookups.now }
     requires path { IsPathOf graph.now path.now }
-    requires parent { length parent.now ≡ graph.now.riders }
+    requires len { length before.now ≡ length graph.now.rows }
+    requires vehicle { vehicle < graph.now.vehicles }
+    requires parent { IsJudged graph.now (usable_of before.now) parent.now value }
+    requires apart { AgreeApart graph.now vehicle (usable_of before.now) (standing_of graph.now path.now).usable }
     ensures { IfOk result (λ end. IsNewEnd graph.now (standing_of graph.now path.now).usable parent.now end.node end.value) }
 {
     let allowed = allowed_at(alloc, graph, path)?;
-    new_end(alloc, graph, index, &allowed, parent, suggested)
+    let value = inherited_value(graph, before, &allowed, parent, value, vehicle);
+    new_end(alloc, graph, lookups, &allowed, parent, value, suggested)
 }
 
 /// The rows that may be chosen where this path leads.

@@ -2,13 +2,13 @@
 ghost use Rattle.std.specs.Prelude.{IfOk};
 ghost use Rattle.plan_rules.specs.Graph.{IsGoodGraph};
 ghost use Rattle.plan_rules.specs.Tree.{every_row, rounded_up};
-ghost use Rattle.dual_bound.specs.Index.{IsIndexOf};
+ghost use Rattle.assignment_search.specs.Lookups.{AreLookupsOf};
 ghost use Rattle.assignment_search.specs.Growth.{IsGoodLeaf};
 
 use crate::child::{Judged, best_of};
 use crate::guide::Guide;
-use dual_bound::RiderIndex;
-use plan_rules::TripGraph;
+use crate::lookups::Lookups;
+use plan_rules::{TripGraph, leaf_value};
 use pool_base::OutOfMemory;
 use std::alloc::Global;
 
@@ -16,16 +16,17 @@ use std::alloc::Global;
 pub fn root_leaf(
     alloc: Global,
     graph: &TripGraph,
-    index: &RiderIndex,
+    lookups: &Lookups,
     guide: &Guide,
 ) -> Result<Judged, OutOfMemory>
-    requires { IsIndexOf graph.now index.now }
+    requires { AreLookupsOf graph.now lookups.now }
     ensures good { IsGoodGraph graph.now }
     ensures leaf { IfOk result (λ leaf. IsGoodLeaf graph.now (rounded_up leaf.value) every_row leaf.multipliers leaf.value) }
 {
     let allowed = vec![in alloc; true; graph.rows().len()]?;
     let zeros = vec![in alloc; 0; graph.rider_count()]?;
     let suggested = guide.root_multipliers(alloc)?;
-    let best = best_of(alloc, graph, index, &allowed, &zeros, suggested)?;
+    let value = leaf_value(graph, &allowed, &zeros);
+    let best = best_of(alloc, graph, lookups, &allowed, &zeros, value, suggested)?;
     Ok(best)
 }

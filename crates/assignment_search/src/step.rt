@@ -2,17 +2,17 @@
 ghost use Rattle.std.specs.Prelude.{◌≡◌, ◌+◌, ◌<◌, ◌≤◌, ℕ, pos, MatchBool, IfOk, List, ℤ, length, slice_index_or, [], ◌∷◌};
 ghost use Rattle.plan_rules.specs.Tree.{every_row, rounded_up};
 ghost use Rattle.plan_rules.specs.declared.node.Node.TheVariants.{Leaf};
-ghost use Rattle.dual_bound.specs.Index.{IsIndexOf};
+ghost use Rattle.assignment_search.specs.Lookups.{AreLookupsOf};
 ghost use Rattle.assignment_search.specs.Growth.{IsGrown, IsLowest};
 ghost use Rattle.assignment_search.specs.Next.{IsNext};
 
 use crate::branching::branch_row;
 use crate::guide::Guide;
+use crate::lookups::Lookups;
 use crate::lowest_leaf::is_met;
 use crate::parting::{Ends, allowed_at, part};
 use crate::sole_plan::sole_rows;
 use crate::standing::path_to;
-use dual_bound::RiderIndex;
 use plan_rules::{Node, Plan, TripGraph};
 use pool_base::OutOfMemory;
 use std::alloc::Global;
@@ -36,7 +36,7 @@ pub enum Outcome {
 pub fn next(
     alloc: Global,
     graph: &TripGraph,
-    index: &RiderIndex,
+    lookups: &Lookups,
     nodes: &[Node],
     values: &[i128],
     place: usize,
@@ -44,7 +44,7 @@ pub fn next(
     budget: usize,
     guide: &mut Guide,
 ) -> Result<Outcome, OutOfMemory>
-    requires index { IsIndexOf graph.now index.now }
+    requires lookups { AreLookupsOf graph.now lookups.now }
     requires lowest { IsLowest nodes.now values.now place }
     requires grown { (first : ℕ) × IsGrown graph.now (rounded_up (slice_index_or values.now place (pos 0))) first (every_row ∷ []) nodes.now values.now [] }
     ensures { IfOk result (IsNext graph.now nodes.now values.now place limit budget) }
@@ -68,7 +68,18 @@ pub fn next(
                 return Ok(Outcome::Full);
             }
             let suggested = guide.grow(alloc, place, row)?;
-            let ends = part(alloc, graph, index, path, parent, vehicle, row, suggested)?;
+            let ends = part(
+                alloc,
+                graph,
+                lookups,
+                path,
+                &allowed,
+                parent,
+                values[place],
+                vehicle,
+                row,
+                suggested,
+            )?;
             Ok(Outcome::Parted(ends))
         }
     }

@@ -19,7 +19,7 @@ const MOST_IDLE: u32 = 30;
 const TURNS_A_PLAN: u32 = 10;
 
 /// Where an ascent stands, and its work space.
-#[derive(Debug, Drop)]
+#[derive(Drop)]
 pub struct Ascent {
     /// The multipliers that are looked at, in 1/1024 second.
     point: Vec<i64>,

@@ -3,10 +3,11 @@ ghost use Rattle.std.specs.Prelude.{◌≡◌, ◌≤◌, ◌<◌, ◌*◌, ℕ,
 ghost use Rattle.plan_rules.specs.Sums.{int_sum_below};
 ghost use Rattle.plan_rules.specs.Multipliers.{usable_of, multiplier_at, first_fit, first_fit_value};
 ghost use Rattle.plan_rules.specs.Graph.{riders_at};
+ghost use Rattle.dual_bound.specs.Cheapest.{AreCheapestOf};
 ghost use Rattle.dual_bound.specs.Size.{HasLeastCosts, IsCost, IsModest};
 ghost use Rattle.dual_bound.specs.work.Ceiling.{AreCeilings};
 
-use crate::cheapest::least_costs;
+use crate::cheapest::{CheapestRows, least_costs, least_costs_by};
 use plan_rules::TripGraph;
 use pool_base::OutOfMemory;
 use std::alloc::Global;
@@ -26,6 +27,23 @@ pub fn first_fit_ceiling(
     let costs = least_costs(alloc, graph, allowed)?;
     let mut rooms = penalties(alloc, graph)?;
     Ok(ceiling_of(graph, allowed, &costs, &mut rooms))
+}
+
+/// A greater such number, by far fewer rows: those of one rider alone, where the cheapest of all rows are at
+/// hand.
+pub fn quick_ceiling(
+    alloc: Global,
+    graph: &TripGraph,
+    cheapest: &CheapestRows,
+    allowed: &[bool],
+) -> Result<i128, OutOfMemory>
+    requires cheapest { AreCheapestOf graph.now cheapest.now }
+    requires allowed { length allowed.now ≡ length graph.now.rows }
+    ensures { IfOk result (λ ceiling. first_fit_value graph.now (usable_of allowed.now) ≤ℤ ceiling) }
+{
+    let costs = least_costs_by(alloc, graph, cheapest, allowed)?;
+    let mut rooms = penalties(alloc, graph)?;
+    Ok(quick_ceiling_of(graph, allowed, &costs, &mut rooms))
 }
 
 /// The penalty, for each rider.
@@ -51,6 +69,50 @@ fn ceiling_of(graph: &TripGraph, allowed: &[bool], costs: &[i64], rooms: &mut [i
     prove!(vehicles <= 500 && riders <= 1000);
     lower_rooms(graph, allowed, costs, rooms);
     1024 * sum_of(costs) + sum_of(rooms)
+}
+
+/// The same by rows of one rider alone.
+fn quick_ceiling_of(graph: &TripGraph, allowed: &[bool], costs: &[i64], rooms: &mut [i64]) -> i128
+    requires allowed { length allowed.now ≡ length graph.now.rows }
+    requires costs { HasLeastCosts graph.now (usable_of allowed.now) costs.now }
+    requires len { length rooms.old ≡ graph.now.riders }
+    requires each { All (λ room. room ≡ pos (1024 * graph.now.penalty)) rooms.old }
+    ensures { first_fit_value graph.now (usable_of allowed.now) ≤ℤ result }
+{
+    let vehicles = graph.vehicle_count();
+    let riders = graph.rider_count();
+    prove!(vehicles <= 500 && riders <= 1000);
+    for vehicle in 0..graph.vehicle_count() {
+        lower_first_rooms(graph, allowed, costs, rooms, vehicle);
+    }
+    1024 * sum_of(costs) + sum_of(rooms)
+}
+
+/// Lowers the numbers of the riders of a vehicle's first rows, up to one of more than one rider.
+fn lower_first_rooms(
+    graph: &TripGraph,
+    allowed: &[bool],
+    costs: &[i64],
+    rooms: &mut [i64],
+    vehicle: usize,
+)
+    requires allowed { length allowed.now ≡ length graph.now.rows }
+    requires costs { HasLeastCosts graph.now (usable_of allowed.now) costs.now }
+    requires vehicle { vehicle < graph.now.vehicles }
+    requires above { AreCeilings graph.now (usable_of allowed.now) rooms.old }
+    ensures above { AreCeilings graph.now (usable_of allowed.now) rooms.new }
+{
+    let count = graph.vehicle_count();
+    prove!(vehicle < count);
+    let rows = graph.rows();
+    for row in graph.first_row(vehicle)..graph.first_row(vehicle + 1) {
+        if rows[row].riders.as_slice().len() > 1 {
+            return;
+        }
+        if allowed[row] {
+            lower_for(graph, allowed, costs, rooms, row);
+        }
+    }
 }
 
 /// Lowers each rider's number to what an allowed row with her costs above its vehicle's cheapest one.

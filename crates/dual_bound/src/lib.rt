@@ -13,7 +13,8 @@ mod first_fit_pass;
 mod laws;
 mod rider_index;
 
-pub use ceiling::first_fit_ceiling;
+pub use ceiling::{first_fit_ceiling, quick_ceiling};
+pub use cheapest::CheapestRows;
 pub use climbing::{ascend, climb};
 pub use first_fit_pass::{first_fit, first_fit_by};
 pub use laws::{first_fit_is_between_zero_and_the_penalty, first_fit_value_is_a_sum};

@@ -10,7 +10,7 @@ use Rattle.plan_rules.proofs.lemmas.GraphLemmas.{has, rider_below, in_choice, ti
 use Rattle.plan_rules.proofs.lemmas.PlanLemmas.{own_row, held_own}
 use Rattle.plan_rules.proofs.lemmas.MarkLemmas.{any_marked, marked_one}
 use Rattle.std.proofs.lemmas.Bool.{ltb-true}
-use Rattle.plan_rules.specs.work.DeadEnd.{MarksUsable, MarksSole}
+use Rattle.plan_rules.specs.work.DeadEnd.{StandsInUsable, MarksSomeUsable, MarksSole}
 
 -- the marks with those of a row's riders added
 pub record AddsRow (g : Graph) (k : ℕ) (old new : List Bool) : Type 0 where
@@ -38,36 +38,6 @@ marks_new g k old new r adds sized row e =
 
 -- ---- usable rows
 
-pub usable_none : (g : Graph) (usable : Usable) (marks : List Bool) → ((r : ℕ) → get_or marks r false ≡ false) → MarksUsable g usable 0 marks
-usable_none g usable marks clear = record {
-  from_row = λ r e. absurd (both_ways _ (clear r) e);
-  of_row = λ k r l may e. absurd (omega (arith, l));
-}
-
-pub usable_more : (g : Graph) (usable : Usable) (n : ℕ) (old new : List Bool) → AddsRow g n old new → length old ≡ g.riders → IsGraphRow g.vehicles g.riders (row_at g n) → usable n ≡ true → MarksUsable g usable n old → MarksUsable g usable (n + 1) new
-usable_more g usable n old new adds sized row may before = record {
-  from_row = λ r e.
-      ⊎_elim
-      (λ (was : get_or old r false ≡ true). let w = before.from_row r was in (w.0, omega (arith, w.1), w.2, w.3))
-      (λ (new_one : has_rider g n r ≡ true). (n, omega arith, may, new_one))
-      (marks_from g n old new r adds e);
-  of_row = λ k r l use_it e.
-      ⊎_elim
-      (λ (here : k ≡ n). marks_new g n old new r adds sized row (subst (λ (j : ℕ). has_rider g j r ≡ true) here e))
-      (λ (other : k ≡ n → ⊥). marks_old g n old new r adds (before.of_row k r (omega (arith, l)) use_it e))
-      (cases_eq k n);
-}
-
-pub usable_kept : (g : Graph) (usable : Usable) (n : ℕ) (marks : List Bool) → usable n ≡ false → MarksUsable g usable n marks → MarksUsable g usable (n + 1) marks
-usable_kept g usable n marks out before = record {
-  from_row = λ r e. let w = before.from_row r e in (w.0, omega (arith, w.1), w.2, w.3);
-  of_row = λ k r l use_it e.
-      ⊎_elim
-      (λ (here : k ≡ n). absurd (both_ways _ out (subst (λ (j : ℕ). usable j ≡ true) here use_it)))
-      (λ (other : k ≡ n → ⊥). before.of_row k r (omega (arith, l)) use_it e)
-      (cases_eq k n);
-}
-
 -- a rider who must be served is one of the graph's
 pub must_below : (g : Graph) (r : ℕ) → IsGoodGraph g → must_be_served g r ≡ true → r < g.riders
 must_below g r good must =
@@ -77,9 +47,9 @@ must_below g r good must =
     let own = own_row g (v.0) (k.0) (choice_at g.held (v.0)) (held_own g (v.0) (choice_at g.held (v.0)) (good.holds (v.0) (v.1))) (k.1) in
     rider_below g (k.0) r (good.rows (k.0) own.within) (k.2)
 
-pub not_stranded : (g : Graph) (usable : Usable) (marks : List Bool) → IsGoodGraph g → MarksUsable g usable (length g.rows) marks → ((r : ℕ) → r < g.riders → must_be_served g r ≡ true → get_or marks r false ≡ true) → IsStranded g usable → ⊥
-not_stranded g usable marks good marked all s =
-    let w = marked.from_row s.rider (all s.rider (must_below g s.rider good s.must) s.must) in
+pub not_stranded : (g : Graph) (usable : Usable) → IsGoodGraph g → ((r : ℕ) → r < g.riders → must_be_served g r ≡ true → StandsInUsable g usable r) → IsStranded g usable → ⊥
+not_stranded g usable good all s =
+    let w = all s.rider (must_below g s.rider good s.must) s.must in
     both_ways _ (s.nowhere (w.0) (w.1) (w.2)) (w.3)
 
 -- ---- sole rows

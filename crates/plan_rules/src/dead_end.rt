@@ -1,10 +1,10 @@
 //! Whether no lawful plan is left at a place in a tree, as is seen at once.
-ghost use Rattle.std.specs.Prelude.{◌≡◌, ◌+◌, ◌<◌, ◌≤◌, ◌↔◌, ℕ, IsTrue, IfSome, IfNone, All, length, slice_index_or, false, true, ◌||◌, ◌==◌};
+ghost use Rattle.std.specs.Prelude.{◌≡◌, ◌+◌, ◌<◌, ◌≤◌, ◌↔◌, ℕ, IsTrue, IfSome, IfNone, MatchBool, All, length, slice_index_or, false, true, ◌||◌, ◌==◌};
 ghost use Rattle.std.specs.List.{list_any};
 ghost use Rattle.plan_rules.specs.Graph.{has_rider};
 ghost use Rattle.plan_rules.specs.Multipliers.{usable_of};
 ghost use Rattle.plan_rules.specs.Tree.{IsSoleRow, IsClash, IsStranded, IsDeadEnd};
-ghost use Rattle.plan_rules.specs.work.DeadEnd.{MarksUsable, MarksSole};
+ghost use Rattle.plan_rules.specs.work.DeadEnd.{MarksSomeUsable, StandsInUsable, StandsInNone, MarksSole};
 
 use crate::graph::TripGraph;
 
@@ -21,7 +21,7 @@ pub fn is_dead_end(graph: &TripGraph, allowed: &[bool], marks: &mut [bool]) -> b
         return true;
     }
     clear(marks);
-    mark_usable(graph, allowed, marks);
+    mark_held(graph, allowed, marks);
     has_stranded(graph, allowed, marks)
 }
 
@@ -79,29 +79,49 @@ fn sole_row(graph: &TripGraph, allowed: &[bool], vehicle: usize) -> Option<usize
     sole
 }
 
-fn mark_usable(graph: &TripGraph, allowed: &[bool], marks: &mut [bool])
+/// Marks the riders of the held rows that are allowed.
+fn mark_held(graph: &TripGraph, allowed: &[bool], marks: &mut [bool])
     requires allowed { length allowed.now ≡ length graph.now.rows }
     requires marks { length marks.old ≡ graph.now.riders }
     requires clear { (r : ℕ) → slice_index_or marks.old r false ≡ false }
-    ensures marked { MarksUsable graph.now (usable_of allowed.now) (length graph.now.rows) marks.new }
+    ensures marked { MarksSomeUsable graph.now (usable_of allowed.now) marks.new }
     ensures marks { length marks.new ≡ length marks.old }
 {
     let rows = graph.rows();
-    for row in 0..rows.len() {
-        if allowed[row] {
-            mark_riders(rows[row].riders.as_slice(), marks);
+    let held = graph.held();
+    for vehicle in 0..held.len() {
+        if let Some(number) = held[vehicle] {
+            let row = number as usize;
+            if row < rows.len() && allowed[row] {
+                mark_riders(rows[row].riders.as_slice(), marks);
+            }
         }
     }
 }
 
-/// Whether a rider who must be served isn't marked.
+/// Whether a rider who must be served stands in no allowed row. The marked ones stand in some.
 fn has_stranded(graph: &TripGraph, allowed: &[bool], marks: &[bool]) -> bool
+    requires allowed { length allowed.now ≡ length graph.now.rows }
     requires marks { length marks.now ≡ graph.now.riders }
-    requires marked { MarksUsable graph.now (usable_of allowed.now) (length graph.now.rows) marks.now }
+    requires marked { MarksSomeUsable graph.now (usable_of allowed.now) marks.now }
     ensures { IsTrue result ↔ IsStranded graph.now (usable_of allowed.now) }
 {
     for rider in 0..graph.rider_count() {
-        if graph.must(rider) && !marks[rider] {
+        if graph.must(rider) && !marks[rider] && !stands(graph, allowed, rider) {
+            return true;
+        }
+    }
+    false
+}
+
+/// Whether the rider stands in an allowed row.
+fn stands(graph: &TripGraph, allowed: &[bool], rider: usize) -> bool
+    requires { length allowed.now ≡ length graph.now.rows }
+    ensures { MatchBool result (StandsInUsable graph.now (usable_of allowed.now) rider) (StandsInNone graph.now (usable_of allowed.now) (length graph.now.rows) rider) }
+{
+    let rows = graph.rows();
+    for row in 0..rows.len() {
+        if allowed[row] && rows[row].riders.as_slice().contains(&rider) {
             return true;
         }
     }

@@ -39,4 +39,4 @@ pub use plan::Plan;
 pub use row::TripRow;
 pub use rules::{cost_of, held_plan, is_lawful};
 pub use tree::Tree;
-pub use value::{leaf_value, rounded_up};
+pub use value::{leaf_value, rounded_up, vehicle_part};

@@ -47,7 +47,12 @@ fn vehicle_terms(graph: &TripGraph, allowed: &[bool], multipliers: &[i64]) -> i1
 }
 
 /// The least reduced cost of the vehicle's allowed rows, 0 where it has none.
-fn vehicle_part(graph: &TripGraph, allowed: &[bool], multipliers: &[i64], vehicle: usize) -> i128
+pub fn vehicle_part(
+    graph: &TripGraph,
+    allowed: &[bool],
+    multipliers: &[i64],
+    vehicle: usize,
+) -> i128
     requires allowed { length allowed.now ≡ length graph.now.rows }
     requires multipliers { length multipliers.now ≡ graph.now.riders }
     requires vehicle { vehicle < graph.now.vehicles }

@@ -4,11 +4,12 @@ use Rattle.plan_rules.specs.Plan.{IsLawful, cost_of}
 use Rattle.plan_rules.specs.Multipliers.{Usable, usable_of}
 use Rattle.plan_rules.specs.Tree.{every_row, rounded_up, CanBranch}
 use Rattle.plan_rules.specs.Path.{standing_of}
+use Rattle.plan_rules.proofs.lemmas.UsableLemmas.{can_branch_agrees}
 use Rattle.plan_rules.specs.declared.node.Node.{Node}
 use Rattle.plan_rules.specs.declared.node.Node.TheVariants.{Leaf, Dead}
-use Rattle.assignment_search.specs.Growth.{IsFixed, IsSolePlan, choice_count}
+use Rattle.assignment_search.specs.Growth.{IsFixed, IsSolePlan, IsJudged, choice_count}
 use Rattle.assignment_search.proofs.GrowthLemmas.{grown_reads, grown_length}
-use Rattle.assignment_search.proofs.AnswerLemmas.{lowest_small, parent_sized, fixed_answer, full_answer}
+use Rattle.assignment_search.proofs.AnswerLemmas.{small_back, lowest_small, judged_here, fixed_answer, full_answer}
 use Rattle.assignment_search.proofs.step.next.Goals as goal
 
 pub is_met-requires-clause-place : goal.is_met-requires-clause-place
@@ -40,14 +41,36 @@ returns-then-is_full c =
     c.requires.lowest c.requires.grown.1 c.in_ok-path.ensures.reads c.in_ok-allowed.ensures.allowed v k (c.in-Some-branch_row.ensures.found.1) can in
     (full, omega (arith, full, short))
 
+pub bounds-values-place : goal.bounds-values-place
+bounds-values-place c =
+    let values : List ℤ = c.args.values.now in
+    let size = grown_length c.args.graph.now (rounded_up (get_or values c.args.place (pos 0))) c.requires.grown.0 c.args.nodes.now values (every_row ∷ []) [] c.requires.grown.1 in
+    omega (arith, c.requires.lowest.within, size)
+
+pub part-requires-clause-can : goal.part-requires-clause-can
+part-requires-clause-can c =
+    let g = c.args.graph.now in
+    let allowed : List Bool = c.in_ok-allowed.allowed.items in
+    let v = c.in-Some-branch_row.vehicle in
+    let k = c.in-Some-branch_row.row in
+    can_branch_agrees g (usable_of allowed) (standing_of g c.in_ok-path.path).usable v k c.in_ok-allowed.ensures.allowed
+    (subst (λ (xs : List Bool). CanBranch g (usable_of xs) v k) c.deref.ensures.value (c.in-Some-branch_row.ensures.found.0))
+
 pub part-requires-clause-parent : goal.part-requires-clause-parent
 part-requires-clause-parent c =
+    let g = c.args.graph.now in
+    let path = c.in_ok-path.path in
     let nodes : List Node = c.args.nodes.now in
     let values : List ℤ = c.args.values.now in
+    let allowed : List Bool = c.in_ok-allowed.allowed.items in
+    let parent : List ℤ = c.multipliers_of-parent.result.now in
     let node : Node = c.index-nodes-place.result in
     let here : node ≡ get_or nodes c.args.place Dead = get_or_read nodes c.args.place node c.requires.lowest.within c.index-nodes-place.is Dead in
-    parent_sized c.args.graph.now (rounded_up (get_or values c.args.place (pos 0))) c.requires.grown.0 nodes values c.args.place c.multipliers_of-parent.result.now c.requires.grown.1 c.requires.lowest
-    (sym here ∙ c.multipliers_of-parent.ensures)
+    let value : ℤ = get_or values c.args.place (pos 0) in
+    let judged : IsJudged g (usable_of allowed) parent value = judged_here g c.requires.grown.0 c.args.place nodes values (standing_of g path).usable (standing_of g path).coming allowed c.allowed_at.ensures.good
+    c.requires.lowest c.requires.grown.1 c.in_ok-path.ensures.reads c.in_ok-allowed.ensures.allowed parent (sym here ∙ c.multipliers_of-parent.ensures) in
+    subst (IsJudged g (usable_of c.deref-in-Some-branch_row.result.now) parent) (sym (small_back value judged.small))
+    (subst (λ (xs : List Bool). IsJudged g (usable_of xs) parent value) (sym c.deref-in-Some-branch_row.ensures.value) judged)
 
 pub returns-in_ok-chosen-in-None : goal.returns-in_ok-chosen-in-None
 returns-in_ok-chosen-in-None c =

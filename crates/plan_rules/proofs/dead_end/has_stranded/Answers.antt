@@ -7,6 +7,6 @@ use Rattle.plan_rules.proofs.dead_end.has_stranded.Goals as goal
 pub returns : goal.returns
 returns c = (
   λ e. absurd (false≢true e),
-  λ s. absurd (not_stranded c.args.graph.now (usable_of c.args.allowed.now) c.args.marks.now c.rider_count-rider-end.ensures.good c.requires.marked
+  λ s. absurd (not_stranded c.args.graph.now (usable_of c.args.allowed.now) c.rider_count-rider-end.ensures.good
       (λ r l must. c.loop-rider.invariant r (omega (arith, l, c.rider_count-rider-end.ensures.value)) must) s),
 )

@@ -1,0 +1,87 @@
+-- Leaf values where the usable rows of one vehicle alone changed.
+use Rattle.std.proofs.Common.{◌≡◌, ◌≢◌, ◌==◌, ◌&&◌, ◌||◌, not, ℕ, zero, suc, ◌<◌, Bool, true, false, List, length, Option, ℤ, pos, negsuc, ◌+ℤ◌, ◌-ℤ◌, FitsSigned, to_z, of_z, refl, sym, ap, ◌∙◌, ⊎_elim, arith, ne_eqb}
+use Rattle.std.specs.Prelude.{unwrap_or}
+use mir.Syntax.{w128}
+use Rattle.std.proofs.lemmas.Int.{ints, to_z-of_z}
+use Rattle.std.proofs.lemmas.Bool.{cases_eq, and_left, false≢true}
+use Rattle.plan_rules.specs.Sums.{int_sum_below}
+use Rattle.plan_rules.specs.Graph.{Graph, row_vehicle}
+use Rattle.plan_rules.specs.Multipliers.{Usable, is_usable_by, reduced_cost, vehicle_term, leaf_value}
+use Rattle.plan_rules.specs.Size.{IsSmall, IsSmallSum}
+use Rattle.plan_rules.specs.Tree.{only_row, without_row}
+use Rattle.plan_rules.proofs.lemmas.SumLemmas.{int_sum_same}
+use Rattle.plan_rules.proofs.lemmas.UsableLemmas.{least_below_agrees}
+use Rattle.assignment_search.specs.work.Apart.{AgreeApart}
+
+-- two sums whose terms differ at one number alone
+int_sum_moved : (n v : ℕ) (f h : ℕ → ℤ) → v < n → ((w : ℕ) → w < n → w ≢ v → f w ≡ h w) → int_sum_below n h ≡ (int_sum_below n f -ℤ f v) +ℤ h v
+int_sum_moved zero v f h l e = absurd (omega (arith, l))
+int_sum_moved (suc n) v f h l e =
+    ⊎_elim
+    (λ (here : v ≡ n).
+    let rest : int_sum_below n f ≡ int_sum_below n h = int_sum_same n f h (λ w low. e w (omega (arith, low)) (λ (is : w ≡ v). omega (arith, low, is, here))) in
+    let first : f v ≡ f n = ap f here in
+    let second : h v ≡ h n = ap h here in
+    omega (arith, ints, rest, first, second))
+    (λ (other : v ≡ n → ⊥).
+    let rest : int_sum_below n h ≡ (int_sum_below n f -ℤ f v) +ℤ h v = int_sum_moved n v f h (omega (arith, l, other)) (λ w low. e w (omega (arith, low))) in
+    let last : f n ≡ h n = e n (omega arith) (λ (is : n ≡ v). other (sym is)) in
+    omega (arith, ints, rest, last))
+    (cases_eq v n)
+
+term_apart : (g : Graph) (u w : Usable) (ms : List ℤ) (v x : ℕ) → AgreeApart g v u w → x ≢ v → vehicle_term g u ms x ≡ vehicle_term g w ms x
+term_apart g u w ms v x e other =
+    ap (λ (o : Option ℤ). unwrap_or o (pos 0))
+    (least_below_agrees (length g.rows) (is_usable_by g u x) (is_usable_by g w x) (reduced_cost g ms)
+    (λ k l. ⊎_elim
+    (λ (own : row_vehicle g k ≡ x). ap (λ (b : Bool). (row_vehicle g k == x) && b) (e k l (λ (is : row_vehicle g k ≡ v). other (sym own ∙ is))))
+    (λ (no : row_vehicle g k ≡ x → ⊥). and_left (row_vehicle g k == x) (u k) (ne_eqb (row_vehicle g k) x no) ∙ sym (and_left (row_vehicle g k == x) (w k) (ne_eqb (row_vehicle g k) x no)))
+    (cases_eq (row_vehicle g k) x)))
+
+-- a value changes by the changed vehicle's part
+pub value_moved : (g : Graph) (u w : Usable) (ms : List ℤ) (v : ℕ) (z old new : ℤ) → v < g.vehicles → AgreeApart g v u w → z ≡ leaf_value g u ms → old ≡ vehicle_term g u ms v → new ≡ vehicle_term g w ms v → (z -ℤ old) +ℤ new ≡ leaf_value g w ms
+unfolding leaf_value
+value_moved g u w ms v z old new low e value was is =
+    let moved : int_sum_below g.vehicles (vehicle_term g w ms) ≡ (int_sum_below g.vehicles (vehicle_term g u ms) -ℤ vehicle_term g u ms v) +ℤ vehicle_term g w ms v =
+    int_sum_moved g.vehicles v (vehicle_term g u ms) (vehicle_term g w ms) low (λ x l other. term_apart g u w ms v x e other) in
+    omega (arith, ints, moved, value, was, is)
+
+-- ---- in 128 bits
+
+fits : (z : ℤ) → IsSmallSum 1502 z → FitsSigned w128 z
+fits (pos n) h = record { sfits = omega (arith, ints, h.high) }
+fits (negsuc n) h = record { sfits = omega (arith, ints, h.low) }
+
+back : (z : ℤ) → IsSmallSum 1502 z → to_z w128 (of_z w128 z) ≡ z
+back z h = to_z-of_z w128 z (fits z h)
+
+-- nothing is lost as the value is computed
+pub computed : (z old new : ℤ) → IsSmallSum 1500 z → IsSmall old → IsSmall new
+    → to_z w128 (of_z w128 (to_z w128 (of_z w128 (to_z w128 (of_z w128 z) -ℤ to_z w128 (of_z w128 old))) +ℤ to_z w128 (of_z w128 new))) ≡ (z -ℤ old) +ℤ new
+computed z old new h ho hn =
+    let here : to_z w128 (of_z w128 z) ≡ z = back z (record { low = omega (arith, ints, h.low); high = omega (arith, ints, h.high) }) in
+    let was : to_z w128 (of_z w128 old) ≡ old = back old (record { low = omega (arith, ints, ho.low); high = omega (arith, ints, ho.high) }) in
+    let is : to_z w128 (of_z w128 new) ≡ new = back new (record { low = omega (arith, ints, hn.low); high = omega (arith, ints, hn.high) }) in
+    let less : to_z w128 (of_z w128 z) -ℤ to_z w128 (of_z w128 old) ≡ z -ℤ old = λ i. here i -ℤ was i in
+    let rest : to_z w128 (of_z w128 (to_z w128 (of_z w128 z) -ℤ to_z w128 (of_z w128 old))) ≡ z -ℤ old =
+    ap (λ (y : ℤ). to_z w128 (of_z w128 y)) less ∙ back (z -ℤ old) (record { low = omega (arith, ints, h.low, ho.high); high = omega (arith, ints, h.high, ho.low) }) in
+    ap (λ (y : ℤ). to_z w128 (of_z w128 y)) (λ i. rest i +ℤ is i)
+    ∙ back ((z -ℤ old) +ℤ new) (record { low = omega (arith, ints, h.low, ho.high, hn.low); high = omega (arith, ints, h.high, ho.low, hn.high) })
+
+-- ---- the two ends of a branch
+
+kept_only : (a b c : Bool) → b ≡ false → a ≡ (a && (not b || c))
+kept_only false b c e = refl
+kept_only true false c e = refl
+kept_only true true c e = absurd (false≢true (sym e))
+
+kept_without : (a b : Bool) → b ≡ false → a ≡ (a && not b)
+kept_without false b e = refl
+kept_without true false e = refl
+kept_without true true e = absurd (false≢true (sym e))
+
+pub only_apart : (g : Graph) (u : Usable) (v k : ℕ) → AgreeApart g v u (only_row g u v k)
+only_apart g u v k j l other = kept_only (u j) (row_vehicle g j == v) (j == k) (ne_eqb (row_vehicle g j) v other)
+
+pub without_apart : (g : Graph) (u : Usable) (v k : ℕ) → row_vehicle g k ≡ v → AgreeApart g v u (without_row u k)
+without_apart g u v k own j l other = kept_without (u j) (j == k) (ne_eqb j k (λ (is : j ≡ k). other (ap (row_vehicle g) is ∙ own)))

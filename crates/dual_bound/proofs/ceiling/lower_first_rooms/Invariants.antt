@@ -1,0 +1,6 @@
+use Rattle.plan_rules.specs.Multipliers.{usable_of}
+use Rattle.dual_bound.specs.work.Ceiling.{AreCeilings}
+use Rattle.dual_bound.proofs.ceiling.lower_first_rooms.Given as goal
+
+abbrev pub invariant-loop-row : goal.invariant-loop-row
+invariant-loop-row l = AreCeilings l.graph (usable_of l.allowed) l.rooms

@@ -1,0 +1,6 @@
+use Rattle.plan_rules.specs.Multipliers.{usable_of}
+use Rattle.dual_bound.specs.work.Ceiling.{AreCeilings}
+use Rattle.dual_bound.proofs.ceiling.quick_ceiling_of.Given as goal
+
+abbrev pub invariant-loop-vehicle : goal.invariant-loop-vehicle
+invariant-loop-vehicle l = AreCeilings l.graph (usable_of l.allowed) l.rooms

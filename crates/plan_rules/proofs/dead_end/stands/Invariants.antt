@@ -1,0 +1,6 @@
+use Rattle.plan_rules.specs.Multipliers.{usable_of}
+use Rattle.plan_rules.specs.work.DeadEnd.{StandsInNone}
+use Rattle.plan_rules.proofs.dead_end.stands.Given as goal
+
+abbrev pub invariant-loop-row : goal.invariant-loop-row
+invariant-loop-row l = StandsInNone l.graph (usable_of l.allowed) l.row l.rider
