@@ -3,9 +3,9 @@ ghost use Rattle.std.specs.Prelude.{IfOk};
 ghost use Rattle.assignment_search.specs.Lookups.{AreLookupsOf};
 
 use dual_bound::{CheapestRows, RiderIndex};
-use linear_relaxation::RowTable;
 use plan_rules::TripGraph;
 use pool_base::OutOfMemory;
+use row_tables::RowTable;
 use std::alloc::Global;
 
 /// The rows of each rider, and the cheapest of each vehicle.
