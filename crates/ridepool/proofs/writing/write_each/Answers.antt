@@ -43,8 +43,8 @@ returns-in-Ok-write_end-clause-rounds g c =
     (written_whole s roads c.args.book c.loop-round.current rounds i before here _ _ end c.loop-round.invariant.0) c.next_position-position.ensures c.in-Ok-write_end.ensures.bytes)
     c.flush.ensures
 
-pub returns-clause-rounds : goal.returns-clause-rounds
-returns-clause-rounds g c =
+pub returns-in-Err-write_end-clause-rounds : goal.returns-in-Err-write_end-clause-rounds
+returns-in-Err-write_end-clause-rounds g c =
     let s = c.args.setup.now.settings.now in
     let roads = c.args.setup.now.network.now in
     let rounds = c.args.rounds.now in
