@@ -4,8 +4,9 @@
     tests/edits.py                 whether each still applies: its old text stands once where it says
     tests/edits.py try [CRATE ..]  tries those of these crates, or all, on a copy of the repository
 
-They lie in tests/edits/CRATE/ and are of the form of crates/CRATE/must-fail/, which the gate tries. The last line
-is `N passed, M failed`; of a try it counts the edits that the prover refused.
+They lie in tests/edits/CRATE/ and are of the form of crates/CRATE/must-fail/, which the gate tries. Each was refused
+when it was last tried, which for many was before later changes of their crates. The last line is
+`N passed, M failed`; of a try it counts the edits that the prover refused.
 """
 
 import shutil
