@@ -62,7 +62,7 @@ def try_edits(crates):
         copy = Path(folder)
         for name in ("crates.txt", "HANDLES"):
             shutil.copy(TOP / name, copy)
-        shutil.copytree(TOP / "crates", copy / "crates", ignore=shutil.ignore_patterns("must-fail"))
+        shutil.copytree(TOP / "crates", copy / "crates", ignore=shutil.ignore_patterns("must-fail", "out"))
         for crate in crates or sorted(it.name for it in EDITS.iterdir()):
             shutil.copytree(EDITS / crate, copy / "crates" / crate / "must-fail")
             ran = subprocess.run(["rt", "must-fail", crate], cwd=copy, stdout=subprocess.PIPE, text=True)
