@@ -2,8 +2,8 @@ ghost use Rattle.std.specs.Prelude.{None};
 
 use pool_base::Which;
 use pool_io::{Failed, MemorySink, MemorySource};
-use rider_notices::{Notice, Notifier};
 use ridepool::{RunStatus, fault_text, ridepool};
+use rider_notices::{Notice, Notifier};
 use std::alloc::{AllocError, Global};
 use std::cell::Cell;
 use std::rc::Rc;
@@ -436,7 +436,10 @@ fn a_report_is_confirmed_or_refused_in_pieces_of_any_size(rt: HostRuntime) -> Re
     let report = with_trees(rt.alloc(), REPORT)?;
     for pieces in [1, 7, 100_000] {
         let left = ran_with(&rt, rt.alloc(), AUDIT, SUBMITS, &report, pieces, NOTHING)?;
-        assert_eq!(rt; left.shown.as_slice(), b"|audit ok entries 4 batches 0\n".as_slice());
+        assert_eq!(rt;
+            left.shown.as_slice(),
+            b"|audit ok entries 4 batches 0\n".as_slice()
+        );
         assert!(rt; left.told == 0 && left.notifiers == 3);
         let left = ran_with(&rt, rt.alloc(), AUDIT, SUBMITS, REPORT, pieces, NOTHING)?;
         assert!(rt; is_untouched(&left, b"report: wrong head at line 2|"));
