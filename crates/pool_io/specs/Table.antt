@@ -1,4 +1,4 @@
-use Rattle.std.specs.Prelude.{ℕ, ◌==◌, Bool, not, if◌then◌else◌, List, [], ◌∷◌, length, slice_index_or, Result, Ok, Err}
+use Rattle.std.specs.Prelude.{ℕ, ◌==◌, not, if◌then◌else◌, List, [], ◌∷◌, length, slice_index_or, Result, Ok, Err}
 use Rattle.std.specs.List.{slice_split, position_from}
 use Rattle.std.specs.Option.{option_map_or}
 use Rattle.std.specs.Str.{bytes_eq}
@@ -20,19 +20,9 @@ record_at table row = slice_index_or table.records row []
 abbrev pub field_at : List (List ℕ) → ℕ → List ℕ
 field_at fields column = slice_index_or fields column []
 
--- the records that bytes hold, as the `csv` crate reads them with its defaults: fields between commas,
--- quotes round a field, records ended by a line feed, a carriage return or both, empty lines skipped,
--- a byte order mark at the start skipped
-abbrev pub records_of : List ℕ → List (List (List ℕ))
-records_of bytes = records default_config (strip_bom bytes)
-
 -- the fields of a header line, which commas part
 abbrev pub header_fields : List ℕ → List (List ℕ)
 header_fields header = slice_split (λ byte. byte == 44) header
-
--- whether two records have as many fields, each equal byte for byte
-abbrev pub is_record : List (List ℕ) → List (List ℕ) → Bool
-is_record fields others = pointwise bytes_eq fields others
 
 -- the rows, or the first with another number of fields; rows count from 1
 abbrev pub even_rows : ℕ → List (List (List ℕ)) → Result Table RowFault
@@ -40,12 +30,14 @@ even_rows columns rows =
     option_map_or (λ row. Err (UnequalLength row)) (position_from (λ fields. not (length fields == columns)) 1 rows)
     (Ok (record { columns = columns; records = rows }))
 
--- what records give under a header: the rows after the first record, which is the header
+-- what records give under a header: the rows after the first record, which has the header's fields byte for byte
 abbrev pub rows_under : List (List ℕ) → List (List (List ℕ)) → Result Table RowFault
 rows_under names [] = Err (Header 0)
 rows_under names (first ∷ rows) =
-    if is_record first names then even_rows (length names) rows else Err (Header (length first))
+    if pointwise bytes_eq first names then even_rows (length names) rows else Err (Header (length first))
 
--- the table that bytes hold under a header line, or the first refusal
+-- the table that bytes hold under a header line, or the first refusal; the bytes hold records as the `csv` crate
+-- reads them with its defaults: fields between commas, quotes round a field, records ended by a line feed, a carriage
+-- return or both, empty lines skipped, a byte order mark at the start skipped
 abbrev pub table_of : List ℕ → List ℕ → Result Table RowFault
-table_of header bytes = rows_under (header_fields header) (records_of bytes)
+table_of header bytes = rows_under (header_fields header) (records default_config (strip_bom bytes))
