@@ -29,26 +29,13 @@ abbrev pub by_start : ℕ → List Arc → List Arc
 by_start zero arcs = []
 by_start (suc node) arcs = by_start node arcs ++ leaving node arcs
 
--- the limits of a network
-abbrev pub most_nodes : ℕ
-most_nodes = 100000
-
-abbrev pub most_arcs : ℕ
-most_arcs = 400000
-
-abbrev pub longest_arc : ℕ
-longest_arc = 10000
-
-abbrev pub greatest_name : ℕ
-greatest_name = 1000000000
-
--- an arc joins two of so many nodes, within the greatest number of seconds
+-- an arc joins two of so many nodes, in at most 10,000 seconds
 abbrev pub IsArcAmong : ℕ → Arc → Type 0
-IsArcAmong count arc = (arc.from < count) × (arc.to < count) × (arc.seconds ≤ longest_arc)
+IsArcAmong count arc = (arc.from < count) × (arc.to < count) × (arc.seconds ≤ 10000)
 
 -- what every network keeps
 pub record IsNetwork (roads : Roads) : Type 0 where
-  pub few_nodes : length roads.nodes ≤ most_nodes
-  pub few_arcs : length roads.arcs ≤ most_arcs
+  pub few_nodes : length roads.nodes ≤ 100000
+  pub few_arcs : length roads.arcs ≤ 400000
   pub distinct : IsDistinct nat_eq roads.nodes
   pub arcs : All (IsArcAmong (length roads.nodes)) roads.arcs

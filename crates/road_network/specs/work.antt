@@ -1,2 +1,4 @@
+pub mod Limits
 pub mod Storage
 pub mod Numbering
+pub mod Rows

@@ -1,5 +1,6 @@
 ghost use Rattle.std.specs.Prelude.{◌≡◌, ◌↔◌, ℕ, ◌+◌, ◌<◌, ◌≤◌, Some, All, Contains, IsTrue, IsSome, IfOk, IfSome, length, map, nat_eq, position, slice_get};
-ghost use Rattle.road_network.specs.Roads.{IsArcAmong, IsNetwork, by_start, greatest_name, hop_of, leaving, most_arcs, most_nodes};
+ghost use Rattle.road_network.specs.Roads.{IsArcAmong, IsNetwork, by_start, hop_of, leaving};
+ghost use Rattle.road_network.specs.work.Limits.{greatest_name, most_arcs, most_nodes};
 ghost use Rattle.road_network.specs.Storage.{start_at};
 
 use crate::arc::Arc;
@@ -100,7 +101,7 @@ impl Network {
     /// How many arcs there are.
     pub fn arc_count(&self) -> usize
         ensures count { result ≡ length self.now.arcs }
-        ensures few { result ≤ most_arcs }
+        ensures few { result ≤ 400000 }
     {
         self.hops.len()
     }
