@@ -3,7 +3,7 @@ use Rattle.plan_rules.specs.Graph.{Graph}
 use Rattle.plan_rules.specs.Plan.{IsLawful, cost_of}
 use Rattle.plan_rules.specs.Greedy.{IsGreedy}
 use Rattle.plan_rules.specs.Multipliers.{Usable, leaf_value, first_fit_value}
-use Rattle.plan_rules.specs.Tree.{every_row, SearchTree, IsTreeOf, places, tree_value, rounded_up}
+use Rattle.plan_rules.specs.Tree.{every_row, SearchTree, IsTreeOf, places_within, tree_value, rounded_up}
 use Rattle.assignment_search.specs.Change.{HasNoBetterChange}
 use Rattle.assignment_search.specs.Growth.{choice_count, IsGrown}
 use Rattle.assignment_search.specs.declared.found.Found.{Found}
@@ -42,8 +42,8 @@ pub record Shows (g : Graph) (bound : ℤ) (nodes : List Node) : Type 0 where
   pub tree : SearchTree
   pub shape : IsTreeOf g nodes tree
   pub value : bound ≡ tree_value g tree
-  pub leaves : All (λ p. IsAtLeastFirstFit g p.usable p.node) (places g tree)
-  pub branches : All (λ p. IsBranchJustified g bound p.usable p.node) (places g tree)
+  pub leaves : All (λ p. IsAtLeastFirstFit g p.usable p.node) (places_within g every_row tree)
+  pub branches : All (λ p. IsBranchJustified g bound p.usable p.node) (places_within g every_row tree)
 
 -- what a search finds with this budget
 pub record IsSearchAnswer (g : Graph) (budget : ℕ) (found : Found) : Type 0 where

@@ -1,8 +1,7 @@
 -- How the numbers of a settled batch are told: vehicles, riders and nodes by the files' ids.
 use Rattle.std.specs.Prelude.{ℕ, ◌==◌, true, false, List, Option, map, filter, slice_index}
 use Rattle.std.specs.List.{range_with_len, zip}
-use Rattle.plan_rules.specs.Graph.{Graph}
-use Rattle.plan_rules.specs.Plan.{times_chosen}
+use Rattle.plan_rules.specs.Graph.{Graph, times_served}
 use Rattle.plan_rules.specs.declared.row.TripRow.{TripRow}
 use Rattle.pair_graph.specs.declared.rv_edge.RvEdge.{RvEdge}
 use Rattle.request_book.specs.declared.outcome.PlannedStop.{PlannedStop}
@@ -36,7 +35,7 @@ row_line settled row =
 
 -- the riders in no chosen row, rising
 abbrev pub left_riders : Graph → List (Option ℕ) → List ℕ
-left_riders graph chosen = filter (λ r. times_chosen graph chosen r == 0) (range_with_len 0 graph.riders)
+left_riders graph chosen = filter (λ r. times_served graph chosen graph.vehicles r == 0) (range_with_len 0 graph.riders)
 
 -- a stop of a vehicle's order for a trip: whom it picks up or drops, at which node, at which second
 abbrev pub told_stop : List ℕ → Settled → ℕ → List ℕ → Stop × ℕ → PlannedStop

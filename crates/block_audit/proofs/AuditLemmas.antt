@@ -13,7 +13,9 @@ use Rattle.outcome_check.specs.declared.verdict.Point.{Point}
 use Rattle.outcome_check.specs.declared.verdict.Point.TheVariants as point
 use Rattle.outcome_check.specs.declared.verdict.Verdict.{Verdict}
 use Rattle.outcome_check.specs.declared.verdict.Verdict.TheVariants.{Good, Fails}
-use Rattle.plan_rules.specs.Tree.{SearchTree, preorder}
+use Rattle.plan_rules.specs.Tree.{SearchTree}
+use Rattle.plan_rules.specs.work.Tree.{preorder}
+use Rattle.plan_rules.proofs.lemmas.SearchTreeLemmas.{nodes_are}
 use Rattle.plan_rules.specs.Tree.SearchTree.{Parted, Bounded, Closed}
 use Rattle.report_lines.specs.Block.{IsBlock, BlockFails}
 use Rattle.report_lines.specs.BlockLine.{block_line_text, IsBlockLine}
@@ -47,7 +49,7 @@ pub no_value : (settings : Settings) (roads : Roads) (batch : Batch) (answer : A
 no_value settings roads batch answer has answers = valued (subst (λ (a : Answer). AnswersAt settings roads batch a point.Bound) has.is answers)
   where
     valued : AnswersAt settings roads batch (Plan has.plan) point.Bound → ⊥
-    valued (p, posed, value) = no_nodes value.tree.0 (sym has.no_tree ∙ value.tree.1.listed)
+    valued (p, posed, value) = no_nodes value.tree.0 (sym has.no_tree ∙ nodes_are _ _ _ value.tree.1)
 
 -- the outcome as which the block is judged is the only good one whose block stands there
 pub record IsItself (batch : Batch) (told : ℕ) (outcome other : Outcome) (rest behind : List ℕ) : Type 0 where

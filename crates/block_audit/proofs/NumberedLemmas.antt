@@ -13,7 +13,9 @@ use Rattle.batch_solver.specs.Told.{vehicle_id, rider_id, row_line}
 use Rattle.block_outcome.specs.Told.{IsNumberOf, IsNumbered, AreNumbered, HasTrips}
 use Rattle.plan_rules.specs.Graph.{Graph, IsGoodGraph, IsRowOf, row_at, row_vehicle, no_row}
 use Rattle.plan_rules.specs.Multipliers.{Usable}
-use Rattle.plan_rules.specs.Tree.{SearchTree, preorder, IsSoundTree, every_row, only_row, without_row}
+use Rattle.plan_rules.specs.Tree.{SearchTree, IsSoundTree, every_row, only_row, without_row}
+use Rattle.plan_rules.specs.work.Tree.{preorder}
+use Rattle.plan_rules.proofs.lemmas.SearchTreeLemmas.{nodes_are}
 use Rattle.plan_rules.specs.Tree.SearchTree.{Parted, Bounded, Closed}
 use Rattle.plan_rules.specs.declared.node.Node.{Node}
 use Rattle.plan_rules.specs.declared.node.Node.TheVariants.{Branch, Leaf, Dead}
@@ -98,7 +100,7 @@ module _ (settings : Settings) (points : List ℕ) (tau : ℕ → ℕ → ℕ) (
   plan_numbered : (plan : Planned) → IsGoodPlan settings points tau settled plan → All (IsNumbered (vehicle_ids batch) plan.rows) plan.tree
   plan_numbered plan good =
       let shape = good.found.shown.shape in
-      subst (λ (nodes : List Node). All (IsNumbered (vehicle_ids batch) plan.rows) nodes) (sym shape.listed)
+      subst (λ (nodes : List Node). All (IsNumbered (vehicle_ids batch) plan.rows) nodes) (sym (nodes_are _ _ _ shape))
       (tree_numbered good.graph good.exact.good good.exact.vehicle_total plan.rows good.rows good.found.shown.tree every_row shape.sound)
 
   pub answer_numbered : (answer : Answer) → IsGoodAnswer settings points tau settled answer → AreNumbered (vehicle_ids batch) answer

@@ -7,28 +7,22 @@ pub record IsPlan (g : Graph) (chosen : List (Option ℕ)) : Type 0 where
   pub sized : length chosen ≡ g.vehicles
   pub own : (v : ℕ) → v < g.vehicles → MatchOption (choice_at chosen v) (HasNoRow g v) (IsRowOf g v)
 
--- how many of the chosen rows have this rider
-abbrev pub times_chosen : Graph → List (Option ℕ) → ℕ → ℕ
-times_chosen g chosen r = times_served g chosen g.vehicles r
-
 -- a plan is lawful where no rider is in two chosen rows and each rider who must be served is in one
 pub record IsLawful (g : Graph) (chosen : List (Option ℕ)) : Type 0 where
   pub plan : IsPlan g chosen
-  pub once : (r : ℕ) → times_chosen g chosen r ≤ 1
-  pub kept : (r : ℕ) → IsTrue (must_be_served g r) → times_chosen g chosen r ≡ 1
+  pub once : (r : ℕ) → times_served g chosen g.vehicles r ≤ 1
+  pub kept : (r : ℕ) → IsTrue (must_be_served g r) → times_served g chosen g.vehicles r ≡ 1
 
 -- what the chosen row costs; no row costs nothing
 abbrev pub choice_cost : Graph → Option ℕ → ℕ
 choice_cost g None = 0
 choice_cost g (Some k) = cost_at g k
 
--- how many riders are in no chosen row
-abbrev pub left_out : Graph → List (Option ℕ) → ℕ
-left_out g chosen = count_below g.riders (λ r. times_chosen g chosen r == 0)
-
 -- a plan costs what its rows cost, and the penalty for each rider in none
 unfoldable pub cost_of : Graph → List (Option ℕ) → ℕ
-cost_of g chosen = sum_below g.vehicles (λ v. choice_cost g (choice_at chosen v)) + g.penalty * left_out g chosen
+cost_of g chosen =
+    sum_below g.vehicles (λ v. choice_cost g (choice_at chosen v))
+    + g.penalty * count_below g.riders (λ r. times_served g chosen g.vehicles r == 0)
 
 -- no lawful plan costs less
 abbrev pub IsBound : Graph → ℤ → Type 0

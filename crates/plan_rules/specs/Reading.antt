@@ -1,8 +1,8 @@
 -- Trees read node by node, as far as a list of nodes goes.
-use Rattle.std.specs.Prelude.{◌≡◌, List, [], ◌∷◌, length, ℤ, pos, unwrap_or}
+use Rattle.std.specs.Prelude.{◌≡◌, List, [], ◌∷◌, length}
 use Rattle.plan_rules.specs.Graph.{Graph}
 use Rattle.plan_rules.specs.Multipliers.{Usable}
-use Rattle.plan_rules.specs.Tree.{every_row, only_row, without_row, CanBranch, IsDeadEnd, Place, least_leaf}
+use Rattle.plan_rules.specs.Tree.{only_row, without_row, CanBranch, IsDeadEnd, Place}
 use Rattle.plan_rules.specs.declared.node.Node.{Node}
 use Rattle.plan_rules.specs.declared.node.Node.TheVariants.{Branch, Leaf, Dead}
 
@@ -24,21 +24,9 @@ ReadsTo g coming [] rest = coming ≡ rest
 ReadsTo g [] (n ∷ nodes) rest = ⊥
 ReadsTo g (usable ∷ coming) (n ∷ nodes) rest = IsSoundNode g usable n × ReadsTo g (coming_after g usable n coming) nodes rest
 
--- the nodes are a sound tree in preorder, which ends with the list
-abbrev pub IsWholeTree : Graph → List Node → Type 0
-IsWholeTree g nodes = ReadsTo g (every_row ∷ []) nodes []
-
 -- each node with the rows that may be chosen there
 abbrev pub places_from : Graph → List Usable → List Node → List Place
 places_from g coming [] = []
 places_from g [] (n ∷ nodes) = []
 places_from g (usable ∷ coming) (n ∷ nodes) =
     record { node = n; usable = usable } ∷ places_from g (coming_after g usable n coming) nodes
-
--- the tree's nodes with the rows that may be chosen there
-abbrev pub places_read : Graph → List Node → List Place
-places_read g nodes = places_from g (every_row ∷ []) nodes
-
--- the least over the leaves that are read
-abbrev pub value_read : Graph → List Node → ℤ
-value_read g nodes = unwrap_or (least_leaf g (places_read g nodes)) (pos 0)

@@ -1,4 +1,4 @@
-use Rattle.std.specs.Prelude.{◌≡◌, ◌≢◌, ◌==◌, ◌&&◌, ◌||◌, not, ◌⊎◌, ℕ, suc, ◌+◌, ◌/◌, ◌<◌, Bool, true, false, IsTrue, List, [], ◌∷◌, ◌++◌, length, Option, Some, None, unwrap_or, ℤ, pos, negsuc, neg_ℤ, All}
+use Rattle.std.specs.Prelude.{◌≡◌, ◌≢◌, ◌==◌, ◌&&◌, ◌||◌, not, ◌⊎◌, ℕ, suc, ◌+◌, ◌/◌, ◌<◌, Bool, true, false, IsTrue, List, [], ◌∷◌, ◌++◌, length, map, Option, Some, None, unwrap_or, ℤ, pos, negsuc, neg_ℤ, All}
 use Rattle.plan_rules.specs.Sums.{all_below, lesser}
 use Rattle.plan_rules.specs.Graph.{Graph, IsRowOf, row_vehicle, has_rider, must_be_served, choice_at}
 use Rattle.plan_rules.specs.Multipliers.{Usable, leaf_value}
@@ -64,12 +64,6 @@ pub data SearchTree : Type 0 where
   Bounded : List ℤ → SearchTree
   Closed : SearchTree
 
--- its nodes, each before those of its parts
-abbrev pub preorder : SearchTree → List Node
-preorder (Parted v k first second) = Branch v k ∷ preorder first ++ preorder second
-preorder (Bounded ms) = Leaf ms ∷ []
-preorder Closed = Dead ∷ []
-
 -- the tree is sound where these rows may be chosen: it parts by a row beside which the vehicle has another, has a
 -- multiplier for each rider, and closes dead ends alone
 abbrev pub IsSoundTree : Graph → Usable → SearchTree → Type 0
@@ -83,20 +77,16 @@ pub record Place : Type 0 where
   pub node : Node
   pub usable : Usable
 
--- each node of a tree with the rows that may be chosen there, where these may be chosen at its root
+-- each node of a tree, before those of its parts, with the rows that may be chosen there, where these may be chosen at its root
 abbrev pub places_within : Graph → Usable → SearchTree → List Place
 places_within g usable (Parted v k first second) =
     record { node = Branch v k; usable = usable } ∷ places_within g (only_row g usable v k) first ++ places_within g (without_row usable k) second
 places_within g usable (Bounded ms) = record { node = Leaf ms; usable = usable } ∷ []
 places_within g usable Closed = record { node = Dead; usable = usable } ∷ []
 
--- each node of the whole tree with the rows that may be chosen there
-abbrev pub places : Graph → SearchTree → List Place
-places g tree = places_within g every_row tree
-
 -- the nodes are a sound tree, in preorder
 pub record IsTreeOf (g : Graph) (nodes : List Node) (tree : SearchTree) : Type 0 where
-  pub listed : nodes ≡ preorder tree
+  pub listed : nodes ≡ map (λ p. p.node) (places_within g every_row tree)
   pub sound : IsSoundTree g every_row tree
 
 -- 1/1024 seconds as whole seconds, rounded up
@@ -117,7 +107,7 @@ least_leaf g (p ∷ ps) = with_leaf g p.usable p.node (least_leaf g ps)
 
 -- the value of a tree: the least over its leaves
 abbrev pub tree_value : Graph → SearchTree → ℤ
-tree_value g tree = unwrap_or (least_leaf g (places g tree)) (pos 0)
+tree_value g tree = unwrap_or (least_leaf g (places_within g every_row tree)) (pos 0)
 
 -- the nodes are a sound tree, in preorder, of this value
 abbrev pub IsTreeOfValue : Graph → List Node → ℤ → Type 0

@@ -1,7 +1,8 @@
 //! Which plans are lawful and what they cost. No call but `held_plan` takes memory.
 ghost use Rattle.std.specs.Prelude.{◌≡◌, ◌==◌, ◌+◌, ◌*◌, ◌<◌, ◌≤◌, ◌↔◌, ℕ, IsTrue, IfOk, length, MatchOption, Option};
 ghost use Rattle.plan_rules.specs.Graph.{IsRowOf, HasNoRow, times_served, is_in, choice_at, ChoosesRows};
-ghost use Rattle.plan_rules.specs.Plan.{IsPlan, IsLawful, cost_of, choice_cost, left_out, times_chosen};
+ghost use Rattle.plan_rules.specs.Plan.{IsPlan, IsLawful, cost_of, choice_cost};
+ghost use Rattle.plan_rules.specs.work.Plan.{left_out, times_chosen};
 ghost use Rattle.plan_rules.specs.Sums.{sum_below};
 
 use crate::graph::TripGraph;

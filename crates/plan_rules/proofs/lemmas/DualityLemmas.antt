@@ -7,7 +7,8 @@ use Rattle.std.proofs.lemmas.Int.{ints, int_min_is}
 use Rattle.std.proofs.lemmas.Bool.{cases_eq, cases_Bool, and_from, and_parts, both_ways, cond-true, cond-false}
 use Rattle.plan_rules.specs.Sums.{sum_below, count_below, all_below, int_sum_below, least_below}
 use Rattle.plan_rules.specs.Graph.{Graph, row_at, riders_at, row_vehicle, cost_at, has_rider, IsRowOf, HasNoRow, choice_at, is_in, times_served, must_be_served, IsGraphRow, IsGoodGraph}
-use Rattle.plan_rules.specs.Plan.{IsPlan, IsLawful, times_chosen, choice_cost, left_out, cost_of}
+use Rattle.plan_rules.specs.Plan.{IsPlan, IsLawful, choice_cost, cost_of}
+use Rattle.plan_rules.specs.work.Plan.{times_chosen, left_out}
 use Rattle.plan_rules.specs.Multipliers.{Usable, multiplier_at, multiplier_sum, reduced_cost, is_usable_by, vehicle_term, rider_term, leaf_value}
 use Rattle.plan_rules.specs.Tree.{is_choice_usable, is_within}
 use Rattle.plan_rules.proofs.lemmas.SumLemmas.{flag, flag-true, flag-false, sum_below_same, sum_below_plus, sum_below_scale, int_sum_same, int_sum_le, int_sum_plus, int_sum_minus, int_sum_pos, int_sum_zero, int_sum_swap, part, part-or, int_sum_single, int_sum_once, least_below_some, least_below_none, all_below_at}

@@ -3,7 +3,8 @@ use Rattle.std.proofs.Common.{◌≡◌, ◌≢◌, ◌==◌, ◌⊎◌, ℕ, ze
 use Rattle.std.proofs.lemmas.Bool.{cases_lt, both_ways}
 use Rattle.std.proofs.lemmas.List.{get_or_past}
 use Rattle.plan_rules.specs.Graph.{Graph, row_at, has_rider, IsRowOf, HasNoRow, choice_at, is_in, times_served, must_be_served, IsGraphRow, IsGoodGraph, HoldsRightly, ChoosesRows}
-use Rattle.plan_rules.specs.Plan.{IsPlan, IsLawful, times_chosen}
+use Rattle.plan_rules.specs.Plan.{IsPlan, IsLawful}
+use Rattle.plan_rules.specs.work.Plan.{times_chosen}
 use Rattle.plan_rules.proofs.lemmas.GraphLemmas.{held_once, times_served_outside}
 
 -- a choice of a plan is a row of its vehicle

@@ -1,15 +1,28 @@
 -- What is read node by node is a tree.
-use Rattle.std.proofs.Common.{◌≡◌, ◌⊎◌, ℕ, count_by, zero, suc, ◌+◌, ◌<◌, ◌≤◌, List, [], ◌∷◌, ◌++◌, length, refl, sym, ap, ◌∙◌, subst, arith}
+use Rattle.std.proofs.Common.{◌≡◌, ◌⊎◌, ℕ, count_by, zero, suc, ◌+◌, ◌<◌, ◌≤◌, List, [], ◌∷◌, ◌++◌, length, map, refl, sym, ap, ap₂, ◌∙◌, subst, arith}
 use Rattle.std.specs.Prelude.{ℤ, pos, Option, unwrap_or}
-use Rattle.std.proofs.lemmas.List.{length-append, append_assoc, append-nil}
+use Rattle.std.proofs.lemmas.List.{length-append, map-append, append_assoc, append-nil}
 use Rattle.plan_rules.specs.Graph.{Graph, IsGoodGraph}
 use Rattle.plan_rules.specs.Multipliers.{Usable}
-use Rattle.plan_rules.specs.Tree.{every_row, only_row, without_row, SearchTree, Parted, Bounded, Closed, preorder, IsSoundTree, IsTreeOf, IsTreeOfValue, Place, places_within, places, least_leaf, tree_value, belongs_to_end, belongs_to_dead_end}
-use Rattle.plan_rules.specs.Reading.{coming_after, ReadsTo, IsWholeTree, places_from, places_read, value_read}
+use Rattle.plan_rules.specs.Tree.{every_row, only_row, without_row, SearchTree, Parted, Bounded, Closed, IsSoundTree, IsTreeOf, IsTreeOfValue, Place, places_within, least_leaf, tree_value, belongs_to_end, belongs_to_dead_end}
+use Rattle.plan_rules.specs.work.Tree.{preorder, places, IsWholeTree, places_read, value_read}
+use Rattle.plan_rules.specs.Reading.{coming_after, ReadsTo, places_from}
 use Rattle.plan_rules.specs.Plan.{IsPlan, IsLawful, IsBound}
 use Rattle.plan_rules.proofs.lemmas.TreeLemmas.{each_plan_at_one_end, no_plan_at_dead_ends, tree_value_bounds}
 use Rattle.plan_rules.specs.declared.node.Node.{Node}
 use Rattle.plan_rules.specs.declared.node.Node.TheVariants.{Branch, Leaf, Dead}
+
+-- the nodes of the places of a tree
+nodes_of_places : (g : Graph) (t : SearchTree) (usable : Usable) → map (λ (p : Place). p.node) (places_within g usable t) ≡ preorder t
+nodes_of_places g (Bounded ms) usable = refl
+nodes_of_places g Closed usable = refl
+nodes_of_places g (Parted v k first second) usable =
+    ap (λ (xs : List Node). Branch v k ∷ xs)
+    (map-append (λ (p : Place). p.node) (places_within g (only_row g usable v k) first) (places_within g (without_row usable k) second)
+    ∙ ap₂ ◌++◌ (nodes_of_places g first (only_row g usable v k)) (nodes_of_places g second (without_row usable k)))
+
+pub nodes_are : (g : Graph) (nodes : List Node) (t : SearchTree) → IsTreeOf g nodes t → nodes ≡ preorder t
+nodes_are g nodes t tree = tree.listed ∙ nodes_of_places g t every_row
 
 -- the first of these subtrees, and the nodes behind it
 record IsFirst (g : Graph) (usable : Usable) (coming rest : List Usable) (nodes : List Node) : Type 0 where
@@ -53,7 +66,9 @@ tree_of_reads g nodes reads =
     let found = first_subtree g (length nodes) every_row [] [] nodes (omega arith) (omega arith) reads in (
       found.tree,
       record {
-        listed = found.listed ∙ ap (λ (xs : List Node). preorder found.tree ++ xs) (nothing_behind g found.behind found.reads) ∙ append-nil (preorder found.tree);
+        listed =
+            found.listed ∙ ap (λ (xs : List Node). preorder found.tree ++ xs) (nothing_behind g found.behind found.reads) ∙ append-nil (preorder found.tree)
+            ∙ sym (nodes_of_places g found.tree every_row);
         sound = found.sound;
       },
     )
@@ -73,7 +88,7 @@ places_of_tree g (Parted v k first second) usable coming behind =
 
 pub places_are : (g : Graph) (nodes : List Node) (t : SearchTree) → IsTreeOf g nodes t → places_read g nodes ≡ places g t
 places_are g nodes t tree =
-    ap (places_read g) (tree.listed ∙ sym (append-nil (preorder t)))
+    ap (places_read g) (nodes_are g nodes t tree ∙ sym (append-nil (preorder t)))
     ∙ places_of_tree g t every_row [] []
     ∙ append-nil (places g t)
 
@@ -91,7 +106,7 @@ reads_of_sound g (Parted v k first second) usable coming rest behind sound reads
 
 pub reads_of_tree : (g : Graph) (nodes : List Node) (t : SearchTree) → IsTreeOf g nodes t → IsWholeTree g nodes
 reads_of_tree g nodes t tree =
-    subst (λ (xs : List Node). ReadsTo g (every_row ∷ []) xs []) (sym (tree.listed ∙ sym (append-nil (preorder t))))
+    subst (λ (xs : List Node). ReadsTo g (every_row ∷ []) xs []) (sym (nodes_are g nodes t tree ∙ sym (append-nil (preorder t))))
     (reads_of_sound g t every_row [] [] [] tree.sound refl)
 
 pub value_is_read : (g : Graph) (nodes : List Node) (t : SearchTree) → IsTreeOf g nodes t → value_read g nodes ≡ tree_value g t
@@ -100,7 +115,7 @@ value_is_read g nodes t tree = ap (λ (ps : List Place). unwrap_or (least_leaf g
 -- ---- the laws, of trees
 
 tree_itself : (g : Graph) (t : SearchTree) → IsSoundTree g every_row t → IsTreeOf g (preorder t) t
-tree_itself g t sound = record { listed = refl; sound = sound }
+tree_itself g t sound = record { listed = sym (nodes_of_places g t every_row); sound = sound }
 
 pub plan_at_one_end : (g : Graph) (t : SearchTree) (chosen : List (Option ℕ)) → IsGoodGraph g → IsSoundTree g every_row t → IsPlan g chosen
     → count_by (belongs_to_end g chosen) (places g t) ≡ 1

@@ -6,10 +6,12 @@ use Rattle.std.proofs.lemmas.List.Sums.{sum_by-cons}
 use Rattle.std.proofs.lemmas.Bool.{cases_eq, cases_Bool, and_from, and_parts, and_left, and_right, or_right, or_left, both_ways, cond-true, cond-false, false_from_ne_true}
 use Rattle.plan_rules.specs.Sums.{all_below, lesser, count_below}
 use Rattle.plan_rules.specs.Graph.{Graph, row_at, row_vehicle, has_rider, IsRowOf, HasNoRow, choice_at, is_in, times_served, must_be_served, IsGraphRow, IsGoodGraph}
-use Rattle.plan_rules.specs.Plan.{IsPlan, IsLawful, times_chosen, cost_of, IsBound}
+use Rattle.plan_rules.specs.Plan.{IsPlan, IsLawful, cost_of, IsBound}
+use Rattle.plan_rules.specs.work.Plan.{times_chosen}
 use Rattle.plan_rules.specs.Multipliers.{Usable, leaf_value}
 use Rattle.plan_rules.specs.Tree.{every_row, only_row, without_row, MayUse, CanBranch, IsSoleRow, IsClash, IsStranded, IsDeadEnd, Place, rounded_up, least_leaf, is_choice_usable, is_within, is_leaf, is_dead, belongs_to_end, belongs_to_dead_end}
-use Rattle.plan_rules.specs.Reading.{IsSoundNode, coming_after, ReadsTo, IsWholeTree, places_from, places_read, value_read}
+use Rattle.plan_rules.specs.Reading.{IsSoundNode, coming_after, ReadsTo, places_from}
+use Rattle.plan_rules.specs.work.Tree.{IsWholeTree, places_read, value_read}
 use Rattle.plan_rules.specs.declared.node.Node.{Node}
 use Rattle.plan_rules.specs.declared.node.Node.TheVariants.{Branch, Leaf, Dead}
 use Rattle.plan_rules.proofs.lemmas.SumLemmas.{flag, flag-true, flag-false, all_below_at, all_below_from, all_below_fails, all_below_same, count_below_two, lesser-le_left, lesser-le_right}

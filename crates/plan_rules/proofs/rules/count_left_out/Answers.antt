@@ -1,6 +1,6 @@
 use Rattle.std.proofs.Common.{◌≡◌, ◌==◌, ◌≤◌, arith, rules}
 use Rattle.plan_rules.specs.Sums.{count_below}
-use Rattle.plan_rules.specs.Plan.{times_chosen}
+use Rattle.plan_rules.specs.work.Plan.{times_chosen}
 use Rattle.plan_rules.proofs.lemmas.SumLemmas.{count_below-le}
 use Rattle.plan_rules.proofs.rules.count_left_out.Goals as goal
 

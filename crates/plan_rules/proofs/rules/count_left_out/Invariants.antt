@@ -1,5 +1,5 @@
 use Rattle.std.proofs.Common.{◌≡◌, ◌==◌, ◌≤◌}
-use Rattle.plan_rules.specs.Plan.{times_chosen}
+use Rattle.plan_rules.specs.work.Plan.{times_chosen}
 use Rattle.plan_rules.specs.Sums.{count_below}
 use Rattle.plan_rules.proofs.rules.count_left_out.Given as goal
 
