@@ -3,8 +3,8 @@ use Rattle.std.proofs.lemmas.List.{append_assoc}
 use Rattle.rand_core.specs.Stream.{Stream}
 use Rattle.rider_limits.specs.declared.load_shape.LoadShape.{LoadShape}
 use Rattle.load_maker.specs.declared.row.Field.{Field}
-use Rattle.load_maker.specs.Row.{text_under, csv_lines}
-use Rattle.load_maker.specs.Part.{draws_of}
+use Rattle.load_maker.specs.Row.{text_under}
+use Rattle.load_maker.specs.work.Parts.{csv_lines, draws_of}
 use Rattle.load_maker.specs.work.Written.{Writes}
 use Rattle.load_maker.specs.Texts.{network_part, fleet_part, script_part, Texts, texts_of}
 use Rattle.pool_base.specs.Header.{script_header, fleet_header, network_header}

@@ -1,12 +1,6 @@
 use Rattle.std.specs.Prelude.{ℕ, zero, suc, ◌%◌, List, [], ◌++◌}
 use Rattle.rand_core.specs.Stream.{Stream, next_u64}
-use Rattle.rand_core.specs.Steps.{stream_of}
-use Rattle.rand_xoshiro.specs.SplitMix64.{splitmix_steps}
 use Rattle.load_maker.specs.declared.row.Field.{Field}
-
--- the draws of a SplitMix64 generator with this state
-abbrev pub draws_of : ℕ → Stream
-draws_of state = stream_of splitmix_steps state
 
 -- a number below n, which is the next 64-bit output's remainder, and the draws that are left
 unfoldable pub draw : ℕ → Stream → ℕ × Stream
@@ -15,10 +9,6 @@ draw n s = ((next_u64 s).0 % n, (next_u64 s).1)
 -- rows, and the draws that they leave
 abbrev pub Part : Type 0
 Part = Stream → List (List Field) × Stream
-
--- no row, and no draw
-abbrev pub nothing : Part
-nothing s = ([], s)
 
 -- rows without a draw
 abbrev pub plain : List (List Field) → Part

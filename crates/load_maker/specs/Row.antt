@@ -18,10 +18,6 @@ csv_line [] = []
 csv_line (field ∷ []) = field_text field ++ 10 ∷ []
 csv_line (field ∷ next ∷ fields) = field_text field ++ 44 ∷ csv_line (next ∷ fields)
 
--- rows, one behind another
-abbrev pub csv_lines : List (List Field) → List ℕ
-csv_lines rows = flat_map csv_line rows
-
--- a text: its header line, then its rows
+-- a text: its header line, then its rows, one behind another
 abbrev pub text_under : List ℕ → List (List Field) → List ℕ
-text_under header rows = header ++ 10 ∷ csv_lines rows
+text_under header rows = header ++ 10 ∷ flat_map csv_line rows

@@ -1,11 +1,13 @@
 use Rattle.std.specs.Prelude.{ℕ, ◌+◌, ◌-◌, ◌*◌, ◌%◌, List, [], ◌∷◌, nat_lt, if◌then◌else◌}
 use Rattle.pool_base.specs.Header.{network_header, fleet_header, script_header}
 use Rattle.rand_core.specs.Stream.{Stream}
+use Rattle.rand_core.specs.Steps.{stream_of}
+use Rattle.rand_xoshiro.specs.SplitMix64.{splitmix_steps}
 use Rattle.rider_limits.specs.declared.load_shape.LoadShape.{LoadShape}
 use Rattle.load_maker.specs.declared.row.Field.{Field}
 use Rattle.load_maker.specs.declared.row.Field.TheVariants.{Number, Report, Submit, Seal, Empty}
 use Rattle.load_maker.specs.Row.{text_under}
-use Rattle.load_maker.specs.Part.{draws_of, draw, Part, nothing, plain, both, each}
+use Rattle.load_maker.specs.Part.{draw, Part, plain, both, each}
 
 -- the id of the node in a row and a column of a square, both from 0
 abbrev pub node_id : ℕ → ℕ → ℕ → ℕ
@@ -23,11 +25,11 @@ arcs_between a b s =
 
 -- the arcs between a node and the next of its row
 unfoldable pub arcs_right : ℕ → ℕ → ℕ → Part
-arcs_right side i j = if nat_lt (j + 1) side then arcs_between (node_id side i j) (node_id side i (j + 1)) else nothing
+arcs_right side i j = if nat_lt (j + 1) side then arcs_between (node_id side i j) (node_id side i (j + 1)) else plain []
 
 -- the arcs between a node and the next of its column
 unfoldable pub arcs_down : ℕ → ℕ → ℕ → Part
-arcs_down side i j = if nat_lt (i + 1) side then arcs_between (node_id side i j) (node_id side (i + 1) j) else nothing
+arcs_down side i j = if nat_lt (i + 1) side then arcs_between (node_id side i j) (node_id side (i + 1) j) else plain []
 
 -- the arcs of a row of the square
 unfoldable pub arcs_of_row : ℕ → ℕ → Part
@@ -53,37 +55,28 @@ report_row shape k v s =
     let node = drawn_node shape.side s in
     ((Number (2 * k) ∷ Number 0 ∷ Report ∷ Number v ∷ Number node.0 ∷ Number (60 * k) ∷ Empty ∷ []) ∷ [], node.1)
 
--- every vehicle is reported
-unfoldable pub all_reports : LoadShape → ℕ → Part
-all_reports shape k = each (λ n. report_row shape k (n + 1)) shape.vehicles
-
--- every vehicle is reported before each batch but the first
+-- every vehicle, from 1, is reported before each batch but the first
 unfoldable pub reports : LoadShape → ℕ → Part
-reports shape k = if nat_lt 0 k then all_reports shape k else nothing
+reports shape k = if nat_lt 0 k then each (λ n. report_row shape k (n + 1)) shape.vehicles else plain []
 
--- the node that a number below a square's nodes names, the origin left out
-abbrev pub other_than : ℕ → ℕ → ℕ
-other_than origin n = if nat_lt n origin then n else n + 1
-
--- a request between two drawn nodes, which are not the same, at a drawn second
+-- a request between two drawn nodes, which are not the same, at a drawn second; the second node is drawn among the others
 unfoldable pub submit_row : LoadShape → ℕ → ℕ → Part
 submit_row shape k m s =
     let origin = drawn_node shape.side s in
     let other = draw (shape.side * shape.side - 1) origin.1 in
     let second = draw 60 other.1 in
-    ((Number (2 * k) ∷ Number (1 + m % 3) ∷ Submit ∷ Number (k * shape.riders + m) ∷ Number origin.0 ∷ Number (other_than origin.0 (1 + other.0)) ∷ Number (60 * k + second.0) ∷ []) ∷ [], second.1)
+    let end = if nat_lt (1 + other.0) origin.0 then 1 + other.0 else 1 + other.0 + 1 in
+    ((Number (2 * k) ∷ Number (1 + m % 3) ∷ Submit ∷ Number (k * shape.riders + m) ∷ Number origin.0 ∷ Number end ∷ Number (60 * k + second.0) ∷ []) ∷ [], second.1)
 
 -- the requests of a batch, from 1
 unfoldable pub submits : LoadShape → ℕ → Part
 submits shape k = each (λ n. submit_row shape k (n + 1)) shape.riders
 
--- the seal of a batch
-abbrev pub seal_row : ℕ → List Field
-seal_row k = Number (2 * k + 1) ∷ Number 0 ∷ Seal ∷ Number (60 * (k + 1)) ∷ Empty ∷ Empty ∷ Empty ∷ []
-
 -- the rows of a batch: reports, requests, the seal
 unfoldable pub batch_rows : LoadShape → ℕ → Part
-batch_rows shape k = both (reports shape k) (both (submits shape k) (plain (seal_row k ∷ [])))
+batch_rows shape k =
+    let seal : List Field = Number (2 * k + 1) ∷ Number 0 ∷ Seal ∷ Number (60 * (k + 1)) ∷ Empty ∷ Empty ∷ Empty ∷ [] in
+    both (reports shape k) (both (submits shape k) (plain (seal ∷ [])))
 
 -- the rows of the script: the batches
 unfoldable pub script_part : LoadShape → Part
@@ -95,10 +88,10 @@ pub record Texts : Type 0 where
   pub fleet : List ℕ
   pub script : List ℕ
 
--- the texts of a made workload, by the draws of its seed, in this order
+-- the texts of a made workload, by the draws of a SplitMix64 generator with its seed, in this order
 unfoldable pub texts_of : LoadShape → Texts
 texts_of shape =
-    let network = network_part shape (draws_of shape.seed) in
+    let network = network_part shape (stream_of splitmix_steps shape.seed) in
     let fleet = fleet_part shape network.1 in
     let script = script_part shape fleet.1 in
     record {

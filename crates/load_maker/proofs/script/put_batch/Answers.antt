@@ -1,7 +1,8 @@
 use Rattle.std.proofs.Common.{[], ◌∷◌}
 use Rattle.std.proofs.lemmas.Result.{on_ok_weaker}
-use Rattle.load_maker.specs.Part.{draws_of, plain, both}
-use Rattle.load_maker.specs.Texts.{reports, submits, seal_row, batch_rows}
+use Rattle.load_maker.specs.Part.{plain, both}
+use Rattle.load_maker.specs.work.Parts.{draws_of, seal_row}
+use Rattle.load_maker.specs.Texts.{reports, submits, batch_rows}
 use Rattle.load_maker.proofs.PartLemmas.{Writes-plain, Writes-both}
 use Rattle.load_maker.proofs.script.put_batch.Goals as goal
 

@@ -1,13 +1,13 @@
 use Rattle.std.proofs.Common.{◌≡◌, cond, sym, ap}
 use Rattle.std.proofs.lemmas.Bool.{lt-ltb, le-ltb}
 use Rattle.std.proofs.lemmas.Result.{on_ok_weaker}
-use Rattle.load_maker.specs.Part.{draws_of, nothing}
-use Rattle.load_maker.specs.Texts.{all_reports, reports}
+use Rattle.load_maker.specs.work.Parts.{draws_of, nothing, all_reports}
+use Rattle.load_maker.specs.Texts.{reports}
 use Rattle.load_maker.proofs.PartLemmas.{Writes-nothing, Writes-same}
 use Rattle.load_maker.proofs.script.put_reports.Goals as goal
 
 pub returns-then-k-gt0 : goal.returns-then-k-gt0
-unfolding reports
+unfolding reports all_reports
 returns-then-k-gt0 c =
     let shape = c.args.shape.now in
     let k = c.args.k in
@@ -17,7 +17,7 @@ returns-then-k-gt0 c =
     c.put_all_reports.ensures
 
 pub returns : goal.returns
-unfolding reports
+unfolding reports all_reports
 returns c =
     let shape = c.args.shape.now in
     let k = c.args.k in
