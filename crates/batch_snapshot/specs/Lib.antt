@@ -2,3 +2,4 @@ pub mod Vehicle
 pub mod Batch
 pub mod Kept
 pub mod Points
+pub mod work

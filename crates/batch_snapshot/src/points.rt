@@ -1,7 +1,8 @@
 ghost use Rattle.std.specs.Prelude.{◌≡◌, ◌++◌, ◌+◌, ◌*◌, ◌≤◌, ◌↔◌, ℕ, length, slice_get, MatchOption, IfOk, OnOk, Contains};
 ghost use Rattle.std.specs.List.{flat_map};
 ghost use Rattle.std.specs.List.Sorted.{IsStrictlyIncreasing};
-ghost use Rattle.batch_snapshot.specs.Points.{ArePoints, vehicle_nodes, rider_nodes, named_nodes};
+ghost use Rattle.batch_snapshot.specs.Points.{ArePoints, named_nodes};
+ghost use Rattle.batch_snapshot.specs.work.Points.{vehicle_nodes, rider_nodes};
 
 use crate::rider::Rider;
 use crate::snapshot::Snapshot;
