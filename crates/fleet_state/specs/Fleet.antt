@@ -1,4 +1,4 @@
-use Rattle.std.specs.Prelude.{◌≡◌, ◌↔◌, ℕ, ◌+◌, ◌==◌, Bool, List, [], Result, Ok, Err, length, map, take, slice_index_or, nat_lt, Contains, if◌then◌else◌}
+use Rattle.std.specs.Prelude.{◌≡◌, ◌↔◌, ℕ, ◌+◌, ◌==◌, List, [], Result, Ok, Err, length, map, take, slice_index_or, nat_lt, Contains, if◌then◌else◌}
 use Rattle.std.specs.List.{list_any}
 use Rattle.std.specs.List.Sorted.{IsStrictlyIncreasing}
 use Rattle.pool_base.specs.InOrder.{◌>>=◌, refused_where, all_or_first}
@@ -8,17 +8,12 @@ use Rattle.fleet_state.specs.declared.fault.FleetFault.{FleetFault}
 use Rattle.fleet_state.specs.declared.fault.FleetFault.TheVariants.{TooManyVehicles, Duplicate}
 use Rattle.fleet_state.specs.Vehicle.{vehicle_in}
 
--- an earlier row has the vehicle of the row at a place
-abbrev pub is_repeated : List (List (List ℕ)) → ℕ → Bool
-is_repeated records place =
-    list_any (λ fields. number_at fields 0 == number_at (slice_index_or records place []) 0) (take place records)
-
 -- the vehicle of the row at a place, where these are the nodes, or why the row is refused: by its fields, or since an
 -- earlier row has the vehicle
 abbrev pub vehicle_of_row : List ℕ → List (List (List ℕ)) → ℕ → Result Vehicle FleetFault
 vehicle_of_row nodes records place = do
   vehicle ← vehicle_in nodes (place + 1) (slice_index_or records place [])
-  _ ← refused_where (is_repeated records place) (Duplicate (place + 1))
+  _ ← refused_where (list_any (λ fields. number_at fields 0 == number_at (slice_index_or records place []) 0) (take place records)) (Duplicate (place + 1))
   Ok vehicle
 
 -- the vehicles of rows, in the order of the rows, or the first refusal

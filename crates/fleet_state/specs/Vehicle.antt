@@ -6,11 +6,7 @@ use Rattle.road_network.specs.Roads.{has_node}
 use Rattle.fleet_state.specs.declared.fault.FleetFault.{FleetFault}
 use Rattle.fleet_state.specs.declared.fault.FleetFault.TheVariants.{Number, Seats, UnknownNode}
 
--- a vehicle at a node, with nobody aboard
-abbrev pub empty_vehicle : ℕ → ℕ → ℕ → ℕ → Vehicle
-empty_vehicle id seats node time = record { id = id; seats = seats; node = node; time = time; aboard = record { items = [] } }
-
--- the vehicle of a row, where these are the nodes, or the first refusal; rows count from 1
+-- the vehicle of a row, with nobody aboard, where these are the nodes, or the first refusal; rows count from 1
 unfoldable pub vehicle_in : List ℕ → ℕ → List (List ℕ) → Result Vehicle FleetFault
 vehicle_in nodes row fields = do
   id ← number_in Number row fields 0
@@ -19,4 +15,4 @@ vehicle_in nodes row fields = do
   time ← number_in Number row fields 3
   _ ← refused_where (not (nat_le 1 seats && nat_le seats 10)) (Seats row)
   _ ← refused_where (not (has_node nodes node)) (UnknownNode row)
-  Ok (empty_vehicle id seats node time)
+  Ok (record { id = id; seats = seats; node = node; time = time; aboard = record { items = [] } })
