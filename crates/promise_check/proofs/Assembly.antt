@@ -21,9 +21,10 @@ use Rattle.stop_orders.specs.Task.{IsLeg, IsServable}
 use Rattle.stop_orders.specs.Settled.{no_rider, no_vehicle, greatest, IsTrip, vehicle_task}
 use Rattle.stop_orders.specs.Sound.{IsShort, IsSound, IsSoundVehicle}
 use Rattle.rider_limits.specs.declared.settings.Settings.{Settings}
-use Rattle.promise_check.specs.Requests.{request_at, no_request}
+use Rattle.promise_check.specs.Requests.{request_at}
+use Rattle.promise_check.specs.work.Named.{no_request, kept_leg}
 use Rattle.promise_check.specs.work.Requests.{ArePlain}
-use Rattle.promise_check.specs.Promised.{is_promised_to, promised_to, kept_leg, kept_legs, IsLive}
+use Rattle.promise_check.specs.Promised.{is_promised_to, promised_to, kept_legs, IsLive}
 use Rattle.promise_check.specs.work.Promised.{kept_rider, IsHeld, AreKept}
 use Rattle.promise_check.specs.Settling.{HoldsPromised, IsLiveRider, IsRiderOf, HasRightLimit, IsSettled}
 use Rattle.promise_check.specs.work.Settling.{IsSettledVehicle, AreSettledVehicles}

@@ -4,7 +4,8 @@ use Rattle.std.proofs.lemmas.List.Elements.{Contains-append_left, Contains-appen
 use Rattle.batch_snapshot.specs.declared.passenger.Passenger.{Passenger}
 use Rattle.batch_snapshot.specs.declared.rider.Rider.{Rider}
 use Rattle.batch_snapshot.specs.Batch.{Batch}
-use Rattle.batch_snapshot.specs.Points.{ArePoints, vehicle_nodes, rider_nodes}
+use Rattle.batch_snapshot.specs.Points.{ArePoints}
+use Rattle.batch_snapshot.specs.work.Points.{vehicle_nodes, rider_nodes}
 use Rattle.promise_check.specs.work.Requests.{IsBetweenPlaces}
 use Rattle.promise_check.specs.work.Settling.{HasVehiclePlaces}
 

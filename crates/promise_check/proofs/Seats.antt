@@ -12,9 +12,10 @@ use Rattle.stop_orders.specs.Task.{IsLeg, IsTask}
 use Rattle.stop_orders.specs.Settled.{no_rider, vehicle_task}
 use Rattle.std.proofs.lemmas.Option.{slice_get-get_or}
 use Rattle.rider_limits.specs.declared.settings.Settings.{Settings}
-use Rattle.promise_check.specs.Requests.{request_at, no_request}
+use Rattle.promise_check.specs.Requests.{request_at}
+use Rattle.promise_check.specs.work.Named.{no_request, kept_leg}
 use Rattle.promise_check.specs.work.Requests.{ArePlain, CanBeKept}
-use Rattle.promise_check.specs.Promised.{promised_limit, kept_leg, kept_legs}
+use Rattle.promise_check.specs.Promised.{promised_limit, kept_legs}
 
 pub sum_by_push : {X : Type 0} (f : X → ℕ) (xs : List X) (y : X) → sum_by f (xs ++ y ∷ []) ≡ sum_by f xs + f y
 sum_by_push f xs y = sum_by-append f xs (y ∷ []) ∙ ap (λ (n : ℕ). sum_by f xs + n) (zero-add (f y))

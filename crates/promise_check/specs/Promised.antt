@@ -22,13 +22,10 @@ is_promised_to id r = option_map_or (λ p. p.vehicle == id) r.promise false
 abbrev pub promised_to : ℕ → List Rider → List ℕ
 promised_to id requests = filter (λ k. is_promised_to id (request_at requests k)) (range_with_len 0 (length requests))
 
--- a leg with the pickup that was promised
-abbrev pub kept_leg : ℕ → Rider → Leg → Leg
-kept_leg wait request leg = record leg { latest_pickup = promised_limit wait request }
-
 -- the legs of some riders, each with the pickup that was promised
 abbrev pub kept_legs : ℕ → List Rider → List SettledRider → List ℕ → List Leg
-kept_legs wait requests riders trip = map (λ k. kept_leg wait (request_at requests k) (slice_index_or riders k no_rider).leg) trip
+kept_legs wait requests riders trip =
+    map (λ k. record (slice_index_or riders k no_rider).leg { latest_pickup = promised_limit wait (request_at requests k) }) trip
 
 -- at most as many riders as a trip may have are promised to the vehicle, and some order serves them all, each by the
 -- promised second

@@ -4,13 +4,10 @@ use Rattle.batch_snapshot.specs.declared.rider.Rider.{Rider}
 use Rattle.stop_orders.specs.declared.leg.Leg.{Leg}
 use Rattle.rider_limits.specs.declared.settings.Settings.{Settings}
 
--- what is read where there is no such rider
-abbrev pub no_request : Rider
-no_request = record { id = 0; origin = 0; destination = 0; time = 0; party = 1; promise = None }
-
--- the request of a number
+-- the request of a number; where there is none, one rider at second 0 from node 0 to node 0
 abbrev pub request_at : List Rider → ℕ → Rider
-request_at requests r = slice_index_or requests r no_request
+request_at requests r =
+    slice_index_or requests r (record { id = 0; origin = 0; destination = 0; time = 0; party = 1; promise = None })
 
 -- when a rider would arrive who left at the second of the request; that second where there is no way
 abbrev pub ideal_second : (ℕ → ℕ → ℕ) → ℕ → ℕ → ℕ → ℕ
