@@ -36,14 +36,10 @@ abbrev pub makes_inputs : Command → Bool
 makes_inputs Load = true
 makes_inputs _ = false
 
--- a command judges a printed report
-abbrev pub judges : Command → Bool
-judges Audit = true
-judges _ = false
-
--- a command solves batches, by settings that the words give
+-- a command solves batches, by settings that the words give; an audit judges a printed report instead
 abbrev pub solves : Command → Bool
-solves command = not (judges command)
+solves Audit = false
+solves _ = true
 
 -- a command prints a report
 abbrev pub prints_report : Command → Bool

@@ -40,10 +40,6 @@ option_fault earlier word (Some (key, text)) =
 abbrev pub fault_at : Command → List (List ℕ) → ℕ → Option WordFault
 fault_at command words place = option_fault (take place words) (place + 2) (option_of command (slice_index_or words place []))
 
--- the first fault of the words behind a command
-abbrev pub words_fault : Command → List (List ℕ) → Option WordFault
-words_fault command words = first_fault (fault_at command words) (length words)
-
 -- no word names a file
 abbrev pub is_missing : List (List ℕ) → Which → Bool
 is_missing words which = is_none (text_given (file.file_name which) words)
@@ -54,11 +50,11 @@ missing_file Load words = None
 missing_file Audit words = find (is_missing words) (Network ∷ Fleet ∷ Script ∷ Report ∷ [])
 missing_file _ words = find (is_missing words) (Network ∷ Fleet ∷ Script ∷ [])
 
--- why the words behind a command are refused, if they are
+-- why the words behind a command are refused, if they are: the first fault of a word, or else a file that is missing
 abbrev pub fault_behind : Option Command → List (List ℕ) → Option WordFault
 fault_behind None words = Some NoCommand
 fault_behind (Some command) words =
-    option_or (words_fault command words) (option_map (λ which. MissingFile which) (missing_file command words))
+    option_or (first_fault (fault_at command words) (length words)) (option_map (λ which. MissingFile which) (missing_file command words))
 
 -- why words are refused, if they are: the first word is the command, and words count from 1
 abbrev pub fault_of : List (List ℕ) → Option WordFault

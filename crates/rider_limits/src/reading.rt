@@ -2,7 +2,8 @@ ghost use Rattle.std.specs.Prelude.{◌≡◌, ◌↔◌, None, Some, codes, map
 ghost use Rattle.std.specs.String.{string_bytes};
 ghost use Rattle.rider_limits.specs.Key.{about};
 ghost use Rattle.rider_limits.specs.work.Taken.{IsNumber, IsAccepted};
-ghost use Rattle.rider_limits.specs.Words.{text_given, words_fault, fault_of};
+ghost use Rattle.rider_limits.specs.Words.{text_given, fault_of};
+ghost use Rattle.rider_limits.specs.work.Named.{words_fault};
 ghost use Rattle.rider_limits.specs.Settings.{number_given, IsShapeGiven, AreGivenBehind, AreGiven};
 ghost use Rattle.rider_limits.specs.declared.command.Command.TheVariants.{Load};
 ghost use Rattle.rider_limits.specs.declared.key.Key.TheVariants.{Times};

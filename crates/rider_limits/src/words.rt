@@ -2,7 +2,8 @@ ghost use Rattle.std.specs.Prelude.{◌≡◌, None, Some, map, MatchOption};
 ghost use Rattle.std.specs.List.{find};
 ghost use Rattle.std.specs.String.{string_bytes};
 ghost use Rattle.std.specs.Option.{option_copied};
-ghost use Rattle.rider_limits.specs.Words.{after_key, text_given, option_of, option_fault, words_fault, is_missing, missing_file};
+ghost use Rattle.rider_limits.specs.Words.{after_key, text_given, option_of, option_fault, is_missing, missing_file};
+ghost use Rattle.rider_limits.specs.work.Named.{words_fault};
 
 use crate::command::Command;
 use crate::key::Key;
