@@ -31,13 +31,10 @@ picks chosen = flat_map (λ trip. trip_picks trip.vehicle trip.stops.items) chos
 abbrev pub planned_status : List Pick → ℕ → Status
 planned_status ps id = unwrap_or (option_map (λ p. Promised p.promise) (look_up (λ p. p.rider) id ps)) Waiting
 
--- the rider is one of the snapshot's
-abbrev pub in_batch : List Rider → ℕ → Bool
-in_batch riders id = is_some (look_up (λ r. r.id) id riders)
-
 -- the rider after a plan: who is in the snapshot and still in the pool gets the status that was planned
 abbrev pub after_plan : List Rider → List Pick → BookRider → BookRider
-after_plan riders ps r = if is_active r.status && in_batch riders r.id then with_status (planned_status ps r.id) r else r
+after_plan riders ps r =
+    if is_active r.status && is_some (look_up (λ shown. shown.id) r.id riders) then with_status (planned_status ps r.id) r else r
 
 -- the riders after an answer for a batch of these riders
 unfoldable pub after_answer : List Rider → Answer → List BookRider → List BookRider

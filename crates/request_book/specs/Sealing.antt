@@ -17,10 +17,6 @@ is_over wait now r = is_active r.status && nat_lt (r.time + wait) now
 abbrev pub after_seal : ℕ → ℕ → BookRider → BookRider
 after_seal wait now r = if is_over wait now r then with_status Expired r else r
 
--- the id of a rider whose wait is over
-abbrev pub over_id : ℕ → ℕ → BookRider → Option ℕ
-over_id wait now r = if is_over wait now r then Some r.id else None
-
 -- a rider of the pool who asked by now, as a snapshot shows them
 abbrev pub asking : ℕ → BookRider → Option Rider
 asking now r = if nat_le r.time now then option_map (shown r) (pool_promise r.status) else None
@@ -33,7 +29,7 @@ batch_of wait s now = record {
   sealed_at = now;
   vehicles = s.vehicles;
   riders = by_key (λ r. r.id) (filter_map (asking now) (map (after_seal wait now) s.riders));
-  expired = by_key (λ id. id) (filter_map (over_id wait now) s.riders);
+  expired = by_key (λ id. id) (filter_map (λ r. if is_over wait now r then Some r.id else None) s.riders);
 }
 
 -- the state after a seal

@@ -32,10 +32,6 @@ rider_becomes s rider status = record s { riders = changed_at (λ r. r.id) rider
 abbrev pub vehicle_becomes : State → ℕ → (Vehicle → Vehicle) → State
 vehicle_becomes s vehicle change = record s { vehicles = changed_at (λ v. v.id) vehicle change s.vehicles }
 
--- the vehicle is at a node, at a second
-abbrev pub stands_at : ℕ → ℕ → Vehicle → Vehicle
-stands_at node time v = record v { node = node; time = time }
-
 -- the rider is the vehicle's last passenger, and the vehicle is at the rider's origin
 abbrev pub takes_in : BookRider → ℕ → Vehicle → Vehicle
 takes_in r time v = record v { node = r.origin; time = time; aboard = record { items = v.aboard.items ++ passenger_of r ∷ [] } }
@@ -73,13 +69,13 @@ cancel s rider = do
   _ ← still_asks r.status
   Ok (rider_becomes s rider GivenUp)
 
--- a vehicle is at a node
+-- a vehicle is at a node, at a second
 unfoldable pub report : List ℕ → State → ℕ → ℕ → ℕ → Result State BookRefusal
 report nodes s vehicle node time = do
   v ← ok_or (find_vehicle vehicle s.vehicles) UnknownVehicle
   _ ← refused_where (not (has_node nodes node)) UnknownNode
   _ ← refused_where (nat_lt time v.time) (TimeBack v.time)
-  Ok (vehicle_becomes s vehicle (stands_at node time))
+  Ok (vehicle_becomes s vehicle (λ w. record w { node = node; time = time }))
 
 -- a vehicle picks up the rider who is promised to it, if there are seats for the whole party
 unfoldable pub pickup : State → ℕ → ℕ → ℕ → Result State BookRefusal

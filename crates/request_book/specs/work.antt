@@ -1,3 +1,4 @@
+pub mod Named
 pub mod Register
 pub mod Stored
 pub mod Refusals

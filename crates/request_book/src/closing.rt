@@ -5,7 +5,8 @@ ghost use Rattle.request_book.specs.Keyed.{changed_at, KeysDiffer, KeysRise};
 ghost use Rattle.request_book.specs.work.Keyed.{changed_in_turn};
 ghost use Rattle.request_book.specs.work.Register.{state_of, IsIndexed, HasRoom};
 ghost use Rattle.request_book.specs.Rider.{with_status};
-ghost use Rattle.request_book.specs.Closing.{in_batch, picks, trip_picks, after_answer};
+ghost use Rattle.request_book.specs.Closing.{picks, trip_picks, after_answer};
+ghost use Rattle.request_book.specs.work.Named.{in_batch};
 ghost use Rattle.request_book.specs.work.Closing.{is_waiting, waits_again, takes_promise, promised_in_turn};
 ghost use Rattle.request_book.specs.work.Table.{close_step};
 

@@ -24,7 +24,8 @@ use Rattle.request_book.specs.Rider.{passenger_of, vehicle_of}
 use Rattle.request_book.specs.Sealing.{sealed_state}
 use Rattle.pool_io.specs.Faults.{one_more}
 use Rattle.request_book.specs.State.{find_rider}
-use Rattle.request_book.specs.Step.{rider_becomes, vehicle_becomes, stands_at, step}
+use Rattle.request_book.specs.Step.{rider_becomes, vehicle_becomes, step}
+use Rattle.request_book.specs.work.Named.{stands_at}
 use Rattle.request_book.specs.work.Table.{answer, picked_up, dropped_off, submit_step, cancel_step, report_step, pickup_step, dropoff_step, seal_step, close_step, table_step}
 use Rattle.request_book.proofs.lemmas.BookLemmas.{opening-consistent}
 use Rattle.request_book.proofs.lemmas.ConsistentLemmas.{step-consistent}

@@ -6,7 +6,8 @@ use Rattle.request_book.specs.declared.rider.Status.{Status}
 use Rattle.request_book.specs.declared.rider.Status.TheVariants.{Waiting, Promised}
 use Rattle.request_book.specs.declared.outcome.Answer.{Answer}
 use Rattle.request_book.specs.declared.state.State.{State}
-use Rattle.request_book.specs.Closing.{Pick, in_batch, after_answer}
+use Rattle.request_book.specs.Closing.{Pick, after_answer}
+use Rattle.request_book.specs.work.Named.{in_batch}
 use Rattle.request_book.specs.Keyed.{changed_at}
 use Rattle.request_book.specs.Rider.{is_active, with_status}
 
