@@ -15,10 +15,6 @@ abbrev pub round_before : List (List (List ℕ)) → ℕ → ℕ
 round_before records zero = 0
 round_before records (suc place) = number_at (slice_index_or records place []) 0
 
--- the row at a place, behind the row before it, or why it is refused
-abbrev pub line_at : ScriptVersion → List (List (List ℕ)) → ℕ → Result Line ScriptFault
-line_at version records place = line_in version (place + 1) (round_before records place) (slice_index_or records place [])
-
 -- the round of a number: sixteen lanes, each with its commands in the order of the rows
 abbrev pub round_of : List Line → ℕ → NumberedLanes
 round_of lines number =
@@ -28,8 +24,9 @@ round_of lines number =
 unfoldable pub rounds_of : List Line → List NumberedLanes
 rounds_of lines = map (round_of lines) (distinct (map (λ l. l.round) lines))
 
--- the rounds that records give, or the first refusal
+-- the rounds that records give, or the first refusal; each row is read behind the one before it
 abbrev pub script_of : ScriptVersion → List (List (List ℕ)) → Result (List NumberedLanes) ScriptFault
 script_of version records =
     if nat_lt 200000 (length records) then Err TooManyRows
-    else (all_or_first (line_at version records) (length records) >>= λ lines. Ok (rounds_of lines))
+    else (all_or_first (λ place. line_in version (place + 1) (round_before records place) (slice_index_or records place [])) (length records)
+    >>= λ lines. Ok (rounds_of lines))

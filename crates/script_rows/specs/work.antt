@@ -1,3 +1,4 @@
+pub mod Named
 pub mod Row
 pub mod Building
 pub mod Words

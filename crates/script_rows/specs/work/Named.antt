@@ -1,0 +1,10 @@
+use Rattle.std.specs.Prelude.{ℕ, ◌+◌, List, [], Result, slice_index_or}
+use Rattle.script_rows.specs.declared.fault.ScriptFault.{ScriptFault}
+use Rattle.script_rows.specs.declared.line.Line.{Line}
+use Rattle.script_rows.specs.declared.version.ScriptVersion.{ScriptVersion}
+use Rattle.script_rows.specs.Line.{line_in}
+use Rattle.script_rows.specs.Script.{round_before}
+
+-- the row at a place, behind the row before it, or why it is refused
+abbrev pub line_at : ScriptVersion → List (List (List ℕ)) → ℕ → Result Line ScriptFault
+line_at version records place = line_in version (place + 1) (round_before records place) (slice_index_or records place [])
