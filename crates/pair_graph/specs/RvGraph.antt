@@ -8,12 +8,9 @@ use Rattle.pair_graph.specs.declared.rv_edge.RvEdge.{RvEdge}
 abbrev pub no_edge : RvEdge
 no_edge = record { vehicle = 0; rider = 0 }
 
--- the two numbers of an edge
-abbrev pub pair_of : RvEdge → ℕ × ℕ
-pair_of edge = (edge.vehicle, edge.rider)
-
 -- the edges are those between vehicles and riders, by vehicle, then rider, each once
 pub record IsRvGraph (tau : ℕ → ℕ → ℕ) (settled : Settled) (edges : List RvEdge) : Type 0 where
   pub right : All (λ e. IsRvEdge tau settled e.vehicle e.rider) edges
-  pub rising : (k : ℕ) → k + 1 < length edges → IsBefore (pair_of (slice_index_or edges k no_edge)) (pair_of (slice_index_or edges (k + 1) no_edge))
+  pub rising : (k : ℕ) → k + 1 < length edges
+      → let e = slice_index_or edges k no_edge in let f = slice_index_or edges (k + 1) no_edge in IsBefore (e.vehicle, e.rider) (f.vehicle, f.rider)
   pub whole : (v r : ℕ) → IsRvEdge tau settled v r → Contains edges (record { vehicle = v; rider = r })
