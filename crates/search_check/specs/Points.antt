@@ -7,8 +7,7 @@ use Rattle.plan_rules.specs.Graph.{Graph}
 use Rattle.plan_rules.specs.Greedy.{IsGreedy}
 use Rattle.plan_rules.specs.Multipliers.{first_fit_value}
 use Rattle.plan_rules.specs.Plan.{IsLawful, cost_of}
-use Rattle.plan_rules.specs.Reading.{places_read}
-use Rattle.plan_rules.specs.Tree.{every_row, rounded_up, IsTreeOfValue}
+use Rattle.plan_rules.specs.Tree.{every_row, rounded_up, SearchTree, IsTreeOf, IsTreeOfValue, places_within}
 use Rattle.plan_rules.specs.declared.node.Node.{Node}
 
 -- the nodes are a sound tree of this value, within the budget
@@ -22,10 +21,13 @@ pub record IsClose (g : Graph) (budget cost : ℕ) (bound : ℤ) (nodes : List N
   pub limited : bound <ℤ pos cost → budget < length nodes + 2
   pub closed : 2 * choice_count g every_row ≤ budget → bound ≡ pos cost
 
--- each leaf is at least as good as the first-fit multipliers are there, and each branch was worth making
+-- the nodes are a sound tree, where each leaf is at least as good as the first-fit multipliers are there, and each branch was
+-- worth making
 pub record IsFair (g : Graph) (bound : ℤ) (nodes : List Node) : Type 0 where
-  pub leaves : All (λ p. IsAtLeastFirstFit g p.usable p.node) (places_read g nodes)
-  pub branches : All (λ p. IsBranchJustified g bound p.usable p.node) (places_read g nodes)
+  pub tree : SearchTree
+  pub shape : IsTreeOf g nodes tree
+  pub leaves : All (λ p. IsAtLeastFirstFit g p.usable p.node) (places_within g every_row tree)
+  pub branches : All (λ p. IsBranchJustified g bound p.usable p.node) (places_within g every_row tree)
 
 -- the plan costs no more than the held one, the greedy one where that is lawful, and those that differ in one row
 pub record IsBestNear (g : Graph) (chosen : List (Option ℕ)) : Type 0 where

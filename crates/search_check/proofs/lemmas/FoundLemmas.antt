@@ -1,5 +1,5 @@
 -- What a search finds, point by point.
-use Rattle.std.proofs.Common.{◌≡◌, ℕ, ℤ, List, Option, All, sym, subst, arith}
+use Rattle.std.proofs.Common.{◌≡◌, ℕ, ℤ, List, Option, All, sym, ◌∙◌, subst, arith}
 use Rattle.assignment_search.specs.Found.{IsAtLeastFirstFit, IsBranchJustified, IsSearchAnswer}
 use Rattle.plan_rules.specs.Graph.{Graph, IsGoodGraph}
 use Rattle.plan_rules.specs.Plan.{IsBound, IsLawful, cost_of}
@@ -16,26 +16,28 @@ module _ (g : Graph) (budget cost : ℕ) (chosen : List (Option ℕ)) (bound : �
   -- a lawful plan of which the points hold is what a search may find
   pub found_from : IsLawful g chosen → cost ≡ cost_of g chosen → HasValue g budget bound nodes → IsClose g budget cost bound nodes → IsFair g bound nodes → IsBestNear g chosen
       → IsSearchAnswer g budget (record { plan = chosen; cost = cost; bound = bound; tree = nodes })
-  found_from lawful costs has close fair best = record {
-    plan = record {
-      lawful = lawful;
-      costs = costs;
-      held = (let h = best.held in omega (arith, costs, h));
-      greedy = λ other is of. let h = best.greedy other is of in omega (arith, costs, h);
-      change = best.change;
-    };
-    nodes = has.few;
-    shown = record {
-      tree = has.tree.0;
-      shape = has.tree.1;
-      value = has.tree.2;
-      leaves = subst (λ (ps : List Place). All (λ p. IsAtLeastFirstFit g p.usable p.node) ps) (places_are g nodes has.tree.0 has.tree.1) fair.leaves;
-      branches = subst (λ (ps : List Place). All (λ p. IsBranchJustified g bound p.usable p.node) ps) (places_are g nodes has.tree.0 has.tree.1) fair.branches;
-    };
-    root = close.root;
-    limited = close.limited;
-    closed = close.closed;
-  }
+  found_from lawful costs has close fair best =
+      let same = sym (places_are g nodes fair.tree fair.shape) ∙ places_are g nodes has.tree.0 has.tree.1 in
+      record {
+        plan = record {
+          lawful = lawful;
+          costs = costs;
+          held = (let h = best.held in omega (arith, costs, h));
+          greedy = λ other is of. let h = best.greedy other is of in omega (arith, costs, h);
+          change = best.change;
+        };
+        nodes = has.few;
+        shown = record {
+          tree = has.tree.0;
+          shape = has.tree.1;
+          value = has.tree.2;
+          leaves = subst (λ (ps : List Place). All (λ p. IsAtLeastFirstFit g p.usable p.node) ps) same fair.leaves;
+          branches = subst (λ (ps : List Place). All (λ p. IsBranchJustified g bound p.usable p.node) ps) same fair.branches;
+        };
+        root = close.root;
+        limited = close.limited;
+        closed = close.closed;
+      }
 
   -- .. and back
   module _ (found : IsSearchAnswer g budget (record { plan = chosen; cost = cost; bound = bound; tree = nodes })) where
@@ -47,8 +49,10 @@ module _ (g : Graph) (budget cost : ℕ) (chosen : List (Option ℕ)) (bound : �
 
     pub found_fair : IsFair g bound nodes
     found_fair = record {
-      leaves = subst (λ (ps : List Place). All (λ p. IsAtLeastFirstFit g p.usable p.node) ps) (sym (places_are g nodes found.shown.tree found.shown.shape)) found.shown.leaves;
-      branches = subst (λ (ps : List Place). All (λ p. IsBranchJustified g bound p.usable p.node) ps) (sym (places_are g nodes found.shown.tree found.shown.shape)) found.shown.branches;
+      tree = found.shown.tree;
+      shape = found.shown.shape;
+      leaves = found.shown.leaves;
+      branches = found.shown.branches;
     }
 
     pub found_best : IsBestNear g chosen

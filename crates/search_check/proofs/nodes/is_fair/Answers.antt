@@ -3,10 +3,12 @@ use Rattle.std.proofs.lemmas.Bool.{both_ways}
 use Rattle.std.proofs.lemmas.List.{take_more, with_items_is}
 use Rattle.plan_rules.specs.Multipliers.{Usable, usable_of}
 use Rattle.plan_rules.specs.Path.{standing_of}
-use Rattle.plan_rules.specs.Reading.{ReadsTo, places_read}
+use Rattle.plan_rules.specs.Reading.{ReadsTo}
+use Rattle.plan_rules.specs.work.Tree.{places_read}
 use Rattle.plan_rules.specs.Tree.{every_row, Place}
 use Rattle.plan_rules.specs.declared.node.Node.{Node}
 use Rattle.plan_rules.proofs.lemmas.ReadLemmas.{reads_push}
+use Rattle.plan_rules.proofs.lemmas.SearchTreeLemmas.{places_are}
 use Rattle.plan_rules.proofs.lemmas.UsableLemmas.{Agree, agree_back}
 use Rattle.assignment_search.specs.Found.{IsAtLeastFirstFit, IsBranchJustified}
 use Rattle.bound_checker.specs.Visit.{coming_of}
@@ -72,9 +74,10 @@ returns-then-not-branch c =
     let agree : Agree g (usable_of c.deref.result.now) u = λ k l. ap (λ (xs : List Bool). get_or xs k false) (c.deref.ensures.value ∙ items) ∙ c.mark_usable.ensures.usable k l in (
       λ no. absurd (let f : false ≡ true = no in cc),
       λ fair.
+          let read = sym (places_are g nodes fair.tree fair.shape) in
           let own : IsFairNode g bound u node = record {
-            leaf = fair_at g (λ (p : Place). IsAtLeastFirstFit g p.usable p.node) nodes i u later node low here reads fair.leaves;
-            branch = fair_at g (λ (p : Place). IsBranchJustified g bound p.usable p.node) nodes i u later node low here reads fair.branches;
+            leaf = fair_at g (λ (p : Place). IsAtLeastFirstFit g p.usable p.node) nodes i u later node low here reads (subst (λ (ps : List Place). All (λ (p : Place). IsAtLeastFirstFit g p.usable p.node) ps) read fair.leaves);
+            branch = fair_at g (λ (p : Place). IsBranchJustified g bound p.usable p.node) nodes i u later node low here reads (subst (λ (ps : List Place). All (λ (p : Place). IsBranchJustified g bound p.usable p.node) ps) read fair.branches);
           } in
           absurd (both_ways _ c.if-not-branch.true (c.in_ok-is_fair_node.ensures.1 (fair_agrees g bound u (usable_of c.deref.result.now) node (agree_back g (usable_of c.deref.result.now) u agree) own))),
     )
@@ -117,4 +120,6 @@ returns c =
     let i = c.loop-node.node-index in
     let whole : take i nodes ≡ nodes = take_all i nodes (omega (arith, ap length c.nodes-node-items.ensures)) in
     let fair : All (λ p. IsFairNode g c.args.bound.now p.usable p.node) (places_read g nodes) = subst (λ (xs : List Node). All (λ p. IsFairNode g c.args.bound.now p.usable p.node) (places_read g xs)) whole c.loop-node.invariant.fair in
-    (λ t. record { leaves = λ k d l. (fair k d l).leaf; branches = λ k d l. (fair k d l).branch }, λ f. search rules)
+    let made = c.requires in
+    let placed = subst (λ (ps : List Place). All (λ (p : Place). IsFairNode g c.args.bound.now p.usable p.node) ps) (places_are g nodes made.0 made.1) fair in
+    (λ t. record { tree = made.0; shape = made.1; leaves = λ k d l. (placed k d l).leaf; branches = λ k d l. (placed k d l).branch }, λ f. search rules)
