@@ -6,7 +6,8 @@ use Rattle.plan_rules.specs.Sums.{sum_below, count_below}
 use Rattle.plan_rules.specs.Graph.{Graph, IsRowOf, row_vehicle}
 use Rattle.plan_rules.specs.Multipliers.{Usable, is_usable_by}
 use Rattle.plan_rules.specs.Tree.{every_row, only_row, without_row, MayUse, CanBranch}
-use Rattle.plan_rules.specs.Reading.{coming_after, ReadsTo, IsWholeTree}
+use Rattle.plan_rules.specs.Reading.{coming_after, ReadsTo}
+use Rattle.plan_rules.specs.work.Tree.{IsWholeTree}
 use Rattle.plan_rules.specs.declared.node.Node.{Node}
 use Rattle.plan_rules.specs.declared.node.Node.TheVariants.{Branch, Leaf, Dead}
 use Rattle.plan_rules.proofs.lemmas.SumLemmas.{flag, sum_below_same, sum_below_plus, count_below_same, count_below_some}

@@ -8,7 +8,8 @@ use Rattle.plan_rules.specs.Sums.{lesser}
 use Rattle.plan_rules.specs.Graph.{Graph, IsRowOf, row_vehicle, IsGoodGraph}
 use Rattle.plan_rules.specs.Multipliers.{Usable, leaf_value, first_fit_value}
 use Rattle.plan_rules.specs.Tree.{every_row, only_row, without_row, MayUse, CanBranch, IsDeadEnd, Place, rounded_up, with_leaf, least_leaf}
-use Rattle.plan_rules.specs.Reading.{IsSoundNode, coming_after, ReadsTo, IsWholeTree, places_from, places_read, value_read}
+use Rattle.plan_rules.specs.Reading.{IsSoundNode, coming_after, ReadsTo, places_from}
+use Rattle.plan_rules.specs.work.Tree.{IsWholeTree, places_read, value_read}
 use Rattle.plan_rules.specs.Plan.{IsLawful, cost_of}
 use Rattle.plan_rules.specs.Greedy.{IsGreedy}
 use Rattle.plan_rules.specs.declared.node.Node.{Node}

@@ -11,13 +11,15 @@ use Rattle.pool_base.specs.Numeral.{number_up_to, number_at}
 use Rattle.batch_snapshot.specs.declared.vehicle.Vehicle.{Vehicle}
 use Rattle.road_network.specs.Reading.{nodes_of}
 use Rattle.fleet_state.specs.declared.fault.FleetFault.TheVariants.{TooManyVehicles, Duplicate}
-use Rattle.fleet_state.specs.Vehicle.{empty_vehicle, vehicle_in}
+use Rattle.fleet_state.specs.Vehicle.{vehicle_in}
+use Rattle.fleet_state.specs.work.Named.{empty_vehicle, is_repeated}
 use Rattle.road_network.specs.Roads.{has_node}
-use Rattle.fleet_state.specs.Fleet.{is_repeated, vehicle_of_row, IsFleetOf}
+use Rattle.fleet_state.specs.Fleet.{vehicle_of_row, IsFleetOf}
 use Rattle.rider_limits.specs.declared.load_shape.LoadShape.{LoadShape}
 use Rattle.load_maker.specs.declared.row.Field.{Field}
 use Rattle.load_maker.specs.declared.row.Field.TheVariants as field
-use Rattle.load_maker.specs.Part.{draws_of, draw, Part, each}
+use Rattle.load_maker.specs.Part.{draw, Part, each}
+use Rattle.load_maker.specs.work.Parts.{draws_of}
 use Rattle.load_maker.specs.Texts.{drawn_node, vehicle_row, fleet_part, network_part}
 use Rattle.made_inputs.proofs.FieldLemmas.{AllFit, number_up_to-decimal}
 use Rattle.made_inputs.proofs.TextLemmas.{fields_of, RowsFit}

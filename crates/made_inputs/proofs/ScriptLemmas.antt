@@ -14,12 +14,14 @@ use Rattle.script_rows.specs.declared.version.ScriptVersion.TheVariants.{One}
 use Rattle.script_rows.specs.Word.{word_of}
 use Rattle.script_rows.specs.Line.{party_in, submit_in, three_in, command_in, leaves_empty, line_in}
 use Rattle.script_rows.specs.Round.{NumberedLanes}
-use Rattle.script_rows.specs.Script.{round_before, line_at, rounds_of, script_of}
+use Rattle.script_rows.specs.Script.{round_before, rounds_of, script_of}
+use Rattle.script_rows.specs.work.Named.{line_at}
 use Rattle.rider_limits.specs.declared.load_shape.LoadShape.{LoadShape}
 use Rattle.load_maker.specs.declared.row.Field.{Field}
 use Rattle.load_maker.specs.declared.row.Field.TheVariants as field
-use Rattle.load_maker.specs.Part.{draws_of, draw, Part, nothing, plain, both, each}
-use Rattle.load_maker.specs.Texts.{drawn_node, report_row, all_reports, reports, other_than, submit_row, submits, seal_row, batch_rows, script_part, fleet_part, network_part}
+use Rattle.load_maker.specs.Part.{draw, Part, plain, both, each}
+use Rattle.load_maker.specs.work.Parts.{draws_of, nothing, all_reports, other_than, seal_row}
+use Rattle.load_maker.specs.Texts.{drawn_node, report_row, reports, submit_row, submits, batch_rows, script_part, fleet_part, network_part}
 use Rattle.made_inputs.proofs.FieldLemmas.{AllFit, number_up_to-decimal}
 use Rattle.made_inputs.proofs.TextLemmas.{fields_of, RowsFit}
 use Rattle.made_inputs.proofs.FleetLemmas.{drawn_small}

@@ -1,5 +1,6 @@
 use Rattle.std.proofs.Common.{List, map, arith}
-use Rattle.road_network.specs.Reading.{nodes_of, roads_of}
+use Rattle.road_network.specs.Reading.{nodes_of}
+use Rattle.road_network.specs.work.Rows.{roads_of}
 use Rattle.rider_limits.specs.declared.load_shape.LoadShape.{LoadShape}
 use Rattle.rider_limits.specs.Range.{IsShapeInRange}
 use Rattle.load_maker.specs.declared.row.Field.{Field}

@@ -7,9 +7,11 @@ use Rattle.csv.specs.Machine.{next_record}
 use Rattle.csv.specs.Reading.{default_config, records_from, records_next, records, strip_bom}
 use Rattle.csv.specs.declared.parser.State.TheVariants as st
 use Rattle.pool_io.specs.declared.records.RowFault.TheVariants.{Header, UnequalLength}
-use Rattle.pool_io.specs.Table.{header_fields, is_record, even_rows, rows_under, records_of, table_of}
+use Rattle.pool_io.specs.Table.{header_fields, even_rows, rows_under, table_of}
+use Rattle.pool_io.specs.work.Records.{records_of, is_record}
 use Rattle.load_maker.specs.declared.row.Field.{Field}
-use Rattle.load_maker.specs.Row.{field_text, text_under, csv_lines, csv_line}
+use Rattle.load_maker.specs.Row.{field_text, text_under, csv_line}
+use Rattle.load_maker.specs.work.Parts.{csv_lines}
 use Rattle.pool_base.specs.Header.{script_header, fleet_header, network_header}
 use Rattle.made_inputs.proofs.FieldLemmas.{AllFit, row_read}
 

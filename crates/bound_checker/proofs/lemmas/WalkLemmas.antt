@@ -6,7 +6,8 @@ use Rattle.std.proofs.lemmas.List.{with_items_is, take_more, get_or_push, get_or
 use Rattle.plan_rules.specs.Graph.{Graph, IsRowOf}
 use Rattle.plan_rules.specs.Multipliers.{Usable}
 use Rattle.plan_rules.specs.Tree.{every_row, Place, least_leaf, with_leaf}
-use Rattle.plan_rules.specs.Reading.{ReadsTo, places_read, places_from}
+use Rattle.plan_rules.specs.Reading.{ReadsTo, places_from}
+use Rattle.plan_rules.specs.work.Tree.{places_read}
 use Rattle.plan_rules.specs.Path.{Standing, standing_of, root, decided, IsPathOf}
 use Rattle.plan_rules.specs.declared.node.Node.{Node}
 use Rattle.plan_rules.specs.declared.node.Node.TheVariants.{Branch, Leaf, Dead}

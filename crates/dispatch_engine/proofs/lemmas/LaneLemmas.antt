@@ -12,7 +12,8 @@ use Rattle.request_book.specs.Replay.{state_after, RepliesAreSteps}
 use Rattle.request_book.specs.Sealing.{batch_of, sealed_state}
 use Rattle.pool_io.specs.Faults.{one_more}
 use Rattle.request_book.specs.State.{find_rider, find_vehicle}
-use Rattle.request_book.specs.Step.{rider_becomes, vehicle_becomes, stands_at, step}
+use Rattle.request_book.specs.Step.{rider_becomes, vehicle_becomes, step}
+use Rattle.request_book.specs.work.Named.{stands_at}
 use Rattle.request_book.specs.work.Table.{answer, picked_up, dropped_off, submit_refusal, seal_refusal, submit_step, cancel_step, report_step, pickup_step, dropoff_step, seal_step, close_step, table_step}
 use Rattle.request_book.proofs.lemmas.StepTable.{step-table, by-table}
 use Rattle.request_book.specs.declared.command.Command.{Command}

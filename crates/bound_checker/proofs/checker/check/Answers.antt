@@ -8,7 +8,8 @@ use Rattle.plan_rules.specs.Multipliers.{Usable}
 use Rattle.plan_rules.specs.Path.{standing_of}
 use Rattle.plan_rules.specs.Plan.{IsBound}
 use Rattle.plan_rules.specs.Tree.{every_row, least_leaf, IsTreeOfValue}
-use Rattle.plan_rules.specs.Reading.{ReadsTo, places_read, value_read, IsWholeTree, coming_after}
+use Rattle.plan_rules.specs.Reading.{ReadsTo, coming_after}
+use Rattle.plan_rules.specs.work.Tree.{places_read, value_read, IsWholeTree}
 use Rattle.plan_rules.specs.declared.node.Node.{Node}
 use Rattle.plan_rules.proofs.lemmas.ReadLemmas.{reads_push}
 use Rattle.plan_rules.proofs.lemmas.TreeLemmas.{tree_value_bounds}

@@ -1,6 +1,7 @@
 use Rattle.std.proofs.Common.{◌≡◌, ◌∷◌, [], take}
 use Rattle.plan_rules.specs.Tree.{every_row, least_leaf}
-use Rattle.plan_rules.specs.Reading.{ReadsTo, places_read}
+use Rattle.plan_rules.specs.Reading.{ReadsTo}
+use Rattle.plan_rules.specs.work.Tree.{places_read}
 use Rattle.bound_checker.specs.Visit.{coming_of, IsReady}
 use Rattle.bound_checker.proofs.checker.check.Given as goal
 
