@@ -8,6 +8,7 @@ use Rattle.dispatch_engine.proofs.lemmas.LaneLemmas.{plain-quiet}
 use Rattle.pool_io.specs.Faults.{one_more}
 use Rattle.request_book.specs.Book.{next_position, would_seal}
 use Rattle.request_book.specs.Closing.{after_answer}
+use Rattle.request_book.specs.Command.{IsNoClose}
 use Rattle.request_book.specs.Replay.{state_after, RepliesAreSteps}
 use Rattle.request_book.specs.Sealing.{batch_of, sealed_state}
 use Rattle.request_book.specs.Step.{step, close}
@@ -26,7 +27,7 @@ use Rattle.shared_book.specs.Locked.{sealed_by}
 use Rattle.shared_book.specs.work.Locked.{snapshot_before}
 use Rattle.shared_book.proofs.lemmas.LockedLemmas.{step-sealed}
 use Rattle.report_audit.specs.Types.{IsTold, AreTold}
-use Rattle.report_audit.specs.work.Commands.{IsNoClose, sealed_next}
+use Rattle.report_audit.specs.work.Commands.{sealed_next}
 use Rattle.report_audit.proofs.TextLemmas.{next-none, next-more}
 
 -- replies

@@ -10,6 +10,7 @@ use Rattle.dispatch_engine.specs.work.Lanes.{IsPlain}
 use Rattle.dispatch_engine.proofs.lemmas.LaneLemmas.{plain-quiet}
 use Rattle.lane_progress.specs.declared.stand.LaneStand.{LaneStand}
 use Rattle.lane_progress.specs.Stand.{at_start, stand_at, IsRest, IsNext, IsNextFrom, stand_after, HaveCome, AreDone}
+use Rattle.request_book.specs.Command.{IsNoClose}
 use Rattle.request_book.specs.Step.{step}
 use Rattle.request_book.specs.declared.command.Command.{Command}
 use Rattle.request_book.specs.declared.command.Command.TheVariants.{Submit, Cancel, Report, Pickup, Dropoff, Seal, Close}
@@ -21,7 +22,7 @@ use Rattle.request_book.specs.declared.reply.Reply.TheVariants.{Accepted, Closed
 use Rattle.request_book.specs.declared.state.State.{State}
 use Rattle.script_rows.specs.Round.{NumberedLanes, IsRound, MayStand, lane_at}
 use Rattle.shared_book.specs.Locked.{sealed_by}
-use Rattle.report_audit.specs.work.Commands.{IsNoClose, sealed_next}
+use Rattle.report_audit.specs.work.Commands.{sealed_next}
 use Rattle.report_audit.specs.work.Steps.{Waits}
 use Rattle.report_audit.proofs.JournalLemmas.{sealed-after, number-after}
 
