@@ -6,8 +6,8 @@ use Rattle.std.proofs.lemmas.List.{get_or_past, get_or-set_same, get_or-set_othe
 use Rattle.std.proofs.lemmas.List.Elements.{filter-append}
 use Rattle.batch_snapshot.specs.Batch.{Batch}
 use Rattle.dispatch_engine.specs.Lane.{of_lane, IsLaneRun, IsLaneRunFrom, IsLaneBeginning, last_sealed}
-use Rattle.dispatch_engine.specs.work.Lanes.{IsPlain}
 use Rattle.dispatch_engine.proofs.lemmas.LaneLemmas.{plain-quiet}
+use Rattle.dispatch_engine.proofs.lemmas.StandLemmas.{stands-plain}
 use Rattle.lane_progress.specs.declared.stand.LaneStand.{LaneStand}
 use Rattle.lane_progress.specs.Stand.{at_start, stand_at, IsRest, IsNext, IsNextFrom, stand_after, HaveCome, AreDone}
 use Rattle.request_book.specs.Command.{IsNoClose}
@@ -102,15 +102,6 @@ module _ (lanes : List LaneStand) (lane : ℕ) (stand : LaneStand) (low : lane <
   stand_other : (k : ℕ) → (k ≢ lane) → stand_at (set lanes lane stand) k ≡ stand_at lanes k
   stand_other k other = get_or-set_other lanes lane k stand at_start other
 
-plain_of : (lane : ℕ) (command : Command) → lane ≢ 0 → MayStand lane command → IsPlain command
-plain_of lane (Submit rider origin destination time party) other stands = tt
-plain_of lane (Cancel rider) other stands = tt
-plain_of lane (Report vehicle node time) other stands = tt
-plain_of lane (Pickup vehicle rider time) other stands = tt
-plain_of lane (Dropoff vehicle rider time) other stands = tt
-plain_of lane (Seal now) other stands = absurd (other stands)
-plain_of lane (Close batch outcome) other stands = absurd stands
-
 pub no_close_of : (lane : ℕ) (command : Command) → MayStand lane command → IsNoClose command
 no_close_of lane (Submit rider origin destination time party) stands = tt
 no_close_of lane (Cancel rider) stands = tt
@@ -167,7 +158,7 @@ waits_command nodes wait s lanes lane command low waits pending stands = ⊎_eli
     elsewhere : lane ≢ 0 → Waits (set lanes lane (stand_after (stand_at lanes lane) (step nodes wait s command).1)) (step nodes wait s command).0.sealed
     elsewhere other =
         let new : List LaneStand = set lanes lane (stand_after (stand_at lanes lane) (step nodes wait s command).1) in
-        let quiet = plain-quiet nodes wait s command (plain_of lane command other stands) in
+        let quiet = plain-quiet nodes wait s command (stands-plain lane command other stands) in
         let zero_stands : (stand_at new 0).pending ≡ (stand_at lanes 0).pending =
         ap (λ (t : LaneStand). t.pending) (stand_other lanes lane (stand_after (stand_at lanes lane) (step nodes wait s command).1) low 0 (λ e. other (sym e))) in
         let here : (stand_at new lane).pending ≡ None =
