@@ -22,9 +22,10 @@ use Rattle.request_book.specs.declared.reply.Reply.TheVariants.{Accepted, Closed
 use Rattle.request_book.specs.declared.state.State.{State}
 use Rattle.script_rows.specs.Round.{NumberedLanes, IsRound, MayStand, lane_at}
 use Rattle.shared_book.specs.Locked.{sealed_by}
-use Rattle.report_audit.specs.work.Commands.{sealed_next}
+use Rattle.shared_book.specs.work.Locked.{snapshot_before}
+use Rattle.shared_book.proofs.lemmas.LockedLemmas.{step-sealed}
 use Rattle.report_audit.specs.work.Steps.{Waits}
-use Rattle.report_audit.proofs.JournalLemmas.{sealed-after, number-after}
+use Rattle.report_audit.proofs.JournalLemmas.{sealed-after}
 
 -- the entries of a lane
 pub of_lane-append : (lane : ℕ) (xs ys : List Entry) → of_lane lane (xs ++ ys) ≡ of_lane lane xs ++ of_lane lane ys
@@ -140,14 +141,14 @@ waits_command nodes wait s lanes lane command low waits pending stands = ⊎_eli
     at_zero zeroth =
         let new : List LaneStand = set lanes lane (stand_after (stand_at lanes lane) (step nodes wait s command).1) in
         let open_none : s.sealed ≡ None = number_none s.sealed (sym pending ∙ ap (λ (k : ℕ). (stand_at lanes k).pending) zeroth ∙ waits.first) in
-        let sealed : sealed_next wait s command ≡ (step nodes wait s command).0.sealed =
-        last_none (sealed_next wait s command) ∙ ap (λ (o : Option Batch). last_sealed o (sealed_next wait s command)) (sym open_none) ∙ sealed-after nodes wait s command (no_close_of lane command stands) in
+        let sealed : snapshot_before wait s command ≡ (step nodes wait s command).0.sealed =
+        last_none (snapshot_before wait s command) ∙ ap (λ (o : Option Batch). last_sealed o (snapshot_before wait s command)) (sym open_none) ∙ sealed-after nodes wait s command (no_close_of lane command stands) in
         let here : (stand_at new 0).pending ≡ sealed_by (step nodes wait s command).1 =
         ap (λ (k : ℕ). (stand_at new k).pending) (sym zeroth)
         ∙ ap (λ (t : LaneStand). t.pending) (stand_same lanes lane (stand_after (stand_at lanes lane) (step nodes wait s command).1) low)
         ∙ after_none (stand_at lanes lane) (step nodes wait s command).1 pending in
         record {
-          first = here ∙ sym (number-after nodes wait s command) ∙ ap (option_map (λ b. b.number)) sealed;
+          first = here ∙ sym (step-sealed nodes wait s command) ∙ ap (option_map (λ b. b.number)) sealed;
           others = λ k other. ap (λ (t : LaneStand). t.pending) (stand_other lanes lane (stand_after (stand_at lanes lane) (step nodes wait s command).1) low k (λ e. other (e ∙ zeroth))) ∙ waits.others k other;
         }
       where

@@ -5,7 +5,7 @@ ghost use Rattle.dispatch_report.specs.Entry.{entry_line};
 ghost use Rattle.request_book.specs.Book.{IsApplied, next_position};
 ghost use Rattle.request_book.specs.Command.{IsNoClose};
 ghost use Rattle.request_book.specs.declared.reply.Reply.{Reply as OneReply};
-ghost use Rattle.report_audit.specs.work.Commands.{sealed_next};
+ghost use Rattle.shared_book.specs.work.Locked.{snapshot_before};
 
 use crate::line::is_entry_line;
 use batch_snapshot::Snapshot;
@@ -18,7 +18,7 @@ pub(crate) fn sealed_by_command(
     book: &Book,
     command: &Command,
 ) -> Result<Option<Snapshot>, OutOfMemory>
-    ensures { IfOk result (λ batch. batch ≡ sealed_next book.entry.now.wait book.entry.now.state command.entry.now) }
+    ensures { IfOk result (λ batch. batch ≡ snapshot_before book.entry.now.wait book.entry.now.state command.entry.now) }
 {
     match command {
         Command::Seal { now } => book.would_seal(*now),
