@@ -11,7 +11,6 @@ use Rattle.request_book.specs.Book.{BookView, IsBook, IsSameBook}
 use Rattle.request_book.specs.Consistent.{IsNode}
 use Rattle.request_book.specs.Replay.{state_after, RepliesAreSteps}
 use Rattle.request_book.specs.declared.command.Command.{Command}
-use Rattle.request_book.specs.declared.command.Command.TheVariants.{Submit, Cancel, Report, Pickup, Dropoff, Seal, Close}
 use Rattle.request_book.specs.declared.journal.Entry.{Entry}
 use Rattle.request_book.specs.declared.reply.Reply.{Reply}
 use Rattle.request_book.specs.declared.state.State.{State}
@@ -23,8 +22,9 @@ use Rattle.shared_book.specs.Shared.{BookPass, with_snapshot, IsFinished}
 use Rattle.dispatch_engine.specs.Lane.{of_lane, ClosesAreGood, IsLaneRun}
 use Rattle.dispatch_engine.specs.Run.{IsReady, IsRoundRun, IsSameRun, journal_of}
 use Rattle.dispatch_engine.specs.work.Crew.{HaveRunLanes}
-use Rattle.dispatch_engine.specs.work.Lanes.{ArePlain, HaveRun, IsJointRun, IsPlain}
+use Rattle.dispatch_engine.specs.work.Lanes.{ArePlain, HaveRun, IsJointRun}
 use Rattle.dispatch_engine.proofs.lemmas.LaneLemmas.{joined}
+use Rattle.dispatch_engine.proofs.lemmas.StandLemmas.{stands-plain}
 
 -- what holds at all holds on an error
 pub on-err : {T E : Type 0} (r : Result T E) (P : Type 0) → P → OnErr r P
@@ -42,16 +42,7 @@ snapshot-known nodes roads command reply b is fits = λ k d within. contained (g
     contained : (node : ℕ) → IsNode roads node → Contains roads node
     contained node found = Contains-from_any {eq = λ q n. eqb n q} (λ x y same. sym (eqb-true y x same)) node roads found
 
--- a lane other than the first has plain commands alone
-stands-plain : (lane : ℕ) (command : Command) → lane ≢ 0 → MayStand lane command → IsPlain command
-stands-plain lane (Submit rider origin destination time party) other stands = tt
-stands-plain lane (Cancel rider) other stands = tt
-stands-plain lane (Report vehicle node time) other stands = tt
-stands-plain lane (Pickup vehicle rider time) other stands = tt
-stands-plain lane (Dropoff vehicle rider time) other stands = tt
-stands-plain lane (Seal now) other stands = absurd (other stands)
-stands-plain lane (Close batch outcome) other stands = absurd stands
-
+-- all commands of a lane other than the first are plain
 all-plain : (lane : ℕ) (commands : List Command) → lane ≢ 0 → All (MayStand lane) commands → ArePlain commands
 all-plain lane [] other stand = tt
 all-plain lane (c ∷ cs) other stand = (

@@ -4,7 +4,6 @@ ghost use Rattle.script_rows.specs.Round.{MayStand};
 ghost use Rattle.seat_lock.specs.Values.{IsPassOf};
 ghost use Rattle.dispatch_engine.specs.Lane.{HasBegun, HasRun};
 ghost use Rattle.dispatch_engine.specs.work.Crew.{HasTaken};
-ghost use Rattle.dispatch_engine.specs.work.Lanes.{IsOfVehicle, IsPlain};
 
 use crate::setup::Setup;
 use batch_solver::solve_batch;
@@ -93,7 +92,7 @@ fn run_command<W: Ways, G: Gate>(
 {
     match command {
         Command::Seal { now } => run_seal(rt, alloc, book, pass, *now, setup),
-        _ => take(rt, alloc, book, pass, copied(command), setup.gate),
+        _ => take(rt, alloc, book, pass, command.copied(), setup.gate),
     }
 }
 
@@ -157,66 +156,5 @@ fn take<G: Gate>(
             Ok(())
         }
         Err(fault) => Err(fault),
-    }
-}
-
-/// The same command again, without memory.
-fn copied(command: &Command) -> Command
-    requires { IsPlain command.now }
-    ensures { result ≡ command.now }
-{
-    match command {
-        Command::Submit {
-            rider,
-            origin,
-            destination,
-            time,
-            party,
-        } => Command::Submit {
-            rider: *rider,
-            origin: *origin,
-            destination: *destination,
-            time: *time,
-            party: *party,
-        },
-        Command::Cancel { rider } => Command::Cancel { rider: *rider },
-        _ => copied_of_vehicle(command),
-    }
-}
-
-/// The same command of a vehicle again.
-fn copied_of_vehicle(command: &Command) -> Command
-    requires { IsOfVehicle command.now }
-    ensures { result ≡ command.now }
-{
-    match command {
-        Command::Report {
-            vehicle,
-            node,
-            time,
-        } => Command::Report {
-            vehicle: *vehicle,
-            node: *node,
-            time: *time,
-        },
-        Command::Pickup {
-            vehicle,
-            rider,
-            time,
-        } => Command::Pickup {
-            vehicle: *vehicle,
-            rider: *rider,
-            time: *time,
-        },
-        Command::Dropoff {
-            vehicle,
-            rider,
-            time,
-        } => Command::Dropoff {
-            vehicle: *vehicle,
-            rider: *rider,
-            time: *time,
-        },
-        _ => unreachable!(),
     }
 }

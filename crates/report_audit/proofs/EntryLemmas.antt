@@ -20,6 +20,7 @@ use Rattle.lane_progress.specs.declared.stand.LaneStand.{LaneStand}
 use Rattle.lane_progress.specs.Stand.{stand_at, stand_after, HaveCome, AreDone, IsNext, IsNextFrom}
 use Rattle.lane_progress.proofs.lemmas.LaneLemmas.{come_more}
 use Rattle.request_book.specs.Book.{BookView}
+use Rattle.request_book.specs.Command.{IsNoClose}
 use Rattle.request_book.specs.Step.{step}
 use Rattle.request_book.specs.declared.command.Command.{Command}
 use Rattle.request_book.specs.declared.command.Command.TheVariants.{Submit, Cancel, Report, Pickup, Dropoff, Seal, Close}
@@ -41,7 +42,6 @@ use Rattle.report_audit.specs.declared.stop.LineFault.TheVariants as wrong
 use Rattle.report_audit.specs.declared.stop.Stop.{Stop}
 use Rattle.report_audit.specs.declared.stop.Stop.TheVariants.{OutOfMemory, Line, Block}
 use Rattle.report_audit.specs.work.Closing.{TakesClose, CloseStops}
-use Rattle.report_audit.specs.work.Commands.{IsNoClose}
 use Rattle.report_audit.specs.work.Rest.{IsRestOfRound}
 use Rattle.report_audit.specs.work.Steps.{StopsAt, HasNoNext, IsWithin, HasRead, StopsWithin, Waits}
 use Rattle.report_audit.specs.work.Taking.{TakesCommand, CommandStops}

@@ -1,6 +1,5 @@
 -- Journals, entry by entry.
 use Rattle.std.proofs.Common.{◌≡◌, ℕ, ◌<◌, ◌^◌, List, [], ◌∷◌, ◌++◌, Option, Some, None, refl, sym, ap, ◌∙◌, subst, eq-eqb, arith}
-use Rattle.std.specs.Prelude.{option_map}
 use Rattle.batch_snapshot.specs.Batch.{Batch}
 use Rattle.dispatch_engine.specs.Lane.{IsGoodClose, ClosesAreGood, last_sealed}
 use Rattle.dispatch_engine.specs.work.Lanes.{IsPlain}
@@ -8,6 +7,7 @@ use Rattle.dispatch_engine.proofs.lemmas.LaneLemmas.{plain-quiet}
 use Rattle.pool_io.specs.Faults.{one_more}
 use Rattle.request_book.specs.Book.{next_position, would_seal}
 use Rattle.request_book.specs.Closing.{after_answer}
+use Rattle.request_book.specs.Command.{IsNoClose}
 use Rattle.request_book.specs.Replay.{state_after, RepliesAreSteps}
 use Rattle.request_book.specs.Sealing.{batch_of, sealed_state}
 use Rattle.request_book.specs.Step.{step, close}
@@ -22,11 +22,8 @@ use Rattle.request_book.specs.work.Table.{answer, seal_refusal, seal_step, table
 use Rattle.request_book.proofs.lemmas.StepTable.{by-table, would_seal-table}
 use Rattle.rider_limits.specs.declared.settings.Settings.{Settings}
 use Rattle.road_network.specs.Roads.{Roads}
-use Rattle.shared_book.specs.Locked.{sealed_by}
 use Rattle.shared_book.specs.work.Locked.{snapshot_before}
-use Rattle.shared_book.proofs.lemmas.LockedLemmas.{step-sealed}
 use Rattle.report_audit.specs.Types.{IsTold, AreTold}
-use Rattle.report_audit.specs.work.Commands.{IsNoClose, sealed_next}
 use Rattle.report_audit.proofs.TextLemmas.{next-none, next-more}
 
 -- replies
@@ -87,7 +84,7 @@ table-after nodes wait s now = seal-after wait s now
 plain-after : (nodes : List ℕ) (wait : ℕ) (s : State) (command : Command) → IsPlain command → s.sealed ≡ (step nodes wait s command).0.sealed
 plain-after nodes wait s command plain = sym (plain-quiet nodes wait s command plain).sealed
 
-pub sealed-after : (nodes : List ℕ) (wait : ℕ) (s : State) (command : Command) → IsNoClose command → last_sealed s.sealed (sealed_next wait s command) ≡ (step nodes wait s command).0.sealed
+pub sealed-after : (nodes : List ℕ) (wait : ℕ) (s : State) (command : Command) → IsNoClose command → last_sealed s.sealed (snapshot_before wait s command) ≡ (step nodes wait s command).0.sealed
 sealed-after nodes wait s (Submit rider origin destination time party) is = plain-after nodes wait s (Submit rider origin destination time party) tt
 sealed-after nodes wait s (Cancel rider) is = plain-after nodes wait s (Cancel rider) tt
 sealed-after nodes wait s (Report vehicle node time) is = plain-after nodes wait s (Report vehicle node time) tt
@@ -95,19 +92,6 @@ sealed-after nodes wait s (Pickup vehicle rider time) is = plain-after nodes wai
 sealed-after nodes wait s (Dropoff vehicle rider time) is = plain-after nodes wait s (Dropoff vehicle rider time) tt
 sealed-after nodes wait s (Seal now) is = by-table (λ p. last_sealed s.sealed (would_seal wait s now) ≡ p.0.sealed) nodes wait s (Seal now) (table-after nodes wait s now)
 sealed-after nodes wait s (Close batch outcome) is = absurd is
-
-before-is : (wait : ℕ) (s : State) (command : Command) → sealed_next wait s command ≡ snapshot_before wait s command
-before-is wait s (Submit rider origin destination time party) = refl
-before-is wait s (Cancel rider) = refl
-before-is wait s (Report vehicle node time) = refl
-before-is wait s (Pickup vehicle rider time) = refl
-before-is wait s (Dropoff vehicle rider time) = refl
-before-is wait s (Seal now) = refl
-before-is wait s (Close batch outcome) = refl
-
--- the number that the reply tells is that batch's
-pub number-after : (nodes : List ℕ) (wait : ℕ) (s : State) (command : Command) → option_map (λ b. b.number) (sealed_next wait s command) ≡ sealed_by (step nodes wait s command).1
-number-after nodes wait s command = ap (option_map (λ b. b.number)) (before-is wait s command) ∙ step-sealed nodes wait s command
 
 -- a batch that stands sealed is closed by its number
 pub close-is : (nodes : List ℕ) (wait : ℕ) (s : State) (b : Batch) (outcome : Outcome) → s.sealed ≡ Some b

@@ -6,10 +6,11 @@ use Rattle.std.proofs.lemmas.List.{get_or_past, get_or-set_same, get_or-set_othe
 use Rattle.std.proofs.lemmas.List.Elements.{filter-append}
 use Rattle.batch_snapshot.specs.Batch.{Batch}
 use Rattle.dispatch_engine.specs.Lane.{of_lane, IsLaneRun, IsLaneRunFrom, IsLaneBeginning, last_sealed}
-use Rattle.dispatch_engine.specs.work.Lanes.{IsPlain}
 use Rattle.dispatch_engine.proofs.lemmas.LaneLemmas.{plain-quiet}
+use Rattle.dispatch_engine.proofs.lemmas.StandLemmas.{stands-plain}
 use Rattle.lane_progress.specs.declared.stand.LaneStand.{LaneStand}
 use Rattle.lane_progress.specs.Stand.{at_start, stand_at, IsRest, IsNext, IsNextFrom, stand_after, HaveCome, AreDone}
+use Rattle.request_book.specs.Command.{IsNoClose}
 use Rattle.request_book.specs.Step.{step}
 use Rattle.request_book.specs.declared.command.Command.{Command}
 use Rattle.request_book.specs.declared.command.Command.TheVariants.{Submit, Cancel, Report, Pickup, Dropoff, Seal, Close}
@@ -21,9 +22,10 @@ use Rattle.request_book.specs.declared.reply.Reply.TheVariants.{Accepted, Closed
 use Rattle.request_book.specs.declared.state.State.{State}
 use Rattle.script_rows.specs.Round.{NumberedLanes, IsRound, MayStand, lane_at}
 use Rattle.shared_book.specs.Locked.{sealed_by}
-use Rattle.report_audit.specs.work.Commands.{IsNoClose, sealed_next}
+use Rattle.shared_book.specs.work.Locked.{snapshot_before}
+use Rattle.shared_book.proofs.lemmas.LockedLemmas.{step-sealed}
 use Rattle.report_audit.specs.work.Steps.{Waits}
-use Rattle.report_audit.proofs.JournalLemmas.{sealed-after, number-after}
+use Rattle.report_audit.proofs.JournalLemmas.{sealed-after}
 
 -- the entries of a lane
 pub of_lane-append : (lane : ℕ) (xs ys : List Entry) → of_lane lane (xs ++ ys) ≡ of_lane lane xs ++ of_lane lane ys
@@ -101,15 +103,6 @@ module _ (lanes : List LaneStand) (lane : ℕ) (stand : LaneStand) (low : lane <
   stand_other : (k : ℕ) → (k ≢ lane) → stand_at (set lanes lane stand) k ≡ stand_at lanes k
   stand_other k other = get_or-set_other lanes lane k stand at_start other
 
-plain_of : (lane : ℕ) (command : Command) → lane ≢ 0 → MayStand lane command → IsPlain command
-plain_of lane (Submit rider origin destination time party) other stands = tt
-plain_of lane (Cancel rider) other stands = tt
-plain_of lane (Report vehicle node time) other stands = tt
-plain_of lane (Pickup vehicle rider time) other stands = tt
-plain_of lane (Dropoff vehicle rider time) other stands = tt
-plain_of lane (Seal now) other stands = absurd (other stands)
-plain_of lane (Close batch outcome) other stands = absurd stands
-
 pub no_close_of : (lane : ℕ) (command : Command) → MayStand lane command → IsNoClose command
 no_close_of lane (Submit rider origin destination time party) stands = tt
 no_close_of lane (Cancel rider) stands = tt
@@ -148,14 +141,14 @@ waits_command nodes wait s lanes lane command low waits pending stands = ⊎_eli
     at_zero zeroth =
         let new : List LaneStand = set lanes lane (stand_after (stand_at lanes lane) (step nodes wait s command).1) in
         let open_none : s.sealed ≡ None = number_none s.sealed (sym pending ∙ ap (λ (k : ℕ). (stand_at lanes k).pending) zeroth ∙ waits.first) in
-        let sealed : sealed_next wait s command ≡ (step nodes wait s command).0.sealed =
-        last_none (sealed_next wait s command) ∙ ap (λ (o : Option Batch). last_sealed o (sealed_next wait s command)) (sym open_none) ∙ sealed-after nodes wait s command (no_close_of lane command stands) in
+        let sealed : snapshot_before wait s command ≡ (step nodes wait s command).0.sealed =
+        last_none (snapshot_before wait s command) ∙ ap (λ (o : Option Batch). last_sealed o (snapshot_before wait s command)) (sym open_none) ∙ sealed-after nodes wait s command (no_close_of lane command stands) in
         let here : (stand_at new 0).pending ≡ sealed_by (step nodes wait s command).1 =
         ap (λ (k : ℕ). (stand_at new k).pending) (sym zeroth)
         ∙ ap (λ (t : LaneStand). t.pending) (stand_same lanes lane (stand_after (stand_at lanes lane) (step nodes wait s command).1) low)
         ∙ after_none (stand_at lanes lane) (step nodes wait s command).1 pending in
         record {
-          first = here ∙ sym (number-after nodes wait s command) ∙ ap (option_map (λ b. b.number)) sealed;
+          first = here ∙ sym (step-sealed nodes wait s command) ∙ ap (option_map (λ b. b.number)) sealed;
           others = λ k other. ap (λ (t : LaneStand). t.pending) (stand_other lanes lane (stand_after (stand_at lanes lane) (step nodes wait s command).1) low k (λ e. other (e ∙ zeroth))) ∙ waits.others k other;
         }
       where
@@ -166,7 +159,7 @@ waits_command nodes wait s lanes lane command low waits pending stands = ⊎_eli
     elsewhere : lane ≢ 0 → Waits (set lanes lane (stand_after (stand_at lanes lane) (step nodes wait s command).1)) (step nodes wait s command).0.sealed
     elsewhere other =
         let new : List LaneStand = set lanes lane (stand_after (stand_at lanes lane) (step nodes wait s command).1) in
-        let quiet = plain-quiet nodes wait s command (plain_of lane command other stands) in
+        let quiet = plain-quiet nodes wait s command (stands-plain lane command other stands) in
         let zero_stands : (stand_at new 0).pending ≡ (stand_at lanes 0).pending =
         ap (λ (t : LaneStand). t.pending) (stand_other lanes lane (stand_after (stand_at lanes lane) (step nodes wait s command).1) low 0 (λ e. other (sym e))) in
         let here : (stand_at new lane).pending ≡ None =

@@ -1,5 +1,4 @@
 -- What only the bodies of this crate need.
-pub mod Commands
 pub mod Rest
 pub mod Steps
 pub mod Closing

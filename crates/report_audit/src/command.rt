@@ -1,10 +1,11 @@
-//! Commands of a script, copied and answered.
+//! Commands of a script, answered.
 ghost use Rattle.std.specs.Prelude.{◌≡◌, ◌≢◌, ◌↔◌, IfOk, IsTrue, MatchOption};
 ghost use Rattle.dispatch_engine.specs.Lane.{last_sealed};
 ghost use Rattle.dispatch_report.specs.Entry.{entry_line};
 ghost use Rattle.request_book.specs.Book.{IsApplied, next_position};
+ghost use Rattle.request_book.specs.Command.{IsNoClose};
 ghost use Rattle.request_book.specs.declared.reply.Reply.{Reply as OneReply};
-ghost use Rattle.report_audit.specs.work.Commands.{IsNoClose, IsOfVehicle, sealed_next};
+ghost use Rattle.shared_book.specs.work.Locked.{snapshot_before};
 
 use crate::line::is_entry_line;
 use batch_snapshot::Snapshot;
@@ -12,74 +13,12 @@ use pool_base::OutOfMemory;
 use request_book::{Book, Command, Entry, Reply};
 use std::alloc::Global;
 
-/// The same command again, without memory.
-pub(crate) fn copied(command: &Command) -> Command
-    requires { IsNoClose command.now }
-    ensures { result ≡ command.now }
-{
-    match command {
-        Command::Submit {
-            rider,
-            origin,
-            destination,
-            time,
-            party,
-        } => Command::Submit {
-            rider: *rider,
-            origin: *origin,
-            destination: *destination,
-            time: *time,
-            party: *party,
-        },
-        Command::Cancel { rider } => Command::Cancel { rider: *rider },
-        Command::Seal { now } => Command::Seal { now: *now },
-        _ => copied_of_vehicle(command),
-    }
-}
-
-/// The same command of a vehicle again.
-fn copied_of_vehicle(command: &Command) -> Command
-    requires { IsOfVehicle command.now }
-    ensures { result ≡ command.now }
-{
-    match command {
-        Command::Report {
-            vehicle,
-            node,
-            time,
-        } => Command::Report {
-            vehicle: *vehicle,
-            node: *node,
-            time: *time,
-        },
-        Command::Pickup {
-            vehicle,
-            rider,
-            time,
-        } => Command::Pickup {
-            vehicle: *vehicle,
-            rider: *rider,
-            time: *time,
-        },
-        Command::Dropoff {
-            vehicle,
-            rider,
-            time,
-        } => Command::Dropoff {
-            vehicle: *vehicle,
-            rider: *rider,
-            time: *time,
-        },
-        _ => unreachable!(),
-    }
-}
-
 /// The batch that the command would put up.
 pub(crate) fn sealed_by_command(
     book: &Book,
     command: &Command,
 ) -> Result<Option<Snapshot>, OutOfMemory>
-    ensures { IfOk result (λ batch. batch ≡ sealed_next book.entry.now.wait book.entry.now.state command.entry.now) }
+    ensures { IfOk result (λ batch. batch ≡ snapshot_before book.entry.now.wait book.entry.now.state command.entry.now) }
 {
     match command {
         Command::Seal { now } => book.would_seal(*now),
@@ -110,7 +49,7 @@ pub(crate) fn answered(
         (λ r. (r ≡ reply) × (line.entry.now ≡ entry_line (next_position book.old.first book.old.entries) (record { lane = lane; command = command.entry.now; reply = reply })))) }
 {
     let position = book.next_position();
-    let reply = book.apply(lane, copied(command))?;
+    let reply = book.apply(lane, command.copied())?;
     if is_answer_line(alloc, line, position, lane, command, &reply)? {
         Ok(Some(reply))
     } else {
@@ -132,7 +71,7 @@ fn is_answer_line(
 {
     let entry = Entry {
         lane,
-        command: copied(command),
+        command: command.copied(),
         reply: *reply,
     };
     is_entry_line(alloc, line, position, &entry)

@@ -1,6 +1,7 @@
 pub mod Keyed
 pub mod Rider
 pub mod State
+pub mod Command
 pub mod Sealing
 pub mod Closing
 pub mod Step

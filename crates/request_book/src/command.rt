@@ -1,3 +1,6 @@
+ghost use Rattle.std.specs.Prelude.{◌≡◌};
+ghost use Rattle.request_book.specs.Command.{IsNoClose};
+
 use crate::outcome::Outcome;
 use pool_base::{NodeId, Party, RiderId, Second, VehicleId};
 
@@ -43,4 +46,58 @@ pub enum Command {
         batch: u64,
         outcome: Outcome,
     },
+}
+
+impl Command {
+    /// An equal command. It takes no memory, so a close, whose outcome holds lists, has none.
+    pub fn copied(&self) -> Command
+        requires { IsNoClose self.now }
+        ensures { result ≡ self.now }
+    {
+        match self {
+            Command::Submit {
+                rider,
+                origin,
+                destination,
+                time,
+                party,
+            } => Command::Submit {
+                rider: *rider,
+                origin: *origin,
+                destination: *destination,
+                time: *time,
+                party: *party,
+            },
+            Command::Cancel { rider } => Command::Cancel { rider: *rider },
+            Command::Report {
+                vehicle,
+                node,
+                time,
+            } => Command::Report {
+                vehicle: *vehicle,
+                node: *node,
+                time: *time,
+            },
+            Command::Pickup {
+                vehicle,
+                rider,
+                time,
+            } => Command::Pickup {
+                vehicle: *vehicle,
+                rider: *rider,
+                time: *time,
+            },
+            Command::Dropoff {
+                vehicle,
+                rider,
+                time,
+            } => Command::Dropoff {
+                vehicle: *vehicle,
+                rider: *rider,
+                time: *time,
+            },
+            Command::Seal { now } => Command::Seal { now: *now },
+            Command::Close { .. } => unreachable!(),
+        }
+    }
 }

@@ -75,62 +75,9 @@ fn copy_lane(driven: &mut Round, lane: u8, commands: &[Command]) -> Result<(), O
     ensures { OnOk result (Adds lane commands.now driven.old driven.new) }
 {
     for command in commands {
-        let copy = copied(lane, command);
-        put(driven, lane, copy)?;
+        put(driven, lane, command.copied())?;
     }
     Ok(())
-}
-
-/// The same command again.
-fn copied(lane: u8, command: &Command) -> Command
-    requires { MayStand lane command.now }
-    ensures { result ≡ command.now }
-{
-    match command {
-        Command::Submit {
-            rider,
-            origin,
-            destination,
-            time,
-            party,
-        } => Command::Submit {
-            rider: *rider,
-            origin: *origin,
-            destination: *destination,
-            time: *time,
-            party: *party,
-        },
-        Command::Cancel { rider } => Command::Cancel { rider: *rider },
-        Command::Report {
-            vehicle,
-            node,
-            time,
-        } => Command::Report {
-            vehicle: *vehicle,
-            node: *node,
-            time: *time,
-        },
-        Command::Pickup {
-            vehicle,
-            rider,
-            time,
-        } => Command::Pickup {
-            vehicle: *vehicle,
-            rider: *rider,
-            time: *time,
-        },
-        Command::Dropoff {
-            vehicle,
-            rider,
-            time,
-        } => Command::Dropoff {
-            vehicle: *vehicle,
-            rider: *rider,
-            time: *time,
-        },
-        Command::Seal { now } => Command::Seal { now: *now },
-        Command::Close { .. } => unreachable!(),
-    }
 }
 
 /// The last round of a day, of the stops that are left.

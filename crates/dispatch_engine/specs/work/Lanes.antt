@@ -2,7 +2,7 @@
 use Rattle.std.specs.Prelude.{◌≡◌, ◌≢◌, ℕ, ◌==◌, ◌<◌, ◌≤◌, List, [], ◌∷◌, None, filter, map, length, slice_index_or}
 use Rattle.request_book.specs.Replay.{state_after}
 use Rattle.request_book.specs.declared.command.Command.{Command}
-use Rattle.request_book.specs.declared.command.Command.TheVariants.{Report, Pickup, Dropoff, Seal, Close}
+use Rattle.request_book.specs.declared.command.Command.TheVariants.{Seal, Close}
 use Rattle.request_book.specs.declared.journal.Entry.{Entry}
 use Rattle.request_book.specs.declared.state.State.{State}
 use Rattle.rider_limits.specs.declared.settings.Settings.{Settings}
@@ -26,13 +26,6 @@ abbrev pub IsPlain : Command → Type 0
 IsPlain (Seal now) = ⊥
 IsPlain (Close batch outcome) = ⊥
 IsPlain _ = Unit {0}
-
--- the command is a vehicle's: a report, a pickup or a drop-off
-abbrev pub IsOfVehicle : Command → Type 0
-IsOfVehicle (Report vehicle node time) = Unit {0}
-IsOfVehicle (Pickup vehicle rider time) = Unit {0}
-IsOfVehicle (Dropoff vehicle rider time) = Unit {0}
-IsOfVehicle _ = ⊥
 
 -- each command is plain
 abbrev pub ArePlain : List Command → Type 0

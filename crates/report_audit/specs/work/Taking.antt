@@ -11,10 +11,10 @@ use Rattle.request_book.specs.Step.{step}
 use Rattle.request_book.specs.declared.command.Command.{Command}
 use Rattle.request_book.specs.declared.reply.Reply.{Reply}
 use Rattle.script_rows.specs.Round.{NumberedLanes, lane_at}
+use Rattle.shared_book.specs.work.Locked.{snapshot_before}
 use Rattle.report_audit.specs.declared.stop.LineFault.TheVariants as wrong
 use Rattle.report_audit.specs.declared.stop.Stop.{Stop}
 use Rattle.report_audit.specs.declared.stop.Stop.TheVariants.{OutOfMemory, Line, Block}
-use Rattle.report_audit.specs.work.Commands.{sealed_next}
 
 -- the line is that of the lane's next command and the book's reply, and the command was taken into the book
 pub record TakesCommand (round : NumberedLanes) (lanes : List LaneStand) (old : BookView) (lane : ℕ) (line : List ℕ) (new : BookView) (sealed : Option Batch) (reply : Reply) : Type 0 where
@@ -24,7 +24,7 @@ pub record TakesCommand (round : NumberedLanes) (lanes : List LaneStand) (old : 
   pub reply_fits : IsReply reply
   pub applied : IsApplied old lane command reply new
   pub line_is : line ≡ entry_line (next_position old.first old.entries) (record { lane = lane; command = command; reply = reply })
-  pub sealed_is : sealed ≡ sealed_next old.wait old.state command
+  pub sealed_is : sealed ≡ snapshot_before old.wait old.state command
 
 -- why no command is taken: the line isn't that of the lane's next command and the book's reply
 abbrev pub CommandStops : NumberedLanes → List LaneStand → BookView → ℕ → List ℕ → ℕ → Stop → Type 0
