@@ -7,6 +7,7 @@ pub mod PathLemmas
 pub mod PlanLemmas
 pub mod ReadLemmas
 pub mod SearchTreeLemmas
+pub mod ServedLemmas
 pub mod SumLemmas
 pub mod TreeLemmas
 pub mod UsableLemmas

@@ -2,10 +2,11 @@
 ghost use Rattle.std.specs.Prelude.{◌≡◌, ◌==◌, ◌+◌, ◌*◌, ◌<◌, ◌≤◌, ◌↔◌, ℕ, IsTrue, IfOk, length, MatchOption, Option};
 ghost use Rattle.plan_rules.specs.Graph.{IsRowOf, HasNoRow, times_served, is_in, choice_at, ChoosesRows};
 ghost use Rattle.plan_rules.specs.Plan.{IsPlan, IsLawful, cost_of, choice_cost};
-ghost use Rattle.plan_rules.specs.work.Plan.{left_out, times_chosen};
+ghost use Rattle.plan_rules.specs.work.Plan.{left_out, IsServedOnce, MarksServed};
 ghost use Rattle.plan_rules.specs.Sums.{sum_below};
 
 use crate::graph::TripGraph;
+use crate::marks::{is_any_marked, mark_riders};
 use crate::plan::Plan;
 use pool_base::OutOfMemory;
 use std::alloc::Global;
@@ -16,12 +17,13 @@ pub fn is_lawful(graph: &TripGraph, plan: &Plan) -> bool
     ensures { IsTrue result ↔ IsLawful graph.now plan.now }
 {
     let chosen = plan.chosen();
-    if !is_plan(graph, chosen) {
+    let riders = graph.rider_count();
+    let mut served = [false; 1000];
+    if !is_plan(graph, chosen) || !serves_once(graph, chosen, &mut served) {
         return false;
     }
-    for rider in 0..graph.rider_count() {
-        let times = times_in(graph, chosen, rider);
-        if times > 1 || (times == 0 && graph.must(rider)) {
+    for rider in 0..riders {
+        if graph.must(rider) && !served[rider] {
             return false;
         }
     }
@@ -58,31 +60,24 @@ fn is_own_choice(graph: &TripGraph, vehicle: usize, choice: Option<u32>) -> bool
     }
 }
 
-/// How many of the chosen rows have this rider.
-fn times_in(graph: &TripGraph, chosen: &[Option<u32>], rider: usize) -> usize
-    requires { ChoosesRows graph.now chosen.now }
-    ensures { result ≡ times_served graph.now chosen.now (length chosen.now) rider }
+/// Whether no rider is in two chosen rows, and then marks those who are in one.
+fn serves_once(graph: &TripGraph, chosen: &[Option<u32>], served: &mut [bool]) -> bool
+    requires plan { IsPlan graph.now chosen.now }
+    requires clear { MarksServed graph.now chosen.now 0 served.old }
+    ensures value { IsTrue result ↔ IsServedOnce graph.now chosen.now graph.now.vehicles }
+    ensures marked { IsTrue result → MarksServed graph.now chosen.now graph.now.vehicles served.new }
 {
-    let mut times = 0;
+    let rows = graph.rows();
     for choice in chosen {
-        if has_choice_rider(graph, *choice, rider) {
-            times += 1;
+        if let Some(row) = *choice {
+            let riders = rows[row as usize].riders.as_slice();
+            if is_any_marked(riders, served) {
+                return false;
+            }
+            mark_riders(riders, served);
         }
     }
-    times
-}
-
-fn has_choice_rider(graph: &TripGraph, choice: Option<u32>, rider: usize) -> bool
-    requires { MatchOption choice (Unit {0}) (λ k. k < length graph.now.rows) }
-    ensures { result ≡ is_in graph.now choice rider }
-{
-    match choice {
-        None => false,
-        Some(row) => graph.rows()[row as usize]
-            .riders
-            .as_slice()
-            .contains(&rider),
-    }
+    true
 }
 
 /// The cost of a plan in seconds: what its rows cost, and the penalty for each rider in none.
@@ -91,9 +86,8 @@ pub fn cost_of(graph: &TripGraph, plan: &Plan) -> u64
     ensures { result ≡ cost_of graph.now plan.now }
 {
     let chosen = plan.chosen();
-    let rows = cost_of_rows(graph, chosen);
-    let left = count_left_out(graph, chosen);
-    rows + graph.penalty() as u64 * left
+    let left = graph.rider_count() - count_served(graph, chosen);
+    cost_of_rows(graph, chosen) + graph.penalty() as u64 * left as u64
 }
 
 fn cost_of_rows(graph: &TripGraph, chosen: &[Option<u32>]) -> u64
@@ -112,19 +106,19 @@ fn cost_of_rows(graph: &TripGraph, chosen: &[Option<u32>]) -> u64
     cost
 }
 
-fn count_left_out(graph: &TripGraph, chosen: &[Option<u32>]) -> u64
-    requires len { length chosen.now ≡ graph.now.vehicles }
-    requires rows { ChoosesRows graph.now chosen.now }
-    ensures value { result ≡ left_out graph.now chosen.now }
-    ensures within { result ≤ 1000 }
+/// How many riders the chosen rows have. No two of these rows have one in common.
+fn count_served(graph: &TripGraph, chosen: &[Option<u32>]) -> usize
+    requires { IsLawful graph.now chosen.now }
+    ensures { result + left_out graph.now chosen.now ≡ graph.now.riders }
 {
-    let mut left = 0;
-    for rider in 0..graph.rider_count() {
-        if times_in(graph, chosen, rider) == 0 {
-            left += 1;
+    let rows = graph.rows();
+    let mut served = 0;
+    for choice in chosen {
+        if let Some(row) = *choice {
+            served += rows[row as usize].riders.len();
         }
     }
-    left
+    served
 }
 
 /// The plan that gives each vehicle the row that it holds. It is always lawful.

@@ -1,11 +1,11 @@
 -- Marks of the riders whom vehicles hold.
-use Rattle.std.proofs.Common.{◌≡◌, ◌≢◌, ◌==◌, ◌⊎◌, ◌||◌, ℕ, zero, suc, ◌+◌, ◌<◌, ◌≤◌, Bool, true, false, IsTrue, List, length, get_or, replicate, nat_lt, ltb, Option, Some, None, MatchOption, refl, sym, ap, ◌∙◌, subst, inl, inr, ⊎_elim, arith, ltb-true, ltb-false, lt-ltb, le-ltb}
+use Rattle.std.proofs.Common.{◌≡◌, ◌||◌, ℕ, ◌+◌, ◌<◌, ◌≤◌, Bool, true, false, IsTrue, List, length, get_or, replicate, nat_lt, Option, None, MatchOption, refl, sym, ap, ◌∙◌, subst, ⊎_elim, arith, ltb-true, ltb-false, lt-ltb, le-ltb}
 use Rattle.std.specs.List.{list_any}
-use Rattle.std.proofs.lemmas.Bool.{cases_eq, cases_lt, cases_Bool, both_ways}
+use Rattle.std.proofs.lemmas.Bool.{cases_eq, cases_Bool, both_ways}
 use Rattle.std.proofs.lemmas.List.{get_or-replicate, length-replicate}
 use Rattle.plan_rules.specs.Graph.{Graph, row_at, riders_at, has_rider, IsRowOf, HasNoRow, choice_at, is_in, times_served, IsGraphRow, HoldsRightly, MarksHeld}
-use Rattle.plan_rules.proofs.lemmas.SumLemmas.{flag, flag-true, flag-false}
-use Rattle.plan_rules.proofs.lemmas.GraphLemmas.{has, rider_below, times_served_more, times_served_none}
+use Rattle.plan_rules.proofs.lemmas.SumLemmas.{flag}
+use Rattle.plan_rules.proofs.lemmas.GraphLemmas.{rider_below, times_served_more, times_served_none}
 use Rattle.plan_rules.proofs.lemmas.MarkLemmas.{any_marked, marked_one}
 
 pub marks_none : (g : Graph) → MarksHeld g 0 (replicate g.riders false)
@@ -23,7 +23,7 @@ holds_more g n before here v l =
     (λ (other : v ≡ n → ⊥). before v (omega (arith, l)))
     (cases_eq v n)
 
-or_flag : (n : ℕ) (b : Bool) → (nat_lt 0 n || b) ≡ nat_lt 0 (n + flag b)
+pub or_flag : (n : ℕ) (b : Bool) → (nat_lt 0 n || b) ≡ nat_lt 0 (n + flag b)
 or_flag n true = last (nat_lt 0 n) ∙ sym (lt-ltb 0 (n + 1) (omega arith))
   where
     last : (a : Bool) → (a || true) ≡ true

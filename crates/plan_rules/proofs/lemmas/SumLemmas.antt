@@ -1,9 +1,9 @@
 -- Sums, counts and least values over the numbers below n.
-use Rattle.std.proofs.Common.{◌≡◌, ◌≢◌, ◌==◌, ◌⊎◌, ℕ, zero, suc, ◌+◌, ◌*◌, ◌<◌, ◌≤◌, Bool, true, false, cond, not, ◌&&◌, ◌||◌, if◌then◌else◌, eqb, ltb, nat_lt, ℤ, pos, ◌+ℤ◌, ◌-ℤ◌, ◌≤ℤ◌, Option, Some, None, refl, sym, ap, ◌∙◌, subst, inl, inr, ⊎_elim, arith, add-one, eqb-true, eq-eqb, ne_eqb, lt-ltb, le-ltb}
+use Rattle.std.proofs.Common.{◌≡◌, ◌==◌, ◌⊎◌, ℕ, zero, suc, ◌+◌, ◌*◌, ◌<◌, ◌≤◌, Bool, true, false, cond, ◌||◌, if◌then◌else◌, ltb, ℤ, pos, ◌+ℤ◌, ◌-ℤ◌, ◌≤ℤ◌, Option, Some, None, refl, sym, ap, ◌∙◌, subst, inl, inr, ⊎_elim, arith, add-one, eq-eqb, ne_eqb, lt-ltb, le-ltb}
 use Rattle.std.specs.Int.{int_min}
 use Rattle.std.specs.Prelude.{int_lt}
-use Rattle.std.proofs.lemmas.Int.{ints, clamps, int_min_is}
-use Rattle.std.proofs.lemmas.Bool.{both_ways, cases_eq, cases_lt, cases_Bool, cond_both, cond-true, cond-false, and_parts, and_from, and_left, and_right}
+use Rattle.std.proofs.lemmas.Int.{ints, int_min_is}
+use Rattle.std.proofs.lemmas.Bool.{both_ways, cases_eq, cases_Bool, cond_both, cond-true, cond-false, and_parts, and_from, and_left, and_right}
 use Rattle.plan_rules.specs.Sums.{sum_below, count_below, all_below, int_sum_below, lesser, least_below}
 
 -- ---- sums of naturals
@@ -33,6 +33,17 @@ sum_below_le (suc n) m f e =
     let last : f n ≤ m = e n (omega arith) in
     omega arith
 
+pub sum_below_zero : (n : ℕ) → sum_below n (λ _. 0) ≡ 0
+sum_below_zero zero = refl
+sum_below_zero (suc n) = omega (arith, sum_below_zero n)
+
+pub sum_below_swap : (n m : ℕ) (f : ℕ → ℕ → ℕ) → sum_below n (λ v. sum_below m (f v)) ≡ sum_below m (λ r. sum_below n (λ v. f v r))
+sum_below_swap zero m f = sym (sum_below_zero m)
+sum_below_swap (suc n) m f =
+    let rest : sum_below n (λ v. sum_below m (f v)) ≡ sum_below m (λ r. sum_below n (λ v. f v r)) = sum_below_swap n m f in
+    let both : sum_below m (λ r. sum_below n (λ v. f v r) + f n r) ≡ sum_below m (λ r. sum_below n (λ v. f v r)) + sum_below m (f n) = sum_below_plus m (λ r. sum_below n (λ v. f v r)) (f n) in
+    omega arith
+
 -- ---- counts
 
 -- 1 where the test passes, and else 0
@@ -48,6 +59,12 @@ flag-true b e = cond-true b 1 0 e
 
 pub flag-false : (b : Bool) → b ≡ false → flag b ≡ 0
 flag-false b e = cond-false b 1 0 e
+
+-- of two tests that never pass both, one at most counts
+pub flag-or : (a b : Bool) → (a ≡ true → b ≡ true → ⊥) → flag (a || b) ≡ flag a + flag b
+flag-or true true h = absurd (h refl refl)
+flag-or true false h = omega arith
+flag-or false b h = omega arith
 
 pub count_below_more : (n : ℕ) (p : ℕ → Bool) → count_below (n + 1) p ≡ count_below n p + flag (p n)
 count_below_more n p = sum_below_more n (λ k. flag (p k))
@@ -72,6 +89,21 @@ count_below_none (suc n) p e =
     let rest : count_below n p ≡ 0 = count_below_none n p (λ k l. e k (omega arith)) in
     let last : flag (p n) ≡ 0 = flag-false (p n) (e n (omega arith)) in
     omega arith
+
+-- a number below n is counted once
+pub count_below_single : (n x : ℕ) → x < n → count_below n (λ r. x == r) ≡ 1
+count_below_single zero x l = absurd (omega arith)
+count_below_single (suc n) x l =
+    ⊎_elim
+    (λ (here : x ≡ n).
+    let none : count_below n (λ r. x == r) ≡ 0 = count_below_none n (λ r. x == r) (λ k low. ne_eqb x k (λ (e : x ≡ k). omega arith)) in
+    let last : flag (x == n) ≡ 1 = flag-true (x == n) (eq-eqb x n here) in
+    omega arith)
+    (λ (other : x ≡ n → ⊥).
+    let rest : count_below n (λ r. x == r) ≡ 1 = count_below_single n x (omega arith) in
+    let last : flag (x == n) ≡ 0 = flag-false (x == n) (ne_eqb x n other) in
+    omega arith)
+    (cases_eq x n)
 
 -- one that passes is counted
 pub count_below_some : (n : ℕ) (p : ℕ → Bool) (k : ℕ) → k < n → p k ≡ true → 1 ≤ count_below n p

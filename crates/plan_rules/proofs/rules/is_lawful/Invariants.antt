@@ -1,10 +1,7 @@
-use Rattle.std.proofs.Common.{◌≡◌, ℕ, ◌<◌, ◌≤◌, IsTrue}
+use Rattle.std.proofs.Common.{◌≡◌, ℕ, ◌<◌, IsTrue}
 use Rattle.plan_rules.specs.Graph.{must_be_served}
 use Rattle.plan_rules.specs.work.Plan.{times_chosen}
 use Rattle.plan_rules.proofs.rules.is_lawful.Given as goal
 
 abbrev pub invariant-loop-rider : goal.invariant-loop-rider
-invariant-loop-rider l = record {
-  once : (r : ℕ) → r < l.rider → times_chosen l.graph l.chosen r ≤ 1;
-  kept : (r : ℕ) → r < l.rider → IsTrue (must_be_served l.graph r) → times_chosen l.graph l.chosen r ≡ 1;
-}
+invariant-loop-rider l = (r : ℕ) → r < l.rider → IsTrue (must_be_served l.graph r) → times_chosen l.graph l.plan r ≡ 1

@@ -1,0 +1,161 @@
+-- The riders whom chosen rows serve: their marks, and how many they are.
+use Rattle.std.proofs.Common.{◌≡◌, ◌==◌, ◌||◌, ℕ, zero, suc, ◌+◌, ◌<◌, ◌≤◌, Bool, true, false, IsTrue, List, [], ◌∷◌, length, get_or, replicate, nat_lt, Option, Some, None, refl, sym, ap, ◌∙◌, ⊎_elim, arith, ltb-true, ltb-false, le-ltb}
+use Rattle.std.specs.List.{list_any}
+use Rattle.std.specs.List.Sorted.{IsStrictlyIncreasing}
+use Rattle.std.proofs.lemmas.Bool.{cases_eq, cases_Bool, both_ways}
+use Rattle.std.proofs.lemmas.List.{get_or-replicate, length-replicate}
+use Rattle.plan_rules.specs.Sums.{sum_below, count_below}
+use Rattle.plan_rules.specs.Graph.{Graph, row_at, riders_at, has_rider, choice_at, is_in, times_served, must_be_served, IsGraphRow, IsGoodGraph}
+use Rattle.plan_rules.specs.Plan.{IsLawful}
+use Rattle.plan_rules.specs.work.Plan.{times_chosen, left_out, choice_size, IsServedOnce, MarksServed}
+use Rattle.plan_rules.proofs.lemmas.SumLemmas.{flag, flag-true, flag-false, flag-or, sum_below_same, sum_below_plus, sum_below_zero, sum_below_swap, count_below_single, count_below_two}
+use Rattle.plan_rules.proofs.lemmas.GraphLemmas.{has, tail_rises, head_apart, rider_below, times_served_more, times_served_none, times_served_found, times_served_as_count}
+use Rattle.plan_rules.proofs.lemmas.MarkLemmas.{any_marked, marked_one}
+use Rattle.plan_rules.proofs.lemmas.HeldLemmas.{or_flag}
+use Rattle.plan_rules.proofs.lemmas.PlanLemmas.{plan_rows}
+
+-- ---- marks
+
+-- at first nobody is marked
+pub served_at_first : (g : Graph) (chosen : List (Option ℕ)) (size : ℕ) → g.riders ≤ size → MarksServed g chosen 0 (replicate size false)
+served_at_first g chosen size fits = record {
+  sized = omega (arith, length-replicate size false);
+  marks = λ r l.
+      let none : times_served g chosen 0 r ≡ 0 = times_served_none g chosen r in
+      get_or-replicate size r false false (omega arith) ∙ sym (le-ltb 0 (times_served g chosen 0 r) (omega arith));
+}
+
+pub once_at_first : (g : Graph) (chosen : List (Option ℕ)) → IsServedOnce g chosen 0
+once_at_first g chosen r = omega (arith, times_served_none g chosen r)
+
+-- one more vehicle's riders are marked
+pub served_more : (g : Graph) (chosen : List (Option ℕ)) (n : ℕ) (old new : List Bool) → MarksServed g chosen n old → length new ≡ length old
+    → ((r : ℕ) → r < length old → get_or new r false ≡ (get_or old r false || is_in g (choice_at chosen n) r)) → MarksServed g chosen (n + 1) new
+served_more g chosen n old new before len marked = record {
+  sized = omega (arith, before.sized);
+  marks = λ r l.
+      let fits : g.riders ≤ length old = before.sized in
+      let more : times_served g chosen (n + 1) r ≡ times_served g chosen n r + flag (is_in g (choice_at chosen n) r) = times_served_more g chosen n r in
+      marked r (omega arith)
+      ∙ ap (λ (b : Bool). b || is_in g (choice_at chosen n) r) (before.marks r l)
+      ∙ or_flag (times_served g chosen n r) (is_in g (choice_at chosen n) r)
+      ∙ ap (nat_lt 0) (sym more);
+}
+
+-- nobody new is marked where a vehicle is given no row
+pub served_kept : (g : Graph) (chosen : List (Option ℕ)) (n : ℕ) (marks : List Bool) → MarksServed g chosen n marks → choice_at chosen n ≡ None → MarksServed g chosen (n + 1) marks
+served_kept g chosen n marks before none =
+    served_more g chosen n marks marks before refl
+    (λ r l. same (get_or marks r false) ∙ ap (λ (o : Option ℕ). get_or marks r false || is_in g o r) (sym none))
+  where
+    same : (a : Bool) → a ≡ (a || false)
+    same true = refl
+    same false = refl
+
+-- where the next vehicle's riders are served by none before it, still nobody is served twice
+pub once_more : (g : Graph) (chosen : List (Option ℕ)) (n : ℕ) → IsServedOnce g chosen n → ((r : ℕ) → is_in g (choice_at chosen n) r ≡ true → times_served g chosen n r ≡ 0) → IsServedOnce g chosen (n + 1)
+once_more g chosen n before apart r =
+    let more : times_served g chosen (n + 1) r ≡ times_served g chosen n r + flag (is_in g (choice_at chosen n) r) = times_served_more g chosen n r in
+    ⊎_elim
+    (λ (yes : is_in g (choice_at chosen n) r ≡ true).
+    let counted : flag (is_in g (choice_at chosen n) r) ≡ 1 = flag-true _ yes in
+    omega (arith, apart r yes))
+    (λ (no : is_in g (choice_at chosen n) r ≡ false).
+    let counted : flag (is_in g (choice_at chosen n) r) ≡ 0 = flag-false _ no in
+    omega (arith, before r))
+    (cases_Bool (is_in g (choice_at chosen n) r))
+
+pub once_kept : (g : Graph) (chosen : List (Option ℕ)) (n : ℕ) → IsServedOnce g chosen n → choice_at chosen n ≡ None → IsServedOnce g chosen (n + 1)
+once_kept g chosen n before none =
+    once_more g chosen n before
+    (λ r e. absurd (both_ways false refl (ap (λ (o : Option ℕ). is_in g o r) (sym none) ∙ e)))
+
+-- a row none of whose riders is marked
+pub once_apart : (g : Graph) (chosen : List (Option ℕ)) (n k : ℕ) (marks : List Bool) → MarksServed g chosen n marks → IsServedOnce g chosen n → choice_at chosen n ≡ Some k → IsGraphRow g.vehicles g.riders (row_at g k) → list_any (λ q. get_or marks q false) (riders_at g k) ≡ false → IsServedOnce g chosen (n + 1)
+once_apart g chosen n k marks marked before choice row none =
+    once_more g chosen n before (λ r e. unserved r (ap (λ (o : Option ℕ). is_in g o r) (sym choice) ∙ e))
+  where
+    unserved : (r : ℕ) → has_rider g k r ≡ true → times_served g chosen n r ≡ 0
+    unserved r e =
+        ⊎_elim
+        (λ (yes : get_or marks r false ≡ true). absurd (both_ways _ none (any_marked marks (riders_at g k) r e yes)))
+        (λ (no : get_or marks r false ≡ false).
+        let low : r < g.riders = rider_below g k r row e in
+        let zero : times_served g chosen n r ≤ 0 = ltb-false 0 (times_served g chosen n r) (sym (marked.marks r low) ∙ no) in
+        omega arith)
+        (cases_Bool (get_or marks r false))
+
+-- where one of a row's riders is marked, she is served twice
+pub served_twice : (g : Graph) (chosen : List (Option ℕ)) (n k : ℕ) (marks : List Bool) → MarksServed g chosen n marks → n < g.vehicles → choice_at chosen n ≡ Some k → IsGraphRow g.vehicles g.riders (row_at g k) → list_any (λ q. get_or marks q false) (riders_at g k) ≡ true → IsServedOnce g chosen g.vehicles → ⊥
+served_twice g chosen n k marks marked within choice row some once =
+    let w = marked_one marks (riders_at g k) some in
+    let r : ℕ = w.0 in
+    let low : w.0 < g.riders = rider_below g k (w.0) row (w.1) in
+    let before : 0 < times_served g chosen n (w.0) = ltb-true 0 (times_served g chosen n (w.0)) (sym (marked.marks (w.0) low) ∙ w.2) in
+    let other = times_served_found g chosen n (w.0) (omega arith) in
+    let here : is_in g (choice_at chosen n) (w.0) ≡ true = ap (λ (o : Option ℕ). is_in g o (w.0)) choice ∙ w.1 in
+    let two : 2 ≤ count_below g.vehicles (λ v. is_in g (choice_at chosen v) (w.0)) = count_below_two g.vehicles (λ v. is_in g (choice_at chosen v) (w.0)) (other.0) n (omega (arith, other.1)) within (λ e. omega (arith, other.1, e)) (other.2) here in
+    omega (arith, once (w.0), times_served_as_count g chosen g.vehicles (w.0))
+
+-- ---- how many
+
+-- of rising numbers below n so many are counted as there are
+rising_counted : (n : ℕ) (xs : List ℕ) → IsStrictlyIncreasing xs → ((i : ℕ) → i < length xs → get_or xs i 0 < n) → length xs ≡ count_below n (has xs)
+rising_counted n [] rises low = sym (sum_below_zero n)
+rising_counted n (x ∷ xs) rises low =
+    let rest : length xs ≡ count_below n (has xs) = rising_counted n xs (tail_rises x xs rises) (λ i l. low (suc i) (omega arith)) in
+    let first : count_below n (λ r. x == r) ≡ 1 = count_below_single n x (low 0 (omega arith)) in
+    let split : count_below n (has (x ∷ xs)) ≡ sum_below n (λ r. flag (x == r) + flag (has xs r)) =
+    sum_below_same n (λ r. flag (x == r || has xs r)) (λ r. flag (x == r) + flag (has xs r)) (λ r l. flag-or (x == r) (has xs r) (head_apart x xs r rises)) in
+    let both : sum_below n (λ r. flag (x == r) + flag (has xs r)) ≡ count_below n (λ r. x == r) + count_below n (has xs) =
+    sum_below_plus n (λ r. flag (x == r)) (λ r. flag (has xs r)) in
+    omega arith
+
+-- a choice has as many riders as are in it
+choice_counted : (g : Graph) (c : Option ℕ) → IsGoodGraph g → ((k : ℕ) → c ≡ Some k → k < length g.rows) → choice_size g c ≡ count_below g.riders (is_in g c)
+choice_counted g None good fits = sym (sum_below_zero g.riders)
+choice_counted g (Some k) good fits =
+    let row = good.rows k (fits k refl) in
+    rising_counted g.riders (riders_at g k) row.members.rising row.members.below
+
+-- whoever is served at most once is served once or left out
+once_or_left : (n : ℕ) → n ≤ 1 → n + flag (n == 0) ≡ 1
+once_or_left zero l = refl
+once_or_left (suc zero) l = refl
+once_or_left (suc (suc n)) l = absurd (omega arith)
+
+-- the riders of a lawful plan's rows and those who are left out are all riders
+pub served_or_left : (g : Graph) (chosen : List (Option ℕ)) → IsGoodGraph g → IsLawful g chosen → sum_below g.vehicles (λ v. choice_size g (choice_at chosen v)) + left_out g chosen ≡ g.riders
+served_or_left g chosen good lawful =
+    let sizes : sum_below g.vehicles (λ v. choice_size g (choice_at chosen v)) ≡ sum_below g.vehicles (λ v. count_below g.riders (is_in g (choice_at chosen v))) =
+    sum_below_same g.vehicles (λ v. choice_size g (choice_at chosen v)) (λ v. count_below g.riders (is_in g (choice_at chosen v)))
+    (λ v l. choice_counted g (choice_at chosen v) good (λ k e. plan_rows g chosen lawful.plan v k e)) in
+    let swapped : sum_below g.vehicles (λ v. count_below g.riders (is_in g (choice_at chosen v))) ≡ sum_below g.riders (λ r. count_below g.vehicles (λ v. is_in g (choice_at chosen v) r)) =
+    sum_below_swap g.vehicles g.riders (λ v r. flag (is_in g (choice_at chosen v) r)) in
+    let times : sum_below g.riders (λ r. count_below g.vehicles (λ v. is_in g (choice_at chosen v) r)) ≡ sum_below g.riders (times_chosen g chosen) =
+    sum_below_same g.riders (λ r. count_below g.vehicles (λ v. is_in g (choice_at chosen v) r)) (times_chosen g chosen) (λ r l. sym (times_served_as_count g chosen g.vehicles r)) in
+    let both : sum_below g.riders (λ r. times_chosen g chosen r + flag (times_chosen g chosen r == 0)) ≡ sum_below g.riders (times_chosen g chosen) + left_out g chosen =
+    sum_below_plus g.riders (times_chosen g chosen) (λ r. flag (times_chosen g chosen r == 0)) in
+    let each : sum_below g.riders (λ r. times_chosen g chosen r + flag (times_chosen g chosen r == 0)) ≡ sum_below g.riders (λ _. 1) =
+    sum_below_same g.riders (λ r. times_chosen g chosen r + flag (times_chosen g chosen r == 0)) (λ _. 1) (λ r l. once_or_left (times_chosen g chosen r) (lawful.once r)) in
+    let all : sum_below g.riders (λ _. 1) ≡ g.riders = ones g.riders in
+    omega arith
+  where
+    ones : (n : ℕ) → sum_below n (λ _. 1) ≡ n
+    ones zero = refl
+    ones (suc n) = omega (arith, ones n)
+
+-- ---- those who must be served
+
+pub kept_more : (g : Graph) (chosen : List (Option ℕ)) (n : ℕ) → ((r : ℕ) → r < n → IsTrue (must_be_served g r) → times_chosen g chosen r ≡ 1) → (must_be_served g n ≡ true → times_chosen g chosen n ≡ 1) → (r : ℕ) → r < n + 1 → IsTrue (must_be_served g r) → times_chosen g chosen r ≡ 1
+kept_more g chosen n before here r l must =
+    ⊎_elim
+    (λ (same : r ≡ n). ap (times_chosen g chosen) same ∙ here (ap (must_be_served g) (sym same) ∙ must))
+    (λ (other : r ≡ n → ⊥). before r (omega (arith, l)) must)
+    (cases_eq r n)
+
+-- a marked rider is served once
+pub marked_once : (g : Graph) (chosen : List (Option ℕ)) (marks : List Bool) (r : ℕ) → MarksServed g chosen g.vehicles marks → IsServedOnce g chosen g.vehicles → r < g.riders → get_or marks r false ≡ true → times_chosen g chosen r ≡ 1
+marked_once g chosen marks r marked once l e =
+    let some : 0 < times_chosen g chosen r = ltb-true 0 (times_chosen g chosen r) (sym (marked.marks r l) ∙ e) in
+    omega (arith, once r)
