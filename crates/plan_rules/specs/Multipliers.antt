@@ -1,4 +1,4 @@
-use Rattle.std.specs.Prelude.{◌≡◌, ◌==◌, ◌&&◌, ℕ, zero, suc, ◌+◌, ◌*◌, Bool, false, List, [], ◌∷◌, ◌++◌, length, slice_index_or, Option, unwrap_or, if◌then◌else◌, ℤ, pos, ◌+ℤ◌, ◌-ℤ◌, ◌*ℤ◌}
+use Rattle.std.specs.Prelude.{◌==◌, ◌&&◌, ℕ, zero, suc, ◌*◌, Bool, false, List, [], ◌∷◌, ◌++◌, length, slice_index_or, unwrap_or, if◌then◌else◌, ℤ, pos, ◌+ℤ◌, ◌-ℤ◌, ◌*ℤ◌}
 use Rattle.std.specs.Int.{int_min}
 use Rattle.plan_rules.specs.Sums.{int_sum_below, least_below, lesser}
 use Rattle.plan_rules.specs.Graph.{Graph, row_vehicle, riders_at, cost_at, has_rider, must_be_served}

@@ -1,4 +1,3 @@
-use Rattle.std.specs.Prelude.{ℕ, List}
 use Rattle.plan_rules.specs.Graph.{Graph}
 use Rattle.plan_rules.specs.declared.parts.Parts.{Parts}
 

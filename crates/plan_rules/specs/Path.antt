@@ -1,4 +1,4 @@
-use Rattle.std.specs.Prelude.{ℕ, ◌<◌, List, [], ◌∷◌, fold, All, Bool, if◌then◌else◌}
+use Rattle.std.specs.Prelude.{◌<◌, List, [], ◌∷◌, fold, All, if◌then◌else◌}
 use Rattle.plan_rules.specs.Graph.{Graph, IsRowOf}
 use Rattle.plan_rules.specs.Multipliers.{Usable}
 use Rattle.plan_rules.specs.Tree.{every_row, only_row, without_row}

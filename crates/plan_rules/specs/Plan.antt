@@ -1,4 +1,4 @@
-use Rattle.std.specs.Prelude.{◌≡◌, ◌==◌, ℕ, ◌+◌, ◌*◌, ◌<◌, ◌≤◌, Bool, true, IsTrue, List, length, Option, Some, None, MatchOption, ℤ, pos, ◌≤ℤ◌}
+use Rattle.std.specs.Prelude.{◌≡◌, ◌==◌, ℕ, ◌+◌, ◌*◌, ◌<◌, ◌≤◌, IsTrue, List, length, Option, Some, None, MatchOption, ℤ, pos, ◌≤ℤ◌}
 use Rattle.plan_rules.specs.Sums.{sum_below, count_below}
 use Rattle.plan_rules.specs.Graph.{Graph, IsRowOf, HasNoRow, choice_at, cost_at, times_served, must_be_served}
 

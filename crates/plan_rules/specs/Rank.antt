@@ -1,6 +1,6 @@
-use Rattle.std.specs.Prelude.{◌≡◌, ◌≢◌, ℕ, ◌+◌, ◌-◌, ◌*◌, ◌%◌, ◌<◌, ◌≤◌, ◌⊎◌, Bool, false, true, IsTrue, List, length, slice_index, slice_index_or, Option, Some, Contains, All}
+use Rattle.std.specs.Prelude.{◌≡◌, ◌≢◌, ℕ, ◌+◌, ◌-◌, ◌*◌, ◌%◌, ◌<◌, Bool, false, true, IsTrue, List, length, slice_index_or, Option, Some, Contains, All}
 use Rattle.std.specs.List.Sorted.{IsNonDecreasing}
-use Rattle.plan_rules.specs.Graph.{Graph, riders_at, cost_at, has_rider, choice_at, IsRowOf, row_vehicle}
+use Rattle.plan_rules.specs.Graph.{Graph, riders_at, cost_at, has_rider, choice_at, IsRowOf}
 use Rattle.plan_rules.specs.Greedy.{IsTaken, IsApart}
 
 -- a number that rises as size falls, then as cost rises, then as the number of the row rises

@@ -1,4 +1,4 @@
-use Rattle.std.specs.Prelude.{◌≡◌, ◌≢◌, ◌==◌, ◌&&◌, ◌||◌, not, ◌⊎◌, ℕ, suc, ◌+◌, ◌/◌, ◌<◌, Bool, true, false, IsTrue, List, [], ◌∷◌, ◌++◌, length, map, Option, Some, None, unwrap_or, ℤ, pos, negsuc, neg_ℤ, All}
+use Rattle.std.specs.Prelude.{◌≡◌, ◌≢◌, ◌==◌, ◌&&◌, ◌||◌, not, ◌⊎◌, ℕ, suc, ◌+◌, ◌/◌, ◌<◌, Bool, true, false, IsTrue, List, [], ◌∷◌, ◌++◌, length, map, Option, Some, None, unwrap_or, ℤ, pos, negsuc, neg_ℤ}
 use Rattle.plan_rules.specs.Sums.{all_below, lesser}
 use Rattle.plan_rules.specs.Graph.{Graph, IsRowOf, row_vehicle, has_rider, must_be_served, choice_at}
 use Rattle.plan_rules.specs.Multipliers.{Usable, leaf_value}

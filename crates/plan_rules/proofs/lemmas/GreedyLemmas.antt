@@ -1,13 +1,12 @@
 -- Greedy plans: ranks, and what taking a row keeps.
-use Rattle.std.proofs.Common.{◌≡◌, ◌≢◌, ◌==◌, ◌⊎◌, ◌||◌, ℕ, ◌+◌, ◌-◌, ◌*◌, ◌%◌, ◌<◌, ◌≤◌, Bool, true, false, IsTrue, List, length, get_or, set, replicate, Option, Some, None, refl, sym, ap, ◌∙◌, subst, inl, inr, ⊎_elim, arith, Any}
+use Rattle.std.proofs.Common.{◌≡◌, ◌⊎◌, ◌||◌, ℕ, ◌%◌, ◌<◌, ◌≤◌, Bool, true, false, List, length, get_or, set, replicate, Option, Some, None, refl, sym, ap, ◌∙◌, subst, inl, inr, ⊎_elim, arith}
 use Rattle.std.specs.List.{list_any}
-use Rattle.std.proofs.lemmas.Bool.{cases_eq, cases_lt, cases_Bool, or_cases, or_left, or_right, both_ways}
-use Rattle.std.proofs.lemmas.List.{get_or-replicate, length-replicate, get_or-set_same, get_or-set_other, get_or_past, get_or_default, length-set}
-use Rattle.std.proofs.lemmas.List.Folds.{list_any_at}
-use Rattle.plan_rules.specs.Graph.{Graph, row_at, riders_at, cost_at, row_vehicle, has_rider, choice_at, IsRowOf, IsGraphRow, IsGoodGraph}
+use Rattle.std.proofs.lemmas.Bool.{cases_eq, cases_lt, or_cases, or_left, or_right, both_ways}
+use Rattle.std.proofs.lemmas.List.{get_or-replicate, length-replicate, get_or-set_same, get_or-set_other, get_or_past, length-set}
+use Rattle.plan_rules.specs.Graph.{Graph, riders_at, cost_at, row_vehicle, has_rider, choice_at, IsGoodGraph}
 use Rattle.plan_rules.specs.Greedy.{IsTaken, IsApart, IsTriedBefore, IsGreedy}
 use Rattle.plan_rules.specs.Rank.{rank_value, rank_of, IsRankOfRow, IsSelection, IsInTheWay}
-use Rattle.plan_rules.proofs.lemmas.GraphLemmas.{has, rider_below}
+use Rattle.plan_rules.proofs.lemmas.GraphLemmas.{rider_below}
 use Rattle.plan_rules.proofs.lemmas.MarkLemmas.{any_marked, marked_one}
 
 pub rank_value-mod : (size cost k : ℕ) → k < 2000000 → rank_value size cost k % 2000000 ≡ k

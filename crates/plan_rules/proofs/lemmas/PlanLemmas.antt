@@ -1,8 +1,8 @@
 -- Plans: the held one is lawful; choices name rows.
-use Rattle.std.proofs.Common.{◌≡◌, ◌≢◌, ◌==◌, ◌⊎◌, ℕ, zero, suc, ◌+◌, ◌*◌, ◌<◌, ◌≤◌, Bool, true, false, IsTrue, List, length, get_or, Option, Some, None, MatchOption, refl, sym, ap, ◌∙◌, subst, inl, inr, arith, ltb-true, lt-ltb, ltb, nat_lt}
-use Rattle.std.proofs.lemmas.Bool.{cases_lt, both_ways}
+use Rattle.std.proofs.Common.{◌≡◌, ◌⊎◌, ℕ, ◌<◌, ◌≤◌, IsTrue, List, length, Option, Some, None, MatchOption, refl, sym, ◌∙◌, subst, inl, inr, arith, ltb-true}
+use Rattle.std.proofs.lemmas.Bool.{cases_lt}
 use Rattle.std.proofs.lemmas.List.{get_or_past}
-use Rattle.plan_rules.specs.Graph.{Graph, row_at, has_rider, IsRowOf, HasNoRow, choice_at, is_in, times_served, must_be_served, IsGraphRow, IsGoodGraph, HoldsRightly, ChoosesRows}
+use Rattle.plan_rules.specs.Graph.{Graph, has_rider, IsRowOf, HasNoRow, choice_at, times_served, must_be_served, IsGoodGraph, ChoosesRows}
 use Rattle.plan_rules.specs.Plan.{IsPlan, IsLawful}
 use Rattle.plan_rules.specs.work.Plan.{times_chosen}
 use Rattle.plan_rules.proofs.lemmas.GraphLemmas.{held_once, times_served_outside}

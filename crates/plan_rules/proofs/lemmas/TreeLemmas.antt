@@ -1,22 +1,21 @@
 -- The leaves and dead ends of a sound tree part the plans, and its value is a bound.
-use Rattle.std.proofs.Common.{◌≡◌, ◌≢◌, ◌==◌, ◌⊎◌, ◌&&◌, ◌||◌, not, ℕ, zero, suc, ◌+◌, ◌*◌, ◌/◌, ◌<◌, ◌≤◌, Bool, true, false, cond, IsTrue, List, [], ◌∷◌, length, Option, Some, None, MatchOption, count_by, sum_by, ℤ, pos, negsuc, neg_ℤ, ◌≤ℤ◌, refl, sym, ap, ◌∙◌, subst, inl, inr, ⊎_elim, arith, eq-eqb, eqb-true, ne_eqb}
+use Rattle.std.proofs.Common.{◌≡◌, ◌==◌, ◌&&◌, ◌||◌, not, ℕ, ◌+◌, ◌*◌, ◌/◌, ◌<◌, ◌≤◌, Bool, true, false, cond, List, [], ◌∷◌, length, Option, Some, None, count_by, ℤ, pos, negsuc, ◌≤ℤ◌, refl, sym, ap, ◌∙◌, inl, inr, ⊎_elim, arith, eq-eqb, ne_eqb}
 use Rattle.std.specs.Prelude.{unwrap_or}
 use Rattle.std.proofs.lemmas.Int.{ints}
 use Rattle.std.proofs.lemmas.List.Sums.{sum_by-cons}
-use Rattle.std.proofs.lemmas.Bool.{cases_eq, cases_Bool, and_from, and_parts, and_left, and_right, or_right, or_left, both_ways, cond-true, cond-false, false_from_ne_true}
+use Rattle.std.proofs.lemmas.Bool.{cases_eq, cases_Bool, or_right, or_left, both_ways, false_from_ne_true}
 use Rattle.plan_rules.specs.Sums.{all_below, lesser, count_below}
-use Rattle.plan_rules.specs.Graph.{Graph, row_at, row_vehicle, has_rider, IsRowOf, HasNoRow, choice_at, is_in, times_served, must_be_served, IsGraphRow, IsGoodGraph}
+use Rattle.plan_rules.specs.Graph.{Graph, row_at, row_vehicle, has_rider, IsRowOf, choice_at, is_in, IsGraphRow, IsGoodGraph}
 use Rattle.plan_rules.specs.Plan.{IsPlan, IsLawful, cost_of, IsBound}
-use Rattle.plan_rules.specs.work.Plan.{times_chosen}
 use Rattle.plan_rules.specs.Multipliers.{Usable, leaf_value}
-use Rattle.plan_rules.specs.Tree.{every_row, only_row, without_row, MayUse, CanBranch, IsSoleRow, IsClash, IsStranded, IsDeadEnd, Place, rounded_up, least_leaf, is_choice_usable, is_within, is_leaf, is_dead, belongs_to_end, belongs_to_dead_end}
-use Rattle.plan_rules.specs.Reading.{IsSoundNode, coming_after, ReadsTo, places_from}
+use Rattle.plan_rules.specs.Tree.{every_row, only_row, without_row, CanBranch, IsClash, IsStranded, IsDeadEnd, Place, rounded_up, least_leaf, is_choice_usable, is_within, belongs_to_end, belongs_to_dead_end}
+use Rattle.plan_rules.specs.Reading.{ReadsTo, places_from}
 use Rattle.plan_rules.specs.work.Tree.{IsWholeTree, places_read, value_read}
 use Rattle.plan_rules.specs.declared.node.Node.{Node}
 use Rattle.plan_rules.specs.declared.node.Node.TheVariants.{Branch, Leaf, Dead}
 use Rattle.plan_rules.proofs.lemmas.SumLemmas.{flag, flag-true, flag-false, all_below_at, all_below_from, all_below_fails, all_below_same, count_below_two, lesser-le_left, lesser-le_right}
 use Rattle.plan_rules.proofs.lemmas.GraphLemmas.{times_served_as_count, times_served_found, in_choice}
-use Rattle.plan_rules.proofs.lemmas.PlanLemmas.{own_row, has_choice, plan_choice}
+use Rattle.plan_rules.proofs.lemmas.PlanLemmas.{has_choice, plan_choice}
 use Rattle.plan_rules.proofs.lemmas.DualityLemmas.{leaf_value_le}
 
 same_some : (j k : ℕ) → Some j ≡ Some k → j ≡ k

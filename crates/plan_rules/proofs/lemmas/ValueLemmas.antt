@@ -1,13 +1,12 @@
 -- Leaf values, term by term.
-use Rattle.std.proofs.Common.{◌≡◌, ◌≢◌, ◌==◌, ◌⊎◌, ◌&&◌, ℕ, zero, suc, ◌+◌, ◌-◌, ◌*◌, ◌<◌, ◌≤◌, Bool, true, false, cond, List, [], ◌∷◌, length, get_or, drop, Option, Some, None, ℤ, pos, neg_ℤ, ◌+ℤ◌, ◌-ℤ◌, ◌≤ℤ◌, refl, sym, ap, ◌∙◌, subst, ⊎_elim, arith, ne_eqb, eq-eqb}
+use Rattle.std.proofs.Common.{◌≡◌, ◌==◌, ℕ, zero, suc, ◌+◌, ◌-◌, ◌<◌, ◌≤◌, Bool, true, false, List, length, get_or, drop, Option, Some, None, ℤ, pos, ◌+ℤ◌, sym, ap, ◌∙◌, ⊎_elim, arith, ne_eqb, eq-eqb}
 use Rattle.std.proofs.lemmas.Int.{ints}
 use Rattle.std.proofs.lemmas.Bool.{cases_lt, and_left, and_right, and_from, cond-true, cond-false}
 use Rattle.std.proofs.lemmas.List.{at_drop_more, at_drop_all}
-use Rattle.plan_rules.specs.Sums.{least_below, lesser, int_sum_below}
-use Rattle.plan_rules.specs.Graph.{Graph, row_at, row_vehicle, IsStartOf}
-use Rattle.plan_rules.specs.Multipliers.{Usable, multiplier_at, multiplier_sum, reduced_cost, is_usable_by}
+use Rattle.plan_rules.specs.Sums.{least_below, lesser}
+use Rattle.plan_rules.specs.Graph.{Graph, row_vehicle, IsStartOf}
+use Rattle.plan_rules.specs.Multipliers.{Usable, multiplier_at, multiplier_sum, is_usable_by}
 use Rattle.plan_rules.proofs.lemmas.SumLemmas.{least_below_none, least_below_more}
-use Rattle.plan_rules.specs.Size.{IsSmallSum}
 
 -- the sum so far and that of the riders to come is that of all
 pub sum_more : (ms : List ℤ) (xs : List ℕ) (i : ℕ) (sum whole : ℤ) → i < length xs → sum +ℤ multiplier_sum ms (drop i xs) ≡ whole → (sum +ℤ multiplier_at ms (get_or xs i 0)) +ℤ multiplier_sum ms (drop (i + 1) xs) ≡ whole

@@ -1,5 +1,5 @@
-use Rattle.std.proofs.Common.{◌<◌, length, get_or, arith, take_all, ap, subst}
-use Rattle.plan_rules.proofs.lemmas.MarkLemmas.{IsMarking, marking_none, marking_more}
+use Rattle.std.proofs.Common.{arith}
+use Rattle.plan_rules.proofs.lemmas.MarkLemmas.{marking_none, marking_more}
 use Rattle.plan_rules.proofs.dead_end.mark_riders.Goals as goal
 
 pub loop-rider-init : goal.loop-rider-init

@@ -1,4 +1,3 @@
-use Rattle.std.proofs.Common.{◌≡◌, ℕ, ◌<◌, ◌≤◌, MatchOption, IsTrue}
 use Rattle.plan_rules.specs.Multipliers.{usable_of}
 use Rattle.plan_rules.specs.work.DeadEnd.{IsOnlyOf}
 use Rattle.plan_rules.proofs.dead_end.sole_row.Given as goal

@@ -1,4 +1,3 @@
-use Rattle.std.proofs.lemmas.List.Elements.{All-same}
 use Rattle.std.proofs.lemmas.List.Sorted.{All-permutation, Contains-permutation, IsNonDecreasingBy-from_sort}
 use Rattle.plan_rules.specs.Rank.{rank_of, IsRankOfRow}
 use Rattle.plan_rules.proofs.greedy_plan.ranking.Goals as goal

@@ -1,9 +1,9 @@
-use Rattle.std.proofs.Common.{◌≡◌, ◌⊎◌, ℕ, ◌+◌, ◌%◌, ◌<◌, ◌≤◌, length, get_or, sym, ap, ◌∙◌, subst, ⊎_elim, arith}
+use Rattle.std.proofs.Common.{◌≡◌, ℕ, ◌%◌, ◌<◌, ◌≤◌, length, get_or, sym, ap, ◌∙◌, subst, ⊎_elim, arith}
 use Rattle.std.proofs.lemmas.Bool.{cases_eq}
 use Rattle.std.proofs.lemmas.List.{get_or_default}
 use Rattle.plan_rules.specs.Greedy.{IsTaken, IsTriedBefore, IsApart}
-use Rattle.plan_rules.specs.Rank.{rank_of, IsRankOfRow}
-use Rattle.plan_rules.proofs.lemmas.GreedyLemmas.{settled_more, greedy_from, row_ranked, rank_value-mod}
+use Rattle.plan_rules.specs.Rank.{rank_of}
+use Rattle.plan_rules.proofs.lemmas.GreedyLemmas.{settled_more, greedy_from, rank_value-mod}
 use Rattle.plan_rules.proofs.greedy_plan.take_rows.Goals as goal
 
 pub loop-rank-init : goal.loop-rank-init

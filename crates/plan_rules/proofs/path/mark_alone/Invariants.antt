@@ -1,4 +1,4 @@
-use Rattle.std.proofs.Common.{◌≡◌, ◌==◌, ℕ, ◌<◌, ◌≤◌, ◌&&◌, ◌||◌, not, false, length, get_or, ltb}
+use Rattle.std.proofs.Common.{◌≡◌, ◌==◌, ℕ, ◌<◌, ◌≤◌, ◌&&◌, ◌||◌, not, false, length, get_or}
 use Rattle.plan_rules.specs.Graph.{row_vehicle}
 use Rattle.plan_rules.proofs.path.mark_alone.Given as goal
 

@@ -1,4 +1,4 @@
-use Rattle.std.proofs.Common.{◌≡◌, ℕ, ◌<◌, List, Bool, false, length, get_or, sym, ap, ◌∙◌, arith}
+use Rattle.std.proofs.Common.{List, Bool, false, length, get_or, sym, ap, ◌∙◌, arith}
 use Rattle.std.proofs.Math.ListN.{length-set}
 use Rattle.plan_rules.specs.Path.{Standing}
 use Rattle.plan_rules.specs.declared.path.Decision.{Decision}

@@ -1,4 +1,4 @@
-use Rattle.std.proofs.Common.{◌≡◌, ℕ, ◌<◌, ◌≤◌, vec_len, get_or}
+use Rattle.std.proofs.Common.{◌≡◌, ℕ, ◌<◌, vec_len, get_or}
 use Rattle.plan_rules.specs.Graph.{IsStartOf}
 use Rattle.plan_rules.specs.Parts.{graph_of}
 use Rattle.plan_rules.proofs.row_index.row_starts.Given as goal

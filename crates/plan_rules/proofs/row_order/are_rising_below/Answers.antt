@@ -1,6 +1,6 @@
-use Rattle.std.proofs.Common.{◌≡◌, false, true, inl, inr, arith}
+use Rattle.std.proofs.Common.{inl, inr, arith}
 use Rattle.std.proofs.lemmas.Bool.{false≢true}
-use Rattle.plan_rules.proofs.RowLemmas.{rising_start, rising_more, rising_all, not_rising}
+use Rattle.plan_rules.proofs.RowLemmas.{not_rising}
 use Rattle.plan_rules.proofs.row_order.are_rising_below.Goals as goal
 use Rattle.plan_rules.proofs.row_order.are_rising_below.Goals.{then-rider-least-via-then-rider-least, then-rider-least-via-else-rider-least+then-rider-riders}
 

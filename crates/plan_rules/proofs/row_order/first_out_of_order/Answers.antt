@@ -1,4 +1,4 @@
-use Rattle.std.proofs.Common.{◌≡◌, ℕ, ◌+◌, ◌-◌, ◌<◌, Ordering, Less, sym, ap, ap₂, ◌∙◌, refl, arith}
+use Rattle.std.proofs.Common.{◌≡◌, ◌-◌, sym, ap₂, ◌∙◌, refl, arith}
 use Rattle.plan_rules.specs.Graph.{row_at, row_cmp}
 use Rattle.plan_rules.specs.Parts.{graph_of}
 use Rattle.plan_rules.proofs.lemmas.GraphLemmas.{row_read}

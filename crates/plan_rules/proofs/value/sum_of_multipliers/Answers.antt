@@ -1,4 +1,4 @@
-use Rattle.std.proofs.Common.{ℕ, ◌<◌, length, get_or, pos, arith, rules, SFits, to_z, w64}
+use Rattle.std.proofs.Common.{◌<◌, length, get_or, pos, arith, rules, SFits, to_z, w64}
 use mir.Syntax.{w128}
 use Rattle.std.proofs.lemmas.Int.{ints}
 use Rattle.plan_rules.specs.Multipliers.{multiplier_sum}

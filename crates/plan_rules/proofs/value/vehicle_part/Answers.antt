@@ -1,9 +1,9 @@
-use Rattle.std.proofs.Common.{◌≡◌, ℕ, ◌+◌, ◌<◌, Option, Some, None, IfSome, ℤ, pos, sym, ap, ◌∙◌, subst, arith, rules, SFits, to_z, of_z, length}
+use Rattle.std.proofs.Common.{◌≡◌, ℕ, Option, Some, IfSome, ℤ, pos, sym, ap, ◌∙◌, subst, arith, to_z, of_z}
 use Rattle.std.specs.Prelude.{unwrap_or}
 use mir.Syntax.{w128}
-use Rattle.std.proofs.lemmas.Int.{ints, to_z-of_z}
+use Rattle.std.proofs.lemmas.Int.{to_z-of_z}
 use Rattle.plan_rules.specs.Sums.{least_below, lesser}
-use Rattle.plan_rules.specs.Graph.{row_at, row_vehicle}
+use Rattle.plan_rules.specs.Graph.{row_at}
 use Rattle.plan_rules.specs.Multipliers.{usable_of, is_usable_by, reduced_cost}
 use Rattle.plan_rules.specs.declared.row.TripRow.{TripRow}
 use Rattle.plan_rules.proofs.lemmas.GraphLemmas.{row_read, row_between}

@@ -1,5 +1,4 @@
-use Rattle.std.proofs.Common.{◌≡◌, ◌+◌, ◌-◌, ◌≤◌, ℕ, List, [], false, length, get_or, set, take, ◌∷◌, sym, ap, ◌∙◌, arith}
-use Rattle.plan_rules.specs.Graph.{Graph}
+use Rattle.std.proofs.Common.{◌-◌, ℕ, List, false, get_or, set, take, ◌∷◌, sym, ap, ◌∙◌, arith}
 use Rattle.plan_rules.specs.Multipliers.{Usable}
 use Rattle.plan_rules.specs.Path.{Standing, standing_of}
 use Rattle.plan_rules.specs.declared.path.Decision.{Decision}

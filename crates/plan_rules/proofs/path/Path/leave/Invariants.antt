@@ -1,4 +1,4 @@
-use Rattle.std.proofs.Common.{◌≡◌, ℕ, ◌<◌, ◌≤◌, take, length, false, get_or}
+use Rattle.std.proofs.Common.{◌≡◌, ℕ, ◌<◌, ◌≤◌, length, false, get_or}
 use Rattle.plan_rules.specs.declared.path.Decision.{Decision}
 use Rattle.plan_rules.proofs.path.Path.leave.Given as goal
 
