@@ -13,6 +13,7 @@ mod factors;
 mod pivots;
 mod pool;
 mod pricing;
+mod sparse;
 
 use crate::relaxation::basis::Basis;
 use crate::relaxation::elimination::reset;
@@ -64,10 +65,8 @@ pub struct Relaxation {
     /// The prices of the conditions, in units of 2^-32 of 2^scale seconds.
     prices: Vec<i64>,
     scale: u32,
-    /// The column that comes in, over the places.
-    entering: Vec<i64>,
-    /// How the prices change as a column comes in, for each second by which that lowers the cost of one of it.
-    changes: Vec<i64>,
+    /// The prices before they were computed anew.
+    old_prices: Vec<i64>,
     /// What each place costs, and how much of it is chosen.
     costs: Vec<i64>,
     parts: Vec<i64>,
@@ -101,8 +100,7 @@ impl Relaxation {
             left_costs: Vec::new(alloc),
             prices: Vec::new(alloc),
             scale: scale_of(table),
-            entering: Vec::new(alloc),
-            changes: Vec::new(alloc),
+            old_prices: Vec::new(alloc),
             costs: Vec::new(alloc),
             parts: Vec::new(alloc),
             candidates: Vec::new(alloc),
@@ -143,8 +141,7 @@ impl Relaxation {
     fn make_space_for_conditions(&mut self, table: &RowTable) -> Result<(), OutOfMemory> {
         let count = table.vehicle_count().saturating_add(table.rider_count());
         reset(&mut self.prices, count, 0)?;
-        reset(&mut self.entering, count, 0)?;
-        reset(&mut self.changes, count, 0)?;
+        reset(&mut self.old_prices, count, 0)?;
         reset(&mut self.costs, count, 0)?;
         reset(&mut self.parts, count, 0)
     }

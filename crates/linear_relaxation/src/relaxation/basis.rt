@@ -1,11 +1,14 @@
 //! A basis of the relaxation, with how much of each column it takes.
 use crate::relaxation::elimination::{Elimination, reset};
 use crate::relaxation::factors::Factors;
+use crate::relaxation::sparse::Sparse;
 use pool_base::OutOfMemory;
 use rand_xoshiro::SplitMix64;
 use rand_xoshiro::rand_core::{Rng, SeedableRng};
 use row_tables::RowTable;
-use row_tables::fixed_point::{ONE, at, copy, is_quotient_above, item, quotient, set_at, times};
+use row_tables::fixed_point::{
+    ONE, add_at, at, copy, is_quotient_above, item, quotient, set_at, times,
+};
 use row_tables::lists::{Lists, short};
 use std::alloc::Global;
 
@@ -34,7 +37,11 @@ pub struct Basis {
     good: Vec<u32>,
     elimination: Elimination,
     matrix: Lists,
-    numbers: Vec<i64>,
+    /// Numbers over the pivots, and costs over the places: all 0 between two calls.
+    numbers: Sparse,
+    costs: Sparse,
+    /// The column that was found last, over the places.
+    entering: Sparse,
 }
 
 impl Basis {
@@ -50,7 +57,9 @@ impl Basis {
             good: Vec::new(alloc),
             elimination: Elimination::new(alloc),
             matrix: Lists::new(alloc),
-            numbers: Vec::new(alloc),
+            numbers: Sparse::new(alloc),
+            costs: Sparse::new(alloc),
+            entering: Sparse::new(alloc),
         }
     }
 
@@ -60,7 +69,9 @@ impl Basis {
         let columns = table.row_count().saturating_add(count);
         reset(&mut self.places, columns, 0)?;
         reset(&mut self.levels, count, 0)?;
-        reset(&mut self.numbers, count, 0)?;
+        self.numbers.make_space(count)?;
+        self.costs.make_space(count)?;
+        self.entering.make_space(count)?;
         self.draw_capacities(table)
     }
 
@@ -210,46 +221,83 @@ impl Basis {
 
     /// Computes the levels from the capacities.
     fn find_levels(&mut self) {
-        copy(&self.capacities, &mut self.numbers);
-        self.factors.solve(&mut self.numbers, &mut self.levels);
-        for level in self.levels.iter_mut() {
-            *level = (*level).max(0);
+        for condition in 0..self.capacities.len() {
+            let number = self.factors.number_of(condition);
+            self.numbers.set(number, at(&self.capacities, condition));
+        }
+        self.factors.solve(&mut self.numbers, &mut self.entering);
+        for (level, found) in self.levels.iter_mut().zip(self.entering.numbers()) {
+            *level = (*found).max(0);
         }
     }
 
     /// Computes how much of each column is taken where each condition has one.
     pub fn find_parts(&mut self, parts: &mut [i64]) {
-        self.numbers.as_mut_slice().fill(ONE);
-        self.factors.solve(&mut self.numbers, parts);
+        for number in 0..self.numbers.len() {
+            self.numbers.set(number, ONE);
+        }
+        self.factors.solve(&mut self.numbers, &mut self.entering);
+        copy(self.entering.numbers(), parts);
     }
 
-    /// Computes the prices at which each place costs this. The costs are used up.
-    pub fn find_prices(&self, costs: &mut [i64], prices: &mut [i64]) {
-        self.factors.price(costs, prices);
+    /// Computes the prices at which each place costs this.
+    pub fn find_prices(&mut self, costs: &[i64], prices: &mut [i64]) {
+        self.costs.load(costs);
+        self.factors.price(&mut self.costs, &mut self.numbers);
+        for condition in 0..prices.len() {
+            let number = self.factors.number_of(condition);
+            prices[condition] = self.numbers.at(number);
+        }
+        self.numbers.clear();
+    }
+
+    /// Changes the prices so that the column that came in at this place, which cost this less the old ones,
+    /// costs as much as the new ones.
+    pub fn change_prices(&mut self, place: usize, cost: i64, prices: &mut [i64]) {
+        self.costs.set(place, ONE);
+        self.factors.price(&mut self.costs, &mut self.numbers);
+        let mut from = 0;
+        for _ in 0..prices.len() {
+            let Some(number) = self.numbers.next(from) else {
+                return;
+            };
+            let change = self.numbers.take(number);
+            if let Some(pivot) = self.factors.pivot(number) {
+                add_at(prices, pivot.condition as usize, times(change, cost));
+            }
+            from = number;
+        }
     }
 
     /// Computes a column over the places.
-    pub fn find_column(&mut self, table: &RowTable, column: usize, entering: &mut [i64]) {
-        self.numbers.as_mut_slice().fill(0);
+    pub fn find_column(&mut self, table: &RowTable, column: usize) {
         if column < table.row_count() {
-            set_at(&mut self.numbers, table.vehicle(column), ONE);
+            self.put_one(table.vehicle(column));
             for rider in table.riders_of(column) {
-                let condition = table.vehicle_count().saturating_add(*rider as usize);
-                set_at(&mut self.numbers, condition, ONE);
+                self.put_one(table.vehicle_count().saturating_add(*rider as usize));
             }
         } else {
-            set_at(&mut self.numbers, unit_condition(table, column), ONE);
+            self.put_one(unit_condition(table, column));
         }
-        self.factors.solve(&mut self.numbers, entering);
+        self.factors.solve(&mut self.numbers, &mut self.entering);
     }
 
-    /// The place whose level is the first to be used up as this column comes in, and how much of it does.
-    pub fn leaving_place(&self, entering: &[i64]) -> Option<(usize, i64)> {
+    fn put_one(&mut self, condition: usize) {
+        self.numbers.set(self.factors.number_of(condition), ONE);
+    }
+
+    /// The place whose level is the first to be used up as the column that was found comes in, and how much of
+    /// it does.
+    pub fn leaving_place(&self) -> Option<(usize, i64)> {
         let mut best = None;
         let mut least = i64::MAX;
         let mut divisor = 0;
-        for place in 0..entering.len() {
-            let value = entering[place];
+        let mut from = 0;
+        for _ in 0..self.entering.len() {
+            let Some(place) = self.entering.next(from) else {
+                break;
+            };
+            let value = self.entering.at(place);
             if value > LEAST_PIVOT && !is_quotient_above(at(&self.levels, place), value, least) {
                 let ratio = quotient(at(&self.levels, place), value);
                 if best.is_none() || ratio < least || (ratio == least && value > divisor) {
@@ -258,37 +306,43 @@ impl Basis {
                     divisor = value;
                 }
             }
+            from = place.wrapping_add(1);
         }
         best
     }
 
-    /// Puts a column into this place. False where the factors should be made anew.
+    /// Puts the column that was found into this place. False where the factors should be made anew.
     pub fn exchange(
         &mut self,
         place: usize,
         column: usize,
         level: i64,
-        entering: &[i64],
     ) -> Result<bool, OutOfMemory> {
-        self.take_levels(level, entering);
+        self.take_levels(level);
         set_at(&mut self.levels, place, level);
         let leaving = self.column(place);
         set_at(&mut self.places, leaving, 0);
         set_at(&mut self.columns, place, short(column));
         set_at(&mut self.places, column, short(place.saturating_add(1)));
-        self.factors.exchange(place, entering)?;
+        self.factors.exchange(place, &self.entering)?;
         let most = self.columns.len().saturating_mul(8).saturating_add(2000);
         Ok(self.factors.exchange_count() < MOST_EXCHANGES && self.factors.exchange_size() <= most)
     }
 
-    fn take_levels(&mut self, level: i64, entering: &[i64]) {
+    /// Takes so much of the column that was found from the levels.
+    fn take_levels(&mut self, level: i64) {
         if level == 0 {
             return;
         }
-        for (number, value) in self.levels.iter_mut().zip(entering) {
-            if *value != 0 {
-                *number = (*number).wrapping_sub(times(*value, level)).max(0);
-            }
+        let mut from = 0;
+        for _ in 0..self.entering.len() {
+            let Some(place) = self.entering.next(from) else {
+                return;
+            };
+            let taken = times(self.entering.at(place), level);
+            let rest = at(&self.levels, place).wrapping_sub(taken).max(0);
+            set_at(&mut self.levels, place, rest);
+            from = place.wrapping_add(1);
         }
     }
 

@@ -6,7 +6,7 @@
 //! for Sparse Matrices).
 use crate::relaxation::factors::{Factors, Pivot};
 use pool_base::OutOfMemory;
-use row_tables::fixed_point::{ONE, at, is_noise, item, quotient, set_at};
+use row_tables::fixed_point::{ONE, add_at, at, is_noise, item, quotient, set_at, times};
 use row_tables::lists::{Lists, short};
 use std::alloc::Global;
 
@@ -26,7 +26,7 @@ pub struct Elimination {
     /// Places, and then conditions, of which one is left.
     queue: Vec<u32>,
     /// The places of the rest, behind their counts.
-    rest: Vec<u64>,
+    rest: Vec<(u32, u32)>,
     /// A column of the rest over the conditions, and where it was written.
     column: Vec<i64>,
     touched: Vec<u32>,
@@ -63,8 +63,8 @@ impl Elimination {
         self.order_rest(columns)?;
         let first = factors.lower_count();
         for place in 0..self.rest.len() {
-            let place = (item(&self.rest, place, 0) & 0xffff_ffff) as usize;
-            if !self.take_place(columns, place, first, factors)? {
+            let (_, place) = item(&self.rest, place, (0, u32::MAX));
+            if !self.take_place(columns, place as usize, first, factors)? {
                 return Ok(false);
             }
         }
@@ -230,13 +230,13 @@ impl Elimination {
         self.rest.clear();
         for place in 0..columns.len() {
             if !item(&self.is_place_done, place, true) {
-                let mut size: u64 = 0;
+                let mut size: u32 = 0;
                 for condition in columns.list(place) {
                     if !item(&self.is_condition_done, *condition as usize, true) {
                         size = size.wrapping_add(1);
                     }
                 }
-                self.rest.push((size << 32) | place as u64 & 0xffff_ffff)?;
+                self.rest.push((size, short(place)))?;
             }
         }
         self.rest.sort()?;
@@ -285,10 +285,15 @@ impl Elimination {
             let condition = pivot.condition as usize;
             let value = at(&self.column, condition);
             if item(&self.is_touched, condition, false) && !is_noise(value) {
-                for other in factors.lower_conditions(number) {
-                    self.touch(*other)?;
+                for entry in factors.lower(number) {
+                    self.touch(entry.place)?;
+                    let product = times(value, entry.value);
+                    add_at(
+                        &mut self.column,
+                        entry.place as usize,
+                        product.wrapping_neg(),
+                    );
                 }
-                factors.take_lower(number, &mut self.column, value);
             }
         }
         Ok(())

@@ -1,54 +1,58 @@
 //! A basis in factors: a lower and an upper triangle, and a column for each exchange since.
 //!
 //! The product form of the inverse (Dantzig and Orchard-Hays, 1954) over a factorisation that keeps the
-//! zeros. The basis is a square matrix of zeros and ones; a row of it is called a condition, a column a
-//! place.
+//! zeros, solved where numbers aren't 0 alone. The basis is a square matrix of zeros and ones; a row of it
+//! is called a condition, a column a place.
 use crate::relaxation::elimination::reset;
+use crate::relaxation::sparse::Sparse;
 use pool_base::OutOfMemory;
-use row_tables::fixed_point::{
-    at, is_noise, item, less_products, part, quotient, set_at, take_products,
-};
+use row_tables::fixed_point::{is_noise, item, part, quotient, set_at};
 use row_tables::lists::short;
 use std::alloc::Global;
 
-/// The parts of columns or rows, one behind the other, where they aren't 0.
+/// A number that isn't 0, and its place in a column or row.
+#[derive(Clone, Copy, Debug)]
+pub struct Entry {
+    pub place: u32,
+    pub value: i64,
+}
+
+/// The entries of columns or rows, one behind the other.
 #[derive(Drop)]
 pub struct Entries {
     /// Where each ends.
     ends: Vec<u32>,
-    places: Vec<u32>,
-    values: Vec<i64>,
+    entries: Vec<Entry>,
 }
 
 impl Entries {
     fn new(alloc: Global) -> Self {
         Entries {
             ends: Vec::new(alloc),
-            places: Vec::new(alloc),
-            values: Vec::new(alloc),
+            entries: Vec::new(alloc),
         }
     }
 
     fn clear(&mut self) {
         self.ends.clear();
-        self.places.clear();
-        self.values.clear();
+        self.entries.clear();
     }
 
     /// Puts a value into the part at hand.
-    pub fn push(&mut self, place: usize, value: i64) -> Result<(), OutOfMemory> {
-        self.places.push(short(place))?;
-        self.values.push(value)?;
+    fn push(&mut self, place: usize, value: i64) -> Result<(), OutOfMemory> {
+        let place = short(place);
+        self.entries.push(Entry { place, value })?;
         Ok(())
     }
 
     /// Ends the part at hand. Whether it has a value.
     fn end(&mut self) -> Result<bool, OutOfMemory> {
-        let is_any = self.places.len() > self.start(self.ends.len());
-        self.ends.push(short(self.places.len()))?;
+        let is_any = self.entries.len() > self.start(self.ends.len());
+        self.ends.push(short(self.entries.len()))?;
         Ok(is_any)
     }
 
+    #[inline]
     fn start(&self, number: usize) -> usize {
         if number == 0 {
             0
@@ -57,42 +61,34 @@ impl Entries {
         }
     }
 
-    /// The places of a part.
-    fn places(&self, number: usize) -> &[u32] {
+    /// The part of this number.
+    #[inline]
+    fn part(&self, number: usize) -> &[Entry] {
         let end = item(&self.ends, number, 0) as usize;
-        part(&self.places, self.start(number), end)
+        part(&self.entries, self.start(number), end)
     }
 
-    fn values(&self, number: usize) -> &[i64] {
-        let end = item(&self.ends, number, 0) as usize;
-        part(&self.values, self.start(number), end)
+    /// Has each entry stand where the number of its place says.
+    fn renumber(&mut self, numbers: &[u32]) {
+        for entry in self.entries.iter_mut() {
+            entry.place = item(numbers, entry.place as usize, u32::MAX);
+        }
     }
 
-    /// Takes from these numbers a multiple of a part.
-    pub fn take_from(&self, number: usize, numbers: &mut [i64], factor: i64) {
-        take_products(numbers, self.places(number), self.values(number), factor);
-    }
-
-    /// A number, less the products of a part's values with these numbers.
-    fn less(&self, number: usize, start: i64, numbers: &[i64]) -> i64 {
-        less_products(start, numbers, self.places(number), self.values(number))
-    }
-
-    /// Makes these the other ones, whose parts are those of pivots over conditions, by condition: its values
-    /// over the places of the pivots.
-    fn transpose(&mut self, others: &Entries, pivots: &[Pivot]) -> Result<(), OutOfMemory> {
-        reset(&mut self.ends, pivots.len(), 0)?;
-        reset(&mut self.places, others.places.len(), 0)?;
-        reset(&mut self.values, others.places.len(), 0)?;
-        for condition in &others.places {
-            let condition = *condition as usize;
-            if condition < self.ends.len() {
-                self.ends[condition] = self.ends[condition].wrapping_add(1);
+    /// Makes these the rows of columns, or the columns of rows.
+    fn transpose(&mut self, others: &Entries) -> Result<(), OutOfMemory> {
+        let none = Entry { place: 0, value: 0 };
+        reset(&mut self.ends, others.ends.len(), 0)?;
+        reset(&mut self.entries, others.entries.len(), none)?;
+        for entry in &others.entries {
+            let place = entry.place as usize;
+            if place < self.ends.len() {
+                self.ends[place] = self.ends[place].wrapping_add(1);
             }
         }
         self.end_before_each();
-        for number in 0..pivots.len() {
-            self.put_part(others, number, pivots[number].place);
+        for number in 0..others.ends.len() {
+            self.put_part(others, number);
         }
         Ok(())
     }
@@ -107,15 +103,17 @@ impl Entries {
         }
     }
 
-    /// Puts the values of another part at the ends of the parts of their conditions.
-    fn put_part(&mut self, others: &Entries, number: usize, place: u32) {
-        for (condition, value) in others.places(number).iter().zip(others.values(number)) {
-            let condition = *condition as usize;
-            if condition < self.ends.len() {
-                let end = self.ends[condition];
-                set_at(&mut self.places, end as usize, place);
-                set_at(&mut self.values, end as usize, *value);
-                self.ends[condition] = end.wrapping_add(1);
+    /// Puts the entries of another's part at the ends of the parts of their places.
+    fn put_part(&mut self, others: &Entries, number: usize) {
+        for entry in others.part(number) {
+            let place = entry.place as usize;
+            if place < self.ends.len() {
+                let turned = Entry {
+                    place: short(number),
+                    value: entry.value,
+                };
+                set_at(&mut self.entries, self.ends[place] as usize, turned);
+                self.ends[place] = self.ends[place].wrapping_add(1);
             }
         }
     }
@@ -123,8 +121,7 @@ impl Entries {
     fn copy_from(&mut self, other: &Entries) -> Result<(), OutOfMemory> {
         self.clear();
         self.ends.extend_from_slice(&other.ends)?;
-        self.places.extend_from_slice(&other.places)?;
-        self.values.extend_from_slice(&other.values)?;
+        self.entries.extend_from_slice(&other.entries)?;
         Ok(())
     }
 }
@@ -137,21 +134,27 @@ pub struct Pivot {
     pub value: i64,
 }
 
-/// The factors of a basis.
+/// The factors of a basis. Its pivots are numbered in the order in which places were divided.
 #[derive(Drop)]
 pub struct Factors {
     pivots: Vec<Pivot>,
-    /// Below each pivot, in its column, over the conditions.
+    /// Below and above each pivot, in its column: over the conditions, and once the factorisation has ended
+    /// over the numbers of their pivots.
     lower: Entries,
+    upper: Entries,
+    /// The same by rows.
+    lower_rows: Entries,
+    upper_rows: Entries,
     /// The pivots below which there is something.
     lower_pivots: Vec<u32>,
-    /// Above each pivot, in its column.
-    upper: Entries,
-    /// The same by condition, over the places.
-    upper_rows: Entries,
+    /// The number of the pivot of each condition, and of each place.
+    condition_numbers: Vec<u32>,
+    place_numbers: Vec<u32>,
     /// For each exchange its place and the entering column, over the places.
     exchanges: Vec<Pivot>,
     columns: Entries,
+    /// For each place a bit for each exchange that changes with the number there.
+    exchange_marks: Vec<u64>,
 }
 
 impl Factors {
@@ -159,40 +162,39 @@ impl Factors {
         Factors {
             pivots: Vec::new(alloc),
             lower: Entries::new(alloc),
-            lower_pivots: Vec::new(alloc),
             upper: Entries::new(alloc),
+            lower_rows: Entries::new(alloc),
             upper_rows: Entries::new(alloc),
+            lower_pivots: Vec::new(alloc),
+            condition_numbers: Vec::new(alloc),
+            place_numbers: Vec::new(alloc),
             exchanges: Vec::new(alloc),
             columns: Entries::new(alloc),
+            exchange_marks: Vec::new(alloc),
         }
     }
 
     pub fn clear(&mut self) {
         self.pivots.clear();
         self.lower.clear();
-        self.lower_pivots.clear();
         self.upper.clear();
-        self.upper_rows.clear();
+        self.lower_pivots.clear();
         self.exchanges.clear();
         self.columns.clear();
     }
 
     pub fn copy_from(&mut self, other: &Factors) -> Result<(), OutOfMemory> {
-        self.pivots.clear();
-        self.pivots.extend_from_slice(&other.pivots)?;
+        write_over(&mut self.pivots, &other.pivots)?;
         self.lower.copy_from(&other.lower)?;
-        self.lower_pivots.clear();
-        self.lower_pivots.extend_from_slice(&other.lower_pivots)?;
         self.upper.copy_from(&other.upper)?;
+        self.lower_rows.copy_from(&other.lower_rows)?;
         self.upper_rows.copy_from(&other.upper_rows)?;
-        self.exchanges.clear();
-        self.exchanges.extend_from_slice(&other.exchanges)?;
-        self.columns.copy_from(&other.columns)
-    }
-
-    /// How many places are divided.
-    pub fn pivot_count(&self) -> usize {
-        self.pivots.len()
+        write_over(&mut self.lower_pivots, &other.lower_pivots)?;
+        write_over(&mut self.condition_numbers, &other.condition_numbers)?;
+        write_over(&mut self.place_numbers, &other.place_numbers)?;
+        write_over(&mut self.exchanges, &other.exchanges)?;
+        self.columns.copy_from(&other.columns)?;
+        write_over(&mut self.exchange_marks, &other.exchange_marks)
     }
 
     pub fn pivot(&self, number: usize) -> Option<Pivot> {
@@ -205,7 +207,7 @@ impl Factors {
 
     /// How many entries the exchanges have.
     pub fn exchange_size(&self) -> usize {
-        self.columns.places.len()
+        self.columns.entries.len()
     }
 
     /// Puts a value above the next pivot.
@@ -228,9 +230,30 @@ impl Factors {
         Ok(())
     }
 
-    /// Ends a factorisation: lists what is above the pivots by condition.
+    /// Ends a factorisation: has the triangles name pivots in place of conditions, and turns them.
     pub fn finish(&mut self) -> Result<(), OutOfMemory> {
-        self.upper_rows.transpose(&self.upper, &self.pivots)
+        self.number_pivots()?;
+        self.lower.renumber(&self.condition_numbers);
+        self.upper.renumber(&self.condition_numbers);
+        self.lower_rows.transpose(&self.lower)?;
+        self.upper_rows.transpose(&self.upper)?;
+        reset(&mut self.exchange_marks, self.pivots.len(), 0)
+    }
+
+    fn number_pivots(&mut self) -> Result<(), OutOfMemory> {
+        let count = self.pivots.len();
+        reset(&mut self.condition_numbers, count, u32::MAX)?;
+        reset(&mut self.place_numbers, count, u32::MAX)?;
+        for number in 0..count {
+            let pivot = self.pivots[number];
+            set_at(
+                &mut self.condition_numbers,
+                pivot.condition as usize,
+                short(number),
+            );
+            set_at(&mut self.place_numbers, pivot.place as usize, short(number));
+        }
+        Ok(())
     }
 
     /// How many pivots have something below them.
@@ -243,104 +266,185 @@ impl Factors {
         item(&self.lower_pivots, place, u32::MAX) as usize
     }
 
-    /// The conditions below a pivot.
-    pub fn lower_conditions(&self, number: usize) -> &[u32] {
-        self.lower.places(number)
+    /// What is below a pivot.
+    pub fn lower(&self, number: usize) -> &[Entry] {
+        self.lower.part(number)
     }
 
-    /// Takes from the numbers, one a condition, a multiple of what is below a pivot.
-    pub fn take_lower(&self, number: usize, numbers: &mut [i64], factor: i64) {
-        self.lower.take_from(number, numbers, factor);
+    /// The number of the pivot of a condition.
+    #[inline]
+    pub fn number_of(&self, condition: usize) -> usize {
+        item(&self.condition_numbers, condition, u32::MAX) as usize
     }
 
     /// Exchanges what stands at a place for the column that is this over the places.
-    pub fn exchange(&mut self, place: usize, column: &[i64]) -> Result<(), OutOfMemory> {
-        for other in 0..column.len() {
-            if other != place && !is_noise(column[other]) {
-                self.columns.push(other, column[other])?;
+    pub fn exchange(&mut self, place: usize, column: &Sparse) -> Result<(), OutOfMemory> {
+        let mark = 1 << (self.exchanges.len() % 64);
+        self.mark_exchange(place, mark);
+        let mut from = 0;
+        for _ in 0..column.len() {
+            let Some(other) = column.next(from) else {
+                break;
+            };
+            let value = column.at(other);
+            if other != place && !is_noise(value) {
+                self.columns.push(other, value)?;
+                self.mark_exchange(other, mark);
             }
+            from = other.wrapping_add(1);
         }
         self.columns.end()?;
         self.exchanges.push(Pivot {
             condition: 0,
             place: short(place),
-            value: at(column, place),
+            value: column.at(place),
         })?;
         Ok(())
     }
 
-    /// Solves for the columns' multiples, one a place, whose sum is these numbers, one a condition. The
-    /// numbers are used up.
-    pub fn solve(&self, numbers: &mut [i64], multiples: &mut [i64]) {
-        for number in &self.lower_pivots {
-            let number = *number as usize;
-            let value = at(numbers, self.condition(number));
-            if value != 0 {
-                self.lower.take_from(number, numbers, value);
-            }
+    fn mark_exchange(&mut self, place: usize, mark: u64) {
+        if place < self.exchange_marks.len() {
+            self.exchange_marks[place] |= mark;
         }
-        for number in (0..self.pivots.len()).rev() {
-            self.solve_upper(number, numbers, multiples);
+    }
+
+    /// Solves for the columns' multiples, one a place, whose sum is these numbers, one a pivot. The numbers
+    /// are used up.
+    pub fn solve(&self, numbers: &mut Sparse, multiples: &mut Sparse) {
+        multiples.clear();
+        self.solve_lower(numbers);
+        self.solve_upper(numbers, multiples);
+        self.solve_exchanges(multiples);
+    }
+
+    fn solve_lower(&self, numbers: &mut Sparse) {
+        let mut from = 0;
+        for _ in 0..self.pivots.len() {
+            let Some(number) = numbers.next(from) else {
+                return;
+            };
+            let value = numbers.at(number);
+            numbers.take_products(self.lower.part(number), value);
+            from = number.wrapping_add(1);
         }
+    }
+
+    fn solve_upper(&self, numbers: &mut Sparse, multiples: &mut Sparse) {
+        let mut end = self.pivots.len();
+        for _ in 0..self.pivots.len() {
+            let Some(number) = numbers.last_before(end) else {
+                return;
+            };
+            self.divide(number, numbers, multiples);
+            end = number;
+        }
+    }
+
+    #[inline]
+    fn divide(&self, number: usize, numbers: &mut Sparse, multiples: &mut Sparse) {
+        let value = numbers.take(number);
+        if number < self.pivots.len() && !is_noise(value) {
+            let pivot = self.pivots[number];
+            let value = quotient(value, pivot.value);
+            multiples.set(pivot.place as usize, value);
+            numbers.take_products(self.upper.part(number), value);
+        }
+    }
+
+    fn solve_exchanges(&self, multiples: &mut Sparse) {
         for number in 0..self.exchanges.len() {
             let exchange = self.exchanges[number];
             let place = exchange.place as usize;
-            let value = at(multiples, place);
+            let value = multiples.at(place);
             if !is_noise(value) {
                 let value = quotient(value, exchange.value);
-                set_at(multiples, place, value);
-                self.columns.take_from(number, multiples, value);
+                multiples.set(place, value);
+                multiples.take_products(self.columns.part(number), value);
             }
         }
     }
 
-    fn solve_upper(&self, number: usize, numbers: &mut [i64], multiples: &mut [i64]) {
-        if number < self.pivots.len() {
-            let pivot = self.pivots[number];
-            let value = at(numbers, pivot.condition as usize);
-            if is_noise(value) {
-                set_at(multiples, pivot.place as usize, 0);
-            } else {
-                let value = quotient(value, pivot.value);
-                set_at(multiples, pivot.place as usize, value);
-                self.upper.take_from(number, numbers, value);
-            }
-        }
+    /// Solves for the prices at which each place's column costs this: one a pivot, that of its condition. The
+    /// costs are used up; the prices have to be 0 before.
+    pub fn price(&self, costs: &mut Sparse, prices: &mut Sparse) {
+        self.price_exchanges(costs);
+        self.hand_over(costs, prices);
+        self.price_upper(prices);
+        self.price_lower(prices);
     }
 
-    /// Solves for the prices of the conditions at which each place's column costs this. The costs are used
-    /// up.
-    pub fn price(&self, costs: &mut [i64], prices: &mut [i64]) {
+    /// Only exchanges that one of the costs changes count.
+    fn price_exchanges(&self, costs: &mut Sparse) {
+        let mut open = self.exchanges_of(costs);
         for number in (0..self.exchanges.len()).rev() {
-            if number < self.exchanges.len() {
+            if number < self.exchanges.len() && open >> (number % 64) & 1 == 1 {
                 let exchange = self.exchanges[number];
                 let place = exchange.place as usize;
-                let rest = self.columns.less(number, at(costs, place), costs);
-                set_at(costs, place, quotient(rest, exchange.value));
+                let rest = costs.less_products(costs.at(place), self.columns.part(number));
+                costs.set(place, quotient(rest, exchange.value));
+                open |= item(&self.exchange_marks, place, 0);
             }
-        }
-        for pivot in &self.pivots {
-            let condition = pivot.condition as usize;
-            let price = quotient(at(costs, pivot.place as usize), pivot.value);
-            set_at(prices, condition, price);
-            if price != 0 {
-                self.upper_rows.take_from(condition, costs, price);
-            }
-        }
-        for number in self.lower_pivots.iter().rev() {
-            let condition = self.condition(*number as usize);
-            let rest = self
-                .lower
-                .less(*number as usize, at(prices, condition), prices);
-            set_at(prices, condition, rest);
         }
     }
 
-    fn condition(&self, number: usize) -> usize {
-        if number < self.pivots.len() {
-            self.pivots[number].condition as usize
-        } else {
-            usize::MAX
+    /// The marks of the exchanges that these costs change.
+    fn exchanges_of(&self, costs: &Sparse) -> u64 {
+        let mut marks = 0;
+        let mut from = 0;
+        for _ in 0..costs.len() {
+            let Some(place) = costs.next(from) else {
+                return marks;
+            };
+            marks |= item(&self.exchange_marks, place, 0);
+            from = place.wrapping_add(1);
+        }
+        marks
+    }
+
+    /// Takes the cost of each place to its pivot.
+    fn hand_over(&self, costs: &mut Sparse, prices: &mut Sparse) {
+        let mut from = 0;
+        for _ in 0..costs.len() {
+            let Some(place) = costs.next(from) else {
+                return;
+            };
+            let number = item(&self.place_numbers, place, u32::MAX) as usize;
+            prices.set(number, costs.take(place));
+            from = place;
         }
     }
+
+    fn price_upper(&self, prices: &mut Sparse) {
+        let mut from = 0;
+        for _ in 0..self.pivots.len() {
+            match prices.next(from) {
+                Some(number) if number < self.pivots.len() => {
+                    let price = quotient(prices.at(number), self.pivots[number].value);
+                    prices.set(number, price);
+                    prices.take_products(self.upper_rows.part(number), price);
+                    from = number.wrapping_add(1);
+                }
+                _ => return,
+            }
+        }
+    }
+
+    fn price_lower(&self, prices: &mut Sparse) {
+        let mut end = self.pivots.len();
+        for _ in 0..self.pivots.len() {
+            let Some(number) = prices.last_before(end) else {
+                return;
+            };
+            let price = prices.at(number);
+            prices.take_products(self.lower_rows.part(number), price);
+            end = number;
+        }
+    }
+}
+
+/// Writes a list over another.
+fn write_over<T: Copy>(items: &mut Vec<T>, others: &[T]) -> Result<(), OutOfMemory> {
+    items.clear();
+    items.extend_from_slice(others)?;
+    Ok(())
 }

@@ -3,7 +3,7 @@ use crate::relaxation::pool::{Candidate, offer};
 use crate::relaxation::{MOST_COST, Relaxation};
 use pool_base::OutOfMemory;
 use row_tables::RowTable;
-use row_tables::fixed_point::{ONE, at, copy, item, set_at, times};
+use row_tables::fixed_point::{at, copy, item, set_at};
 use row_tables::lists::short;
 
 /// How many candidates a look at the columns keeps, and for how many turns they are used.
@@ -78,14 +78,14 @@ impl Relaxation {
             let cost = self.cost_of(table, self.basis.column(place));
             set_at(&mut self.costs, place, cost);
         }
-        self.basis.find_prices(&mut self.costs, &mut self.prices);
+        self.basis.find_prices(&self.costs, &mut self.prices);
     }
 
     /// Computes the prices from the basis. Whether they were nearly right.
     fn settle(&mut self, table: &RowTable) -> bool {
-        copy(&self.prices, &mut self.changes);
+        copy(&self.prices, &mut self.old_prices);
         self.reprice(table);
-        for (price, other) in self.prices.iter().zip(&self.changes) {
+        for (price, other) in self.prices.iter().zip(&self.old_prices) {
             if price.wrapping_sub(*other).unsigned_abs() > MOST_DRIFT {
                 return false;
             }
@@ -220,17 +220,18 @@ impl Relaxation {
     /// Takes a column in.
     fn enter(&mut self, table: &RowTable, candidate: Candidate) -> Result<Entry, OutOfMemory> {
         let column = candidate.column as usize;
-        self.basis.find_column(table, column, &mut self.entering);
+        self.basis.find_column(table, column);
         self.pivots = self.pivots.saturating_add(1);
-        let is_good = match self.basis.leaving_place(&self.entering) {
+        let is_good = match self.basis.leaving_place() {
             None => {
                 self.candidates.clear();
                 self.basis.factor(table)?;
                 false
             }
             Some((place, level)) => {
-                if self.basis.exchange(place, column, level, &self.entering)? {
-                    self.change_prices(place, candidate.cost);
+                if self.basis.exchange(place, column, level)? {
+                    self.basis
+                        .change_prices(place, candidate.cost, &mut self.prices);
                     return Ok(Entry::Repriced);
                 }
                 self.basis.factor(table)?
@@ -241,19 +242,6 @@ impl Relaxation {
             Ok(Entry::Factored)
         } else {
             Ok(Entry::Failed)
-        }
-    }
-
-    /// Changes the prices so that the column that came in at this place, which cost this less the old ones,
-    /// costs as much as the new ones.
-    fn change_prices(&mut self, place: usize, cost: i64) {
-        self.costs.as_mut_slice().fill(0);
-        set_at(&mut self.costs, place, ONE);
-        self.basis.find_prices(&mut self.costs, &mut self.changes);
-        for (price, change) in self.prices.iter_mut().zip(&self.changes) {
-            if *change != 0 {
-                *price = (*price).wrapping_add(times(*change, cost));
-            }
         }
     }
 }

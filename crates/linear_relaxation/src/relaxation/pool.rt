@@ -75,10 +75,11 @@ impl Pool {
 
     /// The place at the cursor, which moves on, from the last place to the first.
     pub fn next(&mut self) -> usize {
-        if self.cursor >= self.rows.len() {
-            self.cursor = 0;
-        }
-        let place = self.cursor;
+        let place = if self.cursor < self.rows.len() {
+            self.cursor
+        } else {
+            0
+        };
         self.cursor = place.saturating_add(1);
         place
     }
