@@ -6,6 +6,7 @@
 use crate::bans::{Bans, has_choice};
 use linear_relaxation::{Relaxation, Saved};
 use pool_base::OutOfMemory;
+use row_tables::fixed_point::item;
 use row_tables::{RowTable, Share};
 use std::alloc::Global;
 
@@ -18,9 +19,6 @@ const MOST_PART: i64 = ONE / 100 * 99;
 
 /// What each rider of a row counts toward being tried.
 const A_RIDER: i64 = ONE / 100 * 3;
-
-/// More rows than a graph has.
-const ROWS: u64 = 1 << 21;
 
 /// How much a node is tried for.
 #[derive(Clone, Copy, Debug)]
@@ -37,7 +35,8 @@ pub struct Effort {
 #[derive(Drop)]
 pub struct Branching {
     saved: Saved,
-    ranks: Vec<u64>,
+    /// The rows that may be tried, behind how far they lie from one half.
+    ranks: Vec<(i64, u32)>,
 }
 
 impl Branching {
@@ -97,11 +96,7 @@ impl Branching {
                 let above = ONE
                     .wrapping_add(distance)
                     .wrapping_sub(A_RIDER.wrapping_mul(riders));
-                let rank = above.max(0).unsigned_abs().min(1 << 34);
-                self.ranks.push(
-                    rank.wrapping_mul(ROWS)
-                        .wrapping_add(u64::from(share.row) % ROWS),
-                )?;
+                self.ranks.push((above, share.row))?;
             }
         }
         self.ranks.sort()?;
@@ -109,8 +104,7 @@ impl Branching {
     }
 
     fn row(&self, place: usize) -> usize {
-        let rank = self.ranks.get(place).copied().unwrap_or(0);
-        (rank % ROWS) as usize
+        item(&self.ranks, place, (0, 0)).1 as usize
     }
 
     /// How much the cost rises with the row taken or forbidden.

@@ -1,11 +1,12 @@
 //! A plan from the relaxation: rows that it chooses nearly whole are taken, and it is solved again.
 use crate::bans::{Bans, has_choice};
-use crate::ranks::{place_of, rank_of};
+use crate::ranks::Rank;
 use crate::whole::whole_plan;
 use linear_relaxation::Relaxation;
 use pool_base::OutOfMemory;
 use row_tables::{Draws, RowTable, Share};
 use std::alloc::Global;
+use std::cmp::Reverse;
 
 /// From this share on, in units of 2^-32, a row is chosen whole.
 const WHOLE: i64 = (1 << 32) / 100 * 99;
@@ -47,7 +48,7 @@ fn descend(
     is_drawn: bool,
 ) -> Result<Option<Vec<Option<u32>>>, OutOfMemory> {
     let mut shares: Vec<Share> = Vec::new(alloc);
-    let mut ranks: Vec<u64> = Vec::new(alloc);
+    let mut ranks: Vec<Rank> = Vec::new(alloc);
     for _ in 0..table.vehicle_count().saturating_mul(2) {
         relaxation.solve(table, i64::MAX, MOST_ROWS, MOST_PASSES)?;
         relaxation.find_shares(table, &mut shares)?;
@@ -69,7 +70,7 @@ fn rank_open(
     table: &RowTable,
     relaxation: &Relaxation,
     shares: &[Share],
-    ranks: &mut Vec<u64>,
+    ranks: &mut Vec<Rank>,
 ) -> Result<bool, OutOfMemory> {
     ranks.clear();
     for place in 0..shares.len() {
@@ -79,7 +80,7 @@ fn rank_open(
             return Ok(false);
         }
         if has_choice(table, relaxation, row) {
-            ranks.push(rank_of(share.part, place))?;
+            ranks.push((Reverse(share.part), place))?;
         }
     }
     ranks.sort()?;
@@ -101,13 +102,13 @@ fn take_first(
     relaxation: &mut Relaxation,
     bans: &mut Bans,
     shares: &[Share],
-    ranks: &[u64],
+    ranks: &[Rank],
     skips: bool,
 ) -> Result<(), OutOfMemory> {
     let mut skips = skips;
     let mut count: u32 = 0;
     for rank in ranks {
-        let Some(share) = shares.get(place_of(*rank)).copied() else {
+        let Some(share) = shares.get(rank.1).copied() else {
             return Ok(());
         };
         let is_sure = share.part > WHOLE;

@@ -1,5 +1,6 @@
 //! The plan of a solution that chooses rows whole, and what plans cost.
 use pool_base::OutOfMemory;
+use row_tables::fixed_point::{item, set_at};
 use row_tables::{RowTable, Share};
 use std::alloc::Global;
 
@@ -52,10 +53,10 @@ pub fn plan_cost(
 fn serve(riders: &[u32], served: &mut [bool]) -> bool {
     for rider in riders {
         let rider = *rider as usize;
-        if rider >= served.len() || served[rider] {
+        if item(served, rider, true) {
             return false;
         }
-        served[rider] = true;
+        set_at(served, rider, true);
     }
     true
 }
