@@ -20,14 +20,15 @@ fn mark_held_by(parts: &Parts, starts: &[u32], vehicle: usize, marks: &mut [bool
     ensures variant { IsTrue result ↔ HoldsRightly (graph_of parts.now) vehicle }
     ensures marked { IsTrue result → MarksHeld (graph_of parts.now) (vehicle + 1) marks.new }
 {
+    let first = starts[vehicle];
+    let end = starts[vehicle + 1];
     match parts.held[vehicle] {
-        None => starts[vehicle] == starts[vehicle + 1],
+        None => first == end,
         Some(row) => {
-            let row = row as usize;
-            if row >= parts.rows.len() || parts.rows[row].vehicle != vehicle {
+            if row < first || end <= row {
                 return false;
             }
-            let riders = parts.rows[row].riders.as_slice();
+            let riders = parts.rows[row as usize].riders.as_slice();
             if is_any_marked(riders, marks) {
                 return false;
             }

@@ -1,11 +1,11 @@
-use Rattle.std.proofs.Common.{◌≡◌, ◌==◌, ◌||◌, ℕ, ◌<◌, false, true, List, length, Option, Some, None, get_or, refl, sym, ap, ◌∙◌, arith}
+use Rattle.std.proofs.Common.{◌≡◌, ◌==◌, ◌||◌, ℕ, ◌+◌, ◌<◌, false, true, List, length, Option, Some, None, get_or, slice_index, refl, sym, ap, ◌∙◌, arith}
 use Rattle.std.specs.List.{list_any}
 use Rattle.std.proofs.lemmas.Bool.{false≢true}
 use Rattle.std.proofs.lemmas.List.{get_or_read}
-use Rattle.plan_rules.specs.Graph.{row_at, riders_at, choice_at, row_vehicle, is_in}
+use Rattle.plan_rules.specs.Graph.{row_at, riders_at, choice_at, is_in}
 use Rattle.plan_rules.specs.Parts.{graph_of}
 use Rattle.plan_rules.specs.declared.row.TripRow.{TripRow}
-use Rattle.plan_rules.proofs.lemmas.GraphLemmas.{row_read}
+use Rattle.plan_rules.proofs.lemmas.GraphLemmas.{row_between, row_read}
 use Rattle.plan_rules.proofs.lemmas.HeldLemmas.{marks_more, marks_kept, unmarked_apart, marked_held, holds_at, held_at}
 use Rattle.plan_rules.proofs.held.mark_held_by.Goals as goal
 
@@ -15,7 +15,8 @@ returns-then-is_any_marked-clause-variant c =
     let v = c.args.vehicle in
     let k = c.in-Some.row in
     let choice : choice_at g.held v ≡ Some k = sym (get_or_read g.held v c.index.result.now c.requires.held c.index.ensures None) ∙ c.in-Some.is in
-    let within : k < length g.rows = omega arith in
+    let own = row_between g v k (slice_index c.args.starts.now v) (slice_index c.args.starts.now (v + 1)) (c.requires.starts.starts v (omega (arith, c.requires.vehicle))) (c.requires.starts.starts (v + 1) (omega (arith, c.requires.vehicle))) c.if-row-first.false c.if-end-row.false in
+    let within : k < length g.rows = own.within in
     let read : c.index-in-Some.result.now ≡ row_at g k = row_read g g.rows k c.index-in-Some.result.now refl within c.index-in-Some.ensures in
     let riders : c.as_slice-riders.result.now ≡ riders_at g k = c.as_slice-riders.ensures.value ∙ ap (λ (r : TripRow). r.riders.items) read in
     let some : list_any (λ q. get_or c.args.marks.now q false) (riders_at g k) ≡ true = ap (list_any (λ q. get_or c.args.marks.now q false)) (sym riders) ∙ sym c.is_any_marked.ensures ∙ c.if-is_any_marked.true in (
@@ -35,13 +36,12 @@ returns-else-is_any_marked-clause-variant c =
     let v = c.args.vehicle in
     let k = c.in-Some.row in
     let choice : choice_at g.held v ≡ Some k = sym (get_or_read g.held v c.index.result.now c.requires.held c.index.ensures None) ∙ c.in-Some.is in
-    let within : k < length g.rows = omega arith in
+    let own = row_between g v k (slice_index c.args.starts.now v) (slice_index c.args.starts.now (v + 1)) (c.requires.starts.starts v (omega (arith, c.requires.vehicle))) (c.requires.starts.starts (v + 1) (omega (arith, c.requires.vehicle))) c.if-row-first.false c.if-end-row.false in
+    let within : k < length g.rows = own.within in
     let read : c.index-in-Some.result.now ≡ row_at g k = row_read g g.rows k c.index-in-Some.result.now refl within c.index-in-Some.ensures in
-    let first : c.index-else-row-len.result.now ≡ row_at g k = row_read g g.rows k c.index-else-row-len.result.now refl within c.index-else-row-len.ensures in
-    let own : row_vehicle g k ≡ v = ap (λ (r : TripRow). r.vehicle) (sym first) ∙ c.if-index-vehicle.false in
     let riders : c.as_slice-riders.result.now ≡ riders_at g k = c.as_slice-riders.ensures.value ∙ ap (λ (r : TripRow). r.riders.items) read in
     let none : list_any (λ q. get_or c.args.marks.now q false) (riders_at g k) ≡ false = ap (list_any (λ q. get_or c.args.marks.now q false)) (sym riders) ∙ sym c.is_any_marked.ensures ∙ c.if-is_any_marked.false in (
-      λ _. holds_at g v (Some k) choice (record { within = within; own = own }, unmarked_apart g v k c.args.marks.now c.requires.marked (c.requires.rows k within) none),
+      λ _. holds_at g v (Some k) choice (own, unmarked_apart g v k c.args.marks.now c.requires.marked (c.requires.rows k within) none),
       λ _. refl,
     )
 
@@ -51,7 +51,8 @@ returns-else-is_any_marked-clause-marked c = λ _.
     let v = c.args.vehicle in
     let k = c.in-Some.row in
     let choice : choice_at g.held v ≡ Some k = sym (get_or_read g.held v c.index.result.now c.requires.held c.index.ensures None) ∙ c.in-Some.is in
-    let within : k < length g.rows = omega arith in
+    let own = row_between g v k (slice_index c.args.starts.now v) (slice_index c.args.starts.now (v + 1)) (c.requires.starts.starts v (omega (arith, c.requires.vehicle))) (c.requires.starts.starts (v + 1) (omega (arith, c.requires.vehicle))) c.if-row-first.false c.if-end-row.false in
+    let within : k < length g.rows = own.within in
     let read : c.index-in-Some.result.now ≡ row_at g k = row_read g g.rows k c.index-in-Some.result.now refl within c.index-in-Some.ensures in
     let riders : c.as_slice-riders.result.now ≡ riders_at g k = c.as_slice-riders.ensures.value ∙ ap (λ (r : TripRow). r.riders.items) read in
     marks_more g v c.args.marks.now c.mark_riders.new.marks c.requires.marked c.mark_riders.ensures.len
