@@ -1,5 +1,5 @@
-use Rattle.std.specs.Prelude.{◌≡◌, ◌≢◌, ℕ, ◌+◌, ◌-◌, ◌*◌, ◌%◌, ◌<◌, Bool, false, true, IsTrue, List, length, slice_index_or, Option, Some, Contains, All}
-use Rattle.std.specs.List.Sorted.{IsNonDecreasing}
+use Rattle.std.specs.Prelude.{◌≡◌, ◌≢◌, ℕ, ◌+◌, ◌-◌, ◌*◌, ◌<◌, Bool, false, true, IsTrue, List, length, slice_index_or, Option, Some, Contains, All}
+use Rattle.std.specs.List.Sorted.{IsNonDecreasingBy}
 use Rattle.plan_rules.specs.Graph.{Graph, riders_at, cost_at, has_rider, choice_at, IsRowOf}
 use Rattle.plan_rules.specs.Greedy.{IsTaken, IsApart}
 
@@ -11,16 +11,24 @@ rank_value size cost k = ((6 - size) * 1000000001 + cost) * 2000000 + k
 abbrev pub rank_of : Graph → ℕ → ℕ
 rank_of g k = rank_value (length (riders_at g k)) (cost_at g k) k
 
--- the number is the rank of a row
-pub record IsRankOfRow (g : Graph) (x : ℕ) : Type 0 where
-  pub within : x % 2000000 < length g.rows
-  pub ranked : rank_of g (x % 2000000) ≡ x
+-- what a row is sorted by: how many riders are missing to six, the cost, the number
+abbrev pub parts_of : Graph → ℕ → ℕ × ℕ × ℕ
+parts_of g k = (6 - length (riders_at g k), cost_at g k, k)
 
--- the ranks of all rows, in order
-pub record IsRanking (g : Graph) (numbers : List ℕ) : Type 0 where
-  pub ranks : All (IsRankOfRow g) numbers
-  pub all : (k : ℕ) → k < length g.rows → Contains numbers (rank_of g k)
-  pub sorted : IsNonDecreasing numbers
+-- the k-th is what row k is sorted by
+pub record AreRanks (g : Graph) (ranks : List (ℕ × ℕ × ℕ)) : Type 0 where
+  pub each : length ranks ≡ length g.rows
+  pub parts : (k : ℕ) → k < length g.rows → (d : ℕ × ℕ × ℕ) → slice_index_or ranks k d ≡ parts_of g k
+
+-- the row of the i-th rank
+abbrev pub row_of : List (ℕ × ℕ × ℕ) → ℕ → ℕ
+row_of ranks i = (slice_index_or ranks i (0, 0, 0)).2
+
+-- all rows, by what they are sorted by, in the order of their ranks
+pub record IsRanking (g : Graph) (ranks : List (ℕ × ℕ × ℕ)) : Type 0 where
+  pub within : All (λ rank. rank.2 < length g.rows) ranks
+  pub all : (k : ℕ) → k < length g.rows → Contains ranks (parts_of g k)
+  pub sorted : IsNonDecreasingBy (λ rank. rank_of g rank.2) ranks
 
 -- the rows taken so far are apart, each is its vehicle's choice, and their riders are marked
 pub record IsSelection (g : Graph) (chosen : List (Option ℕ)) (served : List Bool) : Type 0 where

@@ -1,15 +1,17 @@
 //! The greedy plan: row after row, the larger, cheaper and lesser first.
-ghost use Rattle.std.specs.Prelude.{◌≡◌, ◌↔◌, ◌⊎◌, ℕ, ◌<◌, ◌≤◌, IsTrue, IfOk, length, replicate, Contains, All};
+ghost use Rattle.std.specs.Prelude.{◌≡◌, ◌↔◌, ◌⊎◌, ℕ, ◌<◌, IsTrue, IfOk, length, replicate};
 ghost use Rattle.plan_rules.specs.Graph.{IsGoodGraph, choice_at};
 ghost use Rattle.plan_rules.specs.Greedy.{IsGreedy, IsTaken};
-ghost use Rattle.plan_rules.specs.Rank.{rank_value, rank_of, IsRankOfRow, IsRanking, IsSelection, IsInTheWay};
+ghost use Rattle.plan_rules.specs.Rank.{AreRanks, IsRanking, IsSelection, IsInTheWay};
 
 use crate::graph::TripGraph;
 use crate::marks::{is_any_marked, mark_riders};
 use crate::plan::Plan;
-use crate::row::TripRow;
 use pool_base::OutOfMemory;
 use std::alloc::Global;
+
+/// What rows are sorted by: how many riders are missing to six, the cost, the number.
+type Rank = (usize, u64, usize);
 
 /// Rows by falling size, rising cost, rising number: a row is taken where its vehicle has none yet and
 /// it shares no rider with those taken. The plan need not be lawful.
@@ -30,7 +32,7 @@ fn no_choices(alloc: Global, count: usize) -> Result<Vec<Option<u32>>, OutOfMemo
 }
 
 /// Takes rows in the order of their ranks.
-fn take_rows(graph: &TripGraph, ranks: &[u64], chosen: &mut [Option<u32>], served: &mut [bool])
+fn take_rows(graph: &TripGraph, ranks: &[Rank], chosen: &mut [Option<u32>], served: &mut [bool])
     requires good { IsGoodGraph graph.now }
     requires ranking { IsRanking graph.now ranks.now }
     requires selection { IsSelection graph.now chosen.old served.old }
@@ -39,12 +41,12 @@ fn take_rows(graph: &TripGraph, ranks: &[u64], chosen: &mut [Option<u32>], serve
     ensures len { length chosen.new ≡ length chosen.old }
 {
     for rank in ranks {
-        take_row(graph, (*rank % 2_000_000) as usize, chosen, served);
+        take_row(graph, rank.2, chosen, served);
     }
 }
 
 /// The ranks of all rows, in order.
-fn ranking(alloc: Global, graph: &TripGraph) -> Result<Vec<u64>, OutOfMemory>
+fn ranking(alloc: Global, graph: &TripGraph) -> Result<Vec<Rank>, OutOfMemory>
     ensures { IfOk result (λ ranks. IsRanking graph.now ranks.items) }
 {
     let mut ranks = ranks_of(alloc, graph)?;
@@ -52,25 +54,15 @@ fn ranking(alloc: Global, graph: &TripGraph) -> Result<Vec<u64>, OutOfMemory>
     Ok(ranks)
 }
 
-fn ranks_of(alloc: Global, graph: &TripGraph) -> Result<Vec<u64>, OutOfMemory>
-    ensures ranks { IfOk result (λ ranks. All (IsRankOfRow graph.now) ranks.items) }
-    ensures all { IfOk result (λ ranks. (k : ℕ) → k < length graph.now.rows → Contains ranks.items (rank_of graph.now k)) }
+fn ranks_of(alloc: Global, graph: &TripGraph) -> Result<Vec<Rank>, OutOfMemory>
+    ensures ranks { IfOk result (λ ranks. AreRanks graph.now ranks.items) }
+    ensures good { IsGoodGraph graph.now }
 {
     let mut ranks = Vec::new(alloc);
     for (k, row) in graph.rows().iter().enumerate() {
-        ranks.push(rank(row, k))?;
+        ranks.push((6 - row.riders.len(), row.cost, k))?;
     }
     Ok(ranks)
-}
-
-fn rank(row: &TripRow, k: usize) -> u64
-    requires few { length row.now.riders.items ≤ 6 }
-    requires cheap { row.now.cost ≤ 1000000000 }
-    requires small { k < 2000000 }
-    ensures { result ≡ rank_value (length row.now.riders.items) row.now.cost k }
-{
-    let size = row.riders.len() as u64;
-    ((6 - size) * 1_000_000_001 + row.cost) * 2_000_000 + k as u64
 }
 
 /// Takes the row where its vehicle has none yet and none of its riders is marked.

@@ -1,17 +1,15 @@
 -- Greedy plans: ranks, and what taking a row keeps.
-use Rattle.std.proofs.Common.{◌≡◌, ◌⊎◌, ◌||◌, ℕ, ◌%◌, ◌<◌, ◌≤◌, Bool, true, false, List, length, get_or, set, replicate, Option, Some, None, refl, sym, ap, ◌∙◌, subst, inl, inr, ⊎_elim, arith}
+use Rattle.std.proofs.Common.{All, ◌≡◌, ◌⊎◌, ◌||◌, ℕ, ◌+◌, ◌-◌, ◌*◌, ◌<◌, ◌≤◌, Bool, true, false, List, length, get_or, set, replicate, Option, Some, None, refl, sym, ap, ◌∙◌, subst, inl, inr, ⊎_elim, arith}
 use Rattle.std.specs.List.{list_any}
+use Rattle.std.specs.Ordering.{nat_cmp, ordering_then, is_lt}
+use Rattle.std.proofs.lemmas.Bool.Decides.{nat_tests}
 use Rattle.std.proofs.lemmas.Bool.{cases_eq, cases_lt, or_cases, or_left, or_right, both_ways}
 use Rattle.std.proofs.lemmas.List.{get_or-replicate, length-replicate, get_or-set_same, get_or-set_other, get_or_past, length-set}
 use Rattle.plan_rules.specs.Graph.{Graph, riders_at, cost_at, row_vehicle, has_rider, choice_at, IsGoodGraph}
 use Rattle.plan_rules.specs.Greedy.{IsTaken, IsApart, IsTriedBefore, IsGreedy}
-use Rattle.plan_rules.specs.Rank.{rank_value, rank_of, IsRankOfRow, IsSelection, IsInTheWay}
+use Rattle.plan_rules.specs.Rank.{rank_value, rank_of, parts_of, AreRanks, IsSelection, IsInTheWay}
 use Rattle.plan_rules.proofs.lemmas.GraphLemmas.{rider_below}
 use Rattle.plan_rules.proofs.lemmas.MarkLemmas.{any_marked, marked_one}
-
-pub rank_value-mod : (size cost k : ℕ) → k < 2000000 → rank_value size cost k % 2000000 ≡ k
-unfolding rank_value
-rank_value-mod size cost k l = omega (arith, l)
 
 -- a rank that is no greater, of another row, is that of a row that is tried before
 rank_order : (a b x y j k : ℕ) → a ≤ 6 → b ≤ 6 → x ≤ 1000000000 → y ≤ 1000000000 → j < 2000000 → k < 2000000 → (j ≡ k → ⊥) → rank_value a x j ≤ rank_value b y k
@@ -45,11 +43,38 @@ rank_before g j k good lj lk ne low =
     (good.rows j lj).few (good.rows k lk).few (good.rows j lj).cheap (good.rows k lk).cheap
     (omega (arith, few, lj)) (omega (arith, few, lk)) ne low
 
-pub row_ranked : (g : Graph) (k : ℕ) → IsGoodGraph g → k < length g.rows → IsRankOfRow g (rank_of g k)
-row_ranked g k good l =
+-- of two triples in order the first isn't the greater
+not_above : (a x j b y k : ℕ) → is_lt (ordering_then (ordering_then (nat_cmp b a) (nat_cmp y x)) (nat_cmp k j)) ≡ false → (a < b) ⊎ ((a ≡ b) × ((x < y) ⊎ ((x ≡ y) × (j ≤ k))))
+not_above a x j b y k e = grind (arith, nat_tests)
+
+-- the triple is what a row is sorted by
+abbrev pub IsOfRow : Graph → ℕ × ℕ × ℕ → Type 0
+IsOfRow g rank = (rank.2 < length g.rows) × (rank ≡ parts_of g rank.2)
+
+-- what rows are sorted by stands in the order of their ranks
+pub in_order : (g : Graph) (s t : ℕ × ℕ × ℕ) → IsGoodGraph g → IsOfRow g s → IsOfRow g t → is_lt (ordering_then (ordering_then (nat_cmp t.0 s.0) (nat_cmp t.1 s.1)) (nat_cmp t.2 s.2)) ≡ false → rank_of g s.2 ≤ rank_of g t.2
+unfolding rank_value
+in_order g s t good first second e =
     let few = good.limits.rows in
-    let number : rank_of g k % 2000000 ≡ k = rank_value-mod (length (riders_at g k)) (cost_at g k) k (omega (arith, few, l)) in
-    record { within = omega arith; ranked = ap (rank_of g) number }
+    let cheap : cost_at g s.2 ≤ 1000000000 = (good.rows s.2 first.0).cheap in
+    let a : s.0 ≡ 6 - length (riders_at g s.2) = ap (λ (p : ℕ × ℕ × ℕ). p.0) first.1 in
+    let x : s.1 ≡ cost_at g s.2 = ap (λ (p : ℕ × ℕ × ℕ). p.1) first.1 in
+    let b : t.0 ≡ 6 - length (riders_at g t.2) = ap (λ (p : ℕ × ℕ × ℕ). p.0) second.1 in
+    let y : t.1 ≡ cost_at g t.2 = ap (λ (p : ℕ × ℕ × ℕ). p.1) second.1 in
+    let low : (s.0 * 1000000001 + s.1) * 2000000 + s.2 ≤ (t.0 * 1000000001 + t.1) * 2000000 + t.2 =
+    ordered s.0 s.1 s.2 t.0 t.1 t.2 (omega arith) (omega (arith, first.0)) (not_above s.0 s.1 s.2 t.0 t.1 t.2 e) in
+    omega arith
+  where
+    ordered : (a x j b y k : ℕ) → x ≤ 1000000000 → j < 2000000 → ((a < b) ⊎ ((a ≡ b) × ((x < y) ⊎ ((x ≡ y) × (j ≤ k))))) → (a * 1000000001 + x) * 2000000 + j ≤ (b * 1000000001 + y) * 2000000 + k
+    ordered a x j b y k lx lj (inl larger) = omega (arith, larger)
+    ordered a x j b y k lx lj (inr (same, inl dearer)) = omega (arith, same, dearer)
+    ordered a x j b y k lx lj (inr (same, inr (alike, later))) = omega (arith, same, alike, later)
+
+pub of_rows : (g : Graph) (ranks : List (ℕ × ℕ × ℕ)) → AreRanks g ranks → All (IsOfRow g) ranks
+of_rows g ranks are k d l =
+    let within : k < length g.rows = omega (arith, l, are.each) in
+    let is : get_or ranks k d ≡ parts_of g k = are.parts k within d in
+    subst (IsOfRow g) (sym is) (within, refl)
 
 same_some : (j k : ℕ) → Some j ≡ Some k → j ≡ k
 same_some j k e = cc
