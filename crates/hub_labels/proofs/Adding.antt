@@ -1,8 +1,6 @@
 -- The searches of one node, put together.
-use Rattle.std.proofs.Common.{◌≡◌, ◌≢◌, ℕ, ◌+◌, ◌<◌, ◌≤◌, ◌⊎◌, List, [], length, get_or, slice_index, All, Contains, refl, sym, ap, ◌∙◌, subst, inl, inr, ⊎_elim, arith}
-use Rattle.std.proofs.lemmas.Bool.{cases_eq, cases_lt}
+use Rattle.std.proofs.Common.{◌≡◌, ◌≢◌, ℕ, ◌<◌, ◌≤◌, ◌⊎◌, List, [], length, get_or, slice_index, All, Contains, sym, ap, ◌∙◌, subst, inl, inr, ⊎_elim, arith}
 use Rattle.std.proofs.lemmas.List.{get_or_default}
-use Rattle.std.proofs.lemmas.List.Elements.{Contains-get_or}
 use Rattle.pool_base.specs.TravelTime.{never, longest}
 use Rattle.road_network.specs.declared.arc.Arc.{Arc}
 use Rattle.road_network.specs.declared.hop.Hop.{Hop}
@@ -13,7 +11,7 @@ use Rattle.hub_labels.specs.work.Hops.{AreNodeHops}
 use Rattle.hub_labels.specs.work.Ranked.{IsLabelBelow, AreLabelsBelow, IsRankedHub}
 use Rattle.hub_labels.specs.work.Pruned.{IsPruned}
 use Rattle.hub_labels.specs.work.Drafts.{IsSpread, HasSpread, IsAmongHubs, GainsHub, HandsOver}
-use Rattle.hub_labels.specs.work.Adding.{AreHopsBothWays, AddsHub}
+use Rattle.hub_labels.specs.work.Adding.{AddsHub}
 use Rattle.hub_labels.proofs.Times.{times_of, start_within}
 use Rattle.hub_labels.proofs.Turned.{own_label}
 use Rattle.hub_labels.proofs.Added.{hubs_added}

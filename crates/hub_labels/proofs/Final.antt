@@ -1,5 +1,5 @@
 -- When every node had its searches, the labels are those of the network.
-use Rattle.std.proofs.Common.{◌≡◌, ◌≢◌, ℕ, ◌+◌, ◌<◌, ◌≤◌, ◌⊎◌, ◌↔◌, true, List, [], length, get_or, slice_index, map, All, Contains, refl, sym, ap, ◌∙◌, subst, inl, inr, ⊎_elim, arith}
+use Rattle.std.proofs.Common.{◌≡◌, ℕ, ◌+◌, ◌<◌, ◌≤◌, true, List, [], length, get_or, slice_index, map, All, subst, arith}
 use Rattle.std.proofs.lemmas.List.{get_or_default}
 use Rattle.pool_base.specs.TravelTime.{longest}
 use Rattle.road_network.specs.declared.arc.Arc.{Arc}
@@ -8,11 +8,11 @@ use Rattle.road_network.specs.Roads.{Roads, IsNetwork, IsArcAmong}
 use Rattle.travel_times.proofs.lemmas.WalkLemmas.{goal_within}
 use Rattle.hub_labels.specs.declared.hub.Hub.{Hub}
 use Rattle.hub_labels.specs.Label.{IsForwardHub, IsBackwardHub, IsLabel}
-use Rattle.hub_labels.specs.Labels.{NodeLabels, AreLabelsOf}
+use Rattle.hub_labels.specs.Labels.{AreLabelsOf}
 use Rattle.hub_labels.specs.work.Hops.{turned}
 use Rattle.hub_labels.specs.work.Ranked.{IsRanking, IsRankedHub, IsLabelBelow, AreLabelsBelow}
 use Rattle.hub_labels.specs.work.Common.{IsRising}
-use Rattle.hub_labels.proofs.Times.{AreTimes, times_of, start_within, time_is}
+use Rattle.hub_labels.proofs.Times.{times_of, start_within, time_is}
 use Rattle.hub_labels.proofs.Turned.{turn_there, turn_back, IsLeastTime-turned, among_directed}
 
 -- a list of hubs by numbers that rank them is one by rank

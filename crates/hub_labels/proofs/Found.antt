@@ -1,21 +1,20 @@
 -- A pruned search from a node finds exactly the nodes that the node is a hub of.
-use Rattle.std.proofs.Common.{◌≡◌, ◌≢◌, ℕ, zero, suc, ◌+◌, ◌<◌, ◌≤◌, ◌⊎◌, List, [], ◌∷◌, ◌++◌, length, get_or, slice_index, sum_by, All, Contains, refl, sym, ap, ◌∙◌, subst, inl, inr, ⊎_elim, arith}
-use Rattle.std.proofs.lemmas.Bool.{cases_eq, cases_lt}
-use Rattle.std.proofs.lemmas.List.{get_or_default, get_or_append_left, get_or_push, length_push}
-use Rattle.std.proofs.lemmas.List.Elements.{All-contains, All-push, All-weaker, Contains-append_left, Contains-push}
+use Rattle.std.proofs.Common.{◌≡◌, ℕ, suc, ◌+◌, ◌<◌, ◌≤◌, ◌⊎◌, List, [], ◌∷◌, get_or, slice_index, All, Contains, sym, ◌∙◌, subst, inl, inr, ⊎_elim, arith}
+use Rattle.std.proofs.lemmas.List.{get_or_default}
+use Rattle.std.proofs.lemmas.List.Elements.{All-contains}
 use Rattle.std.proofs.lemmas.List.Sums.{sum_by-cons}
 use Rattle.pool_base.specs.TravelTime.{never, longest}
 use Rattle.road_network.specs.declared.arc.Arc.{Arc}
-use Rattle.road_network.specs.Walk.{IsWalk, walk_seconds, IsLeastTime}
+use Rattle.road_network.specs.Walk.{IsWalk, walk_seconds}
 use Rattle.road_network.specs.Roads.{IsArcAmong}
 use Rattle.travel_times.specs.work.Search.{HasWalkOf}
 use Rattle.travel_times.proofs.lemmas.WalkLemmas.{goal_within}
 use Rattle.hub_labels.specs.declared.hub.Hub.{Hub}
-use Rattle.hub_labels.specs.work.Ranked.{IsRankedHub, IsLabelBelow, AreLabelsBelow}
-use Rattle.hub_labels.specs.work.Pruned.{IsTold, IsToldAt, IsPruned}
-use Rattle.hub_labels.specs.work.Drafts.{IsSpread, GainsHub}
-use Rattle.hub_labels.proofs.Times.{AreTimes, IsMetric, metric_of, start_within, time_is, time_least, least_is}
-use Rattle.hub_labels.proofs.Cover.{IsClear, IsCover, cover}
+use Rattle.hub_labels.specs.work.Ranked.{IsRankedHub, AreLabelsBelow}
+use Rattle.hub_labels.specs.work.Pruned.{IsToldAt, IsPruned}
+use Rattle.hub_labels.specs.work.Drafts.{IsSpread}
+use Rattle.hub_labels.proofs.Times.{AreTimes, metric_of, start_within, time_is, time_least, least_is}
+use Rattle.hub_labels.proofs.Cover.{IsClear, cover}
 
 -- the label that the start has of its own: hubs that it reaches, with the seconds to them
 pub record IsOwnLabel (n : ℕ) (time : ℕ → ℕ → ℕ) (rank : List ℕ) (h : ℕ) (own : List Hub) : Type 0 where

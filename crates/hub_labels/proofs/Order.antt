@@ -1,16 +1,16 @@
 -- Nodes in the order of their keys.
-use Rattle.std.proofs.Common.{◌≡◌, ◌≢◌, ℕ, suc, ◌+◌, ◌-◌, ◌*◌, ◌%◌, ◌<◌, ◌≤◌, ◌⊎◌, ◌↔◌, Bool, true, false, eqb, List, [], ◌∷◌, length, get_or, slice_index, map, All, Contains, refl, sym, ap, ◌∙◌, inl, inr, ⊎_elim, arith}
+use Rattle.std.proofs.Common.{◌≡◌, ◌≢◌, ℕ, ◌+◌, ◌-◌, ◌*◌, ◌%◌, ◌<◌, ◌≤◌, ◌⊎◌, false, eqb, List, length, get_or, slice_index, map, All, sym, ap, ◌∙◌, subst, inl, inr, ⊎_elim, arith}
 use Rattle.std.specs.List.{IsDistinct}
-use Rattle.std.specs.List.Sorted.{IsPermutation, IsNonDecreasing, IsStrictlyIncreasing, IsSorted}
-use Rattle.std.specs.Ordering.{nat_cmp}
+use Rattle.std.specs.List.Sorted.{IsPermutation, IsStrictlyIncreasing, IsSorted}
+use Rattle.std.specs.Ordering.{nat_cmp, ordering_then, is_lt}
 use Rattle.std.proofs.lemmas.Bool.{cases_eq, cases_lt, ne_eqb}
 use Rattle.std.proofs.lemmas.Bool.Decides.{nat_tests}
-use Rattle.std.proofs.lemmas.List.{length-map, get_or-map, get_or_default}
+use Rattle.std.proofs.lemmas.List.{length-map, get_or-map, get_or_default, ext_get_or}
 use Rattle.std.proofs.lemmas.List.Elements.{Contains-get_or}
-use Rattle.std.proofs.lemmas.List.Sorted.{IsNonDecreasingBy-from_sort, IsPermutation-sym, Contains-permutation, length_permutation}
+use Rattle.std.proofs.lemmas.List.Sorted.{IsNonDecreasingBy-from_sort, IsPermutation-sym, IsPermutation-map, All-permutation, Contains-permutation, length_permutation}
 use Rattle.std.proofs.lemmas.Map.Keys.{IsDistinct-from_apart, IsDistinct-IsPermutation, IsStrictlyIncreasing-from_distinct, sorted_from_strictly_increasing, below_from_sorted}
 use Rattle.road_network.specs.declared.arc.Arc.{Arc}
-use Rattle.hub_labels.specs.Rank.{degree, IsOfLowerRank}
+use Rattle.hub_labels.specs.Rank.{degree}
 use Rattle.hub_labels.specs.work.Order.{key_of, IsNodeOrder}
 use Rattle.hub_labels.specs.work.Ranked.{IsRanking}
 use Rattle.hub_labels.proofs.Keys.{key_lower}
@@ -60,6 +60,59 @@ node_order arcs n keys sorted few each are moved rise =
           let key : slice_index sorted has.0 ≡ key_of arcs node = get_or_default sorted has.0 0 (get_or keys node 0) has.1 ∙ has.2 ∙ are node h in
           (r, omega (arith, inside, long), get_or-map (λ (key : ℕ). key % 100000) sorted has.0 0 0 inside ∙ ap (λ (k : ℕ). k % 100000) key ∙ node_of_key arcs node (omega arith));
     }
+
+-- ---- pairs of what is missing to the most arcs, and the node
+
+-- the key of a pair
+abbrev number : ℕ × ℕ → ℕ
+number key = key.0 * 100000 + key.1
+
+ordered : (a i b j : ℕ) → i < 100000 → is_lt (ordering_then (nat_cmp b a) (nat_cmp j i)) ≡ false → a * 100000 + i ≤ b * 100000 + j
+ordered a i b j within e = by_cases (not_above a i b j e)
+  where
+    not_above : (a i b j : ℕ) → is_lt (ordering_then (nat_cmp b a) (nat_cmp j i)) ≡ false → (a < b) ⊎ ((a ≡ b) × (i ≤ j))
+    not_above a i b j e = grind (arith, nat_tests)
+
+    by_cases : (a < b) ⊎ ((a ≡ b) × (i ≤ j)) → a * 100000 + i ≤ b * 100000 + j
+    by_cases (inl more) = omega (arith, more, within)
+    by_cases (inr same) = omega (arith, same.0, same.1)
+
+not_less : (x y : ℕ) → x ≤ y → is_lt (nat_cmp y x) ≡ false
+not_less x y le = grind (arith, nat_tests)
+
+node_of_number : (a i : ℕ) → i < 100000 → (a * 100000 + i) % 100000 ≡ i
+node_of_number a i within = omega (arith, within)
+
+-- pairs in order are nodes by rank
+pub pair_order : (arcs : List Arc) (n : ℕ) (keys sorted : List (ℕ × ℕ)) → n ≤ 100000 → length keys ≡ n → ((node : ℕ) → node < n → get_or keys node (0, 0) ≡ (1000000 - degree arcs node, node)) → IsPermutation keys sorted → IsSorted (λ s t. ordering_then (nat_cmp s.0 t.0) (nat_cmp s.1 t.1)) sorted
+    → IsNodeOrder arcs n (map (λ key. key.1) sorted)
+pair_order arcs n keys sorted few each are moved rise =
+    let many : length (map number keys) ≡ length keys = length-map keys number in
+    let long : length (map number sorted) ≡ length sorted = length-map sorted number in
+    let small : All (λ key. key.1 < 100000) sorted = All-permutation (λ key. key.1 < 100000) keys sorted moved (λ k d h.
+    let e : get_or keys k d ≡ (1000000 - degree arcs k, k) = get_or_default keys k d (0, 0) h ∙ are k (omega (arith, h, each)) in
+    let f : (get_or keys k d).1 ≡ k = ap (λ (key : ℕ × ℕ). key.1) e in
+    omega (arith, h, each)) in
+    let numbers : (node : ℕ) → node < n → slice_index (map number keys) node ≡ key_of arcs node = λ node h.
+    get_or-map number keys node (0, 0) 0 (omega (arith, h, each)) ∙ ap number (are node h) in
+    let rises : IsSorted nat_cmp (map number sorted) = λ k d low h.
+    let inside : k + 1 < length sorted = omega (arith, h, long) in
+    let here : k < length sorted = omega (arith, inside) in
+    let s = get_or sorted k (0, 0) in
+    let t = get_or sorted (k + 1) (0, 0) in
+    rw (get_or-map number sorted k (0, 0) d here, get_or-map number sorted (k + 1) (0, 0) d inside)
+    (not_less (number s) (number t) (ordered s.0 s.1 t.0 t.1 (small k (0, 0) here) (rise k (0, 0) low inside))) in
+    let nodes : map (λ (key : ℕ). key % 100000) (map number sorted) ≡ map (λ (key : ℕ × ℕ). key.1) sorted =
+    ext_get_or 0 (map (λ (key : ℕ). key % 100000) (map number sorted)) (map (λ (key : ℕ × ℕ). key.1) sorted)
+    (length-map (map number sorted) (λ (key : ℕ). key % 100000) ∙ long ∙ sym (length-map sorted (λ (key : ℕ × ℕ). key.1)))
+    (λ r h.
+    let inside : r < length sorted = omega (arith, h, long, length-map (map number sorted) (λ (key : ℕ). key % 100000)) in
+    let k = get_or sorted r (0, 0) in
+    get_or-map (λ (key : ℕ). key % 100000) (map number sorted) r 0 0 (omega (arith, inside, long))
+    ∙ ap (λ (key : ℕ). key % 100000) (get_or-map number sorted r (0, 0) 0 inside)
+    ∙ node_of_number k.0 k.1 (small r (0, 0) inside)
+    ∙ sym (get_or-map (λ (key : ℕ × ℕ). key.1) sorted r (0, 0) 0 inside)) in
+    subst (IsNodeOrder arcs n) nodes (node_order arcs n (map number keys) (map number sorted) few (many ∙ each) numbers (IsPermutation-map number keys sorted moved) rises)
 
 -- the places of nodes by rank rank them
 pub ranking : (arcs : List Arc) (n : ℕ) (order rank : List ℕ) → n ≤ 100000 → length arcs ≤ 400000 → IsNodeOrder arcs n order → length rank ≡ n → ((r : ℕ) → r < length order → slice_index rank (slice_index order r) ≡ r) → IsRanking arcs n rank

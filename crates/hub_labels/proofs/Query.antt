@@ -1,5 +1,5 @@
 -- What two labels have in common is the travel time.
-use Rattle.std.proofs.Common.{◌≡◌, ◌≢◌, ℕ, suc, ◌+◌, ◌<◌, ◌≤◌, ◌⊎◌, List, [], ◌∷◌, ◌++◌, length, get_or, slice_index, All, Contains, refl, sym, ap, ◌∙◌, subst, inl, inr, ⊎_elim, arith}
+use Rattle.std.proofs.Common.{◌≡◌, ℕ, suc, ◌+◌, ◌<◌, ◌≤◌, ◌⊎◌, List, ◌++◌, length, get_or, All, sym, ap, ◌∙◌, inl, inr, ⊎_elim, arith}
 use Rattle.std.proofs.lemmas.List.{get_or_default}
 use Rattle.std.proofs.lemmas.List.Elements.{Contains-get_or}
 use Rattle.pool_base.specs.TravelTime.{never, longest}
@@ -12,8 +12,8 @@ use Rattle.hub_labels.specs.Label.{IsForwardHub, IsBackwardHub, IsLabel}
 use Rattle.hub_labels.specs.Labels.{NodeLabels, AreLabelsOf, label_at}
 use Rattle.hub_labels.specs.work.Order.{key_of}
 use Rattle.hub_labels.specs.work.Common.{IsLeastInCommon}
-use Rattle.hub_labels.proofs.Times.{AreTimes, times_of, IsMetric, metric_of, start_within, time_is, time_least, least_is}
-use Rattle.hub_labels.proofs.Cover.{IsClear, IsCover, cover}
+use Rattle.hub_labels.proofs.Times.{AreTimes, times_of, metric_of, time_is, least_is}
+use Rattle.hub_labels.proofs.Cover.{IsClear, cover}
 use Rattle.hub_labels.proofs.Keys.{key_lower}
 
 module _ {arcs : List Arc} {n : ℕ} {time : ℕ → ℕ → ℕ} (among : All (IsArcAmong n) arcs) (few : n ≤ 100000) (few_arcs : length arcs ≤ 400000) (are : AreTimes arcs n time) where

@@ -1,15 +1,15 @@
 -- Travel times exist: a search that ends gives them. So a lemma may speak of the travel time between any two nodes.
-use Rattle.std.proofs.Common.{◌≡◌, ◌≢◌, ℕ, zero, suc, ◌+◌, ◌*◌, ◌<◌, ◌≤◌, ◌⊎◌, Bool, true, false, List, [], ◌∷◌, ◌++◌, length, get_or, slice_index, set, replicate, map, sum, count_by, All, Contains, refl, sym, ap, ◌∙◌, subst, inl, inr, ⊎_elim, arith}
-use Rattle.std.proofs.lemmas.Bool.{cases_eq, cases_lt, true≢false}
+use Rattle.std.proofs.Common.{◌≡◌, ℕ, zero, suc, ◌+◌, ◌<◌, ◌≤◌, ◌⊎◌, Bool, true, false, List, [], ◌∷◌, ◌++◌, length, get_or, slice_index, set, replicate, map, count_by, All, refl, sym, subst, inl, inr, ⊎_elim, arith}
+use Rattle.std.proofs.lemmas.Bool.{cases_lt}
 use Rattle.std.proofs.lemmas.List.Elements.{All-contains}
-use Rattle.std.proofs.lemmas.List.{length-set, get_or_default, get_or_past, get_or-replicate, length-replicate}
+use Rattle.std.proofs.lemmas.List.{length-set, get_or_default, get_or-replicate, length-replicate}
 use Rattle.pool_base.specs.TravelTime.{never, longest}
 use Rattle.road_network.specs.declared.arc.Arc.{Arc}
 use Rattle.road_network.specs.declared.hop.Hop.{Hop}
 use Rattle.road_network.specs.Walk.{IsWalk, walk_seconds, IsLeastTime, IsTimeBetween}
 use Rattle.road_network.specs.Roads.{IsArcAmong, hop_of, leaving}
-use Rattle.travel_times.specs.work.Search.{waits, work_left, IsSearching, IsNextTaken, IsHopRelaxed, RelaxesHops}
-use Rattle.travel_times.proofs.lemmas.WalkLemmas.{IsWalk-append, walk_seconds-append, short_walk, goal_within}
+use Rattle.travel_times.specs.work.Search.{waits, work_left, IsSearching, IsNextTaken, RelaxesHops}
+use Rattle.travel_times.proofs.lemmas.WalkLemmas.{IsWalk-append, walk_seconds-append, short_walk}
 use Rattle.travel_times.proofs.lemmas.SearchLemmas.{RelaxesHops-take, RelaxesHops-skip, IsSearching-start, IsSearching-step, IsNextTaken-set, IsTimeBetween-settled, hops_among, none_waits}
 
 -- a node waits, or none does

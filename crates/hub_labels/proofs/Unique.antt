@@ -1,5 +1,5 @@
 -- The definition names one label: lists by rank that have the same hubs are the same.
-use Rattle.std.proofs.Common.{◌≡◌, ◌≢◌, ℕ, zero, suc, ◌+◌, ◌<◌, ◌≤◌, ◌⊎◌, ◌↔◌, List, [], ◌∷◌, length, get_or, All, Contains, refl, sym, ap, ◌∙◌, subst, inl, inr, ⊎_elim, arith}
+use Rattle.std.proofs.Common.{◌≡◌, ℕ, zero, suc, ◌<◌, ◌⊎◌, List, [], ◌∷◌, length, get_or, Contains, refl, sym, ap, ◌∙◌, subst, inl, inr, ⊎_elim, arith}
 use Rattle.road_network.specs.declared.arc.Arc.{Arc}
 use Rattle.hub_labels.specs.declared.hub.Hub.{Hub}
 use Rattle.hub_labels.specs.Rank.{degree, IsOfLowerRank}

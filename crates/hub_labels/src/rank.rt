@@ -1,5 +1,5 @@
 //! The nodes by rank: more arcs first, then lower index.
-ghost use Rattle.std.specs.Prelude.{◌≡◌, ℕ, ◌+◌, ◌-◌, ◌*◌, ◌%◌, ◌<◌, ◌≤◌, ◌==◌, All, IfOk, count_by, length, map, slice_index};
+ghost use Rattle.std.specs.Prelude.{◌≡◌, ℕ, ◌+◌, ◌-◌, ◌<◌, ◌≤◌, ◌==◌, All, IfOk, count_by, length, map, slice_index, slice_index_or};
 ghost use Rattle.road_network.specs.Roads.{leaving};
 ghost use Rattle.hub_labels.specs.Rank.{degree};
 ghost use Rattle.hub_labels.specs.work.Order.{IsNodeOrder};
@@ -9,10 +9,10 @@ use road_network::{Hop, Network};
 use std::alloc::Global;
 
 /// More than any degree.
-const MOST: u64 = 1_000_000;
+const MOST: u32 = 1_000_000;
 
-/// More than any index.
-const NODES: u64 = 100_000;
+/// What nodes are sorted by: how many arcs are missing to the most, the index.
+type Key = (u32, u32);
 
 /// The indexes of the nodes, by rank.
 pub(crate) fn nodes_by_rank(alloc: Global, network: &Network) -> Result<Vec<u32>, OutOfMemory>
@@ -63,26 +63,26 @@ fn count_reaching(counts: &mut [u32], hops: &[Hop])
     }
 }
 
-/// Numbers that stand as the nodes do by rank.
-fn keys_of(alloc: Global, degrees: &[u32]) -> Result<Vec<u64>, OutOfMemory>
+/// What each node is sorted by.
+fn keys_of(alloc: Global, degrees: &[u32]) -> Result<Vec<Key>, OutOfMemory>
     requires few { length degrees.now ≤ 100000 }
     requires small { All (λ d. d ≤ 1000000) degrees.now }
-    ensures { IfOk result (λ keys. (length keys.items ≡ length degrees.now) × ((node : ℕ) → node < length degrees.now → slice_index keys.items node ≡ (1000000 - slice_index degrees.now node) * 100000 + node)) }
+    ensures { IfOk result (λ keys. (length keys.items ≡ length degrees.now) × ((node : ℕ) → node < length degrees.now → slice_index_or keys.items node (0, 0) ≡ (1000000 - slice_index degrees.now node, node))) }
 {
     let mut keys = Vec::with_capacity(alloc, degrees.len())?;
     for (node, degree) in degrees.iter().enumerate() {
-        keys.push((MOST - u64::from(*degree)) * NODES + node as u64)?;
+        keys.push((MOST - *degree, node as u32))?;
     }
     Ok(keys)
 }
 
-/// The nodes that the keys were made of.
-fn nodes_of(alloc: Global, keys: &[u64]) -> Result<Vec<u32>, OutOfMemory>
-    ensures { IfOk result (λ nodes. nodes.items ≡ map (λ key. key % 100000) keys.now) }
+/// The nodes of the keys.
+fn nodes_of(alloc: Global, keys: &[Key]) -> Result<Vec<u32>, OutOfMemory>
+    ensures { IfOk result (λ nodes. nodes.items ≡ map (λ key. key.1) keys.now) }
 {
     let mut nodes = Vec::with_capacity(alloc, keys.len())?;
     for key in keys {
-        nodes.push((*key % NODES) as u32)?;
+        nodes.push(key.1)?;
     }
     Ok(nodes)
 }

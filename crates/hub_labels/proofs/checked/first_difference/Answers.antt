@@ -1,6 +1,5 @@
-use Rattle.std.proofs.Common.{◌≡◌, ◌<◌, ℕ, [], List, length, get_or, ◌∙◌, sym, arith}
+use Rattle.std.proofs.Common.{◌≡◌, [], length, ◌∙◌, arith}
 use Rattle.std.proofs.lemmas.List.{same_lists, get_or_default}
-use Rattle.hub_labels.specs.declared.hub.Hub.{Hub}
 use Rattle.hub_labels.proofs.checked.first_difference.Goals as goal
 
 pub returns-clause-none : goal.returns-clause-none

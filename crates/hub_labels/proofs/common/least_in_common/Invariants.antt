@@ -1,4 +1,4 @@
-use Rattle.std.proofs.Common.{◌≤◌, ◌+◌, ◌-◌, length}
+use Rattle.std.proofs.Common.{◌+◌, ◌-◌, length}
 use Rattle.hub_labels.proofs.Merging.{IsMerging}
 use Rattle.hub_labels.proofs.common.least_in_common.Given as goal
 

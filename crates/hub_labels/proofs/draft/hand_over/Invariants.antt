@@ -1,4 +1,4 @@
-use Rattle.std.proofs.Common.{ℕ, ◌<◌, All, length}
+use Rattle.std.proofs.Common.{◌<◌, All, length}
 use Rattle.hub_labels.specs.declared.hub.Hub.{Hub}
 use Rattle.hub_labels.specs.work.Drafts.{HandsOver}
 use Rattle.hub_labels.proofs.draft.hand_over.Given as goal

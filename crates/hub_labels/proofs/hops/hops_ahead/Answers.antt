@@ -1,4 +1,4 @@
-use Rattle.std.proofs.Common.{◌≡◌, ◌<◌, ℕ, length, arith}
+use Rattle.std.proofs.Common.{◌≡◌, length, arith}
 use Rattle.hub_labels.proofs.HopLemmas.{few_nodes, leaving_hops}
 use Rattle.hub_labels.proofs.hops.hops_ahead.Goals as goal
 

@@ -1,4 +1,3 @@
-use Rattle.std.proofs.Common.{length}
 use Rattle.hub_labels.specs.work.Hops.{TurnsHops}
 use Rattle.hub_labels.proofs.hops.turn.Given as goal
 

@@ -1,7 +1,6 @@
-use Rattle.std.proofs.Common.{◌≡◌, ℕ, ◌<◌, ◌++◌, ◌∷◌, [], List, All, length, get_or, slice_index, subst, ◌∙◌, ap, sym, arith}
+use Rattle.std.proofs.Common.{◌≡◌, ℕ, ◌<◌, [], List, length, get_or, slice_index, subst, ◌∙◌, arith}
 use Rattle.std.proofs.lemmas.List.{get_or_read}
 use Rattle.std.proofs.lemmas.List.Elements.{All-push}
-use Rattle.road_network.specs.declared.hop.Hop.{Hop}
 use Rattle.travel_times.specs.work.Search.{IsNextTaken, RelaxesHops}
 use Rattle.hub_labels.specs.declared.hub.Hub.{Hub}
 use Rattle.hub_labels.specs.work.Pruned.{IsTold}

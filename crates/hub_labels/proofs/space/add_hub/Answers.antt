@@ -1,10 +1,9 @@
-use Rattle.std.proofs.Common.{◌≡◌, ℕ, ◌<◌, ◌++◌, [], Bool, List, All, length, get_or, take, drop, slice_index, subst, ◌∙◌, ap, sym, arith}
+use Rattle.std.proofs.Common.{◌≡◌, ℕ, ◌<◌, ◌++◌, [], List, All, length, get_or, take, drop, ◌∙◌, ap, arith}
 use Rattle.std.proofs.lemmas.List.{get_or_read, take_at}
 use Rattle.std.proofs.lemmas.List.Elements.{All-nil, All-from_get_or}
 use Rattle.pool_base.specs.TravelTime.{never}
 use Rattle.road_network.specs.declared.arc.Arc.{Arc}
 use Rattle.road_network.specs.Roads.{IsArcAmong}
-use Rattle.hub_labels.specs.declared.hub.Hub.{Hub}
 use Rattle.hub_labels.specs.work.Hops.{AreNodeHops}
 use Rattle.hub_labels.specs.work.Pruned.{IsPruned}
 use Rattle.hub_labels.specs.work.Drafts.{HasSpread, HandsOver}

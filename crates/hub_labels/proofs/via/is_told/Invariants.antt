@@ -1,5 +1,4 @@
-use Rattle.std.proofs.Common.{◌≡◌, ℕ, ◌+◌, ◌<◌, ◌≤◌, get_or, slice_index}
-use Rattle.hub_labels.specs.declared.hub.Hub.{Hub}
+use Rattle.std.proofs.Common.{ℕ, ◌+◌, ◌<◌, ◌≤◌, get_or, slice_index}
 use Rattle.hub_labels.proofs.via.is_told.Given as goal
 
 abbrev pub invariant-loop-hub : goal.invariant-loop-hub

@@ -1,4 +1,3 @@
-use Rattle.std.proofs.Common.{◌≡◌, length}
 use Rattle.hub_labels.specs.work.Drafts.{HasSpread}
 use Rattle.hub_labels.proofs.via.spread.Given as goal
 

@@ -1,8 +1,7 @@
-use Rattle.std.proofs.Common.{◌≡◌, ℕ, ◌<◌, true, false, length}
+use Rattle.std.proofs.Common.{true, false, length}
 use Rattle.road_network.specs.Roads.{IsNetwork}
 use Rattle.hub_labels.specs.work.Adding.{IsClean}
-use Rattle.hub_labels.specs.work.Hops.{AreNodeHops, directed}
-use Rattle.hub_labels.specs.work.Order.{IsNodeOrder}
+use Rattle.hub_labels.specs.work.Hops.{directed}
 use Rattle.hub_labels.specs.work.Ranked.{AreLabelsBelow}
 use Rattle.hub_labels.proofs.labels.Labels.build.Given as goal
 
