@@ -97,30 +97,6 @@ fn narrowed(value: i128) -> i64 {
     }
 }
 
-/// Takes from the numbers at these places the products of a factor with these values.
-#[inline]
-pub fn take_products(numbers: &mut [i64], places: &[u32], values: &[i64], factor: i64) {
-    for (place, value) in places.iter().zip(values) {
-        let place = *place as usize;
-        if place < numbers.len() {
-            numbers[place] = numbers[place].wrapping_sub(times(factor, *value));
-        }
-    }
-}
-
-/// The number, less the products of these values with the numbers at these places.
-#[inline]
-pub fn less_products(number: i64, numbers: &[i64], places: &[u32], values: &[i64]) -> i64 {
-    let mut rest = number;
-    for (place, value) in places.iter().zip(values) {
-        let other = at(numbers, *place as usize);
-        if other != 0 {
-            rest = rest.wrapping_sub(times(other, *value));
-        }
-    }
-    rest
-}
-
 /// Writes numbers over others, as far as both lists go.
 #[inline]
 pub fn copy(from: &[i64], to: &mut [i64]) {
