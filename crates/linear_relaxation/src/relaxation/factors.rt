@@ -153,7 +153,7 @@ pub struct Factors {
     /// For each exchange its place and the entering column, over the places.
     exchanges: Vec<Pivot>,
     columns: Entries,
-    /// For each place a bit for each exchange that changes with the number there.
+    /// For each place a bit for each exchange that changes with the number there; exchanges 64 apart share one.
     exchange_marks: Vec<u64>,
 }
 
