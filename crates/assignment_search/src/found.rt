@@ -1,7 +1,7 @@
 use plan_rules::{Plan, Tree};
 
 /// A plan with its cost in seconds, and a tree with its value, the bound.
-#[derive(Debug, Drop)]
+#[derive(Drop)]
 pub struct Found {
     pub plan: Plan,
     pub cost: u64,

@@ -6,7 +6,7 @@ use std::marker::Model;
 
 /// The vehicles with which a run begins: at most 500, by strictly rising id, with 1 to 10 seats and
 /// nobody aboard.
-#[derive(Debug, Drop)]
+#[derive(Drop)]
 pub struct Fleet {
     vehicles: Vec<Vehicle>,
 }

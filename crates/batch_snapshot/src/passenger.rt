@@ -1,7 +1,7 @@
 use pool_base::{NodeId, Party, RiderId, Second};
 
 /// A rider who was picked up and not yet dropped.
-#[derive(Clone, Copy, Debug, Default, PartialEq, Eq)]
+#[derive(Clone, Copy, Default, PartialEq, Eq)]
 pub struct Passenger {
     pub rider: RiderId,
     pub origin: NodeId,

@@ -12,7 +12,7 @@ use std::alloc::Global;
 use std::marker::Model;
 
 /// The distinct nodes of a snapshot, by rising name. The place of a node is its index in that list.
-#[derive(Debug, Drop)]
+#[derive(Drop)]
 pub struct Points {
     nodes: Vec<NodeId>,
 }

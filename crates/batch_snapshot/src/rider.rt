@@ -2,7 +2,7 @@ use crate::promise::Promise;
 use pool_base::{NodeId, Party, RiderId, Second};
 
 /// A rider who waits for a vehicle, with or without a promise.
-#[derive(Clone, Copy, Debug, PartialEq, Eq)]
+#[derive(Clone, Copy, PartialEq, Eq)]
 pub struct Rider {
     pub id: RiderId,
     pub origin: NodeId,

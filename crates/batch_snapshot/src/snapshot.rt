@@ -7,7 +7,7 @@ use std::alloc::Global;
 use std::marker::Model;
 
 /// All vehicles and the riders of a batch, at the second at which it was sealed.
-#[derive(Debug, Drop)]
+#[derive(Drop)]
 pub struct Snapshot {
     /// The number of the batch, from 1.
     pub batch: u64,

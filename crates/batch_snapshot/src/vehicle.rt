@@ -7,7 +7,7 @@ use pool_base::{NodeId, Second, VehicleId};
 /// A vehicle where it was last reported, with its passengers in the order in which they got in.
 ///
 /// The passengers lie in place, with room for ten, so one more takes no memory.
-#[derive(Debug, Drop, PartialEq, Eq)]
+#[derive(Drop, PartialEq, Eq)]
 pub struct Vehicle {
     pub id: VehicleId,
     pub seats: u8,

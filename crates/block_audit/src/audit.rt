@@ -20,7 +20,7 @@ use travel_times::Ways;
 use worker_gate::Gate;
 
 /// A good outcome whose block was read.
-#[derive(Debug, Drop)]
+#[derive(Drop)]
 pub struct AuditedBlock<'a> {
     pub outcome: Outcome,
     /// What follows the block.

@@ -7,7 +7,7 @@ ghost use Rattle.block_outcome.specs.work.Parts.{counts_lines};
 use report_lines::BlockLine;
 
 /// The numbers between a plan and its tree.
-#[derive(Clone, Copy, Debug)]
+#[derive(Clone, Copy)]
 pub(crate) struct Counts {
     pub cost: u64,
     pub bound: i128,

@@ -18,7 +18,7 @@ use request_book::{ChosenTrip, LateVehicle, MoveLine, Planned, RowLine};
 use std::alloc::Global;
 
 /// Who can be served, with whom, and every trip.
-#[derive(Debug, Drop)]
+#[derive(Drop)]
 pub(crate) struct Graphs {
     pub lapsed: Sequence<RiderId>,
     pub late: Sequence<LateVehicle>,
@@ -28,7 +28,7 @@ pub(crate) struct Graphs {
 }
 
 /// Chosen trips, who is left out, and where idle vehicles go.
-#[derive(Debug, Drop)]
+#[derive(Drop)]
 pub(crate) struct Choice {
     pub chosen: Sequence<ChosenTrip>,
     pub left: Sequence<RiderId>,

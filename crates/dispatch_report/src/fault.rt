@@ -6,7 +6,7 @@ use pool_base::OutOfMemory;
 use pool_io::WriteAll;
 
 /// Why a text wasn't written whole.
-#[derive(Clone, Copy, Debug, PartialEq, Eq)]
+#[derive(Clone, Copy)]
 pub enum ReportFault {
     /// A write of the sink failed.
     WriteFault,

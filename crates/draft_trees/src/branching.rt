@@ -21,7 +21,7 @@ const MOST_PART: i64 = ONE / 100 * 99;
 const A_RIDER: i64 = ONE / 100 * 3;
 
 /// How much a node is tried for.
-#[derive(Clone, Copy, Debug)]
+#[derive(Clone, Copy)]
 pub struct Effort {
     /// How many rows are tried at most.
     pub candidates: usize,

@@ -22,7 +22,7 @@ const MOST_PART: i64 = (1 << 32) / 100 * 99;
 const MOST_ROWS: usize = 10;
 
 /// A row that is taken or forbidden below another node.
-#[derive(Clone, Copy, Debug)]
+#[derive(Clone, Copy)]
 struct Decision {
     parent: usize,
     row: usize,
@@ -46,7 +46,7 @@ struct DraftNode {
 }
 
 /// How a tree grows.
-#[derive(Clone, Copy, Debug)]
+#[derive(Clone, Copy)]
 pub struct Growth {
     /// How many nodes it has at most.
     pub budget: usize,

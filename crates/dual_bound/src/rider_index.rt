@@ -10,7 +10,7 @@ use row_tables::fixed_point::item;
 use std::alloc::Global;
 
 /// For each rider the numbers of the rows that have her, one list behind the other.
-#[derive(Debug, Drop)]
+#[derive(Drop)]
 pub struct RiderIndex {
     /// Where each rider's list starts, and where the last one ends.
     pub starts: Vec<u32>,

@@ -4,7 +4,7 @@ ghost use Rattle.fleet_state.specs.declared.fault.FleetFault.TheVariants.{OutOfM
 use std::alloc::AllocFailed;
 
 /// Why a fleet is refused. Rows count from 1 behind the header, and columns from 1.
-#[derive(Clone, Copy, Debug, PartialEq, Eq)]
+#[derive(Clone, Copy)]
 pub enum FleetFault {
     /// There are more than 500 rows.
     TooManyVehicles,

@@ -1,5 +1,5 @@
 /// How many commands of a lane were taken, and the batch that it sealed and hasn't closed.
-#[derive(Clone, Copy, Debug, PartialEq, Eq)]
+#[derive(Clone, Copy)]
 pub struct LaneStand {
     pub taken: usize,
     pub pending: Option<u64>,

@@ -12,7 +12,7 @@ use std::alloc::Global;
 use std::marker::Model;
 
 /// The three texts of a made workload.
-#[derive(Debug, Drop)]
+#[derive(Drop)]
 pub struct Made {
     network: Vec<u8>,
     fleet: Vec<u8>,

@@ -4,7 +4,7 @@ ghost use Rattle.load_maker.specs.Row.{field_text, csv_line};
 use pool_base::{OutOfMemory, put_number};
 
 /// A field of a made row.
-#[derive(Clone, Copy, Debug)]
+#[derive(Clone, Copy)]
 pub enum Field {
     Number(u64),
     Report,

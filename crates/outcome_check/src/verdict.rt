@@ -1,5 +1,5 @@
 /// What an outcome is judged by, in this order.
-#[derive(Clone, Copy, Debug, PartialEq, Eq)]
+#[derive(Clone, Copy, PartialEq, Eq)]
 pub enum Point {
     /// The riders whose wait ended, and whether there are more rows than allowed.
     Answer,
@@ -22,7 +22,7 @@ pub enum Point {
 }
 
 /// What was found of an outcome.
-#[derive(Clone, Copy, Debug, PartialEq, Eq)]
+#[derive(Clone, Copy, PartialEq, Eq)]
 pub enum Verdict {
     Good,
     /// The first point that fails.

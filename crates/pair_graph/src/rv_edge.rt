@@ -1,5 +1,5 @@
 /// The vehicle can serve the rider alone. Both are numbers of a settled batch.
-#[derive(Clone, Copy, Debug, PartialEq, Eq)]
+#[derive(Clone, Copy)]
 pub struct RvEdge {
     pub vehicle: usize,
     pub rider: usize,

@@ -13,7 +13,7 @@ use std::marker::Model;
 
 /// A trip graph: the rows by vehicle, then size, then riders, and for each vehicle the row that it
 /// holds. A rider in a held row must be served.
-#[derive(Debug, Drop)]
+#[derive(Drop)]
 pub struct TripGraph {
     parts: Parts,
     starts: Vec<u32>,

@@ -3,7 +3,7 @@ ghost use Rattle.std.specs.Prelude.{◌≡◌, ℤ, List};
 use std::marker::Model;
 
 /// A multiplier for each rider, in 1/1024 second: a list that is made of a `Vec` and gives it back.
-#[derive(Debug, Drop)]
+#[derive(Drop)]
 pub struct Multipliers {
     values: Vec<i64>,
 }

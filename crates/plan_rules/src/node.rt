@@ -1,7 +1,7 @@
 use crate::multipliers::Multipliers;
 
 /// A node of a search tree. Vehicles and rows are numbers from 0.
-#[derive(Debug, Drop)]
+#[derive(Drop)]
 pub enum Node {
     /// In the subtree that follows the vehicle has only this row, in the next one only its others.
     Branch { vehicle: u32, row: u32 },

@@ -1,7 +1,7 @@
 use crate::row::TripRow;
 
 /// What a trip graph is made of, before it is judged.
-#[derive(Debug, Drop)]
+#[derive(Drop)]
 pub struct Parts {
     pub vehicles: usize,
     pub riders: usize,

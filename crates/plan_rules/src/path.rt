@@ -9,7 +9,7 @@ use std::alloc::Global;
 use std::marker::Model;
 
 /// One step down a tree: the vehicle has this row alone, or no more.
-#[derive(Clone, Copy, Debug)]
+#[derive(Clone, Copy)]
 pub struct Decision {
     pub vehicle: u32,
     pub row: u32,
@@ -17,7 +17,7 @@ pub struct Decision {
 }
 
 /// The decisions from the root to where a walk stands.
-#[derive(Debug, Drop)]
+#[derive(Drop)]
 pub struct Path {
     decisions: Vec<Decision>,
 }

@@ -3,7 +3,7 @@ ghost use Rattle.std.specs.Prelude.{◌≡◌, ℕ, List, Option};
 use std::marker::Model;
 
 /// A row for each vehicle, by its number: a list that is made of a `Vec` and gives it back.
-#[derive(Debug, Drop)]
+#[derive(Drop)]
 pub struct Plan {
     chosen: Vec<Option<u32>>,
 }

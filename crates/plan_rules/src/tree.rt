@@ -6,7 +6,7 @@ use std::marker::Model;
 
 /// A search tree in preorder: after a branch comes the subtree where the vehicle has only that row,
 /// then the subtree where it has its other rows.
-#[derive(Debug, Drop)]
+#[derive(Drop)]
 pub struct Tree {
     nodes: Vec<Node>,
 }

@@ -5,7 +5,7 @@ use std::error::Error;
 use std::fmt;
 
 /// The answer of a call for want of memory.
-#[derive(Clone, Copy, Debug, PartialEq, Eq, Hash)]
+#[derive(Clone, Copy, Debug)]
 pub struct OutOfMemory;
 
 impl fmt::Display for OutOfMemory {

@@ -8,7 +8,7 @@ use std::slice;
 /// A list that owns its elements. Contracts see it as the list and nothing else.
 ///
 /// It is made from a `Vec` and gives it back, both without memory.
-#[derive(Debug, Drop)]
+#[derive(Drop)]
 pub struct Sequence<T> {
     items: Vec<T>,
 }

@@ -7,7 +7,7 @@ use crate::times_check::check;
 ///
 /// The type keeps that the diagonal is zero, that no detour is shorter, and that no number is above
 /// 1,000,000,000; "cannot be reached" counts as greater than every number.
-#[derive(Debug, Drop)]
+#[derive(Drop)]
 pub struct Times {
     points: usize,
     cells: Vec<u32>,

@@ -1,7 +1,7 @@
 use crate::records::RowFault;
 
 /// Why a file was refused: as rows, or by a rule of its own.
-#[derive(Clone, Copy, Debug, PartialEq, Eq, Hash)]
+#[derive(Clone, Copy)]
 pub enum Input<F> {
     /// The bytes are no rows under the header.
     Rows(RowFault),

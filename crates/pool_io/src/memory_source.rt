@@ -7,7 +7,7 @@ use crate::source::{Failed, Source};
 use std::marker::Model;
 
 /// A source in memory that gives short reads and fails as it is told.
-#[derive(Debug, Drop)]
+#[derive(Drop)]
 pub struct MemorySource {
     bytes: Vec<u8>,
     taken: usize,

@@ -10,7 +10,7 @@ use std::alloc::Global;
 use std::marker::Model;
 
 /// A sink in memory that never fails; it may only want memory.
-#[derive(Debug, Drop)]
+#[derive(Drop)]
 pub struct PlainSink {
     written: Vec<u8>,
 }

@@ -7,7 +7,7 @@ use crate::source::{Failed, Source};
 use std::marker::Model;
 
 /// A source in memory that never fails.
-#[derive(Debug, Drop)]
+#[derive(Drop)]
 pub struct PlainSource {
     bytes: Vec<u8>,
     taken: usize,

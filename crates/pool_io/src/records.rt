@@ -9,7 +9,7 @@ use csv::{ByteRecord, Reader, ReaderBuilder};
 use std::alloc::{AllocError, Global};
 
 /// Why bytes are no rows under a header.
-#[derive(Clone, Copy, Debug, PartialEq, Eq, Hash)]
+#[derive(Clone, Copy, Debug)]
 pub enum RowFault {
     /// The first record isn't the header; it has so many fields, 0 where there is no record.
     Header { fields: u64 },

@@ -6,7 +6,7 @@ ghost use Rattle.pool_io.specs.Faults.{Rose};
 use crate::source::Failed;
 
 /// Why a write took nothing.
-#[derive(Clone, Copy, Debug, PartialEq, Eq, Hash)]
+#[derive(Clone, Copy, PartialEq, Eq)]
 pub enum SinkFault {
     /// The write failed.
     Failed,

@@ -3,7 +3,7 @@ ghost use Rattle.std.specs.Io.KnownBytes.{ReadConsumes};
 ghost use Rattle.pool_io.specs.Faults.{Rose};
 
 /// The answer of a read that failed.
-#[derive(Clone, Copy, Debug, PartialEq, Eq, Hash)]
+#[derive(Clone, Copy)]
 pub struct Failed;
 
 /// What bytes are read from.

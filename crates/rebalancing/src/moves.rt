@@ -3,7 +3,7 @@ ghost use Rattle.std.specs.Prelude.{◌≡◌, ◌==◌, ℕ, ℤ, List, length}
 use std::marker::Model;
 
 /// Where idle vehicles go: a matching, its total, and the potentials that show that it is best.
-#[derive(Debug, Drop)]
+#[derive(Drop)]
 pub struct Moves {
     /// Indexes into the idle vehicles and the riders left out, by rising vehicle.
     pub pairs: Pairs,
@@ -16,7 +16,7 @@ pub struct Moves {
 }
 
 /// Pairs of indexes into two lists.
-#[derive(Debug, Drop)]
+#[derive(Drop)]
 pub struct Pairs {
     items: Vec<(usize, usize)>,
 }
@@ -60,7 +60,7 @@ impl Pairs {
 }
 
 /// Potentials of the places of a list, in its order.
-#[derive(Debug, Drop)]
+#[derive(Drop)]
 pub struct Potentials {
     items: Vec<i64>,
 }

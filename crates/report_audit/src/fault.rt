@@ -1,5 +1,5 @@
 /// What an audit says of a report that is one of its script.
-#[derive(Clone, Copy, Debug, PartialEq, Eq)]
+#[derive(Clone, Copy)]
 pub struct Audited {
     /// How many entries all rounds have.
     pub entries: u64,
@@ -8,7 +8,7 @@ pub struct Audited {
 }
 
 /// Why a text isn't the report of a run. Lines count from 1.
-#[derive(Clone, Copy, Debug, PartialEq, Eq)]
+#[derive(Clone, Copy, PartialEq, Eq)]
 pub enum AuditFault {
     /// The text ends, before or within this line, where a whole line must follow; or it ends with a part of a line behind
     /// the last one.

@@ -11,7 +11,7 @@ use pool_base::OutOfMemory;
 use report_lines::line_first;
 
 /// What is wrong with a line.
-#[derive(Clone, Copy, Debug, PartialEq, Eq)]
+#[derive(Clone, Copy)]
 pub(crate) enum LineFault {
     Cut,
     Form,
@@ -19,7 +19,7 @@ pub(crate) enum LineFault {
 }
 
 /// Why an audit stops.
-#[derive(Clone, Copy, Debug, PartialEq, Eq)]
+#[derive(Clone, Copy)]
 pub(crate) enum Stop {
     OutOfMemory,
     /// At the line that begins where so many bytes are left.

@@ -10,7 +10,7 @@ use pool_base::{OutOfMemory, Sequence};
 use std::alloc::{AllocFailed, Global};
 
 /// Why a text begins with no block.
-#[derive(Clone, Copy, Debug, PartialEq, Eq)]
+#[derive(Clone, Copy)]
 pub enum BlockFault {
     OutOfMemory,
     /// So many lines stand, and the text ends before or within the next.

@@ -17,7 +17,7 @@ use request_book::{ChosenTrip, LateVehicle, MoveLine};
 use std::alloc::Global;
 
 /// A line of a batch's block, by what it says.
-#[derive(Debug, Drop)]
+#[derive(Drop)]
 pub enum BlockLine {
     /// The batch's number.
     Batch(u64),

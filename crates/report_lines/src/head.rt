@@ -6,7 +6,7 @@ ghost use Rattle.report_lines.specs.work.Head.{limits_text, costs_text, AreThree
 use crate::words::{numbered_first, read_numbered};
 
 /// The numbers of a report's line of settings, whether they are in their ranges or not.
-#[derive(Clone, Copy, Debug, PartialEq, Eq)]
+#[derive(Clone, Copy)]
 pub struct SettingsText {
     pub wait: u64,
     pub delay: u64,

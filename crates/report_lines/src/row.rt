@@ -9,7 +9,7 @@ use pool_base::{OutOfMemory, RiderId, Sequence, VehicleId};
 use std::alloc::Global;
 
 /// A vehicle, the seconds that its trip costs, and the trip's riders, of whom a line may name more than a trip has.
-#[derive(Debug, Drop)]
+#[derive(Drop)]
 pub struct RowText {
     pub vehicle: VehicleId,
     pub cost: u64,

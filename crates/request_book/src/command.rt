@@ -5,7 +5,7 @@ use crate::outcome::Outcome;
 use pool_base::{NodeId, Party, RiderId, Second, VehicleId};
 
 /// What a lane asks of the book.
-#[derive(Debug, Drop)]
+#[derive(Drop)]
 pub enum Command {
     /// A rider asks for a trip.
     Submit {

@@ -4,7 +4,7 @@ use crate::state::State;
 use pool_base::Sequence;
 
 /// A command of a lane, with its reply.
-#[derive(Debug, Drop)]
+#[derive(Drop)]
 pub struct Entry {
     pub lane: u8,
     pub command: Command,
@@ -12,7 +12,7 @@ pub struct Entry {
 }
 
 /// The entries of a round, with the state before them and the position of the first.
-#[derive(Debug, Drop)]
+#[derive(Drop)]
 pub struct Journal {
     pub first: u64,
     pub base: State,

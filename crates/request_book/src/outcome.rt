@@ -3,7 +3,7 @@ use plan_rules::Tree;
 use pool_base::{NodeId, RiderId, Sequence, VehicleId};
 
 /// What came of a sealed batch. The book doesn't judge it.
-#[derive(Debug, Drop)]
+#[derive(Drop)]
 pub struct Outcome {
     /// Whose wait ended with the seal, by rising id.
     pub expired: Sequence<RiderId>,
@@ -11,7 +11,7 @@ pub struct Outcome {
 }
 
 /// The answer of a batch.
-#[derive(Debug, Drop)]
+#[derive(Drop)]
 pub enum Answer {
     /// There are more rows than the settings allow; every rider keeps what they had.
     Overflow,
@@ -19,7 +19,7 @@ pub enum Answer {
 }
 
 /// A plan with what it rests on. Lists stand by rising id.
-#[derive(Debug, Drop)]
+#[derive(Drop)]
 pub struct Planned {
     /// Whose promise can't be kept any more.
     pub lapsed: Sequence<RiderId>,
@@ -44,7 +44,7 @@ pub struct Planned {
 }
 
 /// A trip that a vehicle can serve, with its least delay in seconds.
-#[derive(Debug, Drop)]
+#[derive(Drop)]
 pub struct RowLine {
     pub vehicle: VehicleId,
     pub riders: ArrayVec<RiderId, 6>,
@@ -52,7 +52,7 @@ pub struct RowLine {
 }
 
 /// The trip that the plan gives a vehicle, with its stops and its delay in seconds.
-#[derive(Debug, Drop)]
+#[derive(Drop)]
 pub struct ChosenTrip {
     pub vehicle: VehicleId,
     pub cost: u64,
@@ -60,7 +60,7 @@ pub struct ChosenTrip {
 }
 
 /// A stop at a node, at a second: a pickup, or else a drop-off.
-#[derive(Clone, Copy, Debug, Default, PartialEq, Eq)]
+#[derive(Clone, Copy, Default, PartialEq, Eq)]
 pub struct PlannedStop {
     pub pick: bool,
     pub rider: RiderId,
@@ -70,7 +70,7 @@ pub struct PlannedStop {
 
 /// A vehicle whose passengers can't all be dropped in time, with an order of least delay; `None`, and
 /// delay 0, where some place can't be reached.
-#[derive(Debug, Drop)]
+#[derive(Drop)]
 pub struct LateVehicle {
     pub vehicle: VehicleId,
     pub delay: u64,
@@ -78,7 +78,7 @@ pub struct LateVehicle {
 }
 
 /// An idle vehicle that is sent to a rider who was left out.
-#[derive(Clone, Copy, Debug, PartialEq, Eq)]
+#[derive(Clone, Copy)]
 pub struct MoveLine {
     pub vehicle: VehicleId,
     pub rider: RiderId,

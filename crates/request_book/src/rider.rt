@@ -13,7 +13,7 @@ pub enum Status {
 }
 
 /// A rider of the book.
-#[derive(Clone, Copy, Debug, PartialEq, Eq)]
+#[derive(Clone, Copy)]
 pub struct BookRider {
     pub id: RiderId,
     pub origin: NodeId,

@@ -3,7 +3,7 @@ use batch_snapshot::{Snapshot, Vehicle};
 use pool_base::{Second, Sequence};
 
 /// All riders and vehicles of a book at one moment.
-#[derive(Debug, Drop)]
+#[derive(Drop)]
 pub struct State {
     /// In the order in which they were accepted.
     pub riders: Sequence<BookRider>,

@@ -6,7 +6,7 @@ use crate::command::Command;
 use pool_base::{Which, read_number_up_to};
 
 /// What stands before a word's `=`.
-#[derive(Clone, Copy, Debug, PartialEq, Eq)]
+#[derive(Clone, Copy)]
 pub(crate) enum Key {
     Input(Which),
     Notices,
@@ -28,7 +28,7 @@ pub(crate) enum Key {
 }
 
 /// What may stand behind a key's `=`: a file's name, a number of a range, or a way to come by travel times.
-#[derive(Clone, Copy, Debug, PartialEq, Eq)]
+#[derive(Clone, Copy)]
 pub(crate) enum Takes {
     FileName,
     Number(u64, u64),

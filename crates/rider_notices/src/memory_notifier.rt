@@ -12,7 +12,7 @@ use std::alloc::Global;
 use std::marker::Model;
 
 /// A notifier in memory that fails as it is told.
-#[derive(Debug, Drop)]
+#[derive(Drop)]
 pub struct MemoryNotifier {
     told: Vec<Notice>,
     /// How many more notices are sure to find room.

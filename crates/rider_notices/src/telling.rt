@@ -7,7 +7,7 @@ use crate::notifier::Notifier;
 use pool_io::Failed;
 
 /// What came of telling.
-#[derive(Clone, Copy, Debug, PartialEq, Eq)]
+#[derive(Clone, Copy)]
 pub struct Told {
     /// How many notifiers failed and are gone.
     pub dropped: usize,

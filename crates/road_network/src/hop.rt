@@ -1,5 +1,5 @@
 /// An arc, as it is seen from the node that it leaves.
-#[derive(Clone, Copy, Debug, PartialEq, Eq)]
+#[derive(Clone, Copy, PartialEq, Eq)]
 pub struct Hop {
     /// The index of the node where it ends.
     pub to: usize,

@@ -11,7 +11,7 @@ use std::alloc::Global;
 use travel_times::times_from;
 
 /// A node that a walk comes to, and the seconds since its start.
-#[derive(Clone, Copy, Debug, PartialEq, Eq)]
+#[derive(Clone, Copy)]
 pub struct WalkStep {
     pub node: NodeId,
     pub seconds: u32,

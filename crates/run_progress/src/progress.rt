@@ -6,7 +6,7 @@ use std::alloc::{AllocError, Global};
 const FRONT: usize = 128;
 
 /// How far a run is, by what was written so far.
-#[derive(Debug, Drop)]
+#[derive(Drop)]
 pub(crate) struct Progress {
     /// The front of the line that is begun.
     front: ArrayVec<u8, FRONT>,

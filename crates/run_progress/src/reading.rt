@@ -1,7 +1,7 @@
 //! What a line of a report or a summary says of a batch.
 
 /// What came of a batch.
-#[derive(Clone, Copy, Debug, PartialEq, Eq)]
+#[derive(Clone, Copy)]
 pub(crate) enum Closed {
     Overflow,
     /// A plan over so many rows, whose cost is so far above its bound.
@@ -9,7 +9,7 @@ pub(crate) enum Closed {
 }
 
 /// What a line says.
-#[derive(Clone, Copy, Debug, PartialEq, Eq)]
+#[derive(Clone, Copy)]
 pub(crate) enum Line {
     /// The last before the first round.
     HeadEnd,

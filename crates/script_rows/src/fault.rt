@@ -4,7 +4,7 @@ ghost use Rattle.script_rows.specs.declared.fault.ScriptFault.TheVariants.{OutOf
 use std::alloc::{AllocError, AllocFailed};
 
 /// Why a script is refused. Rows count from 1 behind the header, and columns from 1.
-#[derive(Clone, Copy, Debug, PartialEq, Eq)]
+#[derive(Clone, Copy)]
 pub enum ScriptFault {
     /// There are more than 200,000 rows.
     TooManyRows,

@@ -1,7 +1,7 @@
 use request_book::Command;
 
 /// A row of a script.
-#[derive(Debug, Drop)]
+#[derive(Drop)]
 pub(crate) struct Line {
     pub(crate) round: u32,
     pub(crate) lane: u8,

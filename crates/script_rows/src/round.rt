@@ -6,7 +6,7 @@ use std::alloc::Global;
 use std::marker::Model;
 
 /// The commands of one lane, in order. Contracts see it as the list.
-#[derive(Debug, Drop)]
+#[derive(Drop)]
 struct Lane {
     commands: Vec<Command>,
 }
@@ -34,7 +34,7 @@ impl Lane {
 /// The rows of one number, which is at most 1,000,000,000: sixteen lanes, each with its commands in order.
 ///
 /// A seal stands in lane 0 alone, and no lane has a close.
-#[derive(Debug, Drop)]
+#[derive(Drop)]
 pub struct Round {
     number: u32,
     lanes: Vec<Lane>,

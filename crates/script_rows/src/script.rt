@@ -4,7 +4,7 @@ use crate::round::Round;
 use std::marker::Model;
 
 /// The rounds of a script, in the order of its rows.
-#[derive(Debug, Drop)]
+#[derive(Drop)]
 pub struct Script {
     rounds: Vec<Round>,
 }

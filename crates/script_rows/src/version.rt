@@ -2,7 +2,7 @@ ghost use Rattle.std.specs.Prelude.{◌≡◌, length};
 ghost use Rattle.pool_io.specs.Table.{header_fields};
 
 /// Which header a script has.
-#[derive(Clone, Copy, Debug, PartialEq, Eq)]
+#[derive(Clone, Copy)]
 pub enum ScriptVersion {
     /// `round,lane,command,a,b,c,d`: every request is for one person.
     One,

@@ -5,7 +5,7 @@ ghost use Rattle.script_rows.specs.work.Words.{is_named};
 use crate::version::ScriptVersion;
 
 /// The word of a command.
-#[derive(Clone, Copy, Debug, PartialEq, Eq)]
+#[derive(Clone, Copy)]
 pub(crate) enum Word {
     Submit,
     Cancel,

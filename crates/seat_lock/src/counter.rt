@@ -6,7 +6,7 @@ use pool_base::OutOfMemory;
 use std::alloc::Global;
 
 /// One call of a counter: its lane, what it added, and the count after it.
-#[derive(Clone, Copy, Debug, PartialEq, Eq)]
+#[derive(Clone, Copy)]
 pub struct Addition {
     pub lane: u8,
     pub amount: u64,

@@ -28,7 +28,7 @@ impl Model for LockedBook {
 }
 
 /// A reply, and the batch that was sealed where the reply says so.
-#[derive(Debug, Drop)]
+#[derive(Drop)]
 pub struct LockedReply {
     pub reply: Reply,
     pub snapshot: Option<Snapshot>,

@@ -37,14 +37,14 @@ impl Model for SharedBook {
 }
 
 /// An answer to a command: its position among the entries since the start, and the reply.
-#[derive(Debug, Drop)]
+#[derive(Drop)]
 pub struct Receipt {
     pub position: u64,
     pub reply: Reply,
 }
 
 /// An answer to a seal. The snapshot is there exactly where the reply is that a batch is sealed.
-#[derive(Debug, Drop)]
+#[derive(Drop)]
 pub struct SealReceipt {
     pub receipt: Receipt,
     pub snapshot: Option<Snapshot>,

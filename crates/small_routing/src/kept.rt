@@ -8,14 +8,14 @@ use std::alloc::Global;
 use stop_orders::Done;
 
 /// A label that is kept, and the next one in its chain.
-#[derive(Clone, Copy, Debug)]
+#[derive(Clone, Copy)]
 pub struct Entry {
     pub label: Label,
     next: usize,
 }
 
 /// The labels from which all ways on were tried, in chains by what is done.
-#[derive(Debug, Drop)]
+#[derive(Drop)]
 pub struct Kept {
     pub entries: Vec<Entry>,
     heads: Vec<usize>,
@@ -24,7 +24,7 @@ pub struct Kept {
 }
 
 /// The room for labels that searches need, to be handed from one to the next.
-#[derive(Debug, Drop)]
+#[derive(Drop)]
 pub struct Workspace {
     pub(crate) kept: Kept,
 }

@@ -8,7 +8,7 @@ use stop_orders::{Done, Stop, Task, arrival, visit_of};
 
 /// What stops that were made lead to: which are done, where the vehicle is, from which second on it can
 /// leave, how many seats are free, and the delay so far.
-#[derive(Clone, Copy, Debug)]
+#[derive(Clone, Copy)]
 pub struct Label {
     pub done: Done,
     pub room: u32,

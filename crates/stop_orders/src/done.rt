@@ -7,7 +7,7 @@ use crate::Stop;
 use std::marker::Model;
 
 /// A set of stops that are done, a bit each: of up to 6 riders and 10 passengers.
-#[derive(Clone, Copy, Debug, PartialEq, Eq)]
+#[derive(Clone, Copy, PartialEq, Eq)]
 pub struct Done {
     bits: u32,
 }

@@ -1,7 +1,7 @@
 use pool_base::Party;
 
 /// One rider's way, from place to place, and its limits. Places are indexes of a table of travel times.
-#[derive(Clone, Copy, Debug, PartialEq, Eq)]
+#[derive(Clone, Copy)]
 pub struct Leg {
     pub origin: usize,
     pub destination: usize,

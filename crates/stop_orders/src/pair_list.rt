@@ -4,7 +4,7 @@ ghost use Rattle.stop_orders.specs.PairList.{ArePairs, IsBefore};
 use std::marker::Model;
 
 /// Pairs of riders' numbers, rising, the first number of each below its second.
-#[derive(Debug, Drop)]
+#[derive(Drop)]
 pub struct PairList {
     pairs: Vec<(usize, usize)>,
 }

@@ -10,7 +10,7 @@ use crate::{Task, Visit};
 use pool_base::Times;
 
 /// Where a vehicle is, from which second on it can leave, and how many of its seats are free.
-#[derive(Clone, Copy, Debug)]
+#[derive(Clone, Copy)]
 pub struct Position {
     pub place: usize,
     pub free: u64,

@@ -2,7 +2,7 @@ use crate::Stop;
 use arrayvec::ArrayVec;
 
 /// An order of stops, and its delay in seconds.
-#[derive(Clone, Debug, PartialEq, Eq, Drop)]
+#[derive(Drop)]
 pub struct Route {
     pub stops: ArrayVec<Stop, 22>,
     pub delay: u64,

@@ -2,7 +2,7 @@ use crate::{SettledRider, SettledVehicle};
 use std::marker::Model;
 
 /// The vehicles of a batch, a list.
-#[derive(Debug, Drop)]
+#[derive(Drop)]
 pub struct SettledVehicles {
     vehicles: Vec<SettledVehicle>,
 }
@@ -39,7 +39,7 @@ impl SettledVehicles {
 }
 
 /// The riders of a batch, a list.
-#[derive(Debug, Drop)]
+#[derive(Drop)]
 pub struct SettledRiders {
     riders: Vec<SettledRider>,
 }
@@ -76,7 +76,7 @@ impl SettledRiders {
 }
 
 /// A batch whose limits are settled: what the graphs are made of.
-#[derive(Debug, Drop)]
+#[derive(Drop)]
 pub struct Settled {
     /// The batch's second.
     pub now: u64,

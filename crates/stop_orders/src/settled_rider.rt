@@ -2,7 +2,7 @@ use crate::Leg;
 use pool_base::RiderId;
 
 /// A rider of a batch who waits, with the limits that hold for every vehicle.
-#[derive(Clone, Copy, Debug, PartialEq, Eq)]
+#[derive(Clone, Copy)]
 pub struct SettledRider {
     pub id: RiderId,
     pub leg: Leg,

@@ -3,7 +3,7 @@ use arrayvec::ArrayVec;
 use pool_base::{RiderId, VehicleId};
 
 /// A vehicle of a batch.
-#[derive(Clone, Debug, PartialEq, Eq, Drop)]
+#[derive(Drop)]
 pub struct SettledVehicle {
     pub id: VehicleId,
     /// The place where it is.

@@ -2,7 +2,7 @@ use crate::Leg;
 use arrayvec::ArrayVec;
 
 /// A vehicle, its passengers, and the riders of a trip: what an order of stops is sought for.
-#[derive(Clone, Debug, PartialEq, Eq, Drop)]
+#[derive(Drop)]
 pub struct Task {
     /// The place where the vehicle is.
     pub start: usize,

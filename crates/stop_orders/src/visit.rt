@@ -1,7 +1,7 @@
 use pool_base::Party;
 
 /// A stop as the clock and the seats see it.
-#[derive(Clone, Copy, Debug, PartialEq, Eq)]
+#[derive(Clone, Copy)]
 pub enum Visit {
     /// A party gets in at this place, at this second at the latest.
     Pickup {

@@ -4,7 +4,7 @@ use road_network::Hop;
 use std::marker::Model;
 
 /// A hop in 8 bytes, where `Hop` takes 16.
-#[derive(Clone, Copy, Debug)]
+#[derive(Clone, Copy)]
 pub struct ShortHop {
     to: u32,
     seconds: u32,

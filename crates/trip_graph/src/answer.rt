@@ -4,7 +4,7 @@ use pool_base::Sequence;
 use stop_orders::PairList;
 
 /// What growth over all vehicles gives.
-#[derive(Debug, Drop)]
+#[derive(Drop)]
 pub enum GraphAnswer {
     /// The trip graph, the edges between vehicles and riders, and those between riders.
     Graph {

@@ -1,7 +1,7 @@
 use trip_growth::VehicleTrips;
 
 /// The rows of one size, a list for each vehicle, and how many they are together.
-#[derive(Debug, Drop)]
+#[derive(Drop)]
 pub struct LevelRows {
     pub lists: Vec<VehicleTrips>,
     pub total: u64,

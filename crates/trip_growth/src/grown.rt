@@ -1,7 +1,7 @@
 use crate::vehicle_trips::VehicleTrips;
 
 /// The trips of all sizes that a vehicle can serve.
-#[derive(Debug, Drop)]
+#[derive(Drop)]
 pub enum Grown {
     /// All rows.
     All(VehicleTrips),

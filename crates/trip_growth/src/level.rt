@@ -1,7 +1,7 @@
 use crate::vehicle_trips::VehicleTrips;
 
 /// The trips of one size that a vehicle can serve.
-#[derive(Debug, Drop)]
+#[derive(Drop)]
 pub enum Level {
     /// All rows of the size.
     All(VehicleTrips),

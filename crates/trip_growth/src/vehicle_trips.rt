@@ -5,7 +5,7 @@ use std::alloc::Global;
 use std::marker::Model;
 
 /// Trips of one vehicle, by size, then riders.
-#[derive(Debug, Drop)]
+#[derive(Drop)]
 pub struct VehicleTrips {
     rows: Vec<TripOf>,
 }

@@ -127,7 +127,7 @@ impl Entries {
 }
 
 /// Which place was divided by at which condition, and by what.
-#[derive(Clone, Copy, Debug)]
+#[derive(Clone, Copy)]
 pub struct Pivot {
     pub condition: u32,
     pub place: u32,

@@ -9,7 +9,7 @@ use row_tables::lists::{Lists, short};
 use std::alloc::Global;
 
 /// A column that may come in, and its reduced cost.
-#[derive(Clone, Copy, Debug)]
+#[derive(Clone, Copy)]
 pub struct Candidate {
     pub cost: i64,
     pub column: u32,
