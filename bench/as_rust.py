@@ -29,7 +29,7 @@ pub mod shim {
     pub type AllocError = OutOfMemory;
     #[derive(Clone, Copy, Debug)]
     pub struct Global;
-    #[derive(Debug)]
+    #[derive(Debug, PartialEq, Eq, PartialOrd, Ord)]
     pub struct Vec<T>(pub Plain<T>);
     type Done = Result<(), OutOfMemory>;
 
@@ -86,6 +86,7 @@ pub mod shim {
         pub fn new(_: Global) -> Self { BinaryHeap(std::collections::BinaryHeap::new()) }
         pub fn push(&mut self, item: T) -> Done { self.0.push(item); Ok(()) }
         pub fn pop(&mut self) -> Option<T> { self.0.pop() }
+        pub fn peek(&self) -> Option<&T> { self.0.peek() }
     }
 }
 """

@@ -1,30 +1,28 @@
 -- What a search finds.
-use Rattle.std.proofs.Common.{◌≡◌, ◌⊎◌, ℕ, suc, ◌+◌, ◌*◌, ◌<◌, ◌≤◌, Bool, true, List, [], ◌∷◌, ◌++◌, length, get_or, set, take, drop, Option, Result, Ok, Err, ℤ, pos, negsuc, ◌≤ℤ◌, ◌<ℤ◌, FitsSigned, to_z, of_z, All, refl, sym, ap, ◌∙◌, subst, inl, inr, ⊎_elim, arith}
+use Rattle.std.proofs.Common.{◌≡◌, ◌⊎◌, ℕ, suc, ◌+◌, ◌*◌, ◌<◌, ◌≤◌, Bool, true, List, [], ◌∷◌, ◌++◌, length, get_or, set, take, drop, Option, Result, Ok, Err, ℤ, pos, negsuc, ◌≤ℤ◌, ◌<ℤ◌, FitsSigned, to_z, of_z, All, refl, sym, ap, ◌∙◌, subst, inl, inr, arith}
 use mir.Syntax.{w128}
 use Rattle.std.specs.Result.{IfOk}
 use Rattle.std.proofs.lemmas.Int.{ints, to_z-of_z}
 use Rattle.std.proofs.lemmas.List.Elements.{All-from_recursion}
-use Rattle.plan_rules.specs.Graph.{Graph, IsRowOf, row_vehicle, IsGoodGraph}
+use Rattle.plan_rules.specs.Graph.{Graph, IsGoodGraph}
 use Rattle.plan_rules.specs.Plan.{IsLawful, cost_of}
 use Rattle.plan_rules.specs.Greedy.{IsGreedy}
-use Rattle.plan_rules.specs.Multipliers.{Usable, usable_of, leaf_value, first_fit, first_fit_value}
-use Rattle.plan_rules.specs.Tree.{every_row, only_row, without_row, CanBranch, MayUse, IsDeadEnd, Place, rounded_up}
-use Rattle.plan_rules.specs.work.Tree.{places, IsWholeTree, places_read, value_read}
+use Rattle.plan_rules.specs.Multipliers.{Usable, usable_of, leaf_value, first_fit_value}
+use Rattle.plan_rules.specs.Tree.{every_row, only_row, without_row, CanBranch, IsDeadEnd, Place, rounded_up}
+use Rattle.plan_rules.specs.work.Tree.{places, places_read, value_read}
 use Rattle.plan_rules.specs.Reading.{ReadsTo}
 use Rattle.plan_rules.specs.declared.node.Node.{Node}
 use Rattle.plan_rules.specs.declared.node.Node.TheVariants.{Branch, Leaf, Dead}
 use Rattle.plan_rules.proofs.lemmas.PlanLemmas.{held_is_lawful}
 use Rattle.plan_rules.proofs.lemmas.TreeLemmas.{within_every_row, dead_end_holds_none, tree_value_bounds}
 use Rattle.plan_rules.proofs.lemmas.SearchTreeLemmas.{tree_of_reads, places_are, value_is_read}
-use Rattle.plan_rules.proofs.lemmas.UsableLemmas.{Agree, agree_back, leaf_value_agrees, first_fit_agrees, first_fit_value_agrees, dead_end_agrees, may_use_agrees, can_branch_agrees}
+use Rattle.plan_rules.proofs.lemmas.UsableLemmas.{Agree, agree_back, leaf_value_agrees, first_fit_value_agrees, dead_end_agrees, may_use_agrees, can_branch_agrees}
 use Rattle.std.proofs.lemmas.Bool.{both_ways}
 use Rattle.plan_rules.specs.Size.{IsSmallSum}
-use Rattle.assignment_search.specs.Growth.{IsWorthBranching, IsGoodLeaf, IsGoodNode, IsGrown, HasUsable, IsFixed, IsSolePlan, IsLowest, HasLeaf, IsNewLeaf, IsNewEnd, IsJudged, choice_count}
+use Rattle.assignment_search.specs.Growth.{IsWorthBranching, IsGoodLeaf, IsGoodNode, IsGrown, HasUsable, IsFixed, IsSolePlan, IsLowest, HasLeaf, IsNewEnd, IsJudged, choice_count}
 use Rattle.assignment_search.specs.Found.{IsAtLeastFirstFit, IsBranchJustified, IsRightPlan, IsSearchAnswer, IsTreeSoFar, Shows}
-use Rattle.assignment_search.specs.Next.{IsParting, IsPartedAt, IsNext}
+use Rattle.assignment_search.specs.Next.{IsParting, IsPartedAt}
 use Rattle.assignment_search.specs.declared.parting.Ends.{Ends}
-use Rattle.assignment_search.specs.declared.step.Outcome.{Outcome}
-use Rattle.assignment_search.specs.declared.step.Outcome.TheVariants.{Met, Better, Full, Fixed, Parted}
 use Rattle.assignment_search.proofs.GrowthLemmas.{IsSplit, grown_split, grown_reads, grown_length, branched, raised, lowest_above, lowest_floor, value_is, leaves_fit, branches_justified, usable_here, usable_only, usable_without, reads_unique, rounded_up_mono}
 use Rattle.assignment_search.proofs.RiseLemmas.{value_rises, only_fewer, without_fewer}
 use Rattle.assignment_search.proofs.CountLemmas.{tree_short}

@@ -1,10 +1,10 @@
 -- One vehicle's row in place of another.
-use Rattle.std.proofs.Common.{◌≡◌, ◌≢◌, ◌==◌, ◌⊎◌, ℕ, ◌+◌, ◌<◌, ◌≤◌, Bool, true, false, List, length, get_or, set, Option, Some, None, MatchOption, refl, sym, ap, ◌∙◌, subst, inl, inr, ⊎_elim, arith}
-use Rattle.std.proofs.lemmas.Bool.{cases_eq, cases_lt}
+use Rattle.std.proofs.Common.{◌≡◌, ◌⊎◌, ℕ, ◌<◌, ◌≤◌, true, List, length, set, Option, Some, None, MatchOption, refl, sym, ap, ◌∙◌, subst, inl, inr, arith}
+use Rattle.std.proofs.lemmas.Bool.{cases_lt}
 use Rattle.std.proofs.lemmas.List.{set-get_or, set_past, get_or-set_same, get_or-set_other}
 use Rattle.plan_rules.specs.Sums.{count_below}
-use Rattle.plan_rules.specs.Graph.{Graph, IsRowOf, HasNoRow, has_rider, choice_at, is_in}
-use Rattle.plan_rules.specs.Plan.{IsPlan, IsLawful, cost_of}
+use Rattle.plan_rules.specs.Graph.{Graph, IsRowOf, HasNoRow, choice_at, is_in}
+use Rattle.plan_rules.specs.Plan.{IsLawful, cost_of}
 use Rattle.plan_rules.proofs.lemmas.SumLemmas.{count_below_two}
 use Rattle.plan_rules.proofs.lemmas.GraphLemmas.{times_served_as_count}
 use Rattle.assignment_search.specs.Change.{HasNoBetterChange, BettersNothing, IsShared}

@@ -1,11 +1,11 @@
 -- A sound tree has a leaf.
-use Rattle.std.proofs.Common.{◌≡◌, ℕ, zero, suc, ◌+◌, ◌<◌, ◌≤◌, Bool, cond, List, [], ◌∷◌, length, Option, count_by, refl, ap, arith}
+use Rattle.std.proofs.Common.{◌≡◌, ℕ, suc, ◌+◌, ◌≤◌, Bool, cond, List, [], ◌∷◌, Option, count_by, refl, arith}
 use Rattle.std.proofs.lemmas.List.Sums.{sum_by-cons}
 use Rattle.plan_rules.specs.Graph.{Graph, IsGoodGraph}
 use Rattle.plan_rules.specs.Multipliers.{Usable}
 use Rattle.plan_rules.specs.Tree.{every_row, only_row, without_row, Place, belongs_to_end, belongs_to_dead_end, is_within}
-use Rattle.plan_rules.specs.Reading.{coming_after, places_from}
-use Rattle.plan_rules.specs.work.Tree.{IsWholeTree, places_read}
+use Rattle.plan_rules.specs.Reading.{places_from}
+use Rattle.plan_rules.specs.work.Tree.{IsWholeTree}
 use Rattle.plan_rules.specs.declared.node.Node.{Node}
 use Rattle.plan_rules.specs.declared.node.Node.TheVariants.{Branch, Leaf, Dead}
 use Rattle.plan_rules.proofs.lemmas.SumLemmas.{flag}

@@ -10,3 +10,4 @@ pub mod StandingLemmas
 pub mod EditLemmas
 pub mod AnswerLemmas
 pub mod ApartLemmas
+pub mod OpenLemmas

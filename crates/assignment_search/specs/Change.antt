@@ -1,5 +1,5 @@
 use Rattle.std.specs.Prelude.{◌≡◌, ◌≢◌, ℕ, ◌<◌, ◌≤◌, IsTrue, List, length, slice_set, Option, Some}
-use Rattle.plan_rules.specs.Graph.{Graph, IsRowOf, has_rider, choice_at}
+use Rattle.plan_rules.specs.Graph.{Graph, has_rider, choice_at}
 use Rattle.plan_rules.specs.Plan.{IsLawful, cost_of}
 
 -- no lawful plan that gives another row to one vehicle costs less

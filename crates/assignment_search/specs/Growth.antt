@@ -1,4 +1,4 @@
-use Rattle.std.specs.Prelude.{◌≡◌, ℕ, zero, suc, ◌*◌, ◌<◌, Bool, IsTrue, max, List, [], ◌∷◌, length, slice_index_or, Option, None, Some, MatchOption, ◌⊎◌, ℤ, pos, ◌≤ℤ◌, ◌<ℤ◌}
+use Rattle.std.specs.Prelude.{◌≡◌, ℕ, zero, suc, ◌*◌, ◌<◌, max, List, [], ◌∷◌, length, slice_index_or, Option, None, MatchOption, ℤ, pos, ◌≤ℤ◌, ◌<ℤ◌}
 use Rattle.plan_rules.specs.Sums.{count_below}
 use Rattle.plan_rules.specs.Graph.{Graph, IsRowOf}
 use Rattle.plan_rules.specs.Multipliers.{Usable, is_usable_by, leaf_value, first_fit_value}
@@ -73,12 +73,6 @@ pub record HasLeaf (nodes : List Node) : Type 0 where
   pub multipliers : List ℤ
   pub within : place < length nodes
   pub leaf : slice_index_or nodes place Dead ≡ Leaf multipliers
-
--- of the best place so far, if any, and a new one, this is one whose value is not above either's
-pub record IsLowerOf (values : List ℤ) (best : Option ℕ) (place lower : ℕ) : Type 0 where
-  pub either : (best ≡ Some lower) ⊎ (lower ≡ place)
-  pub new : slice_index_or values lower (pos 0) ≤ℤ slice_index_or values place (pos 0)
-  pub old : (b : ℕ) → best ≡ Some b → slice_index_or values lower (pos 0) ≤ℤ slice_index_or values b (pos 0)
 
 -- each vehicle is given a row that it may use, if it has one
 abbrev pub IsSolePlan : Graph → Usable → List (Option ℕ) → Type 0

@@ -1,4 +1,4 @@
-use Rattle.std.specs.Prelude.{◌≡◌, ℕ, ◌+◌, ◌*◌, ◌<◌, ◌≤◌, List, [], ◌∷◌, length, take, slice_index_or, Option, ℤ, pos, ◌≤ℤ◌, ◌<ℤ◌}
+use Rattle.std.specs.Prelude.{◌≡◌, ℕ, ◌+◌, ◌*◌, ◌<◌, ◌≤◌, List, [], ◌∷◌, length, take, slice_index_or, ℤ, pos, ◌≤ℤ◌, ◌<ℤ◌}
 use Rattle.plan_rules.specs.Graph.{Graph}
 use Rattle.plan_rules.specs.Plan.{IsLawful, cost_of}
 use Rattle.plan_rules.specs.Multipliers.{Usable}

@@ -17,7 +17,8 @@ use crate::found::Found;
 use crate::growth::grow;
 use crate::guide::Guide;
 use crate::lookups::Lookups;
-use crate::lowest_leaf::{bound_at, lowest};
+use crate::lowest_leaf::bound_at;
+use crate::open_leaves::OpenLeaves;
 use crate::root::root_leaf;
 use crate::step::{Outcome, next};
 use plan_rules::{Node, Plan, Tree, TripGraph, cost_of};
@@ -75,6 +76,7 @@ fn branch(
 {
     let mut plan = first;
     let mut limit = cost_of(graph, &plan);
+    let mut leaves = OpenLeaves::new(alloc, root.value)?;
     let mut nodes = Vec::new(alloc);
     nodes.push(Node::Leaf {
         multipliers: root.multipliers,
@@ -82,7 +84,7 @@ fn branch(
     let mut values = Vec::new(alloc);
     values.push(root.value)?;
     loop {
-        let place = lowest(&nodes, &values);
+        let place = leaves.first();
         let bound = bound_at(&values, place);
         match next(
             alloc,
@@ -95,7 +97,10 @@ fn branch(
             budget as usize,
             guide,
         )? {
-            Outcome::Parted(ends) => grow(&mut nodes, &mut values, place, ends)?,
+            Outcome::Parted(ends) => {
+                leaves.part(alloc, place, &ends)?;
+                grow(&mut nodes, &mut values, place, ends)?;
+            }
             Outcome::Better(better) => {
                 limit = cost_of(graph, &better);
                 plan = better;

@@ -14,6 +14,7 @@ mod growth;
 mod guide;
 mod lookups;
 mod lowest_leaf;
+mod open_leaves;
 mod parting;
 mod root;
 mod sole_plan;

@@ -4,6 +4,8 @@
 //! (Held, Wolfe and Crowder, 1974). A step is as long as Polyak's rule says (1969), toward the cost of the
 //! best plan seen, and deflected from the one before it as by Camerini, Fratta and Maffioli (1975). Nothing
 //! is proved of how far an ascent comes: a leaf value judges each point.
+ghost use Rattle.std.specs.Prelude.{◌≡◌, ◌<◌, IfSome, length};
+
 use plan_rules::TripGraph;
 use pool_base::OutOfMemory;
 use row_tables::fixed_point::{add_at, at, quotient, set_at, times};
@@ -73,7 +75,9 @@ impl Ascent {
     }
 
     /// Computes the value and the slopes at the point.
-    pub fn look(&mut self, graph: &TripGraph, allowed: &[bool]) {
+    pub fn look(&mut self, graph: &TripGraph, allowed: &[bool])
+        requires { length allowed.now ≡ length graph.now.rows }
+    {
         self.value = 0;
         self.count_riders(graph);
         for vehicle in 0..graph.vehicle_count() {
@@ -87,7 +91,9 @@ impl Ascent {
     }
 
     /// Steps to the next point. False where no step is left that is worth it.
-    pub fn go_on(&mut self, graph: &TripGraph, allowed: &[bool], best: &[i64]) -> bool {
+    pub fn go_on(&mut self, graph: &TripGraph, allowed: &[bool], best: &[i64]) -> bool
+        requires { length allowed.now ≡ length graph.now.rows }
+    {
         self.count_turn();
         if self.idle > MOST_IDLE {
             self.go_back(graph, allowed, best);
@@ -117,26 +123,29 @@ impl Ascent {
     }
 
     /// What a vehicle's best row adds to the value and takes from the slopes.
-    fn like(&mut self, graph: &TripGraph, allowed: &[bool], vehicle: usize) {
+    fn like(&mut self, graph: &TripGraph, allowed: &[bool], vehicle: usize)
+        requires allowed { length allowed.now ≡ length graph.now.rows }
+        requires vehicle { vehicle < graph.now.vehicles }
+    {
         let liked = best_row(graph, allowed, &self.point, vehicle);
         if vehicle < self.liked.len() {
             self.liked[vehicle] = liked;
         }
         if let Some(row) = liked {
+            let cost = reduced_cost(graph, &self.point, row);
+            self.value = self.value.wrapping_add(cost);
             let rows = graph.rows();
-            if row < rows.len() {
-                let cost = reduced_cost(graph, &self.point, row);
-                self.value = self.value.wrapping_add(cost);
-                for rider in rows[row].riders.as_slice() {
-                    add_at(&mut self.slope, *rider, -UNIT);
-                }
+            for rider in rows[row].riders.as_slice() {
+                add_at(&mut self.slope, *rider, -UNIT);
             }
         }
     }
 
     /// What a plan costs, in seconds, where each vehicle has the row that it likes, or if one of its riders
     /// is served by an earlier vehicle the row of least cost for the others.
-    fn plan_cost(&mut self, graph: &TripGraph, allowed: &[bool]) -> i64 {
+    fn plan_cost(&mut self, graph: &TripGraph, allowed: &[bool]) -> i64
+        requires { length allowed.now ≡ length graph.now.rows }
+    {
         self.served.as_mut_slice().fill(false);
         let mut cost = i64::from(graph.penalty()).wrapping_mul(graph.rider_count() as i64);
         for vehicle in 0..graph.vehicle_count() {
@@ -148,10 +157,14 @@ impl Ascent {
         cost
     }
 
-    fn row_apart(&self, graph: &TripGraph, allowed: &[bool], vehicle: usize) -> Option<usize> {
+    fn row_apart(&self, graph: &TripGraph, allowed: &[bool], vehicle: usize) -> Option<usize>
+        requires allowed { length allowed.now ≡ length graph.now.rows }
+        requires vehicle { vehicle < graph.now.vehicles }
+        ensures { IfSome result (λ k. k < length graph.now.rows) }
+    {
         if self.turn > 0 && vehicle < self.liked.len() {
             let liked = self.liked[vehicle]?;
-            if is_apart(graph, liked, &self.served) {
+            if liked < graph.rows().len() && is_apart(graph, liked, &self.served) {
                 return Some(liked);
             }
         }
@@ -172,7 +185,9 @@ impl Ascent {
     }
 
     /// Goes back to the best point, and halves the steps.
-    fn go_back(&mut self, graph: &TripGraph, allowed: &[bool], best: &[i64]) {
+    fn go_back(&mut self, graph: &TripGraph, allowed: &[bool], best: &[i64])
+        requires { length allowed.now ≡ length graph.now.rows }
+    {
         self.idle = 0;
         self.scale /= 2;
         self.direction.as_mut_slice().fill(0);
@@ -222,14 +237,17 @@ fn product(first: &[i64], second: &[i64]) -> i64 {
 }
 
 /// The vehicle's allowed row of least reduced cost.
-fn best_row(graph: &TripGraph, allowed: &[bool], point: &[i64], vehicle: usize) -> Option<usize> {
-    if vehicle >= graph.vehicle_count() {
-        return None;
-    }
+fn best_row(graph: &TripGraph, allowed: &[bool], point: &[i64], vehicle: usize) -> Option<usize>
+    requires allowed { length allowed.now ≡ length graph.now.rows }
+    requires vehicle { vehicle < graph.now.vehicles }
+    ensures { IfSome result (λ k. k < length graph.now.rows) }
+{
+    let count = graph.vehicle_count();
+    prove!(vehicle < count);
     let mut least = i64::MAX;
     let mut best = None;
     for row in graph.first_row(vehicle)..graph.first_row(vehicle + 1) {
-        if row < allowed.len() && allowed[row] {
+        if allowed[row] {
             let cost = reduced_cost(graph, point, row);
             if cost < least {
                 least = cost;
@@ -241,11 +259,10 @@ fn best_row(graph: &TripGraph, allowed: &[bool], point: &[i64], vehicle: usize) 
 }
 
 /// What the row costs, less its riders' multipliers, in 1/1024 second.
-fn reduced_cost(graph: &TripGraph, point: &[i64], row: usize) -> i64 {
+fn reduced_cost(graph: &TripGraph, point: &[i64], row: usize) -> i64
+    requires { row < length graph.now.rows }
+{
     let rows = graph.rows();
-    if row >= rows.len() {
-        return 0;
-    }
     let mut cost = (rows[row].cost.min(1_000_000_000) as i64).wrapping_mul(1024);
     for rider in rows[row].riders.as_slice() {
         cost = cost.wrapping_sub(at(point, *rider));
@@ -259,14 +276,17 @@ fn cheapest_apart(
     allowed: &[bool],
     served: &[bool],
     vehicle: usize,
-) -> Option<usize> {
-    if vehicle >= graph.vehicle_count() {
-        return None;
-    }
+) -> Option<usize>
+    requires allowed { length allowed.now ≡ length graph.now.rows }
+    requires vehicle { vehicle < graph.now.vehicles }
+    ensures { IfSome result (λ k. k < length graph.now.rows) }
+{
+    let count = graph.vehicle_count();
+    prove!(vehicle < count);
     let mut least = i64::MAX;
     let mut best = None;
     for row in graph.first_row(vehicle)..graph.first_row(vehicle + 1) {
-        if row < allowed.len() && allowed[row] {
+        if allowed[row] {
             let cost = served_cost(graph, row);
             if cost < least && is_apart(graph, row, served) {
                 least = cost;
@@ -278,21 +298,19 @@ fn cheapest_apart(
 }
 
 /// What the row costs, less the penalties of its riders, in seconds.
-fn served_cost(graph: &TripGraph, row: usize) -> i64 {
+fn served_cost(graph: &TripGraph, row: usize) -> i64
+    requires { row < length graph.now.rows }
+{
     let rows = graph.rows();
-    if row >= rows.len() {
-        return 0;
-    }
     let saved = i64::from(graph.penalty()).wrapping_mul(rows[row].riders.len() as i64);
     (rows[row].cost.min(1_000_000_000) as i64).wrapping_sub(saved)
 }
 
 /// Whether none of the row's riders is served.
-fn is_apart(graph: &TripGraph, row: usize, served: &[bool]) -> bool {
+fn is_apart(graph: &TripGraph, row: usize, served: &[bool]) -> bool
+    requires { row < length graph.now.rows }
+{
     let rows = graph.rows();
-    if row >= rows.len() {
-        return false;
-    }
     for rider in rows[row].riders.as_slice() {
         if *rider < served.len() && served[*rider] {
             return false;
@@ -301,13 +319,13 @@ fn is_apart(graph: &TripGraph, row: usize, served: &[bool]) -> bool {
     true
 }
 
-fn serve(graph: &TripGraph, row: usize, served: &mut [bool]) {
+fn serve(graph: &TripGraph, row: usize, served: &mut [bool])
+    requires { row < length graph.now.rows }
+{
     let rows = graph.rows();
-    if row < rows.len() {
-        for rider in rows[row].riders.as_slice() {
-            if *rider < served.len() {
-                served[*rider] = true;
-            }
+    for rider in rows[row].riders.as_slice() {
+        if *rider < served.len() {
+            served[*rider] = true;
         }
     }
 }

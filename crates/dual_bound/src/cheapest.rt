@@ -52,6 +52,7 @@ fn cheapest_row(graph: &TripGraph, vehicle: usize) -> u32
 
 /// Whether each row costs at least as much as the one that is listed for its vehicle.
 fn are_cheapest(graph: &TripGraph, listed: &[u32]) -> bool
+    requires { length listed.now ≡ graph.now.vehicles }
     ensures { result ≡ true → AreCheapest graph.now listed.now }
 {
     let rows = graph.rows();
@@ -64,15 +65,12 @@ fn are_cheapest(graph: &TripGraph, listed: &[u32]) -> bool
 }
 
 fn is_no_cheaper(graph: &TripGraph, listed: &[u32], row: usize) -> bool
-    requires { row < length graph.now.rows }
+    requires listed { length listed.now ≡ graph.now.vehicles }
+    requires row { row < length graph.now.rows }
     ensures { result ≡ true → IsNoCheaper graph.now listed.now row }
 {
     let rows = graph.rows();
-    let vehicle = rows[row].vehicle;
-    if vehicle >= listed.len() {
-        return false;
-    }
-    let cheapest = listed[vehicle] as usize;
+    let cheapest = listed[rows[row].vehicle] as usize;
     cheapest < rows.len() && rows[cheapest].cost <= rows[row].cost
 }
 

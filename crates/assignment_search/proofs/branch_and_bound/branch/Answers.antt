@@ -1,18 +1,20 @@
-use Rattle.std.proofs.Common.{◌≡◌, ◌+◌, ◌-◌, ◌*◌, ◌<◌, ◌≤◌, ℕ, List, [], ◌∷◌, ◌++◌, length, get_or, Option, ℤ, pos, ◌≤ℤ◌, ◌<ℤ◌, sym, ap, ◌∙◌, subst, inl, inr, arith, to_z, of_z}
+use Rattle.std.proofs.Common.{◌≡◌, ◌+◌, ◌-◌, ◌<◌, ◌≤◌, ℕ, suc, take, drop, List, [], ◌∷◌, ◌++◌, length, get_or, Option, ℤ, pos, ◌≤ℤ◌, ◌<ℤ◌, sym, ap, ◌∙◌, subst, inl, inr, arith, to_z, of_z}
 use mir.Syntax.{w128}
 use Rattle.std.proofs.lemmas.Int.{ints, to_z-of_z}
-use Rattle.plan_rules.specs.Plan.{IsLawful, cost_of}
+use Rattle.plan_rules.specs.Plan.{cost_of}
 use Rattle.plan_rules.specs.Tree.{every_row, rounded_up}
 use Rattle.plan_rules.specs.declared.node.Node.{Node}
 use Rattle.plan_rules.specs.declared.node.Node.TheVariants.{Branch, Leaf}
 use Rattle.plan_rules.specs.Size.{IsSmallSum}
 use Rattle.assignment_search.specs.Found.{IsRightPlan}
-use Rattle.assignment_search.specs.Growth.{IsGrown, IsLowest, HasLeaf}
+use Rattle.assignment_search.specs.Growth.{IsGrown, IsLowest}
+use Rattle.assignment_search.specs.work.OpenLeaves.{AreOpen}
 use Rattle.assignment_search.specs.Next.{IsNext}
 use Rattle.assignment_search.specs.declared.step.Outcome.{Outcome}
 use Rattle.assignment_search.specs.declared.step.Outcome.TheVariants.{Full, Fixed, Parted}
 use Rattle.assignment_search.proofs.EditLemmas.{edit_length}
-use Rattle.assignment_search.proofs.AnswerLemmas.{small_back, new_end_small, so_far_start, so_far_leaf, so_far_length, so_far_raised, so_far_grow, lowest_small, right_from_least, low_is_bound, answer}
+use Rattle.assignment_search.proofs.AnswerLemmas.{small_back, new_end_small, so_far_start, so_far_leaf, so_far_raised, so_far_grow, lowest_small, right_from_least, low_is_bound, answer}
+use Rattle.assignment_search.proofs.OpenLemmas.{lowest_at}
 use Rattle.assignment_search.proofs.branch_and_bound.branch.Goals as goal
 
 pub loop-values-init : goal.loop-values-init
@@ -32,39 +34,26 @@ loop-values-init c =
       tree = so_far_start g c.args.budget limit ms z c.push.new.self.items c.push-2.new.self.items c.requires.budget leaf
           (c.in_ok-push.ensures.items ∙ ap (λ (xs : List Node). xs ++ Leaf ms ∷ []) c.new-nodes.ensures.items)
           (c.in_ok-push-2.ensures.items ∙ (λ i. c.new-values.ensures.items i ++ small_back z leaf.small i ∷ []));
+      open_leaves =
+          subst (λ (ns : List Node). AreOpen c.in_ok-leaves.leaves ns c.push-2.new.self.items) (sym (c.in_ok-push.ensures.items ∙ ap (λ (xs : List Node). xs ++ Leaf ms ∷ []) c.new-nodes.ensures.items))
+          (subst (λ (zs : List ℤ). AreOpen c.in_ok-leaves.leaves (Leaf ms ∷ []) zs) (sym (c.in_ok-push-2.ensures.items ∙ ap (λ (xs : List ℤ). xs ++ to_z w128 (of_z w128 z) ∷ []) c.new-values.ensures.items)) (c.in_ok-leaves.ensures ms));
     }
 
-pub lowest-place-requires-clause-len : goal.lowest-place-requires-clause-len
-lowest-place-requires-clause-len c =
-    ap (λ (xs : List ℤ). length xs) c.deref-in-loop-values.ensures.value
-    ∙ so_far_length c.args.graph.now c.args.budget c.cost_of-limit.result c.loop-values.nodes.items c.loop-values.values.items c.loop-values.invariant.tree
-    ∙ sym (ap (λ (xs : List Node). length xs) c.deref.ensures.value)
-
-pub lowest-place-requires-clause-leaf : goal.lowest-place-requires-clause-leaf
-lowest-place-requires-clause-leaf c =
-    subst HasLeaf (sym c.deref.ensures.value)
-    (so_far_leaf c.args.graph.now c.args.budget c.cost_of-limit.result c.loop-values.nodes.items c.loop-values.values.items c.requires.good c.loop-values.invariant.tree)
-
-pub bound_at-bound-requires-clause-place : goal.bound_at-bound-requires-clause-place
-bound_at-bound-requires-clause-place c =
+pub first-place-requires : goal.first-place-requires
+first-place-requires c =
     let nodes : List Node = c.loop-values.nodes.items in
     let values : List ℤ = c.loop-values.values.items in
-    let p = c.lowest-place.result in
-    let within : p < length c.deref.result.now = c.lowest-place.ensures.within in
-    let a = ap (λ (xs : List Node). length xs) c.deref.ensures.value in
-    let b = ap (λ (xs : List ℤ). length xs) c.deref-in-loop-values-2.ensures.value in
-    let size = so_far_length c.args.graph.now c.args.budget c.cost_of-limit.result nodes values c.loop-values.invariant.tree in
-    omega (arith, within, a, b, size)
+    let inv = c.loop-values.invariant in
+    (nodes, values, (inv.open_leaves, so_far_leaf c.args.graph.now c.args.budget c.cost_of-limit.result nodes values c.requires.good inv.tree))
 
 pub bound_at-bound-requires-clause-small : goal.bound_at-bound-requires-clause-small
 bound_at-bound-requires-clause-small c =
     let nodes : List Node = c.loop-values.nodes.items in
     let values : List ℤ = c.loop-values.values.items in
-    let p = c.lowest-place.result in
+    let p = c.first-place.result in
     let t = c.loop-values.invariant.tree in
-    let lowest : IsLowest nodes values p = subst (λ (ns : List Node). IsLowest ns values p) c.deref.ensures.value
-    (subst (λ (zs : List ℤ). IsLowest c.deref.result.now zs p) c.deref-in-loop-values.ensures.value c.lowest-place.ensures) in
-    subst (λ (zs : List ℤ). IsSmallSum 1500 (get_or zs p (pos 0))) (sym c.deref-in-loop-values-2.ensures.value)
+    let lowest : IsLowest nodes values p = lowest_at c.args.graph.now c.args.budget c.cost_of-limit.result c.loop-values.leaves nodes values p c.requires.good c.loop-values.invariant.tree c.loop-values.invariant.open_leaves c.first-place.ensures.lowest in
+    subst (λ (zs : List ℤ). IsSmallSum 1500 (get_or zs p (pos 0))) (sym c.deref.ensures.value)
     (lowest_small c.args.graph.now t.low c.cost_of-limit.result nodes values p t.grown lowest)
 
 pub next-requires-clause-grown : goal.next-requires-clause-grown
@@ -73,57 +62,80 @@ next-requires-clause-grown c =
     let limit = c.cost_of-limit.result in
     let nodes : List Node = c.loop-values.nodes.items in
     let values : List ℤ = c.loop-values.values.items in
-    let p = c.lowest-place.result in
-    let lowest : IsLowest nodes values p = subst (λ (ns : List Node). IsLowest ns values p) c.deref.ensures.value
-    (subst (λ (zs : List ℤ). IsLowest c.deref.result.now zs p) c.deref-in-loop-values.ensures.value c.lowest-place.ensures) in (
+    let p = c.first-place.result in
+    let lowest : IsLowest nodes values p = lowest_at c.args.graph.now c.args.budget c.cost_of-limit.result c.loop-values.leaves nodes values p c.requires.good c.loop-values.invariant.tree c.loop-values.invariant.open_leaves c.first-place.ensures.lowest in (
       limit,
-      subst (λ (ns : List Node). IsGrown g (rounded_up (get_or c.deref-in-loop-values-4.result.now p (pos 0))) limit (every_row ∷ []) ns c.deref-in-loop-values-4.result.now []) (sym c.deref-in-loop-values-3.ensures.value)
-          (subst (λ (zs : List ℤ). IsGrown g (rounded_up (get_or zs p (pos 0))) limit (every_row ∷ []) nodes zs []) (sym c.deref-in-loop-values-4.ensures.value)
+      subst (λ (ns : List Node). IsGrown g (rounded_up (get_or c.deref-in-loop-values-2.result.now p (pos 0))) limit (every_row ∷ []) ns c.deref-in-loop-values-2.result.now []) (sym c.deref-in-loop-values.ensures.value)
+          (subst (λ (zs : List ℤ). IsGrown g (rounded_up (get_or zs p (pos 0))) limit (every_row ∷ []) nodes zs []) (sym c.deref-in-loop-values-2.ensures.value)
           (so_far_raised g c.args.budget limit nodes values p c.loop-values.invariant.tree lowest)),
     )
 
-pub grow-requires-clause-values : goal.grow-requires-clause-values
-grow-requires-clause-values c =
-    so_far_length c.args.graph.now c.args.budget c.cost_of-limit.result c.loop-values.nodes.items c.loop-values.values.items c.loop-values.invariant.tree
+pub next-requires-clause-lowest : goal.next-requires-clause-lowest
+next-requires-clause-lowest c =
+    let nodes : List Node = c.loop-values.nodes.items in
+    let values : List ℤ = c.loop-values.values.items in
+    let p = c.first-place.result in
+    let lowest : IsLowest nodes values p = lowest_at c.args.graph.now c.args.budget c.cost_of-limit.result c.loop-values.leaves nodes values p c.requires.good c.loop-values.invariant.tree c.loop-values.invariant.open_leaves c.first-place.ensures.lowest in
+    subst (λ (ns : List Node). IsLowest ns c.deref-in-loop-values-2.result.now p) (sym c.deref-in-loop-values.ensures.value)
+    (subst (λ (zs : List ℤ). IsLowest nodes zs p) (sym c.deref-in-loop-values-2.ensures.value) lowest)
+
+pub part-requires-clause-first_small : goal.part-requires-clause-first_small
+part-requires-clause-first_small c =
+    let g = c.args.graph.now in
+    let ends = c.in-Parted.ends in
+    let said = subst (λ (o : Outcome). IsNext g c.deref-in-loop-values.result.now c.deref-in-loop-values-2.result.now c.first-place.result c.loop-values.limit c.args.budget o) c.in-Parted.is c.in_ok-ends.ensures in
+    new_end_small g _ (said.0).parent ends.first.node ends.first.value (said.0).parting.first
+
+pub part-requires-clause-second_small : goal.part-requires-clause-second_small
+part-requires-clause-second_small c =
+    let g = c.args.graph.now in
+    let ends = c.in-Parted.ends in
+    let said = subst (λ (o : Outcome). IsNext g c.deref-in-loop-values.result.now c.deref-in-loop-values-2.result.now c.first-place.result c.loop-values.limit c.args.budget o) c.in-Parted.is c.in_ok-ends.ensures in
+    new_end_small g _ (said.0).parent ends.second.node ends.second.value (said.0).parting.second
+
+pub grow-requires-clause-first : goal.grow-requires-clause-first
+grow-requires-clause-first c =
+    let g = c.args.graph.now in
+    let ends = c.in-Parted.ends in
+    let said = subst (λ (o : Outcome). IsNext g c.deref-in-loop-values.result.now c.deref-in-loop-values-2.result.now c.first-place.result c.loop-values.limit c.args.budget o) c.in-Parted.is c.in_ok-ends.ensures in
+    new_end_small g _ (said.0).parent ends.first.node ends.first.value (said.0).parting.first
 
 pub grow-requires-clause-second : goal.grow-requires-clause-second
 grow-requires-clause-second c =
     let g = c.args.graph.now in
     let ends = c.in-Parted.ends in
-    let said = subst (λ (o : Outcome). IsNext g c.deref-in-loop-values-3.result.now c.deref-in-loop-values-4.result.now c.lowest-place.result c.loop-values.limit c.args.budget o) c.in-Parted.is c.in_ok-ends.ensures in
+    let said = subst (λ (o : Outcome). IsNext g c.deref-in-loop-values.result.now c.deref-in-loop-values-2.result.now c.first-place.result c.loop-values.limit c.args.budget o) c.in-Parted.is c.in_ok-ends.ensures in
     new_end_small g _ (said.0).parent ends.second.node ends.second.value (said.0).parting.second
 
-pub loop-values-smaller-in-Continue-branch-5 : goal.loop-values-smaller-in-Continue-branch-5
-loop-values-smaller-in-Continue-branch-5 c =
+pub loop-values-smaller-in-Continue-branch-7 : goal.loop-values-smaller-in-Continue-branch-7
+loop-values-smaller-in-Continue-branch-7 c =
     let g = c.args.graph.now in
     let nodes : List Node = c.loop-values.nodes.items in
+    let values : List ℤ = c.loop-values.values.items in
     let new : List Node = c.grow.new.nodes.items in
     let ends = c.in-Parted.ends in
-    let p = c.lowest-place.result in
-    let said = subst (λ (o : Outcome). IsNext g c.deref-in-loop-values-3.result.now c.deref-in-loop-values-4.result.now p c.loop-values.limit c.args.budget o) c.in-Parted.is c.in_ok-ends.ensures in
-    let a = ap (λ (xs : List Node). length xs) c.deref.ensures.value in
-    let b = ap (λ (xs : List Node). length xs) c.deref-in-loop-values-3.ensures.value in
-    let room : length c.deref-in-loop-values-3.result.now + 2 ≤ c.args.budget = said.1 in
-    let within : p < length c.deref.result.now = c.lowest-place.ensures.within in
-    let low : p < length nodes = omega (arith, within, a) in
-    let size = ap (λ (xs : List Node). length xs) c.in_ok-grow-in-Parted.ensures.nodes ∙ edit_length nodes p (Branch ends.vehicle ends.row) ends.first.node ends.second.node low in
+    let p = c.first-place.result in
+    let lowest : IsLowest nodes values p = lowest_at c.args.graph.now c.args.budget c.cost_of-limit.result c.loop-values.leaves nodes values p c.requires.good c.loop-values.invariant.tree c.loop-values.invariant.open_leaves c.first-place.ensures.lowest in
+    let said = subst (λ (o : Outcome). IsNext g c.deref-in-loop-values.result.now c.deref-in-loop-values-2.result.now p c.loop-values.limit c.args.budget o) c.in-Parted.is c.in_ok-ends.ensures in
+    let b = ap (λ (xs : List Node). length xs) c.deref-in-loop-values.ensures.value in
+    let room : length c.deref-in-loop-values.result.now + 2 ≤ c.args.budget = said.1 in
+    let size = ap (λ (xs : List Node). length xs) c.in_ok-grow-in-Parted.ensures.nodes ∙ edit_length nodes p (Branch ends.vehicle ends.row) ends.first.node ends.second.node lowest.within in
     let less : c.loop-values.limit + (c.args.budget - length new) < c.loop-values.limit + (c.args.budget - length nodes) = omega (arith, size, room, b) in
     less
 
-pub loop-values-preserved-in-Continue-branch-5 : goal.loop-values-preserved-in-Continue-branch-5
-loop-values-preserved-in-Continue-branch-5 c =
+pub loop-values-preserved-in-Continue-branch-7 : goal.loop-values-preserved-in-Continue-branch-7
+loop-values-preserved-in-Continue-branch-7 c =
     let g = c.args.graph.now in
     let limit = c.cost_of-limit.result in
     let now = c.loop-values.limit in
     let budget = c.args.budget in
     let nodes : List Node = c.loop-values.nodes.items in
     let values : List ℤ = c.loop-values.values.items in
-    let p = c.lowest-place.result in
+    let p = c.first-place.result in
     let ends = c.in-Parted.ends in
-    let lowest : IsLowest nodes values p = subst (λ (ns : List Node). IsLowest ns values p) c.deref.ensures.value
-    (subst (λ (zs : List ℤ). IsLowest c.deref.result.now zs p) c.deref-in-loop-values.ensures.value c.lowest-place.ensures) in
-    let said : IsNext g nodes values p now budget c.in_ok-ends.field-0 = subst (λ (ns : List Node). IsNext g ns values p now budget c.in_ok-ends.field-0) c.deref-in-loop-values-3.ensures.value
-    (subst (λ (zs : List ℤ). IsNext g c.deref-in-loop-values-3.result.now zs p now budget c.in_ok-ends.field-0) c.deref-in-loop-values-4.ensures.value c.in_ok-ends.ensures) in
+    let lowest : IsLowest nodes values p = lowest_at c.args.graph.now c.args.budget c.cost_of-limit.result c.loop-values.leaves nodes values p c.requires.good c.loop-values.invariant.tree c.loop-values.invariant.open_leaves c.first-place.ensures.lowest in
+    let said : IsNext g nodes values p now budget c.in_ok-ends.field-0 = subst (λ (ns : List Node). IsNext g ns values p now budget c.in_ok-ends.field-0) c.deref-in-loop-values.ensures.value
+    (subst (λ (zs : List ℤ). IsNext g c.deref-in-loop-values.result.now zs p now budget c.in_ok-ends.field-0) c.deref-in-loop-values-2.ensures.value c.in_ok-ends.ensures) in
     let parted : IsNext g nodes values p now budget (Parted ends) = subst (IsNext g nodes values p now budget) c.in-Parted.is said in
     let under : now ≤ limit = c.loop-values.invariant.under in
     let below : rounded_up (get_or values p (pos 0)) <ℤ pos now = parted.2 in
@@ -135,6 +147,10 @@ loop-values-preserved-in-Continue-branch-5 c =
       greedy = c.loop-values.invariant.greedy;
       tree = so_far_grow g budget limit nodes values p ends c.grow.new.nodes.items c.grow.new.values.items c.loop-values.invariant.tree lowest (parted.0) (parted.1) (omega (arith, ints, under, below))
           c.in_ok-grow-in-Parted.ensures.nodes c.in_ok-grow-in-Parted.ensures.values;
+      open_leaves =
+          subst (λ (ns : List Node). AreOpen c.part.new.self ns c.grow.new.values.items) (sym c.in_ok-grow-in-Parted.ensures.nodes)
+          (subst (λ (zs : List ℤ). AreOpen c.part.new.self (take p nodes ++ (Branch ends.vehicle ends.row ∷ ends.first.node ∷ ends.second.node ∷ drop (suc p) nodes)) zs) (sym c.in_ok-grow-in-Parted.ensures.values)
+          (c.in_ok-part-in-Parted.ensures nodes values c.loop-values.invariant.open_leaves lowest));
     }
 
 pub returns-in-Fixed : goal.returns-in-Fixed
@@ -145,21 +161,20 @@ returns-in-Fixed c =
     let budget = c.args.budget in
     let nodes : List Node = c.loop-values.nodes.items in
     let values : List ℤ = c.loop-values.values.items in
-    let p = c.lowest-place.result in
+    let p = c.first-place.result in
     let best : List (Option ℕ) = c.in-Fixed.best in
     let low = rounded_up (get_or values p (pos 0)) in
     let good = c.requires.good in
     let tree = c.loop-values.invariant.tree in
-    let lowest : IsLowest nodes values p = subst (λ (ns : List Node). IsLowest ns values p) c.deref.ensures.value
-    (subst (λ (zs : List ℤ). IsLowest c.deref.result.now zs p) c.deref-in-loop-values.ensures.value c.lowest-place.ensures) in
-    let said : IsNext g nodes values p now budget c.in_ok-ends.field-0 = subst (λ (ns : List Node). IsNext g ns values p now budget c.in_ok-ends.field-0) c.deref-in-loop-values-3.ensures.value
-    (subst (λ (zs : List ℤ). IsNext g c.deref-in-loop-values-3.result.now zs p now budget c.in_ok-ends.field-0) c.deref-in-loop-values-4.ensures.value c.in_ok-ends.ensures) in
+    let lowest : IsLowest nodes values p = lowest_at c.args.graph.now c.args.budget c.cost_of-limit.result c.loop-values.leaves nodes values p c.requires.good c.loop-values.invariant.tree c.loop-values.invariant.open_leaves c.first-place.ensures.lowest in
+    let said : IsNext g nodes values p now budget c.in_ok-ends.field-0 = subst (λ (ns : List Node). IsNext g ns values p now budget c.in_ok-ends.field-0) c.deref-in-loop-values.ensures.value
+    (subst (λ (zs : List ℤ). IsNext g c.deref-in-loop-values.result.now zs p now budget c.in_ok-ends.field-0) c.deref-in-loop-values-2.ensures.value c.in_ok-ends.ensures) in
     let fixed : IsNext g nodes values p now budget (Fixed best) = subst (IsNext g nodes values p now budget) c.in-Fixed.is said in
     let met : pos c.cost_of.result ≤ℤ low = subst (λ (n : ℕ). pos n ≤ℤ low) (sym c.cost_of.ensures) (fixed.1) in
     let back : to_z w128 (of_z w128 c.bound_at-bound.result) ≡ c.bound_at-bound.result = to_z-of_z w128 c.bound_at-bound.result (record { sfits = c.bound_at-bound.type_inv }) in
     let right = right_from_least g best c.cost_of.result low good (fixed.0) c.cost_of.ensures met (low_is_bound g limit p nodes values good (so_far_raised g budget limit nodes values p tree lowest) lowest) in
     answer g budget limit p best c.cost_of.result nodes values (to_z w128 (of_z w128 c.bound_at-bound.result)) c.of-in-Fixed.result good tree lowest c.loop-values.invariant.held c.loop-values.invariant.greedy right (inl met)
-    (back ∙ c.bound_at-bound.ensures ∙ ap (λ (zs : List ℤ). rounded_up (get_or zs p (pos 0))) c.deref-in-loop-values-2.ensures.value) c.of-in-Fixed.ensures
+    (back ∙ c.bound_at-bound.ensures ∙ ap (λ (zs : List ℤ). rounded_up (get_or zs p (pos 0))) c.deref.ensures.value) c.of-in-Fixed.ensures
 
 pub returns-in-Met : goal.returns-in-Met
 returns-in-Met c =
@@ -169,20 +184,19 @@ returns-in-Met c =
     let budget = c.args.budget in
     let nodes : List Node = c.loop-values.nodes.items in
     let values : List ℤ = c.loop-values.values.items in
-    let p = c.lowest-place.result in
+    let p = c.first-place.result in
     let plan : List (Option ℕ) = c.loop-values.plan in
     let low = rounded_up (get_or values p (pos 0)) in
     let good = c.requires.good in
     let tree = c.loop-values.invariant.tree in
-    let lowest : IsLowest nodes values p = subst (λ (ns : List Node). IsLowest ns values p) c.deref.ensures.value
-    (subst (λ (zs : List ℤ). IsLowest c.deref.result.now zs p) c.deref-in-loop-values.ensures.value c.lowest-place.ensures) in
-    let said : IsNext g nodes values p now budget c.in_ok-ends.field-0 = subst (λ (ns : List Node). IsNext g ns values p now budget c.in_ok-ends.field-0) c.deref-in-loop-values-3.ensures.value
-    (subst (λ (zs : List ℤ). IsNext g c.deref-in-loop-values-3.result.now zs p now budget c.in_ok-ends.field-0) c.deref-in-loop-values-4.ensures.value c.in_ok-ends.ensures) in
+    let lowest : IsLowest nodes values p = lowest_at c.args.graph.now c.args.budget c.cost_of-limit.result c.loop-values.leaves nodes values p c.requires.good c.loop-values.invariant.tree c.loop-values.invariant.open_leaves c.first-place.ensures.lowest in
+    let said : IsNext g nodes values p now budget c.in_ok-ends.field-0 = subst (λ (ns : List Node). IsNext g ns values p now budget c.in_ok-ends.field-0) c.deref-in-loop-values.ensures.value
+    (subst (λ (zs : List ℤ). IsNext g c.deref-in-loop-values.result.now zs p now budget c.in_ok-ends.field-0) c.deref-in-loop-values-2.ensures.value c.in_ok-ends.ensures) in
     let reached : pos now ≤ℤ low = subst (IsNext g nodes values p now budget) c.in-Met.is said in
     let back : to_z w128 (of_z w128 c.bound_at-bound.result) ≡ c.bound_at-bound.result = to_z-of_z w128 c.bound_at-bound.result (record { sfits = c.bound_at-bound.type_inv }) in
     let right = right_from_least g plan now low good c.loop-values.invariant.lawful c.loop-values.invariant.costs reached (low_is_bound g limit p nodes values good (so_far_raised g budget limit nodes values p tree lowest) lowest) in
     answer g budget limit p plan now nodes values (to_z w128 (of_z w128 c.bound_at-bound.result)) c.of.result good tree lowest c.loop-values.invariant.held c.loop-values.invariant.greedy right (inl reached)
-    (back ∙ c.bound_at-bound.ensures ∙ ap (λ (zs : List ℤ). rounded_up (get_or zs p (pos 0))) c.deref-in-loop-values-2.ensures.value) c.of.ensures
+    (back ∙ c.bound_at-bound.ensures ∙ ap (λ (zs : List ℤ). rounded_up (get_or zs p (pos 0))) c.deref.ensures.value) c.of.ensures
 
 pub returns-in-Full : goal.returns-in-Full
 returns-in-Full c =
@@ -192,15 +206,14 @@ returns-in-Full c =
     let budget = c.args.budget in
     let nodes : List Node = c.loop-values.nodes.items in
     let values : List ℤ = c.loop-values.values.items in
-    let p = c.lowest-place.result in
+    let p = c.first-place.result in
     let good = c.requires.good in
     let tree = c.loop-values.invariant.tree in
     let best : List (Option ℕ) = c.in_ok-best-in-Full.best in
     let cost = c.cost_of-in-Full.result in
-    let lowest : IsLowest nodes values p = subst (λ (ns : List Node). IsLowest ns values p) c.deref.ensures.value
-    (subst (λ (zs : List ℤ). IsLowest c.deref.result.now zs p) c.deref-in-loop-values.ensures.value c.lowest-place.ensures) in
-    let said : IsNext g nodes values p now budget c.in_ok-ends.field-0 = subst (λ (ns : List Node). IsNext g ns values p now budget c.in_ok-ends.field-0) c.deref-in-loop-values-3.ensures.value
-    (subst (λ (zs : List ℤ). IsNext g c.deref-in-loop-values-3.result.now zs p now budget c.in_ok-ends.field-0) c.deref-in-loop-values-4.ensures.value c.in_ok-ends.ensures) in
+    let lowest : IsLowest nodes values p = lowest_at c.args.graph.now c.args.budget c.cost_of-limit.result c.loop-values.leaves nodes values p c.requires.good c.loop-values.invariant.tree c.loop-values.invariant.open_leaves c.first-place.ensures.lowest in
+    let said : IsNext g nodes values p now budget c.in_ok-ends.field-0 = subst (λ (ns : List Node). IsNext g ns values p now budget c.in_ok-ends.field-0) c.deref-in-loop-values.ensures.value
+    (subst (λ (zs : List ℤ). IsNext g c.deref-in-loop-values.result.now zs p now budget c.in_ok-ends.field-0) c.deref-in-loop-values-2.ensures.value c.in_ok-ends.ensures) in
     let spent : IsNext g nodes values p now budget Full = subst (IsNext g nodes values p now budget) c.in-Full.is said in
     let costs : cost ≡ cost_of g best = c.cost_of-in-Full.ensures in
     let less = c.in_ok-best-in-Full.ensures.cost in
@@ -214,4 +227,4 @@ returns-in-Full c =
     } in
     let back : to_z w128 (of_z w128 c.bound_at-bound.result) ≡ c.bound_at-bound.result = to_z-of_z w128 c.bound_at-bound.result (record { sfits = c.bound_at-bound.type_inv }) in
     answer g budget limit p best cost nodes values (to_z w128 (of_z w128 c.bound_at-bound.result)) c.of-in-Full.result good tree lowest inv.held inv.greedy right (inr spent)
-    (back ∙ c.bound_at-bound.ensures ∙ ap (λ (zs : List ℤ). rounded_up (get_or zs p (pos 0))) c.deref-in-loop-values-2.ensures.value) c.of-in-Full.ensures
+    (back ∙ c.bound_at-bound.ensures ∙ ap (λ (zs : List ℤ). rounded_up (get_or zs p (pos 0))) c.deref.ensures.value) c.of-in-Full.ensures

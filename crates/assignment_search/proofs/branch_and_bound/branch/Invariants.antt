@@ -2,6 +2,7 @@ use Rattle.std.proofs.Common.{◌≡◌, ℕ, ◌+◌, ◌-◌, ◌≤◌, List,
 use Rattle.plan_rules.specs.Plan.{IsLawful, cost_of}
 use Rattle.plan_rules.specs.Greedy.{IsGreedy}
 use Rattle.assignment_search.specs.Found.{IsTreeSoFar}
+use Rattle.assignment_search.specs.work.OpenLeaves.{AreOpen}
 use Rattle.assignment_search.proofs.branch_and_bound.branch.Given as goal
 
 abbrev pub invariant-loop-values : goal.invariant-loop-values
@@ -12,6 +13,7 @@ invariant-loop-values l = record {
   held : l.initial.limit ≤ cost_of l.graph l.graph.held;
   greedy : (chosen : List (Option ℕ)) → IsGreedy l.graph chosen → IsLawful l.graph chosen → l.initial.limit ≤ cost_of l.graph chosen;
   tree : IsTreeSoFar l.graph l.budget l.initial.limit l.nodes.items l.values.items;
+  open_leaves : AreOpen l.leaves l.nodes.items l.values.items;
 }
 
 abbrev pub decreases-loop-values : goal.decreases-loop-values

@@ -1,6 +1,5 @@
-use Rattle.std.proofs.Common.{◌≡◌, ◌<◌, ℕ, ◌⊎◌, refl, sym, ap, subst, ⊎_elim, arith}
+use Rattle.std.proofs.Common.{◌≡◌, ◌<◌, ℕ, subst, ⊎_elim, arith}
 use Rattle.std.proofs.lemmas.Bool.{cases_eq}
-use Rattle.plan_rules.specs.Graph.{row_vehicle}
 use Rattle.plan_rules.specs.Multipliers.{usable_of}
 use Rattle.plan_rules.specs.Tree.{MayUse}
 use Rattle.assignment_search.proofs.branching.first_branch.Goals as goal

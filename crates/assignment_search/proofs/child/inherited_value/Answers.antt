@@ -1,4 +1,4 @@
-use Rattle.std.proofs.Common.{ℤ, sym, subst}
+use Rattle.std.proofs.Common.{sym, subst}
 use Rattle.plan_rules.specs.Multipliers.{usable_of}
 use Rattle.plan_rules.specs.Size.{IsSmallSum}
 use Rattle.assignment_search.specs.Growth.{IsJudged}

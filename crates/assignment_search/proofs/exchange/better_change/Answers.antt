@@ -1,4 +1,4 @@
-use Rattle.std.proofs.Common.{◌≡◌, ◌<◌, ℕ, arith}
+use Rattle.std.proofs.Common.{arith}
 use Rattle.assignment_search.proofs.ExchangeLemmas.{no_better}
 use Rattle.assignment_search.proofs.exchange.better_change.Goals as goal
 

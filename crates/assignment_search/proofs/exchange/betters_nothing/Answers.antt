@@ -1,4 +1,3 @@
-use Rattle.std.proofs.Common.{◌≡◌, ◌<◌, ℕ, true}
 use Rattle.assignment_search.proofs.ExchangeLemmas.{shared_betters_nothing}
 use Rattle.assignment_search.proofs.ChangeLemmas.{dear_betters_nothing, loss_betters_nothing}
 use Rattle.assignment_search.proofs.exchange.betters_nothing.Goals as goal

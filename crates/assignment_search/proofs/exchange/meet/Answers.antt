@@ -1,4 +1,4 @@
-use Rattle.std.proofs.Common.{◌≡◌, ◌==◌, ℕ, Bool, true, get_or, sym, subst, eqb-true}
+use Rattle.std.proofs.Common.{◌≡◌, ◌==◌, ℕ, true, get_or, subst, eqb-true}
 use Rattle.std.specs.List.{list_any}
 use Rattle.plan_rules.proofs.lemmas.GraphLemmas.{has_at}
 use Rattle.assignment_search.proofs.exchange.meet.Goals as goal

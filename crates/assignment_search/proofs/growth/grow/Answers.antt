@@ -1,6 +1,5 @@
-use Rattle.std.proofs.Common.{◌≡◌, ◌<◌, ℕ, suc, ◌+◌, List, ◌∷◌, ◌++◌, length, take, drop, get_or, ℤ, pos, sym, ap, ◌∙◌, subst, to_z, of_z, arith}
-use mir.Syntax.{w128}
-use Rattle.std.specs.List.{insert, remove}
+use Rattle.std.proofs.Common.{◌<◌, ◌+◌, List, length, ℤ, pos, ap, ◌∙◌, arith}
+use Rattle.std.specs.List.{insert}
 use Rattle.plan_rules.specs.declared.node.Node.{Node}
 use Rattle.plan_rules.specs.declared.node.Node.TheVariants.{Branch}
 use Rattle.assignment_search.proofs.AnswerLemmas.{small_back}

@@ -1,4 +1,4 @@
-use Rattle.std.proofs.Common.{◌≡◌, ◌<◌, ℕ, Bool, false, List, get_or, ap, ◌∙◌}
+use Rattle.std.proofs.Common.{Bool, false, List, get_or, ap, ◌∙◌}
 use Rattle.plan_rules.specs.Multipliers.{Usable, usable_of}
 use Rattle.plan_rules.specs.Path.{standing_of}
 use Rattle.plan_rules.proofs.lemmas.UsableLemmas.{Agree}

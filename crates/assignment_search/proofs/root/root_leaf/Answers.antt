@@ -1,4 +1,4 @@
-use Rattle.std.proofs.Common.{◌≡◌, ◌<◌, ℕ, Bool, true, false, List, ℤ, ◌≤ℤ◌, length, get_or, replicate, ap, ◌∙◌, subst, arith}
+use Rattle.std.proofs.Common.{◌≡◌, Bool, true, false, List, ℤ, ◌≤ℤ◌, length, get_or, replicate, ap, ◌∙◌, subst, arith}
 use Rattle.std.proofs.lemmas.List.{get_or-replicate}
 use Rattle.plan_rules.specs.Multipliers.{usable_of, first_fit_value}
 use Rattle.assignment_search.specs.Growth.{IsJudged}

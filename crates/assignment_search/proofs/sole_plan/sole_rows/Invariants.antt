@@ -1,4 +1,4 @@
-use Rattle.std.proofs.Common.{◌≡◌, ℕ, ◌<◌, Option, None, MatchOption, vec_len, get_or}
+use Rattle.std.proofs.Common.{◌≡◌, ℕ, ◌<◌, None, MatchOption, vec_len, get_or}
 use Rattle.plan_rules.specs.Multipliers.{usable_of}
 use Rattle.plan_rules.specs.Tree.{MayUse}
 use Rattle.assignment_search.proofs.sole_plan.sole_rows.Given as goal

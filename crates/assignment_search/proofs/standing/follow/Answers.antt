@@ -1,6 +1,4 @@
-use Rattle.std.proofs.Common.{◌≡◌, ◌<◌, ℕ, List, true, refl, sym, ap, ◌∙◌, subst}
-use Rattle.plan_rules.specs.Graph.{Graph, IsGoodGraph}
-use Rattle.plan_rules.specs.Multipliers.{Usable}
+use Rattle.std.proofs.Common.{◌<◌, ℕ, true, sym, ap, ◌∙◌, subst}
 use Rattle.plan_rules.specs.Tree.{CanBranch}
 use Rattle.plan_rules.specs.Reading.{IsSoundNode, coming_after}
 use Rattle.plan_rules.specs.Path.{standing_of, IsPathOf}

@@ -1,0 +1,7 @@
+use Rattle.std.proofs.Common.{arith}
+use Rattle.assignment_search.proofs.open_leaves.place_of.Goals as goal
+
+pub unreachable-requires : goal.unreachable-requires
+unreachable-requires c =
+    let at = c.requires in
+    c.loop-place.invariant (at.0) (omega (arith, at.1.0, c.loop-place-test.false)) (at.1.1)
