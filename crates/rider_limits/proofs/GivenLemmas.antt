@@ -16,8 +16,8 @@ use Rattle.rider_limits.specs.declared.key.Takes.TheVariants.{Number}
 use Rattle.rider_limits.specs.declared.word_fault.WordFault.TheVariants.{UnknownKey, Repeated, BadValue}
 use Rattle.rider_limits.specs.Key.{about, key_of, accepts}
 use Rattle.rider_limits.specs.work.Taken.{IsNumber, IsAccepted}
-use Rattle.rider_limits.specs.Words.{after_key, text_given, option_of, option_fault, fault_at}
-use Rattle.rider_limits.specs.work.Named.{words_fault}
+use Rattle.rider_limits.specs.Words.{after_key, text_given, option_of, option_fault}
+use Rattle.rider_limits.specs.work.Named.{words_fault, fault_at}
 use Rattle.rider_limits.proofs.WordsLemmas.{after_key-some}
 
 -- a front that passes, before one that fails, is the longest front that passes

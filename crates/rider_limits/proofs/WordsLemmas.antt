@@ -12,8 +12,8 @@ use Rattle.pool_base.proofs.lemmas.InOrderLemmas.{first_fault-none, first_fault-
 use Rattle.rider_limits.specs.declared.command.Command.{Command}
 use Rattle.rider_limits.specs.declared.word_fault.WordFault.{WordFault}
 use Rattle.rider_limits.specs.Key.{key_of}
-use Rattle.rider_limits.specs.Words.{after_key, option_of, option_fault, fault_at}
-use Rattle.rider_limits.specs.work.Named.{words_fault}
+use Rattle.rider_limits.specs.Words.{after_key, option_of, option_fault}
+use Rattle.rider_limits.specs.work.Named.{words_fault, fault_at}
 
 -- a word that begins with the key and `=` gives what stands behind them
 pub after_key-found : (key word rest : List ℕ) → word ≡ key ++ 61 ∷ rest → after_key key word ≡ Some rest
