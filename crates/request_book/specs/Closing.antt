@@ -27,14 +27,13 @@ trip_picks vehicle (stop ∷ stops) =
 unfoldable pub picks : List ChosenTrip → List Pick
 picks chosen = flat_map (λ trip. trip_picks trip.vehicle trip.stops.items) chosen
 
--- the first pick stop of a rider promises; without one the rider waits
-abbrev pub planned_status : List Pick → ℕ → Status
-planned_status ps id = unwrap_or (option_map (λ p. Promised p.promise) (look_up (λ p. p.rider) id ps)) Waiting
-
--- the rider after a plan: who is in the snapshot and still in the pool gets the status that was planned
+-- the rider after a plan: who is in the snapshot and still in the pool is promised what the first of the rider's pick
+-- stops says, and without one waits
 abbrev pub after_plan : List Rider → List Pick → BookRider → BookRider
 after_plan riders ps r =
-    if is_active r.status && is_some (look_up (λ shown. shown.id) r.id riders) then with_status (planned_status ps r.id) r else r
+    if is_active r.status && is_some (look_up (λ shown. shown.id) r.id riders)
+    then with_status (unwrap_or (option_map (λ p. Promised p.promise) (look_up (λ p. p.rider) r.id ps)) Waiting) r
+    else r
 
 -- the riders after an answer for a batch of these riders
 unfoldable pub after_answer : List Rider → Answer → List BookRider → List BookRider

@@ -7,8 +7,8 @@ use Rattle.std.specs.Option.{option_map_or}
 use Rattle.batch_snapshot.specs.Batch.{Batch}
 use Rattle.batch_snapshot.specs.declared.rider.Rider.{Rider}
 use Rattle.request_book.proofs.lemmas.KeyedLemmas.{look_up-here, look_up-there, look_up-nil}
-use Rattle.request_book.specs.Closing.{Pick, after_answer, after_plan, picks, planned_status}
-use Rattle.request_book.specs.work.Named.{in_batch}
+use Rattle.request_book.specs.Closing.{Pick, after_answer, after_plan, picks}
+use Rattle.request_book.specs.work.Named.{in_batch, planned_status}
 use Rattle.request_book.specs.work.Closing.{closed_state}
 use Rattle.request_book.specs.Keyed.{changed_at}
 use Rattle.request_book.proofs.lemmas.LawLemmas.{rounds-join}

@@ -19,8 +19,8 @@ use Rattle.request_book.specs.work.Register.{pool_id}
 use Rattle.request_book.specs.Rider.{is_active}
 use Rattle.request_book.specs.work.Refusals.{first_of, duplicate_rider, aboard_refusal, ended_refusal, promise_refusal, seat_refusal, time_back, vehicle_full, unknown_node, not_this_batch}
 use Rattle.request_book.specs.State.{find_rider, find_vehicle, pool_count}
-use Rattle.request_book.specs.Step.{rider_becomes, vehicle_becomes, takes_in, lets_out}
-use Rattle.request_book.specs.work.Named.{stands_at}
+use Rattle.request_book.specs.Step.{rider_becomes, vehicle_becomes}
+use Rattle.request_book.specs.work.Named.{stands_at, takes_in, lets_out}
 use Rattle.request_book.specs.work.Table.{answer, submit_refusal, submit_step, cancel_step, report_step, pickup_step, dropoff_step, seal_refusal, seal_step, close_step}
 
 -- where the first refusal of a list is none, none of them holds

@@ -33,8 +33,8 @@ use Rattle.std.proofs.lemmas.Bool.{false≢true, true≢false}
 use Rattle.plan_rules.proofs.lemmas.GraphLemmas.{times_served_some, times_served_found, in_choice}
 use Rattle.plan_rules.specs.Graph.{choice_at, riders_at, is_in}
 use Rattle.promise_check.specs.work.Named.{no_request}
-use Rattle.request_book.specs.Closing.{picks, planned_status, after_plan}
-use Rattle.request_book.specs.work.Named.{in_batch}
+use Rattle.request_book.specs.Closing.{picks, after_plan}
+use Rattle.request_book.specs.work.Named.{in_batch, planned_status}
 use Rattle.request_book.specs.Keyed.{look_up}
 use Rattle.request_book.specs.Rider.{with_status, is_active}
 use Rattle.request_book.specs.declared.outcome.ChosenTrip.{ChosenTrip}

@@ -42,8 +42,8 @@ use Rattle.plan_rules.specs.Graph.{choice_at, riders_at, is_in}
 use Rattle.promise_check.specs.Requests.{IsLegOf}
 use Rattle.promise_check.specs.work.Named.{no_request}
 use Rattle.promise_check.specs.Settling.{IsPlaced}
-use Rattle.request_book.specs.Closing.{picks, trip_picks, planned_status, after_plan}
-use Rattle.request_book.specs.work.Named.{in_batch}
+use Rattle.request_book.specs.Closing.{picks, trip_picks, after_plan}
+use Rattle.request_book.specs.work.Named.{in_batch, planned_status}
 use Rattle.request_book.specs.Keyed.{look_up, KeysDiffer}
 use Rattle.request_book.specs.Rider.{with_status, passenger_of, is_active}
 use Rattle.request_book.specs.declared.outcome.ChosenTrip.{ChosenTrip}
