@@ -98,9 +98,3 @@ pub words_fault-here : {X : Type 0} (f : X → List ℕ) (command : Command) (xs
 words_fault-here f command xs i x fault within is some before =
     let size : length (map f xs) ≡ length xs = length-map xs f in
     first_fault-some (fault_at command (map f xs)) (length (map f xs)) i fault (omega (arith, within, size)) before (fault_at-word f command xs i x within is ∙ some)
-
--- no word is left
-pub words_fault-end : {X : Type 0} (f : X → List ℕ) (command : Command) (xs : List X) (i : ℕ) → i ≡ length xs → first_fault (fault_at command (map f xs)) i ≡ None → words_fault command (map f xs) ≡ None
-words_fault-end f command xs i all before =
-    let size : length (map f xs) ≡ i = length-map xs f ∙ sym all in
-    ap (first_fault (fault_at command (map f xs))) size ∙ before
