@@ -80,7 +80,7 @@ pickup s vehicle rider time = do
   _ ← refused_where (nat_lt time v.time) (TimeBack v.time)
   _ ← refused_where (not (nat_le (persons_aboard v + r.party) v.seats)) VehicleFull
   Ok (vehicle_becomes (rider_becomes s r.id (Aboard vehicle)) vehicle
-    (λ w. record w { node = r.origin; time = time; aboard = record { items = w.aboard.items ++ passenger_of r ∷ [] } }))
+      (λ w. record w { node = r.origin; time = time; aboard = record { items = w.aboard.items ++ passenger_of r ∷ [] } }))
 
 -- a vehicle drops its passenger: the others keep their order, and it is at the rider's destination
 unfoldable pub dropoff : State → ℕ → ℕ → ℕ → Result State BookRefusal
@@ -90,7 +90,7 @@ dropoff s vehicle rider time = do
   _ ← refused_where (not (option_map_or (λ holder. holder == vehicle) (vehicle_of r.status) false)) NotAboard
   _ ← refused_where (nat_lt time v.time) (TimeBack v.time)
   Ok (vehicle_becomes (rider_becomes s r.id Delivered) vehicle
-    (λ w. record w { node = r.destination; time = time; aboard = record { items = without (λ p. p.rider) r.id w.aboard.items } }))
+      (λ w. record w { node = r.destination; time = time; aboard = record { items = without (λ p. p.rider) r.id w.aboard.items } }))
 
 -- a batch is sealed: none may be open, and the second isn't below that of the last seal
 unfoldable pub seal : ℕ → State → ℕ → Result State BookRefusal

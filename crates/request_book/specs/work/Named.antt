@@ -1,13 +1,11 @@
 -- Parts of the book's steps, as proofs call them.
-use Rattle.std.specs.Prelude.{ℕ, Bool, List, Option, Some, None, is_some, if◌then◌else◌, ◌+◌, [], ◌∷◌, ◌++◌, map, option_map, nat_le, unwrap_or}
+use Rattle.std.specs.Prelude.{ℕ, Bool, List, Option, Some, None, is_some, if◌then◌else◌, ◌+◌, [], ◌∷◌, ◌++◌, option_map, nat_le, unwrap_or}
 use Rattle.batch_snapshot.specs.declared.rider.Rider.{Rider}
 use Rattle.batch_snapshot.specs.declared.vehicle.Vehicle.{Vehicle}
 use Rattle.request_book.specs.declared.rider.BookRider.{BookRider}
 use Rattle.request_book.specs.Keyed.{look_up, without}
 use Rattle.request_book.specs.Sealing.{is_over}
-use Rattle.request_book.specs.declared.command.Command.TheVariants as command
 use Rattle.request_book.specs.Rider.{passenger_of, pool_promise, shown}
-use Rattle.batch_snapshot.specs.declared.promise.Promise.{Promise}
 use Rattle.request_book.specs.declared.rider.Status.{Status}
 use Rattle.request_book.specs.declared.rider.Status.TheVariants.{Waiting, Promised}
 use Rattle.request_book.specs.Closing.{Pick}
