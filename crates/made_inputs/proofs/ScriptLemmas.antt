@@ -14,8 +14,8 @@ use Rattle.script_rows.specs.declared.version.ScriptVersion.TheVariants.{One}
 use Rattle.script_rows.specs.Word.{word_of}
 use Rattle.script_rows.specs.Line.{party_in, submit_in, three_in, command_in, leaves_empty, line_in}
 use Rattle.script_rows.specs.Round.{NumberedLanes}
-use Rattle.script_rows.specs.Script.{round_before, rounds_of, script_of}
-use Rattle.script_rows.specs.work.Named.{line_at}
+use Rattle.script_rows.specs.Script.{round_before, script_of}
+use Rattle.script_rows.specs.work.Named.{line_at, rounds_of}
 use Rattle.rider_limits.specs.declared.load_shape.LoadShape.{LoadShape}
 use Rattle.load_maker.specs.declared.row.Field.{Field}
 use Rattle.load_maker.specs.declared.row.Field.TheVariants as field
