@@ -1,19 +1,17 @@
 -- Arcs the other way round: walks lead back, in the same time.
-use Rattle.std.proofs.Common.{◌≡◌, ◌≢◌, ℕ, ◌+◌, ◌<◌, ◌≤◌, Bool, true, false, List, [], ◌∷◌, ◌++◌, length, get_or, slice_index, map, All, Contains, refl, sym, ap, ◌∙◌, subst, inl, inr, ⊎_elim, arith}
+use Rattle.std.proofs.Common.{◌≡◌, ℕ, ◌+◌, ◌<◌, ◌≤◌, Bool, true, false, List, [], ◌∷◌, ◌++◌, length, get_or, slice_index, map, All, Contains, refl, sym, ap, ◌∙◌, subst, arith}
 use Rattle.std.proofs.lemmas.List.{length-map, get_or-map}
-use Rattle.std.proofs.lemmas.List.Elements.{All-map, All-weaker}
+use Rattle.std.proofs.lemmas.List.Elements.{All-map}
 use Rattle.std.proofs.lemmas.List.Sums.{sum_by-cons}
-use Rattle.pool_base.specs.TravelTime.{never, longest}
 use Rattle.road_network.specs.declared.arc.Arc.{Arc}
 use Rattle.road_network.specs.Walk.{IsWalk, walk_seconds, IsLeastTime}
 use Rattle.road_network.specs.Roads.{IsArcAmong}
 use Rattle.travel_times.proofs.lemmas.WalkLemmas.{IsWalk-push, walk_seconds-push}
 use Rattle.hub_labels.specs.declared.hub.Hub.{Hub}
 use Rattle.hub_labels.specs.work.Hops.{turned, directed}
-use Rattle.hub_labels.specs.work.Ranked.{IsRankedHub, IsLabelBelow, AreLabelsBelow}
+use Rattle.hub_labels.specs.work.Ranked.{IsRankedHub, AreLabelsBelow}
 use Rattle.hub_labels.proofs.Times.{AreTimes, start_within, time_is, least_is}
-use Rattle.hub_labels.proofs.Cover.{IsClear}
-use Rattle.hub_labels.proofs.Found.{IsOwnLabel, hub_is}
+use Rattle.hub_labels.proofs.Found.{IsOwnLabel}
 
 -- each arc of the first list is in the second, the other way round
 abbrev pub IsTurnOf : List Arc → List Arc → Type 0
@@ -32,11 +30,6 @@ turn_back arcs arc (k, inside, is) =
 pub other_way : Bool → Bool
 other_way true = false
 other_way false = true
-
-pub turn_directed : (reversed : Bool) (arcs : List Arc) → IsTurnOf (directed reversed arcs) (directed (other_way reversed) arcs)
-unfolding other_way
-turn_directed true arcs = turn_back arcs
-turn_directed false arcs = turn_there arcs
 
 -- arcs of the network are so in both directions
 pub among_directed : (reversed : Bool) (arcs : List Arc) (n : ℕ) → All (IsArcAmong n) arcs → All (IsArcAmong n) (directed reversed arcs)

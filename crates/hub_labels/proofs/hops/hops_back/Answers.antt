@@ -3,7 +3,7 @@ use Rattle.std.proofs.lemmas.Bool.{cases_lt}
 use Rattle.std.proofs.lemmas.List.{length-replicate, get_or-replicate, get_or_past}
 use Rattle.road_network.specs.declared.hop.Hop.{Hop}
 use Rattle.travel_times.proofs.lemmas.SearchLemmas.{hops_among}
-use Rattle.hub_labels.proofs.HopLemmas.{turning_starts, turned_more, all_turned}
+use Rattle.hub_labels.proofs.HopLemmas.{turned_more, all_turned}
 use Rattle.hub_labels.proofs.hops.hops_back.Goals as goal
 
 pub turn-requires-clause-ends : goal.turn-requires-clause-ends
