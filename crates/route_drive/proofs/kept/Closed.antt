@@ -91,9 +91,6 @@ module _ (settings : Settings) (roads : Roads) (s : State) (stops : ℕ → List
   abbrev pub planned_state : State
   planned_state = record s { riders = map (after_plan b.riders (picks planned.chosen)) s.riders; sealed = None }
 
-  abbrev Trip' : ℕ → Type 0
-  Trip' k = HasTrip settings roads s stops b settled points times kept shows early limits table planned good k
-
   chosen_found : (k : ℕ) (own : HasTrip settings roads s stops b settled points times kept shows early limits table planned good k) → look_up (λ (t : ChosenTrip). t.vehicle) own.t.vehicle planned.chosen ≡ Some own.t
   chosen_found k own = look_up_only (λ (t : ChosenTrip). t.vehicle) planned.chosen k own.t own.chosen (λ j u e same.
       let back = trip_back settings roads s stops b settled points times kept shows early limits table planned good j u e in

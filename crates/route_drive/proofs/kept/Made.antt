@@ -105,14 +105,6 @@ after_is batch ps r active among = cond-true (is_active r.status && in_batch bat
 pub after_stays : (batch : List Rider) (ps : List PlanPick) (r : BookRider) → is_active r.status ≡ false → after_plan batch ps r ≡ r
 after_stays batch ps r active = rw active refl
 
--- a plan changes the status alone
-same_but_status : (batch : List Rider) (ps : List PlanPick) (r : BookRider) → (t : Status) × (after_plan batch ps r ≡ with_status t r)
-same_but_status batch ps r = by (is_active r.status && in_batch batch r.id)
-  where
-    by : (b : Bool) → (t : Status) × (cond b (with_status (planned_status ps r.id) r) r ≡ with_status t r)
-    by true = (planned_status ps r.id, refl)
-    by false = (r.status, refl)
-
 module _ (settings : Settings) (roads : Roads) (s : State) (stops : ℕ → List PlannedStop) (b : Batch) (settled : Settled) (points : List ℕ) (times : Times)
     (kept : IsKept settings roads s stops) (shows : ShowsRiders s b) (early : (id : ℕ) (v : Vehicle) → find_vehicle id s.vehicles ≡ Some v → b.sealed_at ≤ v.time)
     (limits : IsSettled settings points (travel_time times) b settled) (table : AreTravelTimes roads.arcs (map (index_in roads.nodes) points) times)
