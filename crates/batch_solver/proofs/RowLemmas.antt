@@ -38,7 +38,7 @@ module _ (settings : Settings) (tau : ℕ → ℕ → ℕ) (settled : Settled) (
   pub served_row : (v row : ℕ) → v < length settled.vehicles → choice_at chosen v ≡ Some row → IsServedRow tau settled graph v row
   served_row v row h choice =
       let own : IsRowOf graph v row = rw choice at (own_choice v h) in
-      let right = exact.exact.right row no_row own.within in
+      let right = exact.right row no_row own.within in
       record {
         within = own.within;
         trip = right.served.riders;

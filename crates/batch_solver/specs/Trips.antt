@@ -27,11 +27,6 @@ abbrev pub AreTrips : List ℕ → (ℕ → ℕ → ℕ) → Settled → Graph �
 AreTrips points tau settled graph chosen trips =
     AllZip (IsTripOf points tau settled graph chosen) (filter (λ v. not (vehicle_at settled v).late) (range_with_len 0 (length settled.vehicles))) trips
 
--- no order of the vehicle's passengers reaches all their places
-abbrev pub HasNoOrder : (ℕ → ℕ → ℕ) → Settled → ℕ → Type 0
-HasNoOrder tau settled v =
-    (others : List Stop) → IsOrderOf (trip_task settled v []) others → ReachesAll tau (trip_task settled v []) others → ⊥
-
 -- an order of the passengers that reaches all their places, with the least delay of such orders
 pub record IsLateOrder (points : List ℕ) (tau : ℕ → ℕ → ℕ) (settled : Settled) (v delay : ℕ) (lines : List PlannedStop) : Type 0 where
   pub stops : List Stop
@@ -42,10 +37,11 @@ pub record IsLateOrder (points : List ℕ) (tau : ℕ → ℕ → ℕ) (settled 
       → delay ≤ order_delay tau (trip_task settled v []) others
   pub told : lines ≡ told_stops points tau settled v [] stops
 
--- the late vehicle with such an order; without one, and with delay 0, where there is none
+-- the late vehicle with such an order; without one, and with delay 0, where no order of its passengers reaches all places
 pub record IsLate (points : List ℕ) (tau : ℕ → ℕ → ℕ) (settled : Settled) (v : ℕ) (late : LateVehicle) : Type 0 where
   pub vehicle : late.vehicle ≡ vehicle_id settled v
-  pub stops : MatchOption late.stops (HasNoOrder tau settled v × (late.delay ≡ 0))
+  pub stops : MatchOption late.stops
+      (((others : List Stop) → IsOrderOf (trip_task settled v []) others → ReachesAll tau (trip_task settled v []) others → ⊥) × (late.delay ≡ 0))
       (λ lines. IsLateOrder points tau settled v late.delay lines.items)
 
 -- one for each late vehicle

@@ -164,9 +164,6 @@ other_plan settings roads batch a b p q e f answers =
     subst (λ (x : Answer). AnswersAt settings roads batch x point.Answer) (sym f) to
 
 module _ (settings : Settings) (roads : Roads) (batch : Batch) (kept : IsKept batch) (text : List ℕ) (n m : ℕ) (one : BeginsWithWrong settings roads batch text n) (two : BeginsWithWrong settings roads batch text m) where
-  lines_same : one.lines ≡ two.lines
-  lines_same = (block_of_one text one.lines two.lines one.rest two.rest one.block two.block).0
-
   -- judged as one outcome
   alike : (one.told ≡ two.told) × (one.outcome ≡ two.outcome) → n ≡ m
   alike (t, o) =

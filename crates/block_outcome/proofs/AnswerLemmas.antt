@@ -9,7 +9,6 @@ use Rattle.request_book.specs.declared.outcome.Outcome.{Outcome}
 use Rattle.block_outcome.specs.Told.{TellsNone}
 use Rattle.block_outcome.specs.work.Exact.{IsEnded, next_place, TellsNoPlan, TellsNoAnswer}
 use Rattle.block_outcome.proofs.ExactLemmas.{behind, parted, step}
-use Rattle.block_outcome.proofs.PartLemmas.{joined}
 use Rattle.block_outcome.proofs.PlanLemmas.{plan_low}
 
 answer_low : (answer : Answer) → 2 < next_place (lines_of_answer answer ++ End ∷ [])
@@ -36,8 +35,3 @@ no_outcome lines n after xs rest b w ended none batch outcome trips e =
     let told : after ≡ map Expired outcome.expired ++ s = ap behind same in
     let k = step Expired (λ _. true) 2 (λ x. refl) xs outcome.expired after rest s w ended (λ i d r. refl) (answer_low outcome.answer) told in
     none outcome.answer trips k.1
-
-pub outcome_joined : (lines : List BlockLine) (batch : ℕ) (outcome : Outcome) (after rest : List BlockLine) → lines ≡ Batch batch ∷ after → after ≡ map Expired outcome.expired ++ rest → rest ≡ lines_of_answer outcome.answer ++ End ∷ [] → lines ≡ lines_of batch outcome
-outcome_joined lines batch outcome after rest b w e =
-    let x : List BlockLine = map Expired outcome.expired in
-    joined ((Batch batch ∷ []) ++ x) (lines_of_answer outcome.answer) lines rest (End ∷ []) (joined (Batch batch ∷ []) x lines after rest b w) e

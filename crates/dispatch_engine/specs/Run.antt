@@ -1,4 +1,4 @@
-use Rattle.std.specs.Prelude.{◌≡◌, ℕ, List, [], ◌∷◌, None}
+use Rattle.std.specs.Prelude.{◌≡◌, ℕ, List, [], ◌∷◌, None, fold}
 use Rattle.request_book.specs.Book.{BookView, next_position}
 use Rattle.request_book.specs.Replay.{state_after, RepliesAreSteps}
 use Rattle.request_book.specs.declared.journal.Journal.{Journal}
@@ -25,8 +25,7 @@ IsRun settings roads s position _ _ = ⊥
 
 -- the position of the next entry after journals
 abbrev pub position_after_run : ℕ → List Journal → ℕ
-position_after_run position [] = position
-position_after_run position (j ∷ js) = position_after_run (next_position position j.entries) js
+position_after_run position journals = fold (λ p j. next_position p j.entries) position journals
 
 -- the journal that a book keeps
 abbrev pub journal_of : BookView → Journal

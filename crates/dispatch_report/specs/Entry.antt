@@ -1,5 +1,6 @@
 -- The line of a journal's entry: its position, its lane, the command with its fields, and the reply.
-use Rattle.std.specs.Prelude.{ℕ, ◌==◌, List, [], ◌++◌, Option, None, Some, codes, decimal, if◌then◌else◌}
+use Rattle.std.specs.Prelude.{ℕ, ◌==◌, List, [], ◌++◌, codes, decimal, if◌then◌else◌}
+use Rattle.std.specs.Option.{option_map_or}
 use Rattle.dispatch_report.specs.Words.{numbered, spaced}
 use Rattle.request_book.specs.declared.command.Command.{Command}
 use Rattle.request_book.specs.declared.command.Command.TheVariants.{Submit, Cancel, Report, Pickup, Dropoff, Seal, Close}
@@ -31,11 +32,6 @@ rider_status_text GivenUp = codes "cancelled"
 rider_status_text Delivered = codes "delivered"
 rider_status_text Expired = codes "expired"
 
--- a space and a number, or `none`
-abbrev pub spaced_or_none : Option ℕ → List ℕ
-spaced_or_none None = codes " none"
-spaced_or_none (Some n) = spaced n
-
 -- the words of a refusal
 abbrev pub refusal_text : BookRefusal → List ℕ
 refusal_text DuplicateRider = codes "duplicate-rider"
@@ -48,12 +44,12 @@ refusal_text (IsAboard vehicle) = numbered (codes "is-aboard ") vehicle
 refusal_text (Ended status) = codes "ended " ++ rider_status_text status
 refusal_text UnknownVehicle = codes "unknown-vehicle"
 refusal_text (TimeBack last) = numbered (codes "time-back ") last
-refusal_text (NotPromised holder) = codes "not-promised" ++ spaced_or_none holder
+refusal_text (NotPromised holder) = codes "not-promised" ++ option_map_or spaced holder (codes " none")
 refusal_text VehicleFull = codes "vehicle-full"
 refusal_text NotAboard = codes "not-aboard"
 refusal_text (BatchOpen batch) = numbered (codes "batch-open ") batch
 refusal_text (ClockBack last) = numbered (codes "clock-back ") last
-refusal_text (NotThisBatch current) = codes "not-this-batch" ++ spaced_or_none current
+refusal_text (NotThisBatch current) = codes "not-this-batch" ++ option_map_or spaced current (codes " none")
 
 -- the words of a reply
 abbrev pub reply_text : Reply → List ℕ

@@ -8,7 +8,6 @@ use Rattle.request_book.specs.declared.command.Command.TheVariants.{Close}
 use Rattle.request_book.specs.declared.journal.Journal.{Journal}
 use Rattle.request_book.specs.declared.outcome.Answer.{Answer}
 use Rattle.request_book.specs.declared.outcome.Answer.TheVariants.{Overflow, Planned as Plan}
-use Rattle.request_book.specs.declared.outcome.ChosenTrip.{ChosenTrip}
 use Rattle.request_book.specs.declared.reply.Reply.{Reply}
 use Rattle.request_book.specs.declared.reply.Reply.TheVariants.{Closed}
 use Rattle.rider_limits.specs.declared.load_shape.LoadShape.{LoadShape}
@@ -20,16 +19,12 @@ load_text shape =
     (((numbered (codes "load seed=") shape.seed ++ numbered (codes " side=") shape.side)
     ++ (numbered (codes " vehicles=") shape.vehicles ++ numbered (codes " riders=") shape.riders ++ numbered (codes " rounds=") shape.rounds)) ∷ [])
 
--- how many riders a trip picks up
-abbrev pub pickups : ChosenTrip → ℕ
-pickups trip = count_by (λ stop. stop.pick) trip.stops.items
-
 -- what came of a batch: who is served and who is left out, how many trips there could be and how many pick a rider up,
 -- what the plan costs, and what no lawful plan costs less than
 abbrev pub answer_text : Answer → List ℕ
 answer_text Overflow = codes " overflow"
 answer_text (Plan plan) =
-    (numbered (codes " served ") (sum_by pickups plan.chosen) ++ numbered (codes " out ") (length plan.left))
+    (numbered (codes " served ") (sum_by (λ trip. count_by (λ stop. stop.pick) trip.stops.items) plan.chosen) ++ numbered (codes " out ") (length plan.left))
     ++ (numbered (codes " rows ") (length plan.rows) ++ numbered (codes " trips ") (count_by (λ trip. list_any (λ stop. stop.pick) trip.stops.items) plan.chosen))
     ++ (numbered (codes " cost ") plan.cost ++ signed (codes " bound ") plan.bound)
 

@@ -1,6 +1,7 @@
 ghost use Rattle.std.specs.Prelude.{◌≡◌, ◌≤◌, ◌++◌, ◌∷◌, [], OnOk, codes, length, count_by, sum_by};
 ghost use Rattle.std.specs.List.{flat_map, list_any};
-ghost use Rattle.dispatch_report.specs.Summary.{pickups, answer_text, batch_lines, load_text, summary_text};
+ghost use Rattle.dispatch_report.specs.Summary.{answer_text, batch_lines, load_text, summary_text};
+ghost use Rattle.dispatch_report.specs.work.Named.{pickups};
 ghost use Rattle.dispatch_report.specs.Words.{numbered, signed};
 ghost use Rattle.dispatch_report.specs.Written.{sink_seen, WritesText};
 ghost use Rattle.dispatch_report.specs.work.Lines.{WritesLines};

@@ -1,5 +1,5 @@
 -- Which replies a line can tell.
-use Rattle.std.specs.Prelude.{ℕ, Option, None, Some}
+use Rattle.std.specs.Prelude.{IfSome}
 use Rattle.entry_lines.specs.Command.{IsSecond, IsBatch}
 use Rattle.report_lines.specs.Ids.{IsId}
 use Rattle.request_book.specs.declared.reply.BookRefusal.{BookRefusal}
@@ -7,19 +7,14 @@ use Rattle.request_book.specs.declared.reply.BookRefusal.TheVariants.{IsAboard, 
 use Rattle.request_book.specs.declared.reply.Reply.{Reply}
 use Rattle.request_book.specs.declared.reply.Reply.TheVariants.{Sealed, Refused}
 
--- none, or one of these numbers
-abbrev pub OrNone : (ℕ → Type 0) → Option ℕ → Type 0
-OrNone Is None = Unit {0}
-OrNone Is (Some n) = Is n
-
 -- each number of a refusal is within its type; a status is told by its word alone
 abbrev pub IsRefusal : BookRefusal → Type 0
 IsRefusal (IsAboard vehicle) = IsId vehicle
 IsRefusal (TimeBack last) = IsSecond last
-IsRefusal (NotPromised holder) = OrNone IsId holder
+IsRefusal (NotPromised holder) = IfSome holder IsId
 IsRefusal (BatchOpen batch) = IsBatch batch
 IsRefusal (ClockBack last) = IsSecond last
-IsRefusal (NotThisBatch current) = OrNone IsBatch current
+IsRefusal (NotThisBatch current) = IfSome current IsBatch
 IsRefusal _ = Unit {0}
 
 -- each number of a reply is within its type

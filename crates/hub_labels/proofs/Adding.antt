@@ -10,7 +10,7 @@ use Rattle.hub_labels.specs.declared.hub.Hub.{Hub}
 use Rattle.hub_labels.specs.work.Hops.{AreNodeHops}
 use Rattle.hub_labels.specs.work.Ranked.{IsLabelBelow, AreLabelsBelow, IsRankedHub}
 use Rattle.hub_labels.specs.work.Pruned.{IsPruned}
-use Rattle.hub_labels.specs.work.Drafts.{IsSpread, HasSpread, IsAmongHubs, GainsHub, HandsOver}
+use Rattle.hub_labels.specs.work.Drafts.{IsSpread, HasSpread, GainsHub, HandsOver}
 use Rattle.hub_labels.specs.work.Adding.{AddsHub}
 use Rattle.hub_labels.proofs.Times.{times_of, start_within}
 use Rattle.hub_labels.proofs.Turned.{own_label}
@@ -35,12 +35,6 @@ spread_of_label n rank IsHub bound label via each below spread = record {
       let read = spread.complete k hub inside inside apart in
       sym (ap (slice_index via) (ap (λ (x : Hub). x.node) is)) ∙ read ∙ ap (λ (x : Hub). x.seconds) is;
 }
-
-pub among_hubs : (label : List Hub) (via : List ℕ) → HasSpread label (length label) via → (node : ℕ) → node < length via → IsAmongHubs label 0 via node
-among_hubs label via spread node h = ⊎_elim
-    (λ (far : slice_index via node ≡ never). inl far)
-    (λ at. inr (at.0, omega arith, at.2, ap (λ (x : Hub). x.node) at.3))
-    (spread.sound node h)
 
 -- every node that was found was handed over
 pub handed : (n start : ℕ) (via taken seconds : List ℕ) (labels : List (List Hub)) (after : List ℕ) (labels' : List (List Hub)) → length seconds ≡ n → ((node : ℕ) → node < n → (slice_index seconds node ≡ never) ⊎ (slice_index seconds node ≤ longest))

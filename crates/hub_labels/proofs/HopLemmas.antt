@@ -68,9 +68,6 @@ turn_more node leaving i before mid to old hop inside is_to is_hop within read s
         → Contains (get_or before end []) h ⊎ ((h.to ≡ node) × ((k : ℕ) × (k < i + 1) × (k < length leaving) × (get_or leaving k (record { to = end; seconds = h.seconds }) ≡ record { to = end; seconds = h.seconds })))
     from_before end h either = ⊎_elim (λ has. inl has) (λ new. inr (new.0, (new.1.0, omega (arith, new.1.1), new.1.2, new.1.3))) either
 
-pub turning_starts : (arcs : List Arc) (n : ℕ) (hops : List (List Hop)) → length hops ≡ n → ((end : ℕ) (hop : Hop) → Contains (get_or hops end []) hop → ⊥) → AreTurnedBefore arcs n 0 hops
-turning_starts arcs n hops each empty = record { each = each; among = λ end hop lt has. absurd (empty end hop has); all = λ arc has lt. absurd (omega arith) }
-
 -- the hops of one node more are turned
 pub turned_more : (arcs : List Arc) (n node : ℕ) (hops before after : List (List Hop)) (ahead : List Hop) → ahead ≡ map hop_of (leaving node arcs) → AreTurnedBefore arcs n node before → TurnsHops node ahead (length ahead) before after → AreTurnedBefore arcs n (node + 1) after
 turned_more arcs n node hops before after ahead are so_far turns = record {

@@ -1,5 +1,5 @@
 -- A merge of two labels by rank.
-use Rattle.std.proofs.Common.{◌≡◌, ◌≢◌, ℕ, ◌+◌, ◌<◌, ◌≤◌, ◌⊎◌, min, List, length, get_or, slice_index, refl, ap, subst, inl, inr, ⊎_elim, arith}
+use Rattle.std.proofs.Common.{◌≡◌, ◌≢◌, ℕ, ◌+◌, ◌<◌, ◌≤◌, ◌⊎◌, min, List, length, get_or, slice_index, ap, subst, inl, inr, ⊎_elim, arith}
 use Rattle.std.proofs.lemmas.Bool.{cases_eq, cases_lt}
 use Rattle.std.proofs.lemmas.List.{get_or_default}
 use Rattle.pool_base.specs.TravelTime.{never}
@@ -24,61 +24,6 @@ module _ {rank : List ℕ} {forward backward : List Hub} (ahead : IsRising rank 
   -- nodes of equal hubs have one rank
   same_rank : (x y : ℕ) → (get_or forward x no_hub).node ≡ (get_or backward y no_hub).node → slice_index rank (get_or forward x no_hub).node ≡ slice_index rank (get_or backward y no_hub).node
   same_rank x y e = ap (slice_index rank) e
-
-  -- a rank of a later hub is no lower
-  ahead_later : (x : ℕ) → i ≤ x → x < length forward → slice_index rank (get_or forward i no_hub).node ≤ slice_index rank (get_or forward x no_hub).node
-  ahead_later x le h = ⊎_elim
-      (λ (e : i ≡ x). rw e (omega arith))
-      (λ (ne : i ≢ x). let l = ahead.rising i x no_hub (omega arith) h in omega (arith, l))
-      (cases_eq i x)
-
-  back_later : (y : ℕ) → j ≤ y → y < length backward → slice_index rank (get_or backward j no_hub).node ≤ slice_index rank (get_or backward y no_hub).node
-  back_later y le h = ⊎_elim
-      (λ (e : j ≡ y). rw e (omega arith))
-      (λ (ne : j ≢ y). let l = back.rising j y no_hub (omega arith) h in omega (arith, l))
-      (cases_eq j y)
-
-  -- the first label's hub is of lower rank
-  pub merge_left : slice_index rank (get_or forward i no_hub).node < slice_index rank (get_or backward j no_hub).node → IsMerging forward backward (i + 1) j best
-  merge_left low = record {
-    i_within = omega arith;
-    j_within = so_far.j_within;
-    most = so_far.most;
-    given = so_far.given;
-    passed = λ x y hx hy either e. ⊎_elim
-        (λ (before : x < i). so_far.passed x y hx hy (inl before) e)
-        (λ (here : i ≤ x). ⊎_elim
-        (λ (before : y < j). so_far.passed x y hx hy (inr before) e)
-        (λ (after : j ≤ y).
-        let is : i ≡ x = ⊎_elim (λ (lt : x < i + 1). omega arith) (λ (lt : y < j). absurd (omega arith)) either in
-        let same : slice_index rank (get_or forward x no_hub).node ≡ slice_index rank (get_or backward y no_hub).node = same_rank x y e in
-        let later : slice_index rank (get_or backward j no_hub).node ≤ slice_index rank (get_or backward y no_hub).node = back_later y after hy in
-        let lower : slice_index rank (get_or forward x no_hub).node < slice_index rank (get_or backward j no_hub).node = subst (λ (k : ℕ). slice_index rank (get_or forward k no_hub).node < slice_index rank (get_or backward j no_hub).node) is low in
-        absurd (omega arith))
-        (cases_lt y j))
-        (cases_lt x i);
-  }
-
-  -- the second label's hub is of lower rank
-  pub merge_right : slice_index rank (get_or backward j no_hub).node < slice_index rank (get_or forward i no_hub).node → IsMerging forward backward i (j + 1) best
-  merge_right low = record {
-    i_within = so_far.i_within;
-    j_within = omega arith;
-    most = so_far.most;
-    given = so_far.given;
-    passed = λ x y hx hy either e. ⊎_elim
-        (λ (before : x < i). so_far.passed x y hx hy (inl before) e)
-        (λ (here : i ≤ x). ⊎_elim
-        (λ (before : y < j). so_far.passed x y hx hy (inr before) e)
-        (λ (after : j ≤ y).
-        let is : j ≡ y = ⊎_elim (λ (lt : x < i). absurd (omega arith)) (λ (lt : y < j + 1). omega arith) either in
-        let same : slice_index rank (get_or forward x no_hub).node ≡ slice_index rank (get_or backward y no_hub).node = same_rank x y e in
-        let later : slice_index rank (get_or forward i no_hub).node ≤ slice_index rank (get_or forward x no_hub).node = ahead_later x here hx in
-        let lower : slice_index rank (get_or backward y no_hub).node < slice_index rank (get_or forward i no_hub).node = subst (λ (k : ℕ). slice_index rank (get_or backward k no_hub).node < slice_index rank (get_or forward i no_hub).node) is low in
-        absurd (omega arith))
-        (cases_lt y j))
-        (cases_lt x i);
-  }
 
   -- it is one hub of both
   pub merge_both : (least : ℕ) → ((a b : ℕ) → a < length rank → b < length rank → slice_index rank a ≡ slice_index rank b → a ≡ b) → slice_index rank (get_or backward j no_hub).node ≤ slice_index rank (get_or forward i no_hub).node → slice_index rank (get_or forward i no_hub).node ≤ slice_index rank (get_or backward j no_hub).node
@@ -131,13 +76,4 @@ merged forward backward i j best so_far ends = record {
       rw (get_or_default forward x d no_hub hx, get_or_default backward y d no_hub hy)
       (so_far.passed x y hx hy (⊎_elim (λ (p : length forward ≤ i). inl (omega arith)) (λ (q : length backward ≤ j). inr (omega arith)) ends)
       (rw (get_or_default forward x d no_hub hx, get_or_default backward y d no_hub hy) at e));
-}
-
-pub merging_starts : (forward backward : List Hub) → IsMerging forward backward 0 0 never
-merging_starts forward backward = record {
-  i_within = omega arith;
-  j_within = omega arith;
-  most = omega arith;
-  given = inl refl;
-  passed = λ x y hx hy either e. ⊎_elim (λ (h : x < 0). absurd (omega arith)) (λ (h : y < 0). absurd (omega arith)) either;
 }

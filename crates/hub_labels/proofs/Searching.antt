@@ -1,7 +1,6 @@
 -- Steps of a pruned search.
-use Rattle.std.proofs.Common.{◌≡◌, ◌≢◌, ℕ, ◌+◌, ◌<◌, ◌≤◌, ◌⊎◌, Bool, true, false, List, [], ◌∷◌, ◌++◌, length, get_or, slice_index, set, All, Contains, refl, sym, ap, ◌∙◌, subst, inl, inr, ⊎_elim, arith}
+use Rattle.std.proofs.Common.{◌≡◌, ◌≢◌, ℕ, ◌+◌, ◌<◌, ◌≤◌, ◌⊎◌, Bool, true, false, List, [], ◌∷◌, ◌++◌, length, get_or, slice_index, All, Contains, refl, sym, ap, ◌∙◌, subst, inl, inr, ⊎_elim, arith}
 use Rattle.std.proofs.lemmas.Bool.{cases_eq, true≢false}
-use Rattle.std.proofs.lemmas.List.{length-set, get_or-set_same, get_or-set_other}
 use Rattle.std.proofs.lemmas.List.Elements.{All-contains, Contains-append_left, Contains-push}
 use Rattle.pool_base.specs.TravelTime.{never, longest}
 use Rattle.road_network.specs.declared.arc.Arc.{Arc}
@@ -12,7 +11,7 @@ use Rattle.travel_times.specs.work.Search.{waits, HasWalkOf, IsNextTaken, IsHopR
 use Rattle.travel_times.proofs.lemmas.WalkLemmas.{IsWalk-push, walk_seconds-push}
 use Rattle.hub_labels.specs.declared.hub.Hub.{Hub}
 use Rattle.hub_labels.specs.work.Hops.{arc_from, AreHopsOf}
-use Rattle.hub_labels.specs.work.Pruned.{IsToldAt, IsPruning, IsPruned}
+use Rattle.hub_labels.specs.work.Pruned.{IsToldAt, IsPruning}
 
 -- hops of a network's arcs lead to its nodes, in at most the longest arc's seconds
 pub hops_within : (arcs : List Arc) (n node : ℕ) (hops : List Hop) → All (IsArcAmong n) arcs → AreHopsOf arcs node hops → All (λ (hop : Hop). (hop.to < n) × (hop.seconds ≤ 10000)) hops
@@ -115,47 +114,3 @@ module _ {arcs : List Arc} {n start node : ℕ} {labels : List (List Hub)} {via 
             (λ changed. absurd (true≢false (sym changed.0 ∙ settled)))
             (relaxes.from other);
       }
-
--- the search begins
-pub pruning_starts : (arcs : List Arc) (n start : ℕ) (labels : List (List Hub)) (via s : List ℕ) (w : List Bool) (taken : List ℕ) → length s ≡ n → length w ≡ n → start < n → All (λ x. x ≡ never) s → ((node : ℕ) → waits w node ≡ false)
-    → IsPruning arcs n start labels via (set s start 0) (set w start true) taken
-pruning_starts arcs n start labels via s w taken es ew hs far none =
-    let at : slice_index (set s start 0) start ≡ 0 = get_or-set_same s start 0 0 (omega arith) in
-    let other : (node : ℕ) → node ≢ start → slice_index (set s start 0) node ≡ slice_index s node = λ node ne. get_or-set_other s start node 0 0 ne in
-    let far_at : (node : ℕ) → node < n → slice_index s node ≡ never = λ node h. far node 0 (omega arith) in
-    let waits_at : waits (set w start true) start ≡ true = get_or-set_same w start true false (omega arith) in
-    let other_waits : (node : ℕ) → node ≢ start → waits (set w start true) node ≡ waits w node = λ node ne. get_or-set_other w start node true false ne in
-    record {
-      seconds_length = length-set s start 0 ∙ es;
-      waiting_length = length-set w start true ∙ ew;
-      start_within = hs;
-      start_zero = at;
-      sound = λ node hn. ⊎_elim
-          (λ (e : node ≡ start). rw (e, at) (inr (omega arith, ([], refl, refl))))
-          (λ (ne : node ≢ start). inl (other node ne ∙ far_at node hn))
-          (cases_eq node start);
-      reached = λ node h. ⊎_elim
-          (λ (e : node ≡ start). rw (e, at) (omega arith))
-          (λ (ne : node ≢ start). absurd (true≢false (sym h ∙ other_waits node ne ∙ none node)))
-          (cases_eq node start);
-      noted = λ node hn finite. ⊎_elim
-          (λ (e : node ≡ start). inl (rw e waits_at))
-          (λ (ne : node ≢ start). let is : slice_index (set s start 0) node ≡ never = other node ne ∙ far_at node hn in absurd (omega arith))
-          (cases_eq node start);
-      relaxed = λ node hn settled finite. ⊎_elim
-          (λ (e : node ≡ start). absurd (true≢false (sym waits_at ∙ ap (waits (set w start true)) (sym e) ∙ settled)))
-          (λ (ne : node ≢ start). let is : slice_index (set s start 0) node ≡ never = other node ne ∙ far_at node hn in absurd (omega arith))
-          (cases_eq node start);
-    }
-
--- where no node waits the search is done
-pub pruned_at_end : (arcs : List Arc) (n start : ℕ) (labels : List (List Hub)) (via s : List ℕ) (w : List Bool) (taken : List ℕ) → IsPruning arcs n start labels via s w taken → ((node : ℕ) → waits w node ≡ false) → IsPruned arcs n start labels via s
-pruned_at_end arcs n start labels via s w taken inv none = record {
-  each = inv.seconds_length;
-  start_zero = inv.start_zero;
-  sound = inv.sound;
-  relaxed = λ node h finite. inv.relaxed node h (none node) finite;
-}
-
-pub noted_at_end : (arcs : List Arc) (n start : ℕ) (labels : List (List Hub)) (via s : List ℕ) (w : List Bool) (taken : List ℕ) → IsPruning arcs n start labels via s w taken → ((node : ℕ) → waits w node ≡ false) → (node : ℕ) → node < n → slice_index s node < never → Contains taken node
-noted_at_end arcs n start labels via s w taken inv none node h finite = ⊎_elim (λ (waited : waits w node ≡ true). absurd (true≢false (sym waited ∙ none node))) (λ has. has) (inv.noted node h finite)

@@ -31,11 +31,6 @@ pub other_way : Bool → Bool
 other_way true = false
 other_way false = true
 
-pub turn_directed : (reversed : Bool) (arcs : List Arc) → IsTurnOf (directed reversed arcs) (directed (other_way reversed) arcs)
-unfolding other_way
-turn_directed true arcs = turn_back arcs
-turn_directed false arcs = turn_there arcs
-
 -- arcs of the network are so in both directions
 pub among_directed : (reversed : Bool) (arcs : List Arc) (n : ℕ) → All (IsArcAmong n) arcs → All (IsArcAmong n) (directed reversed arcs)
 among_directed false arcs n among = among

@@ -1,4 +1,4 @@
-use Rattle.std.proofs.Common.{◌≡◌, ℕ, suc, ◌+◌, List, [], ◌∷◌, ◌++◌, refl, sym, ap, subst, ◌∙◌, add-one}
+use Rattle.std.proofs.Common.{◌≡◌, ℕ, ◌+◌, List, [], ◌∷◌, ◌++◌, refl, sym, ap, subst, ◌∙◌}
 use Rattle.std.proofs.lemmas.List.{append-nil, append_assoc}
 use Rattle.std.proofs.lemmas.List.Concat.{flat_map-append}
 use Rattle.rand_core.specs.Stream.{Stream}
@@ -29,17 +29,6 @@ Writes-both first second old mid new s t u here rest = record {
       ∙ ap (λ (x : List ℕ). old ++ x) (sym (flat_map-append csv_line (first s).0 (second (first s).1).0));
   left = rest.left ∙ ap (λ (v : Stream). (second v).1) here.left;
 }
-
--- the parts of no number were written
-pub Writes-each_none : (parts : ℕ → Part) (text : List ℕ) (s : Stream) → Writes (each parts 0) text text s s
-Writes-each_none parts text s = record { text = sym (append-nil text); left = refl }
-
--- one more part was written
-pub Writes-each_more : (parts : ℕ → Part) (n : ℕ) (old mid new : List ℕ) (s t u : Stream) → Writes (each parts n) old mid s t → Writes (parts n) mid new t u → Writes (each parts (n + 1)) old new s u
-Writes-each_more parts n old mid new s t u before here =
-    let more : Writes (each parts (suc n)) old new s u = (let b = Writes-both (each parts n) (parts n) old mid new s t u before here in record { text = b.text; left = b.left }) in
-    let same : suc n ≡ n + 1 = sym (add-one n) in
-    subst (λ k. Writes (each parts k) old new s u) same more
 
 -- a part that was written, under another name
 pub Writes-same : (part other : Part) (old new : List ℕ) (s t : Stream) → part ≡ other → Writes part old new s t → Writes other old new s t

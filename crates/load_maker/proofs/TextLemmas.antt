@@ -4,9 +4,9 @@ use Rattle.rand_core.specs.Stream.{Stream}
 use Rattle.rider_limits.specs.declared.load_shape.LoadShape.{LoadShape}
 use Rattle.load_maker.specs.declared.row.Field.{Field}
 use Rattle.load_maker.specs.Row.{text_under}
-use Rattle.load_maker.specs.work.Parts.{csv_lines, draws_of}
+use Rattle.load_maker.specs.work.Parts.{csv_lines, draws_of, network_part, fleet_part, script_part, arcs_right, arcs_down, arcs_of_row}
 use Rattle.load_maker.specs.work.Written.{Writes}
-use Rattle.load_maker.specs.Texts.{network_part, fleet_part, script_part, Texts, texts_of}
+use Rattle.load_maker.specs.Texts.{Texts, texts_of}
 use Rattle.pool_base.specs.Header.{script_header, fleet_header, network_header}
 
 made_of : List (List Field) → List (List Field) → List (List Field) → Texts
@@ -21,7 +21,7 @@ pub texts_of-written : (shape : LoadShape) (seed : ℕ) (n f t : List ℕ) (u v 
     → Writes (fleet_part shape) (fleet_header ++ 10 ∷ []) f u v
     → Writes (script_part shape) (script_header ++ 10 ∷ []) t v w
     → record { network = n; fleet = f; script = t } ≡ texts_of shape
-unfolding texts_of made_of plain_of
+unfolding texts_of network_part arcs_of_row arcs_right arcs_down fleet_part script_part made_of plain_of
 texts_of-written shape seed n f t u v w is network fleet script =
     let s = ap draws_of is in
     let left : u ≡ (network_part shape (draws_of shape.seed)).1 = network.left ∙ ap (λ d. (network_part shape d).1) s in

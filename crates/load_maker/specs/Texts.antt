@@ -23,21 +23,12 @@ arcs_between a b s =
     let time = draw 41 s in
     ((Number a ∷ Number b ∷ Number (20 + time.0) ∷ []) ∷ (Number b ∷ Number a ∷ Number (20 + time.0) ∷ []) ∷ [], time.1)
 
--- the arcs between a node and the next of its row
-unfoldable pub arcs_right : ℕ → ℕ → ℕ → Part
-arcs_right side i j = if nat_lt (j + 1) side then arcs_between (node_id side i j) (node_id side i (j + 1)) else plain []
-
--- the arcs between a node and the next of its column
-unfoldable pub arcs_down : ℕ → ℕ → ℕ → Part
-arcs_down side i j = if nat_lt (i + 1) side then arcs_between (node_id side i j) (node_id side (i + 1) j) else plain []
-
--- the arcs of a row of the square
-unfoldable pub arcs_of_row : ℕ → ℕ → Part
-arcs_of_row side i = each (λ j. both (arcs_right side i j) (arcs_down side i j)) side
-
--- the rows of the network: the arcs of the square
-unfoldable pub network_part : LoadShape → Part
-network_part shape = each (arcs_of_row shape.side) shape.side
+-- the arcs between a node and the next of its row, and the next of its column
+abbrev pub arcs_of_node : ℕ → ℕ → ℕ → Part
+arcs_of_node side i j =
+    both
+    (if nat_lt (j + 1) side then arcs_between (node_id side i j) (node_id side i (j + 1)) else plain [])
+    (if nat_lt (i + 1) side then arcs_between (node_id side i j) (node_id side (i + 1) j) else plain [])
 
 -- a vehicle of four seats at a drawn node
 unfoldable pub vehicle_row : LoadShape → ℕ → Part
@@ -45,19 +36,11 @@ vehicle_row shape v s =
     let node = drawn_node shape.side s in
     ((Number v ∷ Number 4 ∷ Number node.0 ∷ Number 0 ∷ []) ∷ [], node.1)
 
--- the rows of the fleet: the vehicles, from 1
-unfoldable pub fleet_part : LoadShape → Part
-fleet_part shape = each (λ n. vehicle_row shape (n + 1)) shape.vehicles
-
 -- a vehicle is reported at a drawn node
 unfoldable pub report_row : LoadShape → ℕ → ℕ → Part
 report_row shape k v s =
     let node = drawn_node shape.side s in
     ((Number (2 * k) ∷ Number 0 ∷ Report ∷ Number v ∷ Number node.0 ∷ Number (60 * k) ∷ Empty ∷ []) ∷ [], node.1)
-
--- every vehicle, from 1, is reported before each batch but the first
-unfoldable pub reports : LoadShape → ℕ → Part
-reports shape k = if nat_lt 0 k then each (λ n. report_row shape k (n + 1)) shape.vehicles else plain []
 
 -- a request between two drawn nodes, which are not the same, at a drawn second; the second node is drawn among the others
 unfoldable pub submit_row : LoadShape → ℕ → ℕ → Part
@@ -68,19 +51,13 @@ submit_row shape k m s =
     let end = if nat_lt (1 + other.0) origin.0 then 1 + other.0 else 1 + other.0 + 1 in
     ((Number (2 * k) ∷ Number (1 + m % 3) ∷ Submit ∷ Number (k * shape.riders + m) ∷ Number origin.0 ∷ Number end ∷ Number (60 * k + second.0) ∷ []) ∷ [], second.1)
 
--- the requests of a batch, from 1
-unfoldable pub submits : LoadShape → ℕ → Part
-submits shape k = each (λ n. submit_row shape k (n + 1)) shape.riders
-
--- the rows of a batch: reports, requests, the seal
+-- the rows of a batch: reports of the vehicles, from 1, but before the first; requests, from 1; the seal
 unfoldable pub batch_rows : LoadShape → ℕ → Part
 batch_rows shape k =
+    let reports : Part = if nat_lt 0 k then each (λ n. report_row shape k (n + 1)) shape.vehicles else plain [] in
+    let submits : Part = each (λ n. submit_row shape k (n + 1)) shape.riders in
     let seal : List Field = Number (2 * k + 1) ∷ Number 0 ∷ Seal ∷ Number (60 * (k + 1)) ∷ Empty ∷ Empty ∷ Empty ∷ [] in
-    both (reports shape k) (both (submits shape k) (plain (seal ∷ [])))
-
--- the rows of the script: the batches
-unfoldable pub script_part : LoadShape → Part
-script_part shape = each (batch_rows shape) shape.rounds
+    both reports (both submits (plain (seal ∷ [])))
 
 -- three texts
 pub record Texts : Type 0 where
@@ -88,12 +65,13 @@ pub record Texts : Type 0 where
   pub fleet : List ℕ
   pub script : List ℕ
 
--- the texts of a made workload, by the draws of a SplitMix64 generator with its seed, in this order
+-- the texts of a made workload, by the draws of a SplitMix64 generator with its seed, in this order: the arcs of the
+-- square, row by row; the vehicles, from 1; the batches
 unfoldable pub texts_of : LoadShape → Texts
 texts_of shape =
-    let network = network_part shape (stream_of splitmix_steps shape.seed) in
-    let fleet = fleet_part shape network.1 in
-    let script = script_part shape fleet.1 in
+    let network = each (λ i. each (arcs_of_node shape.side i) shape.side) shape.side (stream_of splitmix_steps shape.seed) in
+    let fleet = each (λ n. vehicle_row shape (n + 1)) shape.vehicles network.1 in
+    let script = each (batch_rows shape) shape.rounds fleet.1 in
     record {
       network = text_under network_header network.0;
       fleet = text_under fleet_header fleet.0;

@@ -1,7 +1,7 @@
 ghost use Rattle.std.specs.Prelude.{◌≡◌, ◌≤◌, OnOk};
-ghost use Rattle.load_maker.specs.work.Parts.{draws_of};
+ghost use Rattle.load_maker.specs.work.Parts.{draws_of, fleet_part};
 ghost use Rattle.load_maker.specs.work.Written.{Writes};
-ghost use Rattle.load_maker.specs.Texts.{vehicle_row, fleet_part};
+ghost use Rattle.load_maker.specs.Texts.{vehicle_row};
 
 use crate::draw::draw_node;
 use crate::row::{Field, put_row};

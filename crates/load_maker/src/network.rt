@@ -1,7 +1,7 @@
 ghost use Rattle.std.specs.Prelude.{◌≡◌, ◌*◌, ◌<◌, ◌≤◌, OnOk};
-ghost use Rattle.load_maker.specs.work.Parts.{draws_of};
+ghost use Rattle.load_maker.specs.work.Parts.{draws_of, arcs_right, arcs_down, arcs_of_row, network_part};
 ghost use Rattle.load_maker.specs.work.Written.{Writes};
-ghost use Rattle.load_maker.specs.Texts.{node_id, arcs_between, arcs_right, arcs_down, arcs_of_row, network_part};
+ghost use Rattle.load_maker.specs.Texts.{node_id, arcs_between};
 
 use crate::draw::draw;
 use crate::row::{Field, put_row};

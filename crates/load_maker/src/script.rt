@@ -1,8 +1,8 @@
 ghost use Rattle.std.specs.Prelude.{◌≡◌, ◌<◌, ◌≤◌, ◌^◌, ◌++◌, OnOk};
 ghost use Rattle.load_maker.specs.Row.{csv_line};
-ghost use Rattle.load_maker.specs.work.Parts.{draws_of, all_reports, other_than, seal_row};
+ghost use Rattle.load_maker.specs.work.Parts.{draws_of, all_reports, other_than, seal_row, reports, submits, script_part};
 ghost use Rattle.load_maker.specs.work.Written.{Writes};
-ghost use Rattle.load_maker.specs.Texts.{report_row, reports, submit_row, submits, batch_rows, script_part};
+ghost use Rattle.load_maker.specs.Texts.{report_row, submit_row, batch_rows};
 
 use crate::draw::{draw, draw_node};
 use crate::row::{Field, put_row};

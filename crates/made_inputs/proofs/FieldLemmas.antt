@@ -9,7 +9,8 @@ use Rattle.csv.specs.Reading.{default_config}
 use Rattle.csv.specs.Writing.{default_writer, field_text as written, fields_text, needs_byte, quoted, is_blank, row_text as written_row}
 use Rattle.csv.specs.declared.parser.State.TheVariants as st
 use Rattle.csv.proofs.RoundTrip.{read-write-many}
-use Rattle.pool_base.specs.Number.{IsDigit, AllDigits, value_after, IsNumeralOf}
+use Rattle.pool_base.specs.Number.{IsDigit, AllDigits, IsNumeralOf}
+use Rattle.pool_base.specs.work.Number.{value_after}
 use Rattle.pool_base.specs.Numeral.{number_up_to}
 use Rattle.pool_base.proofs.lemmas.NumeralLemmas.{is_numeral-digits, number_up_to-given}
 use Rattle.load_maker.specs.declared.row.Field.{Field}

@@ -19,8 +19,8 @@ use Rattle.rider_limits.specs.declared.load_shape.LoadShape.{LoadShape}
 use Rattle.load_maker.specs.declared.row.Field.{Field}
 use Rattle.load_maker.specs.declared.row.Field.TheVariants as field
 use Rattle.load_maker.specs.Part.{draw, Part, each}
-use Rattle.load_maker.specs.work.Parts.{draws_of}
-use Rattle.load_maker.specs.Texts.{drawn_node, vehicle_row, fleet_part, network_part}
+use Rattle.load_maker.specs.work.Parts.{draws_of, fleet_part, network_part}
+use Rattle.load_maker.specs.Texts.{drawn_node, vehicle_row}
 use Rattle.made_inputs.proofs.FieldLemmas.{AllFit, number_up_to-decimal}
 use Rattle.made_inputs.proofs.TextLemmas.{fields_of, RowsFit}
 use Rattle.made_inputs.proofs.NetworkLemmas.{network_rows}

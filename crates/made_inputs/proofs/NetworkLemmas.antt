@@ -17,8 +17,8 @@ use Rattle.rider_limits.specs.declared.load_shape.LoadShape.{LoadShape}
 use Rattle.load_maker.specs.declared.row.Field.{Field}
 use Rattle.load_maker.specs.declared.row.Field.TheVariants as field
 use Rattle.load_maker.specs.Part.{draw, Part, both, each}
-use Rattle.load_maker.specs.work.Parts.{draws_of, nothing}
-use Rattle.load_maker.specs.Texts.{node_id, arcs_between, arcs_right, arcs_down, arcs_of_row, network_part}
+use Rattle.load_maker.specs.work.Parts.{draws_of, nothing, arcs_right, arcs_down, arcs_of_row, network_part}
+use Rattle.load_maker.specs.Texts.{node_id, arcs_between}
 use Rattle.made_inputs.proofs.FieldLemmas.{AllFit, number_up_to-decimal}
 use Rattle.made_inputs.proofs.TextLemmas.{fields_of, RowsFit}
 

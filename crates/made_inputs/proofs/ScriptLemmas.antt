@@ -14,14 +14,14 @@ use Rattle.script_rows.specs.declared.version.ScriptVersion.TheVariants.{One}
 use Rattle.script_rows.specs.Word.{word_of}
 use Rattle.script_rows.specs.Line.{party_in, submit_in, three_in, command_in, leaves_empty, line_in}
 use Rattle.script_rows.specs.Round.{NumberedLanes}
-use Rattle.script_rows.specs.Script.{round_before, rounds_of, script_of}
-use Rattle.script_rows.specs.work.Named.{line_at}
+use Rattle.script_rows.specs.Script.{round_before, script_of}
+use Rattle.script_rows.specs.work.Named.{line_at, rounds_of}
 use Rattle.rider_limits.specs.declared.load_shape.LoadShape.{LoadShape}
 use Rattle.load_maker.specs.declared.row.Field.{Field}
 use Rattle.load_maker.specs.declared.row.Field.TheVariants as field
 use Rattle.load_maker.specs.Part.{draw, Part, plain, both, each}
-use Rattle.load_maker.specs.work.Parts.{draws_of, nothing, all_reports, other_than, seal_row}
-use Rattle.load_maker.specs.Texts.{drawn_node, report_row, reports, submit_row, submits, batch_rows, script_part, fleet_part, network_part}
+use Rattle.load_maker.specs.work.Parts.{draws_of, nothing, all_reports, other_than, seal_row, reports, submits, script_part, fleet_part, network_part}
+use Rattle.load_maker.specs.Texts.{drawn_node, report_row, submit_row, batch_rows}
 use Rattle.made_inputs.proofs.FieldLemmas.{AllFit, number_up_to-decimal}
 use Rattle.made_inputs.proofs.TextLemmas.{fields_of, RowsFit}
 use Rattle.made_inputs.proofs.FleetLemmas.{drawn_small}
@@ -217,7 +217,7 @@ IsLines-seal k early = record {
 }
 
 IsLines-batch : (shape : LoadShape) (k : ℕ) → 2 ≤ shape.side → shape.side ≤ 100 → shape.vehicles ≤ 500 → shape.riders ≤ 1000 → k < 100 → IsLines (2 * k) (2 * suc k) (shape.vehicles * 1 + (shape.riders * 1 + 1)) (batch_rows shape k)
-unfolding batch_rows
+unfolding batch_rows reports all_reports submits
 IsLines-batch shape k two small vehicles riders early =
     IsLines-both (2 * k) (2 * k) (2 * suc k) (shape.vehicles * 1) (shape.riders * 1 + 1) (reports shape k) (both (submits shape k) (plain (seal_row k ∷ [])))
     (IsLines-reports shape k two small vehicles early)

@@ -4,6 +4,7 @@ use Rattle.road_network.specs.work.Rows.{roads_of}
 use Rattle.rider_limits.specs.declared.load_shape.LoadShape.{LoadShape}
 use Rattle.rider_limits.specs.Range.{IsShapeInRange}
 use Rattle.load_maker.specs.declared.row.Field.{Field}
+use Rattle.load_maker.specs.work.Parts.{arcs_right, arcs_down, arcs_of_row, network_part, fleet_part, script_part}
 use Rattle.load_maker.specs.Texts.{texts_of}
 use Rattle.pool_base.specs.Header.{script_header, fleet_header, network_header}
 use Rattle.made_inputs.specs.Accepted.{AreReadable}
@@ -14,7 +15,7 @@ use Rattle.made_inputs.proofs.ScriptLemmas.{GiveScript, script_rows, script_acce
 
 -- the network, the fleet and the script of a shape are accepted
 pub accepted : (shape : LoadShape) → IsShapeInRange shape.seed shape.side shape.vehicles shape.riders shape.rounds → AreReadable (texts_of shape)
-unfolding texts_of
+unfolding texts_of network_part arcs_of_row arcs_right arcs_down fleet_part script_part
 accepted shape range =
     let arcs : List (List Field) = network_rows shape in
     let rows : List (List Field) = fleet_rows shape in

@@ -1,6 +1,5 @@
-use Rattle.std.proofs.Common.{◌≡◌, ℕ, List, refl, sym, subst, arith, inl, inr}
+use Rattle.std.proofs.Common.{◌≡◌, ℕ, List, refl, sym, subst, inl, inr}
 use Rattle.std.proofs.lemmas.Bool.{cases_order}
-use Rattle.pool_base.specs.TravelTime.{IsTable}
 use Rattle.pool_base.specs.TimesFault.{IsFirst, IsFirstPair, IsFirstTriple, IsFirstFault}
 use Rattle.pool_base.specs.declared.times.TimesFault.{TimesFault}
 use Rattle.pool_base.specs.declared.times.TimesFault.TheVariants.{Size, TooLong, Diagonal, Triangle}
@@ -57,11 +56,3 @@ IsFirstFault-unique n cells (Triangle a b c) (Triangle i j k) p q =
     let second = same.1 in
     let third = same.2 in
     cc
-
--- a table has no fault
-pub IsFirstFault-no_table : (n : ℕ) (cells : List ℕ) (f : TimesFault) → IsFirstFault n cells f → IsTable n cells → ⊥
-IsFirstFault-no_table n cells Size p t = p t.square
-IsFirstFault-no_table n cells (TooLong a b) p t =
-    omega (arith, p.1.second.holds.0, p.1.second.holds.1, t.times.range a b p.1.second.holds.1)
-IsFirstFault-no_table n cells (Diagonal a) p t = p.2.holds (t.times.diagonal a p.2.within)
-IsFirstFault-no_table n cells (Triangle a b c) p t = omega (arith, p.3.others.second.holds, t.times.triangle a b c)

@@ -8,3 +8,4 @@ pub mod InOrder
 pub mod Distinct
 pub mod Sums
 pub mod Header
+pub mod work

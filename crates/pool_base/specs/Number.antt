@@ -1,4 +1,4 @@
-use Rattle.std.specs.Prelude.{◌≡◌, ◌≢◌, ℕ, ◌+◌, ◌-◌, ◌*◌, ◌<◌, ◌≤◌, List, [], ◌∷◌, length, slice_index}
+use Rattle.std.specs.Prelude.{◌≡◌, ◌≢◌, ℕ, ◌+◌, ◌-◌, ◌*◌, ◌<◌, ◌≤◌, List, [], length, slice_index, fold}
 
 -- the character is one of `0` to `9`
 abbrev pub IsDigit : ℕ → Type 0
@@ -8,14 +8,9 @@ IsDigit c = (48 ≤ c) × (c ≤ 57)
 abbrev pub AllDigits : List ℕ → Type 0
 AllDigits text = (k : ℕ) → k < length text → IsDigit (slice_index text k)
 
--- the value of the digits so far, followed by these
-abbrev pub value_after : ℕ → List ℕ → ℕ
-value_after n [] = n
-value_after n (c ∷ cs) = value_after (n * 10 + (c - 48)) cs
-
 -- the value of a decimal numeral
 abbrev pub value_of : List ℕ → ℕ
-value_of text = value_after 0 text
+value_of text = fold (λ n c. n * 10 + (c - 48)) 0 text
 
 -- the character at this place is the first that is no digit
 pub record IsFirstNoDigit (text : List ℕ) (place : ℕ) : Type 0 where

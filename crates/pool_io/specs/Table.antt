@@ -24,17 +24,15 @@ field_at fields column = slice_index_or fields column []
 abbrev pub header_fields : List ℕ → List (List ℕ)
 header_fields header = slice_split (λ byte. byte == 44) header
 
--- the rows, or the first with another number of fields; rows count from 1
-abbrev pub even_rows : ℕ → List (List (List ℕ)) → Result Table RowFault
-even_rows columns rows =
-    option_map_or (λ row. Err (UnequalLength row)) (position_from (λ fields. not (length fields == columns)) 1 rows)
-    (Ok (record { columns = columns; records = rows }))
-
--- what records give under a header: the rows after the first record, which has the header's fields byte for byte
+-- what records give under a header: the rows after the first record, which has the header's fields byte for byte, or
+-- the first of them with another number of fields; rows count from 1
 abbrev pub rows_under : List (List ℕ) → List (List (List ℕ)) → Result Table RowFault
 rows_under names [] = Err (Header 0)
 rows_under names (first ∷ rows) =
-    if pointwise bytes_eq first names then even_rows (length names) rows else Err (Header (length first))
+    if pointwise bytes_eq first names
+    then option_map_or (λ row. Err (UnequalLength row)) (position_from (λ fields. not (length fields == length names)) 1 rows)
+    (Ok (record { columns = length names; records = rows }))
+    else Err (Header (length first))
 
 -- the table that bytes hold under a header line, or the first refusal; the bytes hold records as the `csv` crate
 -- reads them with its defaults: fields between commas, quotes round a field, records ended by a line feed, a carriage

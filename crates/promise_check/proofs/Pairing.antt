@@ -9,9 +9,6 @@ module _ {X Y : Type 0} (R : X → Y → Type 0) (d : Y) where
   abbrev pub Pairs : ℕ → List X → List Y → Type 0
   Pairs n xs ys = (k : ℕ) (x : X) → k < n → slice_get xs k ≡ Some x → R x (get_or ys k d)
 
-  pub pairs_none : (xs : List X) (ys : List Y) → Pairs 0 xs ys
-  pairs_none xs ys k x h e = absurd (omega arith)
-
   pub pairs_more : (n : ℕ) (xs : List X) (ys : List Y) (x : X) (y : Y) → n < length xs → x ≡ get_or xs n x → length ys ≡ n → R x y → Pairs n xs ys → Pairs (n + 1) xs (ys ++ y ∷ [])
   pairs_more n xs ys x y h is count good upto k z lt e =
       elim (cases_lt k n) as (λ _. R z (get_or (ys ++ y ∷ []) k d)) [

@@ -39,13 +39,6 @@ IsChosen-push s i r pairs hr is weighs chosen =
           (cases_eq v i);
     }
 
--- a weight is at most a pair's worth, and together with the seconds exactly that where there is a way
-pub weight_of-most : (seconds : ℕ) → weight_of seconds ≤ pair_worth
-weight_of-most seconds = ⊎_elim
-    (λ (lt : seconds < never). rw (lt-ltb seconds never lt) (omega arith))
-    (λ (le : never ≤ seconds). rw (le-ltb seconds never le) (omega arith))
-    (cases_lt seconds never)
-
 weight_of-way : (seconds : ℕ) → 0 < weight_of seconds → seconds < never
 weight_of-way seconds h = ⊎_elim
     (λ (lt : seconds < never). lt)

@@ -18,27 +18,6 @@ b_most {n} {m} {w} {done} {next} {a} {b} {q} {p} priced j hj =
     (λ (free : n ≤ slice_index p j). let is : slice_index b j ≡ 0 = priced.free_rider j hj free in omega arith)
     (cases_lt (slice_index p j) n)
 
--- the vehicle whose search begins no longer waits
-pub IsPriced-begin : {n m : ℕ} {w : ℕ → ℕ → ℕ} {k : ℕ} {a b q p : List ℕ} → IsPriced n m w k k a b q p → IsPriced n m w k (k + 1) a b q p
-IsPriced-begin priced = record {
-  a_length = priced.a_length;
-  b_length = priced.b_length;
-  q_length = priced.q_length;
-  p_length = priced.p_length;
-  q_most = priced.q_most;
-  p_most = priced.p_most;
-  a_most = priced.a_most;
-  light = priced.light;
-  covers = priced.covers;
-  tight = priced.tight;
-  forth = priced.forth;
-  back = priced.back;
-  free_rider = priced.free_rider;
-  free_vehicle = priced.free_vehicle;
-  waiting = λ i hi le. priced.waiting i hi (omega arith);
-  waiting_price = λ i hi le. priced.waiting_price i hi (omega arith);
-}
-
 module _ {n m : ℕ} {w : ℕ → ℕ → ℕ} {k : ℕ} {a b q p : List ℕ} (priced : IsPriced n m w k k a b q p) (hk : k < n) where
   -- a tree of the root alone
   pub IsGrown-root : IsGrown n m w k a b q (k ∷ []) (m ∷ []) (0 ∷ []) (replicate m 0)

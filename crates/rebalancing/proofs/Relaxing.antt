@@ -1,7 +1,6 @@
 use Rattle.std.proofs.Common.{◌≡◌, ◌≢◌, ℕ, ◌+◌, ◌<◌, ◌≤◌, ◌⊎◌, List, length, slice_index, sym, ap, ◌∙◌, inl, inr, ⊎_elim, arith}
 use Rattle.std.proofs.lemmas.Bool.{cases_eq}
-use Rattle.rebalancing.specs.work.Relaxation.{Relaxes, Improves}
-use Rattle.rebalancing.specs.work.SearchTree.{IsNearest}
+use Rattle.rebalancing.specs.work.Relaxation.{Improves}
 
 -- the riders below i are relaxed, and `nearest` is the nearest of them
 pub record IsRelaxing (row price place : List ℕ) (offset position : ℕ) (tight_at parent_of tight_at' parent_of' : List ℕ) (i m nearest : ℕ) : Type 0 where
@@ -89,21 +88,3 @@ module _ (row price place : List ℕ) (offset position : ℕ) (ta po ta' po' : L
           next;
       least = nearest_least;
     }
-
-  -- at the end every rider is taken into account
-  pub Relaxes-at_end : length row ≤ i → Relaxes row price place offset position ta po ta' po'
-  Relaxes-at_end end = record {
-    tight_length = inv.tight_length;
-    parent_length = inv.parent_length;
-    no_later = λ j h. inv.no_later j (omega arith);
-    bounded = λ j h. inv.bounded j (omega arith);
-    from = λ j h. inv.from j (omega arith);
-  }
-
-  pub IsNearest-at_end : i ≤ m → length row ≤ i → IsNearest (length row) place ta' nearest
-  IsNearest-at_end im end = record {
-    most = let e : m ≡ length row = inv.size in ⊎_elim (λ (h : nearest < i). omega arith) (λ (h : nearest ≡ m). omega arith) inv.most;
-    outside = λ h. let e : m ≡ length row = inv.size in inv.outside (omega arith);
-    first = λ j h out. let e : m ≡ length row = inv.size in let f : nearest < m = inv.first j (omega arith) out in omega arith;
-    least = λ j h out. inv.least j (omega arith) out;
-  }

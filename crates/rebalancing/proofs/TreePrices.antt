@@ -41,27 +41,3 @@ IsFalling-more vs by i v old new within distinct enough hi is inv =
           let other : j ≢ v = λ e. out i hi (sym (e ∙ is)) in
           rw (get_or-set_other new v j (slice_index new v - by) 0 other) (inv.outside j out);
     }
-
-pub IsRising-more : (vs : List ℕ) (by i v : ℕ) (old new : List ℕ)
-    → ((t : ℕ) → 0 < t → t < length vs → slice_index vs t < length old)
-    → ((s t : ℕ) → 0 < s → 0 < t → s < length vs → t < length vs → slice_index vs s ≡ slice_index vs t → s ≡ t)
-    → 0 < i → i < length vs → v ≡ slice_index vs i → IsRising vs by i old new → IsRising vs by (i + 1) old (set new v (slice_index new v + by))
-IsRising-more vs by i v old new within distinct pi hi is inv =
-    let here : v < length new = rw (is, inv.same_length) (within i pi hi) in
-    let now : slice_index (set new v (slice_index new v + by)) v ≡ slice_index new v + by = get_or-set_same new v (slice_index new v + by) 0 here in
-    let was : slice_index new v ≡ slice_index old v = rw is (inv.after i pi hi (omega arith)) in
-    record {
-      same_length = length-set new v _ ∙ inv.same_length;
-      before = λ t pt ht lt. ⊎_elim
-          (λ (e : t ≡ i). let at : slice_index vs t ≡ v = ap (slice_index vs) e ∙ sym is in rw at (omega arith))
-          (λ (ne : t ≢ i).
-          let other : slice_index vs t ≢ v = λ e. ne (distinct t i pt pi ht hi (e ∙ is)) in
-          rw (get_or-set_other new v (slice_index vs t) (slice_index new v + by) 0 other) (inv.before t pt ht (omega arith)))
-          (cases_eq t i);
-      after = λ t pt ht le.
-          let other : slice_index vs t ≢ v = λ e. let same : t ≡ i = distinct t i pt pi ht hi (e ∙ is) in omega arith in
-          rw (get_or-set_other new v (slice_index vs t) (slice_index new v + by) 0 other) (inv.after t pt ht (omega arith));
-      outside = λ j out.
-          let other : j ≢ v = λ e. out i pi hi (sym (e ∙ is)) in
-          rw (get_or-set_other new v j (slice_index new v + by) 0 other) (inv.outside j out);
-    }

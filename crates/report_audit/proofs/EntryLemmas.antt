@@ -34,7 +34,7 @@ use Rattle.request_book.proofs.lemmas.BookLemmas.{replies-push}
 use Rattle.rider_limits.specs.declared.settings.Settings.{Settings}
 use Rattle.road_network.specs.Roads.{Roads}
 use Rattle.script_rows.specs.Round.{NumberedLanes, MayStand, lane_at}
-use Rattle.report_audit.specs.Fault.{HasLine}
+use Rattle.report_head.specs.Line.{IsFirst}
 use Rattle.report_audit.specs.Place.{Place, BeginsRound, MayComeNext, AreAtEnd, with_entry, position_behind, state_behind}
 use Rattle.report_audit.specs.Types.{HasFittingBlock, IsTold}
 use Rattle.report_audit.specs.declared.stop.LineFault.{LineFault}
@@ -114,7 +114,7 @@ module _ (settings : Settings) (roads : Roads) (round : NumberedLanes) (b : Book
   gap_stops (Line left fault) gap = line_stops left fault (no_next_within settings roads round (journal_of b) text (Line left fault) gap)
   gap_stops (Block left refused) gap = absurd gap
 
-  module _ (line after : List ℕ) (has : HasLine text line after) where
+  module _ (line after : List ℕ) (has : IsFirst text line after) where
     -- a stop at a line in form that isn't an entry's
     pub other_stops : (x : NextLine) → ((lane : ℕ) → x ≡ EntryOf lane → ⊥) → IsNextLine x line → StopsWithin settings roads round (journal_of b) text (Line (length text) wrong.Entry)
     other_stops x other form = line_stops (length text) wrong.Entry (
@@ -382,7 +382,7 @@ module _ (settings : Settings) (roads : Roads) (round : NumberedLanes) (b : Book
           }
           -- reading shortens the text
 
-pub shorter : (settings : Settings) (roads : Roads) (round : NumberedLanes) (text line after rest : List ℕ) (block : List ℕ) → HasLine text line after → after ≡ block ++ rest → length rest < length text
+pub shorter : (settings : Settings) (roads : Roads) (round : NumberedLanes) (text line after rest : List ℕ) (block : List ℕ) → IsFirst text line after → after ≡ block ++ rest → length rest < length text
 shorter settings roads round text line after rest block has is =
     let a : length text ≡ length (line ++ 10 ∷ after) = ap length has.whole in
     let c : length after ≡ length (block ++ rest) = ap length is in

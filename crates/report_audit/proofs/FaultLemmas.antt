@@ -14,7 +14,7 @@ use Rattle.request_book.specs.Book.{opening}
 use Rattle.rider_limits.specs.declared.settings.Settings.{Settings}
 use Rattle.road_network.specs.Roads.{Roads}
 use Rattle.script_rows.specs.Round.{NumberedLanes}
-use Rattle.report_audit.specs.Fault.{FailsAt, HasFault, IsCut, IsCutAt, IsOutOfForm, IsOutOfFormAt, IsWrongBatch, IsWrongLine, next_line}
+use Rattle.report_audit.specs.Fault.{FailsAt, HasFault, IsCut, IsOutOfForm, FailsAsLine, IsWrongBatch, IsWrongLine}
 use Rattle.report_audit.specs.Place.{Place, IsRightUpTo, rounds_so_far}
 use Rattle.report_audit.specs.Report.{IsAudited, IsReportOfRun, rounds_text}
 use Rattle.report_audit.specs.declared.fault.AuditFault.TheVariants as fault
@@ -22,7 +22,7 @@ use Rattle.report_audit.specs.declared.fault.Audited.{Audited}
 use Rattle.report_audit.specs.declared.stop.LineFault.TheVariants as wrong
 use Rattle.report_audit.specs.declared.stop.Stop.{Stop}
 use Rattle.report_audit.specs.declared.stop.Stop.TheVariants.{OutOfMemory, Line, Block}
-use Rattle.report_audit.specs.work.Faults.{IsLeftOf, fault_of, fault_of_head, higher, line_left}
+use Rattle.report_audit.specs.work.Faults.{IsLeftOf, fault_of, fault_of_head, higher, line_left, next_line}
 use Rattle.report_audit.specs.work.Steps.{StopsAt}
 use Rattle.report_audit.specs.work.Whole.{AllStops, HasReadAll, WhereAllStops}
 
@@ -59,17 +59,17 @@ module _ (roads : Roads) (vehicles : List Vehicle) (rounds : List NumberedLanes)
 
     fault_at : (stop : Stop) → StopsAt settings roads place rest stop → HasFault roads vehicles rounds workers text (fault_of text stop)
     fault_at OutOfMemory stops = tt
-    fault_at (Line left wrong.Cut) stops = IsCutAt.behind (fails_at left stops.0 (λ s r p t. IsCut p t) stops.1)
-    fault_at (Line left wrong.Form) stops = IsOutOfFormAt.behind (fails_at left stops.0 (λ s r p t. IsOutOfForm p t) stops.1)
+    fault_at (Line left wrong.Cut) stops = FailsAsLine.behind (fails_at left stops.0 (λ s r p t. IsCut p t) stops.1)
+    fault_at (Line left wrong.Form) stops = FailsAsLine.behind (fails_at left stops.0 (λ s r p t. IsOutOfForm p t) stops.1)
     fault_at (Line left wrong.Entry) stops = fails_at left stops.0 IsWrongLine stops.1
     fault_at (Block left block.OutOfMemory) stops = absurd (stops.2 refl)
     fault_at (Block left (block.Cut n)) stops =
-        IsCutAt.in_block (record { closing = line_left text left; lines = n; line_is = counted (line_left text left) n; fails = fails_at left stops.0 (IsWrongBatch (block.Cut n)) stops.1 })
+        FailsAsLine.in_block (record { closing = line_left text left; lines = n; line_is = counted (line_left text left) n; fails = fails_at left stops.0 (IsWrongBatch (block.Cut n)) stops.1 })
       where
         counted : (k m : ℕ) → higher (higher k 1) m ≡ min (k + 1 + m) (2 ^ 64 - 1)
         counted k m = omega arith
     fault_at (Block left (block.Form n)) stops =
-        IsOutOfFormAt.in_block (record { closing = line_left text left; lines = n; line_is = counted (line_left text left) n; fails = fails_at left stops.0 (IsWrongBatch (block.Form n)) stops.1 })
+        FailsAsLine.in_block (record { closing = line_left text left; lines = n; line_is = counted (line_left text left) n; fails = fails_at left stops.0 (IsWrongBatch (block.Form n)) stops.1 })
       where
         counted : (k m : ℕ) → higher (higher k 1) m ≡ min (k + 1 + m) (2 ^ 64 - 1)
         counted k m = omega arith
@@ -145,6 +145,6 @@ no_head roads vehicles rounds workers text none report =
 
 pub head_fault : (roads : Roads) (vehicles : List Vehicle) (rounds : List NumberedLanes) (workers : ℕ) (text : List ℕ) (found : HeadFault) → HeadFails roads (length vehicles) text found
     → HasFault roads vehicles rounds workers text (fault_of_head found)
-head_fault roads vehicles rounds workers text (head.Cut n) fails = IsCutAt.in_head fails
-head_fault roads vehicles rounds workers text (head.Form n) fails = IsOutOfFormAt.in_head fails
+head_fault roads vehicles rounds workers text (head.Cut n) fails = FailsAsLine.in_head fails
+head_fault roads vehicles rounds workers text (head.Form n) fails = FailsAsLine.in_head fails
 head_fault roads vehicles rounds workers text (head.Head n) fails = fails

@@ -193,13 +193,6 @@ waits_for lanes lane batch b sealed waits pending is =
     let same : Some batch ≡ Some b.number = sym pending ∙ ap (λ (k : ℕ). (stand_at lanes k).pending) zeroth ∙ waits.first ∙ ap (option_map (λ c. c.number)) is in
     cc
 
--- a lane that waits for a close isn't without a sealed batch
-pub waits_some : (lanes : List LaneStand) (lane batch : ℕ) (sealed : Option Batch) → Waits lanes sealed → (stand_at lanes lane).pending ≡ Some batch → sealed ≢ None
-waits_some lanes lane batch sealed waits pending none =
-    let zeroth : lane ≡ 0 = ⊎_elim (λ (e : lane ≡ 0). e) (λ (other : lane ≢ 0). absurd (let alone = waits.others lane other in cc)) (cases_eq lane 0) in
-    let same : Some batch ≡ None = sym pending ∙ ap (λ (k : ℕ). (stand_at lanes k).pending) zeroth ∙ waits.first ∙ ap (option_map (λ c. c.number)) none in
-    cc
-
 -- no lane from the sixteenth on has a command
 pub none_beyond : (round : NumberedLanes) (lanes : List LaneStand) (lane : ℕ) (command : Command) → IsRound round → length lanes ≡ 16 → 16 ≤ lane → IsNext (lane_at round lane) (stand_at lanes lane) command → ⊥
 none_beyond round lanes lane command kept sixteen high next =

@@ -29,7 +29,7 @@ use Rattle.request_book.proofs.lemmas.BookLemmas.{applied-book}
 use Rattle.rider_limits.specs.declared.settings.Settings.{Settings}
 use Rattle.road_network.specs.Roads.{Roads}
 use Rattle.script_rows.specs.Round.{NumberedLanes, lane_at}
-use Rattle.report_audit.specs.Fault.{HasLine}
+use Rattle.report_head.specs.Line.{IsFirst}
 use Rattle.report_audit.specs.Place.{Place, MayComeNext, AreAtEnd, with_entry, position_behind, state_behind}
 use Rattle.report_audit.specs.Types.{HasFittingBlock, AreTold}
 use Rattle.report_audit.specs.declared.stop.LineFault.{LineFault}
@@ -100,7 +100,7 @@ module _ (settings : Settings) (roads : Roads) (round : NumberedLanes) (later : 
           }
 
   -- the line that stands first is the next entry's
-  pub first_is : (j : Journal) (text line after : List ℕ) → (h : HasNext j text) → HasLine text line after
+  pub first_is : (j : Journal) (text line after : List ℕ) → (h : HasNext j text) → IsFirst text line after
       → (line ≡ entry_line (position_behind j) h.entry) × (after ≡ lines_text (entry_block true h.entry.command h.entry.reply) ++ h.behind)
   first_is j text line after h has =
       cut_once line (entry_line (position_behind j) h.entry) after (lines_text (entry_block true h.entry.command h.entry.reply) ++ h.behind) has.one (entry_one (position_behind j) h.entry h.comes.line) (sym has.whole ∙ h.printed)
@@ -191,7 +191,7 @@ module _ (settings : Settings) (roads : Roads) (round : NumberedLanes) (j : Jour
       come_begins round (set lanes e.lane (stand_after (stand_at lanes e.lane) e.reply)) (j.entries ++ e ∷ []) (come_more round lanes j.entries e low come next) e.lane
 
 -- the text of one entry
-pub read_one : (p : ℕ) (e : Entry) (text line after rest : List ℕ) → HasLine text line after → line ≡ entry_line p e → after ≡ lines_text (entry_block true e.command e.reply) ++ rest
+pub read_one : (p : ℕ) (e : Entry) (text line after rest : List ℕ) → IsFirst text line after → line ≡ entry_line p e → after ≡ lines_text (entry_block true e.command e.reply) ++ rest
     → text ≡ entries_text p (e ∷ []) ++ rest
 read_one p e text line after rest has is behind =
     let block : List ℕ = lines_text (entry_block true e.command e.reply) in

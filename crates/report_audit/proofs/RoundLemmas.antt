@@ -27,7 +27,7 @@ use Rattle.rider_limits.specs.declared.settings.Settings.{Settings}
 use Rattle.road_network.specs.Roads.{Roads}
 use Rattle.script_rows.specs.Round.{NumberedLanes, IsRound, lane_at}
 use Rattle.shared_book.specs.Locked.{sealed_by}
-use Rattle.report_audit.specs.Fault.{HasLine}
+use Rattle.report_head.specs.Line.{IsFirst}
 use Rattle.report_audit.specs.Place.{Place, AreAtEnd, position_behind, state_behind}
 use Rattle.report_audit.specs.Report.{closes, rounds_text}
 use Rattle.report_audit.specs.Types.{AreTold, JournalsAreTold}
@@ -36,10 +36,10 @@ use Rattle.report_audit.specs.declared.stop.Stop.{Stop}
 use Rattle.report_audit.specs.declared.stop.Stop.TheVariants.{OutOfMemory, Line, Block}
 use Rattle.report_audit.specs.work.Rest.{IsRestOfRound, IsRestOfRounds, entries_text, with_more}
 use Rattle.report_audit.specs.work.Rounds.{IsRoundStart, HasRoundLine, IsNoRoundLine, EntriesStop, HasReadEntries, HasReadRound, RoundStops, WhereRoundStops}
-use Rattle.report_audit.specs.work.Steps.{HasNoNext, HasRead, IsBookOf, IsWithin, StopsAt, StopsBehind, StopsWithin}
+use Rattle.report_audit.specs.work.Steps.{HasRead, IsBookOf, IsWithin, StopsAt, StopsBehind, StopsWithin}
 use Rattle.report_audit.proofs.JournalLemmas.{after-none, closes-none}
 use Rattle.report_audit.proofs.LaneLemmas.{come_begins, done_end, own-lane}
-use Rattle.report_audit.proofs.NextLemmas.{book_state, no_next_between, not_one}
+use Rattle.report_audit.proofs.NextLemmas.{book_state, not_one}
 use Rattle.report_audit.proofs.EntryLemmas.{not_at_end}
 use Rattle.report_audit.proofs.TextLemmas.{words_one, entries-append, entries-none, next-append, next-low, next-none, round-is}
 
@@ -327,13 +327,7 @@ next_start settings roads b new of closed is =
     } in
     subst (IsRoundStart settings roads) (sym is) begin
 
--- the line of a round, or none
-pub round_line_is : (text line after : List ℕ) (x : NextLine) (number : ℕ) → HasLine text line after → IsNextLine x line → x ≡ RoundOf number → HasRoundLine text number after
-round_line_is text line after x number has form is =
-    let told : IsNextLine (RoundOf number) line = subst (λ (y : NextLine). IsNextLine y line) is form in
-    record { low = told.0; has = subst (λ (l : List ℕ). HasLine text l after) told.1 has }
-
-pub round_line_not : (text line after : List ℕ) (x : NextLine) (number : ℕ) → number < 2 ^ 32 → HasLine text line after → IsNextLine x line → (x ≡ RoundOf number → ⊥) → IsNoRoundLine text number (Line (length text) wrong.Entry)
+pub round_line_not : (text line after : List ℕ) (x : NextLine) (number : ℕ) → number < 2 ^ 32 → IsFirst text line after → IsNextLine x line → (x ≡ RoundOf number → ⊥) → IsNoRoundLine text number (Line (length text) wrong.Entry)
 round_line_not text line after x number low has form other = record {
   low = low;
   stops = λ settings roads round later position number_is. (
@@ -348,6 +342,3 @@ round_line_not text line after x number low has form other = record {
     ),
   );
 }
-
-pub round_line_gap : (text : List ℕ) (number : ℕ) (stop : Stop) → number < 2 ^ 32 → HasNoNext text stop → IsNoRoundLine text number stop
-round_line_gap text number stop low gap = record { low = low; stops = λ settings roads round later position number_is. no_next_between settings roads (round ∷ later) position text stop gap }

@@ -1,5 +1,5 @@
 -- What each fault of a report means.
-use Rattle.std.specs.Prelude.{◌≡◌, ◌≢◌, ℕ, ◌+◌, ◌-◌, ◌^◌, ◌==◌, min, true, List, [], ◌∷◌, ◌++◌, length, count_by, Some}
+use Rattle.std.specs.Prelude.{◌≡◌, ◌≢◌, ℕ, ◌+◌, ◌-◌, ◌^◌, ◌==◌, min, true, List, [], ◌++◌, length, count_by, Some}
 use Rattle.batch_snapshot.specs.Batch.{Batch}
 use Rattle.batch_snapshot.specs.declared.vehicle.Vehicle.{Vehicle}
 use Rattle.block_audit.specs.Block.{Refuses}
@@ -7,7 +7,9 @@ use Rattle.block_audit.specs.declared.refusal.BlockRefusal.{BlockRefusal}
 use Rattle.block_audit.specs.declared.refusal.BlockRefusal.TheVariants as block
 use Rattle.dispatch_report.specs.Entry.{entry_line}
 use Rattle.report_head.specs.Fault.{HeadFails}
+use Rattle.report_head.specs.Line.{IsFirst}
 use Rattle.report_head.specs.Settings.{AreOf}
+use Rattle.report_head.specs.declared.fault.HeadFault.{HeadFault}
 use Rattle.report_head.specs.declared.fault.HeadFault.TheVariants as head
 use Rattle.report_lines.specs.Cut.{is_one_line}
 use Rattle.request_book.specs.declared.journal.Entry.{Entry}
@@ -20,15 +22,6 @@ use Rattle.report_audit.specs.Place.{Place, MayFollow, IsInForm, IsRightUpTo, Ma
 use Rattle.report_audit.specs.declared.fault.AuditFault.{AuditFault}
 use Rattle.report_audit.specs.declared.fault.AuditFault.TheVariants.{Cut, Form, Head, Entry as WrongEntry, Batch as WrongBatch, OutOfMemory}
 
--- the number of the line that begins behind a text: one more than its line feeds
-abbrev pub next_line : List ℕ → ℕ
-next_line text = count_by (λ c. c == 10) text + 1
-
--- the text begins with a whole line
-pub record HasLine (text line after : List ℕ) : Type 0 where
-  pub whole : text ≡ line ++ 10 ∷ after
-  pub one : is_one_line line ≡ true
-
 -- no whole line follows where one must; behind the last line nothing must
 abbrev pub IsCut : Place → List ℕ → Type 0
 IsCut Place.finished text = (is_one_line text ≡ true) × (text ≢ [])
@@ -36,11 +29,11 @@ IsCut _ text = is_one_line text ≡ true
 
 -- the next line has the form of none that may stand there
 abbrev pub IsOutOfForm : Place → List ℕ → Type 0
-IsOutOfForm place text = (line after : List ℕ) × HasLine text line after × (IsInForm place line → ⊥)
+IsOutOfForm place text = (line after : List ℕ) × IsFirst text line after × (IsInForm place line → ⊥)
 
 -- the next line is in form, and isn't one with which a run goes on
 abbrev pub IsWrongLine : Settings → Roads → Place → List ℕ → Type 0
-IsWrongLine settings roads place text = (line after : List ℕ) × HasLine text line after × IsInForm place line × (MayFollow settings roads place line → ⊥)
+IsWrongLine settings roads place text = (line after : List ℕ) × IsFirst text line after × IsInForm place line × (MayFollow settings roads place line → ⊥)
 
 -- the next line is a close that may come and was answered `closed`, and behind it stands no block of a good outcome
 pub record IsWrongBlock (settings : Settings) (roads : Roads) (round : NumberedLanes) (j : Journal) (text : List ℕ) (refusal : BlockRefusal) : Type 0 where
@@ -48,7 +41,7 @@ pub record IsWrongBlock (settings : Settings) (roads : Roads) (round : NumberedL
   pub after : List ℕ
   pub closing : Entry
   pub batch : Batch
-  pub has : HasLine text line after
+  pub has : IsFirst text line after
   pub comes : MayComeNext settings roads round j closing
   pub line_is : line ≡ entry_line (position_behind j) closing
   pub closed : closing.reply ≡ Closed
@@ -68,7 +61,8 @@ pub record FailsAt (roads : Roads) (vehicles : List Vehicle) (rounds : List Numb
   pub rest : List ℕ
   pub whole : text ≡ read ++ rest
   pub right : IsRightUpTo settings roads vehicles rounds place read
-  pub line_is : line ≡ next_line read
+  -- lines end with a line feed, and count from 1
+  pub line_is : line ≡ count_by (λ c. c == 10) read + 1
   pub fails : Fails settings roads place rest
 
 -- the block behind the close of this line fails in one of its lines, so many lines behind its first; lines are counted up to
@@ -79,17 +73,11 @@ pub record FailsInBlock (roads : Roads) (vehicles : List Vehicle) (rounds : List
   pub line_is : line ≡ min (closing + 1 + lines) (2 ^ 64 - 1)
   pub fails : FailsAt roads vehicles rounds workers text (IsWrongBatch (refusal lines)) closing
 
--- the text is cut at this line
-pub data IsCutAt (roads : Roads) (vehicles : List Vehicle) (rounds : List NumberedLanes) (workers : ℕ) (text : List ℕ) (line : ℕ) : Type 0 where
-  in_head : HeadFails roads (length vehicles) text (head.Cut line) → IsCutAt roads vehicles rounds workers text line
-  behind : FailsAt roads vehicles rounds workers text (λ settings roads place rest. IsCut place rest) line → IsCutAt roads vehicles rounds workers text line
-  in_block : FailsInBlock roads vehicles rounds workers text block.Cut line → IsCutAt roads vehicles rounds workers text line
-
--- this line has the form of none that may stand there
-pub data IsOutOfFormAt (roads : Roads) (vehicles : List Vehicle) (rounds : List NumberedLanes) (workers : ℕ) (text : List ℕ) (line : ℕ) : Type 0 where
-  in_head : HeadFails roads (length vehicles) text (head.Form line) → IsOutOfFormAt roads vehicles rounds workers text line
-  behind : FailsAt roads vehicles rounds workers text (λ settings roads place rest. IsOutOfForm place rest) line → IsOutOfFormAt roads vehicles rounds workers text line
-  in_block : FailsInBlock roads vehicles rounds workers text block.Form line → IsOutOfFormAt roads vehicles rounds workers text line
+-- this line fails in one way: as a line of the head, as one behind it, or as one of a block
+pub data FailsAsLine (roads : Roads) (vehicles : List Vehicle) (rounds : List NumberedLanes) (workers : ℕ) (text : List ℕ) (of_head : ℕ → HeadFault) (Fails : Place → List ℕ → Type 0) (of_block : ℕ → BlockRefusal) (line : ℕ) : Type 0 where
+  in_head : HeadFails roads (length vehicles) text (of_head line) → FailsAsLine roads vehicles rounds workers text of_head Fails of_block line
+  behind : FailsAt roads vehicles rounds workers text (λ settings roads place rest. Fails place rest) line → FailsAsLine roads vehicles rounds workers text of_head Fails of_block line
+  in_block : FailsInBlock roads vehicles rounds workers text of_block line → FailsAsLine roads vehicles rounds workers text of_head Fails of_block line
 
 -- the block whose first line this is fails at a point
 pub record IsWrongBatchAt (roads : Roads) (vehicles : List Vehicle) (rounds : List NumberedLanes) (workers : ℕ) (text : List ℕ) (line point : ℕ) : Type 0 where
@@ -99,8 +87,8 @@ pub record IsWrongBatchAt (roads : Roads) (vehicles : List Vehicle) (rounds : Li
 
 -- what a fault says of a text
 abbrev pub HasFault : Roads → List Vehicle → List NumberedLanes → ℕ → List ℕ → AuditFault → Type 0
-HasFault roads vehicles rounds workers text (Cut line) = IsCutAt roads vehicles rounds workers text line
-HasFault roads vehicles rounds workers text (Form line) = IsOutOfFormAt roads vehicles rounds workers text line
+HasFault roads vehicles rounds workers text (Cut line) = FailsAsLine roads vehicles rounds workers text head.Cut IsCut block.Cut line
+HasFault roads vehicles rounds workers text (Form line) = FailsAsLine roads vehicles rounds workers text head.Form IsOutOfForm block.Form line
 HasFault roads vehicles rounds workers text (Head line) = HeadFails roads (length vehicles) text (head.Head line)
 HasFault roads vehicles rounds workers text (WrongEntry line) = FailsAt roads vehicles rounds workers text IsWrongLine line
 HasFault roads vehicles rounds workers text (WrongBatch line point) = IsWrongBatchAt roads vehicles rounds workers text line point

@@ -1,5 +1,5 @@
 -- How far a report is right, and which lines may follow there.
-use Rattle.std.specs.Prelude.{◌≡◌, ℕ, true, List, [], ◌∷◌, ◌++◌, length, codes}
+use Rattle.std.specs.Prelude.{◌≡◌, ℕ, true, List, [], ◌∷◌, ◌++◌, length, codes, fold}
 use Rattle.batch_snapshot.specs.declared.vehicle.Vehicle.{Vehicle}
 use Rattle.dispatch_engine.specs.Lane.{of_lane, IsLaneRun, IsLaneBeginning, ClosesAreGood}
 use Rattle.dispatch_engine.specs.Run.{IsRun, position_after_run}
@@ -30,8 +30,7 @@ position_behind j = next_position j.first j.entries
 
 -- the state after journals
 abbrev pub state_after_rounds : Settings → Roads → State → List Journal → State
-state_after_rounds settings roads s [] = s
-state_after_rounds settings roads s (j ∷ js) = state_after_rounds settings roads (state_after roads.nodes settings.wait s j.entries) js
+state_after_rounds settings roads s journals = fold (λ t j. state_after roads.nodes settings.wait t j.entries) s journals
 
 -- a journal with one more entry
 abbrev pub with_entry : Journal → Entry → Journal

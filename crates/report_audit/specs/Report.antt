@@ -1,5 +1,5 @@
 -- When a text is the report of a run.
-use Rattle.std.specs.Prelude.{◌≡◌, ℕ, Bool, true, false, List, [], ◌∷◌, ◌++◌, length, count_by, min, ◌+◌, ◌-◌, ◌^◌}
+use Rattle.std.specs.Prelude.{◌≡◌, ℕ, Bool, true, false, List, [], ◌∷◌, ◌++◌, length, count_by, min, ◌+◌, ◌-◌, ◌^◌, fold}
 use Rattle.batch_snapshot.specs.declared.vehicle.Vehicle.{Vehicle}
 use Rattle.dispatch_engine.specs.Run.{IsRun, position_after_run}
 use Rattle.dispatch_report.specs.Head.{head_text}
@@ -43,8 +43,7 @@ batches_in count entries = min (count + count_by (λ e. closes e.command e.reply
 
 -- how many batches journals close
 abbrev pub batches_after : ℕ → List Journal → ℕ
-batches_after count [] = count
-batches_after count (j ∷ js) = batches_after (batches_in count j.entries) js
+batches_after count journals = fold (λ n j. batches_in n j.entries) count journals
 
 -- the text is the report of a run, which has so many entries and closes so many batches
 pub record IsAudited (roads : Roads) (vehicles : List Vehicle) (rounds : List NumberedLanes) (workers : ℕ) (text : List ℕ) (audited : Audited) : Type 0 where

@@ -1,5 +1,6 @@
 -- Which entries a report can tell.
 use Rattle.std.specs.Prelude.{ℕ, List, [], ◌∷◌}
+use Rattle.std.specs.List.{AllByRecursion}
 use Rattle.block_audit.specs.Fits.{Fits}
 use Rattle.entry_lines.specs.Next.{IsEntry}
 use Rattle.pool_io.specs.Faults.{one_more}
@@ -27,5 +28,4 @@ AreTold position (e ∷ es) = IsTold position e × AreTold (one_more position) e
 
 -- the same of journals
 abbrev pub JournalsAreTold : List Journal → Type 0
-JournalsAreTold [] = Unit {0}
-JournalsAreTold (j ∷ js) = AreTold j.first j.entries × JournalsAreTold js
+JournalsAreTold journals = AllByRecursion (λ j. AreTold j.first j.entries) journals

@@ -1,6 +1,7 @@
 //! That the numbers of commands and replies are within their types.
 ghost use Rattle.entry_lines.specs.Command.{IsBatch, IsCommand, IsSecond};
-ghost use Rattle.entry_lines.specs.Reply.{IsReply, IsRefusal, OrNone};
+ghost use Rattle.entry_lines.specs.Reply.{IsReply, IsRefusal};
+ghost use Rattle.entry_lines.specs.work.Replies.{OrNone};
 ghost use Rattle.report_lines.specs.Ids.{IsId};
 
 use pool_base::{Second, VehicleId};

@@ -1,7 +1,7 @@
 -- Lines that tell one thing alone.
-use Rattle.std.proofs.Common.{◌≡◌, ◌≢◌, ℕ, ◌≤◌, ◌<◌, ◌^◌, Bool, true, false, length, List, [], codes, refl, sym, ap, ◌∙◌, subst, append-nil, arith}
+use Rattle.std.proofs.Common.{◌≡◌, ◌≢◌, ℕ, ◌≤◌, ◌<◌, ◌^◌, Bool, true, false, List, [], codes, refl, sym, ap, ◌∙◌, subst, append-nil, arith}
 use Rattle.dispatch_report.specs.Words.{numbered}
-use Rattle.report_head.specs.Fault.{sizes_of, TellsLawful, TellsSizesOf, TellsFleet, TellsFleetOf}
+use Rattle.report_head.specs.Fault.{TellsLawful, TellsSizesOf, TellsFleet, TellsFleetOf}
 use Rattle.report_head.specs.Settings.{AreLawful}
 use Rattle.report_lines.specs.Head.{settings_text, AreSettings, sizes_text, AreSizes}
 use Rattle.report_lines.specs.Reading.{BeginsWith}
@@ -9,7 +9,6 @@ use Rattle.report_lines.specs.declared.head.SettingsText.{SettingsText}
 use Rattle.report_lines.specs.Both.{BothAre}
 use Rattle.report_lines.proofs.lemmas.HeadLemmas.{settings_of_one}
 use Rattle.report_lines.proofs.lemmas.ReadingLemmas.{EndsOnce, StandsApart, both_once, numbered_once}
-use Rattle.road_network.specs.Roads.{Roads, IsNetwork}
 
 -- what is found not to hold
 pub not_so : {T : Type 0} (found : Bool) → (T → found ≡ true) → found ≡ false → T → ⊥
@@ -62,10 +61,3 @@ module _ (line : List ℕ) (told sizes : ℕ × ℕ) (small : AreSizes told) (fe
 
   pub other_arcs : told.1 ≢ sizes.1 → TellsSizesOf sizes line → ⊥
   other_arcs other same = other (ap (λ p. p.1) (sizes_of_one line told sizes small few e same))
-
--- a network's sizes can be told
-pub few_sizes : (roads : Roads) → IsNetwork roads → AreSizes (sizes_of roads)
-few_sizes roads is =
-    let nodes : length roads.nodes < 2 ^ 64 = omega (arith, is.few_nodes) in
-    let arcs : length roads.arcs < 2 ^ 64 = omega (arith, is.few_arcs) in
-    (nodes, arcs)

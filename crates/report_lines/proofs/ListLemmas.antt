@@ -95,15 +95,6 @@ module _ {X : Type 0} (t : X → List ℕ) (Is : X → Type 0) (apart : StandsAp
         let all : items ++ x ∷ [] ≡ new = sym (is ∙ ap (λ n. items ++ n ∷ []) same) in
         subst (λ (xs : List X). ReadSoFar t Is text xs after) all (so_far_more text items rest x after so b)
 
-    -- there are more items than those read so far
-    pub so_far_fewer : (text : List ℕ) (items : List X) (rest : List ℕ) (x : X) (after : List ℕ) → ReadSoFar t Is text items rest → BeginsWith t Is rest x after → (all : List X) → All Is all → text ≡ flat_map t all → length items < length all
-    so_far_fewer text items rest x after so b all lawful e =
-        let l = so.only all lawful e in
-        let n = next_left items rest x after b all l.0 l.1 in
-        let f : List X → ℕ = length in
-        let long : length all ≡ length (items ++ (x ∷ n.0)) = ap f (l.1.parts ∙ ap (λ zs. items ++ zs) n.1) in
-        omega (arith, long, length-append items (x ∷ n.0))
-
     -- less text is left after an item
     pub shorter_after : (rest : List ℕ) (x : X) (after : List ℕ) → BeginsWith t Is rest x after → length after < length rest
     shorter_after rest x after b =

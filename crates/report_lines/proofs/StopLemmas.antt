@@ -4,9 +4,8 @@ use Rattle.dispatch_report.specs.Block.{stop_text}
 use Rattle.dispatch_report.specs.Words.{numbered}
 use Rattle.report_lines.specs.Ids.{IsId}
 use Rattle.report_lines.specs.Reading.{BeginsWith, BeginsWithNone, ends_number}
-use Rattle.report_lines.specs.Stops.{IsStop}
 use Rattle.report_lines.specs.Both.{both, BothAre}
-use Rattle.report_lines.specs.work.Stops.{visit_text, IsVisit}
+use Rattle.report_lines.specs.work.Stops.{visit_text, IsVisit, IsStop}
 use Rattle.report_lines.proofs.ListLemmas.{ReadSoFar, IsNeverEmpty, so_far_more}
 use Rattle.report_lines.proofs.lemmas.ReadingLemmas.{EndsOnce, StandsApart, both_none_first, both_none_second, both_some, both_once, numbered_once}
 use Rattle.request_book.specs.declared.outcome.PlannedStop.{PlannedStop}

@@ -20,10 +20,6 @@ pub record IsBlock (text : List ℕ) (lines : List BlockLine) (rest : List ℕ) 
   pub begins : BeginsBlock text lines rest
   pub ended : last_place 0 lines ≡ 16
 
--- no line of a block that may follow one of this place is this line
-abbrev pub CannotFollow : ℕ → List ℕ → Type 0
-CannotFollow place line = (x : BlockLine) → IsBlockLine x → may_follow_at place x ≡ true → line ≢ block_line_text x
-
 -- so many lines stand, not yet the last, and the text ends before or within the next
 pub record IsCutBlock (text : List ℕ) (lines : List BlockLine) (rest : List ℕ) : Type 0 where
   pub begins : BeginsBlock text lines rest
@@ -36,7 +32,7 @@ pub record IsBadBlock (text : List ℕ) (lines : List BlockLine) (rest : List �
   pub going : last_place 0 lines ≢ 16
   pub next : rest ≡ line ++ 10 ∷ after
   pub one : is_one_line line ≡ true
-  pub bad : CannotFollow (last_place 0 lines) line
+  pub bad : (x : BlockLine) → IsBlockLine x → may_follow_at (last_place 0 lines) x ≡ true → line ≢ block_line_text x
 
 -- what is wrong with a text that begins with no block
 abbrev pub BlockFails : List ℕ → BlockFault → Type 0

@@ -7,17 +7,13 @@ use Rattle.report_lines.specs.declared.head.SettingsText.{SettingsText}
 abbrev pub IsShort : ℕ → Type 0
 IsShort n = n ≤ 4294967295
 
--- the dwell, told only where there is one
-abbrev pub dwell_text : ℕ → List ℕ
-dwell_text dwell = if dwell == 0 then [] else numbered (codes " dwell=") dwell
-
--- the line of the settings
+-- the line of the settings; the dwell only where there is one
 abbrev pub settings_text : SettingsText → List ℕ
 settings_text s =
     (numbered (codes "settings wait=") s.wait ++ numbered (codes " delay=") s.delay ++ numbered (codes " trip=") s.trip)
     ++ (numbered (codes " penalty=") s.penalty ++ numbered (codes " budget=") s.budget ++ numbered (codes " pairs=") s.pairs)
     ++ numbered (codes " proof=") s.proof
-    ++ dwell_text s.dwell
+    ++ (if s.dwell == 0 then [] else numbered (codes " dwell=") s.dwell)
 
 -- each number is below 2^32
 pub record AreSettings (s : SettingsText) : Type 0 where

@@ -6,13 +6,10 @@ use Rattle.dispatch_report.specs.Block.{stop_text}
 use Rattle.report_lines.specs.Ids.{IsId}
 use Rattle.request_book.specs.declared.outcome.PlannedStop.{PlannedStop}
 
--- the numbers of a stop are within their types
-abbrev pub IsStop : PlannedStop → Type 0
-IsStop stop = IsId stop.rider × IsId stop.node × (stop.second < 2 ^ 64)
-
--- at most so many stops
+-- at most so many stops, whose numbers are within their types
 abbrev pub AreStops : ℕ → ArrayVec PlannedStop → Type 0
-AreStops most stops = All IsStop stops.items × (length stops.items ≤ most)
+AreStops most stops =
+    All (λ stop. IsId stop.rider × IsId stop.node × (stop.second < 2 ^ 64)) stops.items × (length stops.items ≤ most)
 
 -- the stops, one behind the other
 abbrev pub stops_text : ArrayVec PlannedStop → List ℕ

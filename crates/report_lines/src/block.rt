@@ -1,5 +1,6 @@
 ghost use Rattle.std.specs.Prelude.{◌≡◌, ℕ, List, IfOk, MatchOption, MatchResult, true};
-ghost use Rattle.report_lines.specs.Block.{IsBlock, BlockFails, CannotFollow};
+ghost use Rattle.report_lines.specs.Block.{IsBlock, BlockFails};
+ghost use Rattle.report_lines.specs.work.LineKinds.{CannotFollow};
 ghost use Rattle.report_lines.specs.BlockLine.{block_line_text, IsBlockLine};
 ghost use Rattle.report_lines.specs.Order.{place_of, may_follow_at, is_between as between};
 ghost use Rattle.report_lines.specs.declared.block.BlockFault.TheVariants.{OutOfMemory as NoMemory};

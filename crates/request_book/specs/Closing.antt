@@ -1,4 +1,4 @@
-use Rattle.std.specs.Prelude.{ℕ, Bool, ◌&&◌, List, [], ◌∷◌, map, option_map, unwrap_or, is_some, if◌then◌else◌}
+use Rattle.std.specs.Prelude.{ℕ, ◌&&◌, List, [], ◌∷◌, map, option_map, unwrap_or, is_some, if◌then◌else◌}
 use Rattle.std.specs.List.{flat_map}
 use Rattle.batch_snapshot.specs.declared.promise.Promise.{Promise}
 use Rattle.batch_snapshot.specs.declared.rider.Rider.{Rider}
@@ -7,7 +7,6 @@ use Rattle.request_book.specs.declared.outcome.Answer.TheVariants.{Overflow, Pla
 use Rattle.request_book.specs.declared.outcome.ChosenTrip.{ChosenTrip}
 use Rattle.request_book.specs.declared.outcome.PlannedStop.{PlannedStop}
 use Rattle.request_book.specs.declared.rider.BookRider.{BookRider}
-use Rattle.request_book.specs.declared.rider.Status.{Status}
 use Rattle.request_book.specs.declared.rider.Status.TheVariants.{Waiting, Promised}
 use Rattle.request_book.specs.Keyed.{look_up}
 use Rattle.request_book.specs.Rider.{is_active, with_status}
@@ -27,14 +26,13 @@ trip_picks vehicle (stop ∷ stops) =
 unfoldable pub picks : List ChosenTrip → List Pick
 picks chosen = flat_map (λ trip. trip_picks trip.vehicle trip.stops.items) chosen
 
--- the first pick stop of a rider promises; without one the rider waits
-abbrev pub planned_status : List Pick → ℕ → Status
-planned_status ps id = unwrap_or (option_map (λ p. Promised p.promise) (look_up (λ p. p.rider) id ps)) Waiting
-
--- the rider after a plan: who is in the snapshot and still in the pool gets the status that was planned
+-- the rider after a plan: who is in the snapshot and still in the pool is promised what the first of the rider's pick
+-- stops says, and without one waits
 abbrev pub after_plan : List Rider → List Pick → BookRider → BookRider
 after_plan riders ps r =
-    if is_active r.status && is_some (look_up (λ shown. shown.id) r.id riders) then with_status (planned_status ps r.id) r else r
+    if is_active r.status && is_some (look_up (λ shown. shown.id) r.id riders)
+    then with_status (unwrap_or (option_map (λ p. Promised p.promise) (look_up (λ p. p.rider) r.id ps)) Waiting) r
+    else r
 
 -- the riders after an answer for a batch of these riders
 unfoldable pub after_answer : List Rider → Answer → List BookRider → List BookRider

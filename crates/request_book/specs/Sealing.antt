@@ -1,8 +1,7 @@
 use Rattle.pool_io.specs.Faults.{one_more}
-use Rattle.std.specs.Prelude.{ℕ, Bool, ◌+◌, ◌&&◌, Option, None, Some, map, option_map, nat_lt, nat_le, if◌then◌else◌}
+use Rattle.std.specs.Prelude.{ℕ, Bool, ◌+◌, ◌&&◌, None, Some, map, option_map, nat_lt, nat_le, if◌then◌else◌}
 use Rattle.std.specs.List.{filter_map}
 use Rattle.batch_snapshot.specs.Batch.{Batch}
-use Rattle.batch_snapshot.specs.declared.rider.Rider.{Rider}
 use Rattle.request_book.specs.declared.rider.BookRider.{BookRider}
 use Rattle.request_book.specs.declared.rider.Status.TheVariants.{Expired}
 use Rattle.request_book.specs.declared.state.State.{State}
@@ -17,10 +16,6 @@ is_over wait now r = is_active r.status && nat_lt (r.time + wait) now
 abbrev pub after_seal : ℕ → ℕ → BookRider → BookRider
 after_seal wait now r = if is_over wait now r then with_status Expired r else r
 
--- a rider of the pool who asked by now, as a snapshot shows them
-abbrev pub asking : ℕ → BookRider → Option Rider
-asking now r = if nat_le r.time now then option_map (shown r) (pool_promise r.status) else None
-
 -- the batch of a seal: all vehicles; whose wait is over, by rising id; who is then in the pool and asked by
 -- now, by rising id
 unfoldable pub batch_of : ℕ → State → ℕ → Batch
@@ -28,7 +23,8 @@ batch_of wait s now = record {
   number = one_more s.batches;
   sealed_at = now;
   vehicles = s.vehicles;
-  riders = by_key (λ r. r.id) (filter_map (asking now) (map (after_seal wait now) s.riders));
+  riders = by_key (λ r. r.id)
+      (filter_map (λ r. if nat_le r.time now then option_map (shown r) (pool_promise r.status) else None) (map (after_seal wait now) s.riders));
   expired = by_key (λ id. id) (filter_map (λ r. if is_over wait now r then Some r.id else None) s.riders);
 }
 

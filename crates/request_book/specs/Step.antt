@@ -32,14 +32,6 @@ rider_becomes s rider status = record s { riders = changed_at (λ r. r.id) rider
 abbrev pub vehicle_becomes : State → ℕ → (Vehicle → Vehicle) → State
 vehicle_becomes s vehicle change = record s { vehicles = changed_at (λ v. v.id) vehicle change s.vehicles }
 
--- the rider is the vehicle's last passenger, and the vehicle is at the rider's origin
-abbrev pub takes_in : BookRider → ℕ → Vehicle → Vehicle
-takes_in r time v = record v { node = r.origin; time = time; aboard = record { items = v.aboard.items ++ passenger_of r ∷ [] } }
-
--- the rider leaves the passengers, the others keep their order, and the vehicle is at the rider's destination
-abbrev pub lets_out : BookRider → ℕ → Vehicle → Vehicle
-lets_out r time v = record v { node = r.destination; time = time; aboard = record { items = without (λ p. p.rider) r.id v.aboard.items } }
-
 -- nothing, for a rider who waits or has a promise; else that they are aboard or have ended
 abbrev pub still_asks : Status → Result (Unit {0}) BookRefusal
 still_asks Waiting = Ok tt
@@ -77,7 +69,8 @@ report nodes s vehicle node time = do
   _ ← refused_where (nat_lt time v.time) (TimeBack v.time)
   Ok (vehicle_becomes s vehicle (λ w. record w { node = node; time = time }))
 
--- a vehicle picks up the rider who is promised to it, if there are seats for the whole party
+-- a vehicle picks up the rider who is promised to it, if there are seats for the whole party: the rider is its last
+-- passenger, and it is at the rider's origin
 unfoldable pub pickup : State → ℕ → ℕ → ℕ → Result State BookRefusal
 pickup s vehicle rider time = do
   v ← ok_or (find_vehicle vehicle s.vehicles) UnknownVehicle
@@ -86,16 +79,18 @@ pickup s vehicle rider time = do
   _ ← is_promised_by vehicle r.status
   _ ← refused_where (nat_lt time v.time) (TimeBack v.time)
   _ ← refused_where (not (nat_le (persons_aboard v + r.party) v.seats)) VehicleFull
-  Ok (vehicle_becomes (rider_becomes s r.id (Aboard vehicle)) vehicle (takes_in r time))
+  Ok (vehicle_becomes (rider_becomes s r.id (Aboard vehicle)) vehicle
+      (λ w. record w { node = r.origin; time = time; aboard = record { items = w.aboard.items ++ passenger_of r ∷ [] } }))
 
--- a vehicle drops its passenger
+-- a vehicle drops its passenger: the others keep their order, and it is at the rider's destination
 unfoldable pub dropoff : State → ℕ → ℕ → ℕ → Result State BookRefusal
 dropoff s vehicle rider time = do
   v ← ok_or (find_vehicle vehicle s.vehicles) UnknownVehicle
   r ← ok_or (find_rider rider s.riders) UnknownRider
   _ ← refused_where (not (option_map_or (λ holder. holder == vehicle) (vehicle_of r.status) false)) NotAboard
   _ ← refused_where (nat_lt time v.time) (TimeBack v.time)
-  Ok (vehicle_becomes (rider_becomes s r.id Delivered) vehicle (lets_out r time))
+  Ok (vehicle_becomes (rider_becomes s r.id Delivered) vehicle
+      (λ w. record w { node = r.destination; time = time; aboard = record { items = without (λ p. p.rider) r.id w.aboard.items } }))
 
 -- a batch is sealed: none may be open, and the second isn't below that of the last seal
 unfoldable pub seal : ℕ → State → ℕ → Result State BookRefusal

@@ -9,8 +9,8 @@ ghost use Rattle.request_book.specs.work.Register.{state_of, pool_id, IsIndexed,
 ghost use Rattle.request_book.specs.Rider.{with_status, pool_promise};
 ghost use Rattle.request_book.specs.State.{find_rider};
 ghost use Rattle.request_book.specs.Consistent.{IsConsistent};
-ghost use Rattle.request_book.specs.Sealing.{is_over, asking, after_seal, batch_of};
-ghost use Rattle.request_book.specs.work.Named.{over_id};
+ghost use Rattle.request_book.specs.Sealing.{is_over, after_seal, batch_of};
+ghost use Rattle.request_book.specs.work.Named.{over_id, asking};
 ghost use Rattle.pool_io.specs.Faults.{one_more};
 ghost use Rattle.request_book.specs.work.Table.{seal_refusal, seal_step};
 

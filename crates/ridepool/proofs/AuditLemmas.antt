@@ -1,10 +1,11 @@
 -- What comes of an audit, from what came of its parts.
-use Rattle.std.proofs.Common.{◌≡◌, ℕ, List, Option, Result, Ok, Err, MatchResult, subst, sym, refl}
+use Rattle.std.proofs.Common.{◌≡◌, ℕ, List, Option, Result, Ok, Err, MatchResult, subst, refl}
 use Rattle.std.specs.Io.KnownBytes.{Appends}
 use Rattle.dispatch_report.specs.Written.{Change}
 use Rattle.pool_base.specs.declared.which.Which.TheVariants as file
 use Rattle.report_audit.specs.declared.fault.Audited.{Audited}
-use Rattle.ridepool.specs.Audit.{yes_text, IsRunReport}
+use Rattle.ridepool.specs.Audit.{yes_text}
+use Rattle.ridepool.specs.work.Ended.{IsRunReport}
 use Rattle.ridepool.specs.Inputs.{Inputs, Reads}
 use Rattle.ridepool.specs.Seen.{SourceView}
 use Rattle.ridepool.specs.declared.status.RunStatus.{RunStatus}

@@ -14,9 +14,10 @@ use Rattle.road_network.specs.Roads.{Roads}
 use Rattle.route_drive.specs.Day.{day_fault}
 use Rattle.route_drive.specs.declared.day.DayFault.{DayFault}
 use Rattle.script_rows.specs.Round.{NumberedLanes}
-use Rattle.ridepool.specs.Explained.{AreAccepted, AreForSources, AreForLoad, StopsRun, StopsAudit, RefusesReport, IsNoDay, Tells, TellsReport, IsFaultlessRun, IsFaultless, IsFaultlessEnd, Explains}
+use Rattle.pool_io.specs.Faults.{Rose}
+use Rattle.ridepool.specs.Explained.{AreAccepted, StopsRun, StopsAudit, RefusesReport, IsNoDay, Tells, TellsReport, IsFaultlessRun, Explains}
+use Rattle.ridepool.specs.work.Ended.{AreForSources, AreForLoad, IsNoReport, IsFaultlessEnd}
 use Rattle.report_audit.specs.declared.fault.AuditFault.{AuditFault}
-use Rattle.ridepool.specs.Audit.{IsNoReport}
 use Rattle.ridepool.specs.Inputs.{Inputs, CameTo, IsReportUnread, Reads, IsSourceTooLong, IsStop, ReadsReport, ReadsSources, IsDayFor, most_bytes}
 use Rattle.ridepool.specs.Reading.{network_in, vehicles_in, script_in}
 use Rattle.dispatch_report.specs.Written.{Change}
@@ -170,18 +171,18 @@ no_words_fault seen fault (inl run) why = none_is_no_some (fault_of seen.words) 
 no_words_fault seen fault (inr load) why = none_is_no_some (fault_of seen.words) fault load.1.faultless why
 
 -- a call in which nothing is wrong is done or out of memory, or a day comes too late
-pub complete : (seen : Seen) (e : RunStatus) → IsFaultless seen → Explains seen e → IsFaultlessEnd e
-complete seen Done f why = tt
-complete seen OutOfMemory f why = tt
-complete seen (TooLate round made) f why = tt
-complete seen (Words fault) f why = absurd (no_words_fault seen fault f.inputs why.0)
-complete seen (Network fault) f why = stops_run seen (Network fault) f.inputs why
-complete seen (Fleet fault) f why = stops_run seen (Fleet fault) f.inputs why
-complete seen (Script fault) f why = stops_run seen (Script fault) f.inputs why
-complete seen (TooLong w) f (inl why) = stops_run seen (TooLong w) f.inputs why
-complete seen (TooLong w) f (inr why) = stops_audit seen (TooLong w) f.inputs why
-complete seen (ReadFault w) f (inl why) = stops_run seen (ReadFault w) f.inputs why
-complete seen (ReadFault w) f (inr why) = stops_audit seen (ReadFault w) f.inputs why
-complete seen (Report fault) f why = absurd (refused_report seen fault f.inputs why)
-complete seen (Day fault) f why = absurd (no_day_fault seen fault f.inputs why.0)
-complete seen WriteFault f why = absurd (f.sink why.1)
+pub complete : (seen : Seen) (e : RunStatus) → IsFaultlessRun seen ⊎ AreForLoad seen.words → (Rose seen.out.before.faults seen.out.after.faults → ⊥) → Explains seen e → IsFaultlessEnd e
+complete seen Done f whole why = tt
+complete seen OutOfMemory f whole why = tt
+complete seen (TooLate round made) f whole why = tt
+complete seen (Words fault) f whole why = absurd (no_words_fault seen fault f why.0)
+complete seen (Network fault) f whole why = stops_run seen (Network fault) f why
+complete seen (Fleet fault) f whole why = stops_run seen (Fleet fault) f why
+complete seen (Script fault) f whole why = stops_run seen (Script fault) f why
+complete seen (TooLong w) f whole (inl why) = stops_run seen (TooLong w) f why
+complete seen (TooLong w) f whole (inr why) = stops_audit seen (TooLong w) f why
+complete seen (ReadFault w) f whole (inl why) = stops_run seen (ReadFault w) f why
+complete seen (ReadFault w) f whole (inr why) = stops_audit seen (ReadFault w) f why
+complete seen (Report fault) f whole why = absurd (refused_report seen fault f why)
+complete seen (Day fault) f whole why = absurd (no_day_fault seen fault f why.0)
+complete seen WriteFault f whole why = absurd (whole why.1)

@@ -1,6 +1,7 @@
 -- How the parts of a call explain its end, and what follows from the explanation.
 use Rattle.std.proofs.Common.{◌≡◌, ℕ, List, Some, Ok, Err, refl, sym, ap, subst, inl, inr, arith}
 use Rattle.std.specs.Prelude.{◌⊎◌}
+use Rattle.route_drive.specs.declared.day_run.DayRound.{DayRound}
 use Rattle.pool_base.specs.declared.which.Which.{Which}
 use Rattle.pool_base.specs.declared.which.Which.TheVariants as file
 use Rattle.rider_limits.specs.Words.{fault_of}
@@ -8,10 +9,11 @@ use Rattle.rider_limits.specs.declared.settings.Mode.{Mode}
 use Rattle.rider_limits.specs.declared.settings.Mode.TheVariants.{Run, Load, Drive, Audit}
 use Rattle.rider_limits.specs.declared.settings.Settings.{Settings}
 use Rattle.rider_limits.specs.declared.word_fault.WordFault.{WordFault}
-use Rattle.ridepool.specs.Explained.{AreGood, AreForAudit, AreForSources, AreAccepted, Explains, IsNoDay, IsLimited, HasReport, BeginsYes, HidesNoMemory, Answers}
+use Rattle.ridepool.specs.Explained.{AreGood, AreAccepted, Explains, IsNoDay, HasReport, BeginsYes, Answers}
+use Rattle.ridepool.specs.work.Ended.{AreForAudit, AreForSources, IsLimited, IsRunReport, IsNoReport, HidesNoMemory, IsFaultlessEnd}
 use Rattle.ridepool.specs.Inputs.{Inputs, IsWithin, AreUntouched, AreInputs, AreReadFrom, CameTo, IsDayFor, IsStop, Reads, ReadsReport, ReadsSources}
 use Rattle.report_audit.specs.declared.fault.Audited.{Audited}
-use Rattle.ridepool.specs.Audit.{yes_text, IsRunReport, IsNoReport}
+use Rattle.ridepool.specs.Audit.{yes_text}
 use Rattle.ridepool.specs.Reading.{network_in, IsFleetIn, script_in}
 use Rattle.ridepool.specs.Report.{Begins, IsWhole}
 use Rattle.dispatch_report.specs.Written.{Change, SinkView}
@@ -157,16 +159,39 @@ untouched seen (Day fault) why = inl (why.0.inputs.settings, why.0.words, subst 
 untouched seen (TooLate round made) why = touches seen why.0.inputs why.0.accepted
 untouched seen (Report fault) why = touches seen why.0.inputs why.0.accepted
 
+-- where a call ends well, it ends in one of three ways
+ends_well : (e : RunStatus) → IsFaultlessEnd e → (e ≡ Done) ⊎ (e ≡ OutOfMemory) ⊎ ((round : ℕ) × (made : List DayRound) × (e ≡ TooLate round made))
+ends_well Done well = inl refl
+ends_well OutOfMemory well = inr (inl refl)
+ends_well (TooLate round made) well = inr (inr (round, made, refl))
+ends_well (Words fault) well = absurd well
+ends_well (Network fault) well = absurd well
+ends_well (Fleet fault) well = absurd well
+ends_well (Script fault) well = absurd well
+ends_well (TooLong w) well = absurd well
+ends_well (ReadFault w) well = absurd well
+ends_well WriteFault well = absurd well
+ends_well (Day fault) well = absurd well
+ends_well (Report fault) well = absurd well
+
 -- what a call's answer says, from its explanation
 answer : (seen : Seen) (e : RunStatus) → Explains seen e → HidesNoMemory e → AreForAudit seen.words ⊎ IsUntouched seen.sources.report → IsReportLimited seen.sources e → Answers seen e
 answer seen e why hides report within =
     record {
       explained = why;
-      complete = λ faultless. complete seen e faultless why;
+      complete = λ faultless whole. ends_well e (complete seen e faultless whole why);
       untouched = untouched seen e why;
       report = report;
       limited = limited seen e why within;
-      refused = hides;
+      refused = (
+        (λ is. subst HidesNoMemory is hides refl),
+        (λ is. subst HidesNoMemory is hides refl),
+        (λ is. subst HidesNoMemory is hides refl),
+        (λ is. subst HidesNoMemory is hides refl),
+        (λ is. subst HidesNoMemory is hides refl),
+        (λ is. subst HidesNoMemory is hides refl),
+        (λ is. subst HidesNoMemory is hides refl),
+      );
     }
 
 -- the same for a call that doesn't touch the source of a report

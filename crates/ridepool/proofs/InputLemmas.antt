@@ -16,7 +16,7 @@ use Rattle.road_network.specs.Reading.{network_of}
 use Rattle.route_drive.specs.Day.{day_fault}
 use Rattle.route_drive.specs.declared.day.DayFault.{DayFault}
 use Rattle.script_rows.specs.Round.{NumberedLanes}
-use Rattle.ridepool.specs.Explained.{HidesNoMemory}
+use Rattle.ridepool.specs.work.Ended.{HidesNoMemory}
 use Rattle.ridepool.specs.Inputs.{Inputs, AreTexts, AreUntouched, AreInputs, CameTo, IsStop}
 use Rattle.ridepool.specs.Reading.{own_fault, in_rows, first_version, network_in, vehicles_in, IsFleetIn, script_in}
 use Rattle.dispatch_report.specs.Written.{Change}

@@ -11,7 +11,7 @@ use Rattle.pool_io.specs.declared.reading.ReadAll.{ReadAll}
 use Rattle.pool_io.specs.declared.reading.ReadAll.TheVariants as of_read
 use Rattle.road_network.specs.Roads.{Roads}
 use Rattle.script_rows.specs.Round.{NumberedLanes}
-use Rattle.ridepool.specs.Explained.{HidesNoMemory}
+use Rattle.ridepool.specs.work.Ended.{HidesNoMemory}
 use Rattle.ridepool.specs.Inputs.{IsWithin, Reads, most_bytes}
 use Rattle.ridepool.specs.Reading.{network_in, vehicles_in, IsFleetIn, script_in}
 use Rattle.dispatch_report.specs.Written.{Change}

@@ -40,8 +40,8 @@ use Rattle.ridepool.specs.Inputs.{Inputs}
 use Rattle.rider_notices.specs.Notices.{notices}
 use Rattle.rider_notices.specs.Told.{NotifierView, HaveHeard}
 use Rattle.rider_notices.proofs.lemmas.HeardLemmas.{all-heard-nothing, all-heard-more}
-use Rattle.ridepool.specs.Report.{AreAll, AreFirst, IsDayEnd, IsEnd, RunsDay, Runs, IsReport, first_text, added_text, begun_text, journals_of, rounds_text, rounds_notices, Begins, IsWhole, IsPart}
-use Rattle.ridepool.specs.work.Writing.{BeginsRounds, EndsRounds, NextJournal, HasPut, PutsRound, IsUnput, StopsIn, RunsAll, RunsFirst, RunsFrom, WritesReport, WritesRound, WritesRounds, IsReportFault, IsRoundsPart, IsTextFault, IsFlushed, IsRoundFault, IsRoundsFault, IsWritingFault, day_counts, day_ending, late_status, made_of, status_of}
+use Rattle.ridepool.specs.Report.{AreAll, AreFirst, IsDayEnd, IsEnd, Runs, IsReport, first_text, added_text, begun_text, journals_of, rounds_notices, Begins, IsWhole, IsPart}
+use Rattle.ridepool.specs.work.Writing.{BeginsRounds, EndsRounds, NextJournal, HasPut, PutsRound, IsUnput, StopsIn, RunsAll, RunsFirst, RunsFrom, WritesReport, WritesRound, WritesRounds, IsReportFault, IsRoundsPart, IsTextFault, IsFlushed, IsRoundFault, IsRoundsFault, IsWritingFault, day_counts, day_ending, late_status, made_of, status_of, rounds_text}
 use Rattle.ridepool.specs.declared.status.RunStatus.{RunStatus}
 use Rattle.ridepool.specs.declared.status.RunStatus.TheVariants.{Done, Words, Network, Fleet, Script, TooLong, ReadFault, WriteFault, OutOfMemory, Day, TooLate, Report}
 
@@ -556,10 +556,10 @@ pub day_serves : (i : Inputs) (book : BookView) (run : DayRun) → i.settings.mo
     → (run.worst_wait ≤ i.settings.wait) × (run.worst_delay ≤ i.settings.delay)
     → Serves i (BeginsRounds run.rounds) (EndsRounds run.rounds (day_ending run))
 day_serves i book run driven is day counts keeps worst =
-    let whole : RunsDay i run.rounds = record {
-      driven = subst (λ b. IsDrivenDay i.settings i.roads b.state i.rounds run.rounds) is day;
-      keeps = subst (λ b. EntriesKeep i.settings i.roads b.state (entries_of run.rounds)) is keeps;
-    } in
+    let whole : AreAll Drive i run.rounds = (
+      subst (λ b. IsDrivenDay i.settings i.roads b.state i.rounds run.rounds) is day,
+      subst (λ b. EntriesKeep i.settings i.roads b.state (entries_of run.rounds)) is keeps,
+    ) in
     let ending : IsDayEnd i run.rounds (day_ending run) = record {
       counts = day_counts run;
       counted = subst (λ b. AreCounts i.roads (state_left i.settings i.roads b.state (journals_of run.rounds)).riders (entries_of run.rounds) run.picked run.dropped run.worst_wait run.worst_delay) is counts;
@@ -568,10 +568,10 @@ day_serves i book run driven is day counts keeps worst =
       text_is = refl;
     } in
     record {
-      first = λ made first. subst (λ m. AreFirst m i made) (sym driven) (first.0, subst (RunsDay i) (sym first.1) whole);
+      first = λ made first. subst (λ m. AreFirst m i made) (sym driven) (first.0, subst (AreAll Drive i) (sym first.1) whole);
       all = λ made end report.
           record {
-            all = subst (λ m. AreAll m i made) (sym driven) (subst (RunsDay i) (sym report.0) whole);
+            all = subst (λ m. AreAll m i made) (sym driven) (subst (AreAll Drive i) (sym report.0) whole);
             ends = subst (λ m. IsEnd m i made end) (sym driven) (subst (λ rs. IsDayEnd i rs end) (sym report.0) (subst (IsDayEnd i run.rounds) (sym report.1) ending));
           };
     }

@@ -10,10 +10,12 @@ use Rattle.pool_io.specs.declared.input.Input.TheVariants.{Rows, Own}
 use Rattle.pool_io.specs.declared.records.RowFault.TheVariants as row
 use Rattle.rider_limits.specs.Settings.{AreGiven}
 use Rattle.rider_limits.specs.Words.{fault_of}
+use Rattle.rider_limits.specs.declared.settings.Mode.{Mode}
 use Rattle.rider_limits.specs.declared.settings.Mode.TheVariants.{Drive}
 use Rattle.rider_limits.specs.declared.settings.Settings.{Settings}
 use Rattle.road_network.specs.declared.fault.NetworkFault.TheVariants as network
-use Rattle.report_audit.specs.Report.{IsReportOfRun}
+use Rattle.report_audit.specs.Fault.{HasFault}
+use Rattle.report_audit.specs.Report.{IsReportOfRun, IsAudited}
 use Rattle.report_audit.specs.declared.fault.AuditFault.{AuditFault}
 use Rattle.report_audit.specs.declared.fault.AuditFault.TheVariants as audit
 use Rattle.report_audit.specs.declared.fault.Audited.{Audited}
@@ -24,10 +26,10 @@ use Rattle.route_drive.specs.declared.day.DayFault.{DayFault}
 use Rattle.route_drive.specs.declared.day_run.DayRound.{DayRound}
 use Rattle.script_rows.specs.declared.fault.ScriptFault.TheVariants as script
 use Rattle.ridepool.specs.Inputs.{Inputs, AreInputs, AreReadFrom, AreTexts, AreUntouched, IsDayFor, IsReportUnread, IsStop, IsWithin, Reads, ReadsReport, ReadsSources, most_bytes}
-use Rattle.ridepool.specs.Audit.{yes_text, IsRunReport, IsNoReport}
+use Rattle.ridepool.specs.Audit.{yes_text}
 use Rattle.ridepool.specs.Report.{Begins, IsWhole, IsPart}
 use Rattle.dispatch_report.specs.Written.{Change}
-use Rattle.ridepool.specs.Seen.{Seen, Sources, SourceView, IsSilent, IsUntouched, source_at}
+use Rattle.ridepool.specs.Seen.{Seen, SourceView, IsSilent, IsUntouched, source_at}
 use Rattle.ridepool.specs.declared.status.RunStatus.{RunStatus}
 use Rattle.ridepool.specs.declared.status.RunStatus.TheVariants.{Done, Words, Network, Fleet, Script, TooLong, ReadFault, WriteFault, OutOfMemory, Day, TooLate, Report}
 
@@ -36,17 +38,9 @@ pub record AreGood (words : List (List ℕ)) (settings : Settings) : Type 0 wher
   pub faultless : fault_of words ≡ None
   pub given : AreGiven words settings
 
--- the words are good for a call that reads its sources
-abbrev pub AreForSources : List (List ℕ) → Type 0
-AreForSources words = (s : Settings) × AreGood words s × ReadsSources s.mode
-
--- the words are good for an audit
-abbrev pub AreForAudit : List (List ℕ) → Type 0
-AreForAudit words = (s : Settings) × AreGood words s × ReadsReport s.mode
-
--- the words are good for a made workload
-abbrev pub AreForLoad : List (List ℕ) → Type 0
-AreForLoad words = (s : Settings) × AreGood words s × (ReadsSources s.mode → ⊥)
+-- the words are good, and their command is one of which this holds
+abbrev pub AreGoodFor : (Mode → Type 0) → List (List ℕ) → Type 0
+AreGoodFor Holds words = (s : Settings) × AreGood words s × Holds s.mode
 
 -- the words are good, all inputs pass, and are these
 pub record AreAccepted (seen : Seen) (i : Inputs) : Type 0 where
@@ -55,7 +49,7 @@ pub record AreAccepted (seen : Seen) (i : Inputs) : Type 0 where
 
 -- a call stopped at a source, with nothing written and nobody told
 abbrev pub StopsRun : Seen → RunStatus → Type 0
-StopsRun seen status = AreForSources seen.words × IsStop seen.sources status × IsSilent seen
+StopsRun seen status = AreGoodFor ReadsSources seen.words × IsStop seen.sources status × IsSilent seen
 
 -- the sources pass, and their script is no day
 pub record IsNoDay (seen : Seen) (fault : DayFault) : Type 0 where
@@ -95,7 +89,7 @@ pub record HasReport (seen : Seen) (Holds : Inputs → List ℕ → Type 0) : Ty
 -- the report of an audit is that of a run with so many entries and batches, and this holds of the line that says so
 pub record Confirms (seen : Seen) (Holds : List ℕ → Type 0) : Type 0 where
   pub audited : Audited
-  pub read : HasReport seen (λ i bytes. IsRunReport i bytes audited)
+  pub read : HasReport seen (λ i bytes. IsAudited i.roads i.vehicles i.rounds i.settings.workers bytes audited)
   pub line : Holds (yes_text audited)
   pub notifiers : IsUntouched seen.notifiers
 
@@ -109,7 +103,9 @@ BeginsYes seen = Confirms seen (Begins seen.out.before.written seen.out.after.wr
 
 -- the report of an audit was read, and this is wrong with it: it is the report of no run
 abbrev pub RefusesReport : Seen → AuditFault → Type 0
-RefusesReport seen fault = HasReport seen (λ i bytes. IsNoReport i bytes fault) × IsSilent seen
+RefusesReport seen fault =
+    HasReport seen (λ i bytes. HasFault i.roads i.vehicles i.rounds i.settings.workers bytes fault × (IsReportOfRun i.roads i.vehicles i.rounds i.settings.workers bytes → ⊥))
+    × IsSilent seen
 
 -- why a call ended as it did, what is written, and who was told what; where the flush behind the last line fails, the
 -- report is written whole
@@ -118,8 +114,8 @@ Explains seen Done = WritesAll seen ⊎ SaysYes seen
 Explains seen (Words fault) = (fault_of seen.words ≡ Some fault) × AreUntouched seen.sources × IsSilent seen
 Explains seen WriteFault = (WritesPart seen ⊎ WritesAll seen ⊎ BeginsYes seen) × Rose seen.out.before.faults seen.out.after.faults
 Explains seen OutOfMemory =
-    StopsRun seen OutOfMemory ⊎ (AreForLoad seen.words × AreUntouched seen.sources × IsSilent seen) ⊎ WritesPart seen
-    ⊎ StopsAudit seen OutOfMemory ⊎ BeginsYes seen
+    StopsRun seen OutOfMemory ⊎ (AreGoodFor (λ mode. ReadsSources mode → ⊥) seen.words × AreUntouched seen.sources × IsSilent seen)
+    ⊎ WritesPart seen ⊎ StopsAudit seen OutOfMemory ⊎ BeginsYes seen
 Explains seen (Day fault) = IsNoDay seen fault × IsSilent seen
 Explains seen (TooLate round made) = IsLate seen round made × IsSilent seen
 Explains seen (Report fault) = RefusesReport seen fault
@@ -153,42 +149,23 @@ pub record IsFaultlessRun (seen : Seen) : Type 0 where
   pub script : Tells file.Script seen.sources.script texts.script
   pub report : ReadsReport inputs.settings.mode → TellsReport seen
 
--- so is a call, or the words are good for a made workload; and no write fails
-pub record IsFaultless (seen : Seen) : Type 0 where
-  pub inputs : IsFaultlessRun seen ⊎ AreForLoad seen.words
-  pub sink : Rose seen.out.before.faults seen.out.after.faults → ⊥
-
--- no more bytes than may be were taken from each source, and one more only where it is answered as too long
-abbrev pub IsLimited : Sources → RunStatus → Type 0
-IsLimited s status = (w : Which) → IsWithin w (source_at s w) ⊎ (status ≡ TooLong w)
-
--- want of memory stands inside no other status
-abbrev pub HidesNoMemory : RunStatus → Type 0
-HidesNoMemory (Network (Rows fault)) = fault ≢ row.OutOfMemory
-HidesNoMemory (Network (Own fault)) = fault ≢ network.OutOfMemory
-HidesNoMemory (Fleet (Rows fault)) = fault ≢ row.OutOfMemory
-HidesNoMemory (Fleet (Own fault)) = fault ≢ fleet.OutOfMemory
-HidesNoMemory (Script (Rows fault)) = fault ≢ row.OutOfMemory
-HidesNoMemory (Script (Own fault)) = fault ≢ script.OutOfMemory
-HidesNoMemory (Report fault) = fault ≢ audit.OutOfMemory
-HidesNoMemory _ = Unit {0}
-
--- all is done, or there is no memory, or a day comes too late
-abbrev pub IsFaultlessEnd : RunStatus → Type 0
-IsFaultlessEnd Done = Unit {0}
-IsFaultlessEnd OutOfMemory = Unit {0}
-IsFaultlessEnd (TooLate round made) = Unit {0}
-IsFaultlessEnd _ = ⊥
-
 -- what a call's answer says
 pub record Answers (seen : Seen) (status : RunStatus) : Type 0 where
   -- its cause, and what is written
   pub explained : Explains seen status
-  -- where nothing is wrong, all is done or there is no memory, or a day comes too late
-  pub complete : IsFaultless seen → IsFaultlessEnd status
+  -- where nothing is wrong with the inputs, or the words are good for a made workload, and no write fails, all is done or
+  -- there is no memory, or a day comes too late
+  pub complete : IsFaultlessRun seen ⊎ AreGoodFor (λ mode. ReadsSources mode → ⊥) seen.words
+      → (Rose seen.out.before.faults seen.out.after.faults → ⊥)
+      → (status ≡ Done) ⊎ (status ≡ OutOfMemory) ⊎ ((round : ℕ) × (made : List DayRound) × (status ≡ TooLate round made))
   -- a made workload's call touches no source
-  pub untouched : AreForSources seen.words ⊎ AreUntouched seen.sources
+  pub untouched : AreGoodFor ReadsSources seen.words ⊎ AreUntouched seen.sources
   -- only an audit touches the source of a report
-  pub report : AreForAudit seen.words ⊎ IsUntouched seen.sources.report
-  pub limited : IsLimited seen.sources status
-  pub refused : HidesNoMemory status
+  pub report : AreGoodFor ReadsReport seen.words ⊎ IsUntouched seen.sources.report
+  -- no more bytes than may be were taken from each source, and one more only where it is answered as too long
+  pub limited : (w : Which) → IsWithin w (source_at seen.sources w) ⊎ (status ≡ TooLong w)
+  -- want of memory stands inside no other status
+  pub refused : (status ≢ Network (Rows row.OutOfMemory)) × (status ≢ Network (Own network.OutOfMemory))
+      × (status ≢ Fleet (Rows row.OutOfMemory)) × (status ≢ Fleet (Own fleet.OutOfMemory))
+      × (status ≢ Script (Rows row.OutOfMemory)) × (status ≢ Script (Own script.OutOfMemory))
+      × (status ≢ Report audit.OutOfMemory)

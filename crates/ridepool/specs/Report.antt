@@ -33,15 +33,11 @@ pub record Runs (i : Inputs) (rounds : List NumberedLanes) (made : List DayRound
   pub numbers : map (λ r. r.number) made ≡ map (λ r. r.number) rounds
   pub run : IsRun i.settings i.roads (opening i.vehicles) 0 rounds (journals_of made)
 
--- what was made is a run of a day's driven script, and keeps all promises: nobody is late, no promise lapses, and no
--- vehicle is above its seats
-pub record RunsDay (i : Inputs) (made : List DayRound) : Type 0 where
-  pub driven : IsDrivenDay i.settings i.roads (opening i.vehicles) i.rounds made
-  pub keeps : EntriesKeep i.settings i.roads (opening i.vehicles) (entries_of made)
-
--- these are all rounds of a call: a run of the script, or of a day its driven script
+-- these are all rounds of a call: a run of the script; or of a day its driven script, and they keep all promises: nobody
+-- is late, no promise lapses, and no vehicle is above its seats
 abbrev pub AreAll : Mode → Inputs → List DayRound → Type 0
-AreAll Drive i made = RunsDay i made
+AreAll Drive i made =
+    IsDrivenDay i.settings i.roads (opening i.vehicles) i.rounds made × EntriesKeep i.settings i.roads (opening i.vehicles) (entries_of made)
 AreAll _ i made = Runs i i.rounds made
 
 -- these are the first of them
@@ -59,13 +55,10 @@ abbrev pub added_text : Mode → Bool → DayRound → List ℕ
 added_text (Load shape) proof r = summary_text r.journal
 added_text _ proof r = round_text r.number proof r.journal
 
--- what rounds add, one after the other
-abbrev pub rounds_text : Settings → List DayRound → List ℕ
-rounds_text s made = flat_map (added_text s.mode s.proof) made
-
--- the first lines and these rounds
+-- the first lines, and what these rounds add, one after the other
 abbrev pub begun_text : Inputs → List DayRound → List ℕ
-begun_text i made = first_text i.settings.mode i.settings i.roads (length i.vehicles) ++ rounds_text i.settings made
+begun_text i made =
+    first_text i.settings.mode i.settings i.roads (length i.vehicles) ++ flat_map (added_text i.settings.mode i.settings.proof) made
 
 -- a day's last lines: its counts, of which the worst are within the limits, and then how many entries there were
 pub record IsDayEnd (i : Inputs) (made : List DayRound) (text : List ℕ) : Type 0 where

@@ -2,7 +2,8 @@ ghost use Rattle.std.specs.Prelude.{◌≡◌, ◌++◌, ◌≤◌, All, IfOk, I
 ghost use Rattle.std.specs.Io.KnownBytes.{Appends};
 ghost use Rattle.dispatch_report.specs.Words.{numbered};
 ghost use Rattle.request_book.specs.Consistent.{IsNode};
-ghost use Rattle.ridepool.specs.Audit.{yes_text, IsRunReport};
+ghost use Rattle.ridepool.specs.Audit.{yes_text};
+ghost use Rattle.ridepool.specs.work.Ended.{IsRunReport};
 ghost use Rattle.ridepool.specs.Inputs.{Inputs};
 ghost use Rattle.ridepool.specs.Seen.{source_seen};
 ghost use Rattle.ridepool.specs.work.Auditing.{IsAuditFault, RefusesBytes, WritesYes};

@@ -16,8 +16,8 @@ use Rattle.rider_limits.specs.declared.key.Takes.TheVariants.{Number}
 use Rattle.rider_limits.specs.declared.word_fault.WordFault.TheVariants.{UnknownKey, Repeated, BadValue}
 use Rattle.rider_limits.specs.Key.{about, key_of, accepts}
 use Rattle.rider_limits.specs.work.Taken.{IsNumber, IsAccepted}
-use Rattle.rider_limits.specs.Words.{after_key, text_given, option_of, option_fault, fault_at}
-use Rattle.rider_limits.specs.work.Named.{words_fault}
+use Rattle.rider_limits.specs.Words.{after_key, text_given, option_of, option_fault}
+use Rattle.rider_limits.specs.work.Named.{words_fault, fault_at}
 use Rattle.rider_limits.proofs.WordsLemmas.{after_key-some}
 
 -- a front that passes, before one that fails, is the longest front that passes
@@ -246,26 +246,6 @@ accepted_is_taken Side text number good = number_taken Side 2 100 text refl (lit
 accepted_is_taken Vehicles text number good = number_taken Vehicles 1 500 text refl (lit≤ tt) good
 accepted_is_taken Riders text number good = number_taken Riders 1 1000 text refl (lit≤ tt) good
 accepted_is_taken Rounds text number good = number_taken Rounds 1 100 text refl (lit≤ tt) good
-
--- what a key gives of itself is a number that it takes
-pub default_is_taken : (key : Key) → IsNumber (about key).takes → IsAccepted (about key).takes (about key).default_number
-default_is_taken (Input which) number = absurd number
-default_is_taken Notices number = absurd number
-default_is_taken Wait number = (lit≤ tt, lit≤ tt)
-default_is_taken Delay number = (lit≤ tt, lit≤ tt)
-default_is_taken Trip number = (lit≤ tt, lit≤ tt)
-default_is_taken Penalty number = (lit≤ tt, lit≤ tt)
-default_is_taken Budget number = (lit≤ tt, lit≤ tt)
-default_is_taken Pairs number = (lit≤ tt, lit≤ tt)
-default_is_taken Workers number = (lit≤ tt, lit≤ tt)
-default_is_taken Proof number = (lit≤ tt, lit≤ tt)
-default_is_taken Dwell number = (lit≤ tt, lit≤ tt)
-default_is_taken Times number = absurd number
-default_is_taken Seed number = (lit≤ tt, lit≤ tt)
-default_is_taken Side number = (lit≤ tt, lit≤ tt)
-default_is_taken Vehicles number = (lit≤ tt, lit≤ tt)
-default_is_taken Riders number = (lit≤ tt, lit≤ tt)
-default_is_taken Rounds number = (lit≤ tt, lit≤ tt)
 
 -- words without a fault give a key of numbers a numeral that it takes
 pub given_is_taken : (command : Command) (key : Key) (words : List (List ℕ)) (text : List ℕ) → words_fault command words ≡ None → IsNumber (about key).takes → text_given (about key).name words ≡ Some text → IsTakenText key text

@@ -12,8 +12,8 @@ use Rattle.pool_base.proofs.lemmas.InOrderLemmas.{first_fault-none, first_fault-
 use Rattle.rider_limits.specs.declared.command.Command.{Command}
 use Rattle.rider_limits.specs.declared.word_fault.WordFault.{WordFault}
 use Rattle.rider_limits.specs.Key.{key_of}
-use Rattle.rider_limits.specs.Words.{after_key, option_of, option_fault, fault_at}
-use Rattle.rider_limits.specs.work.Named.{words_fault}
+use Rattle.rider_limits.specs.Words.{after_key, option_of, option_fault}
+use Rattle.rider_limits.specs.work.Named.{words_fault, fault_at}
 
 -- a word that begins with the key and `=` gives what stands behind them
 pub after_key-found : (key word rest : List ℕ) → word ≡ key ++ 61 ∷ rest → after_key key word ≡ Some rest
@@ -98,9 +98,3 @@ pub words_fault-here : {X : Type 0} (f : X → List ℕ) (command : Command) (xs
 words_fault-here f command xs i x fault within is some before =
     let size : length (map f xs) ≡ length xs = length-map xs f in
     first_fault-some (fault_at command (map f xs)) (length (map f xs)) i fault (omega (arith, within, size)) before (fault_at-word f command xs i x within is ∙ some)
-
--- no word is left
-pub words_fault-end : {X : Type 0} (f : X → List ℕ) (command : Command) (xs : List X) (i : ℕ) → i ≡ length xs → first_fault (fault_at command (map f xs)) i ≡ None → words_fault command (map f xs) ≡ None
-words_fault-end f command xs i all before =
-    let size : length (map f xs) ≡ i = length-map xs f ∙ sym all in
-    ap (first_fault (fault_at command (map f xs))) size ∙ before

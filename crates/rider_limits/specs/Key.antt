@@ -72,15 +72,13 @@ about Vehicles = record { name = codes "vehicles"; has = makes_inputs; takes = N
 about Riders = record { name = codes "riders"; has = makes_inputs; takes = Number 1 1000; default_number = 150 }
 about Rounds = record { name = codes "rounds"; has = makes_inputs; takes = Number 1 100; default_number = 4 }
 
--- every key
-abbrev pub keys : List Key
-keys = Input Network ∷ Input Fleet ∷ Input Script ∷ Input Report ∷ Notices
-    ∷ Wait ∷ Delay ∷ Trip ∷ Penalty ∷ Budget ∷ Pairs ∷ Workers ∷ Proof ∷ Dwell ∷ Times
-    ∷ Seed ∷ Side ∷ Vehicles ∷ Riders ∷ Rounds ∷ []
-
--- the key of this name that a command has
+-- the key of this name that a command has, of all keys
 unfoldable pub key_of : Command → List ℕ → Option Key
-key_of command name = find (λ key. (about key).has command && bytes_eq (about key).name name) keys
+key_of command name =
+    find (λ key. (about key).has command && bytes_eq (about key).name name)
+    (Input Network ∷ Input Fleet ∷ Input Script ∷ Input Report ∷ Notices
+    ∷ Wait ∷ Delay ∷ Trip ∷ Penalty ∷ Budget ∷ Pairs ∷ Workers ∷ Proof ∷ Dwell ∷ Times
+    ∷ Seed ∷ Side ∷ Vehicles ∷ Riders ∷ Rounds ∷ [])
 
 -- a key takes this text: a file's name, a number from the first to the second, or one of two words
 abbrev pub accepts : Takes → List ℕ → Bool

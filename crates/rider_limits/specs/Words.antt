@@ -36,10 +36,6 @@ option_fault earlier word (Some (key, text)) =
     if is_some (text_given (about key).name earlier) then Some (Repeated word)
     else (if accepts (about key).takes text then None else Some (BadValue word))
 
--- what is wrong with the word at a place behind the command, if anything; the command is word 1
-abbrev pub fault_at : Command → List (List ℕ) → ℕ → Option WordFault
-fault_at command words place = option_fault (take place words) (place + 2) (option_of command (slice_index_or words place []))
-
 -- no word names a file
 abbrev pub is_missing : List (List ℕ) → Which → Bool
 is_missing words which = is_none (text_given (file.file_name which) words)
@@ -50,11 +46,14 @@ missing_file Load words = None
 missing_file Audit words = find (is_missing words) (Network ∷ Fleet ∷ Script ∷ Report ∷ [])
 missing_file _ words = find (is_missing words) (Network ∷ Fleet ∷ Script ∷ [])
 
--- why the words behind a command are refused, if they are: the first fault of a word, or else a file that is missing
+-- why the words behind a command are refused, if they are: the first fault of a word, or else a file that is missing;
+-- the command is word 1
 abbrev pub fault_behind : Option Command → List (List ℕ) → Option WordFault
 fault_behind None words = Some NoCommand
 fault_behind (Some command) words =
-    option_or (first_fault (fault_at command words) (length words)) (option_map (λ which. MissingFile which) (missing_file command words))
+    option_or
+    (first_fault (λ place. option_fault (take place words) (place + 2) (option_of command (slice_index_or words place []))) (length words))
+    (option_map (λ which. MissingFile which) (missing_file command words))
 
 -- why words are refused, if they are: the first word is the command, and words count from 1
 abbrev pub fault_of : List (List ℕ) → Option WordFault

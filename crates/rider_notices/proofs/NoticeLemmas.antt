@@ -1,8 +1,7 @@
 -- The notices of a journal, one after the other.
-use Rattle.std.proofs.Common.{◌≡◌, ℕ, ◌+◌, ◌<◌, ◌≤◌, Bool, true, false, cond, List, [], ◌∷◌, ◌++◌, length, get_or, take, drop, map, Some, None, refl, sym, ap, ◌∙◌, append_assoc}
-use Rattle.std.specs.Prelude.{filter, unwrap_or}
-use Rattle.std.proofs.lemmas.List.{append-nil, take_more, drop_all, at_drop_more, map-append}
-use Rattle.std.proofs.lemmas.List.Elements.{filter-append}
+use Rattle.std.proofs.Common.{◌≡◌, ℕ, ◌+◌, ◌<◌, ◌≤◌, List, [], ◌++◌, length, get_or, drop, Some, None, sym, ap, ◌∙◌, append_assoc}
+use Rattle.std.specs.Prelude.{unwrap_or}
+use Rattle.std.proofs.lemmas.List.{append-nil, drop_all, at_drop_more}
 use Rattle.request_book.specs.Step.{step}
 use Rattle.request_book.specs.declared.journal.Entry.{Entry}
 use Rattle.request_book.specs.declared.outcome.ChosenTrip.{ChosenTrip}
@@ -32,19 +31,6 @@ module _ (batch : ℕ) (chosen : List ChosenTrip) (rider : ℕ) where
   pub notice-none : (i : ℕ) → length chosen ≤ i → notice_of batch (drop i chosen) rider ≡ Unserved batch rider
   unfolding notice_of
   notice-none i end = ap (λ trips. notice_of batch trips rider) (drop_all i chosen end)
-
--- what is made of the elements that pass a test, with one more element
-pub made-more : {X Y : Type 0} (p : X → Bool) (f : X → Y) (xs : List X) (i : ℕ) (x : X) → i < length xs → x ≡ get_or xs i x
-    → map f (filter p (take (i + 1) xs)) ≡ map f (filter p (take i xs)) ++ cond (p x) (f x ∷ []) []
-made-more p f xs i x within is =
-    ap (λ ys. map f (filter p ys)) (take_more xs i x within ∙ ap (λ y. take i xs ++ y ∷ []) (sym is))
-    ∙ ap (map f) (filter-append p (take i xs) (x ∷ []))
-    ∙ map-append f (filter p (take i xs)) (filter p (x ∷ []))
-    ∙ ap (λ ys. map f (filter p (take i xs)) ++ ys) (by (p x))
-  where
-    by : (b : Bool) → map f (cond b (x ∷ []) []) ≡ cond b (f x ∷ []) []
-    by true = refl
-    by false = refl
 
 -- one more entry
 pub notices-more : (nodes : List ℕ) (wait : ℕ) (s : State) (es : List Entry) (i : ℕ) (e : Entry) → i < length es → e ≡ get_or es i e

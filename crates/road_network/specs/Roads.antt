@@ -27,7 +27,7 @@ hop_of arc = record { to = arc.to; seconds = arc.seconds }
 -- the arcs that leave the first so many nodes: those of node 0, then those of node 1, and so on
 abbrev pub by_start : ℕ → List Arc → List Arc
 by_start zero arcs = []
-by_start (suc node) arcs = by_start node arcs ++ leaving node arcs
+by_start (suc node) arcs = by_start node arcs ++ filter (λ arc. arc.from == node) arcs
 
 -- an arc joins two of so many nodes, in at most 10,000 seconds
 abbrev pub IsArcAmong : ℕ → Arc → Type 0

@@ -248,21 +248,11 @@ state_ends settings roads s [] book book' courses made made' way end =
     ap (λ (b : BookView). b.state) end.0 ∙ way.state ∙ sym (ap (λ (l : List DayRound). state_left settings roads s (map (λ (r : DayRound). r.journal) l)) end.1)
 state_ends settings roads s (r ∷ rounds) book book' courses made made' way end = state_done settings roads s (r ∷ rounds) book courses made way book' made' end
 
-pub nodes_end : (settings : Settings) (roads : Roads) (s : State) (rounds : List NumberedLanes) (book book' : BookView) (courses : List Course) (made made' : List DayRound)
-    → IsUnderWay settings roads s rounds book courses made → IsEnd settings roads rounds book courses made book' made' → book'.nodes ≡ roads.nodes
-nodes_end settings roads s [] book book' courses made made' way end = ap (λ (b : BookView). b.nodes) end.0 ∙ way.ready.nodes
-nodes_end settings roads s (r ∷ rounds) book book' courses made made' way end = end.nodes
-
 -- a day that isn't empty ends with its last round
 pub end_of : (settings : Settings) (roads : Roads) (rounds : List NumberedLanes) (number : ℕ) (book book' : BookView) (courses : List Course) (made made' : List DayRound)
     → 0 < length rounds → number ≡ number_after rounds → IsLastOn settings roads number book courses made book' made' → IsEnd settings roads rounds book courses made book' made'
 end_of settings roads [] number book book' courses made made' some is on = absurd (omega arith)
 end_of settings roads (r ∷ rounds) number book book' courses made made' some is on = subst (λ (n : ℕ). IsLastOn settings roads n book courses made book' made') is on
-
--- an empty day has come to its end
-pub end_at_once : (settings : Settings) (roads : Roads) (rounds : List NumberedLanes) (book : BookView) (courses : List Course) (made : List DayRound) → length rounds ≡ 0 → IsEnd settings roads rounds book courses made book made
-end_at_once settings roads [] book courses made none = (refl, refl)
-end_at_once settings roads (r ∷ rounds) book courses made none = absurd (omega (arith, none))
 
 -- what follows from two facts of what is given
 pub if_ok_both : {X E : Type 0} (r : Result X E) (A B C : X → Type 0) → IfOk r A → IfOk r B → ((x : X) → A x → B x → C x) → IfOk r C

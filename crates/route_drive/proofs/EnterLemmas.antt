@@ -4,20 +4,21 @@ use Rattle.std.specs.Prelude.{IsSome, All, find}
 use Rattle.std.specs.List.{Any}
 use Rattle.std.proofs.lemmas.Bool.{cases_Bool, cond-true, cond-false, le-leb}
 use Rattle.std.proofs.lemmas.Bool.Decides.{leb_tells}
-use Rattle.std.proofs.lemmas.List.{take_more, length-set, get_or-set_same, get_or-set_other, get_or_append_left}
+use Rattle.std.proofs.lemmas.List.{take_more, get_or_append_left}
 use Rattle.std.proofs.lemmas.List.Elements.{filter-append, All-nil, All-cons}
 use Rattle.std.proofs.Math.Seq.{drop-cons, get_or-append_seam}
 use Rattle.batch_snapshot.specs.declared.vehicle.Vehicle.{Vehicle}
 use Rattle.request_book.specs.declared.command.Command.{Command}
 use Rattle.request_book.specs.declared.outcome.PlannedStop.{PlannedStop}
 use Rattle.road_network.specs.Roads.{Roads}
-use Rattle.script_rows.specs.Round.{NumberedLanes, lane_at, with_command}
+use Rattle.script_rows.specs.Round.{NumberedLanes, lane_at}
 use Rattle.route_drive.specs.declared.course.Course.{Course}
 use Rattle.route_drive.specs.declared.course.Standing.{Standing}
 use Rattle.route_drive.specs.declared.walk.WalkStep.{WalkStep}
 use Rattle.pool_base.specs.TravelTime.{longest}
 use Rattle.request_book.specs.declared.command.Command.TheVariants.{Pickup, Dropoff}
-use Rattle.route_drive.specs.Entering.{AreEntered, EntersTooLate, IsEntered, IsInTime, IsTooLate, due, left_commands, standing_after, step_from, stop_command, walk_end}
+use Rattle.route_drive.specs.Entering.{AreEntered, EntersTooLate, IsEntered, IsInTime, IsTooLate, due, left_commands, standing_after, stop_command, walk_end}
+use Rattle.route_drive.specs.work.Drive.{step_from}
 use Rattle.route_drive.specs.work.Rounds.{Adds, EntersLate}
 
 module _ {X : Type 0} where
@@ -37,18 +38,8 @@ module _ {X : Type 0} where
   next : (xs : List X) (i : ℕ) (d : X) → i < length xs → drop i xs ≡ get_or xs i d ∷ drop (i + 1) xs
   next xs i d h = rw add-one (drop-cons xs i d h)
 
-  -- a search that passes over an element, or ends at it
-  pub find_skip : (p : X → Bool) (xs : List X) (i : ℕ) (d : X) → i < length xs → p (get_or xs i d) ≡ false → find p (drop i xs) ≡ find p (drop (i + 1) xs)
-  find_skip p xs i d h e = ap (find p) (next xs i d h) ∙ cond-false (p (get_or xs i d)) (Some (get_or xs i d)) (find p (drop (i + 1) xs)) e
-
   pub find_hit : (p : X → Bool) (xs : List X) (i : ℕ) (d : X) → i < length xs → p (get_or xs i d) ≡ true → find p (drop i xs) ≡ Some (get_or xs i d)
   find_hit p xs i d h e = ap (find p) (next xs i d h) ∙ cond-true (p (get_or xs i d)) (Some (get_or xs i d)) (find p (drop (i + 1) xs)) e
-
-  pub filter_skip : (p : X → Bool) (xs : List X) (i : ℕ) (d : X) → i < length xs → p (get_or xs i d) ≡ false → filter p (drop i xs) ≡ filter p (drop (i + 1) xs)
-  filter_skip p xs i d h e = ap (filter p) (next xs i d h) ∙ cond-false (p (get_or xs i d)) (get_or xs i d ∷ filter p (drop (i + 1) xs)) (filter p (drop (i + 1) xs)) e
-
-  pub filter_hit : (p : X → Bool) (xs : List X) (i : ℕ) (d : X) → i < length xs → p (get_or xs i d) ≡ true → filter p (drop i xs) ≡ get_or xs i d ∷ filter p (drop (i + 1) xs)
-  filter_hit p xs i d h e = ap (filter p) (next xs i d h) ∙ cond-true (p (get_or xs i d)) (get_or xs i d ∷ filter p (drop (i + 1) xs)) (filter p (drop (i + 1) xs)) e
 
   -- one more element that a filter keeps, or doesn't
   pub filter_more : (p : X → Bool) (xs : List X) (i : ℕ) (d : X) → i < length xs → p (get_or xs i d) ≡ true → filter p (take (i + 1) xs) ≡ filter p (take i xs) ++ get_or xs i d ∷ []
@@ -78,17 +69,6 @@ step_there now left (x ∷ y ∷ steps) le h = elim (leb_tells now (left + x.sec
 pub standing-push : (dwell : ℕ) (at : Standing) (stops : List PlannedStop) (s : PlannedStop) → standing_after dwell at (stops ++ s ∷ []) ≡ record { node = s.node; second = s.second; free = s.second + dwell }
 standing-push dwell at [] s = refl
 standing-push dwell at (x ∷ stops) s = standing-push dwell (record { node = x.node; second = x.second; free = x.second + dwell }) stops s
-
--- lanes that gain commands
-pub Adds-none : (lane : ℕ) (r : NumberedLanes) → Adds lane [] r r
-Adds-none lane r = record { size = refl; own = sym (append-nil (lane_at r lane)); others = λ k ne. refl }
-
-pub Adds-one : (lane : ℕ) (r : NumberedLanes) (c : Command) → lane < length r.lanes → Adds lane (c ∷ []) r (with_command r lane c)
-Adds-one lane r c h = record {
-  size = length-set r.lanes lane (lane_at r lane ++ c ∷ []);
-  own = get_or-set_same r.lanes lane (lane_at r lane ++ c ∷ []) [] h;
-  others = λ k ne. get_or-set_other r.lanes lane k (lane_at r lane ++ c ∷ []) [] ne;
-}
 
 pub Adds-trans : (lane : ℕ) (a b c : NumberedLanes) (xs ys : List Command) → Adds lane xs a b → Adds lane ys b c → Adds lane (xs ++ ys) a c
 Adds-trans lane a b c xs ys one two = record {

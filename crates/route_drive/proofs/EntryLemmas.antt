@@ -20,9 +20,10 @@ use Rattle.pool_base.specs.declared.times.Times.{Times}
 use Rattle.travel_times.specs.Table.{AreTravelTimes}
 use Rattle.route_drive.specs.declared.counts.Counts.{Counts}
 use Rattle.route_drive.specs.declared.day_run.DayRound.{DayRound}
-use Rattle.route_drive.specs.Counts.{AreDelaysOf, IsDelayOf, count_of, dropped_among, entries_of, greatest, ideal_dropoff, is_dropped, is_picked, picked_among, rider_of, wait_of}
+use Rattle.stop_orders.specs.Settled.{greatest}
+use Rattle.route_drive.specs.Counts.{IsDelayOf, count_of, dropped_among, entries_of, ideal_dropoff, is_dropped, is_picked, picked_among, rider_of, wait_of}
 use Rattle.route_drive.specs.Entering.{second_of}
-use Rattle.route_drive.specs.work.Counting.{AddsCounts, AddsEntry, HasCounts}
+use Rattle.route_drive.specs.work.Counting.{AreDelaysOf, AddsCounts, AddsEntry, HasCounts}
 
 -- a filter over one more element
 filter-kept : {X : Type 0} (p : X → Bool) (xs : List X) (x : X) → p x ≡ true → filter p (xs ++ x ∷ []) ≡ filter p xs ++ x ∷ []
@@ -55,16 +56,6 @@ not_picked Dropped other = refl
 not_picked (Sealed batch) other = refl
 not_picked Closed other = refl
 not_picked (Refused why) other = refl
-
-not_dropped : (r : Reply) → (r ≡ Dropped → ⊥) → is_dropped r ≡ false
-not_dropped Accepted other = refl
-not_dropped Cancelled other = refl
-not_dropped Placed other = refl
-not_dropped Picked other = refl
-not_dropped Dropped other = absurd (other refl)
-not_dropped (Sealed batch) other = refl
-not_dropped Closed other = refl
-not_dropped (Refused why) other = refl
 
 entries_of-push : (made : List DayRound) (r : DayRound) → entries_of (made ++ r ∷ []) ≡ entries_of made ++ r.journal.entries
 entries_of-push [] r = append-nil r.journal.entries
@@ -110,20 +101,6 @@ module _ (roads : Roads) (riders : List BookRider) where
         delays = has.delays ++ d ∷ [];
         delays_are = rw more (AreDelaysOf-push (dropped_among earlier) has.delays e d has.delays_are delayed);
         delay_is = delay ∙ ap (λ (w : ℕ). max w d) has.delay_is ∙ sym (greatest-push has.delays d);
-      }
-
-  -- an entry that is answered otherwise
-  pub adds_nothing : (e : Entry) (counts : Counts) → (e.reply ≡ Picked → ⊥) → (e.reply ≡ Dropped → ⊥) → AddsEntry roads riders e counts counts
-  adds_nothing e counts unpicked undropped = λ earlier has.
-      let picked = filter-left (λ (x : Entry). is_picked x.reply) earlier e (not_picked e.reply unpicked) in
-      let dropped = filter-left (λ (x : Entry). is_dropped x.reply) earlier e (not_dropped e.reply undropped) in
-      record {
-        picked_is = has.picked_is ∙ sym (ap count_of picked);
-        dropped_is = has.dropped_is ∙ sym (ap count_of dropped);
-        wait_is = has.wait_is ∙ sym (ap (λ (l : List Entry). greatest (map (wait_of riders) l)) picked);
-        delays = has.delays;
-        delays_are = rw dropped has.delays_are;
-        delay_is = has.delay_is;
       }
 
   -- no entry follows

@@ -11,13 +11,12 @@ use Rattle.std.proofs.Math.Seq.{get_or-append_seam}
 use Rattle.pool_base.specs.TravelTime.{never}
 use Rattle.road_network.specs.declared.arc.Arc.{Arc}
 use Rattle.road_network.specs.declared.hop.Hop.{Hop}
-use Rattle.road_network.specs.Roads.{Roads, IsArcAmong, IsNetwork, hop_of, leaving, index_in}
+use Rattle.road_network.specs.Roads.{Roads, IsArcAmong, IsNetwork, hop_of, leaving}
 use Rattle.road_network.specs.Walk.{IsWalk, walk_seconds, HasNoWalk, IsTimeBetween}
 use Rattle.travel_times.proofs.lemmas.WalkLemmas.{IsWalk-append, walk_seconds-append, short_walk}
 use Rattle.travel_times.proofs.lemmas.SearchLemmas.{arc_of_hop, hop_of_arc, hops_among}
 use Rattle.route_drive.specs.declared.tree.Found.{Found}
 use Rattle.route_drive.specs.declared.walk.WalkStep.{WalkStep}
-use Rattle.route_drive.specs.Walk.{IsShortestWalk}
 use Rattle.route_drive.specs.work.Tree.{no_found, found_at, is_seen, IsTight, IsTree, AreHopsOpened, IsOpened, Grows, IsGrowing, IsFullTree, IsWalkBack}
 
 -- one more is marked and found
@@ -244,10 +243,6 @@ module _ (arcs : List Arc) (n start : ℕ) (times : List ℕ) (among : All (IsAr
       | inr none ↦ let far = none.1 in absurd (omega arith)
     ]
 
--- the way back from a node that was found
-pub IsWalkBack-none : (roads : Roads) (times : List ℕ) (node : ℕ) → IsWalkBack roads times node node ((record { node = slice_index roads.nodes node; seconds = slice_index times node }) ∷ [])
-IsWalkBack-none roads times node = record { walk = []; walks = refl; takes = omega arith; told = refl }
-
 pub IsWalkBack-more : (roads : Roads) (times : List ℕ) (from via to : ℕ) (steps : List WalkStep) → IsTight roads.arcs times from via → IsWalkBack roads times via to steps
     → IsWalkBack roads times from to ((record { node = slice_index roads.nodes from; seconds = slice_index times from }) ∷ steps)
 IsWalkBack-more roads times from via to steps tight back =
@@ -264,22 +259,6 @@ IsWalkBack-more roads times from via to steps tight back =
 
 pub reverse-push : (steps : List WalkStep) (step : WalkStep) → reverse (steps ++ step ∷ []) ≡ step ∷ reverse steps
 reverse-push steps step = reverse-append steps (step ∷ [])
-
--- a way back to the start is a shortest walk
-pub IsShortestWalk-back : (roads : Roads) (n : ℕ) (times : List ℕ) (from to start goal : ℕ) (steps : List WalkStep)
-    → index_in roads.nodes from ≡ start → index_in roads.nodes to ≡ goal → slice_index times start ≡ 0 → IsTimeBetween roads.arcs start goal (slice_index times goal) → slice_index times goal < never
-    → IsWalkBack roads times start goal steps → IsShortestWalk roads from to steps
-IsShortestWalk-back roads n times from to start goal steps is_start is_goal near timed reached back =
-    let takes = back.takes in
-    record {
-      walk = back.walk;
-      walks = rw (is_start, is_goal) back.walks;
-      least = rw (is_start, is_goal) (λ other walks. elim timed [
-        | inl way ↦ let least = way.least other walks in omega (arith, least, takes, near)
-        | inr none ↦ let far = none.1 in absurd (omega arith)
-      ]);
-      told = rw is_start (rw near at back.told);
-    }
 
 -- a time that isn't the greatest number is below it
 pub near_unless_never : (arcs : List Arc) (n start : ℕ) (times : List ℕ) (among : All (IsArcAmong n) arcs) (few : n ≤ 100000) (inside : start < n)

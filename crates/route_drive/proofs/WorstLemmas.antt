@@ -7,8 +7,8 @@ use Rattle.std.specs.Option.{option_map_or}
 use Rattle.batch_snapshot.specs.Batch.{Batch}
 use Rattle.batch_snapshot.specs.declared.rider.Rider.{Rider}
 use Rattle.request_book.proofs.lemmas.KeyedLemmas.{look_up-here, look_up-there, look_up-nil}
-use Rattle.request_book.specs.Closing.{Pick, after_answer, after_plan, picks, planned_status}
-use Rattle.request_book.specs.work.Named.{in_batch}
+use Rattle.request_book.specs.Closing.{Pick, after_answer, after_plan, picks}
+use Rattle.request_book.specs.work.Named.{in_batch, planned_status}
 use Rattle.request_book.specs.work.Closing.{closed_state}
 use Rattle.request_book.specs.Keyed.{changed_at}
 use Rattle.request_book.proofs.lemmas.LawLemmas.{rounds-join}
@@ -41,7 +41,9 @@ use Rattle.script_rows.specs.Round.{NumberedLanes}
 use Rattle.dispatch_engine.specs.Run.{IsRun}
 use Rattle.route_drive.specs.declared.day_run.DayRound.{DayRound}
 use Rattle.route_drive.specs.Driven.{IsDrivenDay, state_left}
-use Rattle.route_drive.specs.Counts.{AreCounts, AreDelaysOf, entries_of, IsDelayOf, dropped_among, greatest, ideal_dropoff, is_dropped, is_picked, picked_among, rider_of, wait_of}
+use Rattle.stop_orders.specs.Settled.{greatest}
+use Rattle.route_drive.specs.work.Counting.{AreDelaysOf}
+use Rattle.route_drive.specs.Counts.{AreCounts, entries_of, IsDelayOf, dropped_among, ideal_dropoff, is_dropped, is_picked, picked_among, rider_of, wait_of}
 use Rattle.route_drive.specs.Entering.{second_of}
 use Rattle.route_drive.specs.Promises.{EntriesKeep, EntryKeeps, IsDroppedInTime}
 

@@ -1,5 +1,6 @@
 -- What is counted of a driven day: who was picked up and dropped, the worst wait and the worst delay.
-use Rattle.std.specs.Prelude.{◌≡◌, ℕ, ◌+◌, ◌-◌, ◌^◌, Bool, true, false, max, min, nat_lt, if◌then◌else◌, List, [], ◌∷◌, ◌++◌, MatchOption, length, map, filter}
+use Rattle.std.specs.Prelude.{◌≡◌, ℕ, ◌+◌, ◌-◌, ◌^◌, Bool, true, false, min, nat_lt, if◌then◌else◌, List, MatchOption, length, map, filter}
+use Rattle.std.specs.List.{AllZip, flat_map}
 use Rattle.std.specs.Option.{option_map_or}
 use Rattle.pool_base.specs.TravelTime.{never}
 use Rattle.request_book.specs.State.{find_rider}
@@ -11,13 +12,13 @@ use Rattle.request_book.specs.declared.reply.Reply.TheVariants.{Picked, Dropped}
 use Rattle.request_book.specs.declared.rider.BookRider.{BookRider}
 use Rattle.road_network.specs.Roads.{Roads, index_in}
 use Rattle.road_network.specs.Walk.{IsTimeBetween}
+use Rattle.stop_orders.specs.Settled.{greatest}
 use Rattle.route_drive.specs.declared.day_run.DayRound.{DayRound}
 use Rattle.route_drive.specs.Entering.{second_of}
 
 -- the entries of all journals, in order
 abbrev pub entries_of : List DayRound → List Entry
-entries_of [] = []
-entries_of (r ∷ made) = r.journal.entries ++ entries_of made
+entries_of made = flat_map (λ r. r.journal.entries) made
 
 -- the entries that are answered `picked`, and those that are answered `dropped`
 abbrev pub is_picked : Reply → Bool
@@ -59,22 +60,11 @@ IsDelayOf roads riders e delay =
     (λ r. (seconds : ℕ) × IsTimeBetween roads.arcs (index_in roads.nodes r.origin) (index_in roads.nodes r.destination) seconds
     × (delay ≡ second_of e.command - ideal_dropoff r.time seconds))
 
--- these are the delays of drop-offs, in order
-abbrev pub AreDelaysOf : Roads → List BookRider → List Entry → List ℕ → Type 0
-AreDelaysOf roads riders [] [] = Unit {0}
-AreDelaysOf roads riders (e ∷ entries) (delay ∷ delays) = IsDelayOf roads riders e delay × AreDelaysOf roads riders entries delays
-AreDelaysOf roads riders entries delays = ⊥
-
--- the greatest of numbers, 0 without one
-abbrev pub greatest : List ℕ → ℕ
-greatest [] = 0
-greatest (x ∷ xs) = max x (greatest xs)
-
 -- the counts of entries, where these are the riders whom they name
 pub record AreCounts (roads : Roads) (riders : List BookRider) (entries : List Entry) (picked dropped worst_wait worst_delay : ℕ) : Type 0 where
   pub picked_is : picked ≡ count_of (picked_among entries)
   pub dropped_is : dropped ≡ count_of (dropped_among entries)
   pub wait_is : worst_wait ≡ greatest (map (wait_of riders) (picked_among entries))
   pub delays : List ℕ
-  pub delays_are : AreDelaysOf roads riders (dropped_among entries) delays
+  pub delays_are : AllZip (IsDelayOf roads riders) (dropped_among entries) delays
   pub delay_is : worst_delay ≡ greatest delays

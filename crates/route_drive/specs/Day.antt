@@ -1,10 +1,11 @@
 -- Days: scripts of submits and seals, whose vehicles the program drives.
-use Rattle.std.specs.Prelude.{ℕ, Bool, true, false, not, max, List, [], ◌∷◌, Option, None, Some, length, take, drop, unwrap_or, option_and_then, slice_index_or, nat_lt, if◌then◌else◌}
+use Rattle.std.specs.Prelude.{ℕ, Bool, true, false, not, List, ◌∷◌, Option, None, Some, length, take, drop, unwrap_or, option_and_then, slice_index_or, nat_lt, if◌then◌else◌, map}
 use Rattle.std.specs.List.{list_any}
 use Rattle.std.specs.Option.{option_or}
 use Rattle.pool_base.specs.InOrder.{first_fault}
 use Rattle.request_book.specs.declared.command.Command.{Command}
 use Rattle.request_book.specs.declared.command.Command.TheVariants.{Submit, Seal}
+use Rattle.stop_orders.specs.Settled.{greatest}
 use Rattle.script_rows.specs.Round.{NumberedLanes, empty_round, lane_at}
 use Rattle.route_drive.specs.declared.day.DayFault.{DayFault}
 use Rattle.route_drive.specs.declared.day.DayFault.TheVariants as fault
@@ -15,6 +16,7 @@ is_of_day (Submit rider origin destination time party) = true
 is_of_day (Seal now) = true
 is_of_day _ = false
 
+-- the command is a seal
 abbrev pub is_seal : Command → Bool
 is_seal (Seal now) = true
 is_seal _ = false
@@ -48,13 +50,8 @@ round_fault latest round = option_or (first_fault (lane_fault round) (length rou
 
 -- the greatest second of the rounds' seals, 0 without a seal
 abbrev pub latest_seal : List NumberedLanes → ℕ
-latest_seal [] = 0
-latest_seal (round ∷ rounds) = max (unwrap_or (seal_of round) 0) (latest_seal rounds)
+latest_seal rounds = greatest (map (λ round. unwrap_or (seal_of round) 0) rounds)
 
--- why the round of a number is refused, if it is
-abbrev pub fault_at : List NumberedLanes → ℕ → Option DayFault
-fault_at rounds k = round_fault (latest_seal (take k rounds)) (slice_index_or rounds k (empty_round 0))
-
--- the first refusal of a script's rounds; a script without one is a day
+-- the first refusal of a script's rounds, each behind the seals before it; a script without one is a day
 abbrev pub day_fault : List NumberedLanes → Option DayFault
-day_fault rounds = first_fault (fault_at rounds) (length rounds)
+day_fault rounds = first_fault (λ k. round_fault (latest_seal (take k rounds)) (slice_index_or rounds k (empty_round 0))) (length rounds)

@@ -1,5 +1,5 @@
 -- The driven script of a day: its rounds with what is entered before each seal, and a last round of the stops left.
-use Rattle.std.specs.Prelude.{◌≡◌, ◌≢◌, ℕ, ◌+◌, List, [], ◌∷◌, ◌++◌, Option, None, Some, MatchOption, All, map, option_map, option_and_then}
+use Rattle.std.specs.Prelude.{◌≡◌, ◌≢◌, ℕ, ◌+◌, List, [], ◌∷◌, ◌++◌, Option, None, Some, MatchOption, All, map, option_map, option_and_then, fold}
 use Rattle.std.specs.List.{Any}
 use Rattle.std.specs.Option.{option_or, option_map_or}
 use Rattle.batch_snapshot.specs.Kept.{IsFleet}
@@ -49,10 +49,6 @@ plan_of command reply = None
 abbrev pub plan_in : List Entry → Option Planned
 plan_in [] = None
 plan_in (entry ∷ entries) = option_or (plan_of entry.command entry.reply) (plan_in entries)
-
--- nothing is on its way
-abbrev pub at_rest : Course
-at_rest = record { stops = record { items = [] }; target = None }
 
 -- what a plan has for a vehicle: the stops of its chosen trip, and the origin of the rider whom its move names
 abbrev pub planned_course : List BookRider → Planned → Vehicle → Course
@@ -113,12 +109,11 @@ module _ (settings : Settings) (roads : Roads) where
 
   -- at first nothing is on its way
   abbrev pub first_courses : State → List Course
-  first_courses s = map (λ v. at_rest) s.vehicles
+  first_courses s = map (λ v. record { stops = record { items = [] }; target = None }) s.vehicles
 
   -- the state that journals leave
   abbrev pub state_left : State → List Journal → State
-  state_left s [] = s
-  state_left s (j ∷ journals) = state_left (left_state j) journals
+  state_left s journals = fold (λ _ j. left_state j) s journals
 
   -- what is on its way after journals of rounds, from a state
   abbrev pub courses_from : State → List NumberedLanes → List DayRound → List Course

@@ -1,5 +1,5 @@
 -- What is on its way for a vehicle, and what is entered of it before a seal.
-use Rattle.std.specs.Prelude.{◌≡◌, ◌⊎◌, ℕ, ◌+◌, ◌<◌, ◌≤◌, max, nat_lt, nat_le, if◌then◌else◌, List, [], ◌∷◌, ◌++◌, Option, None, Some, map, filter, find, Contains}
+use Rattle.std.specs.Prelude.{◌≡◌, ◌⊎◌, ℕ, ◌+◌, ◌<◌, ◌≤◌, max, nat_lt, nat_le, if◌then◌else◌, List, [], ◌∷◌, ◌++◌, Option, None, Some, map, filter, find, Contains, fold}
 use Rattle.std.specs.List.{Any}
 use Rattle.pool_base.specs.TravelTime.{longest}
 use Rattle.batch_snapshot.specs.declared.vehicle.Vehicle.{Vehicle}
@@ -25,14 +25,9 @@ to_come now stops = filter (λ stop. nat_lt now stop.second) stops
 abbrev pub stop_command : ℕ → PlannedStop → Command
 stop_command vehicle stop = if stop.pick then Pickup vehicle stop.rider stop.second else Dropoff vehicle stop.rider stop.second
 
--- where a vehicle was reported, and from when on it can leave
-abbrev pub reported_place : Vehicle → Standing
-reported_place v = record { node = v.node; second = v.time; free = v.time }
-
 -- where a vehicle is after stops, when it came there, and from when on it can leave: after a dwell
 abbrev pub standing_after : ℕ → Standing → List PlannedStop → Standing
-standing_after dwell at [] = at
-standing_after dwell at (stop ∷ stops) = standing_after dwell (record { node = stop.node; second = stop.second; free = stop.second + dwell }) stops
+standing_after dwell at stops = fold (λ _ stop. record { node = stop.node; second = stop.second; free = stop.second + dwell }) at stops
 
 -- where it goes: to its next stop; without one to the rider whom its move names
 abbrev pub goal_of : Option ℕ → List PlannedStop → Option ℕ
@@ -44,10 +39,6 @@ abbrev pub walk_end : List WalkStep → ℕ
 walk_end [] = 0
 walk_end (step ∷ []) = step.seconds
 walk_end (step ∷ steps) = walk_end steps
-
--- the first step that is reached by now or later, by a walk that is left at a second
-abbrev pub step_from : ℕ → ℕ → List WalkStep → Option WalkStep
-step_from now left steps = find (λ step. nat_le now (left + step.seconds)) steps
 
 -- where a vehicle is reported at a seal
 pub data IsReported (roads : Roads) (now : ℕ) (at : Standing) (goal : Option ℕ) (there : Place) : Type 0 where
@@ -61,7 +52,7 @@ pub data IsReported (roads : Roads) (now : ℕ) (at : Standing) (goal : Option �
       → there ≡ record { node = at.node; second = max now at.second } → IsReported roads now at goal there
   -- it is on its way at the seal: the first node of a shortest walk that it reaches by then or later, when it does
   walks : (to : ℕ) (steps : List WalkStep) (step : WalkStep) → at.free ≤ now → goal ≡ Some to → IsShortestWalk roads at.node to steps
-      → now < at.free + walk_end steps → step_from now at.free steps ≡ Some step
+      → now < at.free + walk_end steps → find (λ step. nat_le now (at.free + step.seconds)) steps ≡ Some step
       → there ≡ record { node = step.node; second = at.free + step.seconds } → IsReported roads now at goal there
   -- it has arrived: at the end of the walk, by now
   arrived : (to : ℕ) (steps : List WalkStep) → at.free ≤ now → goal ≡ Some to → IsShortestWalk roads at.node to steps
@@ -70,7 +61,9 @@ pub data IsReported (roads : Roads) (now : ℕ) (at : Standing) (goal : Option �
 -- what is entered of a vehicle before a seal: its stops that are due, each at its second, and where it is then
 pub record IsEntered (roads : Roads) (dwell now : ℕ) (v : Vehicle) (course : Course) (commands : List Command) : Type 0 where
   pub there : Place
-  pub reported : IsReported roads now (standing_after dwell (reported_place v) (due now course.stops.items)) (goal_of course.target (to_come now course.stops.items)) there
+  pub reported : IsReported roads now
+      (standing_after dwell (record { node = v.node; second = v.time; free = v.time }) (due now course.stops.items))
+      (goal_of course.target (to_come now course.stops.items)) there
   pub told : commands ≡ map (stop_command v.id) (due now course.stops.items) ++ Report v.id there.node there.second ∷ []
 
 -- what is entered of all vehicles, one after the other

@@ -7,9 +7,9 @@ ghost use Rattle.route_drive.specs.Counts.{AreCounts, entries_of};
 ghost use Rattle.route_drive.specs.Day.{day_fault, seal_of};
 ghost use Rattle.route_drive.specs.Entering.{EntersTooLate, IsInTime, IsTooLate, left_commands};
 ghost use Rattle.route_drive.specs.declared.entering.Stopped.TheVariants.{TooLate as Late};
-ghost use Rattle.route_drive.specs.Driven.{IsDrivenDay, IsDrivenRound, IsLateAnswer, IsNewBook, at_rest, courses_after, state_left};
+ghost use Rattle.route_drive.specs.Driven.{IsDrivenDay, IsDrivenRound, IsLateAnswer, IsNewBook, courses_after, state_left};
 ghost use Rattle.route_drive.specs.declared.day_run.DriveFault.TheVariants.{OutOfMemory as NoMemory};
-ghost use Rattle.route_drive.specs.work.Drive.{IsEnd, IsEndLate, IsLastLate, IsLastOn, IsRoundLate, IsRoundOn, IsStoppedAt, IsTaken, IsUnderWay};
+ghost use Rattle.route_drive.specs.work.Drive.{IsEnd, IsEndLate, IsLastLate, IsLastOn, IsRoundLate, IsRoundOn, IsStoppedAt, IsTaken, IsUnderWay, at_rest};
 
 use crate::counts::{Counts, counts_of};
 use crate::course::Course;

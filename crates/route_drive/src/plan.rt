@@ -1,7 +1,8 @@
 //! What is on its way after a round.
 ghost use Rattle.std.specs.Prelude.{◌≡◌, ◌==◌, [], None, Some, IfNone, IfOk, IfSome, find, map, option_and_then, option_map};
 ghost use Rattle.std.specs.Option.{option_map_or};
-ghost use Rattle.route_drive.specs.Driven.{at_rest, courses_after, left_course, plan_in, plan_of, planned_course};
+ghost use Rattle.route_drive.specs.Driven.{courses_after, left_course, plan_in, plan_of, planned_course};
+ghost use Rattle.route_drive.specs.work.Drive.{at_rest};
 ghost use Rattle.route_drive.specs.Entering.{to_come};
 
 use crate::course::Course;

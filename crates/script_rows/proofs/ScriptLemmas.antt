@@ -15,8 +15,8 @@ use Rattle.script_rows.specs.Line.{line_in}
 use Rattle.script_rows.specs.Round.{NumberedLanes}
 use Rattle.script_rows.specs.work.Building.{IsBehind, last_round, joins, with_line}
 use Rattle.script_rows.specs.Round.{empty_round, with_command}
-use Rattle.script_rows.specs.Script.{round_before, round_of, rounds_of, script_of}
-use Rattle.script_rows.specs.work.Named.{line_at}
+use Rattle.script_rows.specs.Script.{round_before, round_of, script_of}
+use Rattle.script_rows.specs.work.Named.{line_at, rounds_of}
 use Rattle.script_rows.proofs.GroupLemmas.{map-agree, round_of-push, round_of-push_other, round_of-none}
 
 -- a row that joins the last round
@@ -57,7 +57,6 @@ pub record Built (lines : List Line) (last : ℕ) (rounds : List NumberedLanes) 
   shape : (lines ≡ []) ⊎ LastIs lines last
 
 pub Built-none : Built [] 0 []
-unfolding rounds_of
 Built-none = record { made = refl; below = All-nil (λ n. n ≤ 0); shape = inl refl }
 
 -- the numbers with one more row
@@ -71,19 +70,16 @@ below-push lines line last back below =
 
 -- the first row makes the first round
 first_line : (line : Line) → line.lane < 16 → with_line [] line ≡ rounds_of ([] ++ line ∷ [])
-unfolding rounds_of
 first_line line within =
     with_line-begins [] line refl
     ∙ ap (λ (r : NumberedLanes). r ∷ []) (sym (round_of-push [] line within ∙ ap (λ r. with_command r line.lane line.command) (round_of-none [] line.round (All-nil (λ n. n ≢ line.round)))))
 
 first_of_none : (lines : List Line) (line : Line) → line.lane < 16 → lines ≡ [] → with_line (rounds_of lines) line ≡ rounds_of (lines ++ line ∷ [])
-unfolding rounds_of
 first_of_none lines line within none =
     ap (λ ls. with_line (rounds_of ls) line) none ∙ first_line line within ∙ ap (λ ls. rounds_of (ls ++ line ∷ [])) (sym none)
 
 -- a row of the last round
 more_of_last : (lines : List Line) (line : Line) (front : List ℕ) → line.lane < 16 → distinct (numbers lines) ≡ front ++ line.round ∷ [] → All (λ n. n < line.round) front → list_any (λ n. eqb n line.round) (numbers lines) ≡ true → with_line (rounds_of lines) line ≡ rounds_of (lines ++ line ∷ [])
-unfolding rounds_of
 more_of_last lines line front within ends before here =
     let all : List Line = lines ++ line ∷ [] in
     let firsts : List NumberedLanes = map (round_of lines) front in
@@ -107,7 +103,6 @@ more_of_last lines line front within ends before here =
 
 -- a row of a later round
 later_line : (lines : List Line) (line : Line) (front : List ℕ) (last : ℕ) → line.lane < 16 → last < line.round → distinct (numbers lines) ≡ front ++ last ∷ [] → All (λ n. n < last) front → All (λ n. n ≤ last) (numbers lines) → with_line (rounds_of lines) line ≡ rounds_of (lines ++ line ∷ [])
-unfolding rounds_of
 later_line lines line front last within later ends before below =
     let all : List Line = lines ++ line ∷ [] in
     let ns : List ℕ = distinct (numbers lines) in

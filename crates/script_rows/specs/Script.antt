@@ -20,13 +20,9 @@ abbrev pub round_of : List Line → ℕ → NumberedLanes
 round_of lines number =
     record { number = number; lanes = map (λ lane. map (λ l. l.command) (filter (λ l. l.round == number && l.lane == lane) lines)) (range_with_len 0 16) }
 
--- the rounds of rows, one for each number
-unfoldable pub rounds_of : List Line → List NumberedLanes
-rounds_of lines = map (round_of lines) (distinct (map (λ l. l.round) lines))
-
--- the rounds that records give, or the first refusal; each row is read behind the one before it
+-- the rounds that records give, one for each number, or the first refusal; each row is read behind the one before it
 abbrev pub script_of : ScriptVersion → List (List (List ℕ)) → Result (List NumberedLanes) ScriptFault
 script_of version records =
     if nat_lt 200000 (length records) then Err TooManyRows
     else (all_or_first (λ place. line_in version (place + 1) (round_before records place) (slice_index_or records place [])) (length records)
-    >>= λ lines. Ok (rounds_of lines))
+    >>= λ lines. Ok (map (round_of lines) (distinct (map (λ l. l.round) lines))))

@@ -72,10 +72,6 @@ module _ (points : ℕ) (tau : ℕ → ℕ → ℕ) (t : IsTravelTime points tau
   pub searched_no_better : (label : Label) (best : Option Route) (labels : List Label) → IsFound tau task best → IsExhausted tau task best label → All (IsLabelDone points tau task best) labels → Searched points tau task label best best labels
   searched_no_better label best labels found exhausted settled = record { found = found; good = λ d n. n; exhausted = exhausted; settled = settled }
 
-  pub searched_all : (label : Label) (best : Option Route) (labels : List Label) → IsFound tau task best → IsAllDone (task_riders task) (task_passengers task) label.done → NoneBetter best label.delay
-      → All (IsLabelDone points tau task best) labels → Searched points tau task label best best labels
-  searched_all label best labels found all none settled = searched_no_better label best labels found (exhausted_all label best all none) settled
-
   -- where not even at once all can be served
   pub exhausted_none : (label : Label) (best : Option Route)
       → (((i : ℕ) → i < task_riders task → RiderCan tau task label i) → ((j : ℕ) → j < task_passengers task → PassengerCan tau task label j) → ⊥) → IsExhausted tau task best label

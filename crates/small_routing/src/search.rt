@@ -13,7 +13,7 @@ use crate::kept::Kept;
 use crate::label::{Label, label_after};
 use arrayvec::ArrayVec;
 use pool_base::{OutOfMemory, Times};
-use stop_orders::{Route, Stop, Task};
+use stop_orders::{Route, Stop, Task, copy_of_stops};
 
 /// Tries all ways on from a label, depth first and the soonest stop first, but for those from labels that
 /// are hopeless. Its candidates take much room on the stack, so a label is judged before the call and not in it.
@@ -37,7 +37,7 @@ pub(crate) fn try_all(
     if label.done.is_all(task.riders.len(), task.aboard.len()) {
         if is_better(label.delay, best) {
             *best = Some(Route {
-                stops: copy_of(path),
+                stops: copy_of_stops(path),
                 delay: label.delay,
             });
         }
@@ -93,15 +93,4 @@ fn is_better(delay: u64, best: &Option<Route>) -> bool
         None => true,
         Some(route) => delay < route.delay,
     }
-}
-
-fn copy_of(stops: &[Stop]) -> ArrayVec<Stop, 22>
-    requires { length stops.now ≤ 22 }
-    ensures { result.items ≡ stops.now }
-{
-    let mut copy = ArrayVec::new();
-    for stop in stops {
-        copy.push(*stop);
-    }
-    copy
 }

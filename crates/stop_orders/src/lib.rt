@@ -29,7 +29,7 @@ pub use order::is_order;
 pub use pair_list::PairList;
 pub use plain::least_over_all_orders;
 pub use position::{arrival, free_seats_of};
-pub use route::Route;
+pub use route::{Route, copy_of_stops};
 pub use serving::{delay_of, serves, stop_second, visit_of};
 pub use settled::{Settled, SettledRiders, SettledVehicles};
 pub use settled_rider::SettledRider;

@@ -6,6 +6,7 @@ ghost use Rattle.stop_orders.specs.work.Rest.{left_count};
 ghost use Rattle.stop_orders.specs.work.Plain.{IsFound, StaysGood, NoneBetter, MakesOrders, AllTried};
 
 use crate::done::stop_of;
+use crate::route::copy_of_stops;
 use crate::{Done, Route, Stop, Task, delay_of, serves};
 use arrayvec::ArrayVec;
 use pool_base::Times;
@@ -77,7 +78,7 @@ fn keep_better(task: &Task, times: &Times, stops: &[Stop], best: &mut Option<Rou
     if let Some(delay) = delay_of(task, times, stops) {
         if is_better(delay, best) {
             *best = Some(Route {
-                stops: copy_of(stops),
+                stops: copy_of_stops(stops),
                 delay,
             });
         }
@@ -91,15 +92,4 @@ fn is_better(delay: u64, best: &Option<Route>) -> bool
         None => true,
         Some(route) => delay < route.delay,
     }
-}
-
-fn copy_of(stops: &[Stop]) -> ArrayVec<Stop, 22>
-    requires { length stops.now ≤ 22 }
-    ensures { result.items ≡ stops.now }
-{
-    let mut copy = ArrayVec::new();
-    for stop in stops {
-        copy.push(*stop);
-    }
-    copy
 }

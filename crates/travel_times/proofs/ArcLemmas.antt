@@ -35,14 +35,6 @@ pub record AreCopied (arcs : List Arc) (count : ℕ) (ends : List ℕ) (hops : L
   pub rising : (node : ℕ) → node < count → start_at ends node ≤ slice_index ends node
   pub within : (node : ℕ) → node < count → slice_index ends node ≤ length hops
 
-pub AreCopied-none : (arcs : List Arc) → AreCopied arcs 0 [] []
-AreCopied-none arcs = record {
-  copy = record { each = refl; placed = λ node below. absurd (omega (arith, below)) };
-  whole = refl;
-  rising = λ node below. absurd (omega (arith, below));
-  within = λ node below. absurd (omega (arith, below));
-}
-
 -- the arcs of one more node
 pub AreCopied-push : (arcs : List Arc) (count : ℕ) (ends : List ℕ) (hops : List Hop) → AreCopied arcs count ends hops
     → AreCopied arcs (count + 1) (ends ++ length (hops ++ map hop_of (leaving count arcs)) ∷ []) (hops ++ map hop_of (leaving count arcs))

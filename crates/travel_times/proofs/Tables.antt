@@ -1,10 +1,8 @@
-use Rattle.std.proofs.Common.{◌≡◌, ℕ, zero, suc, ◌+◌, ◌-◌, ◌*◌, ◌<◌, ◌≤◌, ◌⊎◌, min, List, [], ◌∷◌, ◌++◌, length, get_or, slice_index, set, map, All, Bool, true, false, nat_lt, Some, None, Result, IfOk, Vec, Global, refl, ap, ◌∙◌, inl, inr, ⊎_elim, arith}
-use Rattle.std.specs.List.{AllZip, range_with_len, position, position_or_len}
-use Rattle.std.proofs.Math.Nat.{mul-le-mul_right}
+use Rattle.std.proofs.Common.{◌≡◌, ℕ, ◌+◌, ◌-◌, ◌*◌, ◌<◌, ◌≤◌, ◌⊎◌, List, [], ◌++◌, length, slice_index, map, All, Bool, true, false, nat_lt, Some, None, refl, ap, ◌∙◌, inl, inr, ⊎_elim, arith}
+use Rattle.std.specs.List.{position, position_or_len}
 use Rattle.std.proofs.lemmas.Bool.{cases_lt, cases_Bool}
 use Rattle.std.proofs.lemmas.Nat.{mul-add-lt}
-use Rattle.std.proofs.lemmas.List.{length-append, get_or_append_left, get_or-append_right, get_or-map, length-map, get_or-set_other, length-set, get_or_default}
-use Rattle.pool_base.specs.declared.memory.OutOfMemory.{OutOfMemory}
+use Rattle.std.proofs.lemmas.List.{length-append, get_or_append_left, get_or-append_right, get_or-map, length-map, get_or_default}
 use Rattle.pool_base.specs.TravelTime.{never, longest, cell_of, IsTable}
 use Rattle.pool_base.proofs.lemmas.TravelTimeLemmas.{cell_of-within, cell_of-from_outside, cell_of-to_outside}
 use Rattle.road_network.specs.declared.arc.Arc.{Arc}
@@ -35,10 +33,6 @@ AreRows-append arcs points from count more cells rows first second =
           (rw node at (second.times (i - count) j less hj)))
           (cases_lt i count);
     }
-
--- no rows
-pub AreRows-none : (arcs : List Arc) (points : List ℕ) (from : ℕ) → AreRows arcs points from 0 []
-AreRows-none arcs points from = record { size = omega arith; times = λ i j hi hj. absurd (omega arith) }
 
 -- one row, as a search gives it
 pub AreRows-one : (arcs : List Arc) (points : List ℕ) (n from : ℕ) (seconds : List ℕ) → All (λ point. point < n) points

@@ -18,8 +18,8 @@ use Rattle.rider_limits.specs.declared.settings.Settings.{Settings}
 use Rattle.trip_growth.specs.declared.trip_of.TripOf.{TripOf}
 use Rattle.trip_growth.specs.Rows.{AreSomeRows, AreRowsOfSize}
 use Rattle.trip_graph.specs.work.Levels.{AreLevels, row_total, level_total, AreRowsUpTo, total_upto}
-use Rattle.trip_graph.specs.work.Rows.{trip_row, vehicle_rows}
-use Rattle.trip_graph.specs.Answer.{IsRowWith, AreRowsOf, HoldRows, IsTripGraphOf}
+use Rattle.trip_graph.specs.work.Rows.{trip_row, vehicle_rows, AreRowsOf}
+use Rattle.trip_graph.specs.Answer.{IsRowWith, HoldRows, IsTripGraphOf}
 
 no_trip : TripOf
 no_trip = record { riders = record { items = [] }; cost = 0 }
@@ -285,11 +285,13 @@ pub graph_right : (settings : Settings) (tau : ℕ → ℕ → ℕ) (settled : S
 graph_right settings tau settled graph vehicles riders rows held value good a b exact hold few =
     let r : rows ≡ graph.rows = sym (ap (λ (g : Graph). g.rows) value) in
     let h : held ≡ graph.held = sym (ap (λ (g : Graph). g.held) value) in
+    let all = subst (λ (x : List TripRow). AreRowsOf settings.trip tau settled x) r (rows_of_all settings.trip tau settled rows exact) in
     record {
       vehicle_total = ap (λ (g : Graph). g.vehicles) value ∙ a;
       rider_total = ap (λ (g : Graph). g.riders) value ∙ b;
       left_out = ap (λ (g : Graph). g.penalty) value;
-      exact = subst (λ (x : List TripRow). AreRowsOf settings.trip tau settled x) r (rows_of_all settings.trip tau settled rows exact);
+      right = all.right;
+      whole = all.whole;
       hold = subst (λ (y : List (Option ℕ)). HoldRows settled (length settled.vehicles) graph.rows y) h (subst (λ (x : List TripRow). HoldRows settled (length settled.vehicles) x held) r hold);
       few = subst (λ (x : List TripRow). length x ≤ settings.pairs) r few;
       good = good;

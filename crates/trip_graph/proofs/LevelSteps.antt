@@ -70,9 +70,6 @@ module _ (tau : ℕ → ℕ → ℕ) (settled : Settled) where
       let is : get_or levels number level ≡ level = ap (λ (n : ℕ). get_or levels n level) same ∙ sym found.1 in
       subst (λ (l : Level). IsLevelOf tau settled (get_or vehicles number 0) size room l) is (all.each number level here)
 
-  pub level_none : (size : ℕ) → AreLevelsUpTo tau settled size 0 []
-  level_none size = record { total = refl; each = λ v lt. absurd (omega arith) }
-
   pub level_more : (size n : ℕ) (lists : List (List TripOf)) (rows : List TripOf) → AreLevelsUpTo tau settled size n lists → AreRowsOfSize tau settled n size rows
       → AreLevelsUpTo tau settled size (n + 1) (lists ++ rows ∷ [])
   level_more size n lists rows level own =

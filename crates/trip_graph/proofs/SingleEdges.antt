@@ -31,9 +31,6 @@ lower_one x y (inl shorter) = absurd (omega arith)
 lower_one x y (inr (same, inl less)) = less
 lower_one x y (inr (same, inr (equal, never))) = absurd never
 
-pub edges_more : (lists : List (List TripOf)) (v : ℕ) → edges_upto lists (v + 1) ≡ edges_upto lists v ++ map (single_edge v) (get_or lists v [])
-edges_more lists v = rw add-one refl
-
 module _ (tau : ℕ → ℕ → ℕ) (settled : Settled) where
   abbrev Lists : ℕ → ℕ → List RvEdge → Type 0
   Lists a b xs = ListsBefore RvEdge pair_of entry no_edge (IsRvEdge tau settled) a b xs

@@ -1,4 +1,4 @@
-use Rattle.std.proofs.Common.{◌≡◌, ℕ, ◌+◌, ◌-◌, ◌<◌, ◌≤◌, inl, inr, List, [], ◌∷◌, ◌++◌, length, get_or, refl, sym, ap, ◌∙◌, subst, arith}
+use Rattle.std.proofs.Common.{◌≡◌, ℕ, ◌+◌, ◌-◌, ◌<◌, ◌≤◌, inl, inr, List, [], ◌∷◌, ◌++◌, length, get_or, refl, sym, ap, ◌∙◌, arith}
 use Rattle.std.specs.List.{All, Contains}
 use Rattle.std.proofs.lemmas.Bool.{cases_lt}
 use Rattle.std.proofs.lemmas.List.{length-map, length-append, map-append, get_or_append_left, get_or-append_right, get_or-map, nil_from_length}
@@ -97,13 +97,4 @@ module _ (Serves : List ℕ → Type 0) (Costs : List ℕ → ℕ → Type 0) wh
         sized = All-cons (λ r. length r.riders.items ≡ 0) row [] (ap length is) (All-nil (λ r. length r.riders.items ≡ 0));
         rising = λ i j h k. absurd (omega arith);
         whole = λ t e s. (0, omega arith, is ∙ sym (nil_from_length t e));
-      }
-
-  pub level_of_none : (Serves [] → ⊥) → IsLevel Serves Costs 0 []
-  level_of_none never =
-      record {
-        right = All-nil (IsLevelRow Serves Costs);
-        sized = All-nil (λ r. length r.riders.items ≡ 0);
-        rising = λ i j h k. absurd (omega arith);
-        whole = λ t e s. absurd (never (subst Serves (nil_from_length t e) s));
       }

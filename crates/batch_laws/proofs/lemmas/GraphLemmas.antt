@@ -15,7 +15,8 @@ use Rattle.stop_orders.specs.Task.{IsLeastDelay}
 use Rattle.plan_rules.specs.declared.row.TripRow.{TripRow}
 use Rattle.plan_rules.specs.Graph.{Graph, no_row, choice_at, row_cmp}
 use Rattle.rider_limits.specs.declared.settings.Settings.{Settings}
-use Rattle.trip_graph.specs.Answer.{IsRowWith, AreRowsOf, HoldRows, IsTripGraphOf, HasMoreRows}
+use Rattle.trip_graph.specs.Answer.{IsRowWith, HoldRows, IsTripGraphOf, HasMoreRows}
+use Rattle.trip_graph.specs.work.Rows.{AreRowsOf}
 use Rattle.batch_laws.proofs.lemmas.SortedLemmas.{IsStrict, AreInOrder, AreNeighbours, in_order, same_members, no_longer}
 
 abbrev pub RowBefore : TripRow → TripRow → Type 0
@@ -123,13 +124,16 @@ module _ (settings : Settings) (tau : ℕ → ℕ → ℕ) (settled : Settled) w
   pub graph_in_order : (g : Graph) → IsTripGraphOf settings tau settled g → AreInOrder RowBefore g.rows
   graph_in_order g are = rows_in_order g.rows are.good.order
 
+  rows_of : (g : Graph) → IsTripGraphOf settings tau settled g → AreRowsOf settings.trip tau settled g.rows
+  rows_of g are = record { right = are.right; whole = are.whole }
+
   pub one_trip_graph : (a b : Graph) → IsTripGraphOf settings tau settled a → IsTripGraphOf settings tau settled b → a ≡ b
   one_trip_graph a b are also =
       let up = graph_in_order a are in let vp = graph_in_order b also in
-      let rows : a.rows ≡ b.rows = one_list_of_rows tau settled settings.trip a.rows b.rows up vp are.exact also.exact in
+      let rows : a.rows ≡ b.rows = one_list_of_rows tau settled settings.trip a.rows b.rows up vp (rows_of a are) (rows_of b also) in
       let hold : HoldRows settled (length settled.vehicles) b.rows a.held = subst (λ (r : List TripRow). HoldRows settled (length settled.vehicles) r a.held) rows are.hold in
       same_graph a b (are.vehicle_total ∙ sym also.vehicle_total) (are.rider_total ∙ sym also.rider_total) (are.left_out ∙ sym also.left_out) rows
       (one_held settled (length settled.vehicles) b.rows vp a.held b.held hold also.hold)
 
   pub graph_or_overflow : (g : Graph) → IsTripGraphOf settings tau settled g → HasMoreRows tau settled settings.trip settings.pairs → ⊥
-  graph_or_overflow g are more = no_more_rows tau settled settings.trip g.rows settings.pairs (graph_in_order g are) are.exact are.few more
+  graph_or_overflow g are more = no_more_rows tau settled settings.trip g.rows settings.pairs (graph_in_order g are) (rows_of g are) are.few more

@@ -1,5 +1,5 @@
 use Rattle.std.specs.Prelude.{◌≡◌, ℕ, ◌<◌, ◌≤◌, Bool, false, List, length, nat_lt, ◌==◌, ◌&&◌, slice_index_or}
-use Rattle.std.specs.List.{AllWithin, insert, list_any, prefix_len}
+use Rattle.std.specs.List.{AllWithin, list_any, prefix_len}
 use Rattle.batch_snapshot.specs.declared.vehicle.Vehicle.{Vehicle}
 use Rattle.fleet_state.specs.work.Named.{empty_vehicle}
 
@@ -14,10 +14,6 @@ has_id_at vehicles place id = nat_lt place (length vehicles) && (slice_index_or 
 -- how many vehicles at the front have lower ids
 abbrev pub insertion_place : List Vehicle → ℕ → ℕ
 insertion_place vehicles id = prefix_len (λ v. nat_lt v.id id) vehicles
-
--- vehicles by rising id, with one more at its place
-abbrev pub with_vehicle : List Vehicle → Vehicle → List Vehicle
-with_vehicle vehicles vehicle = insert vehicles (insertion_place vehicles vehicle.id) vehicle
 
 -- a new id's place among vehicles by rising id: behind all lower ids, and before all higher ones
 pub record IsPlaceOf (vehicles : List Vehicle) (id place : ℕ) : Type 0 where

@@ -8,21 +8,7 @@ use Rattle.lane_progress.specs.declared.stand.LaneStand.{LaneStand}
 use Rattle.lane_progress.specs.Stand.{at_start, stand_at, IsRest, IsNext, stand_after, HaveCome, AreDone}
 use Rattle.request_book.specs.declared.command.Command.{Command}
 use Rattle.request_book.specs.declared.journal.Entry.{Entry}
-use Rattle.request_book.specs.declared.reply.Reply.{Reply}
-use Rattle.request_book.specs.declared.reply.Reply.TheVariants.{Accepted, Cancelled, Placed, Picked, Dropped, Sealed, Closed, Refused}
 use Rattle.script_rows.specs.Round.{NumberedLanes, IsRound, lane_at}
-use Rattle.shared_book.specs.Locked.{sealed_by}
-
--- only a seal's reply tells a batch
-pub sealed_none : (reply : Reply) → ((batch : ℕ) → reply ≡ Sealed batch → ⊥) → None ≡ sealed_by reply
-sealed_none Accepted other = refl
-sealed_none Cancelled other = refl
-sealed_none Placed other = refl
-sealed_none Picked other = refl
-sealed_none Dropped other = refl
-sealed_none (Sealed batch) other = absurd (other batch refl)
-sealed_none Closed other = refl
-sealed_none (Refused refusal) other = refl
 
 -- the command at a place is the first of those that are left there
 drop_at : (cs : List Command) (k : ℕ) (c : Command) → slice_get cs k ≡ Some c → drop k cs ≡ c ∷ drop (suc k) cs

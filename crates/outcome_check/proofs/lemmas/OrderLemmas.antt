@@ -1,5 +1,5 @@
 -- Orders are read back from what is told of them.
-use Rattle.std.proofs.Common.{◌≡◌, ℕ, zero, suc, ◌+◌, ◌<◌, ◌≤◌, inl, inr, true, false, List, [], ◌∷◌, ◌++◌, length, get_or, map, zip, take, refl, sym, ap, ◌∙◌, subst, arith}
+use Rattle.std.proofs.Common.{◌≡◌, ℕ, zero, suc, ◌+◌, ◌<◌, ◌≤◌, inl, inr, List, [], ◌∷◌, ◌++◌, length, get_or, map, zip, take, refl, sym, ap, ◌∙◌, subst, arith}
 use Rattle.std.specs.List.{AllByRecursion}
 use Rattle.std.specs.List.Sorted.{IsStrictlyIncreasing}
 use Rattle.std.proofs.lemmas.Bool.{cases_lt}
@@ -9,7 +9,7 @@ use Rattle.stop_orders.specs.declared.settled.Settled.{Settled}
 use Rattle.stop_orders.specs.declared.settled_rider.SettledRider.{SettledRider}
 use Rattle.stop_orders.specs.declared.settled_vehicle.SettledVehicle.{SettledVehicle}
 use Rattle.stop_orders.specs.declared.stop.Stop.{Stop}
-use Rattle.stop_orders.specs.declared.stop.Stop.TheVariants.{Pick, Drop, Alight}
+use Rattle.stop_orders.specs.declared.stop.Stop.TheVariants.{Pick}
 use Rattle.stop_orders.specs.declared.visit.Visit.{Visit}
 use Rattle.stop_orders.specs.Order.{IsKnown}
 use Rattle.stop_orders.specs.Settled.{IsTrip, trip_task, vehicle_at, rider_at, no_rider, no_vehicle}
@@ -46,36 +46,6 @@ module _ (settled : Settled) (v : ℕ) (trip : List ℕ) (own : HasOwnIds settle
 
   same_number : (i j id : ℕ) → i < length trip → j < length trip → rider_id settled (get_or trip i 0) ≡ id → rider_id settled (get_or trip j 0) ≡ id → i ≡ j
   same_number i j id a b e f = rising_once trip is_trip.rising i j a b (own.riders (get_or trip i 0) (get_or trip j 0) (inside i a) (inside j b) (e ∙ sym f))
-
-  pub read_pick : (number : ℕ) (told : PlannedStop) → told.pick ≡ true → number < length trip → rider_id settled (get_or trip number 0) ≡ told.rider
-      → (points : List ℕ) (stop : Stop) (second : ℕ) → IsKnown (length trip) (length (vehicle_at settled v).aboard.items) stop → told ≡ told_stop points settled v trip (stop, second) → Pick number ≡ stop
-  read_pick number told pick h e points (Pick i) second known is = ap (λ (n : ℕ). Pick n) (same_number number i told.rider h known e (sym (ap (λ (s : PlannedStop). s.rider) is)))
-  read_pick number told pick h e points (Drop i) second known is = absurd (let f : told.pick ≡ false = ap (λ (s : PlannedStop). s.pick) is in let no : true ≡ false = sym pick ∙ f in cc)
-  read_pick number told pick h e points (Alight i) second known is = absurd (let f : told.pick ≡ false = ap (λ (s : PlannedStop). s.pick) is in let no : true ≡ false = sym pick ∙ f in cc)
-
-  pub read_drop : (number : ℕ) (told : PlannedStop) → told.pick ≡ false → number < length trip → rider_id settled (get_or trip number 0) ≡ told.rider
-      → (points : List ℕ) (stop : Stop) (second : ℕ) → IsKnown (length trip) (length (vehicle_at settled v).aboard.items) stop → told ≡ told_stop points settled v trip (stop, second) → Drop number ≡ stop
-  read_drop number told pick h e points (Pick i) second known is = absurd (let f : told.pick ≡ true = ap (λ (s : PlannedStop). s.pick) is in let no : true ≡ false = sym f ∙ pick in cc)
-  read_drop number told pick h e points (Drop i) second known is = ap (λ (n : ℕ). Drop n) (same_number number i told.rider h known e (sym (ap (λ (s : PlannedStop). s.rider) is)))
-  read_drop number told pick h e points (Alight j) second known is =
-      let f : told.rider ≡ get_or (vehicle_at settled v).aboard_ids.items j 0 = ap (λ (s : PlannedStop). s.rider) is in
-      absurd (own.apart v (get_or trip number 0) j there (inside number h) (let n = own.counts v there in omega (arith, n, known)) (e ∙ f))
-
-  pub read_alight : (number : ℕ) (told : PlannedStop) → ((i : ℕ) → i < length trip → rider_id settled (get_or trip i 0) ≡ told.rider → ⊥)
-      → number < length (vehicle_at settled v).aboard_ids.items → get_or (vehicle_at settled v).aboard_ids.items number 0 ≡ told.rider
-      → (points : List ℕ) (stop : Stop) (second : ℕ) → IsKnown (length trip) (length (vehicle_at settled v).aboard.items) stop → told ≡ told_stop points settled v trip (stop, second) → Alight number ≡ stop
-  read_alight number told none h e points (Pick i) second known is = absurd (none i known (sym (ap (λ (s : PlannedStop). s.rider) is)))
-  read_alight number told none h e points (Drop i) second known is = absurd (none i known (sym (ap (λ (s : PlannedStop). s.rider) is)))
-  read_alight number told none h e points (Alight j) second known is =
-      let f : told.rider ≡ get_or (vehicle_at settled v).aboard_ids.items j 0 = ap (λ (s : PlannedStop). s.rider) is in
-      ap (λ (n : ℕ). Alight n) (own.passengers v number j there h (let n = own.counts v there in omega (arith, n, known)) (e ∙ f))
-
-  pub read_nobody : (told : PlannedStop) → ((i : ℕ) → i < length trip → rider_id settled (get_or trip i 0) ≡ told.rider → ⊥)
-      → ((j : ℕ) → j < length (vehicle_at settled v).aboard_ids.items → get_or (vehicle_at settled v).aboard_ids.items j 0 ≡ told.rider → ⊥)
-      → (points : List ℕ) (stop : Stop) (second : ℕ) → IsKnown (length trip) (length (vehicle_at settled v).aboard.items) stop → told ≡ told_stop points settled v trip (stop, second) → ⊥
-  read_nobody told none nor points (Pick i) second known is = none i known (sym (ap (λ (s : PlannedStop). s.rider) is))
-  read_nobody told none nor points (Drop i) second known is = none i known (sym (ap (λ (s : PlannedStop). s.rider) is))
-  read_nobody told none nor points (Alight j) second known is = nor j (let n = own.counts v there in omega (arith, n, known)) (sym (ap (λ (s : PlannedStop). s.rider) is))
 
 zip_at : {A B C : Type 0} (f : A × B → C) (xs : List A) (ys : List B) (k : ℕ) (a : A) (b : B) (d : C) → k < length xs → length ys ≡ length xs → get_or (map f (zip xs ys)) k d ≡ f (get_or xs k a, get_or ys k b)
 zip_at f [] ys k a b d h e = absurd (omega arith)

@@ -149,7 +149,7 @@ no_stop = record { pick = false; rider = 0; node = 0; second = 0 }
 
 module _ (points : List ℕ) (settings : Settings) (tau : ℕ → ℕ → ℕ) (settled : Settled) (graph : Graph) (own : HasOwnIds settled) (exact : IsTripGraphOf settings tau settled graph) where
   row_trip : (k : ℕ) → k < length graph.rows → IsTrip (length settled.riders) (riders_at graph k)
-  row_trip k h = (exact.exact.right k no_row h).served.riders
+  row_trip k h = (exact.right k no_row h).served.riders
 
   pub one_row : (v j k : ℕ) (trip : ChosenTrip) → IsRowOf graph v j → IsRowOf graph v k → TellsRow points tau settled graph v j trip → TellsRow points tau settled graph v k trip → j ≡ k
   one_row v j k trip a b one other =

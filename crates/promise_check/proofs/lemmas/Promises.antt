@@ -2,7 +2,7 @@ use Rattle.std.proofs.Common.{◌≡◌, ℕ, zero, suc, ◌+◌, ◌-◌, ◌<�
 use Rattle.std.specs.List.{Contains, filter, range_with_len}
 use Rattle.std.specs.List.Sorted.{IsStrictlyIncreasing}
 use Rattle.std.proofs.lemmas.Bool.{cases_lt, cases_eq}
-use Rattle.std.proofs.lemmas.List.{length_push, length-append, length-set, get_or_append_left, get_or_push, get_or-set_same, get_or-set_other, take_more, take_all, map-id, append-nil, get_or_default}
+use Rattle.std.proofs.lemmas.List.{length_push, length-append, length-set, get_or_append_left, get_or_push, get_or-set_same, get_or-set_other, take_more, map-id, append-nil, get_or_default}
 use Rattle.std.proofs.lemmas.List.Elements.{Contains-append_left, Contains-push, Contains-push_cases, filter-append, All-filter, All-from_get_or}
 use Rattle.std.proofs.lemmas.List.FromFn.{map-range_with_len_more, length-range_with_len, get_or-range_with_len}
 use Rattle.std.proofs.lemmas.List.Kept.{IsStrictlyIncreasing-filter}
@@ -78,9 +78,6 @@ pub rider_read : (riders : List SettledRider) (k : ℕ) (x : SettledRider) → k
 rider_read riders k x h is = is ∙ get_or_default riders k x no_rider h
 
 module _ (wait : ℕ) (requests : List Rider) (plain : List SettledRider) where
-  pub kept_none : (xs : List ℕ) (before : List SettledRider) → AreKept wait requests plain (Contains (take 0 xs)) before before
-  kept_none xs before = record { count = refl; each = λ r h. inr (λ w. let lt = w.1 in omega arith, refl) }
-
   -- one more rider is given the pickup that was promised
   pub kept_more : (i h : ℕ) (held : List ℕ) (before after : List SettledRider) → i < length held → get_or held i 0 ≡ h → h < length before
       → AreKept wait requests plain (Contains (take i held)) before after
@@ -104,11 +101,6 @@ module _ (wait : ℕ) (requests : List Rider) (plain : List SettledRider) where
                   (λ w. inr (λ c. ⊎_elim w.0 (λ e. other (sym e)) (Contains-push_cases (take i held) h r (rw more at c)), stays ∙ w.1)) (k.each r lr)
             ];
       }
-
-  -- all riders of a list are kept
-  pub kept_all : (i : ℕ) (held : List ℕ) (before after : List SettledRider) → length held ≤ i
-      → AreKept wait requests plain (Contains (take i held)) before after → AreKept wait requests plain (Contains held) before after
-  kept_all i held before after h k = subst (λ (v : List ℕ). AreKept wait requests plain (Contains v) before after) (take_all i held h) k
 
   -- one more vehicle keeps its promises
   pub kept_by_more : (i : ℕ) (v : SettledVehicle) (vehicles : List SettledVehicle) (before after : List SettledRider) → i < length vehicles → v ≡ get_or vehicles i v
@@ -146,10 +138,3 @@ module _ (wait : ℕ) (requests : List Rider) (plain : List SettledRider) where
                 let last : length vs ≡ k = (let lt = t.1 in omega arith) in
                 inr (subst (λ (w : SettledVehicle). Contains w.held.items r) (get_or_push vs v no_vehicle k last) t.2)
           ]
-
-  pub held_by_none : (vehicles : List SettledVehicle) → AreKept wait requests plain (IsHeld (take 0 vehicles)) plain plain
-  held_by_none vehicles = record { count = refl; each = λ r h. inr (λ w. let lt = w.1 in omega arith, refl) }
-
-  pub held_by_all : (i : ℕ) (vehicles : List SettledVehicle) (after : List SettledRider) → length vehicles ≤ i
-      → AreKept wait requests plain (IsHeld (take i vehicles)) plain after → AreKept wait requests plain (IsHeld vehicles) plain after
-  held_by_all i vehicles after h k = subst (λ (v : List SettledVehicle). AreKept wait requests plain (IsHeld v) plain after) (take_all i vehicles h) k

@@ -1,16 +1,19 @@
 -- From where an audit stops to the fault of the report.
-use Rattle.std.specs.Prelude.{ℕ, ◌≤◌, ◌+◌, ◌-◌, ◌^◌, List, length, min, take}
+use Rattle.std.specs.Prelude.{ℕ, ◌≤◌, ◌+◌, ◌-◌, ◌^◌, List, length, min, take, ◌==◌, count_by}
 use Rattle.block_audit.specs.declared.refusal.BlockRefusal.{BlockRefusal}
 use Rattle.block_audit.specs.declared.refusal.BlockRefusal.TheVariants as block
 use Rattle.report_head.specs.declared.fault.HeadFault.{HeadFault}
 use Rattle.report_head.specs.declared.fault.HeadFault.TheVariants as head
-use Rattle.report_audit.specs.Fault.{next_line}
 use Rattle.report_audit.specs.declared.fault.AuditFault.{AuditFault}
 use Rattle.report_audit.specs.declared.fault.AuditFault.TheVariants as fault
 use Rattle.report_audit.specs.declared.stop.LineFault.{LineFault}
 use Rattle.report_audit.specs.declared.stop.LineFault.TheVariants as wrong
 use Rattle.report_audit.specs.declared.stop.Stop.{Stop}
 use Rattle.report_audit.specs.declared.stop.Stop.TheVariants.{OutOfMemory, Line, Block}
+
+-- the number of the line that begins behind a text: one more than its line feeds
+abbrev pub next_line : List ℕ → ℕ
+next_line text = count_by (λ c. c == 10) text + 1
 
 -- the fault of a head
 abbrev pub fault_of_head : HeadFault → AuditFault

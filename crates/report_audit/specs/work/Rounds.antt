@@ -10,7 +10,7 @@ use Rattle.request_book.specs.declared.journal.Journal.{Journal}
 use Rattle.rider_limits.specs.declared.settings.Settings.{Settings}
 use Rattle.road_network.specs.Roads.{Roads}
 use Rattle.script_rows.specs.Round.{NumberedLanes}
-use Rattle.report_audit.specs.Fault.{HasLine}
+use Rattle.report_head.specs.Line.{IsFirst}
 use Rattle.report_audit.specs.Place.{Place, position_behind, state_behind}
 use Rattle.report_audit.specs.Report.{closes}
 use Rattle.report_audit.specs.Types.{AreTold}
@@ -28,7 +28,7 @@ pub record IsRoundStart (settings : Settings) (roads : Roads) (b : BookView) : T
 -- the text begins with the line of this round
 pub record HasRoundLine (text : List ℕ) (number : ℕ) (after : List ℕ) : Type 0 where
   pub low : number < 2 ^ 32
-  pub has : HasLine text (numbered (codes "round ") number) after
+  pub has : IsFirst text (numbered (codes "round ") number) after
 
 -- the text doesn't begin with it
 pub record IsNoRoundLine (text : List ℕ) (number : ℕ) (stop : Stop) : Type 0 where

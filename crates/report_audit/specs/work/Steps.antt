@@ -15,7 +15,8 @@ use Rattle.request_book.specs.declared.journal.Journal.{Journal}
 use Rattle.rider_limits.specs.declared.settings.Settings.{Settings}
 use Rattle.road_network.specs.Roads.{Roads}
 use Rattle.script_rows.specs.Round.{IsRound, NumberedLanes}
-use Rattle.report_audit.specs.Fault.{HasLine, IsCut, IsOutOfForm, IsWrongLine, IsWrongBatch}
+use Rattle.report_head.specs.Line.{IsFirst}
+use Rattle.report_audit.specs.Fault.{IsCut, IsOutOfForm, IsWrongLine, IsWrongBatch}
 use Rattle.report_audit.specs.Place.{Place, BeginsRound, AreAtEnd, position_behind}
 use Rattle.report_audit.specs.declared.stop.LineFault.{LineFault}
 use Rattle.report_audit.specs.declared.stop.LineFault.TheVariants as wrong
@@ -38,7 +39,7 @@ StopsAt settings roads place text (Block left refused) = (left ≡ length text) 
 -- no line stands first, or one that is nothing between blocks
 abbrev pub HasNoNext : List ℕ → Stop → Type 0
 HasNoNext text (Line left wrong.Cut) = (left ≡ length text) × (is_one_line text ≡ true)
-HasNoNext text (Line left wrong.Form) = (left ≡ length text) × ((l after : List ℕ) × HasLine text l after × ((x : NextLine) → IsNextLine x l → ⊥))
+HasNoNext text (Line left wrong.Form) = (left ≡ length text) × ((l after : List ℕ) × IsFirst text l after × ((x : NextLine) → IsNextLine x l → ⊥))
 HasNoNext text _ = ⊥
 
 -- the book is that of these roads and settings
@@ -80,7 +81,7 @@ pub record EntryRead (settings : Settings) (roads : Roads) (round : NumberedLane
 
 -- the text begins with the line of an entry of this lane
 pub record IsEntryOf (lane : ℕ) (text line after : List ℕ) : Type 0 where
-  pub has : HasLine text line after
+  pub has : IsFirst text line after
   pub form : IsNextLine (EntryOf lane) line
   pub low : lane < 16
 

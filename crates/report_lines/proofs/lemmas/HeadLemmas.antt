@@ -1,11 +1,11 @@
 -- The line of the settings.
 use Rattle.std.proofs.Common.{◌≡◌, ◌≢◌, ℕ, zero, suc, ◌≤◌, ◌==◌, Bool, true, false, if◌then◌else◌, nat_eq, get_or, length, codes, List, [], refl, sym, ap, ◌∙◌, append-nil, ne_eqb, arith}
 use Rattle.dispatch_report.specs.Words.{numbered}
-use Rattle.report_lines.specs.Head.{IsShort, dwell_text, settings_text, AreSettings}
+use Rattle.report_lines.specs.Head.{IsShort, settings_text, AreSettings}
 use Rattle.report_lines.specs.Reading.{BeginsWith, BeginsWithNone, ends_number}
 use Rattle.report_lines.specs.declared.head.SettingsText.{SettingsText}
 use Rattle.report_lines.specs.Both.{both, BothAre}
-use Rattle.report_lines.specs.work.Head.{limits_text, costs_text, AreThree}
+use Rattle.report_lines.specs.work.Head.{limits_text, costs_text, AreThree, dwell_text}
 use Rattle.report_lines.proofs.lemmas.ReadingLemmas.{EndsOnce, StandsApart, both_none_first, both_none_second, both_some, both_once, numbered_once, head_none, tail_none}
 
 short_once : (words : List ℕ) → EndsOnce (numbered words) IsShort
@@ -18,10 +18,6 @@ delay_apart n rest ends = refl
 trip_apart : StandsApart (numbered (codes " trip="))
 unfolding numbered
 trip_apart n rest ends = refl
-
-penalty_apart : StandsApart (numbered (codes " penalty="))
-unfolding numbered
-penalty_apart n rest ends = refl
 
 budget_apart : StandsApart (numbered (codes " budget="))
 unfolding numbered

@@ -141,12 +141,6 @@ pub pair_once : (words : List ℕ) (most other : ℕ) → most < 2 ^ 128 → oth
 pair_once words most other small small_too =
     both_once (numbered words) (λ n. n ≤ most) spaced (λ n. n ≤ other) spaced_apart (numbered_once words most small) (numbered_once _ other small_too)
 
--- the same of things that stand for others
-pub once_by : {X Y : Type 0} (t : X → List ℕ) (Is : X → Type 0) (f : Y → X) → ((a b : Y) → f a ≡ f b → a ≡ b) → EndsOnce t Is → EndsOnce (λ y. t (f y)) (λ y. Is (f y))
-once_by t Is f apart once text x y r s bx by =
-    let same = once text (f x) (f y) r s (record { whole = bx.whole; lawful = bx.lawful; ends = bx.ends }) (record { whole = by.whole; lawful = by.lawful; ends = by.ends }) in
-    (apart x y same.0, same.1)
-
 pub spaced_ends : (n : ℕ) → ends_number (spaced n) ≡ true
 unfolding numbered
 spaced_ends n = refl

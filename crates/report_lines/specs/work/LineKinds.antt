@@ -1,7 +1,13 @@
 -- The lines of a block, by how they are read.
-use Rattle.report_lines.specs.BlockLine.{IsBlockLine}
+use Rattle.report_lines.specs.BlockLine.{IsBlockLine, block_line_text}
 use Rattle.report_lines.specs.declared.block_line.BlockLine.{BlockLine}
 use Rattle.report_lines.specs.declared.block_line.BlockLine.TheVariants.{Batch, Expired, Overflow, Lapsed, Late, Alone, Shared, Trip, Out, Move, Cost, Bound, Nodes, Branch, Dead, End}
+use Rattle.std.specs.Prelude.{◌≡◌, ◌≢◌, ℕ, true, List}
+use Rattle.report_lines.specs.Order.{may_follow_at}
+
+-- no line of a block that may follow one of this place is this line
+abbrev pub CannotFollow : ℕ → List ℕ → Type 0
+CannotFollow place line = (x : BlockLine) → IsBlockLine x → may_follow_at place x ≡ true → line ≢ block_line_text x
 
 abbrev pub IsWordLine : BlockLine → Type 0
 IsWordLine Overflow = Unit {0}

@@ -1,7 +1,12 @@
 -- The beginning of a stop: what happens, and to whom.
-use Rattle.std.specs.Prelude.{ℕ, Bool, List, codes, if◌then◌else◌}
+use Rattle.std.specs.Prelude.{ℕ, Bool, List, codes, if◌then◌else◌, ◌<◌, ◌^◌}
 use Rattle.dispatch_report.specs.Words.{numbered}
 use Rattle.report_lines.specs.Ids.{IsId}
+use Rattle.request_book.specs.declared.outcome.PlannedStop.{PlannedStop}
+
+-- the numbers of a stop are within their types
+abbrev pub IsStop : PlannedStop → Type 0
+IsStop stop = IsId stop.rider × IsId stop.node × (stop.second < 2 ^ 64)
 
 abbrev pub visit_text : Bool × ℕ → List ℕ
 visit_text visit = numbered (if visit.0 then codes " pick:" else codes " drop:") visit.1

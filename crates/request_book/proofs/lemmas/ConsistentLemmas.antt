@@ -22,8 +22,8 @@ use Rattle.request_book.specs.declared.rider.BookRider.{BookRider}
 use Rattle.request_book.specs.declared.rider.Status.{Status}
 use Rattle.request_book.specs.declared.rider.Status.TheVariants.{Waiting, Promised, Aboard, Delivered, Expired, Cancelled as GivenUp}
 use Rattle.request_book.specs.declared.state.State.{State}
-use Rattle.request_book.specs.Closing.{Pick, after_answer, after_plan, picks, planned_status}
-use Rattle.request_book.specs.work.Named.{in_batch}
+use Rattle.request_book.specs.Closing.{Pick, after_answer, after_plan, picks}
+use Rattle.request_book.specs.work.Named.{in_batch, takes_in, lets_out, planned_status}
 use Rattle.request_book.specs.work.Closing.{closed_state}
 use Rattle.request_book.specs.Consistent.{AreConsistent, IsConsistent, seat_in}
 use Rattle.request_book.specs.Keyed.{changed_at, without, KeysRise, KeysDiffer}
@@ -32,7 +32,7 @@ use Rattle.request_book.specs.Rider.{is_active, vehicle_of, with_status, passeng
 use Rattle.request_book.specs.Sealing.{is_over, after_seal, sealed_state}
 use Rattle.pool_io.specs.Faults.{one_more}
 use Rattle.request_book.specs.State.{find_rider, find_vehicle, find_passenger, pool_count}
-use Rattle.request_book.specs.Step.{rider_becomes, vehicle_becomes, takes_in, lets_out, step}
+use Rattle.request_book.specs.Step.{rider_becomes, vehicle_becomes, step}
 use Rattle.request_book.specs.work.Named.{stands_at}
 use Rattle.request_book.specs.work.Table.{answer, picked_up, dropped_off, submit_refusal, submit_step, cancel_step, report_step, pickup_step, dropoff_step, seal_refusal, seal_step, close_step, table_step}
 use Rattle.request_book.proofs.lemmas.BatchLemmas.{after_seal-id}

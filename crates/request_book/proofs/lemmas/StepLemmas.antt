@@ -15,12 +15,11 @@ use Rattle.request_book.specs.declared.rider.BookRider.{BookRider}
 use Rattle.request_book.specs.declared.rider.Status.{Status}
 use Rattle.request_book.specs.declared.rider.Status.TheVariants.{Waiting, Promised, Aboard, Cancelled as GivenUp, Delivered, Expired}
 use Rattle.request_book.specs.declared.state.State.{State}
-use Rattle.request_book.specs.work.Register.{pool_id}
 use Rattle.request_book.specs.Rider.{is_active}
 use Rattle.request_book.specs.work.Refusals.{first_of, duplicate_rider, aboard_refusal, ended_refusal, promise_refusal, seat_refusal, time_back, vehicle_full, unknown_node, not_this_batch}
 use Rattle.request_book.specs.State.{find_rider, find_vehicle, pool_count}
-use Rattle.request_book.specs.Step.{rider_becomes, vehicle_becomes, takes_in, lets_out}
-use Rattle.request_book.specs.work.Named.{stands_at}
+use Rattle.request_book.specs.Step.{rider_becomes, vehicle_becomes}
+use Rattle.request_book.specs.work.Named.{stands_at, takes_in, lets_out}
 use Rattle.request_book.specs.work.Table.{answer, submit_refusal, submit_step, cancel_step, report_step, pickup_step, dropoff_step, seal_refusal, seal_step, close_step}
 
 -- where the first refusal of a list is none, none of them holds
@@ -51,9 +50,6 @@ aboard_left vehicle (Aboard v) e = refl
 aboard_left vehicle GivenUp e = absurd cc
 aboard_left vehicle Delivered e = absurd cc
 aboard_left vehicle Expired e = absurd cc
-
-pub pool_id-active : (r : BookRider) (id : ℕ) → is_active r.status ≡ true → r.id ≡ id → pool_id r ≡ Some id
-pool_id-active r id active e = rw active (ap Some e)
 
 pub fifth-none : (a b d e f : Option BookRefusal) → first_of (a ∷ b ∷ d ∷ e ∷ f ∷ []) ≡ None → f ≡ None
 fifth-none a b d e f none =

@@ -16,8 +16,8 @@ use Rattle.request_book.specs.work.Refusals.{first_of, duplicate_rider, unknown_
 use Rattle.request_book.specs.Sealing.{sealed_state}
 use Rattle.pool_io.specs.Faults.{one_more}
 use Rattle.request_book.specs.work.Closing.{closed_state}
-use Rattle.request_book.specs.Step.{rider_becomes, vehicle_becomes, takes_in, lets_out}
-use Rattle.request_book.specs.work.Named.{stands_at}
+use Rattle.request_book.specs.Step.{rider_becomes, vehicle_becomes}
+use Rattle.request_book.specs.work.Named.{stands_at, takes_in, lets_out}
 
 -- a refusal changes nothing; without one the reply and the new state are these
 abbrev pub answer : State → Option BookRefusal → Reply → State → State × Reply

@@ -10,7 +10,7 @@ use Rattle.route_drive.specs.Day.{day_fault}
 use Rattle.route_drive.specs.declared.day.DayFault.{DayFault}
 use Rattle.script_rows.specs.Round.{NumberedLanes}
 use Rattle.script_rows.specs.declared.fault.ScriptFault.{ScriptFault}
-use Rattle.ridepool.specs.Explained.{HidesNoMemory}
+use Rattle.ridepool.specs.work.Ended.{HidesNoMemory}
 use Rattle.ridepool.specs.Inputs.{Inputs, IsWithin, IsSourceTooLong, Reads, AreInputs, AreReadFrom, AreUntouched, IsStop}
 use Rattle.ridepool.specs.Reading.{network_in, vehicles_in}
 use Rattle.dispatch_report.specs.Written.{Change}

@@ -21,11 +21,16 @@ use Rattle.route_drive.specs.declared.day_run.DriveFault.{DriveFault}
 use Rattle.route_drive.specs.declared.day_run.DriveFault.TheVariants as drive
 use Rattle.script_rows.specs.Round.{NumberedLanes}
 use Rattle.ridepool.specs.Inputs.{Inputs}
-use Rattle.ridepool.specs.Report.{added_text, journals_of, rounds_text, rounds_notices, Begins, IsWhole, IsPart}
+use Rattle.ridepool.specs.Report.{added_text, journals_of, rounds_notices, Begins, IsWhole, IsPart}
 use Rattle.dispatch_report.specs.declared.fault.ReportFault.{ReportFault}
 use Rattle.dispatch_report.specs.declared.fault.ReportFault.TheVariants as report
 use Rattle.ridepool.specs.declared.status.RunStatus.{RunStatus}
 use Rattle.ridepool.specs.declared.status.RunStatus.TheVariants.{WriteFault, OutOfMemory, TooLate}
+use Rattle.std.specs.List.{flat_map}
+
+-- what rounds add, one after the other
+abbrev pub rounds_text : Settings → List DayRound → List ℕ
+rounds_text s made = flat_map (added_text s.mode s.proof) made
 
 -- the end of a run whose text wasn't written whole
 abbrev pub status_of : ReportFault → RunStatus

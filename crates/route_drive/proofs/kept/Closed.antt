@@ -33,8 +33,8 @@ use Rattle.std.proofs.lemmas.Bool.{false≢true, true≢false}
 use Rattle.plan_rules.proofs.lemmas.GraphLemmas.{times_served_some, times_served_found, in_choice}
 use Rattle.plan_rules.specs.Graph.{choice_at, riders_at, is_in}
 use Rattle.promise_check.specs.work.Named.{no_request}
-use Rattle.request_book.specs.Closing.{picks, planned_status, after_plan}
-use Rattle.request_book.specs.work.Named.{in_batch}
+use Rattle.request_book.specs.Closing.{picks, after_plan}
+use Rattle.request_book.specs.work.Named.{in_batch, planned_status}
 use Rattle.request_book.specs.Keyed.{look_up}
 use Rattle.request_book.specs.Rider.{with_status, is_active}
 use Rattle.request_book.specs.declared.outcome.ChosenTrip.{ChosenTrip}
@@ -90,9 +90,6 @@ module _ (settings : Settings) (roads : Roads) (s : State) (stops : ℕ → List
 
   abbrev pub planned_state : State
   planned_state = record s { riders = map (after_plan b.riders (picks planned.chosen)) s.riders; sealed = None }
-
-  abbrev Trip' : ℕ → Type 0
-  Trip' k = HasTrip settings roads s stops b settled points times kept shows early limits table planned good k
 
   chosen_found : (k : ℕ) (own : HasTrip settings roads s stops b settled points times kept shows early limits table planned good k) → look_up (λ (t : ChosenTrip). t.vehicle) own.t.vehicle planned.chosen ≡ Some own.t
   chosen_found k own = look_up_only (λ (t : ChosenTrip). t.vehicle) planned.chosen k own.t own.chosen (λ j u e same.

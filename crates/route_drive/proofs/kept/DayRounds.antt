@@ -12,7 +12,8 @@ use Rattle.request_book.specs.declared.command.Command.{Command}
 use Rattle.request_book.specs.declared.command.Command.TheVariants.{Submit, Seal}
 use Rattle.script_rows.specs.Round.{IsRound, MayStand, NumberedLanes, empty_round, lane_at}
 use Rattle.route_drive.specs.declared.day.DayFault.TheVariants as fault
-use Rattle.route_drive.specs.Day.{back_fault, day_fault, fault_at, first_seal, is_of_day, is_seal, lane_fault, latest_seal, round_fault, seal_of, seals_fault}
+use Rattle.route_drive.specs.Day.{back_fault, day_fault, first_seal, is_of_day, is_seal, lane_fault, latest_seal, round_fault, seal_of, seals_fault}
+use Rattle.route_drive.specs.work.Drive.{fault_at}
 use Rattle.route_drive.proofs.kept.Lists.{both, all_weaker}
 use Rattle.route_drive.proofs.kept.Mixed.{IsRequest}
 

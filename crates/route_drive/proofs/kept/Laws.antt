@@ -24,11 +24,11 @@ use Rattle.std.proofs.lemmas.List.Elements.{All-nil}
 use Rattle.road_network.specs.Roads.{has_node}
 use Rattle.route_drive.specs.work.Serving.{IsKept, IsDone, IsBound}
 use Rattle.route_drive.specs.Promises.{TellsNothingLate}
-use Rattle.route_drive.specs.work.Kept.{StopsAreAnswered, ReportsAreServed, RequestsLeaveAll, SealsKeep, NoPromiseLapses, ClosesKeep, IsClosedOn, closed, stops_after, OpeningIsKept}
+use Rattle.route_drive.specs.work.Kept.{StopsAreAnswered, ReportsAreServed, SealsKeep, NoPromiseLapses, ClosesKeep, IsClosedOn, closed, stops_after, OpeningIsKept}
 use Rattle.route_drive.proofs.kept.Lists.{all_weaker}
 use Rattle.route_drive.proofs.kept.Replies.{close_is}
 use Rattle.route_drive.proofs.kept.States.{pickup_done, dropoff_done, report_done}
-use Rattle.route_drive.proofs.kept.Sealing.{submit_done, sealed_kept, sealed_shows, sealed_bounds}
+use Rattle.route_drive.proofs.kept.Sealing.{sealed_kept, sealed_shows, sealed_bounds}
 use Rattle.route_drive.proofs.kept.Reported.{reported_there}
 use Rattle.route_drive.proofs.kept.Lapse.{all_in_time, nothing_lapses}
 use Rattle.route_drive.proofs.kept.Closed.{closed_kept, closed_bounds}
@@ -47,9 +47,6 @@ reports_are_served settings roads s v free now target stops there net day at nam
     (all_weaker (λ (stop : PlannedStop). (has_node roads.nodes stop.node ≡ true) × (now < stop.second)) (λ (stop : PlannedStop). now < stop.second) (λ stop h. h.1) stops later)
     serves.reached reported in
     (is.by, report_done settings roads s day v at free there.node there.second stops is.named is.later serves is.reached)
-
-pub requests_leave_all : RequestsLeaveAll
-requests_leave_all settings roads s rider origin destination time party day = submit_done settings roads s rider origin destination time party day
 
 pub seals_keep : SealsKeep
 seals_keep settings roads s stops now reply kept later on is = record {

@@ -42,8 +42,8 @@ use Rattle.plan_rules.specs.Graph.{choice_at, riders_at, is_in}
 use Rattle.promise_check.specs.Requests.{IsLegOf}
 use Rattle.promise_check.specs.work.Named.{no_request}
 use Rattle.promise_check.specs.Settling.{IsPlaced}
-use Rattle.request_book.specs.Closing.{picks, trip_picks, planned_status, after_plan}
-use Rattle.request_book.specs.work.Named.{in_batch}
+use Rattle.request_book.specs.Closing.{picks, trip_picks, after_plan}
+use Rattle.request_book.specs.work.Named.{in_batch, planned_status}
 use Rattle.request_book.specs.Keyed.{look_up, KeysDiffer}
 use Rattle.request_book.specs.Rider.{with_status, passenger_of, is_active}
 use Rattle.request_book.specs.declared.outcome.ChosenTrip.{ChosenTrip}
@@ -104,14 +104,6 @@ after_is batch ps r active among = cond-true (is_active r.status && in_batch bat
 
 pub after_stays : (batch : List Rider) (ps : List PlanPick) (r : BookRider) → is_active r.status ≡ false → after_plan batch ps r ≡ r
 after_stays batch ps r active = rw active refl
-
--- a plan changes the status alone
-same_but_status : (batch : List Rider) (ps : List PlanPick) (r : BookRider) → (t : Status) × (after_plan batch ps r ≡ with_status t r)
-same_but_status batch ps r = by (is_active r.status && in_batch batch r.id)
-  where
-    by : (b : Bool) → (t : Status) × (cond b (with_status (planned_status ps r.id) r) r ≡ with_status t r)
-    by true = (planned_status ps r.id, refl)
-    by false = (r.status, refl)
 
 module _ (settings : Settings) (roads : Roads) (s : State) (stops : ℕ → List PlannedStop) (b : Batch) (settled : Settled) (points : List ℕ) (times : Times)
     (kept : IsKept settings roads s stops) (shows : ShowsRiders s b) (early : (id : ℕ) (v : Vehicle) → find_vehicle id s.vehicles ≡ Some v → b.sealed_at ≤ v.time)

@@ -19,7 +19,8 @@ use Rattle.route_drive.specs.declared.course.Course.{Course}
 use Rattle.route_drive.specs.declared.day_run.DayRound.{DayRound}
 use Rattle.route_drive.specs.Counts.{entries_of}
 use Rattle.route_drive.specs.Day.{day_fault}
-use Rattle.route_drive.specs.Driven.{HasDrivenToTheEnd, IsDrivenDay, IsNewBook, IsPrecededBy, at_rest, courses_from, first_courses, number_after}
+use Rattle.route_drive.specs.Driven.{HasDrivenToTheEnd, IsDrivenDay, IsNewBook, IsPrecededBy, courses_from, first_courses, number_after}
+use Rattle.route_drive.specs.work.Drive.{at_rest}
 use Rattle.route_drive.specs.Entering.{left_commands}
 use Rattle.route_drive.specs.work.Kept.{course_of}
 use Rattle.route_drive.specs.Promises.{DaysKeep, EntriesKeep}

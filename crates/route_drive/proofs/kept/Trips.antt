@@ -112,7 +112,7 @@ module _ (settings : Settings) (roads : Roads) (s : State) (stops : ℕ → List
   pub trip_is : (k row : ℕ) → k < length settled.vehicles → choice_at good.chosen k ≡ Some row → IsTrip (length b.riders) (riders_at good.graph row) × (length (riders_at good.graph row) ≤ settings.trip)
   trip_is k row h e =
       let own = row_of k row h e in
-      let right = good.exact.exact.right row no_row own.within in
+      let right = good.exact.right row no_row own.within in
       (subst (λ n. IsTrip n (riders_at good.graph row)) limits.rider_count right.served.riders, right.served.size)
 
   -- no rider is in two trips

@@ -1,10 +1,15 @@
 -- Counts, entry by entry.
-use Rattle.std.specs.Prelude.{List, [], ◌∷◌, ◌++◌}
+use Rattle.std.specs.Prelude.{ℕ, List, [], ◌∷◌, ◌++◌}
+use Rattle.std.specs.List.{AllZip}
 use Rattle.request_book.specs.declared.journal.Entry.{Entry}
 use Rattle.request_book.specs.declared.rider.BookRider.{BookRider}
 use Rattle.road_network.specs.Roads.{Roads}
 use Rattle.route_drive.specs.declared.counts.Counts.{Counts}
-use Rattle.route_drive.specs.Counts.{AreCounts}
+use Rattle.route_drive.specs.Counts.{AreCounts, IsDelayOf}
+
+-- these are the delays of drop-offs, in order
+abbrev pub AreDelaysOf : Roads → List BookRider → List Entry → List ℕ → Type 0
+AreDelaysOf roads riders entries delays = AllZip (IsDelayOf roads riders) entries delays
 
 -- these are the counts of entries
 abbrev pub HasCounts : Roads → List BookRider → List Entry → Counts → Type 0

@@ -1,5 +1,5 @@
 -- A day under way.
-use Rattle.std.specs.Prelude.{◌≡◌, ◌≢◌, ℕ, List, [], ◌∷◌, ◌++◌, Some, All, length, map}
+use Rattle.std.specs.Prelude.{◌≡◌, ◌≢◌, ℕ, List, [], ◌∷◌, ◌++◌, Some, All, length, map, Option, take, slice_index_or, None, ◌+◌, nat_le, find}
 use Rattle.std.specs.List.{Any}
 use Rattle.request_book.specs.Book.{BookView, next_position}
 use Rattle.request_book.specs.Replay.{state_after}
@@ -7,7 +7,7 @@ use Rattle.request_book.specs.declared.journal.Journal.{Journal}
 use Rattle.request_book.specs.declared.state.State.{State}
 use Rattle.rider_limits.specs.declared.settings.Settings.{Settings}
 use Rattle.road_network.specs.Roads.{Roads}
-use Rattle.script_rows.specs.Round.{NumberedLanes, lane_at}
+use Rattle.script_rows.specs.Round.{NumberedLanes, lane_at, empty_round}
 use Rattle.dispatch_engine.specs.Run.{IsReady, IsRoundRun, position_after_run}
 use Rattle.route_drive.specs.declared.course.Course.{Course}
 use Rattle.route_drive.specs.declared.day_run.DayRound.{DayRound}
@@ -15,9 +15,29 @@ use Rattle.route_drive.specs.declared.day_run.DriveFault.{DriveFault}
 use Rattle.route_drive.specs.declared.day_run.DriveFault.TheVariants as fault
 use Rattle.route_drive.specs.declared.entering.Stopped.{Stopped}
 use Rattle.route_drive.specs.declared.entering.Stopped.TheVariants as stop
-use Rattle.route_drive.specs.Day.{seal_of}
+use Rattle.route_drive.specs.Day.{seal_of, round_fault, latest_seal}
 use Rattle.route_drive.specs.Driven.{HasDriven, IsDrivenRound, courses_after, courses_from, number_after, state_left}
 use Rattle.route_drive.specs.Entering.{EntersTooLate, IsInTime, IsTooLate, left_commands}
+use Rattle.route_drive.specs.declared.day.DayFault.{DayFault}
+use Rattle.batch_snapshot.specs.declared.vehicle.Vehicle.{Vehicle}
+use Rattle.route_drive.specs.declared.course.Standing.{Standing}
+use Rattle.route_drive.specs.declared.walk.WalkStep.{WalkStep}
+
+-- where a vehicle was reported, and from when on it can leave
+abbrev pub reported_place : Vehicle → Standing
+reported_place v = record { node = v.node; second = v.time; free = v.time }
+
+-- the first step that is reached by now or later, by a walk that is left at a second
+abbrev pub step_from : ℕ → ℕ → List WalkStep → Option WalkStep
+step_from now left steps = find (λ step. nat_le now (left + step.seconds)) steps
+
+-- nothing is on its way
+abbrev pub at_rest : Course
+at_rest = record { stops = record { items = [] }; target = None }
+
+-- why the round of a number is refused, if it is
+abbrev pub fault_at : List NumberedLanes → ℕ → Option DayFault
+fault_at rounds k = round_fault (latest_seal (take k rounds)) (slice_index_or rounds k (empty_round 0))
 
 -- rounds of a day were driven from a state; the book and what is on its way are as they leave them
 pub record IsUnderWay (settings : Settings) (roads : Roads) (s : State) (rounds : List NumberedLanes) (book : BookView) (courses : List Course) (made : List DayRound) : Type 0 where

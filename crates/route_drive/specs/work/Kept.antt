@@ -12,7 +12,7 @@ use Rattle.request_book.specs.Consistent.{IsNode}
 use Rattle.request_book.specs.Sealing.{batch_of, sealed_state}
 use Rattle.request_book.specs.State.{find_vehicle}
 use Rattle.request_book.specs.Step.{step}
-use Rattle.request_book.specs.declared.command.Command.TheVariants.{Submit, Report, Seal, Close}
+use Rattle.request_book.specs.declared.command.Command.TheVariants.{Report, Seal, Close}
 use Rattle.request_book.specs.declared.outcome.Answer.{Answer}
 use Rattle.request_book.specs.declared.outcome.Answer.TheVariants as answer
 use Rattle.request_book.specs.declared.outcome.Outcome.{Outcome}
@@ -26,7 +26,7 @@ use Rattle.route_drive.specs.declared.course.Course.{Course}
 use Rattle.route_drive.specs.declared.course.Place.{Place}
 use Rattle.route_drive.specs.Entering.{IsReported, goal_of, stop_command}
 use Rattle.route_drive.specs.Promises.{IsClosedInTime}
-use Rattle.route_drive.specs.work.Serving.{IsServing, IsDayState, IsKept, IsDone, LeavesAll, KeepsBounds, ShowsRiders, chosen_stops}
+use Rattle.route_drive.specs.work.Serving.{IsServing, IsDayState, IsKept, IsDone, KeepsBounds, ShowsRiders, chosen_stops}
 
 -- the state with which a day begins: nothing is on its way, nobody is promised or aboard
 abbrev pub OpeningIsKept : Type 0
@@ -52,11 +52,6 @@ ReportsAreServed = (settings : Settings) (roads : Roads) (s : State) (v : Vehicl
     → AreLater roads now stops → IsServing settings roads s.riders v free stops
     → IsReported roads now (record { node = v.node; second = v.time; free = free }) (goal_of target stops) there
     → (now ≤ there.second) × IsDone settings roads s (Report v.id there.node there.second) Placed v.id there.node there.second there.second stops
-
--- a request, accepted or refused, leaves every vehicle as it was, and what it serves
-abbrev pub RequestsLeaveAll : Type 0
-RequestsLeaveAll = (settings : Settings) (roads : Roads) (s : State) (rider origin destination time party : ℕ) → IsDayState roads s
-    → LeavesAll settings roads s (step roads.nodes settings.wait s (Submit rider origin destination time party)).0
 
 -- what is on its way for the vehicle of an id
 abbrev pub course_of : List Vehicle → List Course → ℕ → Course

@@ -1,7 +1,6 @@
 -- The nodes of a tree, judged one after the other.
 use Rattle.std.proofs.Common.{◌≡◌, ℕ, suc, ◌+◌, ◌<◌, ℤ, pos, ◌≤ℤ◌, ◌<ℤ◌, List, [], ◌∷◌, ◌++◌, length, get_or, take, drop, All, Contains, refl, sym, ap, ◌∙◌, subst, ⊎_elim, arith}
 use Rattle.std.proofs.Math.Seq.{drop-cons}
-use Rattle.std.proofs.lemmas.Int.{ints}
 use Rattle.std.proofs.lemmas.List.{take_more, take-append-drop}
 use Rattle.std.proofs.lemmas.List.Elements.{All-push, All-contains, Contains-append_right}
 use Rattle.plan_rules.specs.Graph.{Graph}
@@ -42,14 +41,6 @@ branch_agrees g bound u w (Branch v k) agree h =
 
 pub fair_agrees : (g : Graph) (bound : ℤ) (u w : Usable) (n : Node) → Agree g u w → IsFairNode g bound u n → IsFairNode g bound w n
 fair_agrees g bound u w n agree fair = record { leaf = leaf_agrees g u w n agree fair.leaf; branch = branch_agrees g bound u w n agree fair.branch }
-
--- a number is below the limit exactly where it is below both costs
-pub justified_from : (g : Graph) (bound : ℤ) (usable : Usable) (limit : ℕ) → IsLimit g limit → rounded_up (first_fit_value g usable) ≤ℤ bound → rounded_up (first_fit_value g usable) <ℤ pos limit → IsJustified g bound usable
-justified_from g bound usable limit is low below = record {
-  at_most = low;
-  below_held = (let h = is.held in omega (arith, ints, below, h));
-  below_greedy = λ chosen greedy lawful. let h = is.greedy chosen greedy lawful in omega (arith, ints, below, h);
-}
 
 pub below_limit : (g : Graph) (bound : ℤ) (usable : Usable) (limit : ℕ) → IsLimit g limit → IsJustified g bound usable → rounded_up (first_fit_value g usable) <ℤ pos limit
 below_limit g bound usable limit is just = ⊎_elim

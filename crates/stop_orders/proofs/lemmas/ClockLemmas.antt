@@ -14,10 +14,6 @@ pub lateness-le : (v : Visit) (a b : ℕ) → a ≤ b → lateness v a ≤ laten
 lateness-le (Pickup place latest party) a b h = omega arith
 lateness-le (Dropoff place latest ideal party) a b h = omega arith
 
--- a travel time that is one at all is at most the longest
-pub hop_short : (points : ℕ) (tau : ℕ → ℕ → ℕ) → IsTravelTime points tau → (a b : ℕ) → tau a b < never → tau a b ≤ longest
-hop_short points tau t a b h = t.range a b h
-
 -- over a middle place one gets to wherever one gets from there, no sooner than directly
 pub two_hops : (points : ℕ) (tau : ℕ → ℕ → ℕ) → IsTravelTime points tau → (a b c : ℕ) → tau a b < never → tau b c < never → (tau a c < never) × (tau a c ≤ tau a b + tau b c)
 two_hops points tau t a b c h k =
@@ -38,14 +34,6 @@ soon_there tau p f g h = record { soon = λ x r. (r, omega arith) }
 pub soon_over : (points : ℕ) (tau : ℕ → ℕ → ℕ) → IsTravelTime points tau → (p f q g : ℕ) → tau p q < never → f + tau p q ≤ g → AtLeastAsSoon tau p f q g
 soon_over points tau t p f q g reach h = record {
   soon = λ x r. let hops = two_hops points tau t p q x reach r in (hops.0, omega (arith, hops.1));
-}
-
-pub soon_trans : (tau : ℕ → ℕ → ℕ) (p f q g r h : ℕ) → AtLeastAsSoon tau p f q g → AtLeastAsSoon tau q g r h → AtLeastAsSoon tau p f r h
-soon_trans tau p f q g r h a b = record {
-  soon = λ x reach.
-      let second = b.soon x reach in
-      let first = a.soon x second.0 in
-      (first.0, omega (arith, first.1, second.1));
 }
 
 module _ (tau : ℕ → ℕ → ℕ) (dwell : ℕ) where

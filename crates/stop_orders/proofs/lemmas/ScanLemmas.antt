@@ -5,7 +5,7 @@ use Rattle.stop_orders.specs.declared.task.Task.{Task}
 use Rattle.stop_orders.specs.declared.stop.Stop.{Stop}
 use Rattle.stop_orders.specs.declared.position.Position.{Position}
 use Rattle.stop_orders.specs.Order.{IsKnown}
-use Rattle.stop_orders.specs.Visit.{place_of, lateness, Reaches, delay_from, seconds_from}
+use Rattle.stop_orders.specs.Visit.{place_of, Reaches, delay_from, seconds_from}
 use Rattle.stop_orders.specs.Task.{IsTask, IsOrderOf, Serves, visit_at, visits_of, ReachesAll, order_delay, seconds_of}
 use Rattle.stop_orders.specs.work.Position.{first_position, position_after, CanVisitFrom, ServesAt}
 use Rattle.stop_orders.proofs.lemmas.DoneLemmas.{length-IsOrder}
@@ -56,11 +56,6 @@ module _ (points : ℕ) (tau : ℕ → ℕ → ℕ) (task : Task) (stops : List 
         from = λ serves. scan.from (can.0, can.1, can.2, serves);
       })
 
-  pub serving_stuck : (s : Stop) (rest : List Stop) (p : Position) → ServingScan points tau task stops (s ∷ rest) p → (CanVisitFrom tau p (visit_at task s) → ⊥) → Serves tau task stops → ⊥
-  serving_stuck s rest p scan stuck serves =
-      let here = scan.to serves in
-      stuck (here.0, here.1, here.2)
-
 -- the delay so far and that of the rest are the delay of all
 pub record DelayScan (points : ℕ) (tau : ℕ → ℕ → ℕ) (task : Task) (stops rest : List Stop) (place free delay : ℕ) : Type 0 where
   pub known : AllByRecursion (IsKnown (length task.riders.items) (length task.aboard.items)) rest
@@ -84,31 +79,6 @@ module _ (points : ℕ) (tau : ℕ → ℕ → ℕ) (task : Task) (stops : List 
         from = λ r. r;
         sum = omega arith;
       }
-
-  pub delay_next : (s : Stop) (rest : List Stop) (place free delay to second late : ℕ) → DelayScan points tau task stops (s ∷ rest) place free delay
-      → to ≡ place_of (visit_at task s) → tau place to < never → second ≡ free + tau place to → second ≤ free + longest → late ≡ lateness (visit_at task s) second → late ≤ second
-      → DelayScan points tau task stops rest to (second + task.dwell) (delay + late)
-  delay_next s rest place free delay to second late scan e reach is short lateness_is late_small =
-      let here : tau place (place_of (visit_at task s)) < never = subst (λ x. tau place x < never) e reach in
-      let arrives : second ≡ free + tau place (place_of (visit_at task s)) = is ∙ ap (λ x. free + tau place x) e in
-      let lates : late ≡ lateness (visit_at task s) (free + tau place (place_of (visit_at task s))) = lateness_is ∙ ap (λ x. lateness (visit_at task s) x) arrives in
-      subst (λ x. DelayScan points tau task stops rest x (second + task.dwell) (delay + late)) (sym e)
-      (subst (λ x. DelayScan points tau task stops rest (place_of (visit_at task s)) (x + task.dwell) (delay + late)) (sym arrives) (record {
-        known = scan.known.1;
-        within = visit_place points task valid s scan.known.0;
-        soon = omega (arith, scan.soon, arrives, short, valid.dwell);
-        small = omega (arith, scan.small, scan.soon, short, late_small);
-        to = λ r. (scan.to r).1;
-        from = λ r. scan.from (here, r);
-        sum = omega (arith, scan.sum, lates);
-      }))
-
-  pub delay_stuck : (s : Stop) (rest : List Stop) (place free delay to : ℕ) → DelayScan points tau task stops (s ∷ rest) place free delay
-      → to ≡ place_of (visit_at task s) → tau place to ≡ never → ReachesAll tau task stops → ⊥
-  delay_stuck s rest place free delay to scan e none all =
-      let here : tau place (place_of (visit_at task s)) < never = (scan.to all).0 in
-      let there : tau place (place_of (visit_at task s)) ≡ never = sym (ap (λ x. tau place x) e) ∙ none in
-      omega (arith, here, there)
 
 -- of the stops from here on, the one at j is the one at k of all
 pub record SecondScan (points : ℕ) (tau : ℕ → ℕ → ℕ) (task : Task) (stops rest : List Stop) (k j place free : ℕ) : Type 0 where

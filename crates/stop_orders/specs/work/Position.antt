@@ -3,7 +3,7 @@ use Rattle.pool_base.specs.TravelTime.{never}
 use Rattle.stop_orders.specs.declared.position.Position.{Position}
 use Rattle.stop_orders.specs.declared.visit.Visit.{Visit}
 use Rattle.stop_orders.specs.declared.task.Task.{Task}
-use Rattle.stop_orders.specs.Visit.{place_of, latest_of, boarding_of, room_after, ServesFrom, delay_from}
+use Rattle.stop_orders.specs.Visit.{place_of, latest_of, boarding_of, room_after, ServesFrom}
 use Rattle.stop_orders.specs.Task.{free_seats}
 
 -- the position of the vehicle before its first stop
@@ -26,7 +26,3 @@ position_after tau dwell p v = record {
 -- the visits can be served from a position
 abbrev pub ServesAt : (ℕ → ℕ → ℕ) → ℕ → Position → List Visit → Type 0
 ServesAt tau dwell p vs = ServesFrom tau dwell p.place p.free p.room vs
-
--- the delay of visits from a position
-abbrev pub delay_at : (ℕ → ℕ → ℕ) → ℕ → Position → List Visit → ℕ
-delay_at tau dwell p vs = delay_from tau dwell p.place p.free vs

@@ -1,5 +1,5 @@
 use Rattle.std.proofs.Common.{◌≡◌, ◌≤◌, ◌*◌, take, sum_by}
-use Rattle.dispatch_report.specs.Summary.{pickups}
+use Rattle.dispatch_report.specs.work.Named.{pickups}
 use Rattle.dispatch_report.proofs.summary.pickups_of.Given as goal
 
 abbrev pub invariant-loop-trip : goal.invariant-loop-trip

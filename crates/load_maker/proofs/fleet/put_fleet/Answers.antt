@@ -1,6 +1,6 @@
 use Rattle.std.proofs.Common.{◌≡◌, ◌+◌, rules, arith}
-use Rattle.load_maker.specs.work.Parts.{draws_of}
-use Rattle.load_maker.specs.Texts.{vehicle_row, fleet_part}
+use Rattle.load_maker.specs.work.Parts.{draws_of, fleet_part}
+use Rattle.load_maker.specs.Texts.{vehicle_row}
 use Rattle.load_maker.proofs.PartLemmas.{Writes-each_all}
 use Rattle.load_maker.proofs.fleet.put_fleet.Goals as goal
 

@@ -1,7 +1,6 @@
 use Rattle.load_maker.specs.Part.{each}
-use Rattle.load_maker.specs.work.Parts.{draws_of}
+use Rattle.load_maker.specs.work.Parts.{draws_of, arcs_of_row}
 use Rattle.load_maker.specs.work.Written.{Writes}
-use Rattle.load_maker.specs.Texts.{arcs_of_row}
 use Rattle.load_maker.proofs.network.put_network.Given as goal
 
 abbrev pub invariant-loop-i : goal.invariant-loop-i

@@ -1,13 +1,13 @@
 use Rattle.std.proofs.Common.{[], ◌∷◌}
 use Rattle.std.proofs.lemmas.Result.{on_ok_weaker}
 use Rattle.load_maker.specs.Part.{plain, both}
-use Rattle.load_maker.specs.work.Parts.{draws_of, seal_row}
-use Rattle.load_maker.specs.Texts.{reports, submits, batch_rows}
+use Rattle.load_maker.specs.work.Parts.{draws_of, seal_row, reports, submits, all_reports}
+use Rattle.load_maker.specs.Texts.{batch_rows}
 use Rattle.load_maker.proofs.PartLemmas.{Writes-plain, Writes-both}
 use Rattle.load_maker.proofs.script.put_batch.Goals as goal
 
 pub returns : goal.returns
-unfolding batch_rows
+unfolding batch_rows reports all_reports submits
 returns c =
     let shape = c.args.shape.now in
     let k = c.args.k in

@@ -1,6 +1,6 @@
 use Rattle.std.proofs.Common.{sym, ◌∙◌}
 use Rattle.dispatch_report.specs.Block.{stop_text}
-use Rattle.report_lines.specs.Stops.{IsStop}
+use Rattle.report_lines.specs.work.Stops.{IsStop}
 use Rattle.report_lines.proofs.ListLemmas.{so_far_stuck, shorter_after}
 use Rattle.report_lines.proofs.StopLemmas.{stop_apart, stop_once, stop_some, stops_more, has_room}
 use Rattle.report_lines.proofs.stops.stops_to_end.Goals as goal

@@ -5,7 +5,8 @@ use Rattle.pool_base.specs.TravelTime.{longest}
 use Rattle.request_book.specs.declared.command.Command.{Command}
 use Rattle.request_book.specs.declared.command.Command.TheVariants.{Report}
 use Rattle.route_drive.specs.declared.course.Standing.{Standing}
-use Rattle.route_drive.specs.Entering.{IsInTime, IsReported, IsTooLate, due, goal_of, reported_place, standing_after, stop_command, to_come}
+use Rattle.route_drive.specs.Entering.{IsInTime, IsReported, IsTooLate, due, goal_of, standing_after, stop_command, to_come}
+use Rattle.route_drive.specs.work.Drive.{reported_place}
 use Rattle.route_drive.proofs.EnterLemmas.{any_last, due_in_time}
 use Rattle.route_drive.proofs.entering.enter_vehicle.Goals as goal
 

@@ -1,5 +1,5 @@
 use Rattle.std.proofs.Common.{◌≡◌, drop}
-use Rattle.route_drive.specs.Entering.{step_from}
+use Rattle.route_drive.specs.work.Drive.{step_from}
 use Rattle.route_drive.proofs.entering.first_step.Given as goal
 
 abbrev pub invariant-loop-step : goal.invariant-loop-step

@@ -2,7 +2,8 @@ use Rattle.std.proofs.Common.{◌≡◌, ◌<◌, ◌+◌, length, get_or, leb, 
 use Rattle.std.proofs.lemmas.Bool.{le-leb}
 use Rattle.request_book.specs.declared.outcome.PlannedStop.{PlannedStop}
 use Rattle.route_drive.specs.declared.course.Standing.{Standing}
-use Rattle.route_drive.specs.Entering.{due, reported_place, standing_after}
+use Rattle.route_drive.specs.Entering.{due, standing_after}
+use Rattle.route_drive.specs.work.Drive.{reported_place}
 use Rattle.route_drive.proofs.EnterLemmas.{filter_more, filter_same, lt-leb, standing-push}
 use Rattle.route_drive.proofs.entering.standing.Goals as goal
 use Rattle.route_drive.proofs.entering.standing.Goals.{then-stop-now, else-stop-now}

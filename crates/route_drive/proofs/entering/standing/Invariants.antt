@@ -1,6 +1,7 @@
 use Rattle.std.proofs.Common.{◌≡◌, ◌≤◌, ◌+◌, take}
 use Rattle.pool_base.specs.TravelTime.{longest}
-use Rattle.route_drive.specs.Entering.{due, reported_place, standing_after}
+use Rattle.route_drive.specs.Entering.{due, standing_after}
+use Rattle.route_drive.specs.work.Drive.{reported_place}
 use Rattle.route_drive.proofs.entering.standing.Given as goal
 
 abbrev pub invariant-loop-stop : goal.invariant-loop-stop

@@ -37,9 +37,9 @@ returns-then-is_better-clause-searched t c =
     let task = c.args.task.now in
     let label = c.args.label.now in
     let all = IsAllDone-at _ _ (task_riders task) (task_passengers task) label.done c.len.ensures.value c.len-2.ensures.value (c.is_all.ensures.0 c.if-is_all.true) in
-    let same : c.copy_of.result.items ≡ c.args.path.now.items = c.copy_of.ensures ∙ c.deref.ensures.0 in
+    let same : c.copy_of_stops.result.items ≡ c.args.path.now.items = c.copy_of_stops.ensures ∙ c.deref.ensures.0 in
     searched_better (point_count c.args.times.now) (travel_time c.args.times.now) c.args.times.now.table.times task c.requires.valid c.args.path.now.items c.args.path.now.items label c.args.best.now
-    (record { stops = c.copy_of.result; delay = label.delay }) (labels_of c.args.kept.now) c.requires.leads all same refl (λ n. true≢false (sym c.if-is_better.true ∙ c.is_better.ensures.1 n)) c.requires.settled
+    (record { stops = c.copy_of_stops.result; delay = label.delay }) (labels_of c.args.kept.now) c.requires.leads all same refl (λ n. true≢false (sym c.if-is_better.true ∙ c.is_better.ensures.1 n)) c.requires.settled
 
 pub label_after-requires-clause-known : goal.label_after-requires-clause-known
 label_after-requires-clause-known t c =
