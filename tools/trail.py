@@ -27,7 +27,8 @@ HEADLINE = ("ridepool", "ridepool")
 
 TOKEN = re.compile(r"[^\s(){}\[\],;.`\"]+")
 HEAD = re.compile(r"^(?P<kind>abbrev|unfoldable|opaque)\s+(?:pub\s+)?(?P<names>[^:]+?)\s*:\s")
-SHAPE = re.compile(r"^(?:pub\s+)?(?:record|data)\s+(?P<names>\S+)")
+# a line that begins with a record's literal belongs to the definition above it
+SHAPE = re.compile(r"^(?:pub\s+)?(?:record|data)\s+(?P<names>[^\s{]\S*)")
 USE = re.compile(r"^(?P<open>pub\s+)?use\s+Rattle\.(?P<path>[\w.]+?)(?:\.\{(?P<names>[^}]*)\}|\s+as\s+(?P<alias>\S+))\s*;?\s*$")
 
 
