@@ -5,18 +5,26 @@
     tools/trail.py --list     one line for each definition on the way: depth, lines, place
     tools/trail.py --twice    names that stand for several definitions on the way
     tools/trail.py --write    writes the lists of docs/DEFINITIONS.md anew
+    tools/trail.py --stood COMMIT
+                              how many of the definitions on the headline's way at a commit stand, by name and in a crate
+                              that stood, and in how many lines
 
 There are two ways. The headline's begins at the clauses of `ridepool::ridepool`; the other at the clauses
 of all public functions and traits. A definition is passed where a clause, or a definition that was passed,
 names it. Definitions of the toolchain's library and the names that are made of the Rust types are not
 counted.
 
-A fault is: a definition on a way that lies in specs/work/; a file of specs/ that imports from specs/work/
-or from proofs/; a file of proofs/ that imports more than proofs/lemmas/ of another crate; a definition on a way without a
-line of comment; lists of docs/DEFINITIONS.md that are not the ways'.
+A fault is: a definition on a way that lies in specs/lemmas/ or specs/work/; a file of specs/ that imports from these
+or from proofs/, or one of specs/lemmas/ that imports from specs/work/; any file that imports from specs/work/ of another
+crate; a file of proofs/ that imports more than proofs/lemmas/ of another crate; a definition on a way without a line of
+comment; lists of docs/DEFINITIONS.md that are not the ways'.
 """
+import io
 import re
+import subprocess
 import sys
+import tarfile
+import tempfile
 from collections import defaultdict, deque
 from pathlib import Path
 
@@ -49,7 +57,7 @@ class Definition:
 
     @property
     def is_work(self):
-        return ".specs.work" in self.module or not ".specs." in self.module
+        return ".specs.work" in self.module or ".specs.lemmas" in self.module or not ".specs." in self.module
 
     def place(self):
         return str(self.path.relative_to(CRATES).with_suffix(""))
@@ -233,7 +241,7 @@ def walk(starts, definitions, names, passed_on):
 
 def figures(way, definitions):
     chosen = [definitions[k] for k in way]
-    return (f"{len(chosen)} definitions, {sum(len(d.lines) for d in chosen)} lines, {len({d.module for d in chosen})} files, "
+    return (f"{len(chosen)} definitions, {lines_of(chosen)} lines, {len({d.module for d in chosen})} files, "
             f"{len({d.crate for d in chosen})} crates, {max(way.values(), default=0)} deep")
 
 
@@ -244,13 +252,20 @@ def faults_of_files():
             continue
         for used, _, _ in uses_of(path.read_text()):
             parts = used.split(".")
-            if "work" not in path.parts and ("work" in parts[1:3] or "proofs" in parts):
+            hidden = {"work"} if "lemmas" in path.parts else set() if "work" in path.parts else {"lemmas", "work"}
+            if hidden & set(parts[2:3]) or "proofs" in parts:
                 found.append(f"{path.relative_to(TOP)} imports {used}")
     for path in sorted(CRATES.glob("*/proofs/**/*.antt")):
         crate = path.relative_to(CRATES).parts[0]
         for used, _, _ in uses_of(path.read_text()):
             parts = used.split(".")
             if parts[1:2] == ["proofs"] and parts[2:3] != ["lemmas"] and parts[0] != crate and (CRATES / parts[0]).is_dir():
+                found.append(f"{path.relative_to(TOP)} imports {used}")
+    for path in sorted([*CRATES.glob("*/src/**/*.rt"), *CRATES.glob("*/specs/**/*.antt"), *CRATES.glob("*/proofs/**/*.antt")]):
+        crate = path.relative_to(CRATES).parts[0]
+        for used, _, _ in uses_of(path.read_text(), ghost=path.suffix == ".rt"):
+            parts = used.split(".")
+            if parts[1:3] == ["specs", "work"] and parts[0] != crate:
                 found.append(f"{path.relative_to(TOP)} imports {used}")
     return found
 
@@ -270,6 +285,31 @@ def listed(way, definitions):
     return "\n".join(out) + "\n"
 
 
+def headline_now():
+    """The definitions on the headline's way, in the crates at hand."""
+    definitions, names, passed_on = read_specs()
+    roots = read_clauses(definitions, passed_on)
+    return [definitions[key] for key in walk(roots[HEADLINE], definitions, names, passed_on)]
+
+
+def headline_at(commit):
+    """The same at a commit, and the crates that it has."""
+    global CRATES
+    archive = subprocess.run(["git", "archive", commit, "crates"], cwd=TOP, check=True, stdout=subprocess.PIPE).stdout
+    here = CRATES
+    with tempfile.TemporaryDirectory() as folder:
+        tarfile.open(fileobj=io.BytesIO(archive)).extractall(folder)
+        CRATES = Path(folder) / "crates"
+        try:
+            return headline_now(), {path.name for path in CRATES.iterdir()}
+        finally:
+            CRATES = here
+
+
+def lines_of(definitions):
+    return sum(len(d.lines) for d in definitions)
+
+
 BEGIN, END = "<!-- {}: begin -->", "<!-- {}: end -->"
 
 
@@ -281,6 +321,13 @@ def with_list(text, name, body):
 
 
 def main():
+    if "--stood" in sys.argv:
+        commit = sys.argv[sys.argv.index("--stood") + 1]
+        then, crates = headline_at(commit)
+        stood = {d.name for d in then}
+        now = [d for d in headline_now() if d.name in stood and d.crate in crates]
+        print(f"trail: at {commit} {len(then)} definitions, {lines_of(then)} lines; of these stand {len(now)}, in {lines_of(now)} lines")
+        return 0
     definitions, names, passed_on = read_specs()
     roots = read_clauses(definitions, passed_on)
     headline = walk(roots[HEADLINE], definitions, names, passed_on)
