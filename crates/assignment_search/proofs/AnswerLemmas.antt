@@ -9,7 +9,7 @@ use Rattle.plan_rules.specs.Plan.{IsLawful, cost_of}
 use Rattle.plan_rules.specs.Greedy.{IsGreedy}
 use Rattle.plan_rules.specs.Multipliers.{Usable, usable_of, leaf_value, first_fit_value}
 use Rattle.plan_rules.specs.Tree.{every_row, only_row, without_row, CanBranch, IsDeadEnd, Place, rounded_up}
-use Rattle.plan_rules.specs.work.Tree.{places, places_read, value_read}
+use Rattle.plan_rules.specs.lemmas.Tree.{places, places_read, value_read}
 use Rattle.plan_rules.specs.Reading.{ReadsTo}
 use Rattle.plan_rules.specs.declared.node.Node.{Node}
 use Rattle.plan_rules.specs.declared.node.Node.TheVariants.{Branch, Leaf, Dead}
@@ -19,9 +19,12 @@ use Rattle.plan_rules.proofs.lemmas.SearchTreeLemmas.{tree_of_reads, places_are,
 use Rattle.plan_rules.proofs.lemmas.UsableLemmas.{Agree, agree_back, leaf_value_agrees, first_fit_value_agrees, dead_end_agrees, may_use_agrees, can_branch_agrees}
 use Rattle.std.proofs.lemmas.Bool.{both_ways}
 use Rattle.plan_rules.specs.Size.{IsSmallSum}
-use Rattle.assignment_search.specs.Growth.{IsWorthBranching, IsGoodLeaf, IsGoodNode, IsGrown, HasUsable, IsFixed, IsSolePlan, IsLowest, HasLeaf, IsNewEnd, IsJudged, choice_count}
-use Rattle.assignment_search.specs.Found.{IsAtLeastFirstFit, IsBranchJustified, IsRightPlan, IsSearchAnswer, IsTreeSoFar, Shows}
-use Rattle.assignment_search.specs.Next.{IsParting, IsPartedAt}
+use Rattle.assignment_search.specs.work.Growth.{IsWorthBranching, IsGoodLeaf, IsGoodNode, IsGrown, HasUsable, IsFixed, IsSolePlan, IsLowest, HasLeaf, IsNewEnd, IsJudged}
+use Rattle.assignment_search.specs.Growth.{choice_count}
+use Rattle.assignment_search.specs.declared.found.Found.{Found}
+use Rattle.assignment_search.specs.Found.{IsAtLeastFirstFit, IsBranchJustified, IsRightPlan, IsSearchAnswer, Shows}
+use Rattle.assignment_search.specs.work.Found.{IsTreeSoFar}
+use Rattle.assignment_search.specs.work.Next.{IsParting, IsPartedAt}
 use Rattle.assignment_search.specs.declared.parting.Ends.{Ends}
 use Rattle.assignment_search.proofs.GrowthLemmas.{IsSplit, grown_split, grown_reads, grown_length, branched, raised, lowest_above, lowest_floor, value_is, leaves_fit, branches_justified, usable_here, usable_only, usable_without, reads_unique, rounded_up_mono}
 use Rattle.assignment_search.proofs.RiseLemmas.{value_rises, only_fewer, without_fewer}
@@ -278,3 +281,12 @@ answer g budget limit place plan cost nodes values bound tree good t lowest held
     subst (λ (z : ℤ). IsSearchAnswer g budget (record { plan = plan; cost = cost; bound = z; tree = tree })) (sym is)
     (subst (λ (ns : List Node). IsSearchAnswer g budget (record { plan = plan; cost = cost; bound = rounded_up (get_or values place (pos 0)); tree = ns })) (sym same)
     (answer_of g budget limit place plan cost nodes values good t lowest held greedy right done))
+
+-- the same of what is found, by its parts
+pub answer_found : (g : Graph) (budget limit place : ℕ) (plan : List (Option ℕ)) (nodes : List Node) (values : List ℤ) (found : Found) → IsGoodGraph g → IsTreeSoFar g budget limit nodes values → IsLowest nodes values place
+    → limit ≤ cost_of g g.held → ((chosen : List (Option ℕ)) → IsGreedy g chosen → IsLawful g chosen → limit ≤ cost_of g chosen) → IsRightPlan g plan found.cost
+    → (pos found.cost ≤ℤ rounded_up (get_or values place (pos 0))) ⊎ ((budget < length nodes + 2) × (budget < 2 * choice_count g every_row))
+    → found.plan ≡ plan → found.bound ≡ rounded_up (get_or values place (pos 0)) → found.tree ≡ nodes → IsSearchAnswer g budget found
+answer_found g budget limit place plan nodes values found good t lowest held greedy right done of is same =
+    answer g budget limit place found.plan found.cost nodes values found.bound found.tree good t lowest held greedy
+    (subst (λ (chosen : List (Option ℕ)). IsRightPlan g chosen found.cost) (sym of) right) done is same

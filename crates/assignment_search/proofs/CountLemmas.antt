@@ -10,7 +10,8 @@ use Rattle.plan_rules.specs.Reading.{coming_after, ReadsTo}
 use Rattle.plan_rules.specs.declared.node.Node.{Node}
 use Rattle.plan_rules.specs.declared.node.Node.TheVariants.{Branch, Leaf, Dead}
 use Rattle.plan_rules.proofs.lemmas.SumLemmas.{flag, sum_below_same, sum_below_plus, count_below_same, count_below_some}
-use Rattle.assignment_search.specs.Growth.{product_below, choice_count, IsGrown}
+use Rattle.assignment_search.specs.Growth.{product_below, choice_count}
+use Rattle.assignment_search.specs.work.Growth.{IsGrown}
 use Rattle.assignment_search.proofs.GrowthLemmas.{IsSplit, grown_reads}
 
 -- ---- products

@@ -7,7 +7,8 @@ use Rattle.plan_rules.specs.Graph.{Graph, IsRowOf, HasNoRow, choice_at, is_in}
 use Rattle.plan_rules.specs.Plan.{IsLawful, cost_of}
 use Rattle.plan_rules.proofs.lemmas.SumLemmas.{count_below_two}
 use Rattle.plan_rules.proofs.lemmas.GraphLemmas.{times_served_as_count}
-use Rattle.assignment_search.specs.Change.{HasNoBetterChange, BettersNothing, IsShared}
+use Rattle.assignment_search.specs.Change.{HasNoBetterChange}
+use Rattle.assignment_search.specs.work.Change.{BettersNothing, IsShared}
 
 none_some : (k : ℕ) → ◌≡◌ {A = Option ℕ} None (Some k) → ⊥
 none_some k e = cc

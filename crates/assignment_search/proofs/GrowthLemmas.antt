@@ -9,12 +9,12 @@ use Rattle.plan_rules.specs.Graph.{Graph, IsRowOf, row_vehicle}
 use Rattle.plan_rules.specs.Multipliers.{Usable, leaf_value, first_fit_value}
 use Rattle.plan_rules.specs.Tree.{every_row, only_row, without_row, CanBranch, rounded_up, least_leaf}
 use Rattle.plan_rules.specs.Reading.{IsSoundNode, coming_after, ReadsTo, places_from}
-use Rattle.plan_rules.specs.work.Tree.{value_read}
+use Rattle.plan_rules.specs.lemmas.Tree.{value_read}
 use Rattle.plan_rules.specs.Plan.{IsLawful, cost_of}
 use Rattle.plan_rules.specs.Greedy.{IsGreedy}
 use Rattle.plan_rules.specs.declared.node.Node.{Node}
 use Rattle.plan_rules.specs.declared.node.Node.TheVariants.{Branch, Leaf, Dead}
-use Rattle.assignment_search.specs.Growth.{IsWorthBranching, IsGoodLeaf, IsGoodNode, IsGrown, HasUsable, IsLowest, IsNewEnd}
+use Rattle.assignment_search.specs.work.Growth.{IsWorthBranching, IsGoodLeaf, IsGoodNode, IsGrown, HasUsable, IsLowest, IsNewEnd}
 use Rattle.assignment_search.specs.Found.{IsAtLeastFirstFit, IsBranchJustified}
 
 -- ---- grown trees are sound

@@ -15,8 +15,8 @@ use Rattle.std.proofs.lemmas.List.Sorted.{sum_by_popped}
 use Rattle.plan_rules.specs.Graph.{Graph, IsGoodGraph}
 use Rattle.plan_rules.specs.declared.node.Node.{Node}
 use Rattle.plan_rules.specs.declared.node.Node.TheVariants.{Branch, Leaf, Dead}
-use Rattle.assignment_search.specs.Growth.{IsLowest, HasLeaf}
-use Rattle.assignment_search.specs.Found.{IsTreeSoFar}
+use Rattle.assignment_search.specs.work.Growth.{IsLowest, HasLeaf}
+use Rattle.assignment_search.specs.work.Found.{IsTreeSoFar}
 use Rattle.assignment_search.proofs.AnswerLemmas.{so_far_leaf}
 use Rattle.assignment_search.specs.declared.open_leaves.OpenLeaf.{OpenLeaf}
 use Rattle.assignment_search.specs.declared.open_leaves.OpenLeaves.{OpenLeaves}

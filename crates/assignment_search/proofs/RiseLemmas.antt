@@ -8,7 +8,7 @@ use Rattle.plan_rules.specs.Graph.{Graph, IsRowOf, row_vehicle}
 use Rattle.plan_rules.specs.Multipliers.{Usable, is_usable_by, reduced_cost, vehicle_term, leaf_value}
 use Rattle.plan_rules.specs.Tree.{MayUse, only_row, without_row}
 use Rattle.plan_rules.proofs.lemmas.SumLemmas.{int_sum_le, least_below_some, least_below_none, least_below_found}
-use Rattle.assignment_search.specs.Growth.{HasUsable}
+use Rattle.assignment_search.specs.work.Growth.{HasUsable}
 
 not_some : (z : ℤ) → ◌≡◌ {A = Option ℤ} None (Some z) → ⊥
 not_some z e = cc

@@ -1,20 +1,19 @@
-use Rattle.std.specs.Prelude.{◌≡◌, ℕ, ◌+◌, ◌*◌, ◌<◌, ◌≤◌, List, [], ◌∷◌, length, ℤ, pos, ◌≤ℤ◌, ◌<ℤ◌, Option, All}
+use Rattle.std.specs.Prelude.{◌≡◌, ℕ, ◌+◌, ◌*◌, ◌<◌, ◌≤◌, List, length, ℤ, pos, ◌≤ℤ◌, ◌<ℤ◌, Option, All}
 use Rattle.plan_rules.specs.Graph.{Graph}
 use Rattle.plan_rules.specs.Plan.{IsLawful, cost_of}
 use Rattle.plan_rules.specs.Greedy.{IsGreedy}
 use Rattle.plan_rules.specs.Multipliers.{Usable, leaf_value, first_fit_value}
 use Rattle.plan_rules.specs.Tree.{every_row, SearchTree, IsTreeOf, places_within, tree_value, rounded_up}
 use Rattle.assignment_search.specs.Change.{HasNoBetterChange}
-use Rattle.assignment_search.specs.Growth.{choice_count, IsGrown}
+use Rattle.assignment_search.specs.Growth.{choice_count}
 use Rattle.assignment_search.specs.declared.found.Found.{Found}
 use Rattle.plan_rules.specs.declared.node.Node.{Node}
-use Rattle.plan_rules.specs.declared.node.Node.TheVariants.{Branch, Leaf, Dead}
+use Rattle.plan_rules.specs.declared.node.Node.TheVariants.{Branch, Leaf}
 
 -- a leaf's value is at least that of the first-fit multipliers over the rows usable at it
 abbrev pub IsAtLeastFirstFit : Graph → Usable → Node → Type 0
 IsAtLeastFirstFit g usable (Leaf ms) = first_fit_value g usable ≤ℤ leaf_value g usable ms
-IsAtLeastFirstFit g usable Dead = Unit {0}
-IsAtLeastFirstFit g usable (Branch v k) = Unit {0}
+IsAtLeastFirstFit g usable _ = Unit {0}
 
 -- a branch stands only where the first-fit value, in seconds, is at most the bound, below the held plan's cost,
 -- and below the greedy plan's where that is lawful
@@ -25,8 +24,7 @@ pub record IsJustified (g : Graph) (bound : ℤ) (usable : Usable) : Type 0 wher
 
 abbrev pub IsBranchJustified : Graph → ℤ → Usable → Node → Type 0
 IsBranchJustified g bound usable (Branch v k) = IsJustified g bound usable
-IsBranchJustified g bound usable (Leaf ms) = Unit {0}
-IsBranchJustified g bound usable Dead = Unit {0}
+IsBranchJustified g bound usable _ = Unit {0}
 
 -- the plan is lawful and costs this; no more than the held plan, than the greedy one where that is lawful, and than any plan that
 -- differs in one vehicle's row
@@ -53,10 +51,3 @@ pub record IsSearchAnswer (g : Graph) (budget : ℕ) (found : Found) : Type 0 wh
   pub root : rounded_up (first_fit_value g every_row) ≤ℤ found.bound
   pub limited : found.bound <ℤ pos found.cost → budget < length found.tree + 2
   pub closed : 2 * choice_count g every_row ≤ budget → found.bound ≡ pos found.cost
-
--- a tree that grows within this budget: it shows at least what the root's first-fit value does
-pub record IsTreeSoFar (g : Graph) (budget limit : ℕ) (nodes : List Node) (values : List ℤ) : Type 0 where
-  pub low : ℤ
-  pub root : rounded_up (first_fit_value g every_row) ≤ℤ low
-  pub grown : IsGrown g low limit (every_row ∷ []) nodes values []
-  pub short : length nodes ≤ budget

@@ -1,2 +1,8 @@
 pub mod Apart
 pub mod OpenLeaves
+pub mod Change
+pub mod Found
+pub mod Growth
+pub mod Lookups
+pub mod Marks
+pub mod Next

@@ -5,10 +5,11 @@ ghost use Rattle.plan_rules.specs.Greedy.{IsGreedy};
 ghost use Rattle.plan_rules.specs.Multipliers.{first_fit_value};
 ghost use Rattle.plan_rules.specs.Tree.{every_row, rounded_up};
 ghost use Rattle.plan_rules.specs.Graph.{IsGoodGraph};
-ghost use Rattle.assignment_search.specs.Lookups.{AreLookupsOf};
+ghost use Rattle.assignment_search.specs.work.Lookups.{AreLookupsOf};
 ghost use Rattle.assignment_search.specs.Change.{HasNoBetterChange};
 ghost use Rattle.assignment_search.specs.Found.{Shows, IsSearchAnswer};
-ghost use Rattle.assignment_search.specs.Growth.{IsGoodLeaf, choice_count};
+ghost use Rattle.assignment_search.specs.work.Growth.{IsGoodLeaf};
+ghost use Rattle.assignment_search.specs.Growth.{choice_count};
 
 use crate::child::Judged;
 use crate::exchange::exchange;
@@ -23,12 +24,19 @@ use crate::root::root_leaf;
 use crate::step::{Outcome, next};
 use plan_rules::{Node, Plan, Tree, TripGraph, cost_of};
 use pool_base::OutOfMemory;
+use row_tables::Drafter;
 use std::alloc::Global;
 
 /// A lawful plan and a bound on every lawful plan's cost, with a tree of at most `budget` nodes that shows it.
 ///
-/// The bound meets the cost unless the budget has no room for another branch.
-pub fn search(alloc: Global, graph: &TripGraph, budget: u32) -> Result<Found, OutOfMemory>
+/// The bound meets the cost unless the budget has no room for another branch. The search follows a draft, and
+/// judges all that it takes of it.
+pub fn search<D: Drafter>(
+    alloc: Global,
+    graph: &TripGraph,
+    budget: u32,
+    drafter: &D,
+) -> Result<Found, OutOfMemory>
     requires { 1 ≤ budget }
     ensures lawful { IfOk result (λ found. IsLawful graph.now found.plan) }
     ensures cost { IfOk result (λ found. found.cost ≡ cost_of graph.now found.plan) }
@@ -41,15 +49,20 @@ pub fn search(alloc: Global, graph: &TripGraph, budget: u32) -> Result<Found, Ou
     ensures limited { IfOk result (λ found. found.bound <ℤ pos found.cost → budget < length found.tree + 2) }
     ensures closed { IfOk result (λ found. 2 * choice_count graph.now every_row ≤ budget → found.bound ≡ pos found.cost) }
 {
-    run(alloc, graph, budget)
+    run(alloc, graph, budget, drafter)
 }
 
-fn run(alloc: Global, graph: &TripGraph, budget: u32) -> Result<Found, OutOfMemory>
+fn run<D: Drafter>(
+    alloc: Global,
+    graph: &TripGraph,
+    budget: u32,
+    drafter: &D,
+) -> Result<Found, OutOfMemory>
     requires { 1 ≤ budget }
     ensures { IfOk result (IsSearchAnswer graph.now budget) }
 {
     let plan = first_plan(alloc, graph)?;
-    let mut guide = Guide::new(alloc, graph, budget as usize)?;
+    let mut guide = Guide::new(alloc, graph, budget as usize, drafter)?;
     let lookups = Lookups::new(alloc, graph, guide.table())?;
     let root = root_leaf(alloc, graph, &lookups, &guide)?;
     branch(alloc, graph, budget, &lookups, &mut guide, plan, root)
@@ -106,30 +119,31 @@ fn branch(
                 plan = better;
             }
             Outcome::Met => {
-                return Ok(Found {
-                    plan,
-                    cost: limit,
-                    bound,
-                    tree: Tree::of(nodes),
-                });
+                return Ok(found_of(graph, plan, bound, nodes));
             }
             Outcome::Fixed(best) => {
-                return Ok(Found {
-                    cost: cost_of(graph, &best),
-                    plan: best,
-                    bound,
-                    tree: Tree::of(nodes),
-                });
+                return Ok(found_of(graph, best, bound, nodes));
             }
             Outcome::Full => {
                 let best = exchange(alloc, graph, plan)?;
-                return Ok(Found {
-                    cost: cost_of(graph, &best),
-                    plan: best,
-                    bound,
-                    tree: Tree::of(nodes),
-                });
+                return Ok(found_of(graph, best, bound, nodes));
             }
         }
+    }
+}
+
+/// What is found: a plan with its cost, and these nodes with their bound.
+fn found_of(graph: &TripGraph, plan: Plan, bound: i128, nodes: Vec<Node>) -> Found
+    requires { IsLawful graph.now plan }
+    ensures plan { result.plan ≡ plan }
+    ensures cost { result.cost ≡ cost_of graph.now plan }
+    ensures bound { result.bound ≡ bound }
+    ensures tree { result.tree ≡ nodes.items }
+{
+    Found {
+        cost: cost_of(graph, &plan),
+        plan,
+        bound,
+        tree: Tree::of(nodes),
     }
 }

@@ -2,7 +2,7 @@
 ghost use Rattle.std.specs.Prelude.{◌≡◌, ◌≢◌, ◌<◌, ◌≤◌, ℕ, IfSome, IfNone, length};
 ghost use Rattle.plan_rules.specs.Multipliers.{usable_of};
 ghost use Rattle.plan_rules.specs.Tree.{CanBranch, MayUse};
-ghost use Rattle.assignment_search.specs.Growth.{IsFixed};
+ghost use Rattle.assignment_search.specs.work.Growth.{IsFixed};
 
 use plan_rules::TripGraph;
 

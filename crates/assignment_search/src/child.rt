@@ -2,9 +2,9 @@
 ghost use Rattle.std.specs.Prelude.{◌≡◌, ◌≤ℤ◌, ◌<◌, true, IfOk, length};
 ghost use Rattle.plan_rules.specs.Multipliers.{usable_of, leaf_value, first_fit_value};
 ghost use Rattle.plan_rules.specs.Size.{IsSmallSum};
-ghost use Rattle.assignment_search.specs.Lookups.{AreLookupsOf};
+ghost use Rattle.assignment_search.specs.work.Lookups.{AreLookupsOf};
 ghost use Rattle.assignment_search.specs.work.Apart.{AgreeApart};
-ghost use Rattle.assignment_search.specs.Growth.{IsJudged, IsNewEnd, IsNewLeaf};
+ghost use Rattle.assignment_search.specs.work.Growth.{IsJudged, IsNewEnd, IsNewLeaf};
 
 use crate::lookups::Lookups;
 use dual_bound::{first_fit_by, first_fit_ceiling, leaf_value, quick_ceiling};

@@ -1,9 +1,11 @@
 //! Betters a plan by the row of one vehicle at a time.
 ghost use Rattle.std.specs.Prelude.{◌≡◌, ◌==◌, ◌+◌, ◌*◌, ◌<◌, ◌≤◌, ◌^◌, ℕ, false, IsTrue, IfOk, MatchOption, Option, Some, length, slice_set, slice_index_or};
 ghost use Rattle.std.specs.List.{list_any};
-ghost use Rattle.plan_rules.specs.Graph.{IsRowOf, choice_at, ChoosesRows, cost_at, riders_at, has_rider, must_be_served};
+ghost use Rattle.plan_rules.specs.Graph.{IsRowOf, choice_at, cost_at, riders_at, has_rider, must_be_served};
+ghost use Rattle.plan_rules.specs.lemmas.Graph.{ChoosesRows};
 ghost use Rattle.plan_rules.specs.Plan.{IsLawful, cost_of};
-ghost use Rattle.assignment_search.specs.Change.{HasNoBetterChange, BettersNothing, IsChangeOf, IsShared};
+ghost use Rattle.assignment_search.specs.Change.{HasNoBetterChange, IsChangeOf};
+ghost use Rattle.assignment_search.specs.work.Change.{BettersNothing, IsShared};
 
 use plan_rules::{Plan, TripGraph, TripRow, cost_of, is_lawful};
 use pool_base::OutOfMemory;

@@ -2,11 +2,9 @@
 ghost use Rattle.std.specs.Prelude.{◌<◌, IfOk, IfSome};
 ghost use Rattle.plan_rules.specs.Plan.{IsLawful, cost_of};
 
-use draft_trees::DraftTree;
-use plan_drafts::make_draft;
 use plan_rules::{Plan, TripGraph, cost_of, is_lawful};
 use pool_base::OutOfMemory;
-use row_tables::RowTable;
+use row_tables::{Draft, Drafter, RowTable};
 use std::alloc::Global;
 
 /// Multipliers for the two ends of a branch, or no multiplier at all.
@@ -20,16 +18,21 @@ pub struct Suggested {
 #[derive(Drop)]
 pub struct Guide {
     table: RowTable,
-    draft: DraftTree,
+    draft: Draft,
     /// For each node of the tree its number in the draft, if the draft has it.
     numbers: Vec<Option<usize>>,
 }
 
 impl Guide {
     /// A draft with at most so many nodes, and a tree of one node.
-    pub fn new(alloc: Global, graph: &TripGraph, budget: usize) -> Result<Self, OutOfMemory> {
+    pub fn new<D: Drafter>(
+        alloc: Global,
+        graph: &TripGraph,
+        budget: usize,
+        drafter: &D,
+    ) -> Result<Self, OutOfMemory> {
         let table = RowTable::of_graph(alloc, graph)?;
-        let draft = make_draft(alloc, &table, graph.held(), budget)?;
+        let draft = drafter.draft(alloc, &table, graph.held(), budget)?;
         let mut numbers = Vec::new(alloc);
         numbers.push(Some(0))?;
         Ok(Guide {

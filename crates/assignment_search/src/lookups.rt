@@ -1,6 +1,6 @@
 //! What is found once of a graph's rows, for all nodes of a tree.
 ghost use Rattle.std.specs.Prelude.{IfOk};
-ghost use Rattle.assignment_search.specs.Lookups.{AreLookupsOf};
+ghost use Rattle.assignment_search.specs.work.Lookups.{AreLookupsOf};
 
 use dual_bound::{CheapestRows, RiderIndex};
 use plan_rules::TripGraph;

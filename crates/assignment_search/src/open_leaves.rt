@@ -5,7 +5,7 @@ ghost use Rattle.std.specs.BinaryHeap.{IsHeap, heap_items};
 ghost use Rattle.plan_rules.specs.Size.{IsSmallSum};
 ghost use Rattle.plan_rules.specs.declared.node.Node.{Node as NodeValue};
 ghost use Rattle.plan_rules.specs.declared.node.Node.TheVariants.{Branch, Leaf, Dead};
-ghost use Rattle.assignment_search.specs.Growth.{IsLowest, HasLeaf};
+ghost use Rattle.assignment_search.specs.work.Growth.{IsLowest, HasLeaf};
 ghost use Rattle.assignment_search.specs.work.OpenLeaves.{AreOpen, IsFirst, leaf_cmp, leaf_sum};
 
 use crate::child::End;

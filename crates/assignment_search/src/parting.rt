@@ -4,10 +4,10 @@ ghost use Rattle.plan_rules.specs.Multipliers.{usable_of};
 ghost use Rattle.plan_rules.specs.Graph.{IsGoodGraph};
 ghost use Rattle.plan_rules.specs.Tree.{CanBranch};
 ghost use Rattle.plan_rules.specs.Path.{standing_of, IsPathOf};
-ghost use Rattle.assignment_search.specs.Lookups.{AreLookupsOf};
+ghost use Rattle.assignment_search.specs.work.Lookups.{AreLookupsOf};
 ghost use Rattle.assignment_search.specs.work.Apart.{AgreeApart};
-ghost use Rattle.assignment_search.specs.Growth.{IsJudged, IsNewEnd};
-ghost use Rattle.assignment_search.specs.Next.{IsParting};
+ghost use Rattle.assignment_search.specs.work.Growth.{IsJudged, IsNewEnd};
+ghost use Rattle.assignment_search.specs.work.Next.{IsParting};
 
 use crate::child::{End, inherited_value, new_end};
 use crate::guide::Suggested;

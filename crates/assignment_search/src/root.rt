@@ -2,8 +2,8 @@
 ghost use Rattle.std.specs.Prelude.{IfOk};
 ghost use Rattle.plan_rules.specs.Graph.{IsGoodGraph};
 ghost use Rattle.plan_rules.specs.Tree.{every_row, rounded_up};
-ghost use Rattle.assignment_search.specs.Lookups.{AreLookupsOf};
-ghost use Rattle.assignment_search.specs.Growth.{IsGoodLeaf};
+ghost use Rattle.assignment_search.specs.work.Lookups.{AreLookupsOf};
+ghost use Rattle.assignment_search.specs.work.Growth.{IsGoodLeaf};
 
 use crate::child::{Judged, best_of};
 use crate::guide::Guide;

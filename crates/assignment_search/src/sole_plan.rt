@@ -2,7 +2,7 @@
 ghost use Rattle.std.specs.Prelude.{◌≡◌, ◌<◌, ◌≤◌, ℕ, IfOk, MatchOption, Option, length};
 ghost use Rattle.plan_rules.specs.Multipliers.{usable_of};
 ghost use Rattle.plan_rules.specs.Tree.{MayUse};
-ghost use Rattle.assignment_search.specs.Growth.{IsSolePlan};
+ghost use Rattle.assignment_search.specs.work.Growth.{IsSolePlan};
 
 use plan_rules::TripGraph;
 use pool_base::OutOfMemory;

@@ -3,7 +3,7 @@ ghost use Rattle.std.specs.Prelude.{◌≡◌, ◌<◌, List, IfOk, OnOk, length
 ghost use Rattle.plan_rules.specs.Graph.{Graph, IsGoodGraph};
 ghost use Rattle.plan_rules.specs.Tree.{every_row};
 ghost use Rattle.plan_rules.specs.Reading.{ReadsTo, IsSoundNode, coming_after};
-ghost use Rattle.plan_rules.specs.work.Tree.{IsWholeTree};
+ghost use Rattle.plan_rules.specs.lemmas.Tree.{IsWholeTree};
 ghost use Rattle.plan_rules.specs.Path.{standing_of, IsPathOf};
 ghost use Rattle.plan_rules.specs.Multipliers.{Usable};
 

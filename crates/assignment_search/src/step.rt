@@ -2,9 +2,9 @@
 ghost use Rattle.std.specs.Prelude.{◌≡◌, ◌+◌, ◌<◌, ◌≤◌, ℕ, pos, MatchBool, IfOk, List, ℤ, length, slice_index_or, [], ◌∷◌};
 ghost use Rattle.plan_rules.specs.Tree.{every_row, rounded_up};
 ghost use Rattle.plan_rules.specs.declared.node.Node.TheVariants.{Leaf};
-ghost use Rattle.assignment_search.specs.Lookups.{AreLookupsOf};
-ghost use Rattle.assignment_search.specs.Growth.{IsGrown, IsLowest};
-ghost use Rattle.assignment_search.specs.Next.{IsNext};
+ghost use Rattle.assignment_search.specs.work.Lookups.{AreLookupsOf};
+ghost use Rattle.assignment_search.specs.work.Growth.{IsGrown, IsLowest};
+ghost use Rattle.assignment_search.specs.work.Next.{IsNext};
 
 use crate::branching::branch_row;
 use crate::guide::Guide;

@@ -2,4 +2,5 @@ pub mod Vehicle
 pub mod Batch
 pub mod Kept
 pub mod Points
+pub mod lemmas
 pub mod work

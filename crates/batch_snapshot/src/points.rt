@@ -2,7 +2,7 @@ ghost use Rattle.std.specs.Prelude.{◌≡◌, ◌++◌, ◌+◌, ◌*◌, ◌�
 ghost use Rattle.std.specs.List.{flat_map};
 ghost use Rattle.std.specs.List.Sorted.{IsStrictlyIncreasing};
 ghost use Rattle.batch_snapshot.specs.Points.{ArePoints, named_nodes};
-ghost use Rattle.batch_snapshot.specs.work.Points.{vehicle_nodes, rider_nodes};
+ghost use Rattle.batch_snapshot.specs.lemmas.Points.{vehicle_nodes, rider_nodes};
 
 use crate::rider::Rider;
 use crate::snapshot::Snapshot;

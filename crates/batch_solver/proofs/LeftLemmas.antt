@@ -6,7 +6,7 @@ use Rattle.std.proofs.lemmas.List.Elements.{All-filter, All-from_get_or}
 use Rattle.std.proofs.lemmas.List.Sums.{length-filter, count_by-le-length}
 use Rattle.std.proofs.lemmas.List.FromFn.{length-range_with_len, get_or-range_with_len}
 use Rattle.plan_rules.specs.Graph.{Graph, choice_at, is_in, times_served}
-use Rattle.plan_rules.specs.work.Plan.{times_chosen}
+use Rattle.plan_rules.specs.lemmas.Plan.{times_chosen}
 use Rattle.plan_rules.proofs.lemmas.SumLemmas.{flag}
 use Rattle.plan_rules.proofs.lemmas.GraphLemmas.{times_served_more, times_served_none}
 use Rattle.promise_check.proofs.lemmas.Promises.{filter_range_takes, filter_range_skips}

@@ -26,6 +26,7 @@ use promise_check::settle;
 use request_book::{Answer, Outcome, Planned};
 use rider_limits::Settings;
 use road_network::Network;
+use row_tables::Drafter;
 use std::alloc::Global;
 use std::thread::Threads;
 use stop_orders::{PairList, Settled};
@@ -37,14 +38,15 @@ use worker_gate::Gate;
 /// nodes, limits, the graphs, an assignment with its bound, and moves of idle vehicles.
 ///
 /// `ways` tells the travel times of this network. The graph is grown by `settings.workers` workers, and the
-/// gate hears of each piece of that. The answer is an overflow exactly where the trip graph has more rows than
-/// `settings.pairs`. It fails only for want of memory.
-pub fn solve_batch<W: Ways, G: Gate>(
+/// gate hears of each piece of that. The search follows what the drafter drafts, and judges it. The answer is an
+/// overflow exactly where the trip graph has more rows than `settings.pairs`. It fails only for want of memory.
+pub fn solve_batch<W: Ways, D: Drafter, G: Gate>(
     rt: &(impl Threads + Sync),
     alloc: Global,
     snapshot: &Snapshot,
     network: &Network,
     ways: &W,
+    drafter: &D,
     settings: &Settings,
     gate: &G,
 ) -> Result<Outcome, OutOfMemory>
@@ -56,7 +58,9 @@ pub fn solve_batch<W: Ways, G: Gate>(
     let times = ways.table(rt, alloc, points.nodes())?;
     let settled = settle(alloc, snapshot, settings, &points, &times)?;
     let expired = Vec::from_slice(alloc, snapshot.expired.as_slice())?;
-    let answer = answer_of(rt, alloc, settings, &points, &times, &settled, gate)?;
+    let answer = answer_of(
+        rt, alloc, settings, &points, &times, &settled, drafter, gate,
+    )?;
     Ok(Outcome {
         expired: Sequence::of(expired),
         answer,
@@ -64,13 +68,14 @@ pub fn solve_batch<W: Ways, G: Gate>(
 }
 
 /// The plan of the batch, or an overflow.
-fn answer_of<G: Gate>(
+fn answer_of<D: Drafter, G: Gate>(
     rt: &(impl Threads + Sync),
     alloc: Global,
     settings: &Settings,
     points: &Points,
     times: &Times,
     settled: &Settled,
+    drafter: &D,
     gate: &G,
 ) -> Result<Answer, OutOfMemory>
     requires table { point_count times.now ≡ length points.now }
@@ -89,6 +94,7 @@ fn answer_of<G: Gate>(
                 &graph,
                 rv.as_slice(),
                 &rr,
+                drafter,
             )?;
             Ok(Answer::Planned(planned))
         }
@@ -96,7 +102,7 @@ fn answer_of<G: Gate>(
 }
 
 /// A plan of the trip graph, with all that it rests on.
-fn planned_of(
+fn planned_of<D: Drafter>(
     alloc: Global,
     settings: &Settings,
     points: &Points,
@@ -105,6 +111,7 @@ fn planned_of(
     graph: &TripGraph,
     rv: &[RvEdge],
     rr: &PairList,
+    drafter: &D,
 ) -> Result<Planned, OutOfMemory>
     requires table { point_count times.now ≡ length points.now }
     requires sound { IsSound settings.now.trip (point_count times.now) (travel_time times.now) settled.now }
@@ -113,7 +120,7 @@ fn planned_of(
     requires rr { IsRrGraph (travel_time times.now) settled.now rr.now }
     ensures { IfOk result (IsGoodPlan settings.now points.now (travel_time times.now) settled.entry.now) }
 {
-    let found = bounded_plan(alloc, graph, settings.budget)?;
+    let found = bounded_plan(alloc, graph, settings.budget, drafter)?;
     let bound = bound_of(&found);
     let mut planned = unlisted(alloc, found.cost, bound, found.tree);
     let chosen = found.plan.chosen();
@@ -205,14 +212,19 @@ fn put<T: Drop>(list: &mut Sequence<T>, items: Vec<T>)
 }
 
 /// A plan of the graph, and a bound below which no lawful plan costs.
-fn bounded_plan(alloc: Global, graph: &TripGraph, budget: u32) -> Result<Found, OutOfMemory>
+fn bounded_plan<D: Drafter>(
+    alloc: Global,
+    graph: &TripGraph,
+    budget: u32,
+    drafter: &D,
+) -> Result<Found, OutOfMemory>
     requires budget { 1 ≤ budget }
     requires good { IsGoodGraph graph.now }
     ensures plan { IfOk result (IsSearchAnswer graph.now budget) }
     ensures bound { IfOk result (λ found. IsBound graph.now found.bound) }
 {
     tree_value_is_a_bound();
-    search(alloc, graph, budget)
+    search(alloc, graph, budget, drafter)
 }
 
 /// The bound. It is a call, so that a caller knows that it is within its type's range.

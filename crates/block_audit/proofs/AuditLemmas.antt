@@ -14,7 +14,7 @@ use Rattle.outcome_check.specs.declared.verdict.Point.TheVariants as point
 use Rattle.outcome_check.specs.declared.verdict.Verdict.{Verdict}
 use Rattle.outcome_check.specs.declared.verdict.Verdict.TheVariants.{Good, Fails}
 use Rattle.plan_rules.specs.Tree.{SearchTree}
-use Rattle.plan_rules.specs.work.Tree.{preorder}
+use Rattle.plan_rules.specs.lemmas.Tree.{preorder}
 use Rattle.plan_rules.proofs.lemmas.SearchTreeLemmas.{nodes_are}
 use Rattle.plan_rules.specs.Tree.SearchTree.{Parted, Bounded, Closed}
 use Rattle.report_lines.specs.Block.{IsBlock, BlockFails}
@@ -30,7 +30,8 @@ use Rattle.request_book.specs.declared.outcome.Answer.TheVariants.{Planned as Pl
 use Rattle.request_book.specs.declared.outcome.Outcome.{Outcome}
 use Rattle.rider_limits.specs.declared.settings.Settings.{Settings}
 use Rattle.road_network.specs.Roads.{Roads}
-use Rattle.block_audit.specs.Block.{BeginsWithGood, MeetsAs, FailsFirst, refusal_for}
+use Rattle.block_audit.specs.Block.{BeginsWithGood, MeetsAs, FailsFirst}
+use Rattle.block_audit.specs.work.Block.{refusal_for}
 use Rattle.block_audit.specs.Judged.{IsJudgedAs}
 use Rattle.block_audit.specs.declared.refusal.BlockRefusal.{BlockRefusal}
 use Rattle.block_audit.specs.declared.refusal.BlockRefusal.TheVariants.{OutOfMemory as NoMemory}

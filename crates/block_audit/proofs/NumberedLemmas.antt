@@ -14,7 +14,7 @@ use Rattle.block_outcome.specs.Told.{IsNumberOf, IsNumbered, AreNumbered, HasTri
 use Rattle.plan_rules.specs.Graph.{Graph, IsGoodGraph, IsRowOf, row_at, row_vehicle, no_row}
 use Rattle.plan_rules.specs.Multipliers.{Usable}
 use Rattle.plan_rules.specs.Tree.{SearchTree, IsSoundTree, every_row, only_row, without_row}
-use Rattle.plan_rules.specs.work.Tree.{preorder}
+use Rattle.plan_rules.specs.lemmas.Tree.{preorder}
 use Rattle.plan_rules.proofs.lemmas.SearchTreeLemmas.{nodes_are}
 use Rattle.plan_rules.specs.Tree.SearchTree.{Parted, Bounded, Closed}
 use Rattle.plan_rules.specs.declared.node.Node.{Node}

@@ -1,4 +1,3 @@
--- Texts that begin with the block of a batch.
 use Rattle.std.specs.Prelude.{◌≡◌, ℕ, true, List, ◌++◌, map}
 use Rattle.batch_snapshot.specs.Batch.{Batch}
 use Rattle.batch_solver.specs.Outcome.{IsGoodOutcome}
@@ -8,7 +7,6 @@ use Rattle.outcome_check.specs.Verdict.{Meets, IsVerdictOf, place_of}
 use Rattle.outcome_check.specs.declared.verdict.Point.{Point}
 use Rattle.outcome_check.specs.declared.verdict.Verdict.TheVariants.{Fails}
 use Rattle.report_lines.specs.Block.{IsBlock, BlockFails}
-use Rattle.report_lines.specs.declared.block.BlockFault.{BlockFault}
 use Rattle.report_lines.specs.declared.block.BlockFault.TheVariants as fault
 use Rattle.report_lines.specs.declared.block_line.BlockLine.{BlockLine}
 use Rattle.request_book.specs.declared.outcome.Outcome.{Outcome}
@@ -18,6 +16,8 @@ use Rattle.block_audit.specs.Fits.{Fits}
 use Rattle.block_audit.specs.Judged.{IsJudgedAs}
 use Rattle.block_audit.specs.declared.refusal.BlockRefusal.{BlockRefusal}
 use Rattle.block_audit.specs.declared.refusal.BlockRefusal.TheVariants.{OutOfMemory, Cut, Form, Wrong}
+
+-- Texts that begin with the block of a batch.
 
 -- the text begins with the block of a good outcome of this batch
 pub record BeginsWithGood (settings : Settings) (roads : Roads) (batch : Batch) (text : List ℕ) (outcome : Outcome) (rest : List ℕ) : Type 0 where
@@ -51,9 +51,3 @@ Refuses settings roads batch text OutOfMemory = Unit {0}
 Refuses settings roads batch text (Cut n) = BlockFails text (fault.Cut n)
 Refuses settings roads batch text (Form n) = BlockFails text (fault.Form n)
 Refuses settings roads batch text (Wrong place) = BeginsWithWrong settings roads batch text place
-
--- what is said of a text that begins with no block in form
-abbrev pub refusal_for : BlockFault → BlockRefusal
-refusal_for fault.OutOfMemory = OutOfMemory
-refusal_for (fault.Cut n) = Cut n
-refusal_for (fault.Form n) = Form n

@@ -1,3 +1,4 @@
 pub mod Fits
 pub mod Judged
 pub mod Block
+pub mod work

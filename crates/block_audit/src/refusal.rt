@@ -1,6 +1,6 @@
 ghost use Rattle.std.specs.Prelude.{◌≡◌};
 ghost use Rattle.block_audit.specs.declared.refusal.BlockRefusal.TheVariants.{OutOfMemory as NoMemory};
-ghost use Rattle.block_audit.specs.Block.{refusal_for};
+ghost use Rattle.block_audit.specs.work.Block.{refusal_for};
 ghost use Rattle.outcome_check.specs.Verdict.{place_of};
 
 use outcome_check::Point;

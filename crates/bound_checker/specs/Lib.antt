@@ -1,2 +1,3 @@
 pub mod Fault
-pub mod Visit
+pub mod lemmas
+pub mod work

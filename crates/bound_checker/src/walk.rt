@@ -6,7 +6,8 @@ ghost use Rattle.plan_rules.specs.Multipliers.{usable_of};
 ghost use Rattle.plan_rules.specs.Tree.{CanBranch};
 ghost use Rattle.plan_rules.specs.Path.{standing_of, IsPathOf};
 ghost use Rattle.plan_rules.specs.declared.node.Node.TheVariants.{Branch, Leaf, Dead};
-ghost use Rattle.bound_checker.specs.Visit.{coming_of, IsVisit, IsNodeFault, IsReady};
+ghost use Rattle.bound_checker.specs.lemmas.Visit.{coming_of};
+ghost use Rattle.bound_checker.specs.work.Visit.{IsVisit, IsNodeFault, IsReady};
 
 use crate::fault::CheckFault;
 use plan_rules::{Node, Path, TripGraph, is_dead_end, leaf_value, rounded_up};

@@ -19,7 +19,8 @@ use Rattle.shared_book.specs.declared.shared.Receipt.{Receipt}
 use Rattle.shared_book.specs.Locked.{entry_of, is_light, sealed_by, Fits}
 use Rattle.shared_book.specs.Shared.{BookPass, with_snapshot, HasCalled, HasCalledSome}
 use Rattle.dispatch_engine.specs.Lane.{IsLaneRunFrom, IsLaneRun, IsLaneBeginning, last_sealed, IsGoodFor, LaneClosesAreGood, HasRun, HasBegun}
-use Rattle.dispatch_engine.specs.work.Lanes.{calls_of_pass, IsPlain}
+use Rattle.dispatch_engine.specs.lemmas.Lanes.{IsPlain}
+use Rattle.dispatch_engine.specs.work.Lanes.{calls_of_pass}
 
 -- a run, and one more
 run-append : (pending : Option ℕ) (cs ds : List Command) (es fs : List Entry) → IsLaneRunFrom pending cs es → IsLaneRun ds fs → IsLaneRunFrom pending (cs ++ ds) (es ++ fs)

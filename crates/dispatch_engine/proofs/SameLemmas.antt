@@ -5,13 +5,13 @@ use Rattle.std.specs.List.{AllZip}
 use Rattle.std.proofs.lemmas.Bool.{cases_eq, eq-eqb}
 use Rattle.batch_snapshot.specs.Batch.{Batch}
 use Rattle.request_book.specs.Book.{next_position}
-use Rattle.request_book.specs.work.Closing.{closed_state}
-use Rattle.request_book.specs.work.Refusals.{first_of, batch_open, clock_back, not_this_batch}
+use Rattle.request_book.specs.lemmas.Closing.{closed_state}
+use Rattle.request_book.specs.lemmas.Refusals.{first_of, batch_open, clock_back, not_this_batch}
 use Rattle.request_book.specs.Replay.{state_after, RepliesAreSteps}
 use Rattle.request_book.specs.Sealing.{batch_of, sealed_state}
 use Rattle.pool_io.specs.Faults.{one_more}
 use Rattle.request_book.specs.Step.{step}
-use Rattle.request_book.specs.work.Table.{answer, seal_refusal, seal_step, close_step, table_step}
+use Rattle.request_book.specs.lemmas.Table.{answer, seal_refusal, seal_step, close_step, table_step}
 use Rattle.request_book.proofs.lemmas.StepTable.{by-table}
 use Rattle.request_book.specs.declared.command.Command.{Command}
 use Rattle.request_book.specs.declared.command.Command.TheVariants.{Submit, Cancel, Report, Pickup, Dropoff, Seal, Close}
@@ -30,7 +30,7 @@ use Rattle.shared_book.specs.Locked.{sealed_by}
 use Rattle.dispatch_engine.specs.Lane.{of_lane, IsCloseOf, IsLaneRunFrom, IsLaneRun}
 use Rattle.dispatch_engine.specs.Run.{IsRoundRun, IsRun}
 use Rattle.dispatch_engine.specs.Same.{IsInLaneZero, IsSameCommand, HaveSameCommands}
-use Rattle.dispatch_engine.specs.work.Lanes.{IsPlain}
+use Rattle.dispatch_engine.specs.lemmas.Lanes.{IsPlain}
 use Rattle.dispatch_engine.proofs.lemmas.LaneLemmas.{IsQuiet, plain-quiet}
 
 -- what answers a seal or a close looks at: the last seal, the number of the batch that stands sealed, and how many there were

@@ -1,4 +1,5 @@
 pub mod Lane
 pub mod Run
 pub mod Same
+pub mod lemmas
 pub mod work

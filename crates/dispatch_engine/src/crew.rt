@@ -5,6 +5,7 @@ ghost use Rattle.dispatch_engine.specs.work.Crew.{AreInOrder, HasWorked, IsToWor
 use crate::lane::run_commands;
 use crate::setup::Setup;
 use pool_base::OutOfMemory;
+use row_tables::Drafter;
 use script_rows::Round;
 use shared_book::{Pass, SharedBook};
 use std::alloc::Global;
@@ -32,13 +33,13 @@ pub(crate) fn crew_of(alloc: Global, passes: Vec<Pass>) -> Result<Vec<LaneWork>,
 }
 
 /// Each lane runs its commands on a thread of its own, or on the caller's where no thread can be made.
-pub(crate) fn work_all<W: Ways, G: Gate>(
+pub(crate) fn work_all<W: Ways, D: Drafter, G: Gate>(
     rt: &(impl Threads + Wait + Sync),
     alloc: Global,
     book: &SharedBook,
     round: &Round,
     crew: &mut Vec<LaneWork>,
-    setup: &Setup<'_, W, G>,
+    setup: &Setup<'_, W, D, G>,
 )
     requires nodes { book.now.start.nodes ≡ setup.now.network.now.nodes }
     requires some { 0 < vec_len crew.old }
@@ -59,13 +60,13 @@ pub(crate) fn work_all<W: Ways, G: Gate>(
     );
 }
 
-fn work<W: Ways, G: Gate>(
+fn work<W: Ways, D: Drafter, G: Gate>(
     rt: &(impl Threads + Wait + Sync),
     alloc: Global,
     book: &SharedBook,
     round: &Round,
     lane: &mut LaneWork,
-    setup: &Setup<'_, W, G>,
+    setup: &Setup<'_, W, D, G>,
 )
     requires nodes { book.now.start.nodes ≡ setup.now.network.now.nodes }
     requires fresh { IsToWork book.now lane.old }

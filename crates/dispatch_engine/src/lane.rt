@@ -11,6 +11,7 @@ use pool_base::{OutOfMemory, Second};
 use request_book::Command;
 use rider_limits::Settings;
 use road_network::Network;
+use row_tables::Drafter;
 use shared_book::{Pass, SealReceipt, SharedBook};
 use std::alloc::Global;
 use std::sync::Wait;
@@ -21,11 +22,12 @@ use worker_gate::Gate;
 /// Calls the book with a lane's commands, in their order, and closes each batch that a seal put up before
 /// the next command, with an outcome that is good for it. The batch is solved while other lanes go on.
 ///
-/// `ways` tells the travel times of this network, and the gate hears of each receipt.
+/// `ways` tells the travel times of this network, the search follows what `drafter` drafts and judges it, and the
+/// gate hears of each receipt.
 ///
 /// A seal stands in lane 0 alone, and no command is a close. After `OutOfMemory` the commands were taken
 /// up to some place: the pass's new calls are a beginning of such a run.
-pub fn run_lane<W: Ways, G: Gate>(
+pub fn run_lane<W: Ways, D: Drafter, G: Gate>(
     rt: &(impl Threads + Wait + Sync),
     alloc: Global,
     book: &SharedBook,
@@ -33,6 +35,7 @@ pub fn run_lane<W: Ways, G: Gate>(
     commands: &[Command],
     network: &Network,
     ways: &W,
+    drafter: &D,
     settings: &Settings,
     gate: &G,
 ) -> Result<(), OutOfMemory>
@@ -47,6 +50,7 @@ pub fn run_lane<W: Ways, G: Gate>(
     let setup = Setup {
         network,
         ways,
+        drafter,
         settings,
         gate,
     };
@@ -54,13 +58,13 @@ pub fn run_lane<W: Ways, G: Gate>(
 }
 
 /// The same, with what a round needs together.
-pub(crate) fn run_commands<W: Ways, G: Gate>(
+pub(crate) fn run_commands<W: Ways, D: Drafter, G: Gate>(
     rt: &(impl Threads + Wait + Sync),
     alloc: Global,
     book: &SharedBook,
     pass: &mut Pass,
     commands: &[Command],
-    setup: &Setup<'_, W, G>,
+    setup: &Setup<'_, W, D, G>,
 ) -> Result<(), OutOfMemory>
     requires own { IsPassOf book.now pass.old }
     requires stand { All (MayStand pass.old.lane) commands.now }
@@ -75,13 +79,13 @@ pub(crate) fn run_commands<W: Ways, G: Gate>(
     Ok(())
 }
 
-fn run_command<W: Ways, G: Gate>(
+fn run_command<W: Ways, D: Drafter, G: Gate>(
     rt: &(impl Threads + Wait + Sync),
     alloc: Global,
     book: &SharedBook,
     pass: &mut Pass,
     command: &Command,
-    setup: &Setup<'_, W, G>,
+    setup: &Setup<'_, W, D, G>,
 ) -> Result<(), OutOfMemory>
     requires own { IsPassOf book.now pass.old }
     requires stands { MayStand pass.old.lane command.now }
@@ -97,13 +101,13 @@ fn run_command<W: Ways, G: Gate>(
 }
 
 /// Seals a batch and, where one was put up, solves it outside the lock and closes it.
-fn run_seal<W: Ways, G: Gate>(
+fn run_seal<W: Ways, D: Drafter, G: Gate>(
     rt: &(impl Threads + Wait + Sync),
     alloc: Global,
     book: &SharedBook,
     pass: &mut Pass,
     now: Second,
-    setup: &Setup<'_, W, G>,
+    setup: &Setup<'_, W, D, G>,
 ) -> Result<(), OutOfMemory>
     requires own { IsPassOf book.now pass.old }
     requires nodes { book.now.start.nodes ≡ setup.now.network.now.nodes }
@@ -125,6 +129,7 @@ fn run_seal<W: Ways, G: Gate>(
         &snapshot,
         setup.network,
         setup.ways,
+        setup.drafter,
         setup.settings,
         setup.gate,
     )?;

@@ -11,6 +11,7 @@ use pool_base::OutOfMemory;
 use request_book::Book;
 use rider_limits::Settings;
 use road_network::Network;
+use row_tables::Drafter;
 use script_rows::Round;
 use shared_book::{Pass, SharedBook};
 use std::alloc::Global;
@@ -20,20 +21,21 @@ use travel_times::Ways;
 use worker_gate::Gate;
 
 /// Runs the lanes of a round at the same time, each on a thread of its own where one can be made, each lane's
-/// commands in their order. `ways` tells the travel times of this network, and the gate hears of each receipt
-/// and of each piece of growth. After each seal that
+/// commands in their order. `ways` tells the travel times of this network, the search follows what `drafter`
+/// drafts and judges it, and the gate hears of each receipt and of each piece of growth. After each seal that
 /// puts a batch up, its lane solves the batch while the others go on, and closes it before its next
 /// command, with an outcome that is good for it.
 ///
 /// The book handed back has the nodes, the longest wait, and the journal's first position and base of the
 /// one taken in. For want of memory the book is given up.
-pub fn run_round<W: Ways, G: Gate>(
+pub fn run_round<W: Ways, D: Drafter, G: Gate>(
     rt: &(impl Threads + Wait + Sync),
     alloc: Global,
     book: Book,
     round: &Round,
     network: &Network,
     ways: &W,
+    drafter: &D,
     settings: &Settings,
     gate: &G,
 ) -> Result<Book, OutOfMemory>
@@ -48,6 +50,7 @@ pub fn run_round<W: Ways, G: Gate>(
     let setup = Setup {
         network,
         ways,
+        drafter,
         settings,
         gate,
     };
@@ -77,13 +80,13 @@ fn with_room(book: Book, round: &Round) -> Result<Book, OutOfMemory>
 }
 
 /// Lets the passes of a shared book run the lanes, and takes the book back.
-fn run_shared<W: Ways, G: Gate>(
+fn run_shared<W: Ways, D: Drafter, G: Gate>(
     rt: &(impl Threads + Wait + Sync),
     alloc: Global,
     shared: SharedBook,
     passes: Vec<Pass>,
     round: &Round,
-    setup: &Setup<'_, W, G>,
+    setup: &Setup<'_, W, D, G>,
 ) -> Result<Book, OutOfMemory>
     requires empty { shared.start.entries ≡ [] }
     requires kept { IsBook shared.start }
@@ -107,13 +110,13 @@ fn run_shared<W: Ways, G: Gate>(
 }
 
 /// Lets each pass run its lane's commands.
-fn run_passes<W: Ways, G: Gate>(
+fn run_passes<W: Ways, D: Drafter, G: Gate>(
     rt: &(impl Threads + Wait + Sync),
     alloc: Global,
     book: &SharedBook,
     passes: Vec<Pass>,
     round: &Round,
-    setup: &Setup<'_, W, G>,
+    setup: &Setup<'_, W, D, G>,
 ) -> Result<Vec<Pass>, OutOfMemory>
     requires nodes { book.now.start.nodes ≡ setup.now.network.now.nodes }
     requires lanes { (0 < book.now.lanes) × (book.now.lanes ≤ 16) }

@@ -16,8 +16,6 @@ settings_line s =
 -- the name of a report, the settings, and how large network and fleet are
 unfoldable pub head_text : Settings → Roads → ℕ → List ℕ
 head_text settings roads vehicles =
-    lines_text
-    ((codes "ridepool report 1" ∷ [])
-    ++ (settings_line settings ∷ [])
+    lines_text ((codes "ridepool report 1" ∷ []) ++ (settings_line settings ∷ [])
     ++ ((numbered (codes "network nodes=") (length roads.nodes) ++ numbered (codes " arcs=") (length roads.arcs)) ∷ [])
     ++ (numbered (codes "fleet vehicles=") vehicles ∷ []))

@@ -7,4 +7,5 @@ pub mod Round
 pub mod Head
 pub mod Day
 pub mod Summary
+pub mod lemmas
 pub mod work

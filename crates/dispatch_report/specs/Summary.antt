@@ -15,8 +15,7 @@ use Rattle.rider_limits.specs.declared.load_shape.LoadShape.{LoadShape}
 -- the shape of a made workload: its seed, the square network, the vehicles, the requests of a batch, and the batches
 unfoldable pub load_text : LoadShape → List ℕ
 load_text shape =
-    lines_text
-    (((numbered (codes "load seed=") shape.seed ++ numbered (codes " side=") shape.side)
+    lines_text (((numbered (codes "load seed=") shape.seed ++ numbered (codes " side=") shape.side)
     ++ (numbered (codes " vehicles=") shape.vehicles ++ numbered (codes " riders=") shape.riders ++ numbered (codes " rounds=") shape.rounds)) ∷ [])
 
 -- what came of a batch: who is served and who is left out, how many trips there could be and how many pick a rider up,

@@ -1,6 +1,6 @@
 ghost use Rattle.std.specs.Prelude.{◌≡◌, ◌++◌, ℕ, Option, OnOk};
 ghost use Rattle.dispatch_report.specs.Entry.{rider_status_text, refusal_text, reply_text};
-ghost use Rattle.dispatch_report.specs.work.Named.{spaced_or_none};
+ghost use Rattle.dispatch_report.specs.lemmas.Named.{spaced_or_none};
 ghost use Rattle.dispatch_report.specs.Words.{numbered};
 
 use crate::words::{put_numbered, put_spaced};

@@ -39,7 +39,7 @@ pub fn solve_part(
     if seconds_of(relaxation.value()) < cost {
         grow(alloc, part, &mut relaxation, &mut tree, most_nodes)?;
     }
-    Ok(tree.plan)
+    Ok(tree.draft.plan)
 }
 
 /// Solves the relaxation over all rows, at first with little to pay for a rider who is left out.

@@ -5,13 +5,10 @@ use crate::branching::{Branching, Effort};
 use crate::whole::{plan_cost, whole_plan};
 use linear_relaxation::Relaxation;
 use pool_base::OutOfMemory;
-use row_tables::{RowTable, Share};
+use row_tables::{Decision, Draft, DraftNode, RowTable, Share};
 use std::alloc::Global;
 use std::collections::BinaryHeap;
 use std::mem;
-
-/// What multiplier a rider has whose row is taken, in 1/1024 second: it shuts out her other rows.
-const SUNK: i64 = -(1 << 41);
 
 /// More and less of a row than counts as chosen in part, in units of 2^-32.
 const LEAST_PART: i64 = (1 << 32) / 100;
@@ -21,23 +18,9 @@ const MOST_PART: i64 = (1 << 32) / 100 * 99;
 /// How many rows of a vehicle a pass puts into the pool.
 const MOST_ROWS: usize = 10;
 
-/// A row that is taken or forbidden below another node.
-#[derive(Clone, Copy)]
-struct Decision {
-    parent: usize,
-    row: usize,
-    is_taken: bool,
-}
-
-/// A node of the tree.
+/// Where the relaxation stands at a node.
 #[derive(Drop)]
-struct DraftNode {
-    /// What leads here; none at the root.
-    decision: Option<Decision>,
-    /// The row that the node is branched on, and the number of the node where it is taken. The one where it
-    /// isn't comes next.
-    branch: Option<(usize, usize)>,
-    multipliers: Vec<i64>,
+struct Standing {
     /// In 1/1024 second.
     value: i64,
     basis: Vec<u32>,
@@ -55,19 +38,17 @@ pub struct Growth {
     pub probe: usize,
 }
 
-/// A tree, and the best plan known.
+/// A tree that grows.
 #[derive(Drop)]
 pub struct DraftTree {
-    nodes: Vec<DraftNode>,
+    /// The best plan known, and the nodes so far.
+    pub draft: Draft,
+    /// Of each node where it stands.
+    standings: Vec<Standing>,
     /// The open nodes, least value first.
     open: BinaryHeap<(i64, u32)>,
     bans: Bans,
     branching: Branching,
-    /// The best plan, and what it costs in seconds.
-    pub plan: Vec<Option<u32>>,
-    pub cost: i64,
-    /// Below this no plan costs, in seconds.
-    pub bound: i64,
 }
 
 impl DraftTree {
@@ -81,23 +62,29 @@ impl DraftTree {
     ) -> Result<Self, OutOfMemory> {
         let plan = Vec::from_slice(alloc, plan)?;
         let mut tree = DraftTree {
-            nodes: Vec::new(alloc),
+            draft: Draft {
+                plan,
+                cost,
+                bound: seconds_of(relaxation.value()),
+                nodes: Vec::new(alloc),
+            },
+            standings: Vec::new(alloc),
             open: BinaryHeap::new(alloc),
             bans: Bans::new(alloc),
             branching: Branching::new(alloc),
-            plan,
-            cost,
-            bound: seconds_of(relaxation.value()),
         };
-        tree.put(node_of(alloc, table, relaxation, None)?)?;
+        let standing = standing_of(alloc, table, relaxation)?;
+        let multipliers = relaxation.multipliers(alloc, table.rider_count())?;
+        tree.put(node_at(None, multipliers), standing)?;
         Ok(tree)
     }
 
     /// Puts in a node, which is open.
-    fn put(&mut self, node: DraftNode) -> Result<(), OutOfMemory> {
-        let number = self.nodes.len().min(u32::MAX as usize) as u32;
-        self.open.push((node.value.wrapping_neg(), number))?;
-        self.nodes.push(node)?;
+    fn put(&mut self, node: DraftNode, standing: Standing) -> Result<(), OutOfMemory> {
+        let number = self.standings.len().min(u32::MAX as usize) as u32;
+        self.open.push((standing.value.wrapping_neg(), number))?;
+        self.draft.nodes.push(node)?;
+        self.standings.push(standing)?;
         Ok(())
     }
 
@@ -109,20 +96,22 @@ impl DraftTree {
         relaxation: &mut Relaxation,
         growth: Growth,
     ) -> Result<(), OutOfMemory> {
-        let first = self.bound;
+        let first = self.draft.bound;
         let mut is_probed = false;
         for _ in 0..growth.budget {
             let Some(number) = self.next_open() else {
-                self.bound = self.cost;
+                self.draft.bound = self.draft.cost;
                 break;
             };
-            if self.bound >= self.cost || self.nodes.len().saturating_add(2) > growth.budget {
+            if self.draft.bound >= self.draft.cost
+                || self.standings.len().saturating_add(2) > growth.budget
+            {
                 break;
             }
-            if !is_probed && self.nodes.len() >= growth.probe {
+            if !is_probed && self.standings.len() >= growth.probe {
                 is_probed = true;
-                let closed = self.bound.saturating_sub(first);
-                if closed.saturating_mul(3) < self.cost.saturating_sub(first) {
+                let closed = self.draft.bound.saturating_sub(first);
+                if closed.saturating_mul(3) < self.draft.cost.saturating_sub(first) {
                     break;
                 }
             }
@@ -135,9 +124,9 @@ impl DraftTree {
     /// Takes the open node of least value out, and sets the bound to that.
     fn next_open(&mut self) -> Option<usize> {
         let (value, number) = self.open.pop()?;
-        self.bound = seconds_of(value.wrapping_neg())
-            .min(self.cost)
-            .max(self.bound);
+        self.draft.bound = seconds_of(value.wrapping_neg())
+            .min(self.draft.cost)
+            .max(self.draft.bound);
         Some(number as usize)
     }
 
@@ -159,7 +148,7 @@ impl DraftTree {
             &mut self.bans,
             &shares,
             effort,
-            self.cost,
+            self.draft.cost,
         )?;
         if let Some(row) = chosen {
             self.note_branch(number, row);
@@ -181,8 +170,8 @@ impl DraftTree {
 
     /// The rows that a node chooses in part, which it doesn't need any more.
     fn take_shares(&mut self, alloc: Global, number: usize) -> Vec<Share> {
-        if number < self.nodes.len() {
-            mem::replace(&mut self.nodes[number].shares, Vec::new(alloc))
+        if number < self.standings.len() {
+            mem::replace(&mut self.standings[number].shares, Vec::new(alloc))
         } else {
             Vec::new(alloc)
         }
@@ -190,9 +179,9 @@ impl DraftTree {
 
     /// Notes that a node is branched on a row, and that the next two nodes are its ends.
     fn note_branch(&mut self, number: usize, row: usize) {
-        let first = self.nodes.len();
-        if number < self.nodes.len() {
-            self.nodes[number].branch = Some((row, first));
+        let first = self.draft.nodes.len();
+        if number < first {
+            self.draft.nodes[number].branch = Some((row, first));
         }
     }
 
@@ -204,8 +193,8 @@ impl DraftTree {
         number: usize,
     ) -> Result<(), OutOfMemory> {
         self.forbid_above(table, relaxation, number)?;
-        if number < self.nodes.len() {
-            relaxation.go_to(table, &self.nodes[number].basis)?;
+        if number < self.standings.len() {
+            relaxation.go_to(table, &self.standings[number].basis)?;
         }
         Ok(())
     }
@@ -218,8 +207,8 @@ impl DraftTree {
     ) -> Result<(), OutOfMemory> {
         self.bans.go_back(relaxation, 0);
         let mut number = number;
-        for _ in 0..self.nodes.len() {
-            match self.decision_at(number) {
+        for _ in 0..self.standings.len() {
+            match self.draft.decision(number) {
                 None => return Ok(()),
                 Some(decision) => {
                     if decision.is_taken {
@@ -232,14 +221,6 @@ impl DraftTree {
             }
         }
         Ok(())
-    }
-
-    fn decision_at(&self, number: usize) -> Option<Decision> {
-        if number < self.nodes.len() {
-            self.nodes[number].decision
-        } else {
-            None
-        }
     }
 
     /// Puts in the node to which this decision leads, and takes its plan where that is better.
@@ -257,27 +238,44 @@ impl DraftTree {
             self.bans.forbid(relaxation, decision.row)?;
         }
         let most = self
+            .draft
             .cost
             .saturating_sub(1)
             .saturating_mul(1024)
             .saturating_add(1);
         relaxation.solve(table, most, MOST_ROWS, u32::MAX)?;
-        let node = node_of(alloc, table, relaxation, Some(decision))?;
-        let is_plan = node.shares.is_empty() && node.value < most;
-        self.put_below(node, decision.parent)?;
+        let standing = standing_of(alloc, table, relaxation)?;
+        let is_plan = standing.shares.is_empty() && standing.value < most;
+        let multipliers = relaxation.multipliers(alloc, table.rider_count())?;
+        self.put_below(
+            node_at(Some(decision), multipliers),
+            standing,
+            decision.parent,
+        )?;
         if is_plan {
             self.take_plan(alloc, table, relaxation)?;
         }
         Ok(())
     }
 
-    /// Puts in a node below this one.
-    fn put_below(&mut self, node: DraftNode, parent: usize) -> Result<(), OutOfMemory> {
+    /// Puts in a node below this one, whose multipliers it takes where those are better.
+    fn put_below(
+        &mut self,
+        node: DraftNode,
+        standing: Standing,
+        parent: usize,
+    ) -> Result<(), OutOfMemory> {
         let mut node = node;
-        if parent < self.nodes.len() {
-            inherit(&mut node, &self.nodes[parent])?;
+        let mut standing = standing;
+        if parent < self.standings.len() && standing.value < self.standings[parent].value {
+            standing.value = self.standings[parent].value;
+            if parent < self.draft.nodes.len() {
+                node.multipliers.clear();
+                node.multipliers
+                    .extend_from_slice(&self.draft.nodes[parent].multipliers)?;
+            }
         }
-        self.put(node)
+        self.put(node, standing)
     }
 
     /// Takes the plan of a solution that chooses rows whole.
@@ -301,68 +299,34 @@ impl DraftTree {
         plan: Vec<Option<u32>>,
     ) -> Result<(), OutOfMemory> {
         if let Some(cost) = plan_cost(alloc, table, &plan)? {
-            if cost < self.cost {
-                self.cost = cost;
-                self.plan = plan;
+            if cost < self.draft.cost {
+                self.draft.cost = cost;
+                self.draft.plan = plan;
             }
         }
         Ok(())
     }
 
     pub fn node_count(&self) -> usize {
-        self.nodes.len()
-    }
-
-    /// The row that a node is branched on, and the number of the node where it is taken; the one where it
-    /// isn't comes next.
-    pub fn branch(&self, number: usize) -> Option<(usize, usize)> {
-        if number < self.nodes.len() {
-            self.nodes[number].branch
-        } else {
-            None
-        }
-    }
-
-    /// The multipliers of a node, with those of riders in taken rows sunk.
-    pub fn multipliers_at(
-        &self,
-        alloc: Global,
-        table: &RowTable,
-        number: usize,
-    ) -> Result<Vec<i64>, OutOfMemory> {
-        let mut multipliers = Vec::new(alloc);
-        if number < self.nodes.len() {
-            multipliers.extend_from_slice(&self.nodes[number].multipliers)?;
-        }
-        let mut number = number;
-        for _ in 0..self.nodes.len() {
-            if let Some(decision) = self.decision_at(number) {
-                if decision.is_taken {
-                    sink(table.riders_of(decision.row), &mut multipliers);
-                }
-                number = decision.parent;
-            }
-        }
-        Ok(multipliers)
+        self.standings.len()
     }
 }
 
-fn sink(riders: &[u32], multipliers: &mut [i64]) {
-    for rider in riders {
-        let rider = *rider as usize;
-        if rider < multipliers.len() {
-            multipliers[rider] = SUNK;
-        }
+/// A node that isn't branched yet.
+fn node_at(decision: Option<Decision>, multipliers: Vec<i64>) -> DraftNode {
+    DraftNode {
+        decision,
+        branch: None,
+        multipliers,
     }
 }
 
-/// A node where the relaxation stands.
-fn node_of(
+/// Where the relaxation stands.
+fn standing_of(
     alloc: Global,
     table: &RowTable,
     relaxation: &mut Relaxation,
-    decision: Option<Decision>,
-) -> Result<DraftNode, OutOfMemory> {
+) -> Result<Standing, OutOfMemory> {
     let mut shares = Vec::new(alloc);
     relaxation.find_shares(table, &mut shares)?;
     let mut parts = Vec::new(alloc);
@@ -371,24 +335,11 @@ fn node_of(
             parts.push(*share)?;
         }
     }
-    Ok(DraftNode {
-        decision,
-        branch: None,
-        multipliers: relaxation.multipliers(alloc, table.rider_count())?,
+    Ok(Standing {
         value: relaxation.value(),
         basis: Vec::from_slice(alloc, relaxation.columns())?,
         shares: parts,
     })
-}
-
-/// Gives a node its parent's multipliers where those are better.
-fn inherit(node: &mut DraftNode, parent: &DraftNode) -> Result<(), OutOfMemory> {
-    if node.value < parent.value {
-        node.value = parent.value;
-        node.multipliers.clear();
-        node.multipliers.extend_from_slice(&parent.multipliers)?;
-    }
-    Ok(())
 }
 
 /// A value in 1/1024 second, in seconds, rounded up.

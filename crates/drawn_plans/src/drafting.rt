@@ -1,9 +1,9 @@
 //! Drafts of three vehicles whose pairs share riders, and the dives and small searches that they are made of.
 use draft_trees::{by_falling_part, dive, solve_part};
 use linear_relaxation::Relaxation;
-use plan_drafts::make_draft;
+use plan_drafts::RelaxationDrafter;
 use pool_base::OutOfMemory;
-use row_tables::{Draws, RowTable, Share};
+use row_tables::{Drafter, Draws, RowTable, Share};
 use std::alloc::Global;
 use std::test::Fail;
 
@@ -87,7 +87,7 @@ fn parts_are_solved(rt: HostRuntime) -> Result<(), Fail> {
 /// What the plan of a draft costs, and its bound.
 fn drafted(alloc: Global) -> Result<(i64, i64), OutOfMemory> {
     let table = table_of_pairs(alloc)?;
-    let draft = make_draft(alloc, &table, &[Some(0), Some(3), Some(5)], 20)?;
+    let draft = RelaxationDrafter.draft(alloc, &table, &[Some(0), Some(3), Some(5)], 20)?;
     Ok((draft.cost, draft.bound))
 }
 

@@ -5,6 +5,7 @@ use assignment_search::search;
 use bound_checker::check;
 use dual_bound::leaf_value;
 use linear_relaxation::Relaxation;
+use plan_drafts::RelaxationDrafter;
 use plan_rules::TripGraph;
 use pool_base::OutOfMemory;
 use rand_xoshiro::Xoshiro256PlusPlus;
@@ -16,7 +17,7 @@ use std::test::Fail;
 /// What a search with this budget says: its bound, its cost, how many nodes it has, and what the checker
 /// says of its tree.
 fn told(alloc: Global, graph: &TripGraph, budget: u32) -> Option<(i128, u64, usize, i128)> {
-    let found = search(alloc, graph, budget.max(1)).ok()?;
+    let found = search(alloc, graph, budget.max(1), &RelaxationDrafter).ok()?;
     let checked = check(alloc, graph, &found.tree).ok()?;
     Some((found.bound, found.cost, found.tree.nodes().len(), checked))
 }
@@ -106,7 +107,7 @@ fn finds(
 
 /// Whether it chooses these rows.
 fn chooses(alloc: Global, graph: &TripGraph, rows: &[Option<u32>]) -> bool {
-    match search(alloc, graph, 1) {
+    match search(alloc, graph, 1, &RelaxationDrafter) {
         Ok(found) => found.plan.chosen() == rows && found.tree.nodes().len() == 1,
         Err(_) => false,
     }

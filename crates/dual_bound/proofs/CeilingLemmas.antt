@@ -7,7 +7,7 @@ use Rattle.plan_rules.specs.Sums.{int_sum_below}
 use Rattle.plan_rules.specs.Graph.{Graph, riders_at, row_vehicle, cost_at, IsGoodGraph}
 use Rattle.plan_rules.specs.Multipliers.{Usable, multiplier_at, multiplier_sum, least_cost, room_at, first_fit, first_fit_value}
 use Rattle.plan_rules.proofs.lemmas.SumLemmas.{int_sum_same, int_sum_le}
-use Rattle.dual_bound.specs.Size.{IsModest, HasLeastCosts}
+use Rattle.dual_bound.specs.work.Size.{IsModest, HasLeastCosts}
 use Rattle.dual_bound.specs.work.Ceiling.{AreCeilings}
 use Rattle.dual_bound.proofs.lemmas.FirstFitValueLemmas.{positive_sum, first_fit_leaves_room, first_fit_value_is}
 

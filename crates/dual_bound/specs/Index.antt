@@ -1,6 +1,5 @@
-use Rattle.std.specs.Prelude.{◌≡◌, ℕ, suc, ◌<◌, ◌≤◌, ◌&&◌, true, List, length, slice_index_or}
-use Rattle.plan_rules.specs.Graph.{Graph, riders_at, has_rider}
-use Rattle.plan_rules.specs.Multipliers.{Usable}
+use Rattle.std.specs.Prelude.{◌≡◌, ℕ, suc, ◌<◌, ◌≤◌, true, List, length, slice_index_or}
+use Rattle.plan_rules.specs.Graph.{Graph, riders_at}
 use Rattle.dual_bound.specs.declared.rider_index.RiderIndex.{RiderIndex}
 
 -- the row stands in the rider's list: between where that starts and where the next rider's does
@@ -19,10 +18,3 @@ ListsAll g starts rows =
 -- an index that counts as whole is
 abbrev pub IsIndexOf : Graph → RiderIndex → Type 0
 IsIndexOf g index = index.is_whole ≡ true → ListsAll g index.starts.items index.rows.items
-
--- the row stands at this place of a list, may be chosen and has the rider
-pub record IsRowListed (g : Graph) (usable : Usable) (rows : List ℕ) (r place k : ℕ) : Type 0 where
-  pub within : place < length rows
-  pub row : slice_index_or rows place 0 ≡ k
-  pub exists : k < length g.rows
-  pub usable_has : (usable k && has_rider g k r) ≡ true

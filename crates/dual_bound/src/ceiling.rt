@@ -4,7 +4,7 @@ ghost use Rattle.plan_rules.specs.Sums.{int_sum_below};
 ghost use Rattle.plan_rules.specs.Multipliers.{usable_of, multiplier_at, first_fit, first_fit_value};
 ghost use Rattle.plan_rules.specs.Graph.{riders_at};
 ghost use Rattle.dual_bound.specs.Cheapest.{AreCheapestOf};
-ghost use Rattle.dual_bound.specs.Size.{HasLeastCosts, IsCost, IsModest};
+ghost use Rattle.dual_bound.specs.work.Size.{HasLeastCosts, IsCost, IsModest};
 ghost use Rattle.dual_bound.specs.work.Ceiling.{AreCeilings};
 
 use crate::cheapest::{CheapestRows, least_costs, least_costs_by};

@@ -5,7 +5,7 @@ ghost use Rattle.plan_rules.specs.Graph.{cost_at};
 ghost use Rattle.plan_rules.specs.Multipliers.{usable_of, least_cost};
 ghost use Rattle.plan_rules.specs.Tree.{MayUse};
 ghost use Rattle.dual_bound.specs.Cheapest.{IsNoCheaper, AreCheapest, AreCheapestOf};
-ghost use Rattle.dual_bound.specs.Size.{HasLeastCosts, IsCost};
+ghost use Rattle.dual_bound.specs.work.Size.{HasLeastCosts, IsCost};
 
 use plan_rules::TripGraph;
 use pool_base::OutOfMemory;

@@ -3,8 +3,9 @@ ghost use Rattle.std.specs.Prelude.{◌≡◌, ◌*◌, ◌<◌, ◌≤◌, ◌&
 ghost use Rattle.plan_rules.specs.Sums.{lesser, least_below, int_sum_below};
 ghost use Rattle.plan_rules.specs.Multipliers.{usable_of, leaf_value, least_cost, first_fit, first_fit_of, room_at, multiplier_at, multiplier_sum};
 ghost use Rattle.plan_rules.specs.Graph.{has_rider};
-ghost use Rattle.dual_bound.specs.Size.{IsCost, IsModest, HasLeastCosts};
-ghost use Rattle.dual_bound.specs.Index.{IsIndexOf, ListsAll, IsRowListed};
+ghost use Rattle.dual_bound.specs.work.Size.{IsCost, IsModest, HasLeastCosts};
+ghost use Rattle.dual_bound.specs.Index.{IsIndexOf, ListsAll};
+ghost use Rattle.dual_bound.specs.work.Index.{IsRowListed};
 
 use crate::cheapest::least_costs;
 use crate::rider_index::RiderIndex;

@@ -1,4 +1,5 @@
 pub mod Command
 pub mod Reply
 pub mod Next
+pub mod lemmas
 pub mod work

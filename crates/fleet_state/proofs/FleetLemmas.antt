@@ -13,7 +13,7 @@ use Rattle.fleet_state.specs.declared.fault.FleetFault.{FleetFault}
 use Rattle.fleet_state.specs.declared.fault.FleetFault.TheVariants.{TooManyVehicles, Duplicate}
 use Rattle.fleet_state.specs.Vehicle.{vehicle_in}
 use Rattle.fleet_state.specs.Fleet.{vehicle_of_row, vehicles_of}
-use Rattle.fleet_state.specs.work.Named.{is_repeated}
+use Rattle.fleet_state.specs.lemmas.Named.{is_repeated}
 use Rattle.fleet_state.specs.work.Place.{has_vehicle}
 use Rattle.fleet_state.proofs.PlaceLemmas.{list_any-insert}
 

@@ -9,7 +9,7 @@ use Rattle.std.proofs.lemmas.List.Folds.{list_any-append, list_any_none, list_an
 use Rattle.batch_snapshot.specs.declared.vehicle.Vehicle.{Vehicle}
 use Rattle.batch_snapshot.specs.Vehicle.{HasSeats}
 use Rattle.batch_snapshot.specs.Kept.{IsFleet}
-use Rattle.fleet_state.specs.work.Named.{empty_vehicle}
+use Rattle.fleet_state.specs.lemmas.Named.{empty_vehicle}
 use Rattle.fleet_state.specs.work.Place.{has_vehicle, has_id_at, IsPlaceOf}
 
 swapped : (a b c : Bool) → (a || (b || c)) ≡ (b || (a || c))

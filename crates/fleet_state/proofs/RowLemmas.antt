@@ -11,7 +11,7 @@ use Rattle.pool_base.specs.Numeral.{number_in, number_at}
 use Rattle.pool_base.proofs.lemmas.InOrderLemmas.{then_ok, refused_where-passed}
 use Rattle.pool_base.proofs.lemmas.NumeralLemmas.{number_in-at}
 use Rattle.fleet_state.specs.Vehicle.{vehicle_in}
-use Rattle.fleet_state.specs.work.Named.{empty_vehicle}
+use Rattle.fleet_state.specs.lemmas.Named.{empty_vehicle}
 use Rattle.road_network.specs.Roads.{has_node}
 
 -- what is known of a vehicle that a row gives

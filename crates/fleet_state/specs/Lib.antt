@@ -1,3 +1,4 @@
 pub mod Vehicle
 pub mod Fleet
+pub mod lemmas
 pub mod work

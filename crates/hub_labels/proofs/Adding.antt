@@ -5,7 +5,7 @@ use Rattle.pool_base.specs.TravelTime.{never, longest}
 use Rattle.road_network.specs.declared.arc.Arc.{Arc}
 use Rattle.road_network.specs.declared.hop.Hop.{Hop}
 use Rattle.road_network.specs.Roads.{IsArcAmong}
-use Rattle.travel_times.specs.work.Search.{HasWalkOf}
+use Rattle.travel_times.specs.lemmas.Search.{HasWalkOf}
 use Rattle.hub_labels.specs.declared.hub.Hub.{Hub}
 use Rattle.hub_labels.specs.work.Hops.{AreNodeHops}
 use Rattle.hub_labels.specs.work.Ranked.{IsLabelBelow, AreLabelsBelow, IsRankedHub}

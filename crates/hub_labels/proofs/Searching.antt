@@ -7,7 +7,7 @@ use Rattle.road_network.specs.declared.arc.Arc.{Arc}
 use Rattle.road_network.specs.declared.hop.Hop.{Hop}
 use Rattle.road_network.specs.Walk.{IsWalk, walk_seconds}
 use Rattle.road_network.specs.Roads.{IsArcAmong, hop_of}
-use Rattle.travel_times.specs.work.Search.{waits, HasWalkOf, IsNextTaken, IsHopRelaxed, RelaxesHops}
+use Rattle.travel_times.specs.lemmas.Search.{waits, HasWalkOf, IsNextTaken, IsHopRelaxed, RelaxesHops}
 use Rattle.travel_times.proofs.lemmas.WalkLemmas.{IsWalk-push, walk_seconds-push}
 use Rattle.hub_labels.specs.declared.hub.Hub.{Hub}
 use Rattle.hub_labels.specs.work.Hops.{arc_from, AreHopsOf}

@@ -2,7 +2,7 @@
 ghost use Rattle.std.specs.Prelude.{◌≡◌, ℕ, ◌+◌, ◌<◌, ◌≤◌, false, [], All, Contains, OnOk, length, slice_index, slice_index_or};
 ghost use Rattle.pool_base.specs.TravelTime.{longest, never};
 ghost use Rattle.road_network.specs.Roads.{IsArcAmong};
-ghost use Rattle.travel_times.specs.work.Search.{RelaxesHops, waits};
+ghost use Rattle.travel_times.specs.lemmas.Search.{RelaxesHops, waits};
 ghost use Rattle.hub_labels.specs.work.Hops.{AreNodeHops};
 ghost use Rattle.hub_labels.specs.work.Pruned.{IsPruned};
 

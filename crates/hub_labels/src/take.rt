@@ -1,6 +1,6 @@
 //! Which node of a search comes next.
 ghost use Rattle.std.specs.Prelude.{◌≡◌, ℕ, ◌<◌, true, false, IfSome, IfNone, length};
-ghost use Rattle.travel_times.specs.work.Search.{IsNextTaken, waits};
+ghost use Rattle.travel_times.specs.lemmas.Search.{IsNextTaken, waits};
 
 use travel_times::Ring;
 

@@ -4,7 +4,7 @@ use Rattle.std.proofs.lemmas.List.Concat.{flat_map-append}
 use Rattle.rand_core.specs.Stream.{Stream}
 use Rattle.load_maker.specs.declared.row.Field.{Field}
 use Rattle.load_maker.specs.Row.{csv_line}
-use Rattle.load_maker.specs.work.Parts.{csv_lines, nothing}
+use Rattle.load_maker.specs.lemmas.Parts.{csv_lines, nothing}
 use Rattle.load_maker.specs.Part.{Part, plain, both, each}
 use Rattle.load_maker.specs.work.Written.{Writes}
 

@@ -72,8 +72,4 @@ texts_of shape =
     let network = each (λ i. each (arcs_of_node shape.side i) shape.side) shape.side (stream_of splitmix_steps shape.seed) in
     let fleet = each (λ n. vehicle_row shape (n + 1)) shape.vehicles network.1 in
     let script = each (batch_rows shape) shape.rounds fleet.1 in
-    record {
-      network = text_under network_header network.0;
-      fleet = text_under fleet_header fleet.0;
-      script = text_under script_header script.0;
-    }
+    record { network = text_under network_header network.0; fleet = text_under fleet_header fleet.0; script = text_under script_header script.0 }

@@ -1,6 +1,6 @@
 ghost use Rattle.std.specs.Prelude.{◌≡◌, ◌*◌, ◌<◌, ◌≤◌};
 ghost use Rattle.load_maker.specs.Part.{draw};
-ghost use Rattle.load_maker.specs.work.Parts.{draws_of};
+ghost use Rattle.load_maker.specs.lemmas.Parts.{draws_of};
 ghost use Rattle.load_maker.specs.Texts.{drawn_node};
 
 use rand_core::Rng;

@@ -1,5 +1,5 @@
 ghost use Rattle.std.specs.Prelude.{◌≡◌, ◌≤◌, OnOk};
-ghost use Rattle.load_maker.specs.work.Parts.{draws_of, fleet_part};
+ghost use Rattle.load_maker.specs.lemmas.Parts.{draws_of, fleet_part};
 ghost use Rattle.load_maker.specs.work.Written.{Writes};
 ghost use Rattle.load_maker.specs.Texts.{vehicle_row};
 

@@ -1,5 +1,5 @@
 ghost use Rattle.std.specs.Prelude.{◌≡◌, ◌*◌, ◌<◌, ◌≤◌, OnOk};
-ghost use Rattle.load_maker.specs.work.Parts.{draws_of, arcs_right, arcs_down, arcs_of_row, network_part};
+ghost use Rattle.load_maker.specs.lemmas.Parts.{draws_of, arcs_right, arcs_down, arcs_of_row, network_part};
 ghost use Rattle.load_maker.specs.work.Written.{Writes};
 ghost use Rattle.load_maker.specs.Texts.{node_id, arcs_between};
 

@@ -1,6 +1,6 @@
 ghost use Rattle.std.specs.Prelude.{◌≡◌, ◌<◌, ◌≤◌, ◌^◌, ◌++◌, OnOk};
 ghost use Rattle.load_maker.specs.Row.{csv_line};
-ghost use Rattle.load_maker.specs.work.Parts.{draws_of, all_reports, other_than, seal_row, reports, submits, script_part};
+ghost use Rattle.load_maker.specs.lemmas.Parts.{draws_of, all_reports, other_than, seal_row, reports, submits, script_part};
 ghost use Rattle.load_maker.specs.work.Written.{Writes};
 ghost use Rattle.load_maker.specs.Texts.{report_row, submit_row, batch_rows};
 

@@ -10,7 +10,7 @@ use Rattle.csv.specs.Writing.{default_writer, field_text as written, fields_text
 use Rattle.csv.specs.declared.parser.State.TheVariants as st
 use Rattle.csv.proofs.RoundTrip.{read-write-many}
 use Rattle.pool_base.specs.Number.{IsDigit, AllDigits, IsNumeralOf}
-use Rattle.pool_base.specs.work.Number.{value_after}
+use Rattle.pool_base.specs.lemmas.Number.{value_after}
 use Rattle.pool_base.specs.Numeral.{number_up_to}
 use Rattle.pool_base.proofs.lemmas.NumeralLemmas.{is_numeral-digits, number_up_to-given}
 use Rattle.load_maker.specs.declared.row.Field.{Field}

@@ -12,14 +12,14 @@ use Rattle.batch_snapshot.specs.declared.vehicle.Vehicle.{Vehicle}
 use Rattle.road_network.specs.Reading.{nodes_of}
 use Rattle.fleet_state.specs.declared.fault.FleetFault.TheVariants.{TooManyVehicles, Duplicate}
 use Rattle.fleet_state.specs.Vehicle.{vehicle_in}
-use Rattle.fleet_state.specs.work.Named.{empty_vehicle, is_repeated}
+use Rattle.fleet_state.specs.lemmas.Named.{empty_vehicle, is_repeated}
 use Rattle.road_network.specs.Roads.{has_node}
 use Rattle.fleet_state.specs.Fleet.{vehicle_of_row, IsFleetOf}
 use Rattle.rider_limits.specs.declared.load_shape.LoadShape.{LoadShape}
 use Rattle.load_maker.specs.declared.row.Field.{Field}
 use Rattle.load_maker.specs.declared.row.Field.TheVariants as field
 use Rattle.load_maker.specs.Part.{draw, Part, each}
-use Rattle.load_maker.specs.work.Parts.{draws_of, fleet_part, network_part}
+use Rattle.load_maker.specs.lemmas.Parts.{draws_of, fleet_part, network_part}
 use Rattle.load_maker.specs.Texts.{drawn_node, vehicle_row}
 use Rattle.made_inputs.proofs.FieldLemmas.{AllFit, number_up_to-decimal}
 use Rattle.made_inputs.proofs.TextLemmas.{fields_of, RowsFit}

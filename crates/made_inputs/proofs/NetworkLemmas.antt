@@ -9,15 +9,15 @@ use Rattle.rand_core.specs.Stream.{Stream, next_u64}
 use Rattle.pool_base.specs.Numeral.{number_up_to}
 use Rattle.pool_base.proofs.lemmas.DistinctLemmas.{length-distinct}
 use Rattle.pool_base.proofs.lemmas.InOrderLemmas.{first_fault-all}
-use Rattle.road_network.specs.work.Limits.{most_nodes, most_arcs, longest_arc, greatest_name}
+use Rattle.road_network.specs.lemmas.Limits.{most_nodes, most_arcs, longest_arc, greatest_name}
 use Rattle.road_network.specs.Reading.{nodes_of, field_refusal, refusal_at, network_of}
-use Rattle.road_network.specs.work.Rows.{unless_refused, names_in, roads_of, first_refusal}
+use Rattle.road_network.specs.lemmas.Rows.{unless_refused, names_in, roads_of, first_refusal}
 use Rattle.road_network.specs.declared.fault.NetworkFault.TheVariants.{TooManyArcs, TooManyNodes}
 use Rattle.rider_limits.specs.declared.load_shape.LoadShape.{LoadShape}
 use Rattle.load_maker.specs.declared.row.Field.{Field}
 use Rattle.load_maker.specs.declared.row.Field.TheVariants as field
 use Rattle.load_maker.specs.Part.{draw, Part, both, each}
-use Rattle.load_maker.specs.work.Parts.{draws_of, nothing, arcs_right, arcs_down, arcs_of_row, network_part}
+use Rattle.load_maker.specs.lemmas.Parts.{draws_of, nothing, arcs_right, arcs_down, arcs_of_row, network_part}
 use Rattle.load_maker.specs.Texts.{node_id, arcs_between}
 use Rattle.made_inputs.proofs.FieldLemmas.{AllFit, number_up_to-decimal}
 use Rattle.made_inputs.proofs.TextLemmas.{fields_of, RowsFit}

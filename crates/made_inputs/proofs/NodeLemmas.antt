@@ -8,15 +8,15 @@ use Rattle.std.proofs.Math.Nat.{div-lt_iff_lt-mul}
 use Rattle.rand_core.specs.Stream.{Stream}
 use Rattle.pool_base.specs.Numeral.{number_up_to, number_at}
 use Rattle.road_network.specs.Roads.{has_node}
-use Rattle.road_network.specs.work.Limits.{greatest_name}
+use Rattle.road_network.specs.lemmas.Limits.{greatest_name}
 use Rattle.road_network.specs.Reading.{nodes_of}
-use Rattle.road_network.specs.work.Rows.{names_in}
+use Rattle.road_network.specs.lemmas.Rows.{names_in}
 use Rattle.pool_base.proofs.lemmas.DistinctLemmas.{any-distinct}
 use Rattle.rider_limits.specs.declared.load_shape.LoadShape.{LoadShape}
 use Rattle.load_maker.specs.declared.row.Field.{Field}
 use Rattle.load_maker.specs.declared.row.Field.TheVariants as field
 use Rattle.load_maker.specs.Part.{draw, Part, both, each}
-use Rattle.load_maker.specs.work.Parts.{draws_of, nothing, arcs_right, arcs_down, arcs_of_row, network_part}
+use Rattle.load_maker.specs.lemmas.Parts.{draws_of, nothing, arcs_right, arcs_down, arcs_of_row, network_part}
 use Rattle.load_maker.specs.Texts.{node_id, arcs_between}
 use Rattle.made_inputs.proofs.FieldLemmas.{number_up_to-decimal}
 use Rattle.made_inputs.proofs.TextLemmas.{fields_of}

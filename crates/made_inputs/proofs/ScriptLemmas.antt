@@ -15,12 +15,12 @@ use Rattle.script_rows.specs.Word.{word_of}
 use Rattle.script_rows.specs.Line.{party_in, submit_in, three_in, command_in, leaves_empty, line_in}
 use Rattle.script_rows.specs.Round.{NumberedLanes}
 use Rattle.script_rows.specs.Script.{round_before, script_of}
-use Rattle.script_rows.specs.work.Named.{line_at, rounds_of}
+use Rattle.script_rows.specs.lemmas.Named.{line_at, rounds_of}
 use Rattle.rider_limits.specs.declared.load_shape.LoadShape.{LoadShape}
 use Rattle.load_maker.specs.declared.row.Field.{Field}
 use Rattle.load_maker.specs.declared.row.Field.TheVariants as field
 use Rattle.load_maker.specs.Part.{draw, Part, plain, both, each}
-use Rattle.load_maker.specs.work.Parts.{draws_of, nothing, all_reports, other_than, seal_row, reports, submits, script_part, fleet_part, network_part}
+use Rattle.load_maker.specs.lemmas.Parts.{draws_of, nothing, all_reports, other_than, seal_row, reports, submits, script_part, fleet_part, network_part}
 use Rattle.load_maker.specs.Texts.{drawn_node, report_row, submit_row, batch_rows}
 use Rattle.made_inputs.proofs.FieldLemmas.{AllFit, number_up_to-decimal}
 use Rattle.made_inputs.proofs.TextLemmas.{fields_of, RowsFit}

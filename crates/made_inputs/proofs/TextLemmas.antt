@@ -8,10 +8,10 @@ use Rattle.csv.specs.Reading.{default_config, records_from, records_next, record
 use Rattle.csv.specs.declared.parser.State.TheVariants as st
 use Rattle.pool_io.specs.declared.records.RowFault.TheVariants.{Header, UnequalLength}
 use Rattle.pool_io.specs.Table.{header_fields, rows_under, table_of}
-use Rattle.pool_io.specs.work.Records.{records_of, is_record, even_rows}
+use Rattle.pool_io.specs.lemmas.Records.{records_of, is_record, even_rows}
 use Rattle.load_maker.specs.declared.row.Field.{Field}
 use Rattle.load_maker.specs.Row.{field_text, text_under, csv_line}
-use Rattle.load_maker.specs.work.Parts.{csv_lines}
+use Rattle.load_maker.specs.lemmas.Parts.{csv_lines}
 use Rattle.pool_base.specs.Header.{script_header, fleet_header, network_header}
 use Rattle.made_inputs.proofs.FieldLemmas.{AllFit, row_read}
 

@@ -3,7 +3,7 @@ use Rattle.stop_orders.specs.declared.settled.Settled.{Settled}
 use Rattle.stop_orders.specs.Settled.{IsRvEdge, IsRrEdge}
 use Rattle.pair_graph.specs.declared.rv_edge.RvEdge.{RvEdge}
 use Rattle.pair_graph.specs.RvGraph.{no_edge}
-use Rattle.pair_graph.specs.work.Edge.{pair_of}
+use Rattle.pair_graph.specs.lemmas.Edge.{pair_of}
 use Rattle.pair_graph.specs.work.RvGraph.{IsRvGraphUpTo}
 use Rattle.pair_graph.specs.work.RrGraph.{IsRrGraphUpTo}
 use Rattle.pair_graph.proofs.lemmas.Listing.{ListsBefore}

@@ -1,3 +1,4 @@
 pub mod RvGraph
 pub mod RrGraph
+pub mod lemmas
 pub mod work

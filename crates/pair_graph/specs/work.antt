@@ -1,3 +1,2 @@
-pub mod Edge
 pub mod RvGraph
 pub mod RrGraph

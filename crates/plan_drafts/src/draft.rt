@@ -3,7 +3,7 @@ use crate::plans::Plans;
 use draft_trees::{DraftTree, Effort, Growth, by_falling_part, dive, seconds_of};
 use linear_relaxation::{Relaxation, first_multipliers};
 use pool_base::OutOfMemory;
-use row_tables::{Draws, RowTable, Share};
+use row_tables::{Draft, Drafter, Draws, RowTable, Share};
 use std::alloc::Global;
 
 /// Beyond so many rows the first multipliers take more turns.
@@ -73,13 +73,29 @@ struct Drafting {
     draws: Draws,
 }
 
+/// Drafts by the relaxation of all rows, as this crate does.
+#[derive(Clone, Copy)]
+pub struct RelaxationDrafter;
+
+impl Drafter for RelaxationDrafter {
+    fn draft(
+        &self,
+        alloc: Global,
+        table: &RowTable,
+        held: &[Option<u32>],
+        budget: usize,
+    ) -> Result<Draft, OutOfMemory> {
+        make_draft(alloc, table, held, budget)
+    }
+}
+
 /// The best plan that is found, and a tree of at most so many nodes. The held plan is lawful.
-pub fn make_draft(
+fn make_draft(
     alloc: Global,
     table: &RowTable,
     held: &[Option<u32>],
     budget: usize,
-) -> Result<DraftTree, OutOfMemory> {
+) -> Result<Draft, OutOfMemory> {
     let mut drafting = Drafting::new(alloc, table, held)?;
     drafting.make_plans(table)?;
     let mut tree = drafting.quick_tree(table, budget)?;
@@ -87,15 +103,16 @@ pub fn make_draft(
         drafting.make_more_plans(table)?;
         if drafting.is_open() && drafting.is_worth_trials(table) {
             let other = drafting.strong_tree(table, budget)?;
-            if other.bound >= tree.bound {
+            if other.draft.bound >= tree.draft.bound {
                 tree = other;
             }
         }
     }
-    tree.plan.clear();
-    tree.plan.extend_from_slice(&drafting.plan)?;
-    tree.cost = drafting.cost;
-    Ok(tree)
+    let mut draft = tree.draft;
+    draft.plan.clear();
+    draft.plan.extend_from_slice(&drafting.plan)?;
+    draft.cost = drafting.cost;
+    Ok(draft)
 }
 
 impl Drafting {
@@ -289,11 +306,11 @@ impl Drafting {
         if self.is_open() {
             tree.grow(self.alloc, table, &mut self.relaxation, growth)?;
         }
-        self.bound = self.bound.max(tree.bound);
-        if tree.cost < self.cost {
-            self.cost = tree.cost;
+        self.bound = self.bound.max(tree.draft.bound);
+        if tree.draft.cost < self.cost {
+            self.cost = tree.draft.cost;
             self.plan.clear();
-            self.plan.extend_from_slice(&tree.plan)?;
+            self.plan.extend_from_slice(&tree.draft.plan)?;
         }
         Ok(())
     }

@@ -7,4 +7,4 @@
 mod draft;
 mod plans;
 
-pub use draft::make_draft;
+pub use draft::RelaxationDrafter;

@@ -14,10 +14,11 @@ use std::alloc::Global;
 /// How many rows of a vehicle are looked at.
 const MOST_ROWS: usize = 200;
 
-/// A regret counts up to this, and stands before a row's number below this in a rank.
-const MOST_REGRET: u64 = 1 << 42;
+/// A regret counts up to this, in 1/1024 second.
+const MOST_REGRET: i64 = 1 << 42;
 
-const ROWS: u64 = 1 << 21;
+/// A regret, and then a row or place: what these are sorted by.
+type Rank = (i64, u32);
 
 /// For each vehicle some of its rows, each at a place of its own, by rising regret.
 #[derive(Drop)]
@@ -88,14 +89,14 @@ impl Regrets {
         &mut self,
         table: &RowTable,
         vehicle: usize,
-        ranks: &[u64],
+        ranks: &[Rank],
     ) -> Result<(), OutOfMemory> {
         let first = table.rows_of(vehicle).start;
-        for rank in ranks {
-            let row = first.saturating_add((*rank % ROWS) as usize);
+        for (above, offset) in ranks {
+            let row = first.saturating_add(*offset as usize);
             self.rows.push(short(row))?;
             self.vehicles.push(short(vehicle))?;
-            self.above.push((*rank / ROWS) as i64)?;
+            self.above.push(*above)?;
             for rider in table.riders_of(row) {
                 self.riders.push(*rider)?;
             }
@@ -111,8 +112,8 @@ impl Regrets {
             ranks.push(rank_of(*above, place))?;
         }
         ranks.as_mut_slice().sort_unstable();
-        for rank in &ranks {
-            self.order.push((*rank % ROWS) as u32)?;
+        for (_, place) in &ranks {
+            self.order.push(*place)?;
         }
         Ok(())
     }
@@ -207,11 +208,8 @@ impl Regrets {
     }
 }
 
-/// A number that rises with the regret, then with the row or place.
-fn rank_of(above: i64, place: usize) -> u64 {
-    let above = above.max(0).unsigned_abs().min(MOST_REGRET - 1);
-    let place = (place as u64).min(ROWS - 1);
-    above * ROWS + place
+fn rank_of(above: i64, place: usize) -> Rank {
+    (above.clamp(0, MOST_REGRET - 1), short(place))
 }
 
 /// What it costs to leave each rider out, above her multiplier; none is below 0.
@@ -245,7 +243,7 @@ fn rank_rows(
     vehicle: usize,
     kept: Option<u32>,
     costs: &mut Vec<i64>,
-    ranks: &mut Vec<u64>,
+    ranks: &mut Vec<Rank>,
 ) -> Result<(), OutOfMemory> {
     let rows = table.rows_of(vehicle);
     let first = rows.start;
@@ -318,7 +316,7 @@ fn add_rank(
     costs: &[i64],
     least: i64,
     offset: usize,
-    ranks: &mut Vec<u64>,
+    ranks: &mut Vec<Rank>,
 ) -> Result<(), OutOfMemory> {
     if offset < costs.len() {
         let rank = rank_of(costs[offset].saturating_sub(least), offset);

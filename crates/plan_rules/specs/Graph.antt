@@ -1,4 +1,4 @@
-use Rattle.std.specs.Prelude.{◌≡◌, ◌==◌, ℕ, suc, ◌+◌, ◌<◌, ◌≤◌, Bool, false, IsTrue, nat_lt, List, [], length, slice_index, slice_index_or, Option, Some, None, MatchOption}
+use Rattle.std.specs.Prelude.{◌≡◌, ◌==◌, ℕ, suc, ◌<◌, ◌≤◌, Bool, false, IsTrue, nat_lt, List, length, slice_index, slice_index_or, Option, Some, None, MatchOption, []}
 use Rattle.std.specs.List.{list_any}
 use Rattle.std.specs.List.Sorted.{IsStrictlyIncreasing}
 use Rattle.std.specs.Ordering.{nat_cmp, ordering_then}
@@ -82,8 +82,7 @@ pub record IsGraphRow (vehicles riders : ℕ) (row : TripRow) : Type 0 where
 abbrev pub row_cmp : TripRow → TripRow → Ordering
 row_cmp a b =
     ordering_then (nat_cmp a.vehicle b.vehicle)
-    (ordering_then (nat_cmp (length a.riders.items) (length b.riders.items))
-    (slice_cmp nat_cmp a.riders.items b.riders.items))
+    (ordering_then (nat_cmp (length a.riders.items) (length b.riders.items)) (slice_cmp nat_cmp a.riders.items b.riders.items))
 
 -- the row of this number is above the one before it
 abbrev pub IsInOrder : Graph → ℕ → Type 0
@@ -115,27 +114,3 @@ pub record IsStartOf (g : Graph) (v start : ℕ) : Type 0 where
   pub within : start ≤ length g.rows
   pub below : (k : ℕ) → k < start → row_vehicle g k < v
   pub above : (k : ℕ) → start ≤ k → k < length g.rows → v ≤ row_vehicle g k
-
--- the rows of vehicle v begin at the v-th of these numbers and end before the next one
-pub record IsRowIndex (g : Graph) (index : List ℕ) : Type 0 where
-  pub sized : length index ≡ g.vehicles + 1
-  pub starts : (v : ℕ) → v ≤ g.vehicles → IsStartOf g v (slice_index index v)
-
--- each choice of these is a row of the graph
-abbrev pub ChoosesRows : Graph → List (Option ℕ) → Type 0
-ChoosesRows g chosen = (v k : ℕ) → choice_at chosen v ≡ Some k → k < length g.rows
-
--- the r-th says whether one of the first n vehicles holds rider r
-pub record MarksHeld (g : Graph) (n : ℕ) (flags : List Bool) : Type 0 where
-  pub sized : length flags ≡ g.riders
-  pub marks : (r : ℕ) → r < g.riders → slice_index_or flags r false ≡ nat_lt 0 (times_served g g.held n r)
-
--- the r-th says whether rider r must be served
-abbrev pub MarksMust : Graph → List Bool → Type 0
-MarksMust g flags = MarksHeld g g.vehicles flags
-
--- what a trip graph keeps beside its parts
-pub record IsKept (g : Graph) (index : List ℕ) (flags : List Bool) : Type 0 where
-  pub good : IsGoodGraph g
-  pub starts : IsRowIndex g index
-  pub must : MarksMust g flags

@@ -30,11 +30,6 @@ pub record IsFirstOutOfOrder (g : Graph) (row : ℕ) : Type 0 where
   pub rows : HasGoodRows g
   pub first : IsFirstUnordered g row
 
--- each vehicle holds rightly
-pub record HasHeldRows (g : Graph) : Type 0 where
-  pub sized : length g.held ≡ g.vehicles
-  pub holds : (v : ℕ) → v < g.vehicles → HoldsRightly g v
-
 -- the least vehicle that holds wrongly; the number of vehicles where only the length of the list differs
 pub record IsFirstHeldWrongly (g : Graph) (vehicle : ℕ) : Type 0 where
   pub rows : HasGoodRows g

@@ -5,8 +5,7 @@ use Rattle.plan_rules.specs.Graph.{Graph, riders_at, cost_at, row_vehicle, has_r
 abbrev pub IsTriedBefore : Graph → ℕ → ℕ → Type 0
 IsTriedBefore g j k =
     (length (riders_at g k) < length (riders_at g j))
-    ⊎ ((length (riders_at g j) ≡ length (riders_at g k))
-    × ((cost_at g j < cost_at g k) ⊎ ((cost_at g j ≡ cost_at g k) × (j < k))))
+    ⊎ ((length (riders_at g j) ≡ length (riders_at g k)) × ((cost_at g j < cost_at g k) ⊎ ((cost_at g j ≡ cost_at g k) × (j < k))))
 
 -- the rows have neither a vehicle nor a rider in common
 pub record IsApart (g : Graph) (j k : ℕ) : Type 0 where

@@ -8,6 +8,6 @@ pub mod Multipliers
 pub mod Tree
 pub mod Reading
 pub mod Path
-pub mod Rank
 pub mod Size
+pub mod lemmas
 pub mod work

@@ -34,8 +34,7 @@ vehicle_term g usable ms v = unwrap_or (least_below (length g.rows) (is_usable_b
 
 -- the rider's multiplier, and at most the penalty where she may be left out
 abbrev pub rider_term : Graph → List ℤ → ℕ → ℤ
-rider_term g ms r =
-    if must_be_served g r then multiplier_at ms r else int_min (multiplier_at ms r) (pos (1024 * g.penalty))
+rider_term g ms r = if must_be_served g r then multiplier_at ms r else int_min (multiplier_at ms r) (pos (1024 * g.penalty))
 
 -- what the multipliers show of every plan of usable rows, in 1/1024 second
 unfoldable pub leaf_value : Graph → Usable → List ℤ → ℤ
@@ -47,8 +46,7 @@ least_cost g usable v = unwrap_or (least_below (length g.rows) (is_usable_by g u
 
 -- what the row costs above its vehicle's cheapest one, less the multipliers that its riders have so far
 abbrev pub room_at : Graph → Usable → List ℤ → ℕ → ℤ
-room_at g usable ms k =
-    pos 1024 *ℤ (pos (cost_at g k) -ℤ least_cost g usable (row_vehicle g k)) -ℤ multiplier_sum ms (riders_at g k)
+room_at g usable ms k = pos 1024 *ℤ (pos (cost_at g k) -ℤ least_cost g usable (row_vehicle g k)) -ℤ multiplier_sum ms (riders_at g k)
 
 -- the next rider's first-fit multiplier: the least of the penalty and of the room of the usable rows that have her
 abbrev pub first_fit_of : Graph → Usable → List ℤ → ℕ → ℤ

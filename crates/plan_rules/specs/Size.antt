@@ -1,7 +1,6 @@
+use Rattle.std.specs.Prelude.{ℕ, ◌*◌, ℤ, pos, neg_ℤ, ◌≤ℤ◌}
+
 -- How large the terms of a leaf value are.
-use Rattle.std.specs.Prelude.{ℕ, ◌*◌, ℤ, pos, neg_ℤ, ◌-ℤ◌, ◌≤ℤ◌, List}
-use Rattle.plan_rules.specs.Multipliers.{multiplier_sum}
-use Rattle.plan_rules.specs.declared.row.TripRow.{TripRow}
 
 -- a number of which n may be added up
 pub record IsSmallSum (n : ℕ) (z : ℤ) : Type 0 where
@@ -11,7 +10,3 @@ pub record IsSmallSum (n : ℕ) (z : ℤ) : Type 0 where
 -- a term of a leaf value
 abbrev pub IsSmall : ℤ → Type 0
 IsSmall z = IsSmallSum 1 z
-
--- what a row costs, less the multipliers of its riders
-abbrev pub reduced_cost_of : TripRow → List ℤ → ℤ
-reduced_cost_of row ms = pos (1024 * row.cost) -ℤ multiplier_sum ms row.riders.items

@@ -97,8 +97,7 @@ rounded_up (negsuc n) = neg_ℤ (pos (suc n / 1024))
 -- the least so far and, of a leaf, its value in seconds, rounded up
 abbrev pub with_leaf : Graph → Usable → Node → Option ℤ → Option ℤ
 with_leaf g usable (Leaf ms) least = Some (lesser least (rounded_up (leaf_value g usable ms)))
-with_leaf g usable (Branch v k) least = least
-with_leaf g usable Dead least = least
+with_leaf g usable _ least = least
 
 -- the least over these places' leaves
 abbrev pub least_leaf : Graph → List Place → Option ℤ

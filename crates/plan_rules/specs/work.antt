@@ -1,3 +1,5 @@
 pub mod DeadEnd
 pub mod Plan
-pub mod Tree
+pub mod Rank
+pub mod Graph
+pub mod Size

@@ -21,7 +21,8 @@ pub struct TripGraph {
 }
 
 impl Model for TripGraph {
-    ghost use Rattle.plan_rules.specs.Graph.{Graph, IsKept};
+    ghost use Rattle.plan_rules.specs.Graph.{Graph};
+    ghost use Rattle.plan_rules.specs.work.Graph.{IsKept};
     ghost use Rattle.plan_rules.specs.Parts.{graph_of};
 
     ghost Value = { Graph };

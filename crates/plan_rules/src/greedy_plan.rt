@@ -2,7 +2,7 @@
 ghost use Rattle.std.specs.Prelude.{◌≡◌, ◌↔◌, ◌⊎◌, ℕ, ◌<◌, IsTrue, IfOk, length, replicate};
 ghost use Rattle.plan_rules.specs.Graph.{IsGoodGraph, choice_at};
 ghost use Rattle.plan_rules.specs.Greedy.{IsGreedy, IsTaken};
-ghost use Rattle.plan_rules.specs.Rank.{AreRanks, IsRanking, IsSelection, IsInTheWay};
+ghost use Rattle.plan_rules.specs.work.Rank.{AreRanks, IsRanking, IsSelection, IsInTheWay};
 
 use crate::graph::TripGraph;
 use crate::marks::{is_any_marked, mark_riders};

@@ -1,7 +1,9 @@
 //! Judges which row each vehicle holds, and marks the riders who must be served.
 ghost use Rattle.std.specs.Prelude.{◌≡◌, ◌+◌, ◌<◌, ◌≤◌, ◌↔◌, ℕ, IsTrue, IfOk, IfErr, OnOk, length, slice_index, slice_index_or, false, nat_lt, Option};
-ghost use Rattle.plan_rules.specs.Graph.{IsRowIndex, MarksMust, MarksHeld, HoldsRightly, IsWithinLimits};
-ghost use Rattle.plan_rules.specs.GraphFault.{HasGoodRows, HasRowsInOrder, IsGraphFault, HasHeldRows};
+ghost use Rattle.plan_rules.specs.work.Graph.{IsRowIndex, MarksMust, MarksHeld};
+ghost use Rattle.plan_rules.specs.Graph.{HoldsRightly, IsWithinLimits};
+ghost use Rattle.plan_rules.specs.GraphFault.{HasGoodRows, HasRowsInOrder, IsGraphFault};
+ghost use Rattle.plan_rules.specs.lemmas.GraphFault.{HasHeldRows};
 ghost use Rattle.plan_rules.specs.Parts.{graph_of};
 
 use crate::fault::GraphFault;

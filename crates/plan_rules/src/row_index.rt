@@ -1,6 +1,7 @@
 //! Where the rows of each vehicle begin.
 ghost use Rattle.std.specs.Prelude.{◌≡◌, ℕ, ◌+◌, ◌<◌, ◌≤◌, IfOk, length};
-ghost use Rattle.plan_rules.specs.Graph.{IsRowIndex, row_vehicle};
+ghost use Rattle.plan_rules.specs.work.Graph.{IsRowIndex};
+ghost use Rattle.plan_rules.specs.Graph.{row_vehicle};
 ghost use Rattle.plan_rules.specs.GraphFault.{HasGoodRows, HasRowsInOrder};
 ghost use Rattle.plan_rules.specs.Parts.{graph_of};
 

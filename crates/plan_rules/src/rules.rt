@@ -1,8 +1,10 @@
 //! Which plans are lawful and what they cost. No call but `held_plan` takes memory.
 ghost use Rattle.std.specs.Prelude.{◌≡◌, ◌==◌, ◌+◌, ◌*◌, ◌<◌, ◌≤◌, ◌↔◌, ℕ, IsTrue, IfOk, length, MatchOption, Option};
-ghost use Rattle.plan_rules.specs.Graph.{IsRowOf, HasNoRow, times_served, is_in, choice_at, ChoosesRows};
+ghost use Rattle.plan_rules.specs.Graph.{IsRowOf, HasNoRow, times_served, is_in, choice_at};
+ghost use Rattle.plan_rules.specs.lemmas.Graph.{ChoosesRows};
 ghost use Rattle.plan_rules.specs.Plan.{IsPlan, IsLawful, cost_of, choice_cost};
-ghost use Rattle.plan_rules.specs.work.Plan.{left_out, IsServedOnce, MarksServed};
+ghost use Rattle.plan_rules.specs.lemmas.Plan.{left_out};
+ghost use Rattle.plan_rules.specs.work.Plan.{IsServedOnce, MarksServed};
 ghost use Rattle.plan_rules.specs.Sums.{sum_below};
 
 use crate::graph::TripGraph;

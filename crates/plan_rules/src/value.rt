@@ -4,7 +4,8 @@ ghost use Rattle.plan_rules.specs.Sums.{int_sum_below, lesser};
 ghost use Rattle.plan_rules.specs.Graph.{IsGraphRow};
 ghost use Rattle.plan_rules.specs.Multipliers.{usable_of, leaf_value, vehicle_term, rider_term, multiplier_sum};
 ghost use Rattle.plan_rules.specs.Tree.{rounded_up};
-ghost use Rattle.plan_rules.specs.Size.{IsSmall, IsSmallSum, reduced_cost_of};
+ghost use Rattle.plan_rules.specs.Size.{IsSmall, IsSmallSum};
+ghost use Rattle.plan_rules.specs.work.Size.{reduced_cost_of};
 
 use crate::graph::TripGraph;
 use crate::row::TripRow;

@@ -1,6 +1,6 @@
 use Rattle.std.proofs.Common.{◌≡◌, ℕ, ◌+◌, ◌-◌, ◌*◌, ◌<◌, ◌≤◌, List, [], ◌∷◌, length, get_or, drop, arith}
 use Rattle.std.proofs.lemmas.List.{at_drop_more}
-use Rattle.pool_base.specs.work.Number.{value_after}
+use Rattle.pool_base.specs.lemmas.Number.{value_after}
 
 -- further digits make no value smaller
 pub value_after-ge : (n : ℕ) (cs : List ℕ) → n ≤ value_after n cs

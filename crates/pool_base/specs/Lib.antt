@@ -6,6 +6,6 @@ pub mod Times
 pub mod TimesFault
 pub mod InOrder
 pub mod Distinct
-pub mod Sums
 pub mod Header
+pub mod lemmas
 pub mod work

@@ -3,7 +3,7 @@ use Rattle.std.proofs.Common.{◌≡◌, ◌≢◌, ℕ, ◌+◌, ◌*◌, ◌==
 use Rattle.std.proofs.lemmas.Bool.Decides.{nat_tests}
 use Rattle.std.specs.Borrow.{Bor}
 use Rattle.csv.specs.declared.reader.Reader.{Reader}
-use Rattle.pool_io.specs.work.Records.{records_of, even_rows}
+use Rattle.pool_io.specs.lemmas.Records.{records_of, even_rows}
 use Rattle.pool_io.specs.work.Cutting.{cut_rows}
 use Rattle.pool_io.specs.work.Progress.{HasRead}
 use Rattle.pool_io.specs.declared.records.RowFault.TheVariants.{UnequalLength}

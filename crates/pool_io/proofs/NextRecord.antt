@@ -5,7 +5,7 @@ use Rattle.csv.specs.Reading.{ReadRecord, default_config, strip_bom}
 use Rattle.csv.specs.declared.reader.Reader.{Reader}
 use Rattle.csv.specs.declared.parser.State.TheVariants as st
 use Rattle.csv.proofs.ReadFacts.{rows-end, rows-more}
-use Rattle.pool_io.specs.work.Records.{records_of}
+use Rattle.pool_io.specs.lemmas.Records.{records_of}
 use Rattle.pool_io.specs.work.Progress.{HasRead}
 use Rattle.pool_io.proofs.RecordList.{records_of-all}
 

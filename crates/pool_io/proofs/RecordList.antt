@@ -8,7 +8,7 @@ use Rattle.csv.specs.Reading.{Reached, records_from, default_config, strip_bom}
 use Rattle.csv.specs.declared.parser.Config.{Config}
 use Rattle.csv.specs.declared.parser.State.{State}
 use Rattle.csv.specs.declared.parser.State.TheVariants as st
-use Rattle.pool_io.specs.work.Records.{records_of}
+use Rattle.pool_io.specs.lemmas.Records.{records_of}
 
 -- what a record's end leaves: the state at a start and no byte, or fewer bytes
 abbrev Shrinks : ℕ → Read → Type 0

@@ -5,7 +5,7 @@ use Rattle.std.specs.Result.{is_err}
 use Rattle.std.proofs.lemmas.Bool.{false≢true}
 use Rattle.csv.specs.declared.reader.Reader.{Reader}
 use Rattle.pool_io.specs.Table.{Table, header_fields, table_of}
-use Rattle.pool_io.specs.work.Records.{records_of, even_rows}
+use Rattle.pool_io.specs.lemmas.Records.{records_of, even_rows}
 use Rattle.pool_io.specs.work.Progress.{HasRead}
 use Rattle.pool_io.specs.declared.records.RowFault.{RowFault}
 use Rattle.pool_io.specs.declared.records.RowFault.TheVariants.{OutOfMemory}

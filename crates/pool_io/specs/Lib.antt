@@ -3,4 +3,5 @@ pub mod Source
 pub mod Sink
 pub mod StdSource
 pub mod Table
+pub mod lemmas
 pub mod work

@@ -1,7 +1,7 @@
 ghost use Rattle.std.specs.Prelude.{◌≡◌, ◌≢◌, ◌↔◌, ℕ, ◌+◌, ◌*◌, ◌^◌, ◌<◌, ◌≤◌, ◌++◌, ◌∷◌, [], List, Ok, Err, IsTrue, length, map, slice_index_or, IfOk, IfErr, OnOk, MatchBool};
 ghost use Rattle.csv.specs.Records.{fields_of, partial_of};
 ghost use Rattle.pool_io.specs.Table.{header_fields, table_of};
-ghost use Rattle.pool_io.specs.work.Records.{records_of, even_rows};
+ghost use Rattle.pool_io.specs.lemmas.Records.{records_of, even_rows};
 ghost use Rattle.pool_io.specs.work.Progress.{HasRead};
 
 use crate::table::Rows;

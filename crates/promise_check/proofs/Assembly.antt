@@ -22,7 +22,7 @@ use Rattle.stop_orders.specs.Settled.{no_rider, no_vehicle, greatest, IsTrip, ve
 use Rattle.stop_orders.specs.Sound.{IsShort, IsSound, IsSoundVehicle}
 use Rattle.rider_limits.specs.declared.settings.Settings.{Settings}
 use Rattle.promise_check.specs.Requests.{request_at}
-use Rattle.promise_check.specs.work.Named.{no_request, kept_leg}
+use Rattle.promise_check.specs.lemmas.Named.{no_request, kept_leg}
 use Rattle.promise_check.specs.work.Requests.{ArePlain}
 use Rattle.promise_check.specs.Promised.{is_promised_to, promised_to, kept_legs, IsLive}
 use Rattle.promise_check.specs.work.Promised.{kept_rider, IsHeld, AreKept}

@@ -5,7 +5,7 @@ use Rattle.batch_snapshot.specs.declared.passenger.Passenger.{Passenger}
 use Rattle.batch_snapshot.specs.declared.rider.Rider.{Rider}
 use Rattle.batch_snapshot.specs.Batch.{Batch}
 use Rattle.batch_snapshot.specs.Points.{ArePoints}
-use Rattle.batch_snapshot.specs.work.Points.{vehicle_nodes, rider_nodes}
+use Rattle.batch_snapshot.specs.lemmas.Points.{vehicle_nodes, rider_nodes}
 use Rattle.promise_check.specs.work.Requests.{IsBetweenPlaces}
 use Rattle.promise_check.specs.work.Settling.{HasVehiclePlaces}
 

@@ -13,7 +13,7 @@ use Rattle.stop_orders.specs.Settled.{no_rider, vehicle_task}
 use Rattle.std.proofs.lemmas.Option.{slice_get-get_or}
 use Rattle.rider_limits.specs.declared.settings.Settings.{Settings}
 use Rattle.promise_check.specs.Requests.{request_at}
-use Rattle.promise_check.specs.work.Named.{no_request, kept_leg}
+use Rattle.promise_check.specs.lemmas.Named.{no_request, kept_leg}
 use Rattle.promise_check.specs.work.Requests.{ArePlain, CanBeKept}
 use Rattle.promise_check.specs.Promised.{promised_limit, kept_legs}
 

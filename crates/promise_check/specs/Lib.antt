@@ -1,4 +1,5 @@
 pub mod Requests
 pub mod Promised
 pub mod Settling
+pub mod lemmas
 pub mod work

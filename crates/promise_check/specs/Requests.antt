@@ -6,8 +6,7 @@ use Rattle.rider_limits.specs.declared.settings.Settings.{Settings}
 
 -- the request of a number; where there is none, one rider at second 0 from node 0 to node 0
 abbrev pub request_at : List Rider → ℕ → Rider
-request_at requests r =
-    slice_index_or requests r (record { id = 0; origin = 0; destination = 0; time = 0; party = 1; promise = None })
+request_at requests r = slice_index_or requests r (record { id = 0; origin = 0; destination = 0; time = 0; party = 1; promise = None })
 
 -- when a rider would arrive who left at the second of the request; that second where there is no way
 abbrev pub ideal_second : (ℕ → ℕ → ℕ) → ℕ → ℕ → ℕ → ℕ

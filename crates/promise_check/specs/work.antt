@@ -1,4 +1,3 @@
-pub mod Named
 pub mod Requests
 pub mod Promised
 pub mod Settling

@@ -1,6 +1,6 @@
 ghost use Rattle.std.specs.Prelude.{◌≡◌, ℕ, ◌+◌, ◌<◌, ◌≤◌, All, Contains, IfOk, length};
 ghost use Rattle.promise_check.specs.Promised.{kept_legs, promised_limit};
-ghost use Rattle.promise_check.specs.work.Named.{kept_leg};
+ghost use Rattle.promise_check.specs.lemmas.Named.{kept_leg};
 ghost use Rattle.promise_check.specs.work.Promised.{kept_rider, IsHeld, AreKept};
 
 use arrayvec::ArrayVec;

@@ -35,7 +35,8 @@ use Rattle.rider_limits.specs.declared.settings.Settings.{Settings}
 use Rattle.road_network.specs.Roads.{Roads}
 use Rattle.script_rows.specs.Round.{NumberedLanes, MayStand, lane_at}
 use Rattle.report_head.specs.Line.{IsFirst}
-use Rattle.report_audit.specs.Place.{Place, BeginsRound, MayComeNext, AreAtEnd, with_entry, position_behind, state_behind}
+use Rattle.report_audit.specs.Place.{Place, BeginsRound, MayComeNext, AreAtEnd, position_behind, state_behind}
+use Rattle.report_audit.specs.work.Place.{with_entry}
 use Rattle.report_audit.specs.Types.{HasFittingBlock, IsTold}
 use Rattle.report_audit.specs.declared.stop.LineFault.{LineFault}
 use Rattle.report_audit.specs.declared.stop.LineFault.TheVariants as wrong

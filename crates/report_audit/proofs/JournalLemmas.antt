@@ -2,7 +2,7 @@
 use Rattle.std.proofs.Common.{◌≡◌, ℕ, ◌<◌, ◌^◌, List, [], ◌∷◌, ◌++◌, Option, Some, None, refl, sym, ap, ◌∙◌, subst, eq-eqb, arith}
 use Rattle.batch_snapshot.specs.Batch.{Batch}
 use Rattle.dispatch_engine.specs.Lane.{IsGoodClose, ClosesAreGood, last_sealed}
-use Rattle.dispatch_engine.specs.work.Lanes.{IsPlain}
+use Rattle.dispatch_engine.specs.lemmas.Lanes.{IsPlain}
 use Rattle.dispatch_engine.proofs.lemmas.LaneLemmas.{plain-quiet}
 use Rattle.pool_io.specs.Faults.{one_more}
 use Rattle.request_book.specs.Book.{next_position, would_seal}
@@ -18,11 +18,11 @@ use Rattle.request_book.specs.declared.outcome.Outcome.{Outcome}
 use Rattle.request_book.specs.declared.reply.BookRefusal.{BookRefusal}
 use Rattle.request_book.specs.declared.reply.Reply.TheVariants.{Closed, Sealed}
 use Rattle.request_book.specs.declared.state.State.{State}
-use Rattle.request_book.specs.work.Table.{answer, seal_refusal, seal_step, table_step, batch_unless}
+use Rattle.request_book.specs.lemmas.Table.{answer, seal_refusal, seal_step, table_step, batch_unless}
 use Rattle.request_book.proofs.lemmas.StepTable.{by-table, would_seal-table}
 use Rattle.rider_limits.specs.declared.settings.Settings.{Settings}
 use Rattle.road_network.specs.Roads.{Roads}
-use Rattle.shared_book.specs.work.Locked.{snapshot_before}
+use Rattle.shared_book.specs.lemmas.Locked.{snapshot_before}
 use Rattle.report_audit.specs.Types.{IsTold, AreTold}
 use Rattle.report_audit.proofs.TextLemmas.{next-none, next-more}
 

@@ -1,5 +1,4 @@
--- How far a report is right, and which lines may follow there.
-use Rattle.std.specs.Prelude.{◌≡◌, ℕ, true, List, [], ◌∷◌, ◌++◌, length, codes, fold}
+use Rattle.std.specs.Prelude.{◌≡◌, ℕ, true, List, ◌∷◌, ◌++◌, length, codes, fold, []}
 use Rattle.batch_snapshot.specs.declared.vehicle.Vehicle.{Vehicle}
 use Rattle.dispatch_engine.specs.Lane.{of_lane, IsLaneRun, IsLaneBeginning, ClosesAreGood}
 use Rattle.dispatch_engine.specs.Run.{IsRun, position_after_run}
@@ -21,6 +20,8 @@ use Rattle.script_rows.specs.Round.{NumberedLanes, lane_at}
 use Rattle.report_audit.specs.Report.{rounds_text}
 use Rattle.report_audit.specs.Types.{AreTold, JournalsAreTold}
 
+-- How far a report is right, and which lines may follow there.
+
 -- the state after a journal, and the position of the next entry
 abbrev pub state_behind : Settings → Roads → Journal → State
 state_behind settings roads j = state_after roads.nodes settings.wait j.base j.entries
@@ -31,10 +32,6 @@ position_behind j = next_position j.first j.entries
 -- the state after journals
 abbrev pub state_after_rounds : Settings → Roads → State → List Journal → State
 state_after_rounds settings roads s journals = fold (λ t j. state_after roads.nodes settings.wait t j.entries) s journals
-
--- a journal with one more entry
-abbrev pub with_entry : Journal → Entry → Journal
-with_entry j e = record { first = j.first; base = j.base; entries = j.entries ++ e ∷ [] }
 
 -- the entries begin a run of the round: replies are the step's, closes are good, each lane's entries begin a run of its
 -- commands, and their numbers are within their types

@@ -7,3 +7,4 @@ pub mod Rounds
 pub mod Ends
 pub mod Whole
 pub mod Faults
+pub mod Place

@@ -5,7 +5,7 @@ ghost use Rattle.dispatch_report.specs.Entry.{entry_line};
 ghost use Rattle.request_book.specs.Book.{IsApplied, next_position};
 ghost use Rattle.request_book.specs.Command.{IsNoClose};
 ghost use Rattle.request_book.specs.declared.reply.Reply.{Reply as OneReply};
-ghost use Rattle.shared_book.specs.work.Locked.{snapshot_before};
+ghost use Rattle.shared_book.specs.lemmas.Locked.{snapshot_before};
 
 use crate::line::is_entry_line;
 use batch_snapshot::Snapshot;

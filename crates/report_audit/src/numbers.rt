@@ -1,7 +1,7 @@
 //! That the numbers of commands and replies are within their types.
 ghost use Rattle.entry_lines.specs.Command.{IsBatch, IsCommand, IsSecond};
 ghost use Rattle.entry_lines.specs.Reply.{IsReply, IsRefusal};
-ghost use Rattle.entry_lines.specs.work.Replies.{OrNone};
+ghost use Rattle.entry_lines.specs.lemmas.Replies.{OrNone};
 ghost use Rattle.report_lines.specs.Ids.{IsId};
 
 use pool_base::{Second, VehicleId};
@@ -19,13 +19,8 @@ pub(crate) fn fits_command(command: &Command)
             time,
             party,
         } => {
-            let _numbers = (
-                rider.get(),
-                origin.get(),
-                destination.get(),
-                time.get(),
-                party.get(),
-            );
+            let _places = (rider.get(), origin.get(), destination.get());
+            let _rest = (time.get(), party.get());
         }
         Command::Cancel { rider } => {
             let _number = rider.get();

@@ -6,7 +6,8 @@ use Rattle.dispatch_report.specs.Words.{numbered}
 use Rattle.report_head.specs.Fault.{sizes_of, IsName, TellsSettings, TellsLawful, TellsSizes, TellsSizesOf, TellsFleet, TellsFleetOf, LineFails}
 use Rattle.report_head.specs.Head.{BeginsWithHead}
 use Rattle.report_head.specs.Line.{IsFirst, Passes}
-use Rattle.report_head.specs.Settings.{AreOf, told_of}
+use Rattle.report_head.specs.Settings.{AreOf}
+use Rattle.report_head.specs.work.Settings.{told_of}
 use Rattle.report_head.specs.declared.fault.HeadFault.{HeadFault}
 use Rattle.report_head.proofs.LineLemmas.{first_once, said_behind, line_no_fault, line_more}
 use Rattle.report_head.proofs.SettingsLemmas.{lawful_short, told_lawful, settings_one_line, settings_line_is, same_settings}

@@ -4,10 +4,11 @@ use Rattle.std.proofs.lemmas.Fmt.{decimal_digit}
 use Rattle.std.proofs.Props.{props}
 use Rattle.dispatch_report.specs.Head.{settings_line}
 use Rattle.dispatch_report.specs.Words.{numbered}
-use Rattle.report_head.specs.Settings.{AreOf, AreLawful, told_of}
+use Rattle.report_head.specs.Settings.{AreOf, AreLawful}
+use Rattle.report_head.specs.work.Settings.{told_of}
 use Rattle.report_lines.specs.Cut.{is_one_line}
 use Rattle.report_lines.specs.Head.{settings_text, AreSettings, IsShort}
-use Rattle.report_lines.specs.work.Head.{dwell_text}
+use Rattle.report_lines.specs.lemmas.Head.{dwell_text}
 use Rattle.report_lines.specs.declared.head.SettingsText.{SettingsText}
 use Rattle.report_lines.proofs.lemmas.OneBlock.{append_one_line, numbered_one_line}
 use Rattle.rider_limits.specs.Range.{AreInRange}

@@ -1,10 +1,11 @@
--- The settings that a head tells.
 use Rattle.std.specs.Prelude.{◌≡◌, ℕ, true}
 use Rattle.report_lines.specs.declared.head.SettingsText.{SettingsText}
 use Rattle.rider_limits.specs.Range.{AreInRange}
 use Rattle.rider_limits.specs.declared.settings.Mode.TheVariants.{Run}
 use Rattle.rider_limits.specs.declared.settings.Settings.{Settings}
 use Rattle.rider_limits.specs.declared.settings.TimesWay.TheVariants.{Rows}
+
+-- The settings that a head tells.
 
 -- the settings of a run by searches, with so many workers, whose report prints the search trees
 pub record AreOf (count : ℕ) (s : Settings) : Type 0 where
@@ -17,7 +18,3 @@ pub record AreOf (count : ℕ) (s : Settings) : Type 0 where
 pub record AreLawful (s : SettingsText) : Type 0 where
   pub range : AreInRange s.wait s.delay s.trip s.penalty s.budget s.pairs 1 s.dwell
   pub proof : s.proof ≡ 1
-
--- the numbers that a line tells of such settings
-abbrev pub told_of : Settings → SettingsText
-told_of s = record { wait = s.wait; delay = s.delay; trip = s.trip; penalty = s.penalty; budget = s.budget; pairs = s.pairs; proof = 1; dwell = s.dwell }

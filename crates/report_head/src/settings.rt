@@ -1,5 +1,6 @@
 ghost use Rattle.std.specs.Prelude.{◌≡◌, ◌≤◌, true};
-ghost use Rattle.report_head.specs.Settings.{AreOf, AreLawful, told_of};
+ghost use Rattle.report_head.specs.Settings.{AreOf, AreLawful};
+ghost use Rattle.report_head.specs.work.Settings.{told_of};
 
 use report_lines::SettingsText;
 use rider_limits::{Mode, Settings, TimesWay};

@@ -4,7 +4,8 @@ use Rattle.arrayvec.specs.ArrayVec.{ArrayVec}
 use Rattle.dispatch_report.specs.Block.{stop_text}
 use Rattle.dispatch_report.specs.Words.{numbered, spaced}
 use Rattle.report_lines.specs.Reading.{BeginsWith, BeginsWithNone, ends_number}
-use Rattle.report_lines.specs.Stops.{stops_text, AreStops}
+use Rattle.report_lines.specs.work.Stops.{stops_text}
+use Rattle.report_lines.specs.Stops.{AreStops}
 use Rattle.report_lines.specs.work.Stops.{IsStop}
 use Rattle.report_lines.specs.work.Late.{order_text, IsOrder}
 use Rattle.report_lines.proofs.ListLemmas.{many_end}

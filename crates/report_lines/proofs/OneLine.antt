@@ -17,7 +17,8 @@ use Rattle.report_lines.specs.Moves.{IsMove, IsBranch}
 use Rattle.report_lines.specs.Reading.{BeginsWith, ends_number}
 use Rattle.report_lines.specs.Row.{row_text, IsRow}
 use Rattle.report_lines.specs.Signed.{IsWide, IsLong}
-use Rattle.report_lines.specs.Stops.{stops_text, AreStops}
+use Rattle.report_lines.specs.work.Stops.{stops_text}
+use Rattle.report_lines.specs.Stops.{AreStops}
 use Rattle.report_lines.specs.work.Stops.{IsStop}
 use Rattle.report_lines.specs.Trips.{IsTrip, IsLate}
 use Rattle.report_lines.specs.Both.{both, BothAre}

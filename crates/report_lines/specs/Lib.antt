@@ -13,4 +13,5 @@ pub mod Order
 pub mod Block
 pub mod Outcome
 pub mod Head
+pub mod lemmas
 pub mod work

@@ -1,7 +1,8 @@
 ghost use Rattle.std.specs.Prelude.{◌≡◌, ◌≢◌, ℕ, ◌≤◌, ◌<◌, ◌^◌, List, ◌++◌, MatchOption, codes};
 ghost use Rattle.report_lines.specs.Head.{settings_text, AreSettings, sizes_text, AreSizes, IsShort};
 ghost use Rattle.report_lines.specs.Reading.{BeginsWith, BeginsWithNone, Reads};
-ghost use Rattle.report_lines.specs.work.Head.{limits_text, costs_text, AreThree, dwell_text};
+ghost use Rattle.report_lines.specs.lemmas.Head.{dwell_text};
+ghost use Rattle.report_lines.specs.work.Head.{limits_text, costs_text, AreThree};
 
 use crate::words::{numbered_first, read_numbered};
 

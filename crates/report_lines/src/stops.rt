@@ -3,7 +3,8 @@ ghost use Rattle.std.specs.List.{flat_map, All};
 ghost use Rattle.dispatch_report.specs.Block.{stop_text};
 ghost use Rattle.dispatch_report.specs.Words.{numbered, spaced};
 ghost use Rattle.report_lines.specs.Ids.{IsId};
-ghost use Rattle.report_lines.specs.Stops.{stops_text, AreStops};
+ghost use Rattle.report_lines.specs.work.Stops.{stops_text};
+ghost use Rattle.report_lines.specs.Stops.{AreStops};
 ghost use Rattle.report_lines.specs.Reading.{BeginsWith, BeginsWithNone, Reads};
 ghost use Rattle.report_lines.specs.work.Stops.{visit_text, IsVisit, IsStop};
 

@@ -8,4 +8,5 @@ pub mod Step
 pub mod Replay
 pub mod Consistent
 pub mod Book
+pub mod lemmas
 pub mod work

@@ -30,10 +30,5 @@ batch_of wait s now = record {
 
 -- the state after a seal
 unfoldable pub sealed_state : ℕ → State → ℕ → State
-sealed_state wait s now = record {
-  riders = map (after_seal wait now) s.riders;
-  vehicles = s.vehicles;
-  last_seal = Some now;
-  sealed = Some (batch_of wait s now);
-  batches = one_more s.batches;
-}
+sealed_state wait s now =
+    record { riders = map (after_seal wait now) s.riders; vehicles = s.vehicles; last_seal = Some now; sealed = Some (batch_of wait s now); batches = one_more s.batches }

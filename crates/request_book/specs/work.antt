@@ -1,7 +1,6 @@
 pub mod Named
 pub mod Register
 pub mod Stored
-pub mod Refusals
-pub mod Table
 pub mod Closing
 pub mod Keyed
+pub mod Command

@@ -6,9 +6,9 @@ ghost use Rattle.request_book.specs.work.Keyed.{changed_in_turn};
 ghost use Rattle.request_book.specs.work.Register.{state_of, IsIndexed, HasRoom};
 ghost use Rattle.request_book.specs.Rider.{with_status};
 ghost use Rattle.request_book.specs.Closing.{picks, trip_picks, after_answer};
-ghost use Rattle.request_book.specs.work.Named.{in_batch};
+ghost use Rattle.request_book.specs.lemmas.Named.{in_batch};
 ghost use Rattle.request_book.specs.work.Closing.{is_waiting, waits_again, takes_promise, promised_in_turn};
-ghost use Rattle.request_book.specs.work.Table.{close_step};
+ghost use Rattle.request_book.specs.lemmas.Table.{close_step};
 
 use crate::outcome::{Answer, ChosenTrip, PlannedStop};
 use crate::refusals::not_this_batch;

@@ -1,5 +1,6 @@
 ghost use Rattle.std.specs.Prelude.{◌≡◌};
 ghost use Rattle.request_book.specs.Command.{IsNoClose};
+ghost use Rattle.request_book.specs.work.Command.{IsOfVehicle};
 
 use crate::outcome::Outcome;
 use pool_base::{NodeId, Party, RiderId, Second, VehicleId};
@@ -69,6 +70,19 @@ impl Command {
                 party: *party,
             },
             Command::Cancel { rider } => Command::Cancel { rider: *rider },
+            Command::Report { .. } => self.copied_of_vehicle(),
+            Command::Pickup { .. } => self.copied_of_vehicle(),
+            Command::Dropoff { .. } => self.copied_of_vehicle(),
+            Command::Seal { now } => Command::Seal { now: *now },
+            Command::Close { .. } => unreachable!(),
+        }
+    }
+    /// The same of what a vehicle does.
+    fn copied_of_vehicle(&self) -> Command
+        requires { IsOfVehicle self.now }
+        ensures { result ≡ self.now }
+    {
+        match self {
             Command::Report {
                 vehicle,
                 node,
@@ -96,7 +110,9 @@ impl Command {
                 rider: *rider,
                 time: *time,
             },
-            Command::Seal { now } => Command::Seal { now: *now },
+            Command::Submit { .. } => unreachable!(),
+            Command::Cancel { .. } => unreachable!(),
+            Command::Seal { .. } => unreachable!(),
             Command::Close { .. } => unreachable!(),
         }
     }

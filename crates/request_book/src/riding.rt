@@ -10,8 +10,8 @@ ghost use Rattle.request_book.specs.Rider.{is_active};
 ghost use Rattle.request_book.specs.State.{find_rider, find_passenger, pool_count};
 ghost use Rattle.request_book.specs.Consistent.{IsConsistent};
 ghost use Rattle.request_book.specs.Step.{rider_becomes};
-ghost use Rattle.request_book.specs.work.Named.{stands_at, takes_in, lets_out};
-ghost use Rattle.request_book.specs.work.Table.{submit_refusal, submit_step, cancel_step, report_step, pickup_step, dropoff_step};
+ghost use Rattle.request_book.specs.lemmas.Named.{stands_at, takes_in, lets_out};
+ghost use Rattle.request_book.specs.lemmas.Table.{submit_refusal, submit_step, cancel_step, report_step, pickup_step, dropoff_step};
 
 use crate::refusals::{
     book_full, duplicate_rider, first_of, has_ended, is_aboard, not_aboard, not_promised,

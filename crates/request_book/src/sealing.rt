@@ -10,9 +10,10 @@ ghost use Rattle.request_book.specs.Rider.{with_status, pool_promise};
 ghost use Rattle.request_book.specs.State.{find_rider};
 ghost use Rattle.request_book.specs.Consistent.{IsConsistent};
 ghost use Rattle.request_book.specs.Sealing.{is_over, after_seal, batch_of};
-ghost use Rattle.request_book.specs.work.Named.{over_id, asking};
+ghost use Rattle.request_book.specs.lemmas.Named.{asking};
+ghost use Rattle.request_book.specs.work.Named.{over_id};
 ghost use Rattle.pool_io.specs.Faults.{one_more};
-ghost use Rattle.request_book.specs.work.Table.{seal_refusal, seal_step};
+ghost use Rattle.request_book.specs.lemmas.Table.{seal_refusal, seal_step};
 
 use crate::refusals::{POOL, batch_open, clock_back, first_of};
 use crate::register::{Register, change_status};

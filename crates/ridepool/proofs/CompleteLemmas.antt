@@ -5,7 +5,7 @@ use Rattle.pool_base.specs.declared.which.Which.{Which}
 use Rattle.pool_base.specs.declared.which.Which.TheVariants as file
 use Rattle.rider_limits.proofs.lemmas.ModeLemmas.{command_in, one_command}
 use Rattle.rider_limits.specs.Key.{command_name, makes_inputs}
-use Rattle.rider_limits.specs.work.Named.{judges}
+use Rattle.rider_limits.specs.lemmas.Named.{judges}
 use Rattle.rider_limits.specs.declared.settings.Mode.{Mode}
 use Rattle.rider_limits.specs.declared.settings.Mode.TheVariants.{Run, Load, Drive, Audit}
 use Rattle.rider_limits.specs.Words.{fault_of}

@@ -10,7 +10,7 @@ use Rattle.std.proofs.Math.Seq.{take-suc, take-length}
 use Rattle.batch_snapshot.specs.Kept.{IsFleet}
 use Rattle.pool_io.specs.Sink.{AppendsPart}
 use Rattle.dispatch_engine.specs.Run.{IsReady, IsRoundRun, IsRun, IsSameRun, position_after_run, journal_of}
-use Rattle.dispatch_engine.specs.work.Run.{state_after_run}
+use Rattle.dispatch_engine.specs.lemmas.Run.{state_after_run}
 use Rattle.dispatch_report.specs.Day.{day_end_text}
 use Rattle.dispatch_report.specs.Round.{end_text}
 use Rattle.dispatch_report.specs.declared.day.DayCounts.{DayCounts}

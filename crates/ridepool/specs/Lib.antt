@@ -7,4 +7,3 @@ pub mod Explained
 pub mod Status
 pub mod Text
 pub mod work
-pub mod NoticeText

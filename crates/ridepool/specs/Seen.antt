@@ -17,11 +17,10 @@ IsUntouched c = c.after ≡ c.before
 
 -- a source in a call, by what its type tells of it
 abbrev pub source_seen : {S : Type 0} → (S → Option (List ℕ)) → (S → ℕ) → (S → ℕ) → S → S → Change SourceView
-source_seen left taken faults old new =
-    record {
-      before = record { left = left old; taken = taken old; faults = faults old };
-      after = record { left = left new; taken = taken new; faults = faults new };
-    }
+source_seen left taken faults old new = record {
+  before = record { left = left old; taken = taken old; faults = faults old };
+  after = record { left = left new; taken = taken new; faults = faults new };
+}
 
 -- the sources of the inputs
 pub record Sources : Type 0 where

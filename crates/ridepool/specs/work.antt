@@ -3,3 +3,4 @@ pub mod Reading
 pub mod Writing
 pub mod Auditing
 pub mod Ended
+pub mod NoticeText

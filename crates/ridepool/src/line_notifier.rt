@@ -1,5 +1,5 @@
 ghost use Rattle.std.specs.Prelude.{◌≡◌, ◌++◌, ℕ, None, OnOk};
-ghost use Rattle.ridepool.specs.NoticeText.{notice_text};
+ghost use Rattle.ridepool.specs.work.NoticeText.{notice_text};
 
 use crate::text::put_at;
 use pool_base::{OutOfMemory, put_bytes};

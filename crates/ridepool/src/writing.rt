@@ -22,6 +22,7 @@ use dispatch_report::{
     write_summary,
 };
 use hub_labels::{LabelWays, Labels};
+use plan_drafts::RelaxationDrafter;
 use pool_base::OutOfMemory;
 use pool_io::{Failed, Sink};
 use request_book::{Book, Journal, states_are_consistent};
@@ -29,6 +30,7 @@ use rider_limits::{Mode, Settings, TimesWay};
 use rider_notices::{Notifier, notices_of, tell_all};
 use road_network::Network;
 use route_drive::{DayRound, DayRun, DriveFault, drive_day};
+use row_tables::Drafter;
 use script_rows::{Round, Script};
 use std::alloc::Global;
 use std::sync::Wait;
@@ -101,6 +103,7 @@ fn write_in<K: Sink, G: Gate>(
             let setup = Setup {
                 network,
                 ways: &ways,
+                drafter: &RelaxationDrafter,
                 settings,
                 gate,
             };
@@ -115,6 +118,7 @@ fn write_in<K: Sink, G: Gate>(
             let setup = Setup {
                 network,
                 ways: &ways,
+                drafter: &RelaxationDrafter,
                 settings,
                 gate,
             };
@@ -124,13 +128,13 @@ fn write_in<K: Sink, G: Gate>(
 }
 
 /// The same, with what its rounds share together.
-fn write_by<K: Sink, W: Ways, G: Gate>(
+fn write_by<K: Sink, W: Ways, D: Drafter, G: Gate>(
     rt: &(impl Threads + Wait + Sync),
     alloc: Global,
     out: &mut K,
     fleet: Fleet,
     script: &Script,
-    setup: &Setup<'_, W, G>,
+    setup: &Setup<'_, W, D, G>,
     notifiers: &mut Vec<Box<dyn Notifier>>,
 ) -> Result<(), RunStatus>
     requires named { All (λ vehicle. IsNode setup.now.network.now.nodes vehicle.node) fleet }
@@ -157,6 +161,7 @@ fn write_by<K: Sink, W: Ways, G: Gate>(
                 script,
                 setup.network,
                 setup.ways,
+                setup.drafter,
                 setup.settings,
                 setup.gate,
             );
@@ -213,14 +218,14 @@ fn write_day<K: Sink>(
 }
 
 /// Runs rounds and writes their report, or a made workload's summary.
-fn write_run<K: Sink, W: Ways, G: Gate>(
+fn write_run<K: Sink, W: Ways, D: Drafter, G: Gate>(
     rt: &(impl Threads + Wait + Sync),
     alloc: Global,
     out: &mut K,
     vehicles: usize,
     book: Book,
     rounds: &[Round],
-    setup: &Setup<'_, W, G>,
+    setup: &Setup<'_, W, D, G>,
     notifiers: &mut Vec<Box<dyn Notifier>>,
 ) -> Result<(), RunStatus>
     requires ready { IsReady setup.now.settings.now setup.now.network.now book }
@@ -244,13 +249,13 @@ fn write_run<K: Sink, W: Ways, G: Gate>(
 }
 
 /// Runs each round and writes it, and then the last line.
-fn write_each<K: Sink, W: Ways, G: Gate>(
+fn write_each<K: Sink, W: Ways, D: Drafter, G: Gate>(
     rt: &(impl Threads + Wait + Sync),
     alloc: Global,
     out: &mut K,
     book: Book,
     rounds: &[Round],
-    setup: &Setup<'_, W, G>,
+    setup: &Setup<'_, W, D, G>,
     notifiers: &mut Vec<Box<dyn Notifier>>,
 ) -> Result<(), RunStatus>
     requires ready { IsReady setup.now.settings.now setup.now.network.now book }
@@ -279,13 +284,13 @@ fn write_each<K: Sink, W: Ways, G: Gate>(
 }
 
 /// Runs a round, puts it out, and gives its journal up.
-fn write_next<K: Sink, W: Ways, G: Gate>(
+fn write_next<K: Sink, W: Ways, D: Drafter, G: Gate>(
     rt: &(impl Threads + Wait + Sync),
     alloc: Global,
     out: &mut K,
     book: Book,
     round: &Round,
-    setup: &Setup<'_, W, G>,
+    setup: &Setup<'_, W, D, G>,
     notifiers: &mut Vec<Box<dyn Notifier>>,
 ) -> Result<Book, RunStatus>
     requires ready { IsReady setup.now.settings.now setup.now.network.now book }
@@ -300,10 +305,13 @@ fn write_next<K: Sink, W: Ways, G: Gate>(
     let Setup {
         network,
         ways,
+        drafter,
         settings,
         gate,
     } = setup;
-    let Ok(mut book) = run_round(rt, alloc, book, round, network, *ways, settings, *gate) else {
+    let Ok(mut book) = run_round(
+        rt, alloc, book, round, network, *ways, *drafter, settings, *gate,
+    ) else {
         return Err(RunStatus::OutOfMemory);
     };
     let Ok(journal) = book.take_round() else {

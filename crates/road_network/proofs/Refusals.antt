@@ -6,9 +6,9 @@ use Rattle.std.proofs.lemmas.Bool.{le-ltb, lt-ltb}
 use Rattle.std.proofs.lemmas.Bool.Decides.{nat_tests}
 use Rattle.pool_base.specs.InOrder.{first_fault}
 use Rattle.pool_base.proofs.lemmas.InOrderLemmas.{first_fault-none, first_fault-some, first_fault-each, first_fault-all}
-use Rattle.road_network.specs.work.Limits.{most_nodes, most_arcs}
+use Rattle.road_network.specs.lemmas.Limits.{most_nodes, most_arcs}
 use Rattle.road_network.specs.Reading.{nodes_of, field_refusal, refusal_at, network_of}
-use Rattle.road_network.specs.work.Rows.{first_refusal, roads_of}
+use Rattle.road_network.specs.lemmas.Rows.{first_refusal, roads_of}
 use Rattle.road_network.specs.work.Numbering.{with_row}
 use Rattle.road_network.specs.declared.fault.NetworkFault.{NetworkFault}
 use Rattle.road_network.specs.declared.fault.NetworkFault.TheVariants.{TooManyArcs, TooManyNodes}

@@ -9,9 +9,9 @@ use Rattle.pool_base.proofs.lemmas.DistinctLemmas.{any-distinct, distinct-push}
 use Rattle.std.proofs.lemmas.List.Elements.{All-map, All-more}
 use Rattle.road_network.specs.Walk.{Arc}
 use Rattle.road_network.specs.Roads.{IsArcAmong, index_in}
-use Rattle.road_network.specs.work.Limits.{longest_arc}
+use Rattle.road_network.specs.lemmas.Limits.{longest_arc}
 use Rattle.road_network.specs.Reading.{arc_in, nodes_of, arc_seconds}
-use Rattle.road_network.specs.work.Rows.{names_in}
+use Rattle.road_network.specs.lemmas.Rows.{names_in}
 use Rattle.pool_base.specs.Numeral.{number_at}
 use Rattle.road_network.specs.work.Numbering.{with_row, with_node}
 use Rattle.road_network.proofs.Numbering.{IsRowNumbered, All-numbered, map-arc_in, with_row-numbers}

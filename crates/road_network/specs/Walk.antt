@@ -25,5 +25,4 @@ HasNoWalk arcs start goal = (walk : List Arc) → IsWalk arcs start walk goal �
 
 -- the travel time from start to goal is the least over all walks, or `never` where there is no walk
 abbrev pub IsTimeBetween : List Arc → ℕ → ℕ → ℕ → Type 0
-IsTimeBetween arcs start goal seconds =
-    IsLeastTime arcs start goal seconds ⊎ (HasNoWalk arcs start goal × (seconds ≡ never))
+IsTimeBetween arcs start goal seconds = IsLeastTime arcs start goal seconds ⊎ (HasNoWalk arcs start goal × (seconds ≡ never))

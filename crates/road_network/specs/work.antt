@@ -1,4 +1,2 @@
-pub mod Limits
 pub mod Storage
 pub mod Numbering
-pub mod Rows

@@ -1,6 +1,6 @@
 ghost use Rattle.std.specs.Prelude.{◌≡◌, ◌↔◌, ℕ, ◌+◌, ◌<◌, ◌≤◌, Some, All, Contains, IsTrue, IsSome, IfOk, IfSome, length, map, nat_eq, position, slice_get};
 ghost use Rattle.road_network.specs.Roads.{IsArcAmong, IsNetwork, by_start, hop_of, leaving};
-ghost use Rattle.road_network.specs.work.Limits.{greatest_name, most_arcs, most_nodes};
+ghost use Rattle.road_network.specs.lemmas.Limits.{greatest_name, most_arcs, most_nodes};
 ghost use Rattle.road_network.specs.Storage.{start_at};
 
 use crate::arc::Arc;

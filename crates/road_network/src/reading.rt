@@ -1,7 +1,7 @@
 ghost use Rattle.std.specs.Prelude.{◌≡◌, ◌≢◌, ◌+◌, ◌<◌, ◌≤◌, Ok, Err, Some, None, All, length, map, IfOk, IfErr, MatchResult};
 ghost use Rattle.pool_io.specs.Table.{record_at};
 ghost use Rattle.road_network.specs.Roads.{IsArcAmong, index_in};
-ghost use Rattle.road_network.specs.work.Limits.{greatest_name, longest_arc, most_arcs, most_nodes};
+ghost use Rattle.road_network.specs.lemmas.Limits.{greatest_name, longest_arc, most_arcs, most_nodes};
 ghost use Rattle.road_network.specs.Reading.{arc_in, field_refusal, network_of, nodes_of, arc_seconds};
 ghost use Rattle.pool_base.specs.Numeral.{number_at};
 ghost use Rattle.road_network.specs.work.Numbering.{with_node};

@@ -3,14 +3,14 @@ use Rattle.std.proofs.Common.{◌≡◌, ℕ, List, [], ◌∷◌, length, Optio
 use Rattle.std.proofs.lemmas.List.{length-map}
 use Rattle.batch_snapshot.specs.Batch.{Batch}
 use Rattle.request_book.specs.Closing.{after_answer}
-use Rattle.request_book.specs.work.Closing.{closed_state}
+use Rattle.request_book.specs.lemmas.Closing.{closed_state}
 use Rattle.request_book.specs.Keyed.{changed_at}
 use Rattle.request_book.specs.Replay.{state_after}
 use Rattle.request_book.specs.Sealing.{sealed_state}
 use Rattle.request_book.specs.State.{find_rider, find_vehicle}
-use Rattle.request_book.specs.work.Refusals.{first_of, unknown_vehicle, unknown_rider, is_aboard, has_ended, not_promised, time_back, vehicle_full, not_aboard}
+use Rattle.request_book.specs.lemmas.Refusals.{first_of, unknown_vehicle, unknown_rider, is_aboard, has_ended, not_promised, time_back, vehicle_full, not_aboard}
 use Rattle.request_book.specs.Step.{step}
-use Rattle.request_book.specs.work.Table.{answer, picked_up, dropped_off, submit_step, cancel_step, report_step, pickup_step, dropoff_step, seal_step, close_step, table_step}
+use Rattle.request_book.specs.lemmas.Table.{answer, picked_up, dropped_off, submit_step, cancel_step, report_step, pickup_step, dropoff_step, seal_step, close_step, table_step}
 use Rattle.request_book.proofs.lemmas.StepTable.{by-table}
 use Rattle.request_book.specs.declared.command.Command.{Command}
 use Rattle.request_book.specs.declared.command.Command.TheVariants.{Submit, Cancel, Report, Pickup, Dropoff, Seal, Close}

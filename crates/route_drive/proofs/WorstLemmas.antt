@@ -8,8 +8,8 @@ use Rattle.batch_snapshot.specs.Batch.{Batch}
 use Rattle.batch_snapshot.specs.declared.rider.Rider.{Rider}
 use Rattle.request_book.proofs.lemmas.KeyedLemmas.{look_up-here, look_up-there, look_up-nil}
 use Rattle.request_book.specs.Closing.{Pick, after_answer, after_plan, picks}
-use Rattle.request_book.specs.work.Named.{in_batch, planned_status}
-use Rattle.request_book.specs.work.Closing.{closed_state}
+use Rattle.request_book.specs.lemmas.Named.{in_batch, planned_status}
+use Rattle.request_book.specs.lemmas.Closing.{closed_state}
 use Rattle.request_book.specs.Keyed.{changed_at}
 use Rattle.request_book.proofs.lemmas.LawLemmas.{rounds-join}
 use Rattle.request_book.specs.Book.{next_position}
@@ -17,9 +17,9 @@ use Rattle.request_book.specs.Replay.{RepliesAreSteps, state_after}
 use Rattle.request_book.specs.Rider.{is_active, with_status}
 use Rattle.request_book.specs.Sealing.{sealed_state, after_seal, is_over}
 use Rattle.request_book.specs.State.{find_rider, find_vehicle}
-use Rattle.request_book.specs.work.Refusals.{first_of, unknown_vehicle, unknown_rider, is_aboard, has_ended, not_promised, time_back, vehicle_full, not_aboard}
+use Rattle.request_book.specs.lemmas.Refusals.{first_of, unknown_vehicle, unknown_rider, is_aboard, has_ended, not_promised, time_back, vehicle_full, not_aboard}
 use Rattle.request_book.specs.Step.{step}
-use Rattle.request_book.specs.work.Table.{answer, picked_up, dropped_off, submit_step, cancel_step, report_step, pickup_step, dropoff_step, seal_step, close_step, table_step}
+use Rattle.request_book.specs.lemmas.Table.{answer, picked_up, dropped_off, submit_step, cancel_step, report_step, pickup_step, dropoff_step, seal_step, close_step, table_step}
 use Rattle.request_book.proofs.lemmas.StepTable.{by-table}
 use Rattle.request_book.specs.declared.command.Command.{Command}
 use Rattle.request_book.specs.declared.command.Command.TheVariants.{Submit, Cancel, Report, Pickup, Dropoff, Seal, Close}

@@ -23,6 +23,7 @@ use pool_base::{OutOfMemory, Sequence};
 use request_book::{Book, Journal};
 use rider_limits::Settings;
 use road_network::Network;
+use row_tables::Drafter;
 use script_rows::{Round, Script};
 use std::alloc::Global;
 use std::sync::Wait;
@@ -39,13 +40,14 @@ struct Drive {
 }
 
 /// Drives a day, as `drive_day` says, but for what it keeps.
-pub(crate) fn driven_day<W: Ways, G: Gate>(
+pub(crate) fn driven_day<W: Ways, D: Drafter, G: Gate>(
     rt: &(impl Threads + Wait + Sync),
     alloc: Global,
     book: Book,
     day: &Script,
     network: &Network,
     ways: &W,
+    drafter: &D,
     settings: &Settings,
     gate: &G,
 ) -> Result<DayRun, DriveFault>
@@ -59,6 +61,7 @@ pub(crate) fn driven_day<W: Ways, G: Gate>(
     let setup = Setup {
         network,
         ways,
+        drafter,
         settings,
         gate,
     };
@@ -74,12 +77,12 @@ pub(crate) fn driven_day<W: Ways, G: Gate>(
 }
 
 /// Drives the rounds of a day.
-fn drive_rounds<W: Ways, G: Gate>(
+fn drive_rounds<W: Ways, D: Drafter, G: Gate>(
     rt: &(impl Threads + Wait + Sync),
     alloc: Global,
     book: Book,
     rounds: &[Round],
-    setup: &Setup<'_, W, G>,
+    setup: &Setup<'_, W, D, G>,
 ) -> Result<Drive, DriveFault>
     requires new { IsNewBook setup.now.settings.now setup.now.network.now book }
     ensures run { IfOk result (λ drive. IsUnderWay setup.now.settings.now setup.now.network.now book.state rounds.now drive.book drive.courses.items drive.made.items) }
@@ -126,12 +129,12 @@ fn courses_at_rest(alloc: Global, book: &Book) -> Result<Vec<Course>, OutOfMemor
 }
 
 /// Drives a round.
-fn drive_round<W: Ways, G: Gate>(
+fn drive_round<W: Ways, D: Drafter, G: Gate>(
     rt: &(impl Threads + Wait + Sync),
     alloc: Global,
     drive: Drive,
     round: &Round,
-    setup: &Setup<'_, W, G>,
+    setup: &Setup<'_, W, D, G>,
 ) -> Result<Drive, DriveFault>
     requires ready { IsReady setup.now.settings.now setup.now.network.now drive.book }
     requires entries { drive.book.entries ≡ [] }
@@ -188,7 +191,7 @@ fn stopped_at(stopped: Stopped, round: u32, made: Vec<DayRound>) -> DriveFault
 }
 
 /// Runs a round as it is driven.
-fn run_driven<W: Ways, G: Gate>(
+fn run_driven<W: Ways, D: Drafter, G: Gate>(
     rt: &(impl Threads + Wait + Sync),
     alloc: Global,
     book: Book,
@@ -196,7 +199,7 @@ fn run_driven<W: Ways, G: Gate>(
     made: Vec<DayRound>,
     round: &Round,
     driven: &Round,
-    setup: &Setup<'_, W, G>,
+    setup: &Setup<'_, W, D, G>,
 ) -> Result<Drive, DriveFault>
     requires ready { IsReady setup.now.settings.now setup.now.network.now book }
     requires entries { book.entries ≡ [] }
@@ -212,12 +215,12 @@ fn run_driven<W: Ways, G: Gate>(
 }
 
 /// Runs a round and takes its journal.
-fn run_taken<W: Ways, G: Gate>(
+fn run_taken<W: Ways, D: Drafter, G: Gate>(
     rt: &(impl Threads + Wait + Sync),
     alloc: Global,
     book: Book,
     round: &Round,
-    setup: &Setup<'_, W, G>,
+    setup: &Setup<'_, W, D, G>,
 ) -> Result<(Book, Journal), OutOfMemory>
     requires ready { IsReady setup.now.settings.now setup.now.network.now book }
     requires entries { book.entries ≡ [] }
@@ -226,10 +229,13 @@ fn run_taken<W: Ways, G: Gate>(
     let Setup {
         network,
         ways,
+        drafter,
         settings,
         gate,
     } = setup;
-    match run_round(rt, alloc, book, round, network, *ways, settings, *gate) {
+    match run_round(
+        rt, alloc, book, round, network, *ways, *drafter, settings, *gate,
+    ) {
         Ok(book) => take(book),
         Err(_) => Err(OutOfMemory),
     }
@@ -324,12 +330,12 @@ fn with_round(
 }
 
 /// Drives a day to its end, whose rounds were driven: the stops that are left, unless there was no round.
-fn drive_end<W: Ways, G: Gate>(
+fn drive_end<W: Ways, D: Drafter, G: Gate>(
     rt: &(impl Threads + Wait + Sync),
     alloc: Global,
     drive: Drive,
     rounds: &[Round],
-    setup: &Setup<'_, W, G>,
+    setup: &Setup<'_, W, D, G>,
 ) -> Result<Drive, DriveFault>
     requires ready { IsReady setup.now.settings.now setup.now.network.now drive.book }
     requires entries { drive.book.entries ≡ [] }
@@ -345,12 +351,12 @@ fn drive_end<W: Ways, G: Gate>(
 }
 
 /// Drives the last round, of the stops that are left.
-fn drive_last<W: Ways, G: Gate>(
+fn drive_last<W: Ways, D: Drafter, G: Gate>(
     rt: &(impl Threads + Wait + Sync),
     alloc: Global,
     drive: Drive,
     number: u32,
-    setup: &Setup<'_, W, G>,
+    setup: &Setup<'_, W, D, G>,
 ) -> Result<Drive, DriveFault>
     requires ready { IsReady setup.now.settings.now setup.now.network.now drive.book }
     requires entries { drive.book.entries ≡ [] }
@@ -388,7 +394,7 @@ fn left_of(alloc: Global, book: &Book, courses: &[Course]) -> Result<Round, Stop
 }
 
 /// Runs the last round.
-fn run_last<W: Ways, G: Gate>(
+fn run_last<W: Ways, D: Drafter, G: Gate>(
     rt: &(impl Threads + Wait + Sync),
     alloc: Global,
     book: Book,
@@ -396,7 +402,7 @@ fn run_last<W: Ways, G: Gate>(
     made: Vec<DayRound>,
     number: u32,
     left: &Round,
-    setup: &Setup<'_, W, G>,
+    setup: &Setup<'_, W, D, G>,
 ) -> Result<Drive, DriveFault>
     requires ready { IsReady setup.now.settings.now setup.now.network.now book }
     requires entries { book.entries ≡ [] }
@@ -413,11 +419,11 @@ fn run_last<W: Ways, G: Gate>(
 }
 
 /// A day that was driven to its end, with what is counted of it.
-fn counted<W: Ways, G: Gate>(
+fn counted<W: Ways, D: Drafter, G: Gate>(
     rt: &(impl Threads + Wait + Sync),
     alloc: Global,
     end: Drive,
-    setup: &Setup<'_, W, G>,
+    setup: &Setup<'_, W, D, G>,
 ) -> Result<DayRun, DriveFault>
     requires nodes { end.book.nodes ≡ setup.now.network.now.nodes }
     ensures rounds { IfOk result (λ run. run.rounds ≡ end.made.items) }

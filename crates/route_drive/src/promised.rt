@@ -13,6 +13,7 @@ use crate::drive::driven_day;
 use request_book::Book;
 use rider_limits::Settings;
 use road_network::Network;
+use row_tables::Drafter;
 use script_rows::{Round, Script};
 use std::alloc::Global;
 use std::sync::Wait;
@@ -25,8 +26,9 @@ use worker_gate::Gate;
 /// left; of an empty day there is none.
 ///
 /// A vehicle runs the stops of its chosen trip over shortest walks, with a dwell after each; an idle one goes to
-/// the rider whom its move names. `ways` tells the travel times of this network, and the gate hears of each receipt
-/// and of each piece of growth. The journals are a run of the script with all that is entered.
+/// the rider whom its move names. `ways` tells the travel times of this network, the search follows what `drafter`
+/// drafts and judges it, and the gate hears of each receipt and of each piece of growth. The journals are a run of
+/// the script with all that is entered.
 ///
 /// The day keeps its promises: no vehicle is late and no promise lapses in any batch, no vehicle is above its seats,
 /// and whoever is picked up is picked up within the wait and by the first pickup that was promised, and dropped within
@@ -34,13 +36,14 @@ use worker_gate::Gate;
 ///
 /// `TooLate` comes where a second above 1,000,000,000 would be entered, and has the journals of the rounds before.
 /// After either error the book is given up.
-pub fn drive_day<W: Ways, G: Gate>(
+pub fn drive_day<W: Ways, D: Drafter, G: Gate>(
     rt: &(impl Threads + Wait + Sync),
     alloc: Global,
     book: Book,
     day: &Script,
     network: &Network,
     ways: &W,
+    drafter: &D,
     settings: &Settings,
     gate: &G,
 ) -> Result<DayRun, DriveFault>
@@ -54,7 +57,7 @@ pub fn drive_day<W: Ways, G: Gate>(
     ensures late { IfErr result (IsLateAnswer settings.now network.now book.state day.now) }
 {
     inputs_hold(&book, day.rounds(), network);
-    driven_day(rt, alloc, book, day, network, ways, settings, gate)
+    driven_day(rt, alloc, book, day, network, ways, drafter, settings, gate)
 }
 
 /// What a book, the rounds of a script and a network keep, as their types say.

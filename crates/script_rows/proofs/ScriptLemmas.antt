@@ -16,7 +16,7 @@ use Rattle.script_rows.specs.Round.{NumberedLanes}
 use Rattle.script_rows.specs.work.Building.{IsBehind, last_round, joins, with_line}
 use Rattle.script_rows.specs.Round.{empty_round, with_command}
 use Rattle.script_rows.specs.Script.{round_before, round_of, script_of}
-use Rattle.script_rows.specs.work.Named.{line_at, rounds_of}
+use Rattle.script_rows.specs.lemmas.Named.{line_at, rounds_of}
 use Rattle.script_rows.proofs.GroupLemmas.{map-agree, round_of-push, round_of-push_other, round_of-none}
 
 -- a row that joins the last round

@@ -1,4 +1,3 @@
-pub mod Named
 pub mod Row
 pub mod Building
 pub mod Words

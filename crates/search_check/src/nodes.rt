@@ -1,6 +1,6 @@
 //! The nodes of a tree, each at the rows that may be chosen there.
 ghost use Rattle.std.specs.Prelude.{◌≡◌, ◌↔◌, IfOk, IsTrue, OnOk, false, length};
-ghost use Rattle.bound_checker.specs.Visit.{coming_of};
+ghost use Rattle.bound_checker.specs.lemmas.Visit.{coming_of};
 ghost use Rattle.dual_bound.specs.Index.{IsIndexOf};
 ghost use Rattle.plan_rules.specs.Graph.{Graph, IsGoodGraph};
 ghost use Rattle.plan_rules.specs.Multipliers.{usable_of};

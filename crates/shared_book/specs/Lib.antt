@@ -1,3 +1,3 @@
 pub mod Locked
 pub mod Shared
-pub mod work
+pub mod lemmas

@@ -2,7 +2,7 @@
 ghost use Rattle.std.specs.Prelude.{◌≡◌, ◌^◌, ◌<◌, IfOk, IsOk, IsTrue, length};
 ghost use Rattle.request_book.specs.Book.{IsBook};
 ghost use Rattle.shared_book.specs.Locked.{is_light};
-ghost use Rattle.shared_book.specs.work.Locked.{snapshot_before};
+ghost use Rattle.shared_book.specs.lemmas.Locked.{snapshot_before};
 
 use batch_snapshot::Snapshot;
 use pool_base::{NodeId, OutOfMemory, Sequence};

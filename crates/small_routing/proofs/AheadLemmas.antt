@@ -8,7 +8,7 @@ use Rattle.stop_orders.specs.declared.stop.Stop.TheVariants.{Pick, Drop, Alight}
 use Rattle.stop_orders.specs.Visit.{place_of, lateness}
 use Rattle.stop_orders.specs.Task.{leg_at, visit_at}
 use Rattle.stop_orders.specs.Done.{has, IsNextStop}
-use Rattle.stop_orders.specs.work.Rest.{sum_below}
+use Rattle.stop_orders.specs.lemmas.Rest.{sum_below}
 use Rattle.stop_orders.proofs.lemmas.DoneLemmas.{has-with_same, has-with_other, Completes-front, IsAllDone-from_nil, sum_below-le}
 use Rattle.stop_orders.proofs.lemmas.ClockLemmas.{AtLeastAsSoon, two_hops}
 use Rattle.small_routing.specs.declared.label.Label.{Label}

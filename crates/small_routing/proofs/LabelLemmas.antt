@@ -11,7 +11,7 @@ use Rattle.stop_orders.specs.Order.{IsKnown}
 use Rattle.stop_orders.specs.Visit.{place_of, room_after, lateness, ServesFrom}
 use Rattle.stop_orders.specs.Task.{no_leg, IsLeg, IsTask, visit_at, visits_of, free_seats, order_delay}
 use Rattle.stop_orders.specs.Done.{IsNextStop}
-use Rattle.stop_orders.specs.work.Rest.{left_count}
+use Rattle.stop_orders.specs.lemmas.Rest.{left_count}
 use Rattle.stop_orders.proofs.lemmas.DoneLemmas.{left_count-most}
 use Rattle.stop_orders.proofs.lemmas.PlainLemmas.{MakesOrders-next, MakesOrders-none, append_one}
 use Rattle.small_routing.specs.declared.label.Label.{Label}

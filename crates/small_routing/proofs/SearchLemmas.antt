@@ -10,8 +10,8 @@ use Rattle.stop_orders.specs.declared.stop.Stop.{Stop}
 use Rattle.stop_orders.specs.Visit.{ServesFrom}
 use Rattle.stop_orders.specs.Task.{visits_of, free_seats, order_delay, Serves}
 use Rattle.stop_orders.specs.Done.{IsAllDone}
-use Rattle.stop_orders.specs.work.Rest.{Completes}
-use Rattle.stop_orders.specs.work.Plain.{IsFound, NoneBetter, StaysGood}
+use Rattle.stop_orders.specs.lemmas.Rest.{Completes}
+use Rattle.stop_orders.specs.lemmas.Plain.{IsFound, NoneBetter, StaysGood}
 use Rattle.stop_orders.proofs.lemmas.ClockLemmas.{soon_over, ServesFrom-soon}
 use Rattle.stop_orders.proofs.lemmas.DoneLemmas.{IsAllDone-from_nil, Completes-none}
 use Rattle.stop_orders.proofs.lemmas.PlainLemmas.{MakesOrders-all, rest_of_all}

@@ -1,8 +1,8 @@
 ghost use Rattle.std.specs.Prelude.{◌≡◌, ◌+◌, ◌<◌, ◌≤◌, ◌↔◌, All, IfOk, IsFalse, IsTrue, OnOk, length};
 ghost use Rattle.pool_base.specs.Times.{point_count, travel_time};
 ghost use Rattle.stop_orders.specs.Task.{IsOrderOf};
-ghost use Rattle.stop_orders.specs.work.Rest.{left_count};
-ghost use Rattle.stop_orders.specs.work.Plain.{IsFound, NoneBetter};
+ghost use Rattle.stop_orders.specs.lemmas.Rest.{left_count};
+ghost use Rattle.stop_orders.specs.lemmas.Plain.{IsFound, NoneBetter};
 ghost use Rattle.small_routing.specs.work.Label.{IsRoutable, IsSmallLabel, task_riders, task_passengers};
 ghost use Rattle.small_routing.specs.work.Kept.{labels_of};
 ghost use Rattle.small_routing.specs.work.Search.{LeadsTo, IsExhausted, IsLabelDone, Searched};

@@ -6,4 +6,5 @@ pub mod Sound
 pub mod PairList
 pub mod Done
 pub mod Laws
+pub mod lemmas
 pub mod work

@@ -11,9 +11,8 @@ is_of_rider i (Alight k) = false
 
 -- this passenger gets out at the stop
 abbrev pub is_of_passenger : ℕ → Stop → Bool
-is_of_passenger j (Pick k) = false
-is_of_passenger j (Drop k) = false
 is_of_passenger j (Alight k) = k == j
+is_of_passenger j _ = false
 
 -- the stop is of somebody whom there is
 abbrev pub IsKnown : ℕ → ℕ → Stop → Type 0

@@ -30,14 +30,8 @@ greatest (x ∷ xs) = max x (greatest xs)
 
 -- the task of a vehicle, its passengers, and riders with these legs
 abbrev pub vehicle_task : ℕ → SettledVehicle → List Leg → Task
-vehicle_task dwell vehicle legs = record {
-  start = vehicle.start;
-  ready = vehicle.ready;
-  dwell = dwell;
-  seats = vehicle.seats;
-  aboard = vehicle.aboard;
-  riders = record { items = legs };
-}
+vehicle_task dwell vehicle legs =
+    record { start = vehicle.start; ready = vehicle.ready; dwell = dwell; seats = vehicle.seats; aboard = vehicle.aboard; riders = record { items = legs } }
 
 -- the task of two riders with an empty vehicle that is ready now at a place, with the most seats of the fleet
 abbrev pub pair_task : Settled → ℕ → ℕ → ℕ → Task

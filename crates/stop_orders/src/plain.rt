@@ -2,8 +2,9 @@ ghost use Rattle.std.specs.Prelude.{◌≡◌, ◌+◌, ◌<◌, ◌≤◌, ◌�
 ghost use Rattle.pool_base.specs.Times.{point_count, travel_time};
 ghost use Rattle.stop_orders.specs.declared.stop.Stop.{Stop as OneStop};
 ghost use Rattle.stop_orders.specs.Task.{IsTask, IsOrderOf, Serves, order_delay};
-ghost use Rattle.stop_orders.specs.work.Rest.{left_count};
-ghost use Rattle.stop_orders.specs.work.Plain.{IsFound, StaysGood, NoneBetter, MakesOrders, AllTried};
+ghost use Rattle.stop_orders.specs.lemmas.Rest.{left_count};
+ghost use Rattle.stop_orders.specs.lemmas.Plain.{IsFound, StaysGood, NoneBetter, MakesOrders};
+ghost use Rattle.stop_orders.specs.work.Plain.{AllTried};
 
 use crate::done::stop_of;
 use crate::route::copy_of_stops;

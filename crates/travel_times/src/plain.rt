@@ -2,7 +2,7 @@ ghost use Rattle.std.specs.Prelude.{◌≡◌, ℕ, ◌+◌, ◌<◌, ◌≤◌,
 ghost use Rattle.pool_base.specs.TravelTime.{longest};
 ghost use Rattle.road_network.specs.Roads.{index_in};
 ghost use Rattle.road_network.specs.Walk.{IsTimeBetween};
-ghost use Rattle.travel_times.specs.work.Search.{RelaxesHops};
+ghost use Rattle.travel_times.specs.lemmas.Search.{RelaxesHops};
 ghost use Rattle.travel_times.specs.Table.{AreTravelTimes};
 ghost use Rattle.travel_times.specs.work.Table.{AreRows};
 

@@ -2,7 +2,7 @@ ghost use Rattle.std.specs.Prelude.{◌≡◌, ℕ, ◌+◌, ◌<◌, ◌≤◌,
 ghost use Rattle.pool_base.specs.TravelTime.{longest};
 ghost use Rattle.road_network.specs.Walk.{IsTimeBetween};
 ghost use Rattle.travel_times.specs.work.Arcs.{AreArcsOf};
-ghost use Rattle.travel_times.specs.work.Search.{IsNextTaken, RelaxesHops, waits};
+ghost use Rattle.travel_times.specs.lemmas.Search.{IsNextTaken, RelaxesHops, waits};
 
 use crate::arcs::Arcs;
 use crate::ring::Ring;

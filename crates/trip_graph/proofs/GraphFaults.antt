@@ -15,7 +15,8 @@ use Rattle.plan_rules.specs.declared.row.TripRow.{TripRow}
 use Rattle.plan_rules.specs.declared.fault.GraphFault.{GraphFault}
 use Rattle.plan_rules.specs.declared.fault.GraphFault.TheVariants.{Range, Order, Held, OutOfMemory}
 use Rattle.plan_rules.specs.Graph.{Graph, no_row, choice_at, riders_at, has_rider, times_served, HoldsRightly}
-use Rattle.plan_rules.specs.GraphFault.{HasGoodRows, HasRowsInOrder, HasHeldRows, IsGraphFault}
+use Rattle.plan_rules.specs.GraphFault.{HasGoodRows, HasRowsInOrder, IsGraphFault}
+use Rattle.plan_rules.specs.lemmas.GraphFault.{HasHeldRows}
 use Rattle.plan_rules.proofs.lemmas.GraphLemmas.{tail_rises, times_served_found, in_choice}
 use Rattle.plan_rules.proofs.lemmas.HeldLemmas.{holds_at}
 use Rattle.trip_graph.specs.Answer.{IsRowWith, HoldRows}

@@ -18,7 +18,8 @@ use Rattle.rider_limits.specs.declared.settings.Settings.{Settings}
 use Rattle.trip_growth.specs.declared.trip_of.TripOf.{TripOf}
 use Rattle.trip_growth.specs.Rows.{AreSomeRows, AreRowsOfSize}
 use Rattle.trip_graph.specs.work.Levels.{AreLevels, row_total, level_total, AreRowsUpTo, total_upto}
-use Rattle.trip_graph.specs.work.Rows.{trip_row, vehicle_rows, AreRowsOf}
+use Rattle.trip_graph.specs.lemmas.Rows.{AreRowsOf}
+use Rattle.trip_graph.specs.work.Rows.{trip_row, vehicle_rows}
 use Rattle.trip_graph.specs.Answer.{IsRowWith, HoldRows, IsTripGraphOf}
 
 no_trip : TripOf

@@ -5,7 +5,7 @@ use Rattle.std.proofs.lemmas.Bool.{cases_lt}
 use Rattle.std.proofs.lemmas.List.{append-nil, append_assoc, length-map, get_or-map, map-append, take_more, take_all}
 use Rattle.pair_graph.specs.declared.rv_edge.RvEdge.{RvEdge}
 use Rattle.pair_graph.specs.RvGraph.{IsRvGraph, no_edge}
-use Rattle.pair_graph.specs.work.Edge.{pair_of}
+use Rattle.pair_graph.specs.lemmas.Edge.{pair_of}
 use Rattle.pair_graph.proofs.lemmas.Listing.{ListsBefore, lists_none, lists_taken, lists_skipped, lists_next, lists_whole}
 use Rattle.stop_orders.specs.declared.settled.Settled.{Settled}
 use Rattle.stop_orders.specs.Settled.{CanServe, IsRvEdge}

@@ -4,6 +4,7 @@ ghost use Rattle.route_drive.specs.Driven.{IsNewBook};
 
 use crate::line::{FOUR_SEATS, line, script, settings};
 use fleet_state::{HEADER as FLEET_HEADER, read_fleet};
+use plan_drafts::RelaxationDrafter;
 use pool_base::NodeId;
 use pool_io::rows;
 use request_book::{Book, Command, Entry};
@@ -120,7 +121,15 @@ fn driven(
             Some(book) => {
                 let ways = NetworkWays { network: &network };
                 Some(drive_day(
-                    rt, alloc, book, &script, &network, &ways, settings, &FreeGate,
+                    rt,
+                    alloc,
+                    book,
+                    &script,
+                    &network,
+                    &ways,
+                    &RelaxationDrafter,
+                    settings,
+                    &FreeGate,
                 ))
             }
             None => None,

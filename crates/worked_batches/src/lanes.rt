@@ -4,6 +4,7 @@ ghost use Rattle.seat_lock.specs.Values.{AreAllPasses};
 
 use crate::line::{FOUR_SEATS, book_of, line, script, settings};
 use dispatch_engine::{run_lane, run_round};
+use plan_drafts::RelaxationDrafter;
 use request_book::{Book, Reply};
 use rider_limits::Settings;
 use road_network::Network;
@@ -127,7 +128,17 @@ fn round_made<G: Gate>(
 ) -> Option<[usize; 3]> {
     let ways = NetworkWays { network };
     match book_of(alloc, network, FOUR_SEATS, settings) {
-        Some(book) => match run_round(rt, alloc, book, round, network, &ways, settings, gate) {
+        Some(book) => match run_round(
+            rt,
+            alloc,
+            book,
+            round,
+            network,
+            &ways,
+            &RelaxationDrafter,
+            settings,
+            gate,
+        ) {
             Ok(book) => Some(made_of(&book)),
             Err(_) => None,
         },
@@ -159,6 +170,7 @@ fn run_first(
         commands,
         network,
         &ways,
+        &RelaxationDrafter,
         settings,
         &FreeGate,
     )

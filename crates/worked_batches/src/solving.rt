@@ -5,6 +5,7 @@ use crate::asking::batch_on;
 use crate::line::{FOUR_SEATS, TWO_SEATS, line, settings};
 use batch_snapshot::Snapshot;
 use batch_solver::solve_batch;
+use plan_drafts::RelaxationDrafter;
 use pool_base::{NodeId, OutOfMemory, Times};
 use request_book::{Answer, Outcome};
 use rider_limits::Settings;
@@ -62,7 +63,17 @@ fn solved_by<W: Ways>(
         Ok(points) => {
             if are_known(network, points.nodes()) {
                 let gate = FreeGate;
-                solve_batch(rt, alloc, snapshot, network, ways, settings, &gate).ok()
+                solve_batch(
+                    rt,
+                    alloc,
+                    snapshot,
+                    network,
+                    ways,
+                    &RelaxationDrafter,
+                    settings,
+                    &gate,
+                )
+                .ok()
             } else {
                 None
             }

@@ -4,7 +4,7 @@ use Rattle.std.proofs.lemmas.Bool.{cases_eq, cases_lt}
 use Rattle.std.proofs.lemmas.List.{ext_get_or}
 use Rattle.plan_rules.specs.Graph.{Graph, riders_at, cost_at, choice_at, IsGoodGraph}
 use Rattle.plan_rules.specs.Greedy.{IsTriedBefore, IsTaken, IsGreedy}
-use Rattle.plan_rules.specs.Rank.{rank_of}
+use Rattle.plan_rules.specs.lemmas.Rank.{rank_of}
 use Rattle.plan_rules.proofs.lemmas.GreedyLemmas.{rank_before}
 
 one_way : (a b x y j k : ℕ) → ((b < a) ⊎ ((a ≡ b) × ((x < y) ⊎ ((x ≡ y) × (j < k))))) → ((a < b) ⊎ ((b ≡ a) × ((y < x) ⊎ ((y ≡ x) × (k < j))))) → ⊥

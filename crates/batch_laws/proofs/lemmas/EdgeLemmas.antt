@@ -6,7 +6,7 @@ use Rattle.stop_orders.specs.PairList.{IsBefore}
 use Rattle.stop_orders.specs.Settled.{IsRvEdge, IsRrEdge}
 use Rattle.pair_graph.specs.declared.rv_edge.RvEdge.{RvEdge}
 use Rattle.pair_graph.specs.RvGraph.{IsRvGraph, no_edge}
-use Rattle.pair_graph.specs.work.Edge.{pair_of}
+use Rattle.pair_graph.specs.lemmas.Edge.{pair_of}
 use Rattle.pair_graph.specs.RrGraph.{IsRrGraph}
 use Rattle.batch_laws.proofs.lemmas.SortedLemmas.{IsStrict, AreNeighbours, in_order, neighbours_from, same_members}
 

@@ -16,7 +16,7 @@ use Rattle.plan_rules.specs.declared.row.TripRow.{TripRow}
 use Rattle.plan_rules.specs.Graph.{Graph, no_row, choice_at, row_cmp}
 use Rattle.rider_limits.specs.declared.settings.Settings.{Settings}
 use Rattle.trip_graph.specs.Answer.{IsRowWith, HoldRows, IsTripGraphOf, HasMoreRows}
-use Rattle.trip_graph.specs.work.Rows.{AreRowsOf}
+use Rattle.trip_graph.specs.lemmas.Rows.{AreRowsOf}
 use Rattle.batch_laws.proofs.lemmas.SortedLemmas.{IsStrict, AreInOrder, AreNeighbours, in_order, same_members, no_longer}
 
 abbrev pub RowBefore : TripRow → TripRow → Type 0

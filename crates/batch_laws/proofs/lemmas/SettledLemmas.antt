@@ -19,7 +19,7 @@ use Rattle.stop_orders.specs.Settled.{vehicle_at, rider_at, vehicle_task, no_veh
 use Rattle.rider_limits.specs.declared.settings.Settings.{Settings}
 use Rattle.promise_check.specs.Requests.{IsLegOf, request_at, ideal_second}
 use Rattle.promise_check.specs.Promised.{promised_limit, promised_to, is_promised_to, kept_legs, IsLive}
-use Rattle.promise_check.specs.work.Named.{kept_leg}
+use Rattle.promise_check.specs.lemmas.Named.{kept_leg}
 use Rattle.promise_check.specs.Settling.{AreLegsOf, IsPlaced, IsLateRight, HoldsPromised, IsLiveRider, HasRightLimit, IsSettled}
 use Rattle.batch_laws.proofs.lemmas.SortedLemmas.{in_order, neighbours_from, nat_strict}
 

@@ -7,7 +7,7 @@ use Rattle.plan_rules.specs.Graph.{Graph, IsRowOf}
 use Rattle.plan_rules.specs.Multipliers.{Usable}
 use Rattle.plan_rules.specs.Tree.{every_row, Place, least_leaf, with_leaf}
 use Rattle.plan_rules.specs.Reading.{ReadsTo, places_from}
-use Rattle.plan_rules.specs.work.Tree.{places_read}
+use Rattle.plan_rules.specs.lemmas.Tree.{places_read}
 use Rattle.plan_rules.specs.Path.{Standing, standing_of, root, decided, IsPathOf}
 use Rattle.plan_rules.specs.declared.node.Node.{Node}
 use Rattle.plan_rules.specs.declared.node.Node.TheVariants.{Branch, Leaf, Dead}
@@ -17,7 +17,8 @@ use Rattle.plan_rules.proofs.lemmas.ReadLemmas.{reads_push, places_push, least_l
 use Rattle.bound_checker.specs.declared.fault.CheckFault.{CheckFault}
 use Rattle.bound_checker.specs.declared.fault.CheckFault.TheVariants.{BadBranch, BadLeaf, BadDead, Unfinished, Extra, OutOfMemory}
 use Rattle.bound_checker.specs.Fault.{IsTreeFault, IsReached}
-use Rattle.bound_checker.specs.Visit.{coming_of, IsNodeFault}
+use Rattle.bound_checker.specs.lemmas.Visit.{coming_of}
+use Rattle.bound_checker.specs.work.Visit.{IsNodeFault}
 
 -- what is to come after an end
 pub coming_left : (g : Graph) (b : Bool) (old new : List Decision) → MatchBool b ((standing_of g old).coming ≡ (standing_of g new).usable ∷ (standing_of g new).coming) ((standing_of g old).coming ≡ []) → coming_of g (not b) new ≡ (standing_of g old).coming

@@ -6,15 +6,15 @@ use Rattle.std.proofs.lemmas.Bool.{cases_lt, eq-eqb, eqb-true, eqb-false, falseâ
 use Rattle.batch_snapshot.specs.Batch.{Batch}
 use Rattle.batch_solver.specs.Outcome.{IsGoodOutcome}
 use Rattle.request_book.specs.Book.{BookView}
-use Rattle.request_book.specs.work.Closing.{closed_state}
-use Rattle.request_book.specs.work.Refusals.{first_of, unknown_node, unknown_rider, is_aboard, has_ended, unknown_vehicle, time_back, not_promised, vehicle_full, not_aboard, not_this_batch}
+use Rattle.request_book.specs.lemmas.Closing.{closed_state}
+use Rattle.request_book.specs.lemmas.Refusals.{first_of, unknown_node, unknown_rider, is_aboard, has_ended, unknown_vehicle, time_back, not_promised, vehicle_full, not_aboard, not_this_batch}
 use Rattle.request_book.specs.Replay.{state_after, RepliesAreSteps}
 use Rattle.request_book.specs.Sealing.{batch_of, sealed_state}
 use Rattle.pool_io.specs.Faults.{one_more}
 use Rattle.request_book.specs.State.{find_rider, find_vehicle}
 use Rattle.request_book.specs.Step.{rider_becomes, vehicle_becomes, step}
-use Rattle.request_book.specs.work.Named.{stands_at}
-use Rattle.request_book.specs.work.Table.{answer, picked_up, dropped_off, submit_refusal, seal_refusal, submit_step, cancel_step, report_step, pickup_step, dropoff_step, seal_step, close_step, table_step}
+use Rattle.request_book.specs.lemmas.Named.{stands_at}
+use Rattle.request_book.specs.lemmas.Table.{answer, picked_up, dropped_off, submit_refusal, seal_refusal, submit_step, cancel_step, report_step, pickup_step, dropoff_step, seal_step, close_step, table_step}
 use Rattle.request_book.proofs.lemmas.StepTable.{step-table, by-table}
 use Rattle.request_book.specs.declared.command.Command.{Command}
 use Rattle.request_book.specs.declared.command.Command.TheVariants.{Submit, Cancel, Report, Pickup, Dropoff, Seal, Close}
@@ -35,7 +35,8 @@ use Rattle.shared_book.specs.Locked.{calls_from, call_of, entry_of, sealed_by, s
 use Rattle.shared_book.specs.Shared.{BookPass, IsFinished}
 use Rattle.dispatch_engine.specs.Lane.{of_lane, IsCloseOf, IsLaneRunFrom, IsLaneRun, last_sealed, IsGoodFor, LaneClosesAreGood, IsGoodClose, ClosesAreGood}
 use Rattle.dispatch_engine.specs.Run.{IsReady}
-use Rattle.dispatch_engine.specs.work.Lanes.{calls_of_lane, calls_of_pass, IsPlain, ArePlain, HaveRun, IsJointRun}
+use Rattle.dispatch_engine.specs.lemmas.Lanes.{IsPlain}
+use Rattle.dispatch_engine.specs.work.Lanes.{calls_of_lane, calls_of_pass, ArePlain, HaveRun, IsJointRun}
 
 -- what a plain command leaves as it was
 pub record IsQuiet (s : State) (after : State Ã— Reply) : Type 0 where

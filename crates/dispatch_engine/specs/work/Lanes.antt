@@ -1,8 +1,6 @@
--- From what each lane did to the one history in which all of them stand.
-use Rattle.std.specs.Prelude.{◌≡◌, ◌≢◌, ℕ, ◌==◌, ◌<◌, ◌≤◌, List, [], ◌∷◌, None, filter, map, length, slice_index_or}
+use Rattle.std.specs.Prelude.{◌≡◌, ◌≢◌, ℕ, ◌==◌, ◌<◌, ◌≤◌, List, ◌∷◌, None, filter, map, length, slice_index_or, []}
 use Rattle.request_book.specs.Replay.{state_after}
 use Rattle.request_book.specs.declared.command.Command.{Command}
-use Rattle.request_book.specs.declared.command.Command.TheVariants.{Seal, Close}
 use Rattle.request_book.specs.declared.journal.Entry.{Entry}
 use Rattle.request_book.specs.declared.state.State.{State}
 use Rattle.rider_limits.specs.declared.settings.Settings.{Settings}
@@ -12,6 +10,9 @@ use Rattle.shared_book.specs.declared.locked.LockedReply.{LockedReply}
 use Rattle.shared_book.specs.Locked.{entry_of}
 use Rattle.shared_book.specs.Shared.{BookPass}
 use Rattle.dispatch_engine.specs.Lane.{of_lane, IsLaneRun, LaneClosesAreGood, ClosesAreGood}
+use Rattle.dispatch_engine.specs.lemmas.Lanes.{IsPlain}
+
+-- From what each lane did to the one history in which all of them stand.
 
 -- the calls of a lane in a log
 abbrev pub calls_of_lane : ℕ → List (Logged Command LockedReply) → List (Logged Command LockedReply)
@@ -20,12 +21,6 @@ calls_of_lane lane calls = filter (λ c. c.lane == lane) calls
 -- the calls of a pass, without their positions
 abbrev pub calls_of_pass : BookPass → List (Logged Command LockedReply)
 calls_of_pass p = map (λ c. c.1) p.calls
-
--- the command is no seal and no close
-abbrev pub IsPlain : Command → Type 0
-IsPlain (Seal now) = ⊥
-IsPlain (Close batch outcome) = ⊥
-IsPlain _ = Unit {0}
 
 -- each command is plain
 abbrev pub ArePlain : List Command → Type 0

@@ -8,7 +8,7 @@ use Rattle.plan_rules.specs.Graph.{Graph, row_at, has_rider}
 use Rattle.plan_rules.specs.Multipliers.{Usable, multiplier_at, multiplier_sum, least_cost, room_at, first_fit_of, first_fit_below}
 use Rattle.plan_rules.specs.declared.row.TripRow.{TripRow}
 use Rattle.plan_rules.proofs.lemmas.SumLemmas.{least_below_more}
-use Rattle.dual_bound.specs.Size.{IsModest}
+use Rattle.dual_bound.specs.work.Size.{IsModest}
 
 -- one more number
 pub least_take : (n : ℕ) (p : ℕ → Bool) (f : ℕ → ℤ) (o : Option ℤ) (z : ℤ) → p n ≡ true → o ≡ least_below n p f → z ≡ f n → Some (lesser o z) ≡ least_below (n + 1) p f

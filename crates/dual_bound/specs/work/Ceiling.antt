@@ -1,7 +1,7 @@
 use Rattle.std.specs.Prelude.{◌≡◌, ℕ, List, length, slice_index_or, ◌*◌, ℤ, pos, ◌≤ℤ◌}
 use Rattle.plan_rules.specs.Graph.{Graph}
 use Rattle.plan_rules.specs.Multipliers.{Usable, multiplier_at, first_fit}
-use Rattle.dual_bound.specs.Size.{IsModest}
+use Rattle.dual_bound.specs.work.Size.{IsModest}
 
 -- a number for each rider that her first-fit multiplier doesn't exceed
 pub record AreCeilings (g : Graph) (usable : Usable) (rooms : List ℤ) : Type 0 where

@@ -1,5 +1,4 @@
--- Replies and refusals, by how they are read.
-use Rattle.std.specs.Prelude.{ℕ, List, ◌++◌, codes, Option, IfSome}
+use Rattle.std.specs.Prelude.{ℕ, List, ◌++◌, codes}
 use Rattle.dispatch_report.specs.Entry.{reply_text}
 use Rattle.entry_lines.specs.Reply.{IsRefusal}
 use Rattle.request_book.specs.declared.reply.BookRefusal.{BookRefusal}
@@ -8,9 +7,7 @@ use Rattle.request_book.specs.declared.reply.Reply.{Reply}
 use Rattle.request_book.specs.declared.reply.Reply.TheVariants.{Accepted, Cancelled, Placed, Picked, Dropped, Closed}
 use Rattle.request_book.specs.declared.rider.Status.{Status}
 
--- none, or one of these numbers
-abbrev pub OrNone : (ℕ → Type 0) → Option ℕ → Type 0
-OrNone Is number = IfSome number Is
+-- Replies and refusals, by how they are read.
 
 abbrev pub IsAnyStatus : Status → Type 0
 IsAnyStatus status = Unit {0}

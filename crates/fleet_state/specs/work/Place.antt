@@ -1,7 +1,7 @@
 use Rattle.std.specs.Prelude.{◌≡◌, ℕ, ◌<◌, ◌≤◌, Bool, false, List, length, nat_lt, ◌==◌, ◌&&◌, slice_index_or}
 use Rattle.std.specs.List.{AllWithin, list_any, prefix_len}
 use Rattle.batch_snapshot.specs.declared.vehicle.Vehicle.{Vehicle}
-use Rattle.fleet_state.specs.work.Named.{empty_vehicle}
+use Rattle.fleet_state.specs.lemmas.Named.{empty_vehicle}
 
 -- some vehicle has this id
 abbrev pub has_vehicle : List Vehicle → ℕ → Bool

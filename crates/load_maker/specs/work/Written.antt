@@ -1,6 +1,6 @@
 use Rattle.std.specs.Prelude.{◌≡◌, ℕ, List, ◌++◌}
 use Rattle.rand_core.specs.Stream.{Stream}
-use Rattle.load_maker.specs.work.Parts.{csv_lines}
+use Rattle.load_maker.specs.lemmas.Parts.{csv_lines}
 use Rattle.load_maker.specs.Part.{Part}
 
 -- the rows of a part were written behind a text, with these draws before and after

@@ -4,7 +4,7 @@ use Rattle.stop_orders.specs.PairList.{IsBefore}
 use Rattle.stop_orders.specs.Settled.{IsRvEdge}
 use Rattle.pair_graph.specs.declared.rv_edge.RvEdge.{RvEdge}
 use Rattle.pair_graph.specs.RvGraph.{no_edge}
-use Rattle.pair_graph.specs.work.Edge.{pair_of}
+use Rattle.pair_graph.specs.lemmas.Edge.{pair_of}
 
 -- the edges that stand before a vehicle and a rider
 pub record IsRvGraphUpTo (tau : ℕ → ℕ → ℕ) (settled : Settled) (vehicle rider : ℕ) (edges : List RvEdge) : Type 0 where

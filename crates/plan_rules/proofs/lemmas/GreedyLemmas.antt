@@ -7,7 +7,8 @@ use Rattle.std.proofs.lemmas.Bool.{cases_eq, cases_lt, or_cases, or_left, or_rig
 use Rattle.std.proofs.lemmas.List.{get_or-replicate, length-replicate, get_or-set_same, get_or-set_other, get_or_past, length-set}
 use Rattle.plan_rules.specs.Graph.{Graph, riders_at, cost_at, row_vehicle, has_rider, choice_at, IsGoodGraph}
 use Rattle.plan_rules.specs.Greedy.{IsTaken, IsApart, IsTriedBefore, IsGreedy}
-use Rattle.plan_rules.specs.Rank.{rank_value, rank_of, parts_of, AreRanks, IsSelection, IsInTheWay}
+use Rattle.plan_rules.specs.lemmas.Rank.{rank_value, rank_of}
+use Rattle.plan_rules.specs.work.Rank.{parts_of, AreRanks, IsSelection, IsInTheWay}
 use Rattle.plan_rules.proofs.lemmas.GraphLemmas.{rider_below}
 use Rattle.plan_rules.proofs.lemmas.MarkLemmas.{any_marked, marked_one}
 

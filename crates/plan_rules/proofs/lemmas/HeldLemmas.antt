@@ -3,7 +3,8 @@ use Rattle.std.proofs.Common.{◌≡◌, ◌||◌, ℕ, ◌+◌, ◌<◌, ◌≤
 use Rattle.std.specs.List.{list_any}
 use Rattle.std.proofs.lemmas.Bool.{cases_eq, cases_Bool, both_ways}
 use Rattle.std.proofs.lemmas.List.{get_or-replicate, length-replicate}
-use Rattle.plan_rules.specs.Graph.{Graph, row_at, riders_at, has_rider, IsRowOf, HasNoRow, choice_at, is_in, times_served, IsGraphRow, HoldsRightly, MarksHeld}
+use Rattle.plan_rules.specs.Graph.{Graph, row_at, riders_at, has_rider, IsRowOf, HasNoRow, choice_at, is_in, times_served, IsGraphRow, HoldsRightly}
+use Rattle.plan_rules.specs.work.Graph.{MarksHeld}
 use Rattle.plan_rules.proofs.lemmas.SumLemmas.{flag}
 use Rattle.plan_rules.proofs.lemmas.GraphLemmas.{rider_below, times_served_more, times_served_none}
 use Rattle.plan_rules.proofs.lemmas.MarkLemmas.{any_marked, marked_one}

@@ -5,7 +5,7 @@ use Rattle.std.proofs.lemmas.List.{length-append, map-append, append_assoc, appe
 use Rattle.plan_rules.specs.Graph.{Graph, IsGoodGraph}
 use Rattle.plan_rules.specs.Multipliers.{Usable}
 use Rattle.plan_rules.specs.Tree.{every_row, only_row, without_row, SearchTree, Parted, Bounded, Closed, IsSoundTree, IsTreeOf, IsTreeOfValue, Place, places_within, least_leaf, tree_value, belongs_to_end, belongs_to_dead_end}
-use Rattle.plan_rules.specs.work.Tree.{preorder, places, IsWholeTree, places_read, value_read}
+use Rattle.plan_rules.specs.lemmas.Tree.{preorder, places, IsWholeTree, places_read, value_read}
 use Rattle.plan_rules.specs.Reading.{ReadsTo, places_from}
 use Rattle.plan_rules.specs.Plan.{IsPlan, IsLawful, IsBound}
 use Rattle.plan_rules.proofs.lemmas.TreeLemmas.{each_plan_at_one_end, no_plan_at_dead_ends, tree_value_bounds}

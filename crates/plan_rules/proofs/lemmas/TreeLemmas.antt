@@ -10,7 +10,7 @@ use Rattle.plan_rules.specs.Plan.{IsPlan, IsLawful, cost_of, IsBound}
 use Rattle.plan_rules.specs.Multipliers.{Usable, leaf_value}
 use Rattle.plan_rules.specs.Tree.{every_row, only_row, without_row, CanBranch, IsClash, IsStranded, IsDeadEnd, Place, rounded_up, least_leaf, is_choice_usable, is_within, belongs_to_end, belongs_to_dead_end}
 use Rattle.plan_rules.specs.Reading.{ReadsTo, places_from}
-use Rattle.plan_rules.specs.work.Tree.{IsWholeTree, places_read, value_read}
+use Rattle.plan_rules.specs.lemmas.Tree.{IsWholeTree, places_read, value_read}
 use Rattle.plan_rules.specs.declared.node.Node.{Node}
 use Rattle.plan_rules.specs.declared.node.Node.TheVariants.{Branch, Leaf, Dead}
 use Rattle.plan_rules.proofs.lemmas.SumLemmas.{flag, flag-true, flag-false, all_below_at, all_below_from, all_below_fails, all_below_same, count_below_two, lesser-le_left, lesser-le_right}

@@ -1,15 +1,7 @@
--- Parts of a plan's rules, as proofs call them.
-use Rattle.std.specs.Prelude.{◌≡◌, ◌==◌, ◌<◌, ◌≤◌, ℕ, Bool, false, nat_lt, List, length, slice_index_or, Option, Some, None}
-use Rattle.plan_rules.specs.Sums.{count_below}
+use Rattle.std.specs.Prelude.{◌≡◌, ◌<◌, ◌≤◌, ℕ, Bool, false, nat_lt, List, length, slice_index_or, Option, Some, None}
 use Rattle.plan_rules.specs.Graph.{Graph, riders_at, times_served}
 
--- how many of the chosen rows have this rider
-abbrev pub times_chosen : Graph → List (Option ℕ) → ℕ → ℕ
-times_chosen g chosen r = times_served g chosen g.vehicles r
-
--- how many riders are in no chosen row
-abbrev pub left_out : Graph → List (Option ℕ) → ℕ
-left_out g chosen = count_below g.riders (λ r. times_chosen g chosen r == 0)
+-- Parts of a plan's rules, as proofs call them.
 
 -- how many riders the chosen row has; no row has none
 abbrev pub choice_size : Graph → Option ℕ → ℕ

@@ -11,7 +11,7 @@ use Rattle.stop_orders.specs.declared.settled_rider.SettledRider.{SettledRider}
 use Rattle.stop_orders.specs.declared.settled_vehicle.SettledVehicle.{SettledVehicle}
 use Rattle.stop_orders.specs.Settled.{no_rider, no_vehicle, IsTrip}
 use Rattle.promise_check.specs.Requests.{request_at}
-use Rattle.promise_check.specs.work.Named.{no_request}
+use Rattle.promise_check.specs.lemmas.Named.{no_request}
 use Rattle.promise_check.specs.Promised.{is_promised_to, promised_to}
 use Rattle.promise_check.specs.work.Promised.{kept_rider, AreKept, IsHeld}
 

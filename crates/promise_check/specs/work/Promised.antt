@@ -4,7 +4,7 @@ use Rattle.stop_orders.specs.declared.settled_rider.SettledRider.{SettledRider}
 use Rattle.stop_orders.specs.declared.settled_vehicle.SettledVehicle.{SettledVehicle}
 use Rattle.stop_orders.specs.Settled.{no_rider, no_vehicle}
 use Rattle.promise_check.specs.Requests.{request_at}
-use Rattle.promise_check.specs.work.Named.{kept_leg}
+use Rattle.promise_check.specs.lemmas.Named.{kept_leg}
 
 -- the rider with the pickup that was promised
 abbrev pub kept_rider : ℕ → Rider → SettledRider → SettledRider

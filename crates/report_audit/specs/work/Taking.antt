@@ -11,7 +11,7 @@ use Rattle.request_book.specs.Step.{step}
 use Rattle.request_book.specs.declared.command.Command.{Command}
 use Rattle.request_book.specs.declared.reply.Reply.{Reply}
 use Rattle.script_rows.specs.Round.{NumberedLanes, lane_at}
-use Rattle.shared_book.specs.work.Locked.{snapshot_before}
+use Rattle.shared_book.specs.lemmas.Locked.{snapshot_before}
 use Rattle.report_audit.specs.declared.stop.LineFault.TheVariants as wrong
 use Rattle.report_audit.specs.declared.stop.Stop.{Stop}
 use Rattle.report_audit.specs.declared.stop.Stop.TheVariants.{OutOfMemory, Line, Block}

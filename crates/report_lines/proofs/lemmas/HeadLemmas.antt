@@ -5,7 +5,8 @@ use Rattle.report_lines.specs.Head.{IsShort, settings_text, AreSettings}
 use Rattle.report_lines.specs.Reading.{BeginsWith, BeginsWithNone, ends_number}
 use Rattle.report_lines.specs.declared.head.SettingsText.{SettingsText}
 use Rattle.report_lines.specs.Both.{both, BothAre}
-use Rattle.report_lines.specs.work.Head.{limits_text, costs_text, AreThree, dwell_text}
+use Rattle.report_lines.specs.lemmas.Head.{dwell_text}
+use Rattle.report_lines.specs.work.Head.{limits_text, costs_text, AreThree}
 use Rattle.report_lines.proofs.lemmas.ReadingLemmas.{EndsOnce, StandsApart, both_none_first, both_none_second, both_some, both_once, numbered_once, head_none, tail_none}
 
 short_once : (words : List ℕ) → EndsOnce (numbered words) IsShort

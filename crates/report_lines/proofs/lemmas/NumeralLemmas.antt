@@ -7,7 +7,7 @@ use Rattle.std.proofs.lemmas.List.{at_drop_more}
 use Rattle.std.proofs.lemmas.Str.Parse.{IsNumeralModel, numerals_by_fold, tells_by_index}
 use Rattle.std.proofs.lemmas.Fmt.{decimal_is_IsNumeral_wide}
 use Rattle.pool_base.specs.Number.{IsDigit, AllDigits, value_of}
-use Rattle.pool_base.specs.work.Number.{value_after}
+use Rattle.pool_base.specs.lemmas.Number.{value_after}
 use Rattle.report_lines.specs.Reading.{BeginsWith, BeginsWithNone, ends_number}
 
 -- numerals are read as std reads them

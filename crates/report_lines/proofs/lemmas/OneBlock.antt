@@ -17,7 +17,8 @@ use Rattle.report_lines.specs.Cut.{is_one_line}
 use Rattle.report_lines.specs.Ids.{IsId, AreIds}
 use Rattle.report_lines.specs.Order.{place_of, may_follow_at, follow_on, last_place}
 use Rattle.report_lines.specs.Signed.{IsWide, IsLong}
-use Rattle.report_lines.specs.Stops.{stops_text, AreStops}
+use Rattle.report_lines.specs.work.Stops.{stops_text}
+use Rattle.report_lines.specs.Stops.{AreStops}
 use Rattle.report_lines.specs.work.Late.{order_text, IsOrder}
 use Rattle.report_lines.specs.work.Stops.{visit_text, IsStop}
 use Rattle.report_lines.proofs.lemmas.NumeralLemmas.{decimal_digits}

@@ -1,12 +1,9 @@
--- Three settings behind one another.
-use Rattle.std.specs.Prelude.{ℕ, List, codes, ◌==◌, [], if◌then◌else◌}
+use Rattle.std.specs.Prelude.{ℕ, List, codes}
 use Rattle.dispatch_report.specs.Words.{numbered}
 use Rattle.report_lines.specs.Head.{IsShort}
 use Rattle.report_lines.specs.Both.{both, BothAre}
 
--- the dwell, told only where there is one
-abbrev pub dwell_text : ℕ → List ℕ
-dwell_text dwell = if dwell == 0 then [] else numbered (codes " dwell=") dwell
+-- Three settings behind one another.
 
 abbrev pub limits_text : (ℕ × ℕ) × ℕ → List ℕ
 limits_text = both (both (numbered (codes "settings wait=")) (numbered (codes " delay="))) (numbered (codes " trip="))

@@ -21,7 +21,8 @@ use Rattle.request_book.specs.work.Keyed.{changed_in_turn}
 use Rattle.request_book.specs.work.Register.{pool_id}
 use Rattle.request_book.specs.Rider.{is_active, pool_promise, vehicle_of, shown, with_status, passenger_of}
 use Rattle.request_book.specs.Sealing.{is_over, after_seal, batch_of}
-use Rattle.request_book.specs.work.Named.{over_id, asking}
+use Rattle.request_book.specs.lemmas.Named.{asking}
+use Rattle.request_book.specs.work.Named.{over_id}
 use Rattle.request_book.specs.State.{find_rider, find_vehicle, find_passenger}
 use Rattle.request_book.proofs.lemmas.IndexLemmas.{IsPool, pool_id-keeps}
 use Rattle.request_book.proofs.lemmas.SealLemmas.{changed_in_turn-marked, marked, map-agree}

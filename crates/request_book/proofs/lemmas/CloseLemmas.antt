@@ -15,7 +15,7 @@ use Rattle.request_book.specs.declared.rider.BookRider.{BookRider}
 use Rattle.request_book.specs.declared.rider.Status.{Status}
 use Rattle.request_book.specs.declared.rider.Status.TheVariants.{Waiting, Promised, Aboard, Cancelled, Delivered, Expired}
 use Rattle.request_book.specs.Closing.{Pick, picks, trip_picks, after_plan, after_answer}
-use Rattle.request_book.specs.work.Named.{in_batch, planned_status}
+use Rattle.request_book.specs.lemmas.Named.{in_batch, planned_status}
 use Rattle.request_book.specs.work.Closing.{waits_again, takes_promise, promised_in_turn}
 use Rattle.request_book.specs.declared.outcome.Answer.{Answer}
 use Rattle.request_book.specs.declared.outcome.Answer.TheVariants.{Overflow, Planned as Plan}

@@ -23,18 +23,18 @@ use Rattle.request_book.specs.declared.rider.Status.{Status}
 use Rattle.request_book.specs.declared.rider.Status.TheVariants.{Waiting, Promised, Aboard, Delivered, Expired, Cancelled as GivenUp}
 use Rattle.request_book.specs.declared.state.State.{State}
 use Rattle.request_book.specs.Closing.{Pick, after_answer, after_plan, picks}
-use Rattle.request_book.specs.work.Named.{in_batch, takes_in, lets_out, planned_status}
-use Rattle.request_book.specs.work.Closing.{closed_state}
+use Rattle.request_book.specs.lemmas.Named.{in_batch, takes_in, lets_out, planned_status}
+use Rattle.request_book.specs.lemmas.Closing.{closed_state}
 use Rattle.request_book.specs.Consistent.{AreConsistent, IsConsistent, seat_in}
 use Rattle.request_book.specs.Keyed.{changed_at, without, KeysRise, KeysDiffer}
-use Rattle.request_book.specs.work.Refusals.{first_of, unknown_vehicle, unknown_rider, is_aboard, has_ended, not_promised, not_aboard, time_back, vehicle_full, seat_refusal, not_this_batch}
+use Rattle.request_book.specs.lemmas.Refusals.{first_of, unknown_vehicle, unknown_rider, is_aboard, has_ended, not_promised, not_aboard, time_back, vehicle_full, seat_refusal, not_this_batch}
 use Rattle.request_book.specs.Rider.{is_active, vehicle_of, with_status, passenger_of}
 use Rattle.request_book.specs.Sealing.{is_over, after_seal, sealed_state}
 use Rattle.pool_io.specs.Faults.{one_more}
 use Rattle.request_book.specs.State.{find_rider, find_vehicle, find_passenger, pool_count}
 use Rattle.request_book.specs.Step.{rider_becomes, vehicle_becomes, step}
-use Rattle.request_book.specs.work.Named.{stands_at}
-use Rattle.request_book.specs.work.Table.{answer, picked_up, dropped_off, submit_refusal, submit_step, cancel_step, report_step, pickup_step, dropoff_step, seal_refusal, seal_step, close_step, table_step}
+use Rattle.request_book.specs.lemmas.Named.{stands_at}
+use Rattle.request_book.specs.lemmas.Table.{answer, picked_up, dropped_off, submit_refusal, submit_step, cancel_step, report_step, pickup_step, dropoff_step, seal_refusal, seal_step, close_step, table_step}
 use Rattle.request_book.proofs.lemmas.BatchLemmas.{after_seal-id}
 use Rattle.request_book.proofs.lemmas.CloseLemmas.{after_plan-id, after_plan-active}
 use Rattle.request_book.proofs.lemmas.KeyedLemmas.{look_up-key, look_up-map, look_up-changed_here, look_up-changed_there, look_up-push_here, look_up-push_there, look_up-without_here, look_up-without_there, KeysDiffer-push, KeysDiffer-map, KeysDiffer-changed_at, KeysDiffer-from_rise, KeysRise-changed_at, All-changed_at, length-changed_at}

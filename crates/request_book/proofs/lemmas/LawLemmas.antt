@@ -17,7 +17,7 @@ use Rattle.request_book.specs.declared.rider.Status.{Status}
 use Rattle.request_book.specs.declared.rider.Status.TheVariants.{Waiting, Promised, Aboard, Delivered, Expired, Cancelled as GivenUp}
 use Rattle.request_book.specs.declared.state.State.{State}
 use Rattle.request_book.specs.Book.{next_position, opening}
-use Rattle.request_book.specs.work.Closing.{closed_state}
+use Rattle.request_book.specs.lemmas.Closing.{closed_state}
 use Rattle.request_book.specs.Consistent.{IsConsistent, IsPassenger, seat_in, status_in}
 use Rattle.request_book.specs.Replay.{state_after}
 use Rattle.request_book.specs.Rider.{passenger_of, vehicle_of}
@@ -25,8 +25,8 @@ use Rattle.request_book.specs.Sealing.{sealed_state}
 use Rattle.pool_io.specs.Faults.{one_more}
 use Rattle.request_book.specs.State.{find_rider}
 use Rattle.request_book.specs.Step.{rider_becomes, vehicle_becomes, step}
-use Rattle.request_book.specs.work.Named.{stands_at}
-use Rattle.request_book.specs.work.Table.{answer, picked_up, dropped_off, submit_step, cancel_step, report_step, pickup_step, dropoff_step, seal_step, close_step, table_step}
+use Rattle.request_book.specs.lemmas.Named.{stands_at}
+use Rattle.request_book.specs.lemmas.Table.{answer, picked_up, dropped_off, submit_step, cancel_step, report_step, pickup_step, dropoff_step, seal_step, close_step, table_step}
 use Rattle.request_book.proofs.lemmas.BookLemmas.{opening-consistent}
 use Rattle.request_book.proofs.lemmas.ConsistentLemmas.{step-consistent}
 use Rattle.request_book.proofs.lemmas.StepTable.{step-table}

@@ -4,7 +4,7 @@ use Rattle.std.specs.Prelude.{option_and_then}
 use Rattle.std.specs.List.{All, filter_map, flat_map}
 use Rattle.std.proofs.lemmas.List.Elements.{All-nil, All-cons, All-head, All-tail, All-append, All-push, All-map, All-weaker}
 use Rattle.batch_snapshot.specs.Points.{named_nodes}
-use Rattle.batch_snapshot.specs.work.Points.{vehicle_nodes, rider_nodes}
+use Rattle.batch_snapshot.specs.lemmas.Points.{vehicle_nodes, rider_nodes}
 use Rattle.batch_snapshot.specs.declared.passenger.Passenger.{Passenger}
 use Rattle.batch_snapshot.specs.declared.rider.Rider.{Rider}
 use Rattle.batch_snapshot.specs.declared.vehicle.Vehicle.{Vehicle}
@@ -19,18 +19,18 @@ use Rattle.request_book.specs.declared.rider.Status.{Status}
 use Rattle.request_book.specs.declared.rider.Status.TheVariants.{Waiting, Aboard, Delivered, Expired, Cancelled as GivenUp}
 use Rattle.request_book.specs.declared.state.State.{State}
 use Rattle.request_book.specs.Closing.{after_answer, after_plan, picks}
-use Rattle.request_book.specs.work.Named.{in_batch, takes_in, lets_out, asking, planned_status}
+use Rattle.request_book.specs.lemmas.Named.{in_batch, takes_in, lets_out, asking, planned_status}
 use Rattle.request_book.specs.Consistent.{IsConsistent, IsNode, NamesNodes, seat_in}
 use Rattle.request_book.specs.Keyed.{KeysDiffer, by_key}
-use Rattle.request_book.specs.work.Refusals.{unknown_node}
+use Rattle.request_book.specs.lemmas.Refusals.{unknown_node}
 use Rattle.request_book.specs.Rider.{is_active, vehicle_of, with_status, passenger_of}
 use Rattle.request_book.specs.Sealing.{is_over, after_seal, batch_of, sealed_state}
 use Rattle.pool_io.specs.Faults.{one_more}
 use Rattle.request_book.specs.State.{find_rider, find_vehicle, find_passenger}
 use Rattle.road_network.specs.Roads.{has_node}
 use Rattle.request_book.specs.Step.{rider_becomes, vehicle_becomes, step}
-use Rattle.request_book.specs.work.Named.{stands_at}
-use Rattle.request_book.specs.work.Table.{picked_up, dropped_off, submit_refusal, submit_step, cancel_step, report_step, pickup_step, dropoff_step, seal_refusal, seal_step, close_step, table_step}
+use Rattle.request_book.specs.lemmas.Named.{stands_at}
+use Rattle.request_book.specs.lemmas.Table.{picked_up, dropped_off, submit_refusal, submit_step, cancel_step, report_step, pickup_step, dropoff_step, seal_refusal, seal_step, close_step, table_step}
 use Rattle.request_book.proofs.lemmas.BatchLemmas.{batch-each}
 use Rattle.request_book.proofs.lemmas.ConsistentLemmas.{answer-keeps, close-keeps}
 use Rattle.request_book.proofs.lemmas.KeyedLemmas.{All-changed_at, All-look_up, All-from_look_up, KeysDiffer-from_rise}

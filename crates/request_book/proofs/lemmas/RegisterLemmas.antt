@@ -8,7 +8,7 @@ use Rattle.std.proofs.lemmas.Bool.{cases_lt, cases_eq, eq-eqb, ne_eqb, false≢t
 use Rattle.std.proofs.lemmas.List.{at_drop_more, drop_all}
 use Rattle.std.proofs.lemmas.List.Sorted.{searched}
 use Rattle.request_book.specs.Keyed.{look_up, placed, without, KeysRise, KeysDiffer}
-use Rattle.request_book.specs.work.Refusals.{first_of}
+use Rattle.request_book.specs.lemmas.Refusals.{first_of}
 use Rattle.request_book.specs.declared.reply.BookRefusal.{BookRefusal}
 use Rattle.request_book.proofs.lemmas.KeyedLemmas.{look_up-position, look_up-list_any, nondecreasing_from_rise, insert-placed, remove-without, look_up-at, look_up-nil, look_up-there, without_key-absent, look_up-nowhere, KeysDiffer-from_rise, without-absent}
 

@@ -25,10 +25,10 @@ use Rattle.request_book.specs.Rider.{vehicle_of}
 use Rattle.request_book.specs.Sealing.{batch_of, sealed_state}
 use Rattle.request_book.specs.State.{find_rider, find_vehicle, pool_count}
 use Rattle.request_book.specs.Step.{rider_becomes, vehicle_becomes, still_asks, is_promised_by, submit, cancel, report, pickup, dropoff, seal, close, answered, step}
-use Rattle.request_book.specs.work.Named.{stands_at, takes_in, lets_out}
-use Rattle.request_book.specs.work.Closing.{closed_state}
-use Rattle.request_book.specs.work.Refusals.{first_of, duplicate_rider, unknown_rider, is_aboard, has_ended, aboard_refusal, ended_refusal, promise_refusal, seat_refusal, unknown_vehicle, time_back, not_promised, vehicle_full, not_aboard, batch_open, clock_back, not_this_batch}
-use Rattle.request_book.specs.work.Table.{answer, picked_up, dropped_off, submit_step, cancel_step, report_step, pickup_step, dropoff_step, seal_refusal, seal_step, close_step, table_step, batch_unless}
+use Rattle.request_book.specs.lemmas.Named.{stands_at, takes_in, lets_out}
+use Rattle.request_book.specs.lemmas.Closing.{closed_state}
+use Rattle.request_book.specs.lemmas.Refusals.{first_of, duplicate_rider, unknown_rider, is_aboard, has_ended, aboard_refusal, ended_refusal, promise_refusal, seat_refusal, unknown_vehicle, time_back, not_promised, vehicle_full, not_aboard, batch_open, clock_back, not_this_batch}
+use Rattle.request_book.specs.lemmas.Table.{answer, picked_up, dropped_off, submit_step, cancel_step, report_step, pickup_step, dropoff_step, seal_refusal, seal_step, close_step, table_step, batch_unless}
 
 submit-table : (nodes : List ℕ) (s : State) (r : BookRider) → answered s Accepted (submit nodes s r) ≡ submit_step nodes s r
 unfolding submit submit_step first_of

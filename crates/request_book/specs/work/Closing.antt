@@ -1,15 +1,14 @@
--- How a close gives riders what a plan gives them, one after another.
-use Rattle.std.specs.Prelude.{Bool, true, false, ◌&&◌, List, [], ◌∷◌, None, Some, if◌then◌else◌}
+use Rattle.std.specs.Prelude.{Bool, true, false, ◌&&◌, List, ◌∷◌, if◌then◌else◌, []}
 use Rattle.batch_snapshot.specs.declared.rider.Rider.{Rider}
 use Rattle.request_book.specs.declared.rider.BookRider.{BookRider}
 use Rattle.request_book.specs.declared.rider.Status.{Status}
 use Rattle.request_book.specs.declared.rider.Status.TheVariants.{Waiting, Promised}
-use Rattle.request_book.specs.declared.outcome.Answer.{Answer}
-use Rattle.request_book.specs.declared.state.State.{State}
-use Rattle.request_book.specs.Closing.{Pick, after_answer}
-use Rattle.request_book.specs.work.Named.{in_batch}
+use Rattle.request_book.specs.Closing.{Pick}
+use Rattle.request_book.specs.lemmas.Named.{in_batch}
 use Rattle.request_book.specs.Keyed.{changed_at}
 use Rattle.request_book.specs.Rider.{is_active, with_status}
+
+-- How a close gives riders what a plan gives them, one after another.
 
 -- a rider of the pool waits again
 abbrev pub waits_again : BookRider → BookRider
@@ -28,7 +27,3 @@ takes_promise riders p r = if in_batch riders p.rider && is_waiting r.status the
 unfoldable pub promised_in_turn : List Rider → List Pick → List BookRider → List BookRider
 promised_in_turn riders [] rs = rs
 promised_in_turn riders (p ∷ ps) rs = promised_in_turn riders ps (changed_at (λ r. r.id) p.rider (takes_promise riders p) rs)
-
--- the state after the close of the sealed batch
-unfoldable pub closed_state : State → Answer → State
-closed_state s answer = elim s.sealed [ None ↦ s | Some b ↦ record s { riders = after_answer b.riders answer s.riders; sealed = None } ]

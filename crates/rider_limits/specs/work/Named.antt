@@ -1,14 +1,10 @@
--- Parts of the words and keys, as proofs call them.
-use Rattle.std.specs.Prelude.{ℕ, ◌+◌, Bool, not, List, [], Option, length, take, slice_index_or}
+use Rattle.std.specs.Prelude.{ℕ, ◌+◌, List, Option, length, take, slice_index_or, []}
 use Rattle.pool_base.specs.InOrder.{first_fault}
 use Rattle.rider_limits.specs.declared.command.Command.{Command}
 use Rattle.rider_limits.specs.declared.word_fault.WordFault.{WordFault}
-use Rattle.rider_limits.specs.Key.{solves}
 use Rattle.rider_limits.specs.Words.{option_of, option_fault}
 
--- a command judges a printed report
-abbrev pub judges : Command → Bool
-judges command = not (solves command)
+-- Parts of the words and keys, as proofs call them.
 
 -- what is wrong with the word at a place behind the command, if anything; the command is word 1
 abbrev pub fault_at : Command → List (List ℕ) → ℕ → Option WordFault

@@ -13,7 +13,7 @@ use Rattle.batch_snapshot.specs.declared.rider.Rider.{Rider}
 use Rattle.request_book.specs.Consistent.{seat_in}
 use Rattle.request_book.specs.Keyed.{look_up, KeysDiffer}
 use Rattle.request_book.specs.Rider.{shown, pool_promise, passenger_of, vehicle_of}
-use Rattle.request_book.specs.work.Named.{asking}
+use Rattle.request_book.specs.lemmas.Named.{asking}
 use Rattle.request_book.specs.State.{find_rider}
 use Rattle.request_book.specs.declared.rider.BookRider.{BookRider}
 use Rattle.request_book.specs.declared.rider.Status.{Status}

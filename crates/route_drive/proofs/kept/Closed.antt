@@ -32,9 +32,9 @@ use Rattle.std.specs.Option.{option_map_or}
 use Rattle.std.proofs.lemmas.Bool.{false≢true, true≢false}
 use Rattle.plan_rules.proofs.lemmas.GraphLemmas.{times_served_some, times_served_found, in_choice}
 use Rattle.plan_rules.specs.Graph.{choice_at, riders_at, is_in}
-use Rattle.promise_check.specs.work.Named.{no_request}
+use Rattle.promise_check.specs.lemmas.Named.{no_request}
 use Rattle.request_book.specs.Closing.{picks, after_plan}
-use Rattle.request_book.specs.work.Named.{in_batch, planned_status}
+use Rattle.request_book.specs.lemmas.Named.{in_batch, planned_status}
 use Rattle.request_book.specs.Keyed.{look_up}
 use Rattle.request_book.specs.Rider.{with_status, is_active}
 use Rattle.request_book.specs.declared.outcome.ChosenTrip.{ChosenTrip}
@@ -50,7 +50,7 @@ use Rattle.route_drive.proofs.kept.Walks.{is_node_at}
 use Rattle.route_drive.proofs.kept.Trips.{trip_back, trip_is, other_id}
 use Rattle.std.proofs.lemmas.Bool.{lt-ltb, and_from, and_parts, MatchBool-at_false}
 use Rattle.plan_rules.specs.Graph.{must_be_served}
-use Rattle.plan_rules.specs.work.Plan.{times_chosen}
+use Rattle.plan_rules.specs.lemmas.Plan.{times_chosen}
 use Rattle.promise_check.specs.Promised.{promised_limit, promised_to}
 use Rattle.promise_check.proofs.lemmas.Promises.{filter_range_has}
 use Rattle.request_book.proofs.lemmas.KeyedLemmas.{look_up-key}

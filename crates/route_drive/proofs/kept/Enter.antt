@@ -10,7 +10,7 @@ use Rattle.batch_snapshot.specs.declared.vehicle.Vehicle.{Vehicle}
 use Rattle.request_book.specs.Keyed.{look_up, without, KeysDiffer}
 use Rattle.request_book.specs.Rider.{with_status, passenger_of}
 use Rattle.request_book.specs.State.{find_rider, find_passenger}
-use Rattle.request_book.specs.work.Named.{takes_in, lets_out}
+use Rattle.request_book.specs.lemmas.Named.{takes_in, lets_out}
 use Rattle.request_book.specs.declared.outcome.PlannedStop.{PlannedStop}
 use Rattle.request_book.specs.declared.rider.BookRider.{BookRider}
 use Rattle.request_book.specs.declared.rider.Status.{Status}

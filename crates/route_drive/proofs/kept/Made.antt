@@ -40,10 +40,10 @@ use Rattle.batch_solver.specs.Trips.{IsTripOf}
 use Rattle.plan_rules.proofs.lemmas.GraphLemmas.{times_served_some, times_served_found, in_choice}
 use Rattle.plan_rules.specs.Graph.{choice_at, riders_at, is_in}
 use Rattle.promise_check.specs.Requests.{IsLegOf}
-use Rattle.promise_check.specs.work.Named.{no_request}
+use Rattle.promise_check.specs.lemmas.Named.{no_request}
 use Rattle.promise_check.specs.Settling.{IsPlaced}
 use Rattle.request_book.specs.Closing.{picks, trip_picks, after_plan}
-use Rattle.request_book.specs.work.Named.{in_batch, planned_status}
+use Rattle.request_book.specs.lemmas.Named.{in_batch, planned_status}
 use Rattle.request_book.specs.Keyed.{look_up, KeysDiffer}
 use Rattle.request_book.specs.Rider.{with_status, passenger_of, is_active}
 use Rattle.request_book.specs.declared.outcome.ChosenTrip.{ChosenTrip}
@@ -68,7 +68,7 @@ use Rattle.request_book.specs.State.{find_passenger}
 use Rattle.route_drive.proofs.kept.Trips.{trip_of, trip_back, trip_is, one_trip, told_id}
 use Rattle.std.specs.Prelude.{MatchBool}
 use Rattle.std.proofs.lemmas.Bool.{and_from, and_parts, cond-true}
-use Rattle.plan_rules.specs.work.Plan.{times_chosen}
+use Rattle.plan_rules.specs.lemmas.Plan.{times_chosen}
 use Rattle.promise_check.specs.Requests.{ideal_second}
 use Rattle.stop_orders.specs.declared.task.Task.{Task}
 use Rattle.request_book.specs.Closing.{Pick as PlanPick}

@@ -7,13 +7,13 @@ use Rattle.batch_snapshot.specs.declared.promise.Promise.{Promise}
 use Rattle.batch_snapshot.specs.declared.vehicle.Vehicle.{Vehicle}
 use Rattle.pool_io.specs.Faults.{one_more}
 use Rattle.request_book.specs.Closing.{after_answer}
-use Rattle.request_book.specs.work.Closing.{closed_state}
-use Rattle.request_book.specs.work.Refusals.{first_of, duplicate_rider, unknown_node, unknown_rider, is_aboard, has_ended, unknown_vehicle, time_back, not_promised, vehicle_full, not_aboard, batch_open, clock_back, not_this_batch}
+use Rattle.request_book.specs.lemmas.Closing.{closed_state}
+use Rattle.request_book.specs.lemmas.Refusals.{first_of, duplicate_rider, unknown_node, unknown_rider, is_aboard, has_ended, unknown_vehicle, time_back, not_promised, vehicle_full, not_aboard, batch_open, clock_back, not_this_batch}
 use Rattle.request_book.specs.Sealing.{sealed_state}
 use Rattle.request_book.specs.State.{find_rider, find_vehicle}
 use Rattle.request_book.specs.Step.{step, rider_becomes, vehicle_becomes}
-use Rattle.request_book.specs.work.Named.{stands_at, takes_in, lets_out}
-use Rattle.request_book.specs.work.Table.{answer, submit_step, submit_refusal, report_step, pickup_step, dropoff_step, seal_step, close_step, table_step}
+use Rattle.request_book.specs.lemmas.Named.{stands_at, takes_in, lets_out}
+use Rattle.request_book.specs.lemmas.Table.{answer, submit_step, submit_refusal, report_step, pickup_step, dropoff_step, seal_step, close_step, table_step}
 use Rattle.request_book.proofs.lemmas.StepTable.{by-table}
 use Rattle.request_book.specs.declared.command.Command.TheVariants.{Submit, Report, Pickup, Dropoff, Seal, Close}
 use Rattle.request_book.specs.declared.outcome.Outcome.{Outcome}

@@ -10,7 +10,7 @@ use Rattle.request_book.specs.Consistent.{IsConsistent, NamesNodes}
 use Rattle.request_book.specs.Keyed.{look_up, by_key, KeysDiffer}
 use Rattle.request_book.specs.Rider.{with_status, shown, pool_promise}
 use Rattle.request_book.specs.Sealing.{is_over, after_seal, batch_of, sealed_state}
-use Rattle.request_book.specs.work.Named.{asking}
+use Rattle.request_book.specs.lemmas.Named.{asking}
 use Rattle.request_book.specs.State.{find_rider, find_vehicle}
 use Rattle.request_book.specs.Step.{step}
 use Rattle.request_book.specs.declared.command.Command.{Command}

@@ -17,9 +17,9 @@ use Rattle.batch_snapshot.specs.declared.promise.Promise.{Promise}
 use Rattle.batch_snapshot.specs.declared.rider.Rider.{Rider}
 use Rattle.batch_snapshot.specs.declared.vehicle.Vehicle.{Vehicle}
 use Rattle.promise_check.specs.Requests.{IsLegOf, request_at, ideal_second}
-use Rattle.promise_check.specs.work.Named.{no_request}
+use Rattle.promise_check.specs.lemmas.Named.{no_request}
 use Rattle.promise_check.specs.Promised.{promised_limit, is_promised_to, promised_to, kept_legs}
-use Rattle.promise_check.specs.work.Named.{kept_leg}
+use Rattle.promise_check.specs.lemmas.Named.{kept_leg}
 use Rattle.promise_check.specs.Settling.{IsPlaced, IsSettled}
 use Rattle.promise_check.proofs.lemmas.Promises.{filter_range_has, promised_trip}
 use Rattle.request_book.specs.Consistent.{seat_in}

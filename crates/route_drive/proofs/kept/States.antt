@@ -12,7 +12,7 @@ use Rattle.request_book.specs.Keyed.{KeysDiffer}
 use Rattle.request_book.specs.Rider.{with_status, passenger_of}
 use Rattle.request_book.specs.State.{find_rider, find_vehicle, find_passenger}
 use Rattle.request_book.specs.Step.{step, rider_becomes, vehicle_becomes}
-use Rattle.request_book.specs.work.Named.{stands_at, takes_in, lets_out}
+use Rattle.request_book.specs.lemmas.Named.{stands_at, takes_in, lets_out}
 use Rattle.request_book.specs.declared.command.Command.{Command}
 use Rattle.request_book.specs.declared.command.Command.TheVariants.{Report, Pickup, Dropoff}
 use Rattle.request_book.specs.declared.outcome.PlannedStop.{PlannedStop}

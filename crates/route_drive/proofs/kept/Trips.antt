@@ -35,7 +35,7 @@ use Rattle.plan_rules.proofs.lemmas.PlanLemmas.{plan_choice}
 use Rattle.plan_rules.proofs.lemmas.SumLemmas.{count_below_two}
 use Rattle.plan_rules.specs.Graph.{choice_at, riders_at, no_row, is_in, IsRowOf}
 use Rattle.plan_rules.specs.Plan.{IsLawful}
-use Rattle.promise_check.specs.work.Named.{no_request}
+use Rattle.promise_check.specs.lemmas.Named.{no_request}
 use Rattle.request_book.specs.declared.outcome.ChosenTrip.{ChosenTrip}
 use Rattle.request_book.proofs.lemmas.BatchLemmas.{increasing_from_rise}
 use Rattle.request_book.proofs.lemmas.KeyedLemmas.{KeysDiffer-from_rise}

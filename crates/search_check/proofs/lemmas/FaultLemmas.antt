@@ -5,7 +5,7 @@ use Rattle.plan_rules.specs.Graph.{Graph}
 use Rattle.plan_rules.specs.Multipliers.{Usable}
 use Rattle.plan_rules.specs.Tree.{every_row, IsTreeOfValue}
 use Rattle.plan_rules.specs.Reading.{IsSoundNode, coming_after, ReadsTo}
-use Rattle.plan_rules.specs.work.Tree.{IsWholeTree}
+use Rattle.plan_rules.specs.lemmas.Tree.{IsWholeTree}
 use Rattle.plan_rules.specs.declared.node.Node.{Node}
 use Rattle.plan_rules.specs.declared.node.Node.TheVariants.{Branch, Leaf, Dead}
 use Rattle.plan_rules.proofs.lemmas.SearchTreeLemmas.{reads_of_tree, value_is_read}

@@ -8,7 +8,7 @@ use Rattle.plan_rules.specs.Multipliers.{Usable, leaf_value, first_fit_value}
 use Rattle.plan_rules.specs.Plan.{cost_of}
 use Rattle.plan_rules.specs.Tree.{every_row, Place, rounded_up}
 use Rattle.plan_rules.specs.Reading.{IsSoundNode, coming_after, ReadsTo, places_from}
-use Rattle.plan_rules.specs.work.Tree.{IsWholeTree, places_read}
+use Rattle.plan_rules.specs.lemmas.Tree.{IsWholeTree, places_read}
 use Rattle.plan_rules.specs.declared.node.Node.{Node}
 use Rattle.plan_rules.specs.declared.node.Node.TheVariants.{Branch, Leaf, Dead}
 use Rattle.plan_rules.proofs.lemmas.ReadLemmas.{places_append, places_push}

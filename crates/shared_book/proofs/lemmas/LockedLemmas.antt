@@ -9,7 +9,7 @@ use Rattle.request_book.specs.Replay.{state_after}
 use Rattle.request_book.specs.Sealing.{batch_of, sealed_state}
 use Rattle.pool_io.specs.Faults.{one_more}
 use Rattle.request_book.specs.Step.{step}
-use Rattle.request_book.specs.work.Table.{answer, seal_refusal, submit_step, cancel_step, report_step, pickup_step, dropoff_step, seal_step, close_step, table_step, batch_unless}
+use Rattle.request_book.specs.lemmas.Table.{answer, seal_refusal, submit_step, cancel_step, report_step, pickup_step, dropoff_step, seal_step, close_step, table_step, batch_unless}
 use Rattle.request_book.proofs.lemmas.StepTable.{would_seal-table, by-table}
 use Rattle.request_book.specs.declared.command.Command.{Command}
 use Rattle.request_book.specs.declared.command.Command.TheVariants.{Submit, Cancel, Report, Pickup, Dropoff, Seal, Close}
@@ -20,7 +20,7 @@ use Rattle.request_book.specs.declared.reply.Reply.TheVariants.{Accepted, Cancel
 use Rattle.request_book.specs.declared.state.State.{State}
 use Rattle.seat_lock.specs.declared.logged.Entry.{Entry as Logged}
 use Rattle.shared_book.specs.Locked.{is_light, sealed_by, snapshot_after, call_of, calls_from, log_of, Fits}
-use Rattle.shared_book.specs.work.Locked.{snapshot_before}
+use Rattle.shared_book.specs.lemmas.Locked.{snapshot_before}
 
 module _ (nodes : List ℕ) (wait : ℕ) where
   -- one more entry is one more call

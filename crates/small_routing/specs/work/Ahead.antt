@@ -4,7 +4,7 @@ use Rattle.stop_orders.specs.declared.leg.Leg.{Leg}
 use Rattle.stop_orders.specs.declared.task.Task.{Task}
 use Rattle.stop_orders.specs.Task.{leg_at}
 use Rattle.stop_orders.specs.Done.{has}
-use Rattle.stop_orders.specs.work.Rest.{sum_below}
+use Rattle.stop_orders.specs.lemmas.Rest.{sum_below}
 use Rattle.small_routing.specs.declared.label.Label.{Label}
 use Rattle.small_routing.specs.work.Label.{task_riders, task_passengers}
 

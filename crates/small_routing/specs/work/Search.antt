@@ -7,7 +7,7 @@ use Rattle.stop_orders.specs.Visit.{ServesFrom}
 use Rattle.stop_orders.specs.Task.{visits_of, free_seats, order_delay}
 use Rattle.stop_orders.specs.Order.{IsKnown}
 use Rattle.stop_orders.specs.Done.{IsNextStop}
-use Rattle.stop_orders.specs.work.Plain.{IsFound, NoneBetter, StaysGood, MakesOrders}
+use Rattle.stop_orders.specs.lemmas.Plain.{IsFound, NoneBetter, StaysGood, MakesOrders}
 use Rattle.small_routing.specs.declared.label.Label.{Label}
 use Rattle.small_routing.specs.declared.candidate.Candidate.{Candidate}
 use Rattle.small_routing.specs.work.Label.{task_riders, task_passengers, CanVisit, GoesOn, rest_delay}

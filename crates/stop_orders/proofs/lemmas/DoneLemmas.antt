@@ -7,7 +7,7 @@ use Rattle.stop_orders.specs.declared.stop.Stop.{Stop}
 use Rattle.stop_orders.specs.declared.stop.Stop.TheVariants.{Pick, Drop, Alight}
 use Rattle.stop_orders.specs.Order.{is_of_rider, is_of_passenger, IsOrder}
 use Rattle.stop_orders.specs.Done.{has, with_bit, with_stop, IsNextStop, IsAllDone}
-use Rattle.stop_orders.specs.work.Rest.{left_of_rider, left_of_passenger, Completes, sum_below, left_count}
+use Rattle.stop_orders.specs.lemmas.Rest.{left_of_rider, left_of_passenger, Completes, sum_below, left_count}
 
 -- nothing is in the empty set
 pub has-none : (k : ℕ) → has 0 k ≡ false

@@ -9,8 +9,10 @@ use Rattle.stop_orders.specs.declared.visit.Visit.{Visit}
 use Rattle.stop_orders.specs.Visit.{place_of, room_after, Reaches, ServesFrom}
 use Rattle.stop_orders.specs.Task.{IsOrderOf, Serves, ReachesAll, order_delay, free_seats, visits_of}
 use Rattle.stop_orders.specs.Done.{bit_of, with_stop, IsNextStop, IsAllDone}
-use Rattle.stop_orders.specs.work.Rest.{stop_with, Completes}
-use Rattle.stop_orders.specs.work.Plain.{NoneBetter, StaysGood, MakesOrders, AllTried}
+use Rattle.stop_orders.specs.lemmas.Rest.{Completes}
+use Rattle.stop_orders.specs.work.Rest.{stop_with}
+use Rattle.stop_orders.specs.lemmas.Plain.{NoneBetter, StaysGood, MakesOrders}
+use Rattle.stop_orders.specs.work.Plain.{AllTried}
 use Rattle.stop_orders.proofs.lemmas.DoneLemmas.{Completes-front, Completes-back, Completes-nil, IsAllDone-from_nil, IsOrder-from_none}
 
 -- what serves reaches all its places

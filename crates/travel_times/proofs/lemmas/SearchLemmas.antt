@@ -8,7 +8,7 @@ use Rattle.road_network.specs.declared.arc.Arc.{Arc}
 use Rattle.road_network.specs.declared.hop.Hop.{Hop}
 use Rattle.road_network.specs.Walk.{IsWalk, walk_seconds, IsTimeBetween}
 use Rattle.road_network.specs.Roads.{IsArcAmong, hop_of, leaving}
-use Rattle.travel_times.specs.work.Search.{waits, HasWalkOf, IsSearching, IsNextTaken, IsHopRelaxed, RelaxesHops}
+use Rattle.travel_times.specs.lemmas.Search.{waits, HasWalkOf, IsSearching, IsNextTaken, IsHopRelaxed, RelaxesHops}
 use Rattle.travel_times.proofs.lemmas.WalkLemmas.{IsWalk-push, walk_seconds-push, short_walk}
 
 -- what a filter keeps passes its test, and what passes is kept

@@ -7,7 +7,7 @@ use Rattle.plan_rules.specs.Path.{standing_of}
 use Rattle.plan_rules.proofs.lemmas.UsableLemmas.{can_branch_agrees}
 use Rattle.plan_rules.specs.declared.node.Node.{Node}
 use Rattle.plan_rules.specs.declared.node.Node.TheVariants.{Dead}
-use Rattle.assignment_search.specs.Growth.{IsFixed, IsSolePlan, IsJudged}
+use Rattle.assignment_search.specs.work.Growth.{IsFixed, IsSolePlan, IsJudged}
 use Rattle.assignment_search.proofs.GrowthLemmas.{grown_reads, grown_length}
 use Rattle.assignment_search.proofs.AnswerLemmas.{small_back, lowest_small, judged_here, fixed_answer, full_answer}
 use Rattle.assignment_search.proofs.step.next.Goals as goal

@@ -1,6 +1,6 @@
 use Rattle.std.proofs.Common.{◌≡◌, ◌++◌, ◌+◌, ◌*◌, ◌≤◌, length, take}
 use Rattle.std.specs.List.{flat_map}
-use Rattle.batch_snapshot.specs.work.Points.{vehicle_nodes}
+use Rattle.batch_snapshot.specs.lemmas.Points.{vehicle_nodes}
 use Rattle.batch_snapshot.proofs.points.name_vehicles.Given as goal
 
 abbrev pub invariant-loop-vehicle : goal.invariant-loop-vehicle

@@ -1,6 +1,6 @@
 use Rattle.std.proofs.Common.{◌≡◌, ◌==◌, ◌<◌, ◌≤◌, length, sym, ◌∙◌, arith}
 use Rattle.std.proofs.lemmas.List.{nil_from_length}
-use Rattle.plan_rules.specs.work.Plan.{times_chosen}
+use Rattle.plan_rules.specs.lemmas.Plan.{times_chosen}
 use Rattle.pool_base.specs.Times.{point_count, travel_time}
 use Rattle.batch_solver.specs.Moves.{idle_vehicles}
 use Rattle.batch_solver.proofs.LeftLemmas.{kept_below, kept_few}

@@ -7,7 +7,7 @@ use Rattle.batch_solver.proofs.ListLemmas.{good_plan}
 use Rattle.batch_solver.proofs.solving.planned_of.Goals as goal
 
 pub returns-in-Ok : goal.returns-in-Ok
-returns-in-Ok c =
+returns-in-Ok g c =
     let found = c.in_ok-found.found in
     let made = c.list_all.new.planned in
     let tau = travel_time c.args.times.now in

@@ -9,12 +9,12 @@ use Rattle.plan_rules.specs.Path.{standing_of}
 use Rattle.plan_rules.specs.Plan.{IsBound}
 use Rattle.plan_rules.specs.Tree.{every_row, least_leaf, IsTreeOfValue}
 use Rattle.plan_rules.specs.Reading.{ReadsTo, coming_after}
-use Rattle.plan_rules.specs.work.Tree.{places_read, value_read, IsWholeTree}
+use Rattle.plan_rules.specs.lemmas.Tree.{places_read, value_read, IsWholeTree}
 use Rattle.plan_rules.specs.declared.node.Node.{Node}
 use Rattle.plan_rules.proofs.lemmas.ReadLemmas.{reads_push}
 use Rattle.plan_rules.proofs.lemmas.TreeLemmas.{tree_value_bounds}
 use Rattle.plan_rules.proofs.lemmas.SearchTreeLemmas.{tree_of_value}
-use Rattle.bound_checker.specs.Visit.{coming_of}
+use Rattle.bound_checker.specs.lemmas.Visit.{coming_of}
 use Rattle.bound_checker.proofs.lemmas.WalkLemmas.{coming_start, path_none, fault_here, least_more}
 use Rattle.bound_checker.proofs.checker.check.Goals as goal
 

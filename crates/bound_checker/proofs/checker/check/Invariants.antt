@@ -1,8 +1,9 @@
 use Rattle.std.proofs.Common.{◌≡◌, ◌∷◌, [], take}
 use Rattle.plan_rules.specs.Tree.{every_row, least_leaf}
 use Rattle.plan_rules.specs.Reading.{ReadsTo}
-use Rattle.plan_rules.specs.work.Tree.{places_read}
-use Rattle.bound_checker.specs.Visit.{coming_of, IsReady}
+use Rattle.plan_rules.specs.lemmas.Tree.{places_read}
+use Rattle.bound_checker.specs.lemmas.Visit.{coming_of}
+use Rattle.bound_checker.specs.work.Visit.{IsReady}
 use Rattle.bound_checker.proofs.checker.check.Given as goal
 
 abbrev pub invariant-loop-place : goal.invariant-loop-place

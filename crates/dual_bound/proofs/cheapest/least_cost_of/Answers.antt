@@ -6,7 +6,7 @@ use Rattle.plan_rules.specs.Graph.{row_at, cost_at}
 use Rattle.plan_rules.specs.Multipliers.{usable_of, is_usable_by}
 use Rattle.plan_rules.specs.declared.row.TripRow.{TripRow}
 use Rattle.plan_rules.proofs.lemmas.GraphLemmas.{row_read, row_between}
-use Rattle.dual_bound.specs.Size.{IsCost}
+use Rattle.dual_bound.specs.work.Size.{IsCost}
 use Rattle.plan_rules.proofs.lemmas.ValueLemmas.{starts_rise, none_before, none_after, least_taken, least_passed}
 use Rattle.dual_bound.proofs.cheapest.least_cost_of.Goals as goal
 use Rattle.dual_bound.proofs.cheapest.least_cost_of.Goals.{then-allowed-row, else-allowed-row}

@@ -1,7 +1,7 @@
 use Rattle.std.proofs.Common.{◌≡◌, ℕ, ◌<◌, [], List, length, get_or, slice_index, subst, ◌∙◌, arith}
 use Rattle.std.proofs.lemmas.List.{get_or_read}
 use Rattle.std.proofs.lemmas.List.Elements.{All-push}
-use Rattle.travel_times.specs.work.Search.{IsNextTaken, RelaxesHops}
+use Rattle.travel_times.specs.lemmas.Search.{IsNextTaken, RelaxesHops}
 use Rattle.hub_labels.specs.declared.hub.Hub.{Hub}
 use Rattle.hub_labels.specs.work.Pruned.{IsTold}
 use Rattle.hub_labels.proofs.Searching.{hops_within, prune_step, relax_step}

@@ -5,7 +5,7 @@ use Rattle.rand_core.specs.Stream.{Stream}
 use Rattle.load_maker.specs.declared.row.Field.TheVariants.{Number}
 use Rattle.load_maker.specs.declared.row.Field.{Field}
 use Rattle.load_maker.specs.Row.{csv_line}
-use Rattle.load_maker.specs.work.Parts.{csv_lines}
+use Rattle.load_maker.specs.lemmas.Parts.{csv_lines}
 use Rattle.load_maker.proofs.PartLemmas.{one_row}
 use Rattle.load_maker.specs.Texts.{arcs_between}
 use Rattle.load_maker.proofs.network.put_arcs.Goals as goal

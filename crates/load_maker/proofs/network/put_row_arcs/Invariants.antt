@@ -1,5 +1,5 @@
 use Rattle.load_maker.specs.Part.{both, each}
-use Rattle.load_maker.specs.work.Parts.{draws_of, arcs_right, arcs_down}
+use Rattle.load_maker.specs.lemmas.Parts.{draws_of, arcs_right, arcs_down}
 use Rattle.load_maker.specs.work.Written.{Writes}
 use Rattle.load_maker.proofs.network.put_row_arcs.Given as goal
 

@@ -1,5 +1,5 @@
 use Rattle.load_maker.specs.Part.{each}
-use Rattle.load_maker.specs.work.Parts.{draws_of}
+use Rattle.load_maker.specs.lemmas.Parts.{draws_of}
 use Rattle.load_maker.specs.work.Written.{Writes}
 use Rattle.load_maker.specs.Texts.{batch_rows}
 use Rattle.load_maker.proofs.script.put_script.Given as goal

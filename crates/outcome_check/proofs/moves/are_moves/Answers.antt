@@ -3,7 +3,7 @@ use Rattle.std.specs.List.Sorted.{IsStrictlyIncreasing}
 use Rattle.std.proofs.lemmas.Bool.{eq-eqb, eqb-true}
 use Rattle.std.proofs.lemmas.List.{nil_from_length}
 use Rattle.std.proofs.lemmas.Result.{IfOk-weaker}
-use Rattle.plan_rules.specs.work.Plan.{times_chosen}
+use Rattle.plan_rules.specs.lemmas.Plan.{times_chosen}
 use Rattle.pool_base.specs.Times.{point_count, travel_time}
 use Rattle.request_book.specs.declared.outcome.MoveLine.{MoveLine}
 use Rattle.batch_solver.specs.Moves.{AreMoves, idle_vehicles, is_idle}

@@ -2,7 +2,7 @@ use Rattle.std.proofs.Common.{◌≡◌, ◌==◌, ◌||◌, ℕ, false, List, g
 use Rattle.std.specs.List.{list_any}
 use Rattle.std.proofs.lemmas.Bool.{both_ways}
 use Rattle.plan_rules.specs.Graph.{row_at, riders_at, row_vehicle, choice_at}
-use Rattle.plan_rules.specs.Rank.{IsSelection}
+use Rattle.plan_rules.specs.work.Rank.{IsSelection}
 use Rattle.plan_rules.specs.declared.row.TripRow.{TripRow}
 use Rattle.plan_rules.proofs.lemmas.GraphLemmas.{row_read, some_choice}
 use Rattle.plan_rules.proofs.lemmas.GreedyLemmas.{selection_more, way_by_vehicle, way_by_rider}

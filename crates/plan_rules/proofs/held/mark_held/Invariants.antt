@@ -1,5 +1,6 @@
 use Rattle.std.proofs.Common.{ℕ, ◌<◌}
-use Rattle.plan_rules.specs.Graph.{MarksHeld, HoldsRightly}
+use Rattle.plan_rules.specs.work.Graph.{MarksHeld}
+use Rattle.plan_rules.specs.Graph.{HoldsRightly}
 use Rattle.plan_rules.specs.Parts.{graph_of}
 use Rattle.plan_rules.proofs.held.mark_held.Given as goal
 

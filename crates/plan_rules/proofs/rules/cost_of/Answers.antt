@@ -2,7 +2,7 @@ use Rattle.std.proofs.Common.{◌≡◌, ◌-◌, ◌*◌, ℕ, List, Option, ap
 use Rattle.plan_rules.specs.Graph.{choice_at}
 use Rattle.plan_rules.specs.Sums.{sum_below}
 use Rattle.plan_rules.specs.Plan.{cost_of, choice_cost}
-use Rattle.plan_rules.specs.work.Plan.{left_out}
+use Rattle.plan_rules.specs.lemmas.Plan.{left_out}
 use Rattle.plan_rules.proofs.rules.cost_of.Goals as goal
 
 pub returns : goal.returns

@@ -1,7 +1,8 @@
 use Rattle.std.proofs.Common.{◌≡◌, ◌<◌, refl, ap, subst, sym, ◌∙◌, arith}
 use Rattle.std.proofs.lemmas.Bool.{both_ways}
 use Rattle.plan_rules.specs.Plan.{IsPlan}
-use Rattle.plan_rules.specs.work.Plan.{IsServedOnce, times_chosen}
+use Rattle.plan_rules.specs.lemmas.Plan.{times_chosen}
+use Rattle.plan_rules.specs.work.Plan.{IsServedOnce}
 use Rattle.plan_rules.proofs.lemmas.PlanLemmas.{lawful_from}
 use Rattle.plan_rules.proofs.lemmas.ServedLemmas.{served_at_first, kept_more, marked_once}
 use Rattle.plan_rules.proofs.rules.is_lawful.Goals as goal

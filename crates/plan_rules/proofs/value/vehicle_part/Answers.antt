@@ -7,7 +7,8 @@ use Rattle.plan_rules.specs.Graph.{row_at}
 use Rattle.plan_rules.specs.Multipliers.{usable_of, is_usable_by, reduced_cost}
 use Rattle.plan_rules.specs.declared.row.TripRow.{TripRow}
 use Rattle.plan_rules.proofs.lemmas.GraphLemmas.{row_read, row_between}
-use Rattle.plan_rules.specs.Size.{IsSmall, reduced_cost_of}
+use Rattle.plan_rules.specs.Size.{IsSmall}
+use Rattle.plan_rules.specs.work.Size.{reduced_cost_of}
 use Rattle.plan_rules.proofs.lemmas.ValueLemmas.{starts_rise, none_before, none_after, least_taken, least_passed}
 use Rattle.plan_rules.proofs.value.vehicle_part.Goals as goal
 use Rattle.plan_rules.proofs.value.vehicle_part.Goals.{then-allowed-row, else-allowed-row}

@@ -2,7 +2,7 @@ use Rattle.std.proofs.Common.{◌≡◌, ℕ, ◌<◌, ◌^◌, List, length, de
 use Rattle.std.proofs.lemmas.Str.Parse.{IsNumeralModel, numerals_by_fold, tells_by_index}
 use Rattle.std.proofs.lemmas.Fmt.{decimal_nonempty, digits_decimal, digits_value-decimal}
 use Rattle.pool_base.specs.Number.{AllDigits}
-use Rattle.pool_base.specs.work.Number.{value_after}
+use Rattle.pool_base.specs.lemmas.Number.{value_after}
 use Rattle.pool_base.proofs.number.number_reads_back.Goals as goal
 
 -- numerals are read as std reads them

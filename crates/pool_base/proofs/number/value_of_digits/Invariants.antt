@@ -1,6 +1,6 @@
 use Rattle.std.proofs.Common.{◌≡◌, drop}
 use Rattle.pool_base.specs.Number.{value_of}
-use Rattle.pool_base.specs.work.Number.{value_after}
+use Rattle.pool_base.specs.lemmas.Number.{value_after}
 use Rattle.pool_base.proofs.number.value_of_digits.Given as goal
 
 abbrev pub invariant-loop-digit : goal.invariant-loop-digit

@@ -7,7 +7,7 @@ use Rattle.stop_orders.specs.Task.{IsTask}
 use Rattle.stop_orders.specs.Settled.{no_rider, vehicle_task}
 use Rattle.promise_check.specs.Requests.{request_at}
 use Rattle.promise_check.specs.Promised.{kept_legs}
-use Rattle.promise_check.specs.work.Named.{kept_leg}
+use Rattle.promise_check.specs.lemmas.Named.{kept_leg}
 use Rattle.promise_check.proofs.lemmas.Promises.{promised_trip}
 use Rattle.promise_check.proofs.Seats.{kept_legs_valid, task_with_legs}
 use Rattle.promise_check.proofs.settled_vehicles.held_riders.Goals as goal

@@ -1,7 +1,7 @@
 use Rattle.std.proofs.Common.{◌≤◌, codes, arith}
 use Rattle.dispatch_report.specs.Block.{stop_text}
 use Rattle.dispatch_report.specs.Words.{numbered, spaced}
-use Rattle.report_lines.specs.Stops.{stops_text}
+use Rattle.report_lines.specs.work.Stops.{stops_text}
 use Rattle.report_lines.specs.work.Stops.{IsStop}
 use Rattle.report_lines.specs.Both.{both, BothAre}
 use Rattle.report_lines.proofs.ListLemmas.{many_end}

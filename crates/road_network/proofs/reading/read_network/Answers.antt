@@ -5,7 +5,7 @@ use Rattle.std.proofs.lemmas.List.Elements.{All-more, All-same}
 use Rattle.std.proofs.lemmas.Result.{err_from_is_err_and}
 use Rattle.pool_io.specs.Table.{record_at}
 use Rattle.road_network.specs.Roads.{IsArcAmong}
-use Rattle.road_network.specs.work.Limits.{most_nodes, most_arcs, greatest_name, longest_arc}
+use Rattle.road_network.specs.lemmas.Limits.{most_nodes, most_arcs, greatest_name, longest_arc}
 use Rattle.road_network.specs.Reading.{arc_in, arc_seconds}
 use Rattle.road_network.specs.work.Numbering.{with_row}
 use Rattle.road_network.specs.declared.fault.NetworkFault.TheVariants.{TooManyNodes}

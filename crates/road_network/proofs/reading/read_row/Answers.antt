@@ -2,7 +2,7 @@ use Rattle.std.proofs.Common.{◌≡◌, ◌^◌, ◌-◌, None, Some, true, fal
 use Rattle.std.proofs.lemmas.Bool.Decides.{nat_tests}
 use Rattle.pool_base.specs.Numeral.{number_up_to}
 use Rattle.pool_io.specs.Table.{record_at, field_at}
-use Rattle.road_network.specs.work.Limits.{greatest_name, longest_arc}
+use Rattle.road_network.specs.lemmas.Limits.{greatest_name, longest_arc}
 use Rattle.road_network.specs.Reading.{field_refusal}
 use Rattle.road_network.proofs.reading.read_row.Goals as goal
 

@@ -4,7 +4,7 @@ use Rattle.script_rows.specs.declared.line.Line.{Line}
 use Rattle.script_rows.specs.declared.version.ScriptVersion.{ScriptVersion}
 use Rattle.script_rows.specs.Round.{NumberedLanes}
 use Rattle.script_rows.specs.Script.{round_before}
-use Rattle.script_rows.specs.work.Named.{line_at}
+use Rattle.script_rows.specs.lemmas.Named.{line_at}
 use Rattle.script_rows.proofs.ScriptLemmas.{Built}
 use Rattle.script_rows.proofs.reading.read_script.Given as goal
 

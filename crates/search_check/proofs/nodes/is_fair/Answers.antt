@@ -4,14 +4,14 @@ use Rattle.std.proofs.lemmas.List.{take_more, with_items_is}
 use Rattle.plan_rules.specs.Multipliers.{Usable, usable_of}
 use Rattle.plan_rules.specs.Path.{standing_of}
 use Rattle.plan_rules.specs.Reading.{ReadsTo}
-use Rattle.plan_rules.specs.work.Tree.{places_read}
+use Rattle.plan_rules.specs.lemmas.Tree.{places_read}
 use Rattle.plan_rules.specs.Tree.{every_row, Place}
 use Rattle.plan_rules.specs.declared.node.Node.{Node}
 use Rattle.plan_rules.proofs.lemmas.ReadLemmas.{reads_push}
 use Rattle.plan_rules.proofs.lemmas.SearchTreeLemmas.{places_are}
 use Rattle.plan_rules.proofs.lemmas.UsableLemmas.{Agree, agree_back}
 use Rattle.assignment_search.specs.Found.{IsAtLeastFirstFit, IsBranchJustified}
-use Rattle.bound_checker.specs.Visit.{coming_of}
+use Rattle.bound_checker.specs.lemmas.Visit.{coming_of}
 use Rattle.bound_checker.proofs.lemmas.WalkLemmas.{coming_start, path_none}
 use Rattle.search_check.specs.work.Nodes.{IsFairNode}
 use Rattle.search_check.proofs.lemmas.FaultLemmas.{whole_of_value}

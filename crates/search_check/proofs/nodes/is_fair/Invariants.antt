@@ -2,8 +2,8 @@ use Rattle.std.proofs.Common.{◌≡◌, ◌∷◌, [], length, take, All}
 use Rattle.plan_rules.specs.Tree.{every_row}
 use Rattle.plan_rules.specs.Path.{IsPathOf}
 use Rattle.plan_rules.specs.Reading.{ReadsTo}
-use Rattle.plan_rules.specs.work.Tree.{places_read}
-use Rattle.bound_checker.specs.Visit.{coming_of}
+use Rattle.plan_rules.specs.lemmas.Tree.{places_read}
+use Rattle.bound_checker.specs.lemmas.Visit.{coming_of}
 use Rattle.search_check.specs.work.Nodes.{IsFairNode}
 use Rattle.search_check.proofs.nodes.is_fair.Given as goal
 

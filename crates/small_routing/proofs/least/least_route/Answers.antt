@@ -5,7 +5,7 @@ use Rattle.stop_orders.specs.declared.route.Route.{Route}
 use Rattle.stop_orders.specs.declared.stop.Stop.{Stop}
 use Rattle.stop_orders.specs.declared.task.Task.{Task}
 use Rattle.stop_orders.specs.Task.{Serves, order_delay}
-use Rattle.stop_orders.specs.work.Plain.{NoneBetter}
+use Rattle.stop_orders.specs.lemmas.Plain.{NoneBetter}
 use Rattle.small_routing.proofs.LabelLemmas.{small_first, left_first, leads_first}
 use Rattle.small_routing.proofs.SearchLemmas.{least_none}
 use Rattle.small_routing.proofs.least.least_route.Goals as goal

@@ -6,7 +6,7 @@ use Rattle.std.proofs.lemmas.List.Elements.{All-push}
 use Rattle.pool_base.specs.Times.{point_count, travel_time}
 use Rattle.stop_orders.specs.declared.stop.Stop.TheVariants.{Pick}
 use Rattle.stop_orders.specs.Done.{with_stop}
-use Rattle.stop_orders.specs.work.Rest.{left_count}
+use Rattle.stop_orders.specs.lemmas.Rest.{left_count}
 use Rattle.stop_orders.proofs.lemmas.DoneLemmas.{left_count-falls}
 use Rattle.stop_orders.proofs.lemmas.PlainLemmas.{IsAllDone-at, IsAllDone-not_at, path_back}
 use Rattle.small_routing.specs.declared.candidate.Candidate.{Candidate}

@@ -1,6 +1,6 @@
 use Rattle.std.proofs.Common.{take}
 use Rattle.pool_base.specs.Times.{point_count, travel_time}
-use Rattle.stop_orders.specs.work.Rest.{left_count}
+use Rattle.stop_orders.specs.lemmas.Rest.{left_count}
 use Rattle.small_routing.specs.work.Label.{task_riders, task_passengers}
 use Rattle.small_routing.specs.work.Kept.{labels_of}
 use Rattle.small_routing.proofs.SearchLemmas.{TriesAll}

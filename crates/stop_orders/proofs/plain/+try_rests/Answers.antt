@@ -6,8 +6,10 @@ use Rattle.stop_orders.specs.declared.route.Route.{Route}
 use Rattle.stop_orders.specs.declared.task.Task.{Task}
 use Rattle.stop_orders.specs.Task.{IsOrderOf, Serves, order_delay}
 use Rattle.stop_orders.specs.Done.{bit_of, IsNextStop, with_stop}
-use Rattle.stop_orders.specs.work.Rest.{stop_with, left_count}
-use Rattle.stop_orders.specs.work.Plain.{NoneBetter, MakesOrders, AllTried, StaysGood, IsFound}
+use Rattle.stop_orders.specs.lemmas.Rest.{left_count}
+use Rattle.stop_orders.specs.work.Rest.{stop_with}
+use Rattle.stop_orders.specs.lemmas.Plain.{NoneBetter, MakesOrders, StaysGood, IsFound}
+use Rattle.stop_orders.specs.work.Plain.{AllTried}
 use Rattle.stop_orders.proofs.lemmas.DoneLemmas.{left_count-falls}
 use Rattle.stop_orders.proofs.lemmas.PlainLemmas.{MakesOrders-all, MakesOrders-next, AllTried-all, AllTried-next, AllTried-kept, IsNextStop-at, IsNextStop-not_at, IsAllDone-at, IsAllDone-not_at, stop_with-bit_of, path_back}
 use Rattle.stop_orders.proofs.plain.+try_rests.Invariants.{NextTried}

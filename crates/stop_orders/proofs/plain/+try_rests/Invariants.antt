@@ -4,8 +4,9 @@ use Rattle.stop_orders.specs.declared.route.Route.{Route}
 use Rattle.stop_orders.specs.declared.stop.Stop.{Stop}
 use Rattle.stop_orders.specs.declared.task.Task.{Task}
 use Rattle.stop_orders.specs.Done.{bit_of, IsNextStop, with_stop}
-use Rattle.stop_orders.specs.work.Rest.{left_count}
-use Rattle.stop_orders.specs.work.Plain.{IsFound, StaysGood, AllTried}
+use Rattle.stop_orders.specs.lemmas.Rest.{left_count}
+use Rattle.stop_orders.specs.lemmas.Plain.{IsFound, StaysGood}
+use Rattle.stop_orders.specs.work.Plain.{AllTried}
 use Rattle.stop_orders.proofs.plain.+try_rests.Given as goal
 
 -- all next stops with a lower bit were tried

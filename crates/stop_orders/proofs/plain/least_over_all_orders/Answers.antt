@@ -4,7 +4,8 @@ use Rattle.stop_orders.specs.declared.route.Route.{Route}
 use Rattle.stop_orders.specs.declared.stop.Stop.{Stop}
 use Rattle.stop_orders.specs.declared.task.Task.{Task}
 use Rattle.stop_orders.specs.Task.{Serves, order_delay}
-use Rattle.stop_orders.specs.work.Plain.{MakesOrders, AllTried, NoneBetter}
+use Rattle.stop_orders.specs.lemmas.Plain.{MakesOrders, NoneBetter}
+use Rattle.stop_orders.specs.work.Plain.{AllTried}
 use Rattle.stop_orders.proofs.lemmas.DoneLemmas.{left_count-most, Completes-none}
 use Rattle.stop_orders.proofs.lemmas.PlainLemmas.{MakesOrders-none}
 use Rattle.stop_orders.proofs.plain.least_over_all_orders.Goals as goal

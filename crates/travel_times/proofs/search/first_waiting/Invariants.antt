@@ -1,5 +1,5 @@
 use Rattle.std.proofs.Common.{◌≡◌, ℕ, ◌<◌, false}
-use Rattle.travel_times.specs.work.Search.{waits}
+use Rattle.travel_times.specs.lemmas.Search.{waits}
 use Rattle.travel_times.proofs.search.first_waiting.Given as goal
 
 abbrev pub invariant-loop-node : goal.invariant-loop-node

@@ -9,7 +9,7 @@ use Rattle.plan_rules.specs.Multipliers.{Usable, usable_of, leaf_value}
 use Rattle.plan_rules.specs.Tree.{rounded_up}
 use Rattle.plan_rules.specs.Path.{standing_of, IsPathOf}
 use Rattle.plan_rules.proofs.lemmas.UsableLemmas.{Agree, agree_back, can_branch_agrees, dead_end_agrees, leaf_value_agrees}
-use Rattle.bound_checker.specs.Visit.{coming_of}
+use Rattle.bound_checker.specs.lemmas.Visit.{coming_of}
 use Rattle.bound_checker.proofs.lemmas.WalkLemmas.{coming_entered, coming_left, path_push}
 use Rattle.bound_checker.proofs.walk.Walk.visit_branch.Goals as goal
 

@@ -5,7 +5,7 @@ use Rattle.std.specs.Option.{option_to_list}
 use Rattle.std.proofs.lemmas.List.{take_all}
 use Rattle.batch_snapshot.specs.declared.rider.Rider.{Rider}
 use Rattle.request_book.specs.Sealing.{after_seal}
-use Rattle.request_book.specs.work.Named.{asking}
+use Rattle.request_book.specs.lemmas.Named.{asking}
 use Rattle.request_book.specs.State.{find_rider}
 use Rattle.request_book.proofs.lemmas.SealLemmas.{filter_map-more}
 use Rattle.request_book.proofs.register.Register.asking.Goals as goal

@@ -8,7 +8,7 @@ use Rattle.request_book.specs.declared.rider.BookRider.{BookRider}
 use Rattle.request_book.specs.declared.state.State.{State}
 use Rattle.request_book.specs.Closing.{after_answer}
 use Rattle.request_book.specs.Keyed.{KeysDiffer, KeysRise}
-use Rattle.request_book.specs.work.Refusals.{not_this_batch}
+use Rattle.request_book.specs.lemmas.Refusals.{not_this_batch}
 use Rattle.request_book.specs.work.Register.{state_of, IsIndexed}
 use Rattle.request_book.proofs.lemmas.CloseLemmas.{answer-settled}
 use Rattle.request_book.proofs.lemmas.IndexLemmas.{IsPool-same}

@@ -9,11 +9,11 @@ use Rattle.request_book.specs.declared.rider.BookRider.{BookRider}
 use Rattle.request_book.specs.declared.rider.Status.TheVariants.{Aboard}
 use Rattle.request_book.specs.declared.state.State.{State}
 use Rattle.request_book.specs.Keyed.{changed_at, KeysRise, KeysDiffer}
-use Rattle.request_book.specs.work.Refusals.{first_of, aboard_refusal, ended_refusal, promise_refusal, time_back, vehicle_full}
+use Rattle.request_book.specs.lemmas.Refusals.{first_of, aboard_refusal, ended_refusal, promise_refusal, time_back, vehicle_full}
 use Rattle.request_book.specs.work.Register.{state_of}
 use Rattle.request_book.specs.Rider.{with_status}
 use Rattle.request_book.specs.State.{find_rider, find_vehicle}
-use Rattle.request_book.specs.work.Named.{takes_in}
+use Rattle.request_book.specs.lemmas.Named.{takes_in}
 use Rattle.request_book.proofs.lemmas.KeyedLemmas.{KeysRise-changed_at, KeysDiffer-changed_at, KeysRise-without, map-changed_at}
 use Rattle.request_book.proofs.lemmas.IndexLemmas.{vehicle-set, IsPool-without, IsPool-same}
 use Rattle.request_book.proofs.lemmas.StepLemmas.{pickup-no_vehicle, pickup-no_rider_at, pickup-known, fifth-none}

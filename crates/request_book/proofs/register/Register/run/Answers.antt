@@ -5,7 +5,7 @@ use Rattle.request_book.specs.declared.command.Command.TheVariants.{Seal}
 use Rattle.request_book.specs.declared.reply.Reply.{Reply}
 use Rattle.request_book.specs.work.Register.{state_of}
 use Rattle.request_book.specs.Step.{step}
-use Rattle.request_book.specs.work.Table.{table_step}
+use Rattle.request_book.specs.lemmas.Table.{table_step}
 use Rattle.request_book.proofs.lemmas.StepTable.{step-is}
 use Rattle.request_book.proofs.lemmas.IndexLemmas.{less-room}
 use Rattle.request_book.proofs.register.Register.run.Goals as goal

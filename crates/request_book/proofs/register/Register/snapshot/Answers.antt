@@ -7,7 +7,7 @@ use Rattle.request_book.specs.work.Register.{state_of}
 use Rattle.std.specs.List.{filter_map}
 use Rattle.request_book.specs.Keyed.{by_key}
 use Rattle.request_book.specs.Sealing.{batch_of, after_seal}
-use Rattle.request_book.specs.work.Named.{asking}
+use Rattle.request_book.specs.lemmas.Named.{asking}
 use Rattle.pool_io.specs.Faults.{one_more}
 use Rattle.request_book.proofs.lemmas.BatchLemmas.{batch-riders, batch-expired, batch-kept}
 use Rattle.request_book.proofs.register.Register.snapshot.Goals as goal

@@ -3,7 +3,7 @@ use Rattle.plan_rules.specs.Path.{IsPathOf, standing_of}
 use Rattle.plan_rules.specs.Reading.{IsSoundNode, coming_after}
 use Rattle.plan_rules.specs.Tree.{CanBranch}
 use Rattle.plan_rules.specs.declared.node.Node.{Node}
-use Rattle.bound_checker.specs.Visit.{coming_of}
+use Rattle.bound_checker.specs.lemmas.Visit.{coming_of}
 use Rattle.bound_checker.proofs.lemmas.WalkLemmas.{coming_entered, path_push}
 use Rattle.search_check.proofs.nodes.Walk.pass.Goals as goal
 

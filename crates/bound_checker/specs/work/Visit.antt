@@ -1,7 +1,7 @@
-use Rattle.std.specs.Prelude.{◌≡◌, ◌≢◌, ℕ, ℤ, ◌<◌, Bool, true, false, IsTrue, List, [], ◌∷◌, length, slice_index_or, Option, MatchOption}
-use Rattle.plan_rules.specs.Graph.{Graph, has_rider}
+use Rattle.std.specs.Prelude.{◌≡◌, ℕ, ℤ, List, length}
+use Rattle.plan_rules.specs.Graph.{Graph}
 use Rattle.plan_rules.specs.Multipliers.{Usable}
-use Rattle.plan_rules.specs.Tree.{MayUse, IsSoleRow, CanBranch, IsDeadEnd, with_leaf}
+use Rattle.plan_rules.specs.Tree.{CanBranch, IsDeadEnd, with_leaf}
 use Rattle.plan_rules.specs.Reading.{IsSoundNode, coming_after}
 use Rattle.plan_rules.specs.Path.{standing_of, IsPathOf}
 use Rattle.plan_rules.specs.declared.node.Node.{Node}
@@ -9,12 +9,7 @@ use Rattle.plan_rules.specs.declared.node.Node.TheVariants.{Branch, Leaf, Dead}
 use Rattle.bound_checker.specs.declared.walk.Walk.{Walk}
 use Rattle.bound_checker.specs.declared.fault.CheckFault.{CheckFault}
 use Rattle.bound_checker.specs.declared.fault.CheckFault.TheVariants.{BadBranch, BadLeaf, BadDead, Unfinished, Extra, OutOfMemory}
-use Rattle.plan_rules.specs.declared.path.Decision.{Decision}
-
--- the subtrees that a walk has before it: none once the tree has ended
-abbrev pub coming_of : Graph → Bool → List Decision → List Usable
-coming_of g true path = []
-coming_of g false path = (standing_of g path).usable ∷ (standing_of g path).coming
+use Rattle.bound_checker.specs.lemmas.Visit.{coming_of}
 
 -- the walk stands in the graph, and its work space has the right size
 pub record IsReady (g : Graph) (walk : Walk) : Type 0 where

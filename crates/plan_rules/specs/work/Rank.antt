@@ -1,15 +1,8 @@
-use Rattle.std.specs.Prelude.{◌≡◌, ◌≢◌, ℕ, ◌+◌, ◌-◌, ◌*◌, ◌<◌, Bool, false, true, IsTrue, List, length, slice_index_or, Option, Some, Contains, All}
+use Rattle.std.specs.Prelude.{◌≡◌, ◌≢◌, ℕ, ◌-◌, ◌<◌, Bool, false, true, IsTrue, List, length, slice_index_or, Option, Some, Contains, All}
 use Rattle.std.specs.List.Sorted.{IsNonDecreasingBy}
 use Rattle.plan_rules.specs.Graph.{Graph, riders_at, cost_at, has_rider, choice_at, IsRowOf}
 use Rattle.plan_rules.specs.Greedy.{IsTaken, IsApart}
-
--- a number that rises as size falls, then as cost rises, then as the number of the row rises
-unfoldable pub rank_value : ℕ → ℕ → ℕ → ℕ
-rank_value size cost k = ((6 - size) * 1000000001 + cost) * 2000000 + k
-
--- the rank of a row
-abbrev pub rank_of : Graph → ℕ → ℕ
-rank_of g k = rank_value (length (riders_at g k)) (cost_at g k) k
+use Rattle.plan_rules.specs.lemmas.Rank.{rank_of}
 
 -- what a row is sorted by: how many riders are missing to six, the cost, the number
 abbrev pub parts_of : Graph → ℕ → ℕ × ℕ × ℕ

@@ -1,4 +1,4 @@
-use Rattle.std.specs.Prelude.{◌≡◌, ℕ, ◌+◌, ◌*◌, ◌<◌, ◌≤◌, List, [], ◌∷◌, length, take, slice_index_or, ℤ, pos, ◌≤ℤ◌, ◌<ℤ◌}
+use Rattle.std.specs.Prelude.{◌≡◌, ℕ, ◌+◌, ◌*◌, ◌<◌, ◌≤◌, List, ◌∷◌, length, take, slice_index_or, ℤ, pos, ◌≤ℤ◌, ◌<ℤ◌, []}
 use Rattle.plan_rules.specs.Graph.{Graph}
 use Rattle.plan_rules.specs.Plan.{IsLawful, cost_of}
 use Rattle.plan_rules.specs.Multipliers.{Usable}
@@ -9,7 +9,8 @@ use Rattle.plan_rules.specs.declared.node.Node.TheVariants.{Leaf, Dead}
 use Rattle.assignment_search.specs.declared.parting.Ends.{Ends}
 use Rattle.assignment_search.specs.declared.step.Outcome.{Outcome}
 use Rattle.assignment_search.specs.declared.step.Outcome.TheVariants.{Met, Better, Full, Fixed, Parted}
-use Rattle.assignment_search.specs.Growth.{IsNewEnd, choice_count}
+use Rattle.assignment_search.specs.work.Growth.{IsNewEnd}
+use Rattle.assignment_search.specs.Growth.{choice_count}
 
 -- the ends are those of a branch on a row that the vehicle may use beside another one
 pub record IsParting (g : Graph) (usable : Usable) (parent : List ℤ) (ends : Ends) : Type 0 where

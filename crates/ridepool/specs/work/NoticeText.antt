@@ -1,4 +1,3 @@
--- The line of a notice.
 use Rattle.std.specs.Prelude.{ℕ, List, ◌++◌, codes}
 use Rattle.dispatch_report.specs.Words.{numbered}
 use Rattle.rider_notices.specs.declared.notice.Notice.{Notice}

@@ -1,0 +1,5 @@
+pub mod Plan
+pub mod Tree
+pub mod Rank
+pub mod Graph
+pub mod GraphFault

@@ -1,0 +1,33 @@
+use Rattle.std.specs.Prelude.{ℕ, Bool, List, Option, None, is_some, if◌then◌else◌, ◌∷◌, ◌++◌, option_map, nat_le, unwrap_or, []}
+use Rattle.batch_snapshot.specs.declared.rider.Rider.{Rider}
+use Rattle.batch_snapshot.specs.declared.vehicle.Vehicle.{Vehicle}
+use Rattle.request_book.specs.declared.rider.BookRider.{BookRider}
+use Rattle.request_book.specs.Keyed.{look_up, without}
+use Rattle.request_book.specs.Rider.{passenger_of, pool_promise, shown}
+use Rattle.request_book.specs.declared.rider.Status.{Status}
+use Rattle.request_book.specs.declared.rider.Status.TheVariants.{Waiting, Promised}
+use Rattle.request_book.specs.Closing.{Pick}
+
+-- the first pick stop of a rider promises; without one the rider waits
+abbrev pub planned_status : List Pick → ℕ → Status
+planned_status ps id = unwrap_or (option_map (λ p. Promised p.promise) (look_up (λ p. p.rider) id ps)) Waiting
+
+-- a rider of the pool who asked by now, as a snapshot shows them
+abbrev pub asking : ℕ → BookRider → Option Rider
+asking now r = if nat_le r.time now then option_map (shown r) (pool_promise r.status) else None
+
+-- the rider is the vehicle's last passenger, and the vehicle is at the rider's origin
+abbrev pub takes_in : BookRider → ℕ → Vehicle → Vehicle
+takes_in r time v = record v { node = r.origin; time = time; aboard = record { items = v.aboard.items ++ passenger_of r ∷ [] } }
+
+-- the rider leaves the passengers, the others keep their order, and the vehicle is at the rider's destination
+abbrev pub lets_out : BookRider → ℕ → Vehicle → Vehicle
+lets_out r time v = record v { node = r.destination; time = time; aboard = record { items = without (λ p. p.rider) r.id v.aboard.items } }
+
+-- the rider is one of the snapshot's
+abbrev pub in_batch : List Rider → ℕ → Bool
+in_batch riders id = is_some (look_up (λ r. r.id) id riders)
+
+-- the vehicle is at a node, at a second
+abbrev pub stands_at : ℕ → ℕ → Vehicle → Vehicle
+stands_at node time v = record v { node = node; time = time }

@@ -1,0 +1,104 @@
+//! A draft of an assignment: a plan and a tree of decisions, of which nothing is promised.
+use crate::row_table::RowTable;
+use pool_base::OutOfMemory;
+use std::alloc::Global;
+
+/// What multiplier a rider has whose row is taken, in 1/1024 second: it shuts out her other rows.
+const SUNK: i64 = -(1 << 41);
+
+/// What drafts assignments. Whoever asks for a draft judges all of it, so that any drafter will do.
+pub trait Drafter: Sync {
+    /// A plan, and a tree of at most so many nodes. The held plan is lawful.
+    fn draft(
+        &self,
+        alloc: Global,
+        table: &RowTable,
+        held: &[Option<u32>],
+        budget: usize,
+    ) -> Result<Draft, OutOfMemory>;
+}
+
+/// A row that is taken or forbidden below another node.
+#[derive(Clone, Copy)]
+pub struct Decision {
+    pub parent: usize,
+    pub row: usize,
+    pub is_taken: bool,
+}
+
+/// A node of a draft's tree.
+#[derive(Drop)]
+pub struct DraftNode {
+    /// What leads here; none at the root.
+    pub decision: Option<Decision>,
+    /// The row that the node is branched on, and the number of the node where it is taken. The one where it
+    /// isn't comes next.
+    pub branch: Option<(usize, usize)>,
+    /// The riders' multipliers, in 1/1024 second.
+    pub multipliers: Vec<i64>,
+}
+
+/// A plan, and a tree whose root is node 0.
+#[derive(Drop)]
+pub struct Draft {
+    /// For each vehicle its row, if it has one.
+    pub plan: Vec<Option<u32>>,
+    /// What the plan costs, in seconds.
+    pub cost: i64,
+    /// Below this no plan costs, in seconds.
+    pub bound: i64,
+    pub nodes: Vec<DraftNode>,
+}
+
+impl Draft {
+    /// The row that a node is branched on, and the number of the node where it is taken; the one where it
+    /// isn't comes next.
+    pub fn branch(&self, number: usize) -> Option<(usize, usize)> {
+        if number < self.nodes.len() {
+            self.nodes[number].branch
+        } else {
+            None
+        }
+    }
+
+    /// The decision that leads to a node.
+    pub fn decision(&self, number: usize) -> Option<Decision> {
+        if number < self.nodes.len() {
+            self.nodes[number].decision
+        } else {
+            None
+        }
+    }
+
+    /// The multipliers of a node, with those of riders in taken rows sunk.
+    pub fn multipliers_at(
+        &self,
+        alloc: Global,
+        table: &RowTable,
+        number: usize,
+    ) -> Result<Vec<i64>, OutOfMemory> {
+        let mut multipliers = Vec::new(alloc);
+        if number < self.nodes.len() {
+            multipliers.extend_from_slice(&self.nodes[number].multipliers)?;
+        }
+        let mut number = number;
+        for _ in 0..self.nodes.len() {
+            if let Some(decision) = self.decision(number) {
+                if decision.is_taken {
+                    sink(table.riders_of(decision.row), &mut multipliers);
+                }
+                number = decision.parent;
+            }
+        }
+        Ok(multipliers)
+    }
+}
+
+fn sink(riders: &[u32], multipliers: &mut [i64]) {
+    for rider in riders {
+        let rider = *rider as usize;
+        if rider < multipliers.len() {
+            multipliers[rider] = SUNK;
+        }
+    }
+}
