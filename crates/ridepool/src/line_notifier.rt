@@ -80,7 +80,7 @@ impl<W: Write + Drop> Notifier for LineNotifier<W> {
 }
 
 /// The line of a notice, with its end.
-#[tactic(auto, unfolding(crate::specs::NoticeText::notice_text))]
+#[tactic(auto, unfolding(crate::specs::work::NoticeText::notice_text))]
 fn put_notice(line: &mut Vec<u8>, notice: &Notice) -> Result<(), OutOfMemory>
     ensures { OnOk result (line.new.items ≡ line.old.items ++ notice_text notice.now) }
 {
