@@ -3,7 +3,6 @@
 
     tools/trail.py            the figures, and each fault; status 1 where there is one
     tools/trail.py --list     one line for each definition on the way: depth, lines, place
-    tools/trail.py --twice    names that stand for several definitions on the way
     tools/trail.py --write    writes the lists of docs/DEFINITIONS.md anew
     tools/trail.py --stood COMMIT
                               how many of the definitions on the headline's way at a commit stand, by name and in a crate
@@ -16,8 +15,9 @@ counted.
 
 A fault is: a definition on a way that lies in specs/lemmas/ or specs/work/; a file of specs/ that imports from these
 or from proofs/, or one of specs/lemmas/ that imports from specs/work/; any file that imports from specs/work/ of another
-crate; a file of proofs/ that imports more than proofs/lemmas/ of another crate; a definition on a way without a line of
-comment; lists of docs/DEFINITIONS.md that are not the ways'.
+crate; a file of proofs/ that imports more than proofs/lemmas/ of another crate; a name that stands for several
+definitions on a way; a definition on a way without a line of comment; lists of docs/DEFINITIONS.md that are not the
+ways'.
 """
 import io
 import re
@@ -339,17 +339,15 @@ def main():
                 d = definitions[key]
                 print(f"{mark:8} {depth:3} {len(d.lines):3}  {d.place()} {d.name}")
         return 0
-    if "--twice" in sys.argv:
-        by_name = defaultdict(set)
-        for module, name in every:
-            by_name[name].add(module)
-        for name, modules in sorted(by_name.items()):
-            if len(modules) > 1:
-                print(f"{name}: {', '.join(sorted(modules))}")
-        return 0
     print(f"trail: from the headline {figures(headline, definitions)}")
     print(f"trail: from all public clauses {figures(every, definitions)}")
     faults = faults_of_files()
+    by_name = defaultdict(set)
+    for module, name in every:
+        by_name[name].add(module)
+    for name, modules in sorted(by_name.items()):
+        if len(modules) > 1:
+            faults.append(f"{name} stands for several definitions: {', '.join(sorted(modules))}")
     for key in every:
         d = definitions[key]
         if d.is_work:

@@ -5,10 +5,10 @@ use Rattle.std.proofs.lemmas.List.{length-map}
 use Rattle.batch_snapshot.specs.Batch.{Batch}
 use Rattle.batch_snapshot.specs.Kept.{IsKept}
 use Rattle.batch_solver.specs.Outcome.{IsGoodOutcome}
-use Rattle.block_outcome.specs.Told.{Tells}
+use Rattle.block_outcome.specs.Told.{TellsOutcome}
 use Rattle.dispatch_report.specs.Block.{block_lines}
 use Rattle.dispatch_report.specs.Lines.{lines_text}
-use Rattle.outcome_check.specs.Verdict.{Meets, AnswersAt, IsVerdictOf, place_of}
+use Rattle.outcome_check.specs.Verdict.{Meets, AnswersAt, IsVerdictOf, point_place}
 use Rattle.outcome_check.specs.declared.verdict.Point.{Point}
 use Rattle.outcome_check.specs.declared.verdict.Point.TheVariants as point
 use Rattle.outcome_check.specs.declared.verdict.Verdict.{Verdict}
@@ -81,10 +81,10 @@ module _ (settings : Settings) (roads : Roads) (batch : Batch) (kept : IsKept ba
       cc
 
   -- where all points hold of it, the lines tell it
-  pub good_is_told : IsVerdictOf (Meets settings roads batch outcome) Good → Tells (vehicle_ids batch) lines told outcome
+  pub good_is_told : IsVerdictOf (Meets settings roads batch outcome) Good → TellsOutcome (vehicle_ids batch) lines told outcome
   good_is_told all = told_by judged
     where
-      told_by : IsJudgedAs (vehicle_ids batch) lines told outcome → Tells (vehicle_ids batch) lines told outcome
+      told_by : IsJudgedAs (vehicle_ids batch) lines told outcome → TellsOutcome (vehicle_ids batch) lines told outcome
       told_by (inl tells) = tells
       told_by (inr (none, tells)) =
           absurd (no_value settings roads batch outcome.answer
@@ -92,7 +92,7 @@ module _ (settings : Settings) (roads : Roads) (batch : Batch) (kept : IsKept ba
           (all point.Bound).1)
 
   -- and it is a good outcome whose block stands there
-  pub begins_good : told ≡ batch.number → IsGoodOutcome settings roads batch outcome → Tells (vehicle_ids batch) lines told outcome → BeginsWithGood settings roads batch text outcome rest
+  pub begins_good : told ≡ batch.number → IsGoodOutcome settings roads batch outcome → TellsOutcome (vehicle_ids batch) lines told outcome → BeginsWithGood settings roads batch text outcome rest
   begins_good number good tells =
       let is : lines ≡ lines_of batch.number outcome = tells.whole ∙ ap (λ (n : ℕ). lines_of n outcome) number in
       record {
@@ -101,7 +101,7 @@ module _ (settings : Settings) (roads : Roads) (batch : Batch) (kept : IsKept ba
         good = good;
       }
 
-  pub line_count : told ≡ batch.number → Tells (vehicle_ids batch) lines told outcome → length lines ≡ length (block_lines true batch.number outcome)
+  pub line_count : told ≡ batch.number → TellsOutcome (vehicle_ids batch) lines told outcome → length lines ≡ length (block_lines true batch.number outcome)
   line_count number tells =
       let is : lines ≡ lines_of batch.number outcome = tells.whole ∙ ap (λ (n : ℕ). lines_of n outcome) number in
       ap (λ (ls : List BlockLine). length ls) is ∙ sym (length-map (lines_of batch.number outcome) block_line_text) ∙ ap (λ (ls : List (List ℕ)). length ls) (outcome_texts batch.number outcome)
@@ -116,7 +116,7 @@ fault_no_good settings roads batch text fault refusal fails is some other behind
     block_no_fault text (lines_of batch.number other) behind printed fault (λ (e : fault ≡ MemoryFault). some (is ∙ ap refusal_for e)) fails
 
 -- the first point that fails of an outcome that tells the batch's number
-pub fails_first : (settings : Settings) (roads : Roads) (batch : Batch) (told : ℕ) (outcome : Outcome) (p : Point) (place : ℕ) → told ≡ batch.number → place ≡ place_of p → IsVerdictOf (Meets settings roads batch outcome) (Fails p) → FailsFirst (MeetsAs settings roads batch told outcome) place
+pub fails_first : (settings : Settings) (roads : Roads) (batch : Batch) (told : ℕ) (outcome : Outcome) (p : Point) (place : ℕ) → told ≡ batch.number → place ≡ point_place p → IsVerdictOf (Meets settings roads batch outcome) (Fails p) → FailsFirst (MeetsAs settings roads batch told outcome) place
 fails_first settings roads batch told outcome p place number at first =
     record { point = p; at = sym at; first = (λ q less. (number, first.0 q less), λ holds. first.1 holds.1) }
 

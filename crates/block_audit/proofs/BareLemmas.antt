@@ -8,7 +8,7 @@ use Rattle.std.specs.Option.{IsSome}
 use Rattle.std.proofs.lemmas.List.Elements.{All-cons}
 use Rattle.report_lines.specs.Block.{IsBlock}
 use Rattle.report_lines.specs.Order.{follow_on, last_place}
-use Rattle.report_lines.specs.Outcome.{row_line, lines_of_answer, lines_of}
+use Rattle.report_lines.specs.Outcome.{row_as_line, lines_of_answer, lines_of}
 use Rattle.report_lines.specs.declared.block_line.BlockLine.{BlockLine}
 use Rattle.report_lines.specs.declared.block_line.BlockLine.TheVariants.{Batch, Expired, Overflow, Lapsed, Late, Alone, Shared, Row, Trip, Out, Move, Cost, Bound, Nodes, End}
 use Rattle.report_lines.specs.declared.row.RowText.{RowText}
@@ -17,7 +17,7 @@ use Rattle.request_book.specs.declared.outcome.Answer.TheVariants.{Overflow as T
 use Rattle.request_book.specs.declared.outcome.Outcome.{Outcome}
 use Rattle.request_book.specs.declared.outcome.Planned.{Planned}
 use Rattle.request_book.specs.declared.outcome.RowLine.{RowLine}
-use Rattle.block_outcome.specs.Told.{IsNumbered, AreNumbered, Tells, TellsNone}
+use Rattle.block_outcome.specs.Told.{IsNumbered, AreNumbered, TellsOutcome, TellsNone}
 use Rattle.block_audit.specs.Judged.{row_counted, bare_line, bare, IsJudgedAs}
 use Rattle.block_audit.proofs.OneOutcome.{answer_nested, outcome_nested, one_outcome}
 use Rattle.block_audit.proofs.ShapeLemmas.{IsTreeToEnd, IsCounted, Lapses, whole_block}
@@ -33,10 +33,10 @@ section_kept K keeps xs lines rest told e t = ap bare e ∙ kept K keeps xs rest
 abbrev row_judged : RowText → RowLine
 row_judged row = record { vehicle = (row_counted row).vehicle; riders = record { items = (row_counted row).riders }; cost = (row_counted row).cost }
 
-rows_kept : (rows : List RowText) (lines rest told : List BlockLine) → lines ≡ map Row rows ++ rest → bare rest ≡ told → bare lines ≡ map row_line (map row_judged rows) ++ told
-rows_kept rows lines rest told e t = ap bare e ∙ each rows ∙ ap (λ l. map row_line (map row_judged rows) ++ l) t
+rows_kept : (rows : List RowText) (lines rest told : List BlockLine) → lines ≡ map Row rows ++ rest → bare rest ≡ told → bare lines ≡ map row_as_line (map row_judged rows) ++ told
+rows_kept rows lines rest told e t = ap bare e ∙ each rows ∙ ap (λ l. map row_as_line (map row_judged rows) ++ l) t
   where
-    each : (xs : List RowText) → bare (map Row xs ++ rest) ≡ map row_line (map row_judged xs) ++ bare rest
+    each : (xs : List RowText) → bare (map Row xs ++ rest) ≡ map row_as_line (map row_judged xs) ++ bare rest
     each [] = refl
     each (x ∷ xs) = ap (λ l. Row (row_counted x) ∷ l) (each xs)
 
@@ -155,7 +155,7 @@ pub record HasNoTree (answer : Answer) : Type 0 where
   pub is : answer ≡ Plan plan
   pub no_tree : plan.tree ≡ []
 
-pub judged_bare : (ids : List ℕ) (lines : List BlockLine) (batch : ℕ) (outcome : Outcome) → length ids ≤ 4294967295 → follow_on 0 lines ≡ true → last_place 0 lines ≡ 16 → TellsNone lines → Tells ids (bare lines) batch outcome → HasNoTree outcome.answer
+pub judged_bare : (ids : List ℕ) (lines : List BlockLine) (batch : ℕ) (outcome : Outcome) → length ids ≤ 4294967295 → follow_on 0 lines ≡ true → last_place 0 lines ≡ 16 → TellsNone lines → TellsOutcome ids (bare lines) batch outcome → HasNoTree outcome.answer
 judged_bare ids lines batch outcome few f e none tells = ⊎_elim
     (λ (over : TellsOverflow lines). absurd (none over.batch (record { expired = over.expired; answer = TooMany }) tt over.whole))
     (λ (is : TellsBare lines).
@@ -167,17 +167,17 @@ judged_bare ids lines batch outcome few f e none tells = ⊎_elim
 
 -- where the lines of a block tell no outcome, some outcome is told by the bare lines
 module _ (ids : List ℕ) (lines slice kept again : List BlockLine) (first second : Option (ℕ × Outcome)) (shown : slice ≡ lines) (held : again ≡ kept) (is : kept ≡ bare lines) (none : first ≡ None)
-    (one : MatchOption first (TellsNone slice) (λ t. Tells ids slice t.0 t.1)) (two : MatchOption second (TellsNone again) (λ t. Tells ids again t.0 t.1)) where
+    (one : MatchOption first (TellsNone slice) (λ t. TellsOutcome ids slice t.0 t.1)) (two : MatchOption second (TellsNone again) (λ t. TellsOutcome ids again t.0 t.1)) where
   tells_none : TellsNone lines
-  tells_none = subst TellsNone shown (MatchOption-at_none (TellsNone slice) (λ t. Tells ids slice t.0 t.1) none one)
+  tells_none = subst TellsNone shown (MatchOption-at_none (TellsNone slice) (λ t. TellsOutcome ids slice t.0 t.1) none one)
 
   pub bare_some : (text : List ℕ) × (rest : List ℕ) × IsBlock text lines rest → IsSome second
   bare_some (text, rest, block) = some_of second two
     where
-      some_of : (o : Option (ℕ × Outcome)) → MatchOption o (TellsNone again) (λ t. Tells ids again t.0 t.1) → IsSome o
+      some_of : (o : Option (ℕ × Outcome)) → MatchOption o (TellsNone again) (λ t. TellsOutcome ids again t.0 t.1) → IsSome o
       some_of None m = absurd (bare_tells lines block.begins.order block.ended tells_none (subst TellsNone (held ∙ is) m))
       some_of (Some x) m = refl
 
   pub bare_judged : (told : ℕ × Outcome) → second ≡ Some told → IsJudgedAs ids lines told.0 told.1
   bare_judged told e =
-      inr (tells_none, subst (λ ls. Tells ids ls told.0 told.1) (held ∙ is) (MatchOption-at_some (TellsNone again) (λ t. Tells ids again t.0 t.1) told e two))
+      inr (tells_none, subst (λ ls. TellsOutcome ids ls told.0 told.1) (held ∙ is) (MatchOption-at_some (TellsNone again) (λ t. TellsOutcome ids again t.0 t.1) told e two))

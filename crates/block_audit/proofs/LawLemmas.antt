@@ -8,14 +8,14 @@ use Rattle.batch_snapshot.specs.Batch.{Batch}
 use Rattle.batch_snapshot.specs.Kept.{IsKept}
 use Rattle.batch_solver.specs.Told.{rider_id, row_line as told_row}
 use Rattle.block_outcome.specs.Told.{HasTrips, TellsNone}
-use Rattle.outcome_check.specs.Verdict.{AnswersAt, place_of}
+use Rattle.outcome_check.specs.Verdict.{AnswersAt, point_place}
 use Rattle.outcome_check.specs.declared.verdict.Point.{Point}
 use Rattle.outcome_check.specs.declared.verdict.Point.TheVariants as point
 use Rattle.plan_rules.specs.Graph.{no_row}
 use Rattle.plan_rules.specs.declared.node.Node.{Node}
 use Rattle.plan_rules.specs.declared.node.Node.TheVariants.{Branch as Branches, Leaf as Ends, Dead as Closed}
 use Rattle.plan_rules.specs.declared.row.TripRow.{TripRow}
-use Rattle.report_lines.specs.Outcome.{row_line, tree_line, lines_of_answer, lines_of}
+use Rattle.report_lines.specs.Outcome.{row_as_line, tree_line, lines_of_answer, lines_of}
 use Rattle.report_lines.specs.declared.block_line.BlockLine.{BlockLine}
 use Rattle.report_lines.specs.declared.block_line.BlockLine.TheVariants.{Batch as BatchLine, Expired, Overflow, Lapsed, Late, Alone, Shared, Row, Trip, Out, Move, Cost, Bound, Nodes, End}
 use Rattle.report_lines.specs.declared.row.RowText.{RowText}
@@ -69,7 +69,7 @@ module _ (P : BlockLine → Type 0) (plain : (line : BlockLine) → is_plain lin
   of_counts cost bound nodes =
       All-cons P (Cost cost) (Bound bound ∷ Nodes nodes ∷ []) (plain (Cost cost) refl) (All-cons P (Bound bound) (Nodes nodes ∷ []) (plain (Bound bound) refl) (of_one (Nodes nodes) (plain (Nodes nodes) refl)))
 
-  pub all_answer : (answer : Answer) → ((plan : Planned) → answer ≡ Plan plan → All (λ row. P (row_line row)) plan.rows) → All P (lines_of_answer answer)
+  pub all_answer : (answer : Answer) → ((plan : Planned) → answer ≡ Plan plan → All (λ row. P (row_as_line row)) plan.rows) → All P (lines_of_answer answer)
   all_answer TooMany rows = of_one Overflow (plain Overflow refl)
   all_answer (Plan plan) rows =
       All-append P _ _
@@ -80,7 +80,7 @@ module _ (P : BlockLine → Type 0) (plain : (line : BlockLine) → is_plain lin
       (of_kind Late (λ x. refl) plan.late))
       (of_kind Alone (λ x. refl) plan.rv))
       (of_kind Shared (λ x. refl) plan.rr))
-      (All-map P row_line plan.rows (rows plan refl)))
+      (All-map P row_as_line plan.rows (rows plan refl)))
       (All-append P _ _ (All-append P _ _
       (of_kind Trip (λ x. refl) plan.chosen)
       (of_kind Out (λ x. refl) plan.left))
@@ -159,8 +159,8 @@ fine_few line fine = tt
 
 module _ (settings : Settings) (roads : Roads) (batch : Batch) (text : List ℕ) (place : ℕ) (wrong : BeginsWithWrong settings roads batch text place) where
   -- points before the one that fails hold
-  pub held : (q : Point) → place_of q < place → AnswersAt settings roads batch wrong.outcome.answer q
-  held q less = (wrong.fails.first.0 q (subst (λ (n : ℕ). place_of q < n) (sym wrong.fails.at) less)).1.1
+  pub held : (q : Point) → point_place q < place → AnswersAt settings roads batch wrong.outcome.answer q
+  held q less = (wrong.fails.first.0 q (subst (λ (n : ℕ). point_place q < n) (sym wrong.fails.at) less)).1.1
 
   pub untold_fails : IsKept batch → TellsNone wrong.lines → place ≤ 5
   untold_fails kept none = ⊎_elim (λ (late : 5 < place). absurd (never late wrong.judged)) (λ (early : place ≤ 5). early) (cases_lt 5 place)

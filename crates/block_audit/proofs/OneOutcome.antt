@@ -6,8 +6,8 @@ use Rattle.std.proofs.lemmas.List.Elements.{All-head, All-tail}
 use Rattle.std.proofs.lemmas.Option.{slice_get_within}
 use Rattle.plan_rules.specs.declared.node.Node.{Node}
 use Rattle.plan_rules.specs.declared.node.Node.TheVariants.{Branch as Branches, Leaf as Ends, Dead as Closed}
-use Rattle.report_lines.specs.Order.{place_of}
-use Rattle.report_lines.specs.Outcome.{row_line, tree_line, lines_of_answer, lines_of}
+use Rattle.report_lines.specs.Order.{kind_place}
+use Rattle.report_lines.specs.Outcome.{row_as_line, tree_line, lines_of_answer, lines_of}
 use Rattle.report_lines.specs.declared.block_line.BlockLine.{BlockLine}
 use Rattle.report_lines.specs.declared.block_line.BlockLine.TheVariants.{Batch, Expired, Overflow, Lapsed, Late, Alone, Shared, Row, Trip, Out, Move, Cost, Bound, Nodes, Branch, End}
 use Rattle.request_book.specs.declared.outcome.Answer.{Answer}
@@ -22,7 +22,7 @@ use Rattle.block_outcome.specs.Told.{IsNumberOf, IsNumbered, AreNumbered}
 
 abbrev next_place : List BlockLine → ℕ
 next_place [] = 17
-next_place (line ∷ lines) = place_of line
+next_place (line ∷ lines) = kind_place line
 
 abbrev behind : List BlockLine → List BlockLine
 behind [] = []
@@ -33,7 +33,7 @@ front [] = End
 front (x ∷ xs) = x
 
 -- a section of one kind, before lines of a higher place, is one list
-same_kind : {X : Type 0} (K : X → BlockLine) (p : ℕ) → ((x : X) → place_of (K x) ≡ p) → ((x y : X) → K x ≡ K y → x ≡ y) → (xs ys : List X) (r s : List BlockLine) → p < next_place r → p < next_place s → map K xs ++ r ≡ map K ys ++ s → (xs ≡ ys) × (r ≡ s)
+same_kind : {X : Type 0} (K : X → BlockLine) (p : ℕ) → ((x : X) → kind_place (K x) ≡ p) → ((x y : X) → K x ≡ K y → x ≡ y) → (xs ys : List X) (r s : List BlockLine) → p < next_place r → p < next_place s → map K xs ++ r ≡ map K ys ++ s → (xs ≡ ys) × (r ≡ s)
 same_kind K p at one [] [] r s lr ls e = (refl, e)
 same_kind K p at one [] (y ∷ ys) r s lr ls e = let h : next_place r ≡ p = ap next_place e ∙ at y in absurd (omega (arith, h, lr))
 same_kind K p at one (x ∷ xs) [] r s lr ls e = let h : next_place s ≡ p = sym (ap next_place e) ∙ at x in absurd (omega (arith, h, ls))
@@ -42,9 +42,9 @@ same_kind K p at one (x ∷ xs) (y ∷ ys) r s lr ls e =
     (ap (λ z. z ∷ xs) (one x y (ap front e)) ∙ ap (λ zs. y ∷ zs) rest.0, rest.1)
 
 -- lines of a kind, or those behind them, are of a higher place
-low_kind : {X : Type 0} (K : X → BlockLine) (p place : ℕ) → ((x : X) → place_of (K x) ≡ place) → p < place → (xs : List X) (s : List BlockLine) → p < next_place s → p < next_place (map K xs ++ s)
+low_kind : {X : Type 0} (K : X → BlockLine) (p place : ℕ) → ((x : X) → kind_place (K x) ≡ place) → p < place → (xs : List X) (s : List BlockLine) → p < next_place s → p < next_place (map K xs ++ s)
 low_kind K p place at above [] s low = low
-low_kind K p place at above (x ∷ xs) s low = let e : place_of (K x) ≡ place = at x in omega (arith, e, above)
+low_kind K p place at above (x ∷ xs) s low = let e : kind_place (K x) ≡ place = at x in omega (arith, e, above)
 
 -- what stands between the expired riders and the cost
 pub record Lists : Type 0 where
@@ -73,7 +73,7 @@ abbrev pub from_chosen : Lists → List BlockLine → List BlockLine
 from_chosen p t = map Trip p.chosen ++ from_left p t
 
 abbrev pub from_rows : Lists → List BlockLine → List BlockLine
-from_rows p t = map row_line p.rows ++ from_chosen p t
+from_rows p t = map row_as_line p.rows ++ from_chosen p t
 
 abbrev pub from_rr : Lists → List BlockLine → List BlockLine
 from_rr p t = map Shared p.rr ++ from_rows p t
@@ -87,7 +87,7 @@ from_late p t = map Late p.late ++ from_rv p t
 abbrev pub from_lapsed : Lists → List BlockLine → List BlockLine
 from_lapsed p t = map Lapsed p.lapsed ++ from_late p t
 
-row_one : (x y : RowLine) → row_line x ≡ row_line y → x ≡ y
+row_one : (x y : RowLine) → row_as_line x ≡ row_as_line y → x ≡ y
 row_one x y e = ap row_told e
   where
     row_told : BlockLine → RowLine
@@ -116,7 +116,7 @@ module _ (p : Lists) (t : List BlockLine) (low : 10 < next_place t) where
   low_chosen = low_kind Trip 7 8 (λ x. refl) (omega arith) p.chosen (from_left p t) (let h = low_left in omega (arith, h))
 
   low_rows : 6 < next_place (from_rows p t)
-  low_rows = low_kind row_line 6 7 (λ x. refl) (omega arith) p.rows (from_chosen p t) (let h = low_chosen in omega (arith, h))
+  low_rows = low_kind row_as_line 6 7 (λ x. refl) (omega arith) p.rows (from_chosen p t) (let h = low_chosen in omega (arith, h))
 
   low_rr : 5 < next_place (from_rr p t)
   low_rr = low_kind Shared 5 6 (λ x. refl) (omega arith) p.rr (from_rows p t) (let h = low_rows in omega (arith, h))
@@ -136,7 +136,7 @@ same_lists p q t u lt lu e =
     let b = same_kind Late 4 (λ x. refl) (λ x y h. cc) p.late q.late (from_rv p t) (from_rv q u) (low_rv p t lt) (low_rv q u lu) a.1 in
     let c = same_kind Alone 5 (λ x. refl) (λ x y h. cc) p.rv q.rv (from_rr p t) (from_rr q u) (low_rr p t lt) (low_rr q u lu) b.1 in
     let d = same_kind Shared 6 (λ x. refl) (λ x y h. cc) p.rr q.rr (from_rows p t) (from_rows q u) (low_rows p t lt) (low_rows q u lu) c.1 in
-    let f = same_kind row_line 7 (λ x. refl) row_one p.rows q.rows (from_chosen p t) (from_chosen q u) (low_chosen p t lt) (low_chosen q u lu) d.1 in
+    let f = same_kind row_as_line 7 (λ x. refl) row_one p.rows q.rows (from_chosen p t) (from_chosen q u) (low_chosen p t lt) (low_chosen q u lu) d.1 in
     let g = same_kind Trip 8 (λ x. refl) (λ x y h. cc) p.chosen q.chosen (from_left p t) (from_left q u) (low_left p t lt) (low_left q u lu) f.1 in
     let h = same_kind Out 9 (λ x. refl) (λ x y h. cc) p.left q.left (from_moves p t) (from_moves q u) (low_moves p t lt) (low_moves q u lu) g.1 in
     let i = same_kind Move 10 (λ x. refl) (λ x y h. cc) p.moves q.moves t u lt lu h.1 in
@@ -156,7 +156,7 @@ plan_nested plan =
     let b : List BlockLine = map Late plan.late in
     let c : List BlockLine = map Alone plan.rv in
     let d : List BlockLine = map Shared plan.rr in
-    let r : List BlockLine = map row_line plan.rows in
+    let r : List BlockLine = map row_as_line plan.rows in
     let f : List BlockLine = map Trip plan.chosen in
     let g : List BlockLine = map Out plan.left in
     let h : List BlockLine = map Move plan.moves in
@@ -237,7 +237,7 @@ one_node ids rows few (Ends ms) Closed nx ny e = absurd (cc)
 one_node ids rows few Closed (Branches w s) nx ny e = absurd (cc)
 one_node ids rows few Closed (Ends ns) nx ny e = absurd (cc)
 
-node_place : (rows : List RowLine) (x : Node) → place_of (tree_line rows x) ≡ 14
+node_place : (rows : List RowLine) (x : Node) → kind_place (tree_line rows x) ≡ 14
 node_place rows (Branches v r) = refl
 node_place rows (Ends ms) = refl
 node_place rows Closed = refl

@@ -8,15 +8,15 @@ use Rattle.std.proofs.lemmas.List.Elements.{All-head, All-tail}
 use Rattle.batch_snapshot.specs.Batch.{Batch}
 use Rattle.batch_snapshot.specs.Kept.{IsKept}
 use Rattle.batch_solver.specs.Outcome.{IsGoodAnswer, IsGoodOutcome}
-use Rattle.block_outcome.specs.Told.{HasTrips, Tells, TellsNone}
+use Rattle.block_outcome.specs.Told.{HasTrips, TellsOutcome, TellsNone}
 use Rattle.outcome_check.specs.Posed.{AreLimitsOf}
-use Rattle.outcome_check.specs.Verdict.{Meets, AnswersAt, place_of}
+use Rattle.outcome_check.specs.Verdict.{Meets, AnswersAt, point_place}
 use Rattle.outcome_check.specs.declared.verdict.Point.{Point}
 use Rattle.outcome_check.specs.declared.verdict.Point.TheVariants as point
 use Rattle.outcome_check.proofs.lemmas.GoodLemmas.{posed_of, good_graphs, good_holds}
 use Rattle.pool_base.specs.Times.{travel_time}
 use Rattle.report_lines.specs.Block.{BlockFails}
-use Rattle.report_lines.specs.Outcome.{row_line, lines_of_answer, lines_of}
+use Rattle.report_lines.specs.Outcome.{row_as_line, lines_of_answer, lines_of}
 use Rattle.report_lines.specs.declared.block.BlockFault.{BlockFault}
 use Rattle.report_lines.specs.declared.block.BlockFault.TheVariants as fault
 use Rattle.report_lines.specs.declared.block_line.BlockLine.{BlockLine}
@@ -120,10 +120,10 @@ lines_trips batch outcome few =
         let rv = behind_of HasFewRiders (map Late plan.late) (from_rv p t) late in
         let rr = behind_of HasFewRiders (map Alone plan.rv) (from_rr p t) rv in
         let rows = behind_of HasFewRiders (map Shared plan.rr) (from_rows p t) rr in
-        let told = front_of HasFewRiders (map row_line plan.rows) (from_chosen p t) rows in
+        let told = front_of HasFewRiders (map row_as_line plan.rows) (from_chosen p t) rows in
         λ k d within.
-        let long = length-map plan.rows row_line in
-        subst HasFewRiders (get_or-map row_line plan.rows k d (row_line d) within) (told k (row_line d) (omega (arith, long, within)))
+        let long = length-map plan.rows row_as_line in
+        subst HasFewRiders (get_or-map row_as_line plan.rows k d (row_as_line d) within) (told k (row_as_line d) (omega (arith, long, within)))
 
 -- of two lists of points the first that fails
 one_first : (P : Point → Type 0) (p q : ℕ) → FailsFirst P p → FailsFirst P q → p ≡ q
@@ -135,7 +135,7 @@ one_first P p q a b = ⊎_elim
     before : (n m : ℕ) → FailsFirst P n → FailsFirst P m → n < m → ⊥
     before n m x y less = let i = x.at in let j = y.at in x.first.1 (y.first.0 x.point (omega (arith, i, j, less)))
 
-at_answer : (P : Point → Type 0) (q : Point) → place_of q ≡ 0 → P point.Answer → P q
+at_answer : (P : Point → Type 0) (q : Point) → point_place q ≡ 0 → P point.Answer → P q
 at_answer P point.Answer e holds = holds
 at_answer P q e holds = absurd (omega arith)
 
@@ -148,7 +148,7 @@ one_early P Q p q a b low high there back = ⊎_elim
     before : (R S : Point → Type 0) (n m : ℕ) → FailsFirst R n → FailsFirst S m → m ≤ 1 → (S point.Answer → R point.Answer) → n < m → ⊥
     before R S n m x y few to less =
         let i = x.at in let j = y.at in
-        let zero : place_of x.point ≡ 0 = omega (arith, i, few, less) in
+        let zero : point_place x.point ≡ 0 = omega (arith, i, few, less) in
         x.first.1 (at_answer R x.point zero (to (y.first.0 point.Answer (omega (arith, j, less)))))
 
 -- a plan with rows of more riders than a trip is no overflow
@@ -173,7 +173,7 @@ module _ (settings : Settings) (roads : Roads) (batch : Batch) (kept : IsKept ba
 
 -- one is judged by what its lines tell, the other by what the bare lines tell
 module _ (settings : Settings) (roads : Roads) (batch : Batch) (kept : IsKept batch) (text : List ℕ) (n m : ℕ) (one : BeginsWithWrong settings roads batch text n) (two : BeginsWithWrong settings roads batch text m)
-    (tells : Tells (vehicle_ids batch) one.lines one.told one.outcome) (none : TellsNone two.lines) (bared : Tells (vehicle_ids batch) (bare two.lines) two.told two.outcome) where
+    (tells : TellsOutcome (vehicle_ids batch) one.lines one.told one.outcome) (none : TellsNone two.lines) (bared : TellsOutcome (vehicle_ids batch) (bare two.lines) two.told two.outcome) where
   same_block : one.lines ≡ two.lines
   same_block = (block_of_one text one.lines two.lines one.rest two.rest one.block two.block).0
 

@@ -3,7 +3,7 @@ use Rattle.batch_snapshot.specs.Batch.{Batch}
 use Rattle.batch_solver.specs.Outcome.{IsGoodOutcome}
 use Rattle.dispatch_report.specs.Block.{block_lines}
 use Rattle.dispatch_report.specs.Lines.{lines_text}
-use Rattle.outcome_check.specs.Verdict.{Meets, IsVerdictOf, place_of}
+use Rattle.outcome_check.specs.Verdict.{Meets, IsVerdictOf, point_place}
 use Rattle.outcome_check.specs.declared.verdict.Point.{Point}
 use Rattle.outcome_check.specs.declared.verdict.Verdict.TheVariants.{Fails}
 use Rattle.report_lines.specs.Block.{IsBlock, BlockFails}
@@ -12,7 +12,7 @@ use Rattle.report_lines.specs.declared.block_line.BlockLine.{BlockLine}
 use Rattle.request_book.specs.declared.outcome.Outcome.{Outcome}
 use Rattle.rider_limits.specs.declared.settings.Settings.{Settings}
 use Rattle.road_network.specs.Roads.{Roads}
-use Rattle.block_audit.specs.Fits.{Fits}
+use Rattle.block_audit.specs.Fits.{FitsTypes}
 use Rattle.block_audit.specs.Judged.{IsJudgedAs}
 use Rattle.block_audit.specs.declared.refusal.BlockRefusal.{BlockRefusal}
 use Rattle.block_audit.specs.declared.refusal.BlockRefusal.TheVariants.{OutOfMemory, Cut, Form, Wrong}
@@ -22,7 +22,7 @@ use Rattle.block_audit.specs.declared.refusal.BlockRefusal.TheVariants.{OutOfMem
 -- the text begins with the block of a good outcome of this batch
 pub record BeginsWithGood (settings : Settings) (roads : Roads) (batch : Batch) (text : List ℕ) (outcome : Outcome) (rest : List ℕ) : Type 0 where
   pub whole : text ≡ lines_text (block_lines true batch.number outcome) ++ rest
-  pub fits : Fits batch.number outcome
+  pub fits : FitsTypes batch.number outcome
   pub good : IsGoodOutcome settings roads batch outcome
 
 -- the number that is told is the batch's, and the point holds of the outcome
@@ -32,7 +32,7 @@ MeetsAs settings roads batch told outcome q = (told ≡ batch.number) × Meets s
 -- the point of this place is the first that fails
 pub record FailsFirst (Holds' : Point → Type 0) (place : ℕ) : Type 0 where
   pub point : Point
-  pub at : place_of point ≡ place
+  pub at : point_place point ≡ place
   pub first : IsVerdictOf Holds' (Fails point)
 
 -- the text begins with a block, and this is the first point that fails of the outcome as which its lines are judged

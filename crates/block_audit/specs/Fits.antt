@@ -6,5 +6,5 @@ use Rattle.report_lines.specs.Outcome.{lines_of}
 use Rattle.request_book.specs.declared.outcome.Outcome.{Outcome}
 
 -- each number of the outcome's lines is within its type
-abbrev pub Fits : ℕ → Outcome → Type 0
-Fits batch outcome = All IsBlockLine (lines_of batch outcome)
+abbrev pub FitsTypes : ℕ → Outcome → Type 0
+FitsTypes batch outcome = All IsBlockLine (lines_of batch outcome)

@@ -1,7 +1,7 @@
 -- What the lines of a block are judged as.
 use Rattle.std.specs.Prelude.{ℕ, ◌⊎◌, List, [], ◌∷◌, length, nat_le, if◌then◌else◌}
 use Rattle.std.specs.List.{flat_map}
-use Rattle.block_outcome.specs.Told.{Tells, TellsNone}
+use Rattle.block_outcome.specs.Told.{TellsOutcome, TellsNone}
 use Rattle.report_lines.specs.declared.block_line.BlockLine.{BlockLine}
 use Rattle.report_lines.specs.declared.block_line.BlockLine.TheVariants.{Row, Nodes, Branch, Leaf, Dead}
 use Rattle.report_lines.specs.declared.row.RowText.{RowText}
@@ -27,4 +27,4 @@ bare lines = flat_map bare_line lines
 -- lines are judged as the outcome that they tell, its vehicles numbered in the order of these ids; where they tell none,
 -- as the one that the bare lines tell
 abbrev pub IsJudgedAs : List ℕ → List BlockLine → ℕ → Outcome → Type 0
-IsJudgedAs ids lines batch outcome = Tells ids lines batch outcome ⊎ (TellsNone lines × Tells ids (bare lines) batch outcome)
+IsJudgedAs ids lines batch outcome = TellsOutcome ids lines batch outcome ⊎ (TellsNone lines × TellsOutcome ids (bare lines) batch outcome)

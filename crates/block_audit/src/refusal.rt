@@ -1,7 +1,7 @@
 ghost use Rattle.std.specs.Prelude.{◌≡◌};
 ghost use Rattle.block_audit.specs.declared.refusal.BlockRefusal.TheVariants.{OutOfMemory as NoMemory};
 ghost use Rattle.block_audit.specs.work.Block.{refusal_for};
-ghost use Rattle.outcome_check.specs.Verdict.{place_of};
+ghost use Rattle.outcome_check.specs.Verdict.{point_place};
 
 use outcome_check::Point;
 use pool_base::OutOfMemory;
@@ -40,7 +40,7 @@ pub(crate) fn refusal_of(fault: BlockFault) -> BlockRefusal
 
 /// The place of a point among the others.
 pub(crate) fn number_of(point: Point) -> u8
-    ensures { result ≡ place_of point }
+    ensures { result ≡ point_place point }
 {
     match point {
         Point::Answer => 0,

@@ -5,8 +5,8 @@ use Rattle.std.proofs.lemmas.List.{length-map}
 use Rattle.std.proofs.lemmas.Option.{slice_get-map}
 use Rattle.plan_rules.specs.declared.node.Node.{Node}
 use Rattle.plan_rules.specs.declared.node.Node.TheVariants.{Branch as Branches, Leaf as Ends, Dead as Closed}
-use Rattle.report_lines.specs.Order.{place_of}
-use Rattle.report_lines.specs.Outcome.{row_line, tree_line, lines_of_answer}
+use Rattle.report_lines.specs.Order.{kind_place}
+use Rattle.report_lines.specs.Outcome.{row_as_line, tree_line, lines_of_answer}
 use Rattle.report_lines.specs.declared.block_line.BlockLine.{BlockLine}
 use Rattle.report_lines.specs.declared.block_line.BlockLine.TheVariants.{Lapsed, Late, Alone, Shared, Row, Trip, Out, Move, Nodes, Branch, End}
 use Rattle.request_book.specs.declared.outcome.Answer.TheVariants.{Planned as Plan}
@@ -24,16 +24,16 @@ abbrev vehicle_told : BlockLine → ℕ
 vehicle_told (Row row) = row.vehicle
 vehicle_told _ = 0
 
-vehicles_told : (rows : List RowLine) → map vehicle_told (map row_line rows) ≡ map (λ r. r.vehicle) rows
+vehicles_told : (rows : List RowLine) → map vehicle_told (map row_as_line rows) ≡ map (λ r. r.vehicle) rows
 vehicles_told [] = refl
 vehicles_told (row ∷ rows) = ap (λ l. row.vehicle ∷ l) (vehicles_told rows)
 
-same_vehicles : (one other : List RowLine) → map row_line one ≡ map row_line other → (k : ℕ) → option_map (λ (r : RowLine). r.vehicle) (slice_get one k) ≡ option_map (λ (r : RowLine). r.vehicle) (slice_get other k)
+same_vehicles : (one other : List RowLine) → map row_as_line one ≡ map row_as_line other → (k : ℕ) → option_map (λ (r : RowLine). r.vehicle) (slice_get one k) ≡ option_map (λ (r : RowLine). r.vehicle) (slice_get other k)
 same_vehicles one other e k =
     let m : map (λ (r : RowLine). r.vehicle) one ≡ map (λ (r : RowLine). r.vehicle) other = sym (vehicles_told one) ∙ ap (map vehicle_told) e ∙ vehicles_told other in
     sym (slice_get-map (λ (r : RowLine). r.vehicle) one k) ∙ ap (λ l. slice_get l k) m ∙ slice_get-map (λ (r : RowLine). r.vehicle) other k
 
-same_node : (one other : List RowLine) → map row_line one ≡ map row_line other → (node : Node) → tree_line one node ≡ tree_line other node
+same_node : (one other : List RowLine) → map row_as_line one ≡ map row_as_line other → (node : Node) → tree_line one node ≡ tree_line other node
 same_node one other e (Branches vehicle row) = ap (λ v. tree_of v) (same_vehicles one other e row)
   where
     tree_of : Option ℕ → BlockLine
@@ -41,11 +41,11 @@ same_node one other e (Branches vehicle row) = ap (λ v. tree_of v) (same_vehicl
 same_node one other e (Ends multipliers) = refl
 same_node one other e Closed = refl
 
-same_tree : (one other : List RowLine) → map row_line one ≡ map row_line other → (tree : List Node) → map (tree_line one) tree ≡ map (tree_line other) tree
+same_tree : (one other : List RowLine) → map row_as_line one ≡ map row_as_line other → (tree : List Node) → map (tree_line one) tree ≡ map (tree_line other) tree
 same_tree one other e [] = refl
 same_tree one other e (node ∷ nodes) = ap (λ l. l ∷ map (tree_line one) nodes) (same_node one other e node) ∙ ap (λ ls. tree_line other node ∷ ls) (same_tree one other e nodes)
 
-tree_place : (rows : List RowLine) (node : Node) → place_of (tree_line rows node) ≡ 14
+tree_place : (rows : List RowLine) (node : Node) → kind_place (tree_line rows node) ≡ 14
 tree_place rows (Branches vehicle row) = refl
 tree_place rows (Ends multipliers) = refl
 tree_place rows Closed = refl
@@ -74,7 +74,7 @@ next_choice o s low =
 
 next_graphs : (o : Graphs) (s : List BlockLine) → 7 < next_place s → 2 < next_place (graphs_lines o ++ s)
 next_graphs o s low =
-    let s4 : List BlockLine = map row_line o.rows ++ s in
+    let s4 : List BlockLine = map row_as_line o.rows ++ s in
     let s3 : List BlockLine = map Shared o.rr ++ s4 in
     let s2 : List BlockLine = map Alone o.rv ++ s3 in
     let s1 : List BlockLine = map Late o.late ++ s2 in
@@ -82,8 +82,8 @@ next_graphs o s low =
     let q2 : List BlockLine = map Late o.late in
     let q3 : List BlockLine = map Alone o.rv in
     let q4 : List BlockLine = map Shared o.rr in
-    let q5 : List BlockLine = map row_line o.rows in
-    let n4 : 2 < next_place s4 = next_kind row_line 2 7 (λ x. refl) (omega arith) o.rows s (omega arith) in
+    let q5 : List BlockLine = map row_as_line o.rows in
+    let n4 : 2 < next_place s4 = next_kind row_as_line 2 7 (λ x. refl) (omega arith) o.rows s (omega arith) in
     let n3 : 2 < next_place s3 = next_kind Shared 2 6 (λ x. refl) (omega arith) o.rr s4 n4 in
     let n2 : 2 < next_place s2 = next_kind Alone 2 5 (λ x. refl) (omega arith) o.rv s3 n3 in
     let n1 : 2 < next_place s1 = next_kind Late 2 4 (λ x. refl) (omega arith) o.late s2 n2 in
@@ -110,7 +110,7 @@ plan_low plan =
 
 -- a plan with these lines has the same rows, and its numbers and tree are behind the choice
 record Known (g : Graphs) (counted : List BlockLine) (plan : Planned) : Type 0 where
-  rows : map row_line g.rows ≡ map row_line plan.rows
+  rows : map row_as_line g.rows ≡ map row_as_line plan.rows
   tail : counted ≡ tail_of plan
 
 known : (g : Graphs) (lines chosen counted : List BlockLine) → AreOnlyGraphs lines g chosen → IsBehindChoice chosen counted → (plan : Planned) → All (λ row. length row.riders.items ≤ 6) plan.rows → lines ≡ lines_of_answer (Plan plan) ++ End ∷ [] → Known g counted plan

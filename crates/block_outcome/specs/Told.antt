@@ -27,7 +27,7 @@ AreNumbered ids Overflow = Unit {0}
 AreNumbered ids (Plan plan) = All (IsNumbered ids plan.rows) plan.tree
 
 -- the lines are those of the outcome of this batch, whose branches tell the vehicles with these ids
-pub record Tells (ids : List ℕ) (lines : List BlockLine) (batch : ℕ) (outcome : Outcome) : Type 0 where
+pub record TellsOutcome (ids : List ℕ) (lines : List BlockLine) (batch : ℕ) (outcome : Outcome) : Type 0 where
   pub whole : lines ≡ lines_of batch outcome
   pub numbered : AreNumbered ids outcome.answer
 

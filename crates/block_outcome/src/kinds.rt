@@ -1,6 +1,6 @@
 ghost use Rattle.std.specs.Prelude.{◌≡◌, true, IfSome, IfNone};
 ghost use Rattle.block_outcome.specs.work.Exact.{TellsNo, is_trip};
-ghost use Rattle.report_lines.specs.Outcome.{row_line};
+ghost use Rattle.report_lines.specs.Outcome.{row_as_line};
 ghost use Rattle.report_lines.specs.declared.block_line.BlockLine.TheVariants.{Expired as ExpiredLine, Lapsed as LapsedLine, Late as LateLine, Alone as AloneLine, Shared as SharedLine, Trip as TripLine, Out as OutLine, Move as MoveTold, Row as RowTold};
 
 use crate::section::Kind;
@@ -114,7 +114,7 @@ pub(crate) struct Row;
 impl Kind for Row {
     type Item = RowLine;
 
-    ghost told_by = { λ _ row. row_line row };
+    ghost told_by = { λ _ row. row_as_line row };
 
     ghost fits = { λ _ row. is_trip row };
 
@@ -182,8 +182,8 @@ impl Kind for Move {
 
 /// The row that a line tells; `None` where it has more riders than a trip.
 fn row_of(row: &RowText) -> Option<RowLine>
-    ensures told { IfSome result (λ x. RowTold row.now ≡ row_line x) }
-    ensures none { IfNone result (TellsNo row_line is_trip (RowTold row.now)) }
+    ensures told { IfSome result (λ x. RowTold row.now ≡ row_as_line x) }
+    ensures none { IfNone result (TellsNo row_as_line is_trip (RowTold row.now)) }
 {
     let mut riders = ArrayVec::new();
     match riders.try_extend_from_slice(row.riders.as_slice()) {

@@ -1,7 +1,7 @@
 ghost use Rattle.std.specs.Prelude.{◌≡◌, ◌++◌, ◌∷◌, [], IfOk, IfSome, IfNone, MatchOption};
 ghost use Rattle.report_lines.specs.Outcome.{lines_of_answer};
 ghost use Rattle.report_lines.specs.declared.block_line.BlockLine.TheVariants.{End as EndLine};
-ghost use Rattle.block_outcome.specs.Told.{Tells, TellsNone, AreNumbered};
+ghost use Rattle.block_outcome.specs.Told.{TellsOutcome, TellsNone, AreNumbered};
 ghost use Rattle.block_outcome.specs.work.Exact.{TellsNoAnswer};
 
 use crate::counts::{batch_first, is_overflow};
@@ -19,7 +19,7 @@ pub fn outcome_told(
     lines: &[BlockLine],
     ids: &[VehicleId],
 ) -> Result<Option<(u64, Outcome)>, OutOfMemory>
-    ensures { IfOk result (λ told. MatchOption told (TellsNone lines.now) (λ t. Tells ids.now lines.now t.0 t.1)) }
+    ensures { IfOk result (λ told. MatchOption told (TellsNone lines.now) (λ t. TellsOutcome ids.now lines.now t.0 t.1)) }
 {
     let Some((batch, after)) = batch_first(lines) else {
         return Ok(None);

@@ -11,7 +11,7 @@ use Rattle.entry_lines.specs.work.Told.{Told}
 use Rattle.entry_lines.proofs.ToldLemmas.{no_number}
 use Rattle.report_lines.specs.Ids.{IsId}
 use Rattle.report_lines.specs.Reading.{BeginsWith, BeginsWithNone, ends_number}
-use Rattle.report_lines.specs.Both.{both, BothAre}
+use Rattle.report_lines.specs.Both.{both_texts, BothAre}
 use Rattle.report_lines.proofs.lemmas.ReadingLemmas.{EndsOnce, both_once, both_none_first, both_none_second, numbered_once, pair_once, spaced_apart}
 use Rattle.request_book.specs.declared.command.Command.TheVariants.{Submit, Cancel, Report, Pickup, Dropoff, Seal, Close}
 use Rattle.request_book.specs.declared.outcome.Answer.TheVariants.{Overflow}
@@ -109,18 +109,18 @@ module _ (text : List ℕ) (persons : ℕ) (after : List ℕ) (b : BeginsWith sp
 -- three numbers, and four
 pub three_once : (words : List ℕ) → EndsOnce (three_text words) AreThree
 three_once words =
-    both_once (both (numbered words) spaced) (BothAre IsId IsId) spaced IsId spaced_apart (pair_once words 1000000000 1000000000 (omega arith) (omega arith)) (numbered_once (codes " ") 1000000000 (omega arith))
+    both_once (both_texts (numbered words) spaced) (BothAre IsId IsId) spaced IsId spaced_apart (pair_once words 1000000000 1000000000 (omega arith) (omega arith)) (numbered_once (codes " ") 1000000000 (omega arith))
 
 pub four_once : EndsOnce four_text AreFour
 four_once = both_once (three_text (codes "submit ")) AreThree spaced IsId spaced_apart (three_once (codes "submit ")) (numbered_once (codes " ") 1000000000 (omega arith))
 
 module _ (words text : List ℕ) where
-  pub three_no_pair : BeginsWithNone (both (numbered words) spaced) (BothAre IsId IsId) text → BeginsWithNone (three_text words) AreThree text
-  three_no_pair = both_none_first (both (numbered words) spaced) (BothAre IsId IsId) spaced IsId spaced_apart text
+  pub three_no_pair : BeginsWithNone (both_texts (numbered words) spaced) (BothAre IsId IsId) text → BeginsWithNone (three_text words) AreThree text
+  three_no_pair = both_none_first (both_texts (numbered words) spaced) (BothAre IsId IsId) spaced IsId spaced_apart text
 
-  pub three_no_third : (pair : ℕ × ℕ) (after : List ℕ) → BeginsWith (both (numbered words) spaced) (BothAre IsId IsId) text pair after → BeginsWithNone spaced IsId after → BeginsWithNone (three_text words) AreThree text
+  pub three_no_third : (pair : ℕ × ℕ) (after : List ℕ) → BeginsWith (both_texts (numbered words) spaced) (BothAre IsId IsId) text pair after → BeginsWithNone spaced IsId after → BeginsWithNone (three_text words) AreThree text
   three_no_third pair after =
-      both_none_second (both (numbered words) spaced) (BothAre IsId IsId) spaced IsId spaced_apart text pair after (pair_once words 1000000000 1000000000 (omega arith) (omega arith))
+      both_none_second (both_texts (numbered words) spaced) (BothAre IsId IsId) spaced IsId spaced_apart text pair after (pair_once words 1000000000 1000000000 (omega arith) (omega arith))
 
 module _ (text : List ℕ) where
   pub four_no_ids : BeginsWithNone (three_text (codes "submit ")) AreThree text → BeginsWithNone four_text AreFour text

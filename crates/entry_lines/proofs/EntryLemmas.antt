@@ -9,7 +9,7 @@ use Rattle.entry_lines.specs.work.Commands.{told_text, IsTold}
 use Rattle.entry_lines.specs.work.Told.{Told}
 use Rattle.entry_lines.proofs.ToldLemmas.{no_head, tail_told}
 use Rattle.report_lines.specs.Reading.{BeginsWith, BeginsWithNone, ends_number}
-use Rattle.report_lines.specs.Both.{both, BothAre}
+use Rattle.report_lines.specs.Both.{both_texts, BothAre}
 use Rattle.report_lines.proofs.lemmas.ReadingLemmas.{EndsOnce, decimal_once, numbered_once}
 use Rattle.request_book.specs.declared.command.Command.{Command}
 use Rattle.request_book.specs.declared.journal.Entry.{Entry}
@@ -24,7 +24,7 @@ spaced_told_ends told = refl
 
 -- a lane, and what stands behind it
 abbrev laned : ℕ × (Command × Reply) → List ℕ
-laned = both spaced spaced_told
+laned = both_texts spaced spaced_told
 
 abbrev IsLaned : ℕ × (Command × Reply) → Type 0
 IsLaned = BothAre (λ n. n ≤ 255) IsTold
@@ -35,7 +35,7 @@ laned_ends x = refl
 
 -- an entry's line, cut from the front
 abbrev line_text : ℕ × (ℕ × (Command × Reply)) → List ℕ
-line_text = both decimal laned
+line_text = both_texts decimal laned
 
 abbrev IsLine : ℕ × (ℕ × (Command × Reply)) → Type 0
 IsLine = BothAre (λ n. n ≤ 18446744073709551615) IsLaned

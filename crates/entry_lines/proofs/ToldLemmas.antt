@@ -6,20 +6,20 @@ use Rattle.std.proofs.lemmas.Bool.{and_parts}
 use Rattle.std.proofs.lemmas.Fmt.{decimal_is_IsNumeral_wide}
 use Rattle.entry_lines.specs.work.Told.{Told}
 use Rattle.report_lines.specs.Reading.{BeginsWith, BeginsWithNone, ends_number}
-use Rattle.report_lines.specs.Both.{both, BothAre}
+use Rattle.report_lines.specs.Both.{both_texts, BothAre}
 use Rattle.report_lines.proofs.lemmas.NumeralLemmas.{decimal_digits}
 use Rattle.report_lines.proofs.lemmas.ReadingLemmas.{EndsOnce, head_none, head_and_tail}
 
 module _ {X Y : Type 0} (t : X → List ℕ) (Is : X → Type 0) (u : Y → List ℕ) (Us : Y → Type 0) (text : List ℕ) where
-  pub no_head : ((y : Y) → ends_number (u y) ≡ true) → BeginsWithNone t Is text → Told (both t u) (BothAre Is Us) text → ⊥
+  pub no_head : ((y : Y) → ends_number (u y) ≡ true) → BeginsWithNone t Is text → Told (both_texts t u) (BothAre Is Us) text → ⊥
   no_head ends none (p, is, e) = head_none t Is u text none p.0 p.1 is.0 (ends p.1) e
 
-  pub tail_told : ((y : Y) → ends_number (u y) ≡ true) → EndsOnce t Is → (x : X) (after : List ℕ) → BeginsWith t Is text x after → Told (both t u) (BothAre Is Us) text → Told u Us after
+  pub tail_told : ((y : Y) → ends_number (u y) ≡ true) → EndsOnce t Is → (x : X) (after : List ℕ) → BeginsWith t Is text x after → Told (both_texts t u) (BothAre Is Us) text → Told u Us after
   tail_told ends once x after b (p, is, e) =
       let there : BeginsWith t Is text p.0 (u p.1) = record { whole = e; lawful = is.0; ends = ends p.1 } in
       (p.1, is.1, (once text x p.0 after (u p.1) b there).1)
 
-  pub both_told : (x : X) (after : List ℕ) → BeginsWith t Is text x after → Told u Us after → Told (both t u) (BothAre Is Us) text
+  pub both_told : (x : X) (after : List ℕ) → BeginsWith t Is text x after → Told u Us after → Told (both_texts t u) (BothAre Is Us) text
   both_told x after b (y, is, e) = ((x, y), (b.lawful, is), head_and_tail t Is u text x after y b e)
 
 -- what begins with no digit begins with no number

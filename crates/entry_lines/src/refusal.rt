@@ -2,7 +2,7 @@ ghost use Rattle.std.specs.Prelude.{◌≡◌, ◌≢◌, ℕ, ◌≤◌, ◌<�
 ghost use Rattle.dispatch_report.specs.Entry.{refusal_text, rider_status_text};
 ghost use Rattle.entry_lines.specs.Reply.{IsRefusal};
 ghost use Rattle.entry_lines.specs.work.Replies.{IsWordRefusal, IsNumberRefusal, IsEndedRefusal, IsNotPromised, IsNotThisBatch, IsAnyStatus};
-ghost use Rattle.report_lines.specs.Reading.{Reads};
+ghost use Rattle.report_lines.specs.Reading.{IsReadAs};
 
 use crate::ids::{ID_MOST, second, vehicle};
 use batch_snapshot::Promise;
@@ -11,7 +11,7 @@ use request_book::{BookRefusal, Status};
 
 /// A refusal; what its status has beside its word is 0.
 pub(crate) fn read_refusal(text: &[u8]) -> Option<BookRefusal>
-    ensures { Reads refusal_text IsRefusal text.now result }
+    ensures { IsReadAs refusal_text IsRefusal text.now result }
 {
     if let Some(refusal) = read_word_refusal(text) {
         return Some(refusal);
@@ -30,7 +30,7 @@ pub(crate) fn read_refusal(text: &[u8]) -> Option<BookRefusal>
 
 /// A refusal that is words alone.
 fn read_word_refusal(text: &[u8]) -> Option<BookRefusal>
-    ensures { Reads refusal_text IsWordRefusal text.now result }
+    ensures { IsReadAs refusal_text IsWordRefusal text.now result }
 {
     if is_words(text, b"duplicate-rider") {
         return Some(BookRefusal::DuplicateRider);
@@ -64,7 +64,7 @@ fn read_word_refusal(text: &[u8]) -> Option<BookRefusal>
 
 /// A refusal of one number.
 fn read_number_refusal(text: &[u8]) -> Option<BookRefusal>
-    ensures { Reads refusal_text IsNumberRefusal text.now result }
+    ensures { IsReadAs refusal_text IsNumberRefusal text.now result }
 {
     if let Some(n) = read_numbered(text, b"is-aboard ", ID_MOST) {
         return Some(BookRefusal::IsAboard {
@@ -85,7 +85,7 @@ fn read_number_refusal(text: &[u8]) -> Option<BookRefusal>
 
 /// A refusal that tells a status.
 fn read_ended(text: &[u8]) -> Option<BookRefusal>
-    ensures { Reads refusal_text IsEndedRefusal text.now result }
+    ensures { IsReadAs refusal_text IsEndedRefusal text.now result }
 {
     let Some(word) = words_first(text, b"ended ") else {
         return None;
@@ -98,7 +98,7 @@ fn read_ended(text: &[u8]) -> Option<BookRefusal>
 
 /// A status by its word, which tells no promise and no vehicle: these are 0.
 fn read_status(word: &[u8]) -> Option<Status>
-    ensures { Reads rider_status_text IsAnyStatus word.now result }
+    ensures { IsReadAs rider_status_text IsAnyStatus word.now result }
 {
     if is_words(word, b"waiting") {
         return Some(Status::Waiting);
@@ -126,7 +126,7 @@ fn read_status(word: &[u8]) -> Option<Status>
 
 /// A refusal that tells who holds the promise, or `none`.
 fn read_not_promised(text: &[u8]) -> Option<BookRefusal>
-    ensures { Reads refusal_text IsNotPromised text.now result }
+    ensures { IsReadAs refusal_text IsNotPromised text.now result }
 {
     let Some(after) = words_first(text, b"not-promised") else {
         return None;
@@ -144,7 +144,7 @@ fn read_not_promised(text: &[u8]) -> Option<BookRefusal>
 
 /// A refusal that tells which batch is sealed, or `none`.
 fn read_not_this_batch(text: &[u8]) -> Option<BookRefusal>
-    ensures { Reads refusal_text IsNotThisBatch text.now result }
+    ensures { IsReadAs refusal_text IsNotThisBatch text.now result }
 {
     let Some(after) = words_first(text, b"not-this-batch") else {
         return None;

@@ -3,7 +3,7 @@ ghost use Rattle.dispatch_report.specs.Entry.{reply_text};
 ghost use Rattle.entry_lines.specs.Reply.{IsReply};
 ghost use Rattle.entry_lines.specs.work.Replies.{IsWordReply, spaced_reply};
 ghost use Rattle.entry_lines.specs.work.Told.{Told};
-ghost use Rattle.report_lines.specs.Reading.{Reads};
+ghost use Rattle.report_lines.specs.Reading.{IsReadAs};
 
 use crate::refusal::read_refusal;
 use report_lines::{is_words, read_numbered, words_first};
@@ -22,7 +22,7 @@ pub(crate) fn is_spaced_reply(text: &[u8]) -> bool
 
 /// A reply. A line tells a status by its word alone, so what else a refusal's status has is 0.
 fn read_reply(text: &[u8]) -> Option<Reply>
-    ensures { Reads reply_text IsReply text.now result }
+    ensures { IsReadAs reply_text IsReply text.now result }
 {
     if let Some(reply) = read_word_reply(text) {
         return Some(reply);
@@ -41,7 +41,7 @@ fn read_reply(text: &[u8]) -> Option<Reply>
 
 /// A reply that is a word.
 fn read_word_reply(text: &[u8]) -> Option<Reply>
-    ensures { Reads reply_text IsWordReply text.now result }
+    ensures { IsReadAs reply_text IsWordReply text.now result }
 {
     if is_words(text, b"accepted") {
         return Some(Reply::Accepted);

@@ -19,16 +19,16 @@ use Rattle.outcome_check.specs.declared.verdict.Verdict.{Verdict}
 use Rattle.outcome_check.specs.declared.verdict.Verdict.TheVariants.{Good, Fails}
 
 -- the place of a point among the others
-abbrev pub place_of : Point → ℕ
-place_of point.Answer = 0
-place_of point.Graphs = 1
-place_of point.Late = 2
-place_of point.Trips = 3
-place_of point.Plan = 4
-place_of point.Bound = 5
-place_of point.Tree = 6
-place_of point.Best = 7
-place_of point.Moves = 8
+abbrev pub point_place : Point → ℕ
+point_place point.Answer = 0
+point_place point.Graphs = 1
+point_place point.Late = 2
+point_place point.Trips = 3
+point_place point.Plan = 4
+point_place point.Bound = 5
+point_place point.Tree = 6
+point_place point.Best = 7
+point_place point.Moves = 8
 
 -- the trips are those of a plan of which this holds
 pub record GivesPlanWith (p : Posed) (planned : Planned) (P : List (Option ℕ) → Type 0) : Type 0 where
@@ -60,4 +60,4 @@ Meets settings roads batch outcome q = (outcome.expired ≡ batch.expired) × An
 -- of points of which these hold: all hold; or this one doesn't, and all before it do
 abbrev pub IsVerdictOf : (Point → Type 0) → Verdict → Type 0
 IsVerdictOf Holds' Good = (q : Point) → Holds' q
-IsVerdictOf Holds' (Fails p) = ((q : Point) → place_of q < place_of p → Holds' q) × (Holds' p → ⊥)
+IsVerdictOf Holds' (Fails p) = ((q : Point) → point_place q < point_place p → Holds' q) × (Holds' p → ⊥)

@@ -9,7 +9,7 @@ ghost use Rattle.search_check.specs.Points.{HasValue, IsClose, IsFair};
 ghost use Rattle.stop_orders.specs.Sound.{IsSound};
 ghost use Rattle.trip_graph.specs.Answer.{IsTripGraphOf};
 ghost use Rattle.outcome_check.specs.Points.{GivesTrips};
-ghost use Rattle.outcome_check.specs.Verdict.{Holds, IsVerdictOf, Meets, place_of};
+ghost use Rattle.outcome_check.specs.Verdict.{Holds, IsVerdictOf, Meets, point_place};
 ghost use Rattle.outcome_check.specs.declared.verdict.Point.{Point as OnePoint};
 ghost use Rattle.outcome_check.specs.declared.verdict.Verdict.TheVariants.{Good};
 ghost use Rattle.outcome_check.specs.work.Answers.{AnswersBy};
@@ -173,7 +173,7 @@ fn judge_chosen(
     requires ids { HasOwnIds settled.now }
     requires graph { IsTripGraphOf settings.now (travel_time times.now) settled.now graph.now }
     requires gives { GivesTrips points.now (travel_time times.now) settled.now graph.now plan.now planned.now.chosen }
-    requires before { (q : OnePoint) → place_of q < 4 → Holds settings.now (record { points = points.now; tau = travel_time times.now; settled = settled.now; graph = graph.now; edges = rv.now; pairs = rr.now }) planned.now q }
+    requires before { (q : OnePoint) → point_place q < 4 → Holds settings.now (record { points = points.now; tau = travel_time times.now; settled = settled.now; graph = graph.now; edges = rv.now; pairs = rr.now }) planned.now q }
     ensures { IfOk result (IsVerdictOf (Holds settings.entry.now (record { points = points.entry.now; tau = travel_time times.entry.now; settled = settled.entry.now; graph = graph.entry.now; edges = rv.entry.now; pairs = rr.entry.now }) planned.entry.now)) }
 {
     if !tells_plan(alloc, settled, graph, plan, planned)? {

@@ -8,7 +8,7 @@ use Rattle.entry_lines.specs.declared.next.NextLine.TheVariants.{Done as DoneOf}
 use Rattle.entry_lines.proofs.lemmas.NextLemmas.{one_kind}
 use Rattle.report_lines.specs.Cut.{is_one_line}
 use Rattle.report_lines.proofs.lemmas.OneBlock.{cut_once}
-use Rattle.report_head.specs.Line.{IsFirst}
+use Rattle.report_head.specs.Line.{IsFirstLine}
 use Rattle.report_audit.specs.declared.stop.LineFault.TheVariants as wrong
 use Rattle.report_audit.specs.declared.stop.Stop.{Stop}
 use Rattle.report_audit.specs.declared.stop.Stop.TheVariants.{OutOfMemory, Line, Block}
@@ -18,12 +18,12 @@ use Rattle.report_audit.proofs.NextLemmas.{no_next_between, not_one}
 use Rattle.report_audit.proofs.TextLemmas.{done_one, end-is}
 
 -- a last line, and what follows it
-done_text : (text line after : List ℕ) (x : NextLine) (entries : ℕ) → IsFirst text line after → IsNextLine x line → x ≡ DoneOf entries → text ≡ end_text entries ++ after
+done_text : (text line after : List ℕ) (x : NextLine) (entries : ℕ) → IsFirstLine text line after → IsNextLine x line → x ≡ DoneOf entries → text ≡ end_text entries ++ after
 done_text text line after x entries has form is =
     let told : IsNextLine (DoneOf entries) line = subst (λ (y : NextLine). IsNextLine y line) is form in
     has.whole ∙ ap (λ (l : List ℕ). l ++ 10 ∷ after) told.1 ∙ sym (append_assoc (numbered (codes "done ") entries) (10 ∷ []) after) ∙ ap (λ (t : List ℕ). t ++ after) (sym (end-is entries))
 
-pub end_whole : (text line after : List ℕ) (x : NextLine) (entries : ℕ) → IsFirst text line after → IsNextLine x line → x ≡ DoneOf entries → after ≡ [] → IsEndText text entries
+pub end_whole : (text line after : List ℕ) (x : NextLine) (entries : ℕ) → IsFirstLine text line after → IsNextLine x line → x ≡ DoneOf entries → after ≡ [] → IsEndText text entries
 end_whole text line after x entries has form is none =
     done_text text line after x entries has form is ∙ ap (λ (t : List ℕ). end_text entries ++ t) none ∙ append-nil (end_text entries)
 
@@ -33,7 +33,7 @@ same_behind entries rest low e =
     let one : end_text entries ++ rest ≡ words ++ 10 ∷ rest = ap (λ (t : List ℕ). t ++ rest) (end-is entries) ∙ append_assoc words (10 ∷ []) rest in
     (cut_once words words rest [] (done_one entries low) (done_one entries low) (sym one ∙ e ∙ end-is entries)).1
 
-pub end_behind : (text line after : List ℕ) (x : NextLine) (entries : ℕ) (stop : Stop) → entries < 2 ^ 64 → IsFirst text line after → IsNextLine x line → x ≡ DoneOf entries → IsRestBehind after stop → EndStops text entries stop
+pub end_behind : (text line after : List ℕ) (x : NextLine) (entries : ℕ) (stop : Stop) → entries < 2 ^ 64 → IsFirstLine text line after → IsNextLine x line → x ≡ DoneOf entries → IsRestBehind after stop → EndStops text entries stop
 end_behind text line after x entries stop low has form is behind =
     let whole : text ≡ end_text entries ++ after = done_text text line after x entries has form is in
     record {
@@ -41,12 +41,12 @@ end_behind text line after x entries stop low has form is behind =
       none = λ same. behind.some (same_behind entries after low (sym whole ∙ same));
     }
 
-pub end_match : (text line after : List ℕ) (x : NextLine) (entries : ℕ) (r : Result (Unit {0}) Stop) → entries < 2 ^ 64 → IsFirst text line after → IsNextLine x line → x ≡ DoneOf entries
+pub end_match : (text line after : List ℕ) (x : NextLine) (entries : ℕ) (r : Result (Unit {0}) Stop) → entries < 2 ^ 64 → IsFirstLine text line after → IsNextLine x line → x ≡ DoneOf entries
     → MatchResult r (λ _. after ≡ []) (IsRestBehind after) → MatchResult r (λ _. IsEndText text entries) (EndStops text entries)
 end_match text line after x entries (Ok u) low has form is none = end_whole text line after x entries has form is none
 end_match text line after x entries (Err stop) low has form is behind = end_behind text line after x entries stop low has form is behind
 
-pub end_other : (text line after : List ℕ) (x : NextLine) (entries : ℕ) → entries < 2 ^ 64 → IsFirst text line after → IsNextLine x line → (x ≡ DoneOf entries → ⊥) → EndStops text entries (Line (length text) wrong.Entry)
+pub end_other : (text line after : List ℕ) (x : NextLine) (entries : ℕ) → entries < 2 ^ 64 → IsFirstLine text line after → IsNextLine x line → (x ≡ DoneOf entries → ⊥) → EndStops text entries (Line (length text) wrong.Entry)
 end_other text line after x entries low has form other = record {
   stops = WhereEndStops.before (λ settings roads. (refl, (line, after, has, (x, form), λ follow. other (one_kind x (DoneOf entries) line form (low, follow)))));
   none = λ same.

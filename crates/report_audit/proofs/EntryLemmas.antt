@@ -5,7 +5,7 @@ use Rattle.std.proofs.lemmas.Option.{slice_get_within, get_or_from_slice_get}
 use Rattle.batch_snapshot.specs.Batch.{Batch}
 use Rattle.batch_solver.specs.Outcome.{IsGoodOutcome}
 use Rattle.block_audit.specs.Block.{BeginsWithGood}
-use Rattle.block_audit.specs.Fits.{Fits}
+use Rattle.block_audit.specs.Fits.{FitsTypes}
 use Rattle.dispatch_engine.specs.Lane.{IsCloseOf, IsGoodClose, last_sealed}
 use Rattle.dispatch_engine.specs.Run.{journal_of}
 use Rattle.dispatch_report.specs.Block.{block_lines}
@@ -34,8 +34,8 @@ use Rattle.request_book.proofs.lemmas.BookLemmas.{replies-push}
 use Rattle.rider_limits.specs.declared.settings.Settings.{Settings}
 use Rattle.road_network.specs.Roads.{Roads}
 use Rattle.script_rows.specs.Round.{NumberedLanes, MayStand, lane_at}
-use Rattle.report_head.specs.Line.{IsFirst}
-use Rattle.report_audit.specs.Place.{Place, BeginsRound, MayComeNext, AreAtEnd, position_behind, state_behind}
+use Rattle.report_head.specs.Line.{IsFirstLine}
+use Rattle.report_audit.specs.Place.{Extent, BeginsRound, MayComeNext, AreAtEnd, position_behind, state_behind}
 use Rattle.report_audit.specs.work.Place.{with_entry}
 use Rattle.report_audit.specs.Types.{HasFittingBlock, IsTold}
 use Rattle.report_audit.specs.declared.stop.LineFault.{LineFault}
@@ -99,7 +99,7 @@ module _ (settings : Settings) (roads : Roads) (round : NumberedLanes) (b : Book
   next_of later rest = has_next settings roads round later (journal_of b) text (not_at_end settings roads round b lanes sealed is going) rest
 
   -- a stop at a line
-  pub line_stops : (left : ℕ) (fault : LineFault) → StopsAt settings roads (Place.within round (journal_of b)) text (Line left fault) → StopsWithin settings roads round (journal_of b) text (Line left fault)
+  pub line_stops : (left : ℕ) (fault : LineFault) → StopsAt settings roads (Extent.within round (journal_of b)) text (Line left fault) → StopsWithin settings roads round (journal_of b) text (Line left fault)
   line_stops left fault stops = record {
     stops = stops;
     none = λ other later rest. wrong_is_none settings roads round later (journal_of b) text left fault stops (next_of later rest);
@@ -115,7 +115,7 @@ module _ (settings : Settings) (roads : Roads) (round : NumberedLanes) (b : Book
   gap_stops (Line left fault) gap = line_stops left fault (no_next_within settings roads round (journal_of b) text (Line left fault) gap)
   gap_stops (Block left refused) gap = absurd gap
 
-  module _ (line after : List ℕ) (has : IsFirst text line after) where
+  module _ (line after : List ℕ) (has : IsFirstLine text line after) where
     -- a stop at a line in form that isn't an entry's
     pub other_stops : (x : NextLine) → ((lane : ℕ) → x ≡ EntryOf lane → ⊥) → IsNextLine x line → StopsWithin settings roads round (journal_of b) text (Line (length text) wrong.Entry)
     other_stops x other form = line_stops (length text) wrong.Entry (
@@ -279,7 +279,7 @@ module _ (settings : Settings) (roads : Roads) (round : NumberedLanes) (b : Book
             let first = first_is settings roads round later (journal_of b) text line after h has in
             let found = only_closing h.entry h.comes first.0 in
             let o : Outcome = found.0 in
-            let fits : Fits batch.number o = subst (λ (x : Entry). HasFittingBlock x.command x.reply) found.1 h.fits in
+            let fits : FitsTypes batch.number o = subst (λ (x : Entry). HasFittingBlock x.command x.reply) found.1 h.fits in
             let good : (c : Batch) × ((state_behind settings roads (journal_of b)).sealed ≡ Some c) × IsGoodOutcome settings roads c o =
             subst (λ (x : Entry). IsGoodClose settings roads (state_behind settings roads (journal_of b)) x.command x.reply) found.1 h.good in
             let both : Some good.0 ≡ Some batch = sym good.1 ∙ sealed_behind in
@@ -383,7 +383,7 @@ module _ (settings : Settings) (roads : Roads) (round : NumberedLanes) (b : Book
           }
           -- reading shortens the text
 
-pub shorter : (settings : Settings) (roads : Roads) (round : NumberedLanes) (text line after rest : List ℕ) (block : List ℕ) → IsFirst text line after → after ≡ block ++ rest → length rest < length text
+pub shorter : (settings : Settings) (roads : Roads) (round : NumberedLanes) (text line after rest : List ℕ) (block : List ℕ) → IsFirstLine text line after → after ≡ block ++ rest → length rest < length text
 shorter settings roads round text line after rest block has is =
     let a : length text ≡ length (line ++ 10 ∷ after) = ap length has.whole in
     let c : length after ≡ length (block ++ rest) = ap length is in

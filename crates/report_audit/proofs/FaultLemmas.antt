@@ -15,7 +15,7 @@ use Rattle.rider_limits.specs.declared.settings.Settings.{Settings}
 use Rattle.road_network.specs.Roads.{Roads}
 use Rattle.script_rows.specs.Round.{NumberedLanes}
 use Rattle.report_audit.specs.Fault.{FailsAt, HasFault, IsCut, IsOutOfForm, FailsAsLine, IsWrongBatch, IsWrongLine}
-use Rattle.report_audit.specs.Place.{Place, IsRightUpTo, rounds_so_far}
+use Rattle.report_audit.specs.Place.{Extent, IsRightUpTo, rounds_so_far}
 use Rattle.report_audit.specs.Report.{IsAudited, IsReportOfRun, rounds_text}
 use Rattle.report_audit.specs.declared.fault.AuditFault.TheVariants as fault
 use Rattle.report_audit.specs.declared.fault.Audited.{Audited}
@@ -43,8 +43,8 @@ left_low text read rest left whole at =
     omega (arith, long, at)
 
 module _ (roads : Roads) (vehicles : List Vehicle) (rounds : List NumberedLanes) (workers : ℕ) (text : List ℕ) (settings : Settings) (of : AreOf workers settings) where
-  module _ (place : Place) (read rest : List ℕ) (whole : text ≡ read ++ rest) (right : IsRightUpTo settings roads vehicles rounds place read) where
-    fails_at : (left : ℕ) → left ≡ length rest → (Fails : Settings → Roads → Place → List ℕ → Type 0) → Fails settings roads place rest → FailsAt roads vehicles rounds workers text Fails (line_left text left)
+  module _ (place : Extent) (read rest : List ℕ) (whole : text ≡ read ++ rest) (right : IsRightUpTo settings roads vehicles rounds place read) where
+    fails_at : (left : ℕ) → left ≡ length rest → (Fails : Settings → Roads → Extent → List ℕ → Type 0) → Fails settings roads place rest → FailsAt roads vehicles rounds workers text Fails (line_left text left)
     fails_at left at Fails fails = record {
       settings = settings;
       audited = of;
@@ -88,20 +88,20 @@ module _ (roads : Roads) (vehicles : List Vehicle) (rounds : List NumberedLanes)
     stopped : (stop : Stop) → WhereAllStops settings roads rounds (opening vehicles) behind stop → IsLeftOf text stop × HasFault roads vehicles rounds workers text (fault_of text stop)
     stopped stop (WhereAllStops.between before later made rest all has_read stops) =
         let head : List ℕ = head_text settings roads (length vehicles) in
-        both_at (Place.between later (position_after_run 0 made)) (rounds_so_far settings roads vehicles before made) rest
+        both_at (Extent.between later (position_after_run 0 made)) (rounds_so_far settings roads vehicles before made) rest
         (head_is ∙ ap (λ (t : List ℕ). head ++ t) has_read.printed ∙ sym (append_assoc head (rounds_text before made) rest))
         (record { before = before; made = made; all = all; rounds_made = record { run = has_read.run; told = has_read.told }; position_is = refl; printed = refl }) stop stops
     stopped stop (WhereAllStops.within before later round made j rest all has_read base first begins going stops) =
         let head : List ℕ = head_text settings roads (length vehicles) in
         let so_far : List ℕ = rounds_so_far settings roads vehicles before made in
-        both_at (Place.within round j) (so_far ++ round_text round.number true j) rest
+        both_at (Extent.within round j) (so_far ++ round_text round.number true j) rest
         (head_is ∙ ap (λ (t : List ℕ). head ++ t) has_read.printed ∙ sym (append_assoc head (rounds_text before made) (round_text round.number true j ++ rest)) ∙ sym (append_assoc so_far (round_text round.number true j) rest))
         (record { before = before; later = later; made = made; all = all; rounds_made = record { run = has_read.run; told = has_read.told }; base_is = base; first_is = first; begins = begins; going = going; printed = refl }) stop stops
     stopped stop (WhereAllStops.behind made rest has_read stops) =
         let head : List ℕ = head_text settings roads (length vehicles) in
         let so_far : List ℕ = rounds_so_far settings roads vehicles rounds made in
         let last : List ℕ = end_text (position_after_run 0 made) in
-        both_at Place.finished (so_far ++ last) rest
+        both_at Extent.finished (so_far ++ last) rest
         (head_is ∙ ap (λ (t : List ℕ). head ++ t) has_read.printed ∙ sym (append_assoc head (rounds_text rounds made) (last ++ rest)) ∙ sym (append_assoc so_far last rest))
         (record { made = made; rounds_made = record { run = has_read.run; told = has_read.told }; printed = refl }) stop stops
 

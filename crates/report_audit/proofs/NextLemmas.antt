@@ -29,8 +29,8 @@ use Rattle.request_book.proofs.lemmas.BookLemmas.{applied-book}
 use Rattle.rider_limits.specs.declared.settings.Settings.{Settings}
 use Rattle.road_network.specs.Roads.{Roads}
 use Rattle.script_rows.specs.Round.{NumberedLanes, lane_at}
-use Rattle.report_head.specs.Line.{IsFirst}
-use Rattle.report_audit.specs.Place.{Place, MayComeNext, AreAtEnd, position_behind, state_behind}
+use Rattle.report_head.specs.Line.{IsFirstLine}
+use Rattle.report_audit.specs.Place.{Extent, MayComeNext, AreAtEnd, position_behind, state_behind}
 use Rattle.report_audit.specs.work.Place.{with_entry}
 use Rattle.report_audit.specs.Types.{HasFittingBlock, AreTold}
 use Rattle.report_audit.specs.declared.stop.LineFault.{LineFault}
@@ -101,13 +101,13 @@ module _ (settings : Settings) (roads : Roads) (round : NumberedLanes) (later : 
           }
 
   -- the line that stands first is the next entry's
-  pub first_is : (j : Journal) (text line after : List ℕ) → (h : HasNext j text) → IsFirst text line after
+  pub first_is : (j : Journal) (text line after : List ℕ) → (h : HasNext j text) → IsFirstLine text line after
       → (line ≡ entry_line (position_behind j) h.entry) × (after ≡ lines_text (entry_block true h.entry.command h.entry.reply) ++ h.behind)
   first_is j text line after h has =
       cut_once line (entry_line (position_behind j) h.entry) after (lines_text (entry_block true h.entry.command h.entry.reply) ++ h.behind) has.one (entry_one (position_behind j) h.entry h.comes.line) (sym has.whole ∙ h.printed)
 
   -- where a line is wrong, no run goes on
-  pub wrong_is_none : (j : Journal) (text : List ℕ) (left : ℕ) (fault : LineFault) → StopsAt settings roads (Place.within round j) text (Line left fault) → HasNext j text → ⊥
+  pub wrong_is_none : (j : Journal) (text : List ℕ) (left : ℕ) (fault : LineFault) → StopsAt settings roads (Extent.within round j) text (Line left fault) → HasNext j text → ⊥
   wrong_is_none j text left wrong.Cut stops h =
       not_one (entry_line (position_behind j) h.entry) (lines_text (entry_block true h.entry.command h.entry.reply) ++ h.behind) (subst (λ (t : List ℕ). is_one_line t ≡ true) h.printed stops.1)
   wrong_is_none j text left wrong.Form stops h =
@@ -120,14 +120,14 @@ module _ (settings : Settings) (roads : Roads) (round : NumberedLanes) (later : 
       bad.4 (h.entry, h.comes, first.0)
 
 -- no line in form is a stop at each place that isn't the end
-pub no_next_within : (settings : Settings) (roads : Roads) (round : NumberedLanes) (j : Journal) (text : List ℕ) (stop : Stop) → HasNoNext text stop → StopsAt settings roads (Place.within round j) text stop
+pub no_next_within : (settings : Settings) (roads : Roads) (round : NumberedLanes) (j : Journal) (text : List ℕ) (stop : Stop) → HasNoNext text stop → StopsAt settings roads (Extent.within round j) text stop
 no_next_within settings roads round j text OutOfMemory gap = absurd gap
 no_next_within settings roads round j text (Line left wrong.Cut) gap = gap
 no_next_within settings roads round j text (Line left wrong.Form) gap = (gap.0, (gap.1.0, gap.1.1, gap.1.2, λ f. gap.1.3 f.0 f.1))
 no_next_within settings roads round j text (Line left wrong.Entry) gap = absurd gap
 no_next_within settings roads round j text (Block left refused) gap = absurd gap
 
-pub no_next_between : (settings : Settings) (roads : Roads) (later : List NumberedLanes) (p : ℕ) (text : List ℕ) (stop : Stop) → HasNoNext text stop → StopsAt settings roads (Place.between later p) text stop
+pub no_next_between : (settings : Settings) (roads : Roads) (later : List NumberedLanes) (p : ℕ) (text : List ℕ) (stop : Stop) → HasNoNext text stop → StopsAt settings roads (Extent.between later p) text stop
 no_next_between settings roads later p text OutOfMemory gap = absurd gap
 no_next_between settings roads later p text (Line left wrong.Cut) gap = gap
 no_next_between settings roads later p text (Line left wrong.Form) gap = (gap.0, (gap.1.0, gap.1.1, gap.1.2, λ f. gap.1.3 f.0 f.1))
@@ -192,7 +192,7 @@ module _ (settings : Settings) (roads : Roads) (round : NumberedLanes) (j : Jour
       come_begins round (set lanes e.lane (stand_after (stand_at lanes e.lane) e.reply)) (j.entries ++ e ∷ []) (come_more round lanes j.entries e low come next) e.lane
 
 -- the text of one entry
-pub read_one : (p : ℕ) (e : Entry) (text line after rest : List ℕ) → IsFirst text line after → line ≡ entry_line p e → after ≡ lines_text (entry_block true e.command e.reply) ++ rest
+pub read_one : (p : ℕ) (e : Entry) (text line after rest : List ℕ) → IsFirstLine text line after → line ≡ entry_line p e → after ≡ lines_text (entry_block true e.command e.reply) ++ rest
     → text ≡ entries_text p (e ∷ []) ++ rest
 read_one p e text line after rest has is behind =
     let block : List ℕ = lines_text (entry_block true e.command e.reply) in

@@ -27,8 +27,8 @@ use Rattle.rider_limits.specs.declared.settings.Settings.{Settings}
 use Rattle.road_network.specs.Roads.{Roads}
 use Rattle.script_rows.specs.Round.{NumberedLanes, IsRound, lane_at}
 use Rattle.shared_book.specs.Locked.{sealed_by}
-use Rattle.report_head.specs.Line.{IsFirst}
-use Rattle.report_audit.specs.Place.{Place, AreAtEnd, position_behind, state_behind}
+use Rattle.report_head.specs.Line.{IsFirstLine}
+use Rattle.report_audit.specs.Place.{Extent, AreAtEnd, position_behind, state_behind}
 use Rattle.report_audit.specs.Report.{closes, rounds_text}
 use Rattle.report_audit.specs.Types.{AreTold, JournalsAreTold}
 use Rattle.report_audit.specs.declared.stop.LineFault.TheVariants as wrong
@@ -298,7 +298,7 @@ module _ (settings : Settings) (roads : Roads) (round : NumberedLanes) (old : Bo
               )
 
       by : (stop : Stop) → stop ≢ OutOfMemory → (later : List NumberedLanes) → IsRestOfRounds settings roads (round ∷ later) old.state old.first text
-          → StopsAt settings roads (Place.between (round ∷ later) old.first) text stop → ⊥
+          → StopsAt settings roads (Extent.between (round ∷ later) old.first) text stop → ⊥
       by OutOfMemory other later rest stops = other refl
       by (Line left wrong.Cut) other later rest stops =
           let line = first_line later rest in
@@ -327,7 +327,7 @@ next_start settings roads b new of closed is =
     } in
     subst (IsRoundStart settings roads) (sym is) begin
 
-pub round_line_not : (text line after : List ℕ) (x : NextLine) (number : ℕ) → number < 2 ^ 32 → IsFirst text line after → IsNextLine x line → (x ≡ RoundOf number → ⊥) → IsNoRoundLine text number (Line (length text) wrong.Entry)
+pub round_line_not : (text line after : List ℕ) (x : NextLine) (number : ℕ) → number < 2 ^ 32 → IsFirstLine text line after → IsNextLine x line → (x ≡ RoundOf number → ⊥) → IsNoRoundLine text number (Line (length text) wrong.Entry)
 round_line_not text line after x number low has form other = record {
   low = low;
   stops = λ settings roads round later position number_is. (

@@ -11,7 +11,7 @@ use Rattle.request_book.specs.declared.state.State.{State}
 use Rattle.rider_limits.specs.declared.settings.Settings.{Settings}
 use Rattle.road_network.specs.Roads.{Roads}
 use Rattle.script_rows.specs.Round.{NumberedLanes}
-use Rattle.report_audit.specs.Place.{Place, state_after_rounds}
+use Rattle.report_audit.specs.Place.{Extent, state_after_rounds}
 use Rattle.report_audit.specs.Report.{batches_after, batches_in, rounds_text}
 use Rattle.report_audit.specs.Types.{AreTold, JournalsAreTold}
 use Rattle.report_audit.specs.declared.stop.Stop.{Stop}
@@ -163,7 +163,7 @@ module _ (settings : Settings) (roads : Roads) (s : State) (rounds : List Number
         by : WhereEndStops rest entries stop → WhereAllStops settings roads rounds s text stop
         by (WhereEndStops.before at_line) =
             WhereAllStops.between rounds [] come.made rest (sym (append-nil rounds)) come.has_read
-            (subst (λ (k : ℕ). StopsAt settings roads (Place.between [] k) rest stop) at_end (at_line settings roads))
+            (subst (λ (k : ℕ). StopsAt settings roads (Extent.between [] k) rest stop) at_end (at_line settings roads))
         by (WhereEndStops.behind behind whole left) =
             WhereAllStops.behind come.made behind
             (record { run = come.has_read.run; told = come.has_read.told; printed = come.has_read.printed ∙ ap (λ (t : List ℕ). rounds_text rounds come.made ++ t) (whole ∙ ap (λ (k : ℕ). end_text k ++ behind) at_end) })

@@ -7,7 +7,7 @@ use Rattle.block_audit.specs.declared.refusal.BlockRefusal.{BlockRefusal}
 use Rattle.block_audit.specs.declared.refusal.BlockRefusal.TheVariants as block
 use Rattle.dispatch_report.specs.Entry.{entry_line}
 use Rattle.report_head.specs.Fault.{HeadFails}
-use Rattle.report_head.specs.Line.{IsFirst}
+use Rattle.report_head.specs.Line.{IsFirstLine}
 use Rattle.report_head.specs.Settings.{AreOf}
 use Rattle.report_head.specs.declared.fault.HeadFault.{HeadFault}
 use Rattle.report_head.specs.declared.fault.HeadFault.TheVariants as head
@@ -18,22 +18,22 @@ use Rattle.request_book.specs.declared.reply.Reply.TheVariants.{Closed}
 use Rattle.rider_limits.specs.declared.settings.Settings.{Settings}
 use Rattle.road_network.specs.Roads.{Roads}
 use Rattle.script_rows.specs.Round.{NumberedLanes}
-use Rattle.report_audit.specs.Place.{Place, MayFollow, IsInForm, IsRightUpTo, MayComeNext, position_behind, state_behind}
+use Rattle.report_audit.specs.Place.{Extent, MayFollow, IsInForm, IsRightUpTo, MayComeNext, position_behind, state_behind}
 use Rattle.report_audit.specs.declared.fault.AuditFault.{AuditFault}
 use Rattle.report_audit.specs.declared.fault.AuditFault.TheVariants.{Cut, Form, Head, Entry as WrongEntry, Batch as WrongBatch, OutOfMemory}
 
 -- no whole line follows where one must; behind the last line nothing must
-abbrev pub IsCut : Place → List ℕ → Type 0
-IsCut Place.finished text = (is_one_line text ≡ true) × (text ≢ [])
+abbrev pub IsCut : Extent → List ℕ → Type 0
+IsCut Extent.finished text = (is_one_line text ≡ true) × (text ≢ [])
 IsCut _ text = is_one_line text ≡ true
 
 -- the next line has the form of none that may stand there
-abbrev pub IsOutOfForm : Place → List ℕ → Type 0
-IsOutOfForm place text = (line after : List ℕ) × IsFirst text line after × (IsInForm place line → ⊥)
+abbrev pub IsOutOfForm : Extent → List ℕ → Type 0
+IsOutOfForm place text = (line after : List ℕ) × IsFirstLine text line after × (IsInForm place line → ⊥)
 
 -- the next line is in form, and isn't one with which a run goes on
-abbrev pub IsWrongLine : Settings → Roads → Place → List ℕ → Type 0
-IsWrongLine settings roads place text = (line after : List ℕ) × IsFirst text line after × IsInForm place line × (MayFollow settings roads place line → ⊥)
+abbrev pub IsWrongLine : Settings → Roads → Extent → List ℕ → Type 0
+IsWrongLine settings roads place text = (line after : List ℕ) × IsFirstLine text line after × IsInForm place line × (MayFollow settings roads place line → ⊥)
 
 -- the next line is a close that may come and was answered `closed`, and behind it stands no block of a good outcome
 pub record IsWrongBlock (settings : Settings) (roads : Roads) (round : NumberedLanes) (j : Journal) (text : List ℕ) (refusal : BlockRefusal) : Type 0 where
@@ -41,22 +41,22 @@ pub record IsWrongBlock (settings : Settings) (roads : Roads) (round : NumberedL
   pub after : List ℕ
   pub closing : Entry
   pub batch : Batch
-  pub has : IsFirst text line after
+  pub has : IsFirstLine text line after
   pub comes : MayComeNext settings roads round j closing
   pub line_is : line ≡ entry_line (position_behind j) closing
   pub closed : closing.reply ≡ Closed
   pub sealed : (state_behind settings roads j).sealed ≡ Some batch
   pub refused : Refuses settings roads batch after refusal
 
-abbrev pub IsWrongBatch : BlockRefusal → Settings → Roads → Place → List ℕ → Type 0
-IsWrongBatch refusal settings roads (Place.within round j) text = IsWrongBlock settings roads round j text refusal
+abbrev pub IsWrongBatch : BlockRefusal → Settings → Roads → Extent → List ℕ → Type 0
+IsWrongBatch refusal settings roads (Extent.within round j) text = IsWrongBlock settings roads round j text refusal
 IsWrongBatch refusal settings roads _ text = ⊥
 
 -- behind its head a report is right up to this line, and there it fails
-pub record FailsAt (roads : Roads) (vehicles : List Vehicle) (rounds : List NumberedLanes) (workers : ℕ) (text : List ℕ) (Fails : Settings → Roads → Place → List ℕ → Type 0) (line : ℕ) : Type 0 where
+pub record FailsAt (roads : Roads) (vehicles : List Vehicle) (rounds : List NumberedLanes) (workers : ℕ) (text : List ℕ) (Fails : Settings → Roads → Extent → List ℕ → Type 0) (line : ℕ) : Type 0 where
   pub settings : Settings
   pub audited : AreOf workers settings
-  pub place : Place
+  pub place : Extent
   pub read : List ℕ
   pub rest : List ℕ
   pub whole : text ≡ read ++ rest
@@ -74,7 +74,7 @@ pub record FailsInBlock (roads : Roads) (vehicles : List Vehicle) (rounds : List
   pub fails : FailsAt roads vehicles rounds workers text (IsWrongBatch (refusal lines)) closing
 
 -- this line fails in one way: as a line of the head, as one behind it, or as one of a block
-pub data FailsAsLine (roads : Roads) (vehicles : List Vehicle) (rounds : List NumberedLanes) (workers : ℕ) (text : List ℕ) (of_head : ℕ → HeadFault) (Fails : Place → List ℕ → Type 0) (of_block : ℕ → BlockRefusal) (line : ℕ) : Type 0 where
+pub data FailsAsLine (roads : Roads) (vehicles : List Vehicle) (rounds : List NumberedLanes) (workers : ℕ) (text : List ℕ) (of_head : ℕ → HeadFault) (Fails : Extent → List ℕ → Type 0) (of_block : ℕ → BlockRefusal) (line : ℕ) : Type 0 where
   in_head : HeadFails roads (length vehicles) text (of_head line) → FailsAsLine roads vehicles rounds workers text of_head Fails of_block line
   behind : FailsAt roads vehicles rounds workers text (λ settings roads place rest. Fails place rest) line → FailsAsLine roads vehicles rounds workers text of_head Fails of_block line
   in_block : FailsInBlock roads vehicles rounds workers text of_block line → FailsAsLine roads vehicles rounds workers text of_head Fails of_block line

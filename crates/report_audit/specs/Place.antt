@@ -52,24 +52,24 @@ pub record MayComeNext (settings : Settings) (roads : Roads) (round : NumberedLa
   pub reply : e.reply ≡ (step roads.nodes settings.wait (state_behind settings roads j) e.command).1
 
 -- how far a report is right
-pub data Place : Type 0 where
+pub data Extent : Type 0 where
   -- up to a round that is to begin, or to the last line where none is left; the next entry has this position
-  between : List NumberedLanes → ℕ → Place
+  between : List NumberedLanes → ℕ → Extent
   -- within a round, up to these entries
-  within : NumberedLanes → Journal → Place
+  within : NumberedLanes → Journal → Extent
   -- up to the last line
-  finished : Place
+  finished : Extent
 
 -- the line may stand next
-abbrev pub MayFollow : Settings → Roads → Place → List ℕ → Type 0
-MayFollow settings roads (Place.between [] position) line = line ≡ numbered (codes "done ") position
-MayFollow settings roads (Place.between (r ∷ rs) position) line = line ≡ numbered (codes "round ") r.number
-MayFollow settings roads (Place.within round j) line = (e : Entry) × MayComeNext settings roads round j e × (line ≡ entry_line (position_behind j) e)
-MayFollow settings roads Place.finished line = ⊥
+abbrev pub MayFollow : Settings → Roads → Extent → List ℕ → Type 0
+MayFollow settings roads (Extent.between [] position) line = line ≡ numbered (codes "done ") position
+MayFollow settings roads (Extent.between (r ∷ rs) position) line = line ≡ numbered (codes "round ") r.number
+MayFollow settings roads (Extent.within round j) line = (e : Entry) × MayComeNext settings roads round j e × (line ≡ entry_line (position_behind j) e)
+MayFollow settings roads Extent.finished line = ⊥
 
 -- the line has the form of one that may stand next
-abbrev pub IsInForm : Place → List ℕ → Type 0
-IsInForm Place.finished line = ⊥
+abbrev pub IsInForm : Extent → List ℕ → Type 0
+IsInForm Extent.finished line = ⊥
 IsInForm _ line = (x : NextLine) × IsNextLine x line
 
 -- whole rounds of a run, and their journals
@@ -110,7 +110,7 @@ pub record IsRightWhole (settings : Settings) (roads : Roads) (vehicles : List V
   pub printed : read ≡ rounds_so_far settings roads vehicles rounds made ++ end_text (position_after_run 0 made)
 
 -- a text is right up to its end, and this is the place
-abbrev pub IsRightUpTo : Settings → Roads → List Vehicle → List NumberedLanes → Place → List ℕ → Type 0
-IsRightUpTo settings roads vehicles rounds (Place.between later position) read = IsRightBetween settings roads vehicles rounds later position read
-IsRightUpTo settings roads vehicles rounds (Place.within round j) read = IsRightWithin settings roads vehicles rounds round j read
-IsRightUpTo settings roads vehicles rounds Place.finished read = IsRightWhole settings roads vehicles rounds read
+abbrev pub IsRightUpTo : Settings → Roads → List Vehicle → List NumberedLanes → Extent → List ℕ → Type 0
+IsRightUpTo settings roads vehicles rounds (Extent.between later position) read = IsRightBetween settings roads vehicles rounds later position read
+IsRightUpTo settings roads vehicles rounds (Extent.within round j) read = IsRightWithin settings roads vehicles rounds round j read
+IsRightUpTo settings roads vehicles rounds Extent.finished read = IsRightWhole settings roads vehicles rounds read

@@ -1,7 +1,7 @@
 -- Which entries a report can tell.
 use Rattle.std.specs.Prelude.{ℕ, List, [], ◌∷◌}
 use Rattle.std.specs.List.{AllByRecursion}
-use Rattle.block_audit.specs.Fits.{Fits}
+use Rattle.block_audit.specs.Fits.{FitsTypes}
 use Rattle.entry_lines.specs.Next.{IsEntry}
 use Rattle.pool_io.specs.Faults.{one_more}
 use Rattle.request_book.specs.declared.command.Command.{Command}
@@ -13,7 +13,7 @@ use Rattle.request_book.specs.declared.reply.Reply.TheVariants.{Closed}
 
 -- of a close that was answered `closed`, each number of the outcome's lines is within its type
 abbrev pub HasFittingBlock : Command → Reply → Type 0
-HasFittingBlock (Close batch outcome) Closed = Fits batch outcome
+HasFittingBlock (Close batch outcome) Closed = FitsTypes batch outcome
 HasFittingBlock _ _ = Unit {0}
 
 -- each number of an entry's line, and of its block, is within its type

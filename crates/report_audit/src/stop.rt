@@ -1,7 +1,7 @@
 //! Where an audit stops, by the length of the text that is left there.
 ghost use Rattle.std.specs.Prelude.{◌≡◌, MatchResult};
 ghost use Rattle.entry_lines.specs.Next.{IsNextLine};
-ghost use Rattle.report_head.specs.Line.{IsFirst};
+ghost use Rattle.report_head.specs.Line.{IsFirstLine};
 ghost use Rattle.report_audit.specs.declared.stop.Stop.TheVariants.{OutOfMemory as NoMemory};
 ghost use Rattle.report_audit.specs.work.Steps.{HasNoNext};
 
@@ -46,7 +46,7 @@ pub(crate) struct Between<'a> {
 
 /// The first line of a text, which has the form of one between blocks.
 pub(crate) fn line_between(text: &[u8]) -> Result<Between<'_>, Stop>
-    ensures { MatchResult result (λ r. IsFirst text.now r.line.now r.after.now × IsNextLine r.next r.line.now) (HasNoNext text.now) }
+    ensures { MatchResult result (λ r. IsFirstLine text.now r.line.now r.after.now × IsNextLine r.next r.line.now) (HasNoNext text.now) }
 {
     let left = text.len();
     let Some((line, after)) = line_first(text) else {

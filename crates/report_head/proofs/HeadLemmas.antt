@@ -5,7 +5,7 @@ use Rattle.dispatch_report.specs.Lines.{lines_text}
 use Rattle.dispatch_report.specs.Words.{numbered}
 use Rattle.report_head.specs.Fault.{sizes_of, IsName, TellsSettings, TellsLawful, TellsSizes, TellsSizesOf, TellsFleet, TellsFleetOf, LineFails}
 use Rattle.report_head.specs.Head.{BeginsWithHead}
-use Rattle.report_head.specs.Line.{IsFirst, Passes}
+use Rattle.report_head.specs.Line.{IsFirstLine, Passes}
 use Rattle.report_head.specs.Settings.{AreOf}
 use Rattle.report_head.specs.work.Settings.{told_of}
 use Rattle.report_head.specs.declared.fault.HeadFault.{HeadFault}
@@ -33,18 +33,18 @@ head_lines s roads vehicles rest = four_lines (codes "ridepool report 1") (setti
 
 -- the lines that follow one another
 abbrev pub FleetThen : ℕ → List ℕ → List ℕ → Type 0
-FleetThen vehicles rest text = IsFirst text (numbered (codes "fleet vehicles=") vehicles) rest
+FleetThen vehicles rest text = IsFirstLine text (numbered (codes "fleet vehicles=") vehicles) rest
 
 abbrev pub SizesThen : ℕ × ℕ → ℕ → List ℕ → List ℕ → Type 0
-SizesThen sizes vehicles rest text = (r : List ℕ) × IsFirst text (sizes_text sizes) r × FleetThen vehicles rest r
+SizesThen sizes vehicles rest text = (r : List ℕ) × IsFirstLine text (sizes_text sizes) r × FleetThen vehicles rest r
 
 abbrev pub SettingsThen : SettingsText → ℕ × ℕ → ℕ → List ℕ → List ℕ → Type 0
-SettingsThen told sizes vehicles rest text = (r : List ℕ) × IsFirst text (settings_text told) r × SizesThen sizes vehicles rest r
+SettingsThen told sizes vehicles rest text = (r : List ℕ) × IsFirstLine text (settings_text told) r × SizesThen sizes vehicles rest r
 
 abbrev pub NameThen : SettingsText → ℕ × ℕ → ℕ → List ℕ → List ℕ → Type 0
-NameThen told sizes vehicles rest text = (r : List ℕ) × IsFirst text (codes "ridepool report 1") r × SettingsThen told sizes vehicles rest r
+NameThen told sizes vehicles rest text = (r : List ℕ) × IsFirstLine text (codes "ridepool report 1") r × SettingsThen told sizes vehicles rest r
 
-first_is : (line rest : List ℕ) → is_one_line line ≡ true → IsFirst (line ++ 10 ∷ rest) line rest
+first_is : (line rest : List ℕ) → is_one_line line ≡ true → IsFirstLine (line ++ 10 ∷ rest) line rest
 first_is line rest one = record { whole = refl; one = one }
 
 sizes_line : (nodes arcs : ℕ) → nodes < 2 ^ 64 → arcs < 2 ^ 64 → is_one_line (sizes_text (nodes, arcs)) ≡ true
@@ -91,7 +91,7 @@ module _ (workers : ℕ) (roads : Roads) (vehicles : ℕ) (text : List ℕ) (few
         let short = lawful_short (told_of s) lawful in
         line_no_fault TellsSettings TellsLawful 2 after_name fault fails (settings_text (told_of s)) x.0 x.1 (told_of s, short, refl) (told_of s, short, lawful, refl)
 
-    module _ (told : SettingsText) (after_settings : List ℕ) (first : IsFirst after_name (settings_text told) after_settings) (short : AreSettings told) where
+    module _ (told : SettingsText) (after_settings : List ℕ) (first : IsFirstLine after_name (settings_text told) after_settings) (short : AreSettings told) where
       behind_settings : (s : Settings) (rest : List ℕ) → BeginsWithHead workers roads vehicles text s rest → SizesThen (sizes_of roads) vehicles rest after_settings
       behind_settings s rest h =
           let x = behind_name s rest h in

@@ -7,7 +7,7 @@ use Rattle.dispatch_report.specs.Words.{numbered}
 use Rattle.report_head.specs.Settings.{AreOf, AreLawful}
 use Rattle.report_head.specs.work.Settings.{told_of}
 use Rattle.report_lines.specs.Cut.{is_one_line}
-use Rattle.report_lines.specs.Head.{settings_text, AreSettings, IsShort}
+use Rattle.report_lines.specs.Head.{settings_text, AreSettings, IsShortNumber}
 use Rattle.report_lines.specs.lemmas.Head.{dwell_text}
 use Rattle.report_lines.specs.declared.head.SettingsText.{SettingsText}
 use Rattle.report_lines.proofs.lemmas.OneBlock.{append_one_line, numbered_one_line}
@@ -55,10 +55,10 @@ told_lawful s =
     }
 
 -- a line of settings has no line feed
-short_line : (words : List ℕ) (n : ℕ) → is_one_line words ≡ true → IsShort n → is_one_line (numbered words n) ≡ true
+short_line : (words : List ℕ) (n : ℕ) → is_one_line words ≡ true → IsShortNumber n → is_one_line (numbered words n) ≡ true
 short_line words n one is = let most : n ≤ 4294967295 = is in numbered_one_line words n one (omega arith)
 
-dwell_line : (dwell : ℕ) → IsShort dwell → is_one_line (dwell_text dwell) ≡ true
+dwell_line : (dwell : ℕ) → IsShortNumber dwell → is_one_line (dwell_text dwell) ≡ true
 dwell_line dwell is = by (dwell == 0)
   where
     by : (none : Bool) → is_one_line (if none then [] else numbered (codes " dwell=") dwell) ≡ true

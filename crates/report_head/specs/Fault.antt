@@ -1,7 +1,7 @@
 -- Why a text begins with no head.
 use Rattle.std.specs.Prelude.{◌≡◌, ℕ, ◌<◌, ◌^◌, ◌⊎◌, true, List, codes, length}
 use Rattle.dispatch_report.specs.Words.{numbered}
-use Rattle.report_head.specs.Line.{IsFirst, Passes}
+use Rattle.report_head.specs.Line.{IsFirstLine, Passes}
 use Rattle.report_head.specs.Settings.{AreLawful}
 use Rattle.report_head.specs.declared.fault.HeadFault.{HeadFault}
 use Rattle.report_head.specs.declared.fault.HeadFault.TheVariants.{Cut, Form, Head}
@@ -46,8 +46,8 @@ TellsFleetOf vehicles line = line ≡ numbered (codes "fleet vehicles=") vehicle
 -- isn't of its form, or it is of its form and doesn't fit
 abbrev pub LineFails : (List ℕ → Type 0) → (List ℕ → Type 0) → ℕ → List ℕ → HeadFault → Type 0
 LineFails IsForm Fits number text (Cut line) = (line ≡ number) × (is_one_line text ≡ true)
-LineFails IsForm Fits number text (Form line) = (line ≡ number) × (first rest : List ℕ) × IsFirst text first rest × (IsForm first → ⊥)
-LineFails IsForm Fits number text (Head line) = (line ≡ number) × (first rest : List ℕ) × IsFirst text first rest × IsForm first × (Fits first → ⊥)
+LineFails IsForm Fits number text (Form line) = (line ≡ number) × (first rest : List ℕ) × IsFirstLine text first rest × (IsForm first → ⊥)
+LineFails IsForm Fits number text (Head line) = (line ≡ number) × (first rest : List ℕ) × IsFirstLine text first rest × IsForm first × (Fits first → ⊥)
 
 -- the first line fits, and what follows it fails
 abbrev pub FailsBehind : (List ℕ → Type 0) → (List ℕ → HeadFault → Type 0) → List ℕ → HeadFault → Type 0

@@ -3,10 +3,10 @@ use Rattle.std.specs.Prelude.{◌≡◌, ℕ, true, List, ◌∷◌, ◌++◌}
 use Rattle.report_lines.specs.Cut.{is_one_line}
 
 -- the text begins with this line and its line feed, and this follows
-pub record IsFirst (text line rest : List ℕ) : Type 0 where
+pub record IsFirstLine (text line rest : List ℕ) : Type 0 where
   pub whole : text ≡ line ++ 10 ∷ rest
   pub one : is_one_line line ≡ true
 
 -- the first line of the text fits, and this follows it
 abbrev pub Passes : (List ℕ → Type 0) → List ℕ → List ℕ → Type 0
-Passes Fits text rest = (line : List ℕ) × IsFirst text line rest × Fits line
+Passes Fits text rest = (line : List ℕ) × IsFirstLine text line rest × Fits line

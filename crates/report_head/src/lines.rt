@@ -1,6 +1,6 @@
 ghost use Rattle.std.specs.Prelude.{◌≡◌, ◌≢◌, ℕ, ◌≤◌, ◌<◌, ◌^◌, List, MatchResult, codes, true};
 ghost use Rattle.report_head.specs.Fault.{IsName, TellsSettings, TellsLawful, TellsSizes, TellsSizesOf, TellsFleet, TellsFleetOf, LineFails};
-ghost use Rattle.report_head.specs.Line.{IsFirst, Passes};
+ghost use Rattle.report_head.specs.Line.{IsFirstLine, Passes};
 ghost use Rattle.report_head.specs.Settings.{AreLawful};
 ghost use Rattle.report_lines.specs.Head.{settings_text, AreSettings};
 
@@ -25,7 +25,7 @@ pub(crate) fn name_behind(text: &[u8]) -> Result<&[u8], HeadFault>
 /// The numbers of the settings, and what follows their line.
 pub(crate) fn settings_first(text: &[u8]) -> Result<(SettingsText, &[u8]), HeadFault>
     ensures { MatchResult result
-        (λ r. IsFirst text.now (settings_text r.0) r.1.now × AreSettings r.0 × AreLawful r.0)
+        (λ r. IsFirstLine text.now (settings_text r.0) r.1.now × AreSettings r.0 × AreLawful r.0)
         (λ fault. LineFails TellsSettings TellsLawful 2 text.now fault) }
 {
     let Some((line, rest)) = line_first(text) else {

@@ -8,18 +8,18 @@ use Rattle.std.proofs.lemmas.List.Elements.{All-append, All-cons}
 use Rattle.dispatch_report.specs.Lines.{lines_text}
 use Rattle.report_lines.specs.Block.{BeginsBlock}
 use Rattle.report_lines.specs.BlockLine.{block_line_text, IsBlockLine}
-use Rattle.report_lines.specs.Order.{place_of, may_follow_at, follow_on, last_place}
+use Rattle.report_lines.specs.Order.{kind_place, may_follow_at, follow_on, last_place}
 use Rattle.report_lines.specs.declared.block_line.BlockLine.{BlockLine}
 
 follow_more : (place : ℕ) (lines : List BlockLine) (line : BlockLine) → follow_on place lines ≡ true → may_follow_at (last_place place lines) line ≡ true → follow_on place (lines ++ line ∷ []) ≡ true
 follow_more place [] line all next = and_from (may_follow_at place line) true next refl
 follow_more place (l ∷ ls) line all next =
-    let parts = and_parts (may_follow_at place l) (follow_on (place_of l) ls) all in
-    and_from (may_follow_at place l) (follow_on (place_of l) (ls ++ line ∷ [])) parts.0 (follow_more (place_of l) ls line parts.1 next)
+    let parts = and_parts (may_follow_at place l) (follow_on (kind_place l) ls) all in
+    and_from (may_follow_at place l) (follow_on (kind_place l) (ls ++ line ∷ [])) parts.0 (follow_more (kind_place l) ls line parts.1 next)
 
-last_more : (place : ℕ) (lines : List BlockLine) (line : BlockLine) → last_place place (lines ++ line ∷ []) ≡ place_of line
+last_more : (place : ℕ) (lines : List BlockLine) (line : BlockLine) → last_place place (lines ++ line ∷ []) ≡ kind_place line
 last_more place [] line = refl
-last_more place (l ∷ ls) line = last_more (place_of l) ls line
+last_more place (l ∷ ls) line = last_more (kind_place l) ls line
 
 text_more : (lines : List BlockLine) (line : BlockLine) → lines_text (map block_line_text (lines ++ line ∷ [])) ≡ lines_text (map block_line_text lines) ++ (block_line_text line ++ 10 ∷ [])
 unfolding lines_text
@@ -40,7 +40,7 @@ block_begins text lines e = subst (λ (ls : List BlockLine). BlockSoFar text ls 
     start : BlockSoFar text [] text 0
     start = record { begins = record { whole = refl; lawful = λ k d within. absurd (omega arith); order = refl }; at = refl }
 
-pub block_more : (text : List ℕ) (lines : List BlockLine) (rest : List ℕ) (place : ℕ) (line : List ℕ) (after : List ℕ) (x : BlockLine) (new : List BlockLine) (next : ℕ) → BlockSoFar text lines rest place → rest ≡ line ++ 10 ∷ after → IsBlockLine x → line ≡ block_line_text x → may_follow_at place x ≡ true → next ≡ place_of x → new ≡ lines ++ x ∷ [] → BlockSoFar text new after next
+pub block_more : (text : List ℕ) (lines : List BlockLine) (rest : List ℕ) (place : ℕ) (line : List ℕ) (after : List ℕ) (x : BlockLine) (new : List BlockLine) (next : ℕ) → BlockSoFar text lines rest place → rest ≡ line ++ 10 ∷ after → IsBlockLine x → line ≡ block_line_text x → may_follow_at place x ≡ true → next ≡ kind_place x → new ≡ lines ++ x ∷ [] → BlockSoFar text new after next
 block_more text lines rest place line after x new next so cut lawful is follows there e =
     subst (λ (ls : List BlockLine). BlockSoFar text ls after next) (sym e)
     (record {

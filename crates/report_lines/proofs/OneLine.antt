@@ -15,13 +15,13 @@ use Rattle.report_lines.specs.Ids.{IsId, AreIds}
 use Rattle.report_lines.specs.Leaf.{leaf_text}
 use Rattle.report_lines.specs.Moves.{IsMove, IsBranch}
 use Rattle.report_lines.specs.Reading.{BeginsWith, ends_number}
-use Rattle.report_lines.specs.Row.{row_text, IsRow}
+use Rattle.report_lines.specs.Row.{row_line_text, IsRowLine}
 use Rattle.report_lines.specs.Signed.{IsWide, IsLong}
 use Rattle.report_lines.specs.work.Stops.{stops_text}
 use Rattle.report_lines.specs.Stops.{AreStops}
 use Rattle.report_lines.specs.work.Stops.{IsStop}
-use Rattle.report_lines.specs.Trips.{IsTrip, IsLate}
-use Rattle.report_lines.specs.Both.{both, BothAre}
+use Rattle.report_lines.specs.Trips.{IsTripLine, IsLateLine}
+use Rattle.report_lines.specs.Both.{both_texts, BothAre}
 use Rattle.report_lines.specs.work.Late.{order_text, IsOrder}
 use Rattle.report_lines.proofs.LateLemmas.{order_ends}
 use Rattle.report_lines.proofs.ListLemmas.{IsNeverEmpty, many_end, spaced_some, spaced_once}
@@ -87,27 +87,27 @@ numbered_id : (words : List ℕ) → TextIsOfOne (numbered words) IsId
 numbered_id words = of_one (numbered words) IsId (numbered_once words 1000000000 (omega arith))
 
 -- two numbers, and a list
-head_once : (words : List ℕ) → EndsOnce (both (numbered words) spaced) (BothAre IsId (λ n. n ≤ 2 ^ 64))
+head_once : (words : List ℕ) → EndsOnce (both_texts (numbered words) spaced) (BothAre IsId (λ n. n ≤ 2 ^ 64))
 head_once words = pair_once words 1000000000 (2 ^ 64) (omega arith) (omega arith)
 
 ids_of_one : (words : List ℕ) → TextIsOfOne (pair_line words) AreIds
-ids_of_one words = of_one (both (numbered words) spaced) (BothAre IsId IsId) (pair_once words 1000000000 1000000000 (omega arith) (omega arith))
+ids_of_one words = of_one (both_texts (numbered words) spaced) (BothAre IsId IsId) (pair_once words 1000000000 1000000000 (omega arith) (omega arith))
 
 branch_of_one : TextIsOfOne (pair_line (codes "branch ")) IsBranch
 branch_of_one a b ia ib e =
     let wa : a.1 ≤ 2 ^ 32 = omega (arith, ia.1) in
     let wb : b.1 ≤ 2 ^ 32 = omega (arith, ib.1) in
-    of_one (both (numbered (codes "branch ")) spaced) (BothAre IsId (λ n. n ≤ 2 ^ 32)) (pair_once (codes "branch ") 1000000000 (2 ^ 32) (omega arith) (omega arith)) a b (ia.0, wa) (ib.0, wb) e
+    of_one (both_texts (numbered (codes "branch ")) spaced) (BothAre IsId (λ n. n ≤ 2 ^ 32)) (pair_once (codes "branch ") 1000000000 (2 ^ 32) (omega arith) (omega arith)) a b (ia.0, wa) (ib.0, wb) e
 
 riders_of_one : TextIsOfOne (flat_map spaced) (All IsId)
 riders_of_one = many_of_one spaced IsId spaced_apart spaced_once spaced_some
 
-row_of_one : TextIsOfOne row_text IsRow
+row_of_one : TextIsOfOne row_line_text IsRowLine
 row_of_one a b ia ib e =
     let wa : a.cost ≤ 2 ^ 64 = omega (arith, ia.1) in
     let wb : b.cost ≤ 2 ^ 64 = omega (arith, ib.1) in
     let same =
-    parts_of_one (both (numbered (codes "row ")) spaced) (BothAre IsId (λ n. n ≤ 2 ^ 64)) (flat_map spaced) (All IsId) (head_once (codes "row ")) riders_of_one (many_end spaced IsId spaced_apart)
+    parts_of_one (both_texts (numbered (codes "row ")) spaced) (BothAre IsId (λ n. n ≤ 2 ^ 64)) (flat_map spaced) (All IsId) (head_once (codes "row ")) riders_of_one (many_end spaced IsId spaced_apart)
     (a.vehicle, a.cost) (b.vehicle, b.cost) a.riders b.riders (ia.0, wa) (ib.0, wb) ia.2 ib.2 e
     in
     let f : ℕ → RowText = λ v. record { vehicle = v; cost = a.cost; riders = a.riders } in
@@ -124,12 +124,12 @@ stops_of_one most a b ia ib e = items_same a b (many_of_one stop_text IsStop sto
 stops_end : (stops : ArrayVec PlannedStop) → ends_number (stops_text stops) ≡ true
 stops_end stops = many_end stop_text IsStop stop_apart stops.items
 
-trip_of_one : TextIsOfOne trip_line IsTrip
+trip_of_one : TextIsOfOne trip_line IsTripLine
 trip_of_one a b ia ib e =
     let wa : a.cost ≤ 2 ^ 64 = omega (arith, ia.1) in
     let wb : b.cost ≤ 2 ^ 64 = omega (arith, ib.1) in
     let same =
-    parts_of_one (both (numbered (codes "trip ")) spaced) (BothAre IsId (λ n. n ≤ 2 ^ 64)) stops_text (AreStops 22) (head_once (codes "trip ")) (stops_of_one 22) stops_end
+    parts_of_one (both_texts (numbered (codes "trip ")) spaced) (BothAre IsId (λ n. n ≤ 2 ^ 64)) stops_text (AreStops 22) (head_once (codes "trip ")) (stops_of_one 22) stops_end
     (a.vehicle, a.cost) (b.vehicle, b.cost) a.stops b.stops (ia.0, wa) (ib.0, wb) ia.2 ib.2 e
     in
     let f : ℕ → ChosenTrip = λ v. record { vehicle = v; cost = a.cost; stops = a.stops } in
@@ -142,7 +142,7 @@ move_of_one a b ia ib e =
     let wa : a.seconds ≤ 2 ^ 32 = omega (arith, ia.2) in
     let wb : b.seconds ≤ 2 ^ 32 = omega (arith, ib.2) in
     let same =
-    parts_of_one (both (numbered (codes "move ")) spaced) (BothAre IsId IsId) spaced (λ n. n ≤ 2 ^ 32) (pair_once (codes "move ") 1000000000 1000000000 (omega arith) (omega arith))
+    parts_of_one (both_texts (numbered (codes "move ")) spaced) (BothAre IsId IsId) spaced (λ n. n ≤ 2 ^ 32) (pair_once (codes "move ") 1000000000 1000000000 (omega arith) (omega arith))
     (of_one spaced (λ n. n ≤ 2 ^ 32) (numbered_once _ (2 ^ 32) (omega arith))) spaced_ends
     (a.vehicle, a.rider) (b.vehicle, b.rider) a.seconds b.seconds (ia.0, ia.1) (ib.0, ib.1) wa wb e
     in
@@ -183,7 +183,7 @@ order_of_one (da, Some a) (db, Some b) ia ib e =
     let same = parts_of_one spaced (λ n. n ≤ 2 ^ 64) stops_text (AreStops 10) (numbered_once _ (2 ^ 64) (omega arith)) (stops_of_one 10) stops_end da db a b wa wb ia.1 ib.1 e in
     ap (λ d. (d, Some a)) same.0 ∙ ap (λ s. (db, Some s)) same.1
 
-late_of_one : TextIsOfOne late_line IsLate
+late_of_one : TextIsOfOne late_line IsLateLine
 late_of_one a b ia ib e =
     let same =
     parts_of_one (numbered (codes "late ")) IsId order_text IsOrder (numbered_once (codes "late ") 1000000000 (omega arith)) order_of_one order_ends
@@ -331,11 +331,11 @@ block_line_of_one (Batch x) y ix iy e = kind_of_one Batch (numbered (codes "batc
 block_line_of_one (Expired x) y ix iy e = kind_of_one Expired (numbered (codes "expired ")) (IsId) (numbered_id (codes "expired ")) (λ m h. h) (λ m. refl) x y ix iy e (is_expired x y (bytes_same (Expired x) y e))
 block_line_of_one Overflow y ix iy e = sym (is_overflow y (bytes_same Overflow y e))
 block_line_of_one (Lapsed x) y ix iy e = kind_of_one Lapsed (numbered (codes "lapsed ")) (IsId) (numbered_id (codes "lapsed ")) (λ m h. h) (λ m. refl) x y ix iy e (is_lapsed x y (bytes_same (Lapsed x) y e))
-block_line_of_one (Late x) y ix iy e = kind_of_one Late (late_line) (IsLate) (late_of_one) (λ m h. h) (λ m. refl) x y ix iy e (is_late x y (bytes_same (Late x) y e))
+block_line_of_one (Late x) y ix iy e = kind_of_one Late (late_line) (IsLateLine) (late_of_one) (λ m h. h) (λ m. refl) x y ix iy e (is_late x y (bytes_same (Late x) y e))
 block_line_of_one (Alone x) y ix iy e = kind_of_one Alone (pair_line (codes "rv ")) (AreIds) (ids_of_one (codes "rv ")) (λ m h. h) (λ m. refl) x y ix iy e (is_alone x y (bytes_same (Alone x) y e))
 block_line_of_one (Shared x) y ix iy e = kind_of_one Shared (pair_line (codes "rr ")) (AreIds) (ids_of_one (codes "rr ")) (λ m h. h) (λ m. refl) x y ix iy e (is_shared x y (bytes_same (Shared x) y e))
-block_line_of_one (Row x) y ix iy e = kind_of_one Row (row_text) (IsRow) (row_of_one) (λ m h. h) (λ m. refl) x y ix iy e (is_row x y (bytes_same (Row x) y e))
-block_line_of_one (Trip x) y ix iy e = kind_of_one Trip (trip_line) (IsTrip) (trip_of_one) (λ m h. h) (λ m. refl) x y ix iy e (is_trip x y (bytes_same (Trip x) y e))
+block_line_of_one (Row x) y ix iy e = kind_of_one Row (row_line_text) (IsRowLine) (row_of_one) (λ m h. h) (λ m. refl) x y ix iy e (is_row x y (bytes_same (Row x) y e))
+block_line_of_one (Trip x) y ix iy e = kind_of_one Trip (trip_line) (IsTripLine) (trip_of_one) (λ m h. h) (λ m. refl) x y ix iy e (is_trip x y (bytes_same (Trip x) y e))
 block_line_of_one (Out x) y ix iy e = kind_of_one Out (numbered (codes "out ")) (IsId) (numbered_id (codes "out ")) (λ m h. h) (λ m. refl) x y ix iy e (is_out x y (bytes_same (Out x) y e))
 block_line_of_one (Move x) y ix iy e = kind_of_one Move (move_text) (IsMove) (move_of_one) (λ m h. h) (λ m. refl) x y ix iy e (is_move x y (bytes_same (Move x) y e))
 block_line_of_one (Cost x) y ix iy e = kind_of_one Cost (numbered (codes "cost ")) (λ n. n < 2 ^ 64) (numbered_below (codes "cost ")) (λ m h. h) (λ m. refl) x y ix iy e (is_cost x y (bytes_same (Cost x) y e))

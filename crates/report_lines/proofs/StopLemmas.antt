@@ -4,7 +4,7 @@ use Rattle.dispatch_report.specs.Block.{stop_text}
 use Rattle.dispatch_report.specs.Words.{numbered}
 use Rattle.report_lines.specs.Ids.{IsId}
 use Rattle.report_lines.specs.Reading.{BeginsWith, BeginsWithNone, ends_number}
-use Rattle.report_lines.specs.Both.{both, BothAre}
+use Rattle.report_lines.specs.Both.{both_texts, BothAre}
 use Rattle.report_lines.specs.work.Stops.{visit_text, IsVisit, IsStop}
 use Rattle.report_lines.proofs.ListLemmas.{ReadSoFar, IsNeverEmpty, so_far_more}
 use Rattle.report_lines.proofs.lemmas.ReadingLemmas.{EndsOnce, StandsApart, both_none_first, both_none_second, both_some, both_once, numbered_once}
@@ -37,14 +37,14 @@ colon_apart n rest ends = refl
 
 -- whom and where
 abbrev place_text : (Bool × ℕ) × ℕ → List ℕ
-place_text = both visit_text (numbered (codes "@"))
+place_text = both_texts visit_text (numbered (codes "@"))
 
 abbrev IsPlaced : (Bool × ℕ) × ℕ → Type 0
 IsPlaced = BothAre IsVisit IsId
 
 -- and when
 abbrev parts_text : ((Bool × ℕ) × ℕ) × ℕ → List ℕ
-parts_text = both place_text (numbered (codes ":"))
+parts_text = both_texts place_text (numbered (codes ":"))
 
 abbrev AreParts : ((Bool × ℕ) × ℕ) × ℕ → Type 0
 AreParts = BothAre IsPlaced (λ n. n ≤ 18446744073709551615)

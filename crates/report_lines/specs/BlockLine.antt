@@ -6,9 +6,9 @@ use Rattle.dispatch_report.specs.Words.{numbered, signed}
 use Rattle.report_lines.specs.Ids.{IsId, AreIds}
 use Rattle.report_lines.specs.Leaf.{leaf_text}
 use Rattle.report_lines.specs.Moves.{IsMove, IsBranch}
-use Rattle.report_lines.specs.Row.{row_text, IsRow}
+use Rattle.report_lines.specs.Row.{row_line_text, IsRowLine}
 use Rattle.report_lines.specs.Signed.{IsWide, IsLong}
-use Rattle.report_lines.specs.Trips.{IsTrip, IsLate}
+use Rattle.report_lines.specs.Trips.{IsTripLine, IsLateLine}
 use Rattle.report_lines.specs.declared.block_line.BlockLine.{BlockLine}
 use Rattle.report_lines.specs.declared.block_line.BlockLine.TheVariants.{Batch, Expired, Overflow, Lapsed, Late, Alone, Shared, Row, Trip, Out, Move, Cost, Bound, Nodes, Branch, Leaf, Dead, End}
 
@@ -21,7 +21,7 @@ block_line_text (Lapsed rider) = numbered (codes "lapsed ") rider
 block_line_text (Late late) = late_line late
 block_line_text (Alone pair) = pair_line (codes "rv ") pair
 block_line_text (Shared pair) = pair_line (codes "rr ") pair
-block_line_text (Row row) = row_text row
+block_line_text (Row row) = row_line_text row
 block_line_text (Trip trip) = trip_line trip
 block_line_text (Out rider) = numbered (codes "out ") rider
 block_line_text (Move m) = move_text m
@@ -39,11 +39,11 @@ IsBlockLine (Batch n) = n < 2 ^ 64
 IsBlockLine (Expired rider) = IsId rider
 IsBlockLine Overflow = Unit {0}
 IsBlockLine (Lapsed rider) = IsId rider
-IsBlockLine (Late late) = IsLate late
+IsBlockLine (Late late) = IsLateLine late
 IsBlockLine (Alone pair) = AreIds pair
 IsBlockLine (Shared pair) = AreIds pair
-IsBlockLine (Row row) = IsRow row
-IsBlockLine (Trip trip) = IsTrip trip
+IsBlockLine (Row row) = IsRowLine row
+IsBlockLine (Trip trip) = IsTripLine trip
 IsBlockLine (Out rider) = IsId rider
 IsBlockLine (Move m) = IsMove m
 IsBlockLine (Cost n) = n < 2 ^ 64

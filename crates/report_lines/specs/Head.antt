@@ -4,8 +4,8 @@ use Rattle.dispatch_report.specs.Words.{numbered}
 use Rattle.report_lines.specs.declared.head.SettingsText.{SettingsText}
 
 -- a number below 2^32
-abbrev pub IsShort : ℕ → Type 0
-IsShort n = n ≤ 4294967295
+abbrev pub IsShortNumber : ℕ → Type 0
+IsShortNumber n = n ≤ 4294967295
 
 -- the line of the settings; the dwell only where there is one
 abbrev pub settings_text : SettingsText → List ℕ
@@ -17,14 +17,14 @@ settings_text s =
 
 -- each number is below 2^32
 pub record AreSettings (s : SettingsText) : Type 0 where
-  pub wait : IsShort s.wait
-  pub delay : IsShort s.delay
-  pub trip : IsShort s.trip
-  pub penalty : IsShort s.penalty
-  pub budget : IsShort s.budget
-  pub pairs : IsShort s.pairs
-  pub proof : IsShort s.proof
-  pub dwell : IsShort s.dwell
+  pub wait : IsShortNumber s.wait
+  pub delay : IsShortNumber s.delay
+  pub trip : IsShortNumber s.trip
+  pub penalty : IsShortNumber s.penalty
+  pub budget : IsShortNumber s.budget
+  pub pairs : IsShortNumber s.pairs
+  pub proof : IsShortNumber s.proof
+  pub dwell : IsShortNumber s.dwell
 
 -- the line of the network: how many nodes and arcs it has
 abbrev pub sizes_text : ℕ × ℕ → List ℕ

@@ -4,25 +4,25 @@ use Rattle.report_lines.specs.declared.block_line.BlockLine.{BlockLine}
 use Rattle.report_lines.specs.declared.block_line.BlockLine.TheVariants.{Batch, Expired, Overflow, Lapsed, Late, Alone, Shared, Row, Trip, Out, Move, Cost, Bound, Nodes, Branch, Leaf, Dead, End}
 
 -- the place of a kind in a block; before the first line it is 0
-abbrev pub place_of : BlockLine → ℕ
-place_of (Batch n) = 1
-place_of (Expired rider) = 2
-place_of (Lapsed rider) = 3
-place_of (Late late) = 4
-place_of (Alone pair) = 5
-place_of (Shared pair) = 6
-place_of (Row row) = 7
-place_of (Trip trip) = 8
-place_of (Out rider) = 9
-place_of (Move m) = 10
-place_of (Cost n) = 11
-place_of (Bound z) = 12
-place_of (Nodes n) = 13
-place_of (Branch branch) = 14
-place_of (Leaf multipliers) = 14
-place_of Dead = 14
-place_of Overflow = 15
-place_of End = 16
+abbrev pub kind_place : BlockLine → ℕ
+kind_place (Batch n) = 1
+kind_place (Expired rider) = 2
+kind_place (Lapsed rider) = 3
+kind_place (Late late) = 4
+kind_place (Alone pair) = 5
+kind_place (Shared pair) = 6
+kind_place (Row row) = 7
+kind_place (Trip trip) = 8
+kind_place (Out rider) = 9
+kind_place (Move m) = 10
+kind_place (Cost n) = 11
+kind_place (Bound z) = 12
+kind_place (Nodes n) = 13
+kind_place (Branch branch) = 14
+kind_place (Leaf multipliers) = 14
+kind_place Dead = 14
+kind_place Overflow = 15
+kind_place End = 16
 
 -- a number from one to another
 abbrev pub is_between : ℕ → ℕ → ℕ → Bool
@@ -53,9 +53,9 @@ may_follow_at place (Move m) = is_between 1 10 place
 -- whether each line may follow the one before it
 abbrev pub follow_on : ℕ → List BlockLine → Bool
 follow_on place [] = true
-follow_on place (line ∷ lines) = may_follow_at place line && follow_on (place_of line) lines
+follow_on place (line ∷ lines) = may_follow_at place line && follow_on (kind_place line) lines
 
 -- the place of the last of them
 abbrev pub last_place : ℕ → List BlockLine → ℕ
 last_place place [] = place
-last_place place (line ∷ lines) = last_place (place_of line) lines
+last_place place (line ∷ lines) = last_place (kind_place line) lines

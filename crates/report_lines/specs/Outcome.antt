@@ -10,8 +10,8 @@ use Rattle.report_lines.specs.declared.block_line.BlockLine.{BlockLine}
 use Rattle.report_lines.specs.declared.block_line.BlockLine.TheVariants.{Batch, Expired, Overflow, Lapsed, Late, Alone, Shared, Row, Trip, Out, Move, Cost, Bound, Nodes, Branch, Leaf, Dead, End}
 
 -- the line of a vehicle-trip pair
-abbrev pub row_line : RowLine → BlockLine
-row_line row = Row (record { vehicle = row.vehicle; cost = row.cost; riders = row.riders.items })
+abbrev pub row_as_line : RowLine → BlockLine
+row_as_line row = Row (record { vehicle = row.vehicle; cost = row.cost; riders = row.riders.items })
 
 -- the line of a tree's node: a branch tells the vehicle of its row
 abbrev pub tree_line : List RowLine → Node → BlockLine
@@ -23,7 +23,7 @@ tree_line rows Closed = Dead
 abbrev pub lines_of_answer : Answer → List BlockLine
 lines_of_answer TooMany = Overflow ∷ []
 lines_of_answer (Plan plan) =
-    (map Lapsed plan.lapsed ++ map Late plan.late ++ map Alone plan.rv ++ map Shared plan.rr ++ map row_line plan.rows)
+    (map Lapsed plan.lapsed ++ map Late plan.late ++ map Alone plan.rv ++ map Shared plan.rr ++ map row_as_line plan.rows)
     ++ (map Trip plan.chosen ++ map Out plan.left ++ map Move plan.moves)
     ++ ((Cost plan.cost ∷ []) ++ (Bound plan.bound ∷ []) ++ (Nodes (length plan.tree) ∷ []))
     ++ map (tree_line plan.rows) plan.tree

@@ -18,6 +18,6 @@ abbrev pub BeginsWithNone : {X : Type 0} → (X → List ℕ) → (X → Type 0)
 BeginsWithNone {X} text_of Is text = (x : X) (rest : List ℕ) → BeginsWith text_of Is text x rest → ⊥
 
 -- what a line is read as: the thing whose text it is, or nothing where it is the text of no such thing
-abbrev pub Reads : {X : Type 0} → (X → List ℕ) → (X → Type 0) → List ℕ → Option X → Type 0
-Reads {X} text_of Is line None = (x : X) → Is x → line ≢ text_of x
-Reads text_of Is line (Some x) = Is x × (line ≡ text_of x)
+abbrev pub IsReadAs : {X : Type 0} → (X → List ℕ) → (X → Type 0) → List ℕ → Option X → Type 0
+IsReadAs {X} text_of Is line None = (x : X) → Is x → line ≢ text_of x
+IsReadAs text_of Is line (Some x) = Is x × (line ≡ text_of x)

@@ -6,9 +6,9 @@ use Rattle.report_lines.specs.Ids.{IsId}
 use Rattle.report_lines.specs.declared.row.RowText.{RowText}
 
 -- the vehicle, its least delay, and the riders
-abbrev pub row_text : RowText → List ℕ
-row_text row = numbered (codes "row ") row.vehicle ++ spaced row.cost ++ flat_map spaced row.riders
+abbrev pub row_line_text : RowText → List ℕ
+row_line_text row = numbered (codes "row ") row.vehicle ++ spaced row.cost ++ flat_map spaced row.riders
 
 -- the numbers are within their types
-abbrev pub IsRow : RowText → Type 0
-IsRow row = IsId row.vehicle × (row.cost < 2 ^ 64) × All IsId row.riders
+abbrev pub IsRowLine : RowText → Type 0
+IsRowLine row = IsId row.vehicle × (row.cost < 2 ^ 64) × All IsId row.riders

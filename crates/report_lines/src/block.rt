@@ -2,7 +2,7 @@ ghost use Rattle.std.specs.Prelude.{◌≡◌, ℕ, List, IfOk, MatchOption, Mat
 ghost use Rattle.report_lines.specs.Block.{IsBlock, BlockFails};
 ghost use Rattle.report_lines.specs.work.LineKinds.{CannotFollow};
 ghost use Rattle.report_lines.specs.BlockLine.{block_line_text, IsBlockLine};
-ghost use Rattle.report_lines.specs.Order.{place_of, may_follow_at, is_between as between};
+ghost use Rattle.report_lines.specs.Order.{kind_place, may_follow_at, is_between as between};
 ghost use Rattle.report_lines.specs.declared.block.BlockFault.TheVariants.{OutOfMemory as NoMemory};
 
 use crate::block_line::{BlockLine, read_block_line};
@@ -108,7 +108,7 @@ fn may_follow(place: u8, line: &BlockLine) -> bool
 
 /// The place of a line's kind in a block.
 fn place_of_line(line: &BlockLine) -> u8
-    ensures { result ≡ place_of line.now }
+    ensures { result ≡ kind_place line.now }
 {
     match line {
         BlockLine::Batch(_) => 1,

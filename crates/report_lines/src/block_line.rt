@@ -1,5 +1,5 @@
 ghost use Rattle.std.specs.Prelude.{◌≡◌, ◌≢◌, ℕ, ◌≤◌, ◌<◌, List, ◌++◌, MatchOption, IfOk, codes};
-ghost use Rattle.report_lines.specs.Reading.{Reads};
+ghost use Rattle.report_lines.specs.Reading.{IsReadAs};
 ghost use Rattle.report_lines.specs.BlockLine.{block_line_text, IsBlockLine};
 ghost use Rattle.report_lines.specs.work.LineKinds.{IsWordLine, IsCountLine, IsRiderLine, IsGraphLine, IsPlanLine};
 
@@ -50,7 +50,7 @@ pub enum BlockLine {
 
 /// What a line of a block says; `None` where it is no such line.
 pub fn read_block_line(alloc: Global, line: &[u8]) -> Result<Option<BlockLine>, OutOfMemory>
-    ensures { IfOk result (λ found. Reads block_line_text IsBlockLine line.now found) }
+    ensures { IfOk result (λ found. IsReadAs block_line_text IsBlockLine line.now found) }
 {
     if let Some(found) = read_word_line(line) {
         return Ok(Some(found));
@@ -78,7 +78,7 @@ pub fn read_block_line(alloc: Global, line: &[u8]) -> Result<Option<BlockLine>, 
 
 /// A line that is a word.
 fn read_word_line(line: &[u8]) -> Option<BlockLine>
-    ensures { Reads block_line_text IsWordLine line.now result }
+    ensures { IsReadAs block_line_text IsWordLine line.now result }
 {
     if is_words(line, b"overflow") {
         return Some(BlockLine::Overflow);
@@ -94,7 +94,7 @@ fn read_word_line(line: &[u8]) -> Option<BlockLine>
 
 /// A line of one number.
 fn read_count_line(line: &[u8]) -> Option<BlockLine>
-    ensures { Reads block_line_text IsCountLine line.now result }
+    ensures { IsReadAs block_line_text IsCountLine line.now result }
 {
     if let Some(batch) = read_numbered(line, b"batch ", u64::MAX) {
         return Some(BlockLine::Batch(batch));
@@ -113,7 +113,7 @@ fn read_count_line(line: &[u8]) -> Option<BlockLine>
 
 /// A line of one rider.
 fn read_rider_line(line: &[u8]) -> Option<BlockLine>
-    ensures { Reads block_line_text IsRiderLine line.now result }
+    ensures { IsReadAs block_line_text IsRiderLine line.now result }
 {
     if let Some(expired) = read_rider(line, b"expired ") {
         return Some(BlockLine::Expired(expired));
@@ -129,7 +129,7 @@ fn read_rider_line(line: &[u8]) -> Option<BlockLine>
 
 /// A line that says who can ride.
 fn read_graph_line(line: &[u8]) -> Option<BlockLine>
-    ensures { Reads block_line_text IsGraphLine line.now result }
+    ensures { IsReadAs block_line_text IsGraphLine line.now result }
 {
     if let Some(alone) = read_rv(line) {
         return Some(BlockLine::Alone(alone));
@@ -145,7 +145,7 @@ fn read_graph_line(line: &[u8]) -> Option<BlockLine>
 
 /// A line that says what vehicles do, or where a tree branches.
 fn read_plan_line(line: &[u8]) -> Option<BlockLine>
-    ensures { Reads block_line_text IsPlanLine line.now result }
+    ensures { IsReadAs block_line_text IsPlanLine line.now result }
 {
     if let Some(trip) = read_trip(line) {
         return Some(BlockLine::Trip(trip));

@@ -1,6 +1,6 @@
 ghost use Rattle.std.specs.Prelude.{◌≡◌, ◌≢◌, ℕ, ◌≤◌, ◌<◌, ◌^◌, List, ◌++◌, MatchOption, codes};
-ghost use Rattle.report_lines.specs.Head.{settings_text, AreSettings, sizes_text, AreSizes, IsShort};
-ghost use Rattle.report_lines.specs.Reading.{BeginsWith, BeginsWithNone, Reads};
+ghost use Rattle.report_lines.specs.Head.{settings_text, AreSettings, sizes_text, AreSizes, IsShortNumber};
+ghost use Rattle.report_lines.specs.Reading.{BeginsWith, BeginsWithNone, IsReadAs};
 ghost use Rattle.report_lines.specs.lemmas.Head.{dwell_text};
 ghost use Rattle.report_lines.specs.work.Head.{limits_text, costs_text, AreThree};
 
@@ -22,7 +22,7 @@ pub struct SettingsText {
 
 /// The settings of a line, each a number below 2^32.
 pub fn read_settings(line: &[u8]) -> Option<SettingsText>
-    ensures { Reads settings_text AreSettings line.now result }
+    ensures { IsReadAs settings_text AreSettings line.now result }
 {
     let Some((limits, after_limits)) = limits_first(line) else {
         return None;
@@ -50,7 +50,7 @@ pub fn read_settings(line: &[u8]) -> Option<SettingsText>
 
 /// The numbers of nodes and arcs that the line of the network tells.
 pub fn read_sizes(line: &[u8]) -> Option<(u64, u64)>
-    ensures { Reads sizes_text AreSizes line.now result }
+    ensures { IsReadAs sizes_text AreSizes line.now result }
 {
     let Some((nodes, after)) = numbered_first(line, b"network nodes=", u64::MAX) else {
         return None;
@@ -98,7 +98,7 @@ fn costs_first(text: &[u8]) -> Option<(((u64, u64), u64), &[u8])>
 
 /// The dwell, where one is told.
 fn read_dwell(text: &[u8]) -> Option<u64>
-    ensures { Reads dwell_text IsShort text.now result }
+    ensures { IsReadAs dwell_text IsShortNumber text.now result }
 {
     if text.is_empty() {
         return Some(0);

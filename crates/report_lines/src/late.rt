@@ -1,7 +1,7 @@
 ghost use Rattle.std.specs.Prelude.{◌≡◌, ◌≢◌, ℕ, ◌≤◌, ◌<◌, ◌^◌, List, ◌++◌, MatchOption, codes};
 ghost use Rattle.dispatch_report.specs.Block.{late_line};
-ghost use Rattle.report_lines.specs.Reading.{Reads};
-ghost use Rattle.report_lines.specs.Trips.{IsLate};
+ghost use Rattle.report_lines.specs.Reading.{IsReadAs};
+ghost use Rattle.report_lines.specs.Trips.{IsLateLine};
 ghost use Rattle.report_lines.specs.work.Late.{order_text, IsOrder};
 
 use crate::ids::{ID_MOST, vehicle};
@@ -12,7 +12,7 @@ use request_book::{LateVehicle, PlannedStop};
 
 /// A late vehicle, with its passengers' least delay and the order of its stops, or `none`.
 pub fn read_late(line: &[u8]) -> Option<LateVehicle>
-    ensures { Reads late_line IsLate line.now result }
+    ensures { IsReadAs late_line IsLateLine line.now result }
 {
     let Some((id, after)) = numbered_first(line, b"late ", ID_MOST) else {
         return None;
@@ -29,7 +29,7 @@ pub fn read_late(line: &[u8]) -> Option<LateVehicle>
 
 /// A delay and an order of stops, or `none`, to the text's end.
 fn read_order(text: &[u8]) -> Option<(u64, Option<ArrayVec<PlannedStop, 10>>)>
-    ensures { Reads order_text IsOrder text.now result }
+    ensures { IsReadAs order_text IsOrder text.now result }
 {
     if is_words(text, b" none") {
         return Some((0, None));

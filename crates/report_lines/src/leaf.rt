@@ -1,7 +1,7 @@
 ghost use Rattle.std.specs.Prelude.{◌≡◌, ◌≢◌, ℕ, ℤ, ◌≤◌, ◌<◌, List, ◌++◌, MatchOption, IfOk, IfSome, IfNone, codes};
 ghost use Rattle.std.specs.List.{flat_map, All};
 ghost use Rattle.dispatch_report.specs.Words.{signed};
-ghost use Rattle.report_lines.specs.Reading.{BeginsWith, BeginsWithNone, Reads};
+ghost use Rattle.report_lines.specs.Reading.{BeginsWith, BeginsWithNone, IsReadAs};
 ghost use Rattle.report_lines.specs.Signed.{IsLong, IsWide};
 ghost use Rattle.report_lines.specs.Leaf.{leaf_text};
 
@@ -13,7 +13,7 @@ use std::alloc::Global;
 
 /// A leaf of a tree with its multipliers, of whom a line may name any number.
 pub fn read_leaf(alloc: Global, line: &[u8]) -> Result<Option<Multipliers>, OutOfMemory>
-    ensures { IfOk result (λ leaf. Reads leaf_text (All IsLong) line.now leaf) }
+    ensures { IfOk result (λ leaf. IsReadAs leaf_text (All IsLong) line.now leaf) }
 {
     let Some(after) = words_first(line, b"leaf") else {
         return Ok(None);
@@ -23,7 +23,7 @@ pub fn read_leaf(alloc: Global, line: &[u8]) -> Result<Option<Multipliers>, OutO
 
 /// The signed numbers that a text tells to its end, each behind a space.
 fn multipliers_to_end(alloc: Global, text: &[u8]) -> Result<Option<Multipliers>, OutOfMemory>
-    ensures { IfOk result (λ leaf. Reads (flat_map (signed (codes " "))) (All IsLong) text.now leaf) }
+    ensures { IfOk result (λ leaf. IsReadAs (flat_map (signed (codes " "))) (All IsLong) text.now leaf) }
 {
     let mut multipliers = Vec::new(alloc);
     let mut rest = text;

@@ -2,7 +2,7 @@ ghost use Rattle.std.specs.Prelude.{◌≡◌, ◌≢◌, ℕ, ◌≤◌, ◌<�
 ghost use Rattle.dispatch_report.specs.Block.{move_text, pair_line};
 ghost use Rattle.dispatch_report.specs.Words.{spaced};
 ghost use Rattle.report_lines.specs.Moves.{IsMove, IsBranch};
-ghost use Rattle.report_lines.specs.Reading.{Reads};
+ghost use Rattle.report_lines.specs.Reading.{IsReadAs};
 
 use crate::ids::{ID_MOST, rider, vehicle};
 use crate::words::{pair_first, read_numbered};
@@ -11,7 +11,7 @@ use request_book::MoveLine;
 
 /// An idle vehicle that is sent to a rider, and the seconds of its way.
 pub fn read_move(line: &[u8]) -> Option<MoveLine>
-    ensures { Reads move_text IsMove line.now result }
+    ensures { IsReadAs move_text IsMove line.now result }
 {
     let Some((ids, after)) = pair_first(line, b"move ", ID_MOST, ID_MOST) else {
         return None;
@@ -28,7 +28,7 @@ pub fn read_move(line: &[u8]) -> Option<MoveLine>
 
 /// A branch of a tree: the vehicle of a row, and which row line of the block it is.
 pub fn read_branch(line: &[u8]) -> Option<(VehicleId, u32)>
-    ensures { Reads (pair_line (codes "branch ")) IsBranch line.now result }
+    ensures { IsReadAs (pair_line (codes "branch ")) IsBranch line.now result }
 {
     let Some((branch, rest)) = pair_first(line, b"branch ", ID_MOST, u32::MAX as u64) else {
         return None;
@@ -42,7 +42,7 @@ pub fn read_branch(line: &[u8]) -> Option<(VehicleId, u32)>
 
 /// A space and a number below 2^32, and nothing more.
 fn read_small(text: &[u8]) -> Option<u32>
-    ensures { Reads spaced (λ n. n < 2 ^ 32) text.now result }
+    ensures { IsReadAs spaced (λ n. n < 2 ^ 32) text.now result }
 {
     match read_numbered(text, b" ", u32::MAX as u64) {
         Some(n) => Some(n as u32),

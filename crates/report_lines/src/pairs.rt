@@ -2,7 +2,7 @@ ghost use Rattle.std.specs.Prelude.{◌≡◌, ◌≢◌, ℕ, ◌≤◌, ◌<�
 ghost use Rattle.dispatch_report.specs.Block.{pair_line};
 ghost use Rattle.dispatch_report.specs.Words.{numbered, spaced};
 ghost use Rattle.report_lines.specs.Ids.{IsId, AreIds};
-ghost use Rattle.report_lines.specs.Reading.{Reads};
+ghost use Rattle.report_lines.specs.Reading.{IsReadAs};
 
 use crate::ids::{ID_MOST, rider, vehicle};
 use crate::words::{pair_first, read_numbered};
@@ -10,7 +10,7 @@ use pool_base::{RiderId, VehicleId};
 
 /// The rider of a line that has words and a rider's id alone.
 pub fn read_rider(line: &[u8], words: &[u8]) -> Option<RiderId>
-    ensures { Reads (numbered words.now) IsId line.now result }
+    ensures { IsReadAs (numbered words.now) IsId line.now result }
 {
     match read_numbered(line, words, ID_MOST) {
         Some(n) => Some(rider(n)),
@@ -20,7 +20,7 @@ pub fn read_rider(line: &[u8], words: &[u8]) -> Option<RiderId>
 
 /// A vehicle and a rider who can ride alone with it.
 pub fn read_rv(line: &[u8]) -> Option<(VehicleId, RiderId)>
-    ensures { Reads (pair_line (codes "rv ")) AreIds line.now result }
+    ensures { IsReadAs (pair_line (codes "rv ")) AreIds line.now result }
 {
     match read_pair(line, b"rv ") {
         Some((first, second)) => Some((vehicle(first), rider(second))),
@@ -30,7 +30,7 @@ pub fn read_rv(line: &[u8]) -> Option<(VehicleId, RiderId)>
 
 /// Two riders who can share a vehicle.
 pub fn read_rr(line: &[u8]) -> Option<(RiderId, RiderId)>
-    ensures { Reads (pair_line (codes "rr ")) AreIds line.now result }
+    ensures { IsReadAs (pair_line (codes "rr ")) AreIds line.now result }
 {
     match read_pair(line, b"rr ") {
         Some((first, second)) => Some((rider(first), rider(second))),
@@ -39,7 +39,7 @@ pub fn read_rr(line: &[u8]) -> Option<(RiderId, RiderId)>
 }
 
 fn read_pair(line: &[u8], words: &[u8]) -> Option<(u64, u64)>
-    ensures { Reads (pair_line words.now) AreIds line.now result }
+    ensures { IsReadAs (pair_line words.now) AreIds line.now result }
 {
     let Some((pair, rest)) = pair_first(line, words, ID_MOST, ID_MOST) else {
         return None;

@@ -2,7 +2,7 @@ ghost use Rattle.std.specs.Prelude.{◌≡◌, ◌≢◌, ℕ, ◌≤◌, ◌<�
 ghost use Rattle.std.specs.List.{flat_map, All};
 ghost use Rattle.dispatch_report.specs.Words.{spaced};
 ghost use Rattle.report_lines.specs.Ids.{IsId};
-ghost use Rattle.report_lines.specs.Reading.{Reads};
+ghost use Rattle.report_lines.specs.Reading.{IsReadAs};
 
 use crate::ids::{ID_MOST, rider};
 use crate::words::numbered_first;
@@ -14,7 +14,7 @@ pub(crate) fn riders_to_end(
     alloc: Global,
     text: &[u8],
 ) -> Result<Option<Sequence<RiderId>>, OutOfMemory>
-    ensures { IfOk result (λ riders. Reads (flat_map spaced) (All IsId) text.now riders) }
+    ensures { IfOk result (λ riders. IsReadAs (flat_map spaced) (All IsId) text.now riders) }
 {
     let mut riders = Vec::new(alloc);
     let mut rest = text;

@@ -1,6 +1,6 @@
 ghost use Rattle.std.specs.Prelude.{◌≡◌, ◌≢◌, ℕ, ◌≤◌, ◌<◌, ◌^◌, List, MatchOption, IfOk};
-ghost use Rattle.report_lines.specs.Reading.{Reads};
-ghost use Rattle.report_lines.specs.Row.{row_text, IsRow};
+ghost use Rattle.report_lines.specs.Reading.{IsReadAs};
+ghost use Rattle.report_lines.specs.Row.{row_line_text, IsRowLine};
 
 use crate::ids::{ID_MOST, vehicle};
 use crate::riders::riders_to_end;
@@ -18,7 +18,7 @@ pub struct RowText {
 
 /// A vehicle-trip pair.
 pub fn read_row(alloc: Global, line: &[u8]) -> Result<Option<RowText>, OutOfMemory>
-    ensures { IfOk result (λ row. Reads row_text IsRow line.now row) }
+    ensures { IfOk result (λ row. IsReadAs row_line_text IsRowLine line.now row) }
 {
     let Some((head, after)) = pair_first(line, b"row ", ID_MOST, u64::MAX) else {
         return Ok(None);

@@ -1,7 +1,7 @@
 ghost use Rattle.std.specs.Prelude.{◌≡◌, ◌≢◌, ℕ, ℤ, pos, negsuc, ◌+◌, ◌-◌, ◌^◌, ◌≤◌, ◌<◌, List, ◌∷◌, ◌++◌, MatchOption, codes};
 ghost use Rattle.std.specs.Fmt.{signed_decimal};
 ghost use Rattle.dispatch_report.specs.Words.{signed};
-ghost use Rattle.report_lines.specs.Reading.{BeginsWith, BeginsWithNone, Reads};
+ghost use Rattle.report_lines.specs.Reading.{BeginsWith, BeginsWithNone, IsReadAs};
 ghost use Rattle.report_lines.specs.Signed.{IsWide};
 
 use crate::numeral::wide_first;
@@ -9,7 +9,7 @@ use crate::words::words_first;
 
 /// The signed number of a line that has words and such a number alone.
 pub fn read_signed(line: &[u8], words: &[u8]) -> Option<i128>
-    ensures { Reads (signed words.now) IsWide line.now result }
+    ensures { IsReadAs (signed words.now) IsWide line.now result }
 {
     let Some((n, rest)) = signed_words_first(line, words) else {
         return None;

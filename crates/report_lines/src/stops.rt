@@ -5,7 +5,7 @@ ghost use Rattle.dispatch_report.specs.Words.{numbered, spaced};
 ghost use Rattle.report_lines.specs.Ids.{IsId};
 ghost use Rattle.report_lines.specs.work.Stops.{stops_text};
 ghost use Rattle.report_lines.specs.Stops.{AreStops};
-ghost use Rattle.report_lines.specs.Reading.{BeginsWith, BeginsWithNone, Reads};
+ghost use Rattle.report_lines.specs.Reading.{BeginsWith, BeginsWithNone, IsReadAs};
 ghost use Rattle.report_lines.specs.work.Stops.{visit_text, IsVisit, IsStop};
 
 use crate::ids::{ID_MOST, node, rider};
@@ -15,7 +15,7 @@ use request_book::PlannedStop;
 
 /// The stops that a text tells to its end, each behind a space, at most `N`.
 pub(crate) fn stops_to_end<const N: usize>(text: &[u8]) -> Option<ArrayVec<PlannedStop, N>>
-    ensures { Reads stops_text (AreStops N) text.now result }
+    ensures { IsReadAs stops_text (AreStops N) text.now result }
 {
     let mut stops = ArrayVec::new();
     let mut rest = text;

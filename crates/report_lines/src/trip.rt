@@ -1,7 +1,7 @@
 ghost use Rattle.std.specs.Prelude.{◌≡◌, ◌≢◌, ℕ, ◌≤◌, ◌<◌, ◌^◌, List, ◌++◌, MatchOption, codes};
 ghost use Rattle.dispatch_report.specs.Block.{trip_line};
-ghost use Rattle.report_lines.specs.Reading.{Reads};
-ghost use Rattle.report_lines.specs.Trips.{IsTrip};
+ghost use Rattle.report_lines.specs.Reading.{IsReadAs};
+ghost use Rattle.report_lines.specs.Trips.{IsTripLine};
 
 use crate::ids::{ID_MOST, vehicle};
 use crate::stops::stops_to_end;
@@ -10,7 +10,7 @@ use request_book::ChosenTrip;
 
 /// A chosen trip with its stops.
 pub fn read_trip(line: &[u8]) -> Option<ChosenTrip>
-    ensures { Reads trip_line IsTrip line.now result }
+    ensures { IsReadAs trip_line IsTripLine line.now result }
 {
     let Some((head, after)) = pair_first(line, b"trip ", ID_MOST, u64::MAX) else {
         return None;

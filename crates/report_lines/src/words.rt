@@ -1,7 +1,7 @@
 ghost use Rattle.std.specs.Prelude.{◌≡◌, ◌≢◌, ℕ, ◌≤◌, ◌<◌, ◌^◌, List, ◌++◌, MatchOption, codes, true};
 ghost use Rattle.dispatch_report.specs.Words.{numbered, spaced};
-ghost use Rattle.report_lines.specs.Reading.{BeginsWith, BeginsWithNone, Reads};
-ghost use Rattle.report_lines.specs.Both.{both, BothAre};
+ghost use Rattle.report_lines.specs.Reading.{BeginsWith, BeginsWithNone, IsReadAs};
+ghost use Rattle.report_lines.specs.Both.{both_texts, BothAre};
 
 use crate::numeral::number_first;
 
@@ -38,8 +38,8 @@ pub fn pair_first<'a>(
     other: u64,
 ) -> Option<((u64, u64), &'a [u8])>
     ensures { MatchOption result
-        (BeginsWithNone (both (numbered words.now) spaced) (BothAre (λ n. n ≤ most) (λ n. n ≤ other)) text.now)
-        (λ r. BeginsWith (both (numbered words.now) spaced) (BothAre (λ n. n ≤ most) (λ n. n ≤ other)) text.now r.0 r.1.now) }
+        (BeginsWithNone (both_texts (numbered words.now) spaced) (BothAre (λ n. n ≤ most) (λ n. n ≤ other)) text.now)
+        (λ r. BeginsWith (both_texts (numbered words.now) spaced) (BothAre (λ n. n ≤ most) (λ n. n ≤ other)) text.now r.0 r.1.now) }
 {
     let Some((first, after)) = numbered_first(text, words, most) else {
         return None;
@@ -52,7 +52,7 @@ pub fn pair_first<'a>(
 
 /// The number of a line that has words and a number alone.
 pub fn read_numbered(line: &[u8], words: &[u8], most: u64) -> Option<u64>
-    ensures { Reads (numbered words.now) (λ n. n ≤ most) line.now result }
+    ensures { IsReadAs (numbered words.now) (λ n. n ≤ most) line.now result }
 {
     let Some((n, rest)) = numbered_first(line, words, most) else {
         return None;

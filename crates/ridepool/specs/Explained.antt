@@ -60,7 +60,7 @@ pub record IsNoDay (seen : Seen) (fault : DayFault) : Type 0 where
   pub refused : day_fault inputs.rounds ≡ Some fault
 
 -- the inputs pass, and something too late is entered of this round; these are the rounds before it
-pub record IsLate (seen : Seen) (round : ℕ) (made : List DayRound) : Type 0 where
+pub record IsLateRun (seen : Seen) (round : ℕ) (made : List DayRound) : Type 0 where
   pub inputs : Inputs
   pub accepted : AreAccepted seen inputs
   pub mode : inputs.settings.mode ≡ Drive
@@ -117,7 +117,7 @@ Explains seen OutOfMemory =
     StopsRun seen OutOfMemory ⊎ (AreGoodFor (λ mode. ReadsSources mode → ⊥) seen.words × AreUntouched seen.sources × IsSilent seen)
     ⊎ WritesPart seen ⊎ StopsAudit seen OutOfMemory ⊎ BeginsYes seen
 Explains seen (Day fault) = IsNoDay seen fault × IsSilent seen
-Explains seen (TooLate round made) = IsLate seen round made × IsSilent seen
+Explains seen (TooLate round made) = IsLateRun seen round made × IsSilent seen
 Explains seen (Report fault) = RefusesReport seen fault
 Explains seen (TooLong w) = StopsRun seen (TooLong w) ⊎ StopsAudit seen (TooLong w)
 Explains seen (ReadFault w) = StopsRun seen (ReadFault w) ⊎ StopsAudit seen (ReadFault w)

@@ -19,7 +19,7 @@ use Rattle.stop_orders.specs.Order.{is_of_rider, is_of_passenger, IsKnown}
 use Rattle.stop_orders.specs.Visit.{place_of, boarding_of, room_after, ServesFrom, seconds_from}
 use Rattle.stop_orders.specs.Task.{no_leg, leg_at, persons, IsLeg, IsTask, visit_at, visits_of, free_seats, IsOrderOf, Serves, seconds_of}
 use Rattle.stop_orders.specs.Laws.{number_without, stop_without_passenger, without_passenger}
-use Rattle.route_drive.specs.Rest.{task_after, stop_after, rest_of, Meets, StillServes}
+use Rattle.route_drive.specs.Rest.{task_after, stop_after, rest_of, MeetsNext, RestServes}
 
 -- what a filter does at the front of a list
 skips : {X : Type 0} (p : X → Bool) (x : X) (xs : List X) → p x ≡ false → filter p (x ∷ xs) ≡ filter p xs
@@ -457,7 +457,7 @@ goes_on points tau dwell (suc k) task place free (stop ∷ stops) same valid ord
 
 -- the rest serves from wherever the next stop is met
 meets : (tau : ℕ → ℕ → ℕ) (dwell place free room x ready : ℕ) (visits : List Visit) (seconds : List ℕ) → ServesFrom tau dwell place free room visits → seconds_from tau dwell place free visits ≡ seconds
-    → Meets tau x ready visits seconds → ServesFrom tau dwell x ready room visits × (seconds_from tau dwell x ready visits ≡ seconds)
+    → MeetsNext tau x ready visits seconds → ServesFrom tau dwell x ready room visits × (seconds_from tau dwell x ready visits ≡ seconds)
 meets tau dwell place free room x ready [] seconds serves are joins = (tt, are)
 meets tau dwell place free room x ready (v ∷ visits) [] serves are joins = absurd (let e : 0 ≡ suc _ = sym (ap length are) in cc)
 meets tau dwell place free room x ready (v ∷ visits) (second ∷ seconds) serves are joins =
@@ -467,8 +467,8 @@ meets tau dwell place free room x ready (v ∷ visits) (second ∷ seconds) serv
 
 pub suffix_serves : (points : ℕ) (tau : ℕ → ℕ → ℕ) (task : Task) (stops : List Stop) (k place ready : ℕ)
     → IsTask points task → Serves tau task stops → place < points → ready ≤ longest
-    → Meets tau place ready (drop k (visits_of task stops)) (drop k (seconds_of tau task stops))
-    → StillServes points tau task stops k place ready
+    → MeetsNext tau place ready (drop k (visits_of task stops)) (drop k (seconds_of tau task stops))
+    → RestServes points tau task stops k place ready
 suffix_serves points tau task stops k place ready valid serves within short joins =
     let on = goes_on points tau task.dwell k task task.start task.ready stops refl valid serves.order serves.in_time in
     let t : Task = (rest_of k task stops).0 in

@@ -17,9 +17,9 @@ is_of_day (Seal now) = true
 is_of_day _ = false
 
 -- the command is a seal
-abbrev pub is_seal : Command → Bool
-is_seal (Seal now) = true
-is_seal _ = false
+abbrev pub is_seal_command : Command → Bool
+is_seal_command (Seal now) = true
+is_seal_command _ = false
 
 -- the second of the seal with which commands begin, if they do
 abbrev pub first_seal : List Command → Option ℕ
@@ -37,7 +37,7 @@ lane_fault round lane =
 
 -- lane 0 has a seal that isn't its first command
 abbrev pub seals_fault : NumberedLanes → Option DayFault
-seals_fault round = if list_any is_seal (drop 1 (lane_at round 0)) then Some (fault.Seals round.number) else None
+seals_fault round = if list_any is_seal_command (drop 1 (lane_at round 0)) then Some (fault.Seals round.number) else None
 
 -- the round's seal is earlier than the latest before it
 abbrev pub back_fault : ℕ → NumberedLanes → Option DayFault

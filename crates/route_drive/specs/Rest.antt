@@ -38,13 +38,13 @@ abbrev pub ready_at : ℕ → ℕ → Task → Task
 ready_at place ready task = record task { start = place; ready = ready }
 
 -- whoever leaves this place at this second reaches the next visit, if there is one, at its second
-abbrev pub Meets : (ℕ → ℕ → ℕ) → ℕ → ℕ → List Visit → List ℕ → Type 0
-Meets tau place ready (visit ∷ visits) (second ∷ seconds) = (tau place (place_of visit) < never) × (ready + tau place (place_of visit) ≡ second)
-Meets tau place ready visits seconds = Unit {0}
+abbrev pub MeetsNext : (ℕ → ℕ → ℕ) → ℕ → ℕ → List Visit → List ℕ → Type 0
+MeetsNext tau place ready (visit ∷ visits) (second ∷ seconds) = (tau place (place_of visit) < never) × (ready + tau place (place_of visit) ≡ second)
+MeetsNext tau place ready visits seconds = Unit {0}
 
 -- the stops after the first k are a serving order of what remains, for a vehicle that is ready at a place and a
 -- second; they are the same visits, each at the second that it had
-pub record StillServes (points : ℕ) (tau : ℕ → ℕ → ℕ) (task : Task) (stops : List Stop) (k place ready : ℕ) : Type 0 where
+pub record RestServes (points : ℕ) (tau : ℕ → ℕ → ℕ) (task : Task) (stops : List Stop) (k place ready : ℕ) : Type 0 where
   pub valid : IsTask points (ready_at place ready (rest_of k task stops).0)
   pub serves : Serves tau (ready_at place ready (rest_of k task stops).0) (rest_of k task stops).1
   pub visits : visits_of (rest_of k task stops).0 (rest_of k task stops).1 ≡ drop k (visits_of task stops)
@@ -54,5 +54,5 @@ pub record StillServes (points : ℕ) (tau : ℕ → ℕ → ℕ) (task : Task) 
 abbrev pub OrdersGoOn : Type 0
 OrdersGoOn = (points : ℕ) (tau : ℕ → ℕ → ℕ) (task : Task) (stops : List Stop) (k place ready : ℕ)
     → IsTask points task → Serves tau task stops → place < points → ready ≤ longest
-    → Meets tau place ready (drop k (visits_of task stops)) (drop k (seconds_of tau task stops))
-    → StillServes points tau task stops k place ready
+    → MeetsNext tau place ready (drop k (visits_of task stops)) (drop k (seconds_of tau task stops))
+    → RestServes points tau task stops k place ready

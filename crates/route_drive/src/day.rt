@@ -1,7 +1,7 @@
 ghost use Rattle.std.specs.Prelude.{◌≡◌, None, Some, drop, length, max, not, unwrap_or, MatchResult};
 ghost use Rattle.std.specs.List.{list_any};
 ghost use Rattle.pool_base.specs.InOrder.{first_fault};
-ghost use Rattle.route_drive.specs.Day.{day_fault, first_seal, is_of_day, is_seal, lane_fault, round_fault, seal_of, seals_fault};
+ghost use Rattle.route_drive.specs.Day.{day_fault, first_seal, is_of_day, is_seal_command, lane_fault, round_fault, seal_of, seals_fault};
 
 use pool_base::Second;
 use request_book::Command;
@@ -97,7 +97,7 @@ fn has_foreign(commands: &[Command]) -> bool
 
 /// Whether a command behind the first is a seal.
 fn has_later_seal(commands: &[Command]) -> bool
-    ensures { result ≡ list_any is_seal (drop 1 commands.now) }
+    ensures { result ≡ list_any is_seal_command (drop 1 commands.now) }
 {
     if commands.is_empty() {
         return false;
@@ -106,7 +106,7 @@ fn has_later_seal(commands: &[Command]) -> bool
 }
 
 fn has_seal(commands: &[Command]) -> bool
-    ensures { result ≡ list_any is_seal commands.now }
+    ensures { result ≡ list_any is_seal_command commands.now }
 {
     commands.iter().any(|c| is_seal(c))
 }
@@ -128,7 +128,7 @@ fn is_of_day(command: &Command) -> bool
 }
 
 fn is_seal(command: &Command) -> bool
-    ensures { result ≡ is_seal command.now }
+    ensures { result ≡ is_seal_command command.now }
 {
     matches!(command, Command::Seal { .. })
 }

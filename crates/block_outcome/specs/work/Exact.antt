@@ -2,7 +2,7 @@
 use Rattle.std.specs.Prelude.{◌≡◌, ◌≢◌, ℕ, ◌<◌, ◌≤◌, Bool, true, List, [], ◌∷◌, ◌++◌, map, nat_le, length}
 use Rattle.std.specs.List.{All}
 use Rattle.plan_rules.specs.declared.node.Node.{Node}
-use Rattle.report_lines.specs.Outcome.{row_line, lines_of_answer}
+use Rattle.report_lines.specs.Outcome.{row_as_line, lines_of_answer}
 use Rattle.report_lines.specs.declared.block_line.BlockLine.TheVariants.{End}
 use Rattle.request_book.specs.declared.outcome.Answer.{Answer}
 use Rattle.request_book.specs.declared.outcome.Answer.TheVariants.{Planned as Plan}
@@ -12,7 +12,7 @@ use Rattle.block_outcome.specs.work.Parts.{graphs_lines, choice_lines, counts_li
 use Rattle.block_outcome.specs.declared.planning.Graphs.{Graphs}
 use Rattle.block_outcome.specs.declared.planning.Choice.{Choice}
 use Rattle.block_outcome.specs.declared.counts.Counts.{Counts}
-use Rattle.report_lines.specs.Order.{place_of}
+use Rattle.report_lines.specs.Order.{kind_place}
 use Rattle.report_lines.specs.declared.block_line.BlockLine.{BlockLine}
 use Rattle.request_book.specs.declared.outcome.RowLine.{RowLine}
 
@@ -31,13 +31,13 @@ is_trip row = nat_le (length row.riders.items) 6
 -- the place of the first line, and one behind all where there is none
 abbrev pub next_place : List BlockLine → ℕ
 next_place [] = 17
-next_place (line ∷ lines) = place_of line
+next_place (line ∷ lines) = kind_place line
 
 -- the graphs that stand first, whose lines any others of trips have too, and what is behind them
 abbrev pub AreOnlyGraphs : List BlockLine → Graphs → List BlockLine → Type 0
 AreOnlyGraphs lines graphs rest =
     (other : Graphs) (s : List BlockLine) → All (λ row. length row.riders.items ≤ 6) other.rows → 7 < next_place s → lines ≡ graphs_lines other ++ s
-    → (map row_line graphs.rows ≡ map row_line other.rows) × (rest ≡ s)
+    → (map row_as_line graphs.rows ≡ map row_as_line other.rows) × (rest ≡ s)
 
 -- what is behind the choice that stands first
 abbrev pub IsBehindChoice : List BlockLine → List BlockLine → Type 0

@@ -1,7 +1,7 @@
 -- The parts of a block's lines.
 use Rattle.std.specs.Prelude.{◌≡◌, ℕ, List, [], ◌∷◌, ◌++◌, map}
 use Rattle.plan_rules.specs.declared.node.Node.{Node}
-use Rattle.report_lines.specs.Outcome.{row_line, tree_line}
+use Rattle.report_lines.specs.Outcome.{row_as_line, tree_line}
 use Rattle.report_lines.specs.declared.block_line.BlockLine.{BlockLine}
 use Rattle.report_lines.specs.declared.block_line.BlockLine.TheVariants.{Lapsed, Late, Alone, Shared, Trip, Out, Move, Cost, Bound, Nodes, End}
 use Rattle.request_book.specs.declared.outcome.Planned.{Planned}
@@ -15,7 +15,7 @@ use Rattle.block_outcome.specs.declared.counts.Counts.{Counts}
 -- who can be served, with whom, and every trip
 abbrev pub graphs_lines : Graphs → List BlockLine
 graphs_lines graphs =
-    map Lapsed graphs.lapsed ++ map Late graphs.late ++ map Alone graphs.rv ++ map Shared graphs.rr ++ map row_line graphs.rows
+    map Lapsed graphs.lapsed ++ map Late graphs.late ++ map Alone graphs.rv ++ map Shared graphs.rr ++ map row_as_line graphs.rows
 
 -- chosen trips, who is left out, and where idle vehicles go
 abbrev pub choice_lines : Choice → List BlockLine

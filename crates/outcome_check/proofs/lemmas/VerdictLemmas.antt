@@ -4,7 +4,7 @@ use Rattle.std.proofs.lemmas.Bool.{cases_lt}
 use Rattle.request_book.specs.declared.outcome.Planned.{Planned}
 use Rattle.outcome_check.specs.Points.{GivesTrips}
 use Rattle.outcome_check.specs.Posed.{Posed}
-use Rattle.outcome_check.specs.Verdict.{place_of, GivesPlanWith, IsVerdictOf}
+use Rattle.outcome_check.specs.Verdict.{point_place, GivesPlanWith, IsVerdictOf}
 use Rattle.outcome_check.specs.declared.verdict.Point.{Point}
 use Rattle.outcome_check.specs.declared.verdict.Point.TheVariants as point
 use Rattle.outcome_check.specs.declared.verdict.Verdict.{Verdict}
@@ -12,7 +12,7 @@ use Rattle.outcome_check.specs.declared.verdict.Verdict.TheVariants.{Good, Fails
 
 -- all points before this place hold
 abbrev pub HoldBelow : (Point → Type 0) → ℕ → Type 0
-HoldBelow P k = (q : Point) → place_of q < k → P q
+HoldBelow P k = (q : Point) → point_place q < k → P q
 
 abbrev point_at : ℕ → Point
 point_at zero = point.Answer
@@ -25,7 +25,7 @@ point_at (suc (suc (suc (suc (suc (suc zero)))))) = point.Tree
 point_at (suc (suc (suc (suc (suc (suc (suc zero))))))) = point.Best
 point_at (suc (suc (suc (suc (suc (suc (suc (suc k)))))))) = point.Moves
 
-back : (q : Point) → point_at (place_of q) ≡ q
+back : (q : Point) → point_at (point_place q) ≡ q
 back point.Answer = refl
 back point.Graphs = refl
 back point.Late = refl
@@ -36,7 +36,7 @@ back point.Tree = refl
 back point.Best = refl
 back point.Moves = refl
 
-last_place : (q : Point) → place_of q < 9
+last_place : (q : Point) → point_place q < 9
 last_place point.Answer = omega arith
 last_place point.Graphs = omega arith
 last_place point.Late = omega arith
@@ -51,11 +51,11 @@ module _ (P : Point → Type 0) where
   pub hold_none : HoldBelow P 0
   hold_none q h = absurd (omega arith)
 
-  pub hold_more : (p : Point) → HoldBelow P (place_of p) → P p → HoldBelow P (place_of p + 1)
+  pub hold_more : (p : Point) → HoldBelow P (point_place p) → P p → HoldBelow P (point_place p + 1)
   hold_more p before holds q h = ⊎_elim
-      (λ (less : place_of q < place_of p). before q less)
-      (λ (ge : place_of p ≤ place_of q). let same : place_of p ≡ place_of q = omega (arith, h, ge) in subst P (sym (back p) ∙ ap point_at same ∙ back q) holds)
-      (cases_lt (place_of q) (place_of p))
+      (λ (less : point_place q < point_place p). before q less)
+      (λ (ge : point_place p ≤ point_place q). let same : point_place p ≡ point_place q = omega (arith, h, ge) in subst P (sym (back p) ∙ ap point_at same ∙ back q) holds)
+      (cases_lt (point_place q) (point_place p))
 
   pub hold_all : HoldBelow P 9 → (q : Point) → P q
   hold_all before q = before q (last_place q)

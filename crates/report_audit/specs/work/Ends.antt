@@ -3,7 +3,7 @@ use Rattle.std.specs.Prelude.{◌≡◌, ◌≢◌, ℕ, List, [], ◌++◌}
 use Rattle.dispatch_report.specs.Round.{end_text}
 use Rattle.rider_limits.specs.declared.settings.Settings.{Settings}
 use Rattle.road_network.specs.Roads.{Roads}
-use Rattle.report_audit.specs.Place.{Place}
+use Rattle.report_audit.specs.Place.{Extent}
 use Rattle.report_audit.specs.declared.stop.Stop.{Stop}
 use Rattle.report_audit.specs.work.Steps.{StopsAt}
 
@@ -14,11 +14,11 @@ IsEndText text entries = text ≡ end_text entries
 -- something follows the last line
 pub record IsRestBehind (text : List ℕ) (stop : Stop) : Type 0 where
   pub some : text ≢ []
-  pub stops : (settings : Settings) (roads : Roads) → StopsAt settings roads Place.finished text stop
+  pub stops : (settings : Settings) (roads : Roads) → StopsAt settings roads Extent.finished text stop
 
 -- the text begins with no last line, or something follows it
 pub data WhereEndStops (text : List ℕ) (entries : ℕ) (stop : Stop) : Type 0 where
-  before : ((settings : Settings) (roads : Roads) → StopsAt settings roads (Place.between [] entries) text stop) → WhereEndStops text entries stop
+  before : ((settings : Settings) (roads : Roads) → StopsAt settings roads (Extent.between [] entries) text stop) → WhereEndStops text entries stop
   behind : (rest : List ℕ) → text ≡ end_text entries ++ rest → IsRestBehind rest stop → WhereEndStops text entries stop
 
 pub record EndStops (text : List ℕ) (entries : ℕ) (stop : Stop) : Type 0 where

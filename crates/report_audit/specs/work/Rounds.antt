@@ -10,8 +10,8 @@ use Rattle.request_book.specs.declared.journal.Journal.{Journal}
 use Rattle.rider_limits.specs.declared.settings.Settings.{Settings}
 use Rattle.road_network.specs.Roads.{Roads}
 use Rattle.script_rows.specs.Round.{NumberedLanes}
-use Rattle.report_head.specs.Line.{IsFirst}
-use Rattle.report_audit.specs.Place.{Place, position_behind, state_behind}
+use Rattle.report_head.specs.Line.{IsFirstLine}
+use Rattle.report_audit.specs.Place.{Extent, position_behind, state_behind}
 use Rattle.report_audit.specs.Report.{closes}
 use Rattle.report_audit.specs.Types.{AreTold}
 use Rattle.report_audit.specs.declared.stop.Stop.{Stop}
@@ -28,12 +28,12 @@ pub record IsRoundStart (settings : Settings) (roads : Roads) (b : BookView) : T
 -- the text begins with the line of this round
 pub record HasRoundLine (text : List ℕ) (number : ℕ) (after : List ℕ) : Type 0 where
   pub low : number < 2 ^ 32
-  pub has : IsFirst text (numbered (codes "round ") number) after
+  pub has : IsFirstLine text (numbered (codes "round ") number) after
 
 -- the text doesn't begin with it
 pub record IsNoRoundLine (text : List ℕ) (number : ℕ) (stop : Stop) : Type 0 where
   pub low : number < 2 ^ 32
-  pub stops : (settings : Settings) (roads : Roads) (round : NumberedLanes) (later : List NumberedLanes) (position : ℕ) → round.number ≡ number → StopsAt settings roads (Place.between (round ∷ later) position) text stop
+  pub stops : (settings : Settings) (roads : Roads) (round : NumberedLanes) (later : List NumberedLanes) (position : ℕ) → round.number ≡ number → StopsAt settings roads (Extent.between (round ∷ later) position) text stop
 
 -- entries of a round were read up to here
 pub record EntriesSoFar (settings : Settings) (roads : Roads) (round : NumberedLanes) (old b : BookView) (lanes : List LaneStand) (open_batch : Option Batch) (text rest : List ℕ) : Type 0 where

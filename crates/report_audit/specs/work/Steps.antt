@@ -15,9 +15,9 @@ use Rattle.request_book.specs.declared.journal.Journal.{Journal}
 use Rattle.rider_limits.specs.declared.settings.Settings.{Settings}
 use Rattle.road_network.specs.Roads.{Roads}
 use Rattle.script_rows.specs.Round.{IsRound, NumberedLanes}
-use Rattle.report_head.specs.Line.{IsFirst}
+use Rattle.report_head.specs.Line.{IsFirstLine}
 use Rattle.report_audit.specs.Fault.{IsCut, IsOutOfForm, IsWrongLine, IsWrongBatch}
-use Rattle.report_audit.specs.Place.{Place, BeginsRound, AreAtEnd, position_behind}
+use Rattle.report_audit.specs.Place.{Extent, BeginsRound, AreAtEnd, position_behind}
 use Rattle.report_audit.specs.declared.stop.LineFault.{LineFault}
 use Rattle.report_audit.specs.declared.stop.LineFault.TheVariants as wrong
 use Rattle.report_audit.specs.declared.stop.Stop.{Stop}
@@ -25,13 +25,13 @@ use Rattle.report_audit.specs.declared.stop.Stop.TheVariants.{OutOfMemory, Line,
 use Rattle.report_audit.specs.work.Rest.{IsRestOfRound, entries_text}
 
 -- the line is wrong in this way
-abbrev pub IsWrong : Settings → Roads → Place → List ℕ → LineFault → Type 0
+abbrev pub IsWrong : Settings → Roads → Extent → List ℕ → LineFault → Type 0
 IsWrong settings roads place text wrong.Cut = IsCut place text
 IsWrong settings roads place text wrong.Form = IsOutOfForm place text
 IsWrong settings roads place text wrong.Entry = IsWrongLine settings roads place text
 
 -- why an audit stops at a place before this text
-abbrev pub StopsAt : Settings → Roads → Place → List ℕ → Stop → Type 0
+abbrev pub StopsAt : Settings → Roads → Extent → List ℕ → Stop → Type 0
 StopsAt settings roads place text OutOfMemory = Unit {0}
 StopsAt settings roads place text (Line left fault) = (left ≡ length text) × IsWrong settings roads place text fault
 StopsAt settings roads place text (Block left refused) = (left ≡ length text) × IsWrongBatch refused settings roads place text × (refused ≢ refusal.OutOfMemory)
@@ -39,7 +39,7 @@ StopsAt settings roads place text (Block left refused) = (left ≡ length text) 
 -- no line stands first, or one that is nothing between blocks
 abbrev pub HasNoNext : List ℕ → Stop → Type 0
 HasNoNext text (Line left wrong.Cut) = (left ≡ length text) × (is_one_line text ≡ true)
-HasNoNext text (Line left wrong.Form) = (left ≡ length text) × ((l after : List ℕ) × IsFirst text l after × ((x : NextLine) → IsNextLine x l → ⊥))
+HasNoNext text (Line left wrong.Form) = (left ≡ length text) × ((l after : List ℕ) × IsFirstLine text l after × ((x : NextLine) → IsNextLine x l → ⊥))
 HasNoNext text _ = ⊥
 
 -- the book is that of these roads and settings
@@ -81,13 +81,13 @@ pub record EntryRead (settings : Settings) (roads : Roads) (round : NumberedLane
 
 -- the text begins with the line of an entry of this lane
 pub record IsEntryOf (lane : ℕ) (text line after : List ℕ) : Type 0 where
-  pub has : IsFirst text line after
+  pub has : IsFirstLine text line after
   pub form : IsNextLine (EntryOf lane) line
   pub low : lane < 16
 
 -- an audit stops within a round, and no run goes on with the text
 pub record StopsWithin (settings : Settings) (roads : Roads) (round : NumberedLanes) (j : Journal) (text : List ℕ) (stop : Stop) : Type 0 where
-  pub stops : StopsAt settings roads (Place.within round j) text stop
+  pub stops : StopsAt settings roads (Extent.within round j) text stop
   pub none : stop ≢ OutOfMemory → (later : List NumberedLanes) → IsRestOfRound settings roads round later j text → ⊥
 
 -- an audit stops behind some entries

@@ -8,7 +8,7 @@ use Rattle.request_book.specs.declared.state.State.{State}
 use Rattle.rider_limits.specs.declared.settings.Settings.{Settings}
 use Rattle.road_network.specs.Roads.{Roads}
 use Rattle.script_rows.specs.Round.{NumberedLanes}
-use Rattle.report_audit.specs.Place.{Place, BeginsRound, AreAtEnd, state_after_rounds}
+use Rattle.report_audit.specs.Place.{Extent, BeginsRound, AreAtEnd, state_after_rounds}
 use Rattle.report_audit.specs.Report.{rounds_text, batches_after}
 use Rattle.report_audit.specs.Types.{JournalsAreTold}
 use Rattle.report_audit.specs.declared.fault.Audited.{Audited}
@@ -45,13 +45,13 @@ pub record HasReadAll (settings : Settings) (roads : Roads) (rounds : List Numbe
 -- an audit stops behind whole rounds: before the next, within it, at the end, or behind it
 pub data WhereAllStops (settings : Settings) (roads : Roads) (rounds : List NumberedLanes) (s : State) (text : List ℕ) (stop : Stop) : Type 0 where
   between : (before later : List NumberedLanes) (made : List Journal) (rest : List ℕ) → rounds ≡ before ++ later → HasReadRounds settings roads s before made text rest
-      → StopsAt settings roads (Place.between later (position_after_run 0 made)) rest stop → WhereAllStops settings roads rounds s text stop
+      → StopsAt settings roads (Extent.between later (position_after_run 0 made)) rest stop → WhereAllStops settings roads rounds s text stop
   within : (before later : List NumberedLanes) (round : NumberedLanes) (made : List Journal) (j : Journal) (rest : List ℕ) → rounds ≡ before ++ round ∷ later
       → HasReadRounds settings roads s before made text (round_text round.number true j ++ rest)
       → j.base ≡ state_after_rounds settings roads s made → j.first ≡ position_after_run 0 made → BeginsRound settings roads round j → (AreAtEnd round j → ⊥)
-      → StopsAt settings roads (Place.within round j) rest stop → WhereAllStops settings roads rounds s text stop
+      → StopsAt settings roads (Extent.within round j) rest stop → WhereAllStops settings roads rounds s text stop
   behind : (made : List Journal) (rest : List ℕ) → HasReadRounds settings roads s rounds made text (end_text (position_after_run 0 made) ++ rest)
-      → StopsAt settings roads Place.finished rest stop → WhereAllStops settings roads rounds s text stop
+      → StopsAt settings roads Extent.finished rest stop → WhereAllStops settings roads rounds s text stop
 
 pub record AllStops (settings : Settings) (roads : Roads) (rounds : List NumberedLanes) (s : State) (text : List ℕ) (stop : Stop) : Type 0 where
   pub stops : WhereAllStops settings roads rounds s text stop

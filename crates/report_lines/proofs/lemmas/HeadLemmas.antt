@@ -1,15 +1,15 @@
 -- The line of the settings.
 use Rattle.std.proofs.Common.{◌≡◌, ◌≢◌, ℕ, zero, suc, ◌≤◌, ◌==◌, Bool, true, false, if◌then◌else◌, nat_eq, get_or, length, codes, List, [], refl, sym, ap, ◌∙◌, append-nil, ne_eqb, arith}
 use Rattle.dispatch_report.specs.Words.{numbered}
-use Rattle.report_lines.specs.Head.{IsShort, settings_text, AreSettings}
+use Rattle.report_lines.specs.Head.{IsShortNumber, settings_text, AreSettings}
 use Rattle.report_lines.specs.Reading.{BeginsWith, BeginsWithNone, ends_number}
 use Rattle.report_lines.specs.declared.head.SettingsText.{SettingsText}
-use Rattle.report_lines.specs.Both.{both, BothAre}
+use Rattle.report_lines.specs.Both.{both_texts, BothAre}
 use Rattle.report_lines.specs.lemmas.Head.{dwell_text}
 use Rattle.report_lines.specs.work.Head.{limits_text, costs_text, AreThree}
 use Rattle.report_lines.proofs.lemmas.ReadingLemmas.{EndsOnce, StandsApart, both_none_first, both_none_second, both_some, both_once, numbered_once, head_none, tail_none}
 
-short_once : (words : List ℕ) → EndsOnce (numbered words) IsShort
+short_once : (words : List ℕ) → EndsOnce (numbered words) IsShortNumber
 short_once words = numbered_once words 4294967295 (omega arith)
 
 delay_apart : StandsApart (numbered (codes " delay="))
@@ -42,26 +42,26 @@ arcs_end n = refl
 
 -- three numbers behind words
 module _ (first second third : List ℕ) (apart_second : StandsApart (numbered second)) (apart_third : StandsApart (numbered third)) (text : List ℕ) where
-  pub three_no_first : BeginsWithNone (numbered first) IsShort text → BeginsWithNone (both (both (numbered first) (numbered second)) (numbered third)) AreThree text
+  pub three_no_first : BeginsWithNone (numbered first) IsShortNumber text → BeginsWithNone (both_texts (both_texts (numbered first) (numbered second)) (numbered third)) AreThree text
   three_no_first none =
-      both_none_first (both (numbered first) (numbered second)) (BothAre IsShort IsShort) (numbered third) IsShort apart_third text
-      (both_none_first (numbered first) IsShort (numbered second) IsShort apart_second text none)
+      both_none_first (both_texts (numbered first) (numbered second)) (BothAre IsShortNumber IsShortNumber) (numbered third) IsShortNumber apart_third text
+      (both_none_first (numbered first) IsShortNumber (numbered second) IsShortNumber apart_second text none)
 
-  pub three_no_second : (a : ℕ) (after : List ℕ) → BeginsWith (numbered first) IsShort text a after → BeginsWithNone (numbered second) IsShort after → BeginsWithNone (both (both (numbered first) (numbered second)) (numbered third)) AreThree text
+  pub three_no_second : (a : ℕ) (after : List ℕ) → BeginsWith (numbered first) IsShortNumber text a after → BeginsWithNone (numbered second) IsShortNumber after → BeginsWithNone (both_texts (both_texts (numbered first) (numbered second)) (numbered third)) AreThree text
   three_no_second a after b none =
-      both_none_first (both (numbered first) (numbered second)) (BothAre IsShort IsShort) (numbered third) IsShort apart_third text
-      (both_none_second (numbered first) IsShort (numbered second) IsShort apart_second text a after (short_once first) b none)
+      both_none_first (both_texts (numbered first) (numbered second)) (BothAre IsShortNumber IsShortNumber) (numbered third) IsShortNumber apart_third text
+      (both_none_second (numbered first) IsShortNumber (numbered second) IsShortNumber apart_second text a after (short_once first) b none)
 
-  pub three_no_third : (a : ℕ) (after : List ℕ) (d : ℕ) (last : List ℕ) → BeginsWith (numbered first) IsShort text a after → BeginsWith (numbered second) IsShort after d last → BeginsWithNone (numbered third) IsShort last → BeginsWithNone (both (both (numbered first) (numbered second)) (numbered third)) AreThree text
+  pub three_no_third : (a : ℕ) (after : List ℕ) (d : ℕ) (last : List ℕ) → BeginsWith (numbered first) IsShortNumber text a after → BeginsWith (numbered second) IsShortNumber after d last → BeginsWithNone (numbered third) IsShortNumber last → BeginsWithNone (both_texts (both_texts (numbered first) (numbered second)) (numbered third)) AreThree text
   three_no_third a after d last b bd none =
-      both_none_second (both (numbered first) (numbered second)) (BothAre IsShort IsShort) (numbered third) IsShort apart_third text (a, d) last
-      (both_once (numbered first) IsShort (numbered second) IsShort apart_second (short_once first) (short_once second))
-      (both_some (numbered first) IsShort (numbered second) IsShort apart_second text a after d last b bd) none
+      both_none_second (both_texts (numbered first) (numbered second)) (BothAre IsShortNumber IsShortNumber) (numbered third) IsShortNumber apart_third text (a, d) last
+      (both_once (numbered first) IsShortNumber (numbered second) IsShortNumber apart_second (short_once first) (short_once second))
+      (both_some (numbered first) IsShortNumber (numbered second) IsShortNumber apart_second text a after d last b bd) none
 
-three_once : (first second third : List ℕ) → StandsApart (numbered second) → StandsApart (numbered third) → EndsOnce (both (both (numbered first) (numbered second)) (numbered third)) AreThree
+three_once : (first second third : List ℕ) → StandsApart (numbered second) → StandsApart (numbered third) → EndsOnce (both_texts (both_texts (numbered first) (numbered second)) (numbered third)) AreThree
 three_once first second third apart_second apart_third =
-    both_once (both (numbered first) (numbered second)) (BothAre IsShort IsShort) (numbered third) IsShort apart_third
-    (both_once (numbered first) IsShort (numbered second) IsShort apart_second (short_once first) (short_once second)) (short_once third)
+    both_once (both_texts (numbered first) (numbered second)) (BothAre IsShortNumber IsShortNumber) (numbered third) IsShortNumber apart_third
+    (both_once (numbered first) IsShortNumber (numbered second) IsShortNumber apart_second (short_once first) (short_once second)) (short_once third)
 
 pub limits_once : EndsOnce limits_text AreThree
 limits_once = three_once (codes "settings wait=") (codes " delay=") (codes " trip=") delay_apart trip_apart
@@ -70,30 +70,30 @@ pub costs_once : EndsOnce costs_text AreThree
 costs_once = three_once (codes " penalty=") (codes " budget=") (codes " pairs=") budget_apart pairs_apart
 
 module _ (text : List ℕ) where
-  pub limits_no_wait : BeginsWithNone (numbered (codes "settings wait=")) IsShort text → BeginsWithNone limits_text AreThree text
+  pub limits_no_wait : BeginsWithNone (numbered (codes "settings wait=")) IsShortNumber text → BeginsWithNone limits_text AreThree text
   limits_no_wait = three_no_first (codes "settings wait=") (codes " delay=") (codes " trip=") delay_apart trip_apart text
 
-  pub limits_no_delay : (a : ℕ) (after : List ℕ) → BeginsWith (numbered (codes "settings wait=")) IsShort text a after → BeginsWithNone (numbered (codes " delay=")) IsShort after → BeginsWithNone limits_text AreThree text
+  pub limits_no_delay : (a : ℕ) (after : List ℕ) → BeginsWith (numbered (codes "settings wait=")) IsShortNumber text a after → BeginsWithNone (numbered (codes " delay=")) IsShortNumber after → BeginsWithNone limits_text AreThree text
   limits_no_delay = three_no_second (codes "settings wait=") (codes " delay=") (codes " trip=") delay_apart trip_apart text
 
-  pub limits_no_trip : (a : ℕ) (after : List ℕ) (d : ℕ) (last : List ℕ) → BeginsWith (numbered (codes "settings wait=")) IsShort text a after → BeginsWith (numbered (codes " delay=")) IsShort after d last → BeginsWithNone (numbered (codes " trip=")) IsShort last → BeginsWithNone limits_text AreThree text
+  pub limits_no_trip : (a : ℕ) (after : List ℕ) (d : ℕ) (last : List ℕ) → BeginsWith (numbered (codes "settings wait=")) IsShortNumber text a after → BeginsWith (numbered (codes " delay=")) IsShortNumber after d last → BeginsWithNone (numbered (codes " trip=")) IsShortNumber last → BeginsWithNone limits_text AreThree text
   limits_no_trip = three_no_third (codes "settings wait=") (codes " delay=") (codes " trip=") delay_apart trip_apart text
 
-  pub costs_no_penalty : BeginsWithNone (numbered (codes " penalty=")) IsShort text → BeginsWithNone costs_text AreThree text
+  pub costs_no_penalty : BeginsWithNone (numbered (codes " penalty=")) IsShortNumber text → BeginsWithNone costs_text AreThree text
   costs_no_penalty = three_no_first (codes " penalty=") (codes " budget=") (codes " pairs=") budget_apart pairs_apart text
 
-  pub costs_no_budget : (a : ℕ) (after : List ℕ) → BeginsWith (numbered (codes " penalty=")) IsShort text a after → BeginsWithNone (numbered (codes " budget=")) IsShort after → BeginsWithNone costs_text AreThree text
+  pub costs_no_budget : (a : ℕ) (after : List ℕ) → BeginsWith (numbered (codes " penalty=")) IsShortNumber text a after → BeginsWithNone (numbered (codes " budget=")) IsShortNumber after → BeginsWithNone costs_text AreThree text
   costs_no_budget = three_no_second (codes " penalty=") (codes " budget=") (codes " pairs=") budget_apart pairs_apart text
 
-  pub costs_no_pairs : (a : ℕ) (after : List ℕ) (d : ℕ) (last : List ℕ) → BeginsWith (numbered (codes " penalty=")) IsShort text a after → BeginsWith (numbered (codes " budget=")) IsShort after d last → BeginsWithNone (numbered (codes " pairs=")) IsShort last → BeginsWithNone costs_text AreThree text
+  pub costs_no_pairs : (a : ℕ) (after : List ℕ) (d : ℕ) (last : List ℕ) → BeginsWith (numbered (codes " penalty=")) IsShortNumber text a after → BeginsWith (numbered (codes " budget=")) IsShortNumber after d last → BeginsWithNone (numbered (codes " pairs=")) IsShortNumber last → BeginsWithNone costs_text AreThree text
   costs_no_pairs = three_no_third (codes " penalty=") (codes " budget=") (codes " pairs=") budget_apart pairs_apart text
 
 -- the three parts of a line, before the dwell
 abbrev parts_text : (((ℕ × ℕ) × ℕ) × ((ℕ × ℕ) × ℕ)) × ℕ → List ℕ
-parts_text = both (both limits_text costs_text) (numbered (codes " proof="))
+parts_text = both_texts (both_texts limits_text costs_text) (numbered (codes " proof="))
 
 abbrev AreParts : (((ℕ × ℕ) × ℕ) × ((ℕ × ℕ) × ℕ)) × ℕ → Type 0
-AreParts = BothAre (BothAre AreThree AreThree) IsShort
+AreParts = BothAre (BothAre AreThree AreThree) IsShortNumber
 
 abbrev parts_of : SettingsText → (((ℕ × ℕ) × ℕ) × ((ℕ × ℕ) × ℕ)) × ℕ
 parts_of s = ((((s.wait, s.delay), s.trip), ((s.penalty, s.budget), s.pairs)), s.proof)
@@ -101,11 +101,11 @@ parts_of s = ((((s.wait, s.delay), s.trip), ((s.penalty, s.budget), s.pairs)), s
 are_parts : (s : SettingsText) → AreSettings s → AreParts (parts_of s)
 are_parts s is = ((((is.wait, is.delay), is.trip), ((is.penalty, is.budget), is.pairs)), is.proof)
 
-both_parts_once : EndsOnce (both limits_text costs_text) (BothAre AreThree AreThree)
+both_parts_once : EndsOnce (both_texts limits_text costs_text) (BothAre AreThree AreThree)
 both_parts_once = both_once limits_text AreThree costs_text AreThree costs_apart limits_once costs_once
 
 parts_once : EndsOnce parts_text AreParts
-parts_once = both_once (both limits_text costs_text) (BothAre AreThree AreThree) (numbered (codes " proof=")) IsShort proof_apart both_parts_once (short_once (codes " proof="))
+parts_once = both_once (both_texts limits_text costs_text) (BothAre AreThree AreThree) (numbered (codes " proof=")) IsShortNumber proof_apart both_parts_once (short_once (codes " proof="))
 
 dwell_first : (dwell : ℕ) → ends_number (numbered (codes " dwell=") dwell) ≡ true
 unfolding numbered
@@ -125,37 +125,37 @@ module _ (line : List ℕ) where
   pub settings_no_limits : BeginsWithNone limits_text AreThree line → (s : SettingsText) → AreSettings s → line ≢ settings_text s
   settings_no_limits none =
       parts_none
-      (both_none_first (both limits_text costs_text) (BothAre AreThree AreThree) (numbered (codes " proof=")) IsShort proof_apart line
+      (both_none_first (both_texts limits_text costs_text) (BothAre AreThree AreThree) (numbered (codes " proof=")) IsShortNumber proof_apart line
       (both_none_first limits_text AreThree costs_text AreThree costs_apart line none))
 
   module _ (limits : (ℕ × ℕ) × ℕ) (after : List ℕ) (has_limits : BeginsWith limits_text AreThree line limits after) where
     pub settings_no_costs : BeginsWithNone costs_text AreThree after → (s : SettingsText) → AreSettings s → line ≢ settings_text s
     settings_no_costs none =
         parts_none
-        (both_none_first (both limits_text costs_text) (BothAre AreThree AreThree) (numbered (codes " proof=")) IsShort proof_apart line
+        (both_none_first (both_texts limits_text costs_text) (BothAre AreThree AreThree) (numbered (codes " proof=")) IsShortNumber proof_apart line
         (both_none_second limits_text AreThree costs_text AreThree costs_apart line limits after limits_once has_limits none))
 
     module _ (costs : (ℕ × ℕ) × ℕ) (behind : List ℕ) (has_costs : BeginsWith costs_text AreThree after costs behind) where
-      pub settings_no_proof : BeginsWithNone (numbered (codes " proof=")) IsShort behind → (s : SettingsText) → AreSettings s → line ≢ settings_text s
+      pub settings_no_proof : BeginsWithNone (numbered (codes " proof=")) IsShortNumber behind → (s : SettingsText) → AreSettings s → line ≢ settings_text s
       settings_no_proof none =
           parts_none
-          (both_none_second (both limits_text costs_text) (BothAre AreThree AreThree) (numbered (codes " proof=")) IsShort proof_apart line (limits, costs) behind both_parts_once
+          (both_none_second (both_texts limits_text costs_text) (BothAre AreThree AreThree) (numbered (codes " proof=")) IsShortNumber proof_apart line (limits, costs) behind both_parts_once
           (both_some limits_text AreThree costs_text AreThree costs_apart line limits after costs behind has_limits has_costs) none)
 
-      module _ (proof : ℕ) (rest : List ℕ) (has_proof : BeginsWith (numbered (codes " proof=")) IsShort behind proof rest) where
+      module _ (proof : ℕ) (rest : List ℕ) (has_proof : BeginsWith (numbered (codes " proof=")) IsShortNumber behind proof rest) where
         pub settings_parts : BeginsWith parts_text AreParts line ((limits, costs), proof) rest
         settings_parts =
-            both_some (both limits_text costs_text) (BothAre AreThree AreThree) (numbered (codes " proof=")) IsShort proof_apart line (limits, costs) behind proof rest
+            both_some (both_texts limits_text costs_text) (BothAre AreThree AreThree) (numbered (codes " proof=")) IsShortNumber proof_apart line (limits, costs) behind proof rest
             (both_some limits_text AreThree costs_text AreThree costs_apart line limits after costs behind has_limits has_costs) has_proof
 
-        pub settings_no_dwell : ((dwell : ℕ) → IsShort dwell → rest ≢ dwell_text dwell) → (s : SettingsText) → AreSettings s → line ≢ settings_text s
+        pub settings_no_dwell : ((dwell : ℕ) → IsShortNumber dwell → rest ≢ dwell_text dwell) → (s : SettingsText) → AreSettings s → line ≢ settings_text s
         settings_no_dwell none s is e =
             tail_none parts_text AreParts dwell_text line parts_once ((limits, costs), proof) rest settings_parts (parts_of s) s.dwell (are_parts s is) (dwell_ends s.dwell) (none s.dwell is.dwell) e
 
-pub limits_some : (text : List ℕ) (a : ℕ) (after : List ℕ) (d : ℕ) (last : List ℕ) (k : ℕ) (rest : List ℕ) → BeginsWith (numbered (codes "settings wait=")) IsShort text a after → BeginsWith (numbered (codes " delay=")) IsShort after d last → BeginsWith (numbered (codes " trip=")) IsShort last k rest → BeginsWith limits_text AreThree text ((a, d), k) rest
+pub limits_some : (text : List ℕ) (a : ℕ) (after : List ℕ) (d : ℕ) (last : List ℕ) (k : ℕ) (rest : List ℕ) → BeginsWith (numbered (codes "settings wait=")) IsShortNumber text a after → BeginsWith (numbered (codes " delay=")) IsShortNumber after d last → BeginsWith (numbered (codes " trip=")) IsShortNumber last k rest → BeginsWith limits_text AreThree text ((a, d), k) rest
 limits_some text a after d last k rest ba bd bk =
-    both_some (both (numbered (codes "settings wait=")) (numbered (codes " delay="))) (BothAre IsShort IsShort) (numbered (codes " trip=")) IsShort trip_apart text (a, d) last k rest
-    (both_some (numbered (codes "settings wait=")) IsShort (numbered (codes " delay=")) IsShort delay_apart text a after d last ba bd) bk
+    both_some (both_texts (numbered (codes "settings wait=")) (numbered (codes " delay="))) (BothAre IsShortNumber IsShortNumber) (numbered (codes " trip=")) IsShortNumber trip_apart text (a, d) last k rest
+    (both_some (numbered (codes "settings wait=")) IsShortNumber (numbered (codes " delay=")) IsShortNumber delay_apart text a after d last ba bd) bk
 
 dwell_told : (dwell : ℕ) → dwell ≢ 0 → dwell_text dwell ≡ numbered (codes " dwell=") dwell
 dwell_told dwell some =
@@ -163,16 +163,16 @@ dwell_told dwell some =
     ap text (ne_eqb dwell 0 some)
 
 -- no dwell is told as 0
-pub dwell_not_zero : (text : List ℕ) (told : ℕ) → nat_eq (length text) 0 ≡ false → told ≡ 0 → text ≡ numbered (codes " dwell=") told → (dwell : ℕ) → IsShort dwell → text ≢ dwell_text dwell
+pub dwell_not_zero : (text : List ℕ) (told : ℕ) → nat_eq (length text) 0 ≡ false → told ≡ 0 → text ≡ numbered (codes " dwell=") told → (dwell : ℕ) → IsShortNumber dwell → text ≢ dwell_text dwell
 dwell_not_zero text told some zero_told is zero within e =
     let f : List ℕ → Bool = λ r. nat_eq (length r) 0 in
     let none : nat_eq (length text) 0 ≡ true = ap f e in
     cc
 dwell_not_zero text told some zero_told is (suc dwell) within e =
     let told_so : dwell_text (suc dwell) ≡ numbered (codes " dwell=") (suc dwell) = dwell_told (suc dwell) (λ z. omega arith) in
-    let here : BeginsWith (numbered (codes " dwell=")) IsShort text (suc dwell) [] = record { whole = e ∙ told_so ∙ sym (append-nil (numbered (codes " dwell=") (suc dwell))); lawful = within; ends = refl } in
+    let here : BeginsWith (numbered (codes " dwell=")) IsShortNumber text (suc dwell) [] = record { whole = e ∙ told_so ∙ sym (append-nil (numbered (codes " dwell=") (suc dwell))); lawful = within; ends = refl } in
     let small : told ≤ 4294967295 = omega arith in
-    let there : BeginsWith (numbered (codes " dwell=")) IsShort text told [] = record { whole = is ∙ sym (append-nil (numbered (codes " dwell=") told)); lawful = small; ends = refl } in
+    let there : BeginsWith (numbered (codes " dwell=")) IsShortNumber text told [] = record { whole = is ∙ sym (append-nil (numbered (codes " dwell=") told)); lawful = small; ends = refl } in
     let same : suc dwell ≡ told = (short_once (codes " dwell=") text (suc dwell) told [] [] here there).0 in
     omega arith
 
@@ -184,14 +184,14 @@ no_dwell_told dwell e =
     let head : ◌≡◌ {A = ℕ} 0 32 = ap first e in
     omega arith
 
-dwell_of_one : (a b : ℕ) → IsShort a → IsShort b → dwell_text a ≡ dwell_text b → a ≡ b
+dwell_of_one : (a b : ℕ) → IsShortNumber a → IsShortNumber b → dwell_text a ≡ dwell_text b → a ≡ b
 dwell_of_one zero zero ia ib e = refl
 dwell_of_one zero (suc b) ia ib e = absurd (no_dwell_told (suc b) (e ∙ dwell_told (suc b) (λ z. omega arith)))
 dwell_of_one (suc a) zero ia ib e = absurd (no_dwell_told (suc a) (sym e ∙ dwell_told (suc a) (λ z. omega arith)))
 dwell_of_one (suc a) (suc b) ia ib e =
     let same : numbered (codes " dwell=") (suc a) ≡ numbered (codes " dwell=") (suc b) = sym (dwell_told (suc a) (λ z. omega arith)) ∙ e ∙ dwell_told (suc b) (λ z. omega arith) in
-    let here : BeginsWith (numbered (codes " dwell=")) IsShort (numbered (codes " dwell=") (suc a)) (suc a) [] = record { whole = sym (append-nil (numbered (codes " dwell=") (suc a))); lawful = ia; ends = refl } in
-    let there : BeginsWith (numbered (codes " dwell=")) IsShort (numbered (codes " dwell=") (suc a)) (suc b) [] = record { whole = same ∙ sym (append-nil (numbered (codes " dwell=") (suc b))); lawful = ib; ends = refl } in
+    let here : BeginsWith (numbered (codes " dwell=")) IsShortNumber (numbered (codes " dwell=") (suc a)) (suc a) [] = record { whole = sym (append-nil (numbered (codes " dwell=") (suc a))); lawful = ia; ends = refl } in
+    let there : BeginsWith (numbered (codes " dwell=")) IsShortNumber (numbered (codes " dwell=") (suc a)) (suc b) [] = record { whole = same ∙ sym (append-nil (numbered (codes " dwell=") (suc b))); lawful = ib; ends = refl } in
     (short_once (codes " dwell=") (numbered (codes " dwell=") (suc a)) (suc a) (suc b) [] [] here there).0
 
 -- lines of settings of the same text say the same

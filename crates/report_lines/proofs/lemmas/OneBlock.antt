@@ -15,7 +15,7 @@ use Rattle.report_lines.specs.declared.block.BlockFault.TheVariants.{OutOfMemory
 use Rattle.report_lines.specs.BlockLine.{block_line_text, IsBlockLine}
 use Rattle.report_lines.specs.Cut.{is_one_line}
 use Rattle.report_lines.specs.Ids.{IsId, AreIds}
-use Rattle.report_lines.specs.Order.{place_of, may_follow_at, follow_on, last_place}
+use Rattle.report_lines.specs.Order.{kind_place, may_follow_at, follow_on, last_place}
 use Rattle.report_lines.specs.Signed.{IsWide, IsLong}
 use Rattle.report_lines.specs.work.Stops.{stops_text}
 use Rattle.report_lines.specs.Stops.{AreStops}
@@ -204,8 +204,8 @@ nothing_follows_end place y at h = follows_end y (subst (λ p. may_follow_at p y
 blocks_same : (place : ℕ) (xs ys : List BlockLine) (r s : List ℕ) → All IsBlockLine xs → All IsBlockLine ys → follow_on place xs ≡ true → follow_on place ys ≡ true → last_place place xs ≡ 16 → last_place place ys ≡ 16 → lines_text (map block_line_text xs) ++ r ≡ lines_text (map block_line_text ys) ++ s → (xs ≡ ys) × (r ≡ s)
 unfolding lines_text
 blocks_same place [] [] r s ix iy fx fy lx ly e = (refl, e)
-blocks_same place [] (y ∷ ys) r s ix iy fx fy lx ly e = absurd (nothing_follows_end place y lx (and_parts (may_follow_at place y) (follow_on (place_of y) ys) fy).0)
-blocks_same place (x ∷ xs) [] r s ix iy fx fy lx ly e = absurd (nothing_follows_end place x ly (and_parts (may_follow_at place x) (follow_on (place_of x) xs) fx).0)
+blocks_same place [] (y ∷ ys) r s ix iy fx fy lx ly e = absurd (nothing_follows_end place y lx (and_parts (may_follow_at place y) (follow_on (kind_place y) ys) fy).0)
+blocks_same place (x ∷ xs) [] r s ix iy fx fy lx ly e = absurd (nothing_follows_end place x ly (and_parts (may_follow_at place x) (follow_on (kind_place x) xs) fx).0)
 blocks_same place (x ∷ xs) (y ∷ ys) r s ix iy fx fy lx ly e =
     let hx = All-head IsBlockLine x xs ix in
     let hy = All-head IsBlockLine y ys iy in
@@ -214,11 +214,11 @@ blocks_same place (x ∷ xs) (y ∷ ys) r s ix iy fx fy lx ly e =
     (block_line_one_line x hx) (block_line_one_line y hy) (sym (first_line x xs r) ∙ e ∙ first_line y ys s)
     in
     let head : x ≡ y = block_line_of_one x y hx hy cut.0 in
-    let place_same : place_of x ≡ place_of y = ap place_of head in
+    let place_same : kind_place x ≡ kind_place y = ap kind_place head in
     let rest =
-    blocks_same (place_of x) xs ys r s (All-tail IsBlockLine x xs ix) (All-tail IsBlockLine y ys iy)
-    (and_parts (may_follow_at place x) (follow_on (place_of x) xs) fx).1
-    (subst (λ p. follow_on p ys ≡ true) (sym place_same) (and_parts (may_follow_at place y) (follow_on (place_of y) ys) fy).1)
+    blocks_same (kind_place x) xs ys r s (All-tail IsBlockLine x xs ix) (All-tail IsBlockLine y ys iy)
+    (and_parts (may_follow_at place x) (follow_on (kind_place x) xs) fx).1
+    (subst (λ p. follow_on p ys ≡ true) (sym place_same) (and_parts (may_follow_at place y) (follow_on (kind_place y) ys) fy).1)
     lx (subst (λ p. last_place p ys ≡ 16) (sym place_same) ly) cut.1
     in
     (ap (λ z. z ∷ xs) head ∙ ap (λ zs. y ∷ zs) rest.0, rest.1)
@@ -237,8 +237,8 @@ stuck_no_block : (place : ℕ) (xs ys : List BlockLine) (r s : List ℕ) → All
 unfolding lines_text
 stuck_no_block place [] [] r s ix iy fx fy lx ly stuck e = lx ly
 stuck_no_block place [] (y ∷ ys) r s ix iy fx fy lx ly stuck e =
-    stuck y (lines_text (map block_line_text ys) ++ s) (All-head IsBlockLine y ys iy) (and_parts (may_follow_at place y) (follow_on (place_of y) ys) fy).0 (e ∙ first_line y ys s)
-stuck_no_block place (x ∷ xs) [] r s ix iy fx fy lx ly stuck e = nothing_follows_end place x ly (and_parts (may_follow_at place x) (follow_on (place_of x) xs) fx).0
+    stuck y (lines_text (map block_line_text ys) ++ s) (All-head IsBlockLine y ys iy) (and_parts (may_follow_at place y) (follow_on (kind_place y) ys) fy).0 (e ∙ first_line y ys s)
+stuck_no_block place (x ∷ xs) [] r s ix iy fx fy lx ly stuck e = nothing_follows_end place x ly (and_parts (may_follow_at place x) (follow_on (kind_place x) xs) fx).0
 stuck_no_block place (x ∷ xs) (y ∷ ys) r s ix iy fx fy lx ly stuck e =
     let hx = All-head IsBlockLine x xs ix in
     let hy = All-head IsBlockLine y ys iy in
@@ -247,10 +247,10 @@ stuck_no_block place (x ∷ xs) (y ∷ ys) r s ix iy fx fy lx ly stuck e =
     (block_line_one_line x hx) (block_line_one_line y hy) (sym (first_line x xs r) ∙ e ∙ first_line y ys s)
     in
     let head : x ≡ y = block_line_of_one x y hx hy cut.0 in
-    let place_same : place_of x ≡ place_of y = ap place_of head in
-    stuck_no_block (place_of x) xs ys r s (All-tail IsBlockLine x xs ix) (All-tail IsBlockLine y ys iy)
-    (and_parts (may_follow_at place x) (follow_on (place_of x) xs) fx).1
-    (subst (λ p. follow_on p ys ≡ true) (sym place_same) (and_parts (may_follow_at place y) (follow_on (place_of y) ys) fy).1)
+    let place_same : kind_place x ≡ kind_place y = ap kind_place head in
+    stuck_no_block (kind_place x) xs ys r s (All-tail IsBlockLine x xs ix) (All-tail IsBlockLine y ys iy)
+    (and_parts (may_follow_at place x) (follow_on (kind_place x) xs) fx).1
+    (subst (λ p. follow_on p ys ≡ true) (sym place_same) (and_parts (may_follow_at place y) (follow_on (kind_place y) ys) fy).1)
     lx (subst (λ p. last_place p ys ≡ 16) (sym place_same) ly) stuck cut.1
 
 -- a text with a line feed isn't one line
@@ -278,9 +278,9 @@ stuck_same : (place : ℕ) (xs ys : List BlockLine) (r s : List ℕ) → All IsB
 unfolding lines_text
 stuck_same place [] [] r s ix iy fx fy kx ky e = (refl, e)
 stuck_same place [] (y ∷ ys) r s ix iy fx fy kx ky e =
-    absurd (kx y (lines_text (map block_line_text ys) ++ s) (All-head IsBlockLine y ys iy) (and_parts (may_follow_at place y) (follow_on (place_of y) ys) fy).0 (e ∙ first_line y ys s))
+    absurd (kx y (lines_text (map block_line_text ys) ++ s) (All-head IsBlockLine y ys iy) (and_parts (may_follow_at place y) (follow_on (kind_place y) ys) fy).0 (e ∙ first_line y ys s))
 stuck_same place (x ∷ xs) [] r s ix iy fx fy kx ky e =
-    absurd (ky x (lines_text (map block_line_text xs) ++ r) (All-head IsBlockLine x xs ix) (and_parts (may_follow_at place x) (follow_on (place_of x) xs) fx).0 (sym e ∙ first_line x xs r))
+    absurd (ky x (lines_text (map block_line_text xs) ++ r) (All-head IsBlockLine x xs ix) (and_parts (may_follow_at place x) (follow_on (kind_place x) xs) fx).0 (sym e ∙ first_line x xs r))
 stuck_same place (x ∷ xs) (y ∷ ys) r s ix iy fx fy kx ky e =
     let hx = All-head IsBlockLine x xs ix in
     let hy = All-head IsBlockLine y ys iy in
@@ -289,11 +289,11 @@ stuck_same place (x ∷ xs) (y ∷ ys) r s ix iy fx fy kx ky e =
     (block_line_one_line x hx) (block_line_one_line y hy) (sym (first_line x xs r) ∙ e ∙ first_line y ys s)
     in
     let head : x ≡ y = block_line_of_one x y hx hy cut.0 in
-    let place_same : place_of x ≡ place_of y = ap place_of head in
+    let place_same : kind_place x ≡ kind_place y = ap kind_place head in
     let rest =
-    stuck_same (place_of x) xs ys r s (All-tail IsBlockLine x xs ix) (All-tail IsBlockLine y ys iy)
-    (and_parts (may_follow_at place x) (follow_on (place_of x) xs) fx).1
-    (subst (λ p. follow_on p ys ≡ true) (sym place_same) (and_parts (may_follow_at place y) (follow_on (place_of y) ys) fy).1)
+    stuck_same (kind_place x) xs ys r s (All-tail IsBlockLine x xs ix) (All-tail IsBlockLine y ys iy)
+    (and_parts (may_follow_at place x) (follow_on (kind_place x) xs) fx).1
+    (subst (λ p. follow_on p ys ≡ true) (sym place_same) (and_parts (may_follow_at place y) (follow_on (kind_place y) ys) fy).1)
     kx (subst (λ p. IsStuck (last_place p ys) s) (sym place_same) ky) cut.1
     in
     (ap (λ z. z ∷ xs) head ∙ ap (λ zs. y ∷ zs) rest.0, rest.1)

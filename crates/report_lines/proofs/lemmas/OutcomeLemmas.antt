@@ -15,8 +15,8 @@ use Rattle.request_book.specs.declared.outcome.Planned.{Planned}
 use Rattle.request_book.specs.declared.outcome.RowLine.{RowLine}
 use Rattle.report_lines.specs.Block.{IsBlock}
 use Rattle.report_lines.specs.BlockLine.{block_line_text, IsBlockLine}
-use Rattle.report_lines.specs.Order.{place_of, is_between, may_follow_at, follow_on, last_place}
-use Rattle.report_lines.specs.Outcome.{row_line, tree_line, lines_of_answer, lines_of}
+use Rattle.report_lines.specs.Order.{kind_place, is_between, may_follow_at, follow_on, last_place}
+use Rattle.report_lines.specs.Outcome.{row_as_line, tree_line, lines_of_answer, lines_of}
 use Rattle.report_lines.specs.declared.block_line.BlockLine.{BlockLine}
 use Rattle.report_lines.specs.declared.block_line.BlockLine.TheVariants.{Batch, Expired, Lapsed, Late, Alone, Shared, Trip, Out, Move, Cost, Bound, Nodes, End}
 
@@ -45,7 +45,7 @@ answer_texts (Plan plan) =
     (kind_texts Late late_line (λ x. refl) plan.late))
     (kind_texts Alone (pair_line (codes "rv ")) (λ x. refl) plan.rv))
     (kind_texts Shared (pair_line (codes "rr ")) (λ x. refl) plan.rr))
-    (kind_texts row_line pair_text (λ x. refl) plan.rows))
+    (kind_texts row_as_line pair_text (λ x. refl) plan.rows))
     (join_texts _ _ _ _ (join_texts _ _ _ _
     (kind_texts Trip trip_line (λ x. refl) plan.chosen)
     (kind_texts Out (numbered (codes "out ")) (λ x. refl) plan.left))
@@ -65,13 +65,13 @@ outcome_texts batch outcome =
 -- lines behind lines
 last_join : (p : ℕ) (xs ys : List BlockLine) → last_place p (xs ++ ys) ≡ last_place (last_place p xs) ys
 last_join p [] ys = refl
-last_join p (x ∷ xs) ys = last_join (place_of x) xs ys
+last_join p (x ∷ xs) ys = last_join (kind_place x) xs ys
 
 follow_join : (p : ℕ) (xs ys : List BlockLine) → follow_on p xs ≡ true → follow_on (last_place p xs) ys ≡ true → follow_on p (xs ++ ys) ≡ true
 follow_join p [] ys fx fy = fy
 follow_join p (x ∷ xs) ys fx fy =
-    let parts = and_parts (may_follow_at p x) (follow_on (place_of x) xs) fx in
-    and_from (may_follow_at p x) (follow_on (place_of x) (xs ++ ys)) parts.0 (follow_join (place_of x) xs ys parts.1 fy)
+    let parts = and_parts (may_follow_at p x) (follow_on (kind_place x) xs) fx in
+    and_from (may_follow_at p x) (follow_on (kind_place x) (xs ++ ys)) parts.0 (follow_join (kind_place x) xs ys parts.1 fy)
 
 -- lines in their order from a place on, the last of them between two places
 record Run (p : ℕ) (lines : List BlockLine) (low high : ℕ) : Type 0 where
@@ -92,15 +92,15 @@ between : (low high n : ℕ) → low ≤ n → n ≤ high → is_between low hig
 between low high n l h = and_from (nat_le low n) (nat_le n high) (le-leb low n l) (le-leb n high h)
 
 -- a list of one kind
-kind_run : {X : Type 0} (K : X → BlockLine) (base place : ℕ) → base ≤ place → ((x : X) → place_of (K x) ≡ place) → ((q : ℕ) (x : X) → base ≤ q → q ≤ place → may_follow_at q (K x) ≡ true) → (xs : List X) (p : ℕ) → base ≤ p → p ≤ place → Run p (map K xs) base place
+kind_run : {X : Type 0} (K : X → BlockLine) (base place : ℕ) → base ≤ place → ((x : X) → kind_place (K x) ≡ place) → ((q : ℕ) (x : X) → base ≤ q → q ≤ place → may_follow_at q (K x) ≡ true) → (xs : List X) (p : ℕ) → base ≤ p → p ≤ place → Run p (map K xs) base place
 kind_run K base place fits at may [] p l h = record { order = refl; low_end = l; high_end = h }
 kind_run {X} K base place fits at may (x ∷ xs) p l h =
-    let there : place_of (K x) ≡ place = at x in
-    let above : base ≤ place_of (K x) = omega arith in
-    let below : place_of (K x) ≤ place = omega arith in
-    let r = kind_run K base place fits at may xs (place_of (K x)) above below in
+    let there : kind_place (K x) ≡ place = at x in
+    let above : base ≤ kind_place (K x) = omega arith in
+    let below : kind_place (K x) ≤ place = omega arith in
+    let r = kind_run K base place fits at may xs (kind_place (K x)) above below in
     record {
-      order = and_from (may_follow_at p (K x)) (follow_on (place_of (K x)) (map K xs)) (may p x l h) r.order;
+      order = and_from (may_follow_at p (K x)) (follow_on (kind_place (K x)) (map K xs)) (may p x l h) r.order;
       low_end = r.low_end;
       high_end = r.high_end;
     }
@@ -114,14 +114,14 @@ wider p xs low high bottom top r l h =
     }
 
 -- a list of one kind, behind a list before it
-then_kind : {X : Type 0} (K : X → BlockLine) (place : ℕ) (p : ℕ) (before : List BlockLine) (high : ℕ) → 1 ≤ place → high ≤ place → ((x : X) → place_of (K x) ≡ place) → ((q : ℕ) (x : X) → 1 ≤ q → q ≤ place → may_follow_at q (K x) ≡ true) → Run p before 1 high → (xs : List X) → Run p (before ++ map K xs) 1 place
+then_kind : {X : Type 0} (K : X → BlockLine) (place : ℕ) (p : ℕ) (before : List BlockLine) (high : ℕ) → 1 ≤ place → high ≤ place → ((x : X) → kind_place (K x) ≡ place) → ((q : ℕ) (x : X) → 1 ≤ q → q ≤ place → may_follow_at q (K x) ≡ true) → Run p before 1 high → (xs : List X) → Run p (before ++ map K xs) 1 place
 then_kind K place p before high some le at may r xs =
     run_join p before (map K xs) 1 high 1 place r (λ q l h. kind_run K 1 place some at may xs q l (let a : q ≤ high = h in omega arith))
 
 -- the lists of a plan up to the rows
-graph_run : (p : ℕ) → 1 ≤ p → p ≤ 2 → (plan : Planned) → Run p (map Lapsed plan.lapsed ++ map Late plan.late ++ map Alone plan.rv ++ map Shared plan.rr ++ map row_line plan.rows) 1 7
+graph_run : (p : ℕ) → 1 ≤ p → p ≤ 2 → (plan : Planned) → Run p (map Lapsed plan.lapsed ++ map Late plan.late ++ map Alone plan.rv ++ map Shared plan.rr ++ map row_as_line plan.rows) 1 7
 graph_run p l h plan =
-    then_kind row_line 7 p _ 6 (omega arith) (omega arith) (λ x. refl) (λ q x. between 1 7 q)
+    then_kind row_as_line 7 p _ 6 (omega arith) (omega arith) (λ x. refl) (λ q x. between 1 7 q)
     (then_kind Shared 6 p _ 5 (omega arith) (omega arith) (λ x. refl) (λ q x. between 1 6 q)
     (then_kind Alone 5 p _ 4 (omega arith) (omega arith) (λ x. refl) (λ q x. between 1 5 q)
     (then_kind Late 4 p _ 3 (omega arith) (omega arith) (λ x. refl) (λ q x. between 1 4 q)
@@ -142,7 +142,7 @@ counts_run p l h cost nodes bound =
 tree_run : (rows : List RowLine) (p : ℕ) → 13 ≤ p → p ≤ 13 → (tree : List Node) → Run p (map (tree_line rows) tree) 13 14
 tree_run rows p l h tree = kind_run (tree_line rows) 13 14 (omega arith) at may tree p l (omega arith)
   where
-    at : (node : Node) → place_of (tree_line rows node) ≡ 14
+    at : (node : Node) → kind_place (tree_line rows node) ≡ 14
     at (Branches vehicle row) = refl
     at (Ends multipliers) = refl
     at Closed = refl

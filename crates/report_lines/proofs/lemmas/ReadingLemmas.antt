@@ -3,7 +3,7 @@ use Rattle.std.proofs.Common.{◌≡◌, ◌≢◌, ℕ, ◌≤◌, ◌<◌, ◌
 use Rattle.std.proofs.lemmas.List.{append_cancel_left}
 use Rattle.dispatch_report.specs.Words.{numbered, spaced}
 use Rattle.report_lines.specs.Reading.{BeginsWith, BeginsWithNone, ends_number}
-use Rattle.report_lines.specs.Both.{both, BothAre}
+use Rattle.report_lines.specs.Both.{both_texts, BothAre}
 use Rattle.report_lines.proofs.lemmas.NumeralLemmas.{digits_unique, decimal_digits, decimal_same}
 
 -- the text of a thing ends at one place alone, and is that of one thing
@@ -15,18 +15,18 @@ abbrev pub StandsApart : {Y : Type 0} → (Y → List ℕ) → Type 0
 StandsApart {Y} u = (y : Y) (rest : List ℕ) → ends_number rest ≡ true → ends_number (u y ++ rest) ≡ true
 
 module _ {X Y : Type 0} (t : X → List ℕ) (Is : X → Type 0) (u : Y → List ℕ) (Us : Y → Type 0) (apart : StandsApart u) where
-  first_of_both : (text : List ℕ) (p : X × Y) (rest : List ℕ) → BeginsWith (both t u) (BothAre Is Us) text p rest → BeginsWith t Is text p.0 (u p.1 ++ rest)
+  first_of_both : (text : List ℕ) (p : X × Y) (rest : List ℕ) → BeginsWith (both_texts t u) (BothAre Is Us) text p rest → BeginsWith t Is text p.0 (u p.1 ++ rest)
   first_of_both text p rest b = record { whole = b.whole ∙ append_assoc (t p.0) (u p.1) rest; lawful = b.lawful.0; ends = apart p.1 rest b.ends }
 
-  pub both_none_first : (text : List ℕ) → BeginsWithNone t Is text → BeginsWithNone (both t u) (BothAre Is Us) text
+  pub both_none_first : (text : List ℕ) → BeginsWithNone t Is text → BeginsWithNone (both_texts t u) (BothAre Is Us) text
   both_none_first text none p rest b = none p.0 (u p.1 ++ rest) (first_of_both text p rest b)
 
-  pub both_none_second : (text : List ℕ) (x : X) (after : List ℕ) → EndsOnce t Is → BeginsWith t Is text x after → BeginsWithNone u Us after → BeginsWithNone (both t u) (BothAre Is Us) text
+  pub both_none_second : (text : List ℕ) (x : X) (after : List ℕ) → EndsOnce t Is → BeginsWith t Is text x after → BeginsWithNone u Us after → BeginsWithNone (both_texts t u) (BothAre Is Us) text
   both_none_second text x after once first none p rest b =
       let same = once text x p.0 after (u p.1 ++ rest) first (first_of_both text p rest b) in
       none p.1 rest (record { whole = same.1; lawful = b.lawful.1; ends = b.ends })
 
-  pub both_some : (text : List ℕ) (x : X) (after : List ℕ) (y : Y) (rest : List ℕ) → BeginsWith t Is text x after → BeginsWith u Us after y rest → BeginsWith (both t u) (BothAre Is Us) text (x, y) rest
+  pub both_some : (text : List ℕ) (x : X) (after : List ℕ) (y : Y) (rest : List ℕ) → BeginsWith t Is text x after → BeginsWith u Us after y rest → BeginsWith (both_texts t u) (BothAre Is Us) text (x, y) rest
   both_some text x after y rest first second =
       record {
         whole = first.whole ∙ ap (λ r. t x ++ r) second.whole ∙ sym (append_assoc (t x) (u y) rest);
@@ -34,7 +34,7 @@ module _ {X Y : Type 0} (t : X → List ℕ) (Is : X → Type 0) (u : Y → List
         ends = second.ends;
       }
 
-  pub both_once : EndsOnce t Is → EndsOnce u Us → EndsOnce (both t u) (BothAre Is Us)
+  pub both_once : EndsOnce t Is → EndsOnce u Us → EndsOnce (both_texts t u) (BothAre Is Us)
   both_once once_t once_u text p q r s bp bq =
       let same = once_t text p.0 q.0 (u p.1 ++ r) (u q.1 ++ s) (first_of_both text p r bp) (first_of_both text q s bq) in
       let second : BeginsWith u Us (u p.1 ++ r) p.1 r = record { whole = refl; lawful = bp.lawful.1; ends = bp.ends } in
@@ -137,7 +137,7 @@ module _ {X Y : Type 0} (t : X → List ℕ) (Is : X → Type 0) (u : Y → List
   head_and_tail x after y b e = b.whole ∙ ap (λ r. t x ++ r) e
 
 -- two numbers behind words
-pub pair_once : (words : List ℕ) (most other : ℕ) → most < 2 ^ 128 → other < 2 ^ 128 → EndsOnce (both (numbered words) spaced) (BothAre (λ n. n ≤ most) (λ n. n ≤ other))
+pub pair_once : (words : List ℕ) (most other : ℕ) → most < 2 ^ 128 → other < 2 ^ 128 → EndsOnce (both_texts (numbered words) spaced) (BothAre (λ n. n ≤ most) (λ n. n ≤ other))
 pair_once words most other small small_too =
     both_once (numbered words) (λ n. n ≤ most) spaced (λ n. n ≤ other) spaced_apart (numbered_once words most small) (numbered_once _ other small_too)
 

@@ -12,7 +12,7 @@ use Rattle.request_book.specs.declared.command.Command.{Command}
 use Rattle.request_book.specs.declared.command.Command.TheVariants.{Submit, Seal}
 use Rattle.script_rows.specs.Round.{IsRound, MayStand, NumberedLanes, empty_round, lane_at}
 use Rattle.route_drive.specs.declared.day.DayFault.TheVariants as fault
-use Rattle.route_drive.specs.Day.{back_fault, day_fault, first_seal, is_of_day, is_seal, lane_fault, latest_seal, round_fault, seal_of, seals_fault}
+use Rattle.route_drive.specs.Day.{back_fault, day_fault, first_seal, is_of_day, is_seal_command, lane_fault, latest_seal, round_fault, seal_of, seals_fault}
 use Rattle.route_drive.specs.work.Drive.{fault_at}
 use Rattle.route_drive.proofs.kept.Lists.{both, all_weaker}
 use Rattle.route_drive.proofs.kept.Mixed.{IsRequest}
@@ -58,7 +58,7 @@ asks_elsewhere lane other (Submit rider origin destination time party) two = tt
 asks_elsewhere lane other (Seal now) two = absurd (other two.1)
 asks_elsewhere lane other command two = absurd (true≢false two.0)
 
-asks_later : (c : Command) → (not (is_of_day c) ≡ false) × (is_seal c ≡ false) → IsRequest c
+asks_later : (c : Command) → (not (is_of_day c) ≡ false) × (is_seal_command c ≡ false) → IsRequest c
 asks_later (Submit rider origin destination time party) two = tt
 asks_later (Seal now) two = absurd (true≢false two.1)
 asks_later command two = absurd (true≢false two.0)
@@ -74,12 +74,12 @@ dropped : {X : Type 0} (P : X → Type 0) (x : X) (xs : List X) → AllByRecursi
 dropped P x xs all = all
 
 -- lane 0, by its first command
-own_lane : (latest before : ℕ) (round : NumberedLanes) → before ≤ latest → AllByRecursion (λ c. not (is_of_day c) ≡ false) (lane_at round 0) → AllByRecursion (λ c. is_seal c ≡ false) (drop 1 (lane_at round 0))
+own_lane : (latest before : ℕ) (round : NumberedLanes) → before ≤ latest → AllByRecursion (λ c. not (is_of_day c) ≡ false) (lane_at round 0) → AllByRecursion (λ c. is_seal_command c ≡ false) (drop 1 (lane_at round 0))
     → back_fault latest round ≡ None → IsDayLane before round
 own_lane latest before round le of_day unsealed back = by (lane_at round 0) refl of_day unsealed
   where
-    asked : (cs : List Command) → AllByRecursion (λ c. not (is_of_day c) ≡ false) cs → AllByRecursion (λ c. is_seal c ≡ false) cs → AllByRecursion IsRequest cs
-    asked cs day sealed = all_weaker (λ c. (not (is_of_day c) ≡ false) × (is_seal c ≡ false)) IsRequest asks_later cs (both (λ c. not (is_of_day c) ≡ false) (λ c. is_seal c ≡ false) cs day sealed)
+    asked : (cs : List Command) → AllByRecursion (λ c. not (is_of_day c) ≡ false) cs → AllByRecursion (λ c. is_seal_command c ≡ false) cs → AllByRecursion IsRequest cs
+    asked cs day sealed = all_weaker (λ c. (not (is_of_day c) ≡ false) × (is_seal_command c ≡ false)) IsRequest asks_later cs (both (λ c. not (is_of_day c) ≡ false) (λ c. is_seal_command c ≡ false) cs day sealed)
 
     in_order : (now : ℕ) → seal_of round ≡ Some now → before ≤ now
     in_order now is =
@@ -87,13 +87,13 @@ own_lane latest before round le of_day unsealed back = by (lane_at round 0) refl
         let ge = ltb-false now latest (untold (ltb now latest) (fault.SealBack round.number) told) in
         omega (arith, ge, le)
 
-    by : (cs : List Command) → lane_at round 0 ≡ cs → AllByRecursion (λ c. not (is_of_day c) ≡ false) cs → AllByRecursion (λ c. is_seal c ≡ false) (drop 1 cs) → IsDayLane before round
+    by : (cs : List Command) → lane_at round 0 ≡ cs → AllByRecursion (λ c. not (is_of_day c) ≡ false) cs → AllByRecursion (λ c. is_seal_command c ≡ false) (drop 1 cs) → IsDayLane before round
     by [] e day sealed = IsDayLane.asks (ap first_seal e) (subst (AllByRecursion IsRequest) (sym e) tt)
     by (Seal now ∷ cs) e day sealed =
         let is : seal_of round ≡ Some now = ap first_seal e in
-        IsDayLane.seals now cs is e (asked cs day.1 (dropped (λ c. is_seal c ≡ false) (Seal now) cs sealed)) (in_order now is)
+        IsDayLane.seals now cs is e (asked cs day.1 (dropped (λ c. is_seal_command c ≡ false) (Seal now) cs sealed)) (in_order now is)
     by (Submit rider origin destination time party ∷ cs) e day sealed =
-        IsDayLane.asks (ap first_seal e) (subst (AllByRecursion IsRequest) (sym e) (tt, asked cs day.1 (dropped (λ c. is_seal c ≡ false) (Submit rider origin destination time party) cs sealed)))
+        IsDayLane.asks (ap first_seal e) (subst (AllByRecursion IsRequest) (sym e) (tt, asked cs day.1 (dropped (λ c. is_seal_command c ≡ false) (Submit rider origin destination time party) cs sealed)))
     by (command ∷ cs) e day sealed = absurd (true≢false day.0)
 
 day_round : (latest before : ℕ) (round : NumberedLanes) → before ≤ latest → IsRound round → round_fault latest round ≡ None → IsDayRound before round
@@ -101,7 +101,7 @@ day_round latest before round le is none =
     let lanes = neither (first_fault (lane_fault round) (length round.lanes)) (option_or (seals_fault round) (back_fault latest round)) none in
     let rest = neither (seals_fault round) (back_fault latest round) lanes.1 in
     record {
-      own = own_lane latest before round le (lane_of_day round 0 lanes.0) (none_any is_seal (drop 1 (lane_at round 0)) (untold (list_any is_seal (drop 1 (lane_at round 0))) (fault.Seals round.number) rest.0)) rest.1;
+      own = own_lane latest before round le (lane_of_day round 0 lanes.0) (none_any is_seal_command (drop 1 (lane_at round 0)) (untold (list_any is_seal_command (drop 1 (lane_at round 0))) (fault.Seals round.number) rest.0)) rest.1;
       others = λ lane other. all_weaker (λ c. (not (is_of_day c) ≡ false) × MayStand lane c) IsRequest (asks_elsewhere lane other) (lane_at round lane)
           (both (λ c. not (is_of_day c) ≡ false) (MayStand lane) (lane_at round lane) (lane_of_day round lane lanes.0) (recursion_from_All (MayStand lane) (lane_at round lane) (is.stand lane)));
     }
