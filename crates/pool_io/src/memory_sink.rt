@@ -1,10 +1,9 @@
-ghost use Rattle.std.specs.Prelude.{◌≡◌, ℕ, ◌<◌, ◌≤◌, ◌↔◌, ◌++◌, [], List, length, take, min, Some, IfOk, IfErr, IsErr, OnOk, OnErr, Contains};
+ghost use Rattle.std.specs.Prelude.{◌≡◌, ℕ, ◌<◌, ◌≤◌, ◌↔◌, ◌++◌, [], List, length, take, min, Some, IfOk, Contains};
 ghost use Rattle.std.specs.Result.{IsErrOf};
-ghost use Rattle.std.specs.Io.KnownBytes.{Keeps, WriteAppends};
+ghost use Rattle.std.specs.Io.KnownBytes.{WriteAppends};
 ghost use Rattle.pool_io.specs.Faults.{Rose, one_more};
 
 use crate::sink::{Sink, SinkFault};
-use crate::source::Failed;
 use std::alloc::Global;
 use std::marker::Model;
 
@@ -36,8 +35,8 @@ impl Model for MemorySink {
 }
 
 impl MemorySink {
-    /// A sink that takes at most `most` bytes a write; the calls whose number, from 0, stands in `fail`
-    /// fail, flushes counted among them. It keeps the allocator.
+    /// A sink that takes at most `most` bytes a write; the writes whose number, from 0, stands in `fail`
+    /// fail. It keeps the allocator.
     pub fn new(alloc: Global, most: usize, fail: Vec<u64>) -> MemorySink
         requires { 1 ≤ most }
         ensures { result ≡ record { written = []; most = most; fail = fail.items; calls = 0; faults = 0 } }
@@ -91,23 +90,5 @@ impl Sink for MemorySink {
             return Err(SinkFault::OutOfMemory);
         }
         Ok(count)
-    }
-
-    fn flush(&mut self) -> Result<(), Failed>
-        ensures bytes { Keeps (Some self.old.written) (Some self.new.written) }
-        ensures fault { OnErr result (Rose self.old.faults self.new.faults) }
-        ensures never_falls { self.old.faults ≤ self.new.faults }
-        ensures planned { IsErr result ↔ Contains self.old.fail self.old.calls }
-        ensures held { OnOk result (self.new ≡ record self.old { calls = one_more self.old.calls }) }
-        ensures failed { OnErr result
-            (self.new ≡ record self.old { calls = one_more self.old.calls; faults = one_more self.old.faults }) }
-    {
-        let call = self.calls;
-        self.calls = call.saturating_add(1);
-        if self.fail.contains(&call) {
-            self.faults = self.faults.saturating_add(1);
-            return Err(Failed);
-        }
-        Ok(())
     }
 }

@@ -1,11 +1,10 @@
-ghost use Rattle.std.specs.Prelude.{◌≡◌, ◌≢◌, ℕ, ◌<◌, ◌≤◌, ◌++◌, [], List, length, Some, IfOk, IsErr, OnOk, OnErr};
+ghost use Rattle.std.specs.Prelude.{◌≡◌, ◌≢◌, ℕ, ◌<◌, ◌≤◌, ◌++◌, [], List, length, Some, IfOk, OnOk, OnErr};
 ghost use Rattle.std.specs.Result.{IsErrOf};
-ghost use Rattle.std.specs.Io.KnownBytes.{Keeps, WriteAppends};
+ghost use Rattle.std.specs.Io.KnownBytes.{WriteAppends};
 ghost use Rattle.pool_io.specs.Faults.{Rose};
 ghost use Rattle.pool_io.specs.declared.sink.SinkFault.TheVariants.{Failed};
 
 use crate::sink::{Sink, SinkFault};
-use crate::source::Failed;
 use std::alloc::Global;
 use std::marker::Model;
 
@@ -60,14 +59,5 @@ impl Sink for PlainSink {
             return Err(SinkFault::OutOfMemory);
         }
         Ok(piece.len())
-    }
-
-    fn flush(&mut self) -> Result<(), Failed>
-        ensures bytes { Keeps (Some self.old) (Some self.new) }
-        ensures fault { OnErr result (Rose 0 0) }
-        ensures never_falls { 0 ≤ 0 }
-        ensures never { ¬ (IsErr result) }
-    {
-        Ok(())
     }
 }

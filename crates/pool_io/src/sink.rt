@@ -1,9 +1,7 @@
-ghost use Rattle.std.specs.Prelude.{◌≡◌, ℕ, ◌<◌, ◌≤◌, List, length, Option, IfOk, OnErr};
+ghost use Rattle.std.specs.Prelude.{◌≡◌, ℕ, ◌<◌, ◌≤◌, List, length, Option, IfOk};
 ghost use Rattle.std.specs.Result.{IsErrOf};
-ghost use Rattle.std.specs.Io.KnownBytes.{Keeps, WriteAppends};
+ghost use Rattle.std.specs.Io.KnownBytes.{WriteAppends};
 ghost use Rattle.pool_io.specs.Faults.{Rose};
-
-use crate::source::Failed;
 
 /// Why a write took nothing.
 #[derive(Clone, Copy, PartialEq, Eq)]
@@ -17,7 +15,7 @@ pub enum SinkFault {
 /// What bytes are written to.
 ///
 /// `written` is the bytes written so far, where the sink tells them: a file tells nothing. `faults` is
-/// how many writes and flushes have failed; it never falls, and stands still at the greatest `u64`.
+/// how many writes have failed; it never falls, and stands still at the greatest `u64`.
 pub trait Sink {
     ghost written: { Self → Option (List ℕ) };
 
@@ -31,11 +29,5 @@ pub trait Sink {
         ensures some { 0 < length piece.now → IfOk result (λ n. 0 < n) }
         ensures bytes { WriteAppends (written self.old) (written self.new) result piece.now }
         ensures fault { IsErrOf result SinkFault.Failed → Rose (faults self.old) (faults self.new) }
-        ensures never_falls { faults self.old ≤ faults self.new };
-
-    /// Hands on the bytes that wait in the sink. `Failed` comes only where the count of faults rose.
-    fn flush(&mut self) -> Result<(), Failed>
-        ensures bytes { Keeps (written self.old) (written self.new) }
-        ensures fault { OnErr result (Rose (faults self.old) (faults self.new)) }
         ensures never_falls { faults self.old ≤ faults self.new };
 }

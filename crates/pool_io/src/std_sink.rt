@@ -1,17 +1,16 @@
-ghost use Rattle.std.specs.Prelude.{◌≡◌, ◌≢◌, ℕ, ◌<◌, ◌≤◌, List, length, None, IfOk, OnErr};
+ghost use Rattle.std.specs.Prelude.{◌≡◌, ◌≢◌, ℕ, ◌<◌, ◌≤◌, List, length, None, IfOk};
 ghost use Rattle.std.specs.Result.{IsErrOf};
-ghost use Rattle.std.specs.Io.KnownBytes.{Keeps, WriteAppends};
+ghost use Rattle.std.specs.Io.KnownBytes.{WriteAppends};
 ghost use Rattle.pool_io.specs.Faults.{Rose};
 
 use crate::sink::{Sink, SinkFault};
-use crate::source::Failed;
 use std::io::Write;
 use std::marker::Model;
 
 /// A sink over one of std's writers.
 ///
-/// It tells nothing of the bytes written. A write fails where the writer's fails or takes nothing, a flush
-/// where the writer's fails.
+/// It tells nothing of the bytes written. A write is one call of the writer's `write`, and fails where that
+/// fails or takes nothing. Nothing waits in the sink: what it took, the writer took.
 #[derive(Drop)]
 pub struct StdSink<W> {
     writer: W,
@@ -58,17 +57,5 @@ impl<W: Write> Sink for StdSink<W> {
         }
         self.faults = self.faults.saturating_add(1);
         Err(SinkFault::Failed)
-    }
-
-    fn flush(&mut self) -> Result<(), Failed>
-        ensures bytes { Keeps None None }
-        ensures fault { OnErr result (Rose self.old self.new) }
-        ensures never_falls { self.old ≤ self.new }
-    {
-        if self.writer.flush().is_ok() {
-            return Ok(());
-        }
-        self.faults = self.faults.saturating_add(1);
-        Err(Failed)
     }
 }
