@@ -683,7 +683,7 @@ def main():
         if names and name not in names:
             continue
         if name in SHIM_PARTS and shim.why:
-            print(f"{name}: not tried, since {shim.why}")
+            print(f"skipped: {name}, since {shim.why}")
             continue
         part, began = Part(QUICK_STEP if is_quick else 1), time.monotonic()
         run(part, shim if name in SHIM_PARTS else program)
