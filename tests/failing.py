@@ -756,8 +756,11 @@ def main():
         if names and name not in names:
             continue
         if name in SHIM_PARTS and shim.why:
-            print(f"{name}: not tried, since {shim.why}")
-            failed += not is_quick
+            if shim.is_missing:
+                print(f"skipped: {name}, since {shim.why}")
+            else:
+                print(f"{name}: no run was made, since {shim.why}")
+                failed += 1
             continue
         part, began = Part(QUICK_STEP if is_quick else 1), time.monotonic()
         run(part, shim if name in SHIM_PARTS else program)
