@@ -45,7 +45,7 @@ use Rattle.ridepool.specs.Inputs.{Inputs}
 use Rattle.rider_notices.specs.Notices.{notices}
 use Rattle.rider_notices.specs.Told.{NotifierView, HaveHeard}
 use Rattle.rider_notices.proofs.lemmas.HeardLemmas.{all-heard-nothing, all-heard-more}
-use Rattle.ridepool.specs.Report.{AreAll, AreFirst, AppendsWithPart, IsCut, IsDayEnd, IsEnd, IsPart, IsReport, IsReportCut, IsReportPart, IsReportWhole, IsWhole, Runs, added_text, first_text, head_of, journals_of, rounds_notices}
+use Rattle.ridepool.specs.Report.{AreAll, AreFirst, AppendsWithPart, IsCutShort, IsDayEnd, IsEnd, IsPart, IsReport, IsReportCut, IsReportPart, IsReportWhole, IsWhole, Runs, added_text, first_text, head_of, journals_of, rounds_notices}
 use Rattle.ridepool.specs.work.Writing.{BeginsRounds, EndsRounds, NextJournal, HasPut, PutsRound, IsUnput, StopsIn, RunsAll, RunsFirst, RunsFrom, WritesRound, IsReportFault, IsTextFault, IsRoundFault, IsWritingFault, day_counts, day_ending, late_status, made_of, status_of, rounds_text}
 use Rattle.ridepool.specs.declared.status.RunStatus.{RunStatus}
 use Rattle.ridepool.specs.declared.status.RunStatus.TheVariants.{WriteFault, OutOfMemory, TooLate}
@@ -215,10 +215,10 @@ module _ (settings : Settings) (roads : Roads) where
         → P (made ++ r ∷ []) → HasPut settings roads made a b n m → low ≤ middle → IsUnput settings roads r b c m k middle high s → IsReportFault settings roads [] P Q a c n k low high s
     unput_fault made r a b c n m k low middle high _ first w up (IsUnput.unwritten _ (IsTextFault.failed rose part) same) =
         IsReportFault.failed (omega (arith, rose, up))
-        (subst (IsCut settings roads [] P Q a c n) (sym same) (IsCut.round made r first (part_behind made (added_text settings.mode settings.proof r) a b c n m w part) w.told))
+        (subst (IsCutShort settings roads [] P Q a c n) (sym same) (IsCutShort.round made r first (part_behind made (added_text settings.mode settings.proof r) a b c n m w part) w.told))
     unput_fault made r a b c n m k low middle high _ first w up (IsUnput.unwritten _ (IsTextFault.unstored part) same) =
         IsReportFault.unstored
-        (IsPart.cut (subst (IsCut settings roads [] P Q a c n) (sym same) (IsCut.round made r first (part_behind made (added_text settings.mode settings.proof r) a b c n m w part) w.told)))
+        (IsPart.cut (subst (IsCutShort settings roads [] P Q a c n) (sym same) (IsCutShort.round made r first (part_behind made (added_text settings.mode settings.proof r) a b c n m w part) w.told)))
     unput_fault made r a b c n m k low middle high _ first w up (IsUnput.untold text same) =
         IsReportFault.unstored
         (subst (IsPart settings roads [] P Q a c n) (sym same)
@@ -242,21 +242,21 @@ module _ (settings : Settings) (roads : Roads) where
     end_unwritten made end a b c n m low middle high report.WriteFault s is all w part up rose =
         let rises : Rose middle high = rose refl in
         subst (IsReportFault settings roads [] P Q a c n m low high) (sym is)
-        (IsReportFault.failed (omega (arith, rises, up)) (IsCut.last_lines made end all (part_behind made end a b c n m w part) w.told))
+        (IsReportFault.failed (omega (arith, rises, up)) (IsCutShort.last_lines made end all (part_behind made end a b c n m w part) w.told))
     end_unwritten made end a b c n m low middle high report.OutOfMemory s is all w part up rose =
         subst (IsReportFault settings roads [] P Q a c n m low high) (sym is)
-        (IsReportFault.unstored (IsPart.cut (IsCut.last_lines made end all (part_behind made end a b c n m w part) w.told)))
+        (IsReportFault.unstored (IsPart.cut (IsCutShort.last_lines made end all (part_behind made end a b c n m w part) w.told)))
 
     -- what stands behind the first lines
     module _ (head : List ℕ) (a b c : Option (List ℕ)) (n m : List NotifierView) (first : Appends a b head) where
       text_behind : (text more : List ℕ) → Appends b c (text ++ more) → Appends a c ((head ++ text) ++ more)
       text_behind text more h = subst (Appends a c) (sym (append_assoc head text more)) (Appends-trans a b c head (text ++ more) first h)
 
-      cut_behind : IsCut settings roads [] P Q b c n m → IsCut settings roads head P Q a c n m
-      cut_behind (IsCut.first_lines part same) = absurd (let short : part.0 < 0 = part.1 in omega (arith, short))
-      cut_behind (IsCut.round made next rounds part told) =
-          IsCut.round made next rounds (part.0, part.1, text_behind (rounds_text settings made) (take part.0 (added_text settings.mode settings.proof next)) part.2) told
-      cut_behind (IsCut.last_lines made end all part told) = IsCut.last_lines made end all (part.0, part.1, text_behind (rounds_text settings made) (take part.0 end) part.2) told
+      cut_behind : IsCutShort settings roads [] P Q b c n m → IsCutShort settings roads head P Q a c n m
+      cut_behind (IsCutShort.first_lines part same) = absurd (let short : part.0 < 0 = part.1 in omega (arith, short))
+      cut_behind (IsCutShort.round made next rounds part told) =
+          IsCutShort.round made next rounds (part.0, part.1, text_behind (rounds_text settings made) (take part.0 (added_text settings.mode settings.proof next)) part.2) told
+      cut_behind (IsCutShort.last_lines made end all part told) = IsCutShort.last_lines made end all (part.0, part.1, text_behind (rounds_text settings made) (take part.0 end) part.2) told
 
       part_of : IsPart settings roads [] P Q b c n m → IsPart settings roads head P Q a c n m
       part_of (IsPart.cut short) = IsPart.cut (cut_behind short)
@@ -281,9 +281,9 @@ module _ (settings : Settings) (roads : Roads) where
     pub unbegun : (head : List ℕ) (a b : Option (List ℕ)) (n : List NotifierView) (low high : ℕ) (fault : ReportFault) (s : RunStatus) → s ≡ status_of fault → AppendsPart a b head → (fault ≡ report.WriteFault → Rose low high)
         → IsReportFault settings roads head P Q a b n n low high s
     unbegun head a b n low high report.WriteFault s is part rose =
-        subst (IsReportFault settings roads head P Q a b n n low high) (sym is) (IsReportFault.failed (rose refl) (IsCut.first_lines part refl))
+        subst (IsReportFault settings roads head P Q a b n n low high) (sym is) (IsReportFault.failed (rose refl) (IsCutShort.first_lines part refl))
     unbegun head a b n low high report.OutOfMemory s is part rose =
-        subst (IsReportFault settings roads head P Q a b n n low high) (sym is) (IsReportFault.unstored (IsPart.cut (IsCut.first_lines part refl)))
+        subst (IsReportFault settings roads head P Q a b n n low high) (sym is) (IsReportFault.unstored (IsPart.cut (IsCutShort.first_lines part refl)))
 
   -- a round of a run that wasn't run or put out
   pub round_fault : (book current : BookView) (rounds : List NumberedLanes) (i : ℕ) (r : NumberedLanes) (a b c : Option (List ℕ)) (n m k : List NotifierView) (low middle high : ℕ) (s : RunStatus)
@@ -400,7 +400,7 @@ nothing_of text a some = (0, some, Appends-nil a)
 pub nothing_written : (i : Inputs) (a : Option (List ℕ)) (n : List NotifierView) (low : ℕ) → IsWritingFault i a a n n low low OutOfMemory
 nothing_written i a n low =
     IsWritingFault.unwritten OutOfMemory
-    (IsReportFault.unstored (IsPart.cut (IsCut.first_lines (nothing_of (head_of i) a (some_head i.settings.mode i.settings i.roads (length i.vehicles))) refl)))
+    (IsReportFault.unstored (IsPart.cut (IsCutShort.first_lines (nothing_of (head_of i) a (some_head i.settings.mode i.settings i.roads (length i.vehicles))) refl)))
 
 -- the book of a call before its first round
 abbrev pub opened : Inputs → BookView
@@ -419,10 +419,10 @@ module _ (i : Inputs) (P : List DayRound → Type 0) (Q : List DayRound → List
   report_whole : IsWhole i.settings i.roads (head_of i) P Q a c n m → IsReportWhole i a c n m
   report_whole w = record { made = w.made; end = w.end; all = serves.all w.made w.end w.all; text = w.text; told = w.told }
 
-  report_cut : IsCut i.settings i.roads (head_of i) P Q a c n m → IsReportCut i a c n m
-  report_cut (IsCut.first_lines part same) = IsCut.first_lines part same
-  report_cut (IsCut.round made next first part told) = IsCut.round made next (serves.first (made ++ next ∷ []) first) part told
-  report_cut (IsCut.last_lines made end all part told) = IsCut.last_lines made end (serves.all made end all) part told
+  report_cut : IsCutShort i.settings i.roads (head_of i) P Q a c n m → IsReportCut i a c n m
+  report_cut (IsCutShort.first_lines part same) = IsCutShort.first_lines part same
+  report_cut (IsCutShort.round made next first part told) = IsCutShort.round made next (serves.first (made ++ next ∷ []) first) part told
+  report_cut (IsCutShort.last_lines made end all part told) = IsCutShort.last_lines made end (serves.all made end all) part told
 
   report_part : IsPart i.settings i.roads (head_of i) P Q a c n m → IsReportPart i a c n m
   report_part (IsPart.cut short) = IsPart.cut (report_cut short)

@@ -98,18 +98,18 @@ module _ (settings : Settings) (roads : Roads) (head : List ℕ) (AreFirst : Lis
 
   -- it ends within the first lines, a round's text or the last lines, and the rounds before that are written whole and were
   -- told
-  pub data IsCut (before after : Option (List ℕ)) (notifiers left : List NotifierView) : Type 0 where
-    first_lines : AppendsPart before after head → left ≡ notifiers → IsCut before after notifiers left
+  pub data IsCutShort (before after : Option (List ℕ)) (notifiers left : List NotifierView) : Type 0 where
+    first_lines : AppendsPart before after head → left ≡ notifiers → IsCutShort before after notifiers left
     round : (made : List DayRound) (next : DayRound) → AreFirst (made ++ next ∷ [])
         → AppendsWithPart before after (begun_text settings head made) (added_text settings.mode settings.proof next)
-        → HaveHeard (rounds_notices settings roads made) notifiers left → IsCut before after notifiers left
+        → HaveHeard (rounds_notices settings roads made) notifiers left → IsCutShort before after notifiers left
     last_lines : (made : List DayRound) (end : List ℕ) → AreAllWith made end
         → AppendsWithPart before after (begun_text settings head made) end
-        → HaveHeard (rounds_notices settings roads made) notifiers left → IsCut before after notifiers left
+        → HaveHeard (rounds_notices settings roads made) notifiers left → IsCutShort before after notifiers left
 
   -- or it ends behind a round, whose notices were told or not
   pub data IsPart (before after : Option (List ℕ)) (notifiers left : List NotifierView) : Type 0 where
-    cut : IsCut before after notifiers left → IsPart before after notifiers left
+    cut : IsCutShort before after notifiers left → IsPart before after notifiers left
     rounds : (made : List DayRound) → AreFirst made → Appends before after (begun_text settings head made)
         → HaveHeard (rounds_notices settings roads made) notifiers left → IsPart before after notifiers left
     untold : (made : List DayRound) (last : DayRound) → AreFirst (made ++ last ∷ []) → Appends before after (begun_text settings head (made ++ last ∷ []))
@@ -124,7 +124,7 @@ abbrev pub IsReportWhole : Inputs → Option (List ℕ) → Option (List ℕ) �
 IsReportWhole i before after notifiers left = IsWhole i.settings i.roads (head_of i) (AreFirst i.settings.mode i) (IsReport i) before after notifiers left
 
 abbrev pub IsReportCut : Inputs → Option (List ℕ) → Option (List ℕ) → List NotifierView → List NotifierView → Type 0
-IsReportCut i before after notifiers left = IsCut i.settings i.roads (head_of i) (AreFirst i.settings.mode i) (IsReport i) before after notifiers left
+IsReportCut i before after notifiers left = IsCutShort i.settings i.roads (head_of i) (AreFirst i.settings.mode i) (IsReport i) before after notifiers left
 
 abbrev pub IsReportPart : Inputs → Option (List ℕ) → Option (List ℕ) → List NotifierView → List NotifierView → Type 0
 IsReportPart i before after notifiers left = IsPart i.settings i.roads (head_of i) (AreFirst i.settings.mode i) (IsReport i) before after notifiers left

@@ -22,7 +22,7 @@ use Rattle.route_drive.specs.declared.day_run.DriveFault.{DriveFault}
 use Rattle.route_drive.specs.declared.day_run.DriveFault.TheVariants as drive
 use Rattle.script_rows.specs.Round.{NumberedLanes}
 use Rattle.ridepool.specs.Inputs.{Inputs}
-use Rattle.ridepool.specs.Report.{AreFirst, IsReport, added_text, head_of, journals_of, rounds_notices, IsCut, IsPart}
+use Rattle.ridepool.specs.Report.{AreFirst, IsReport, added_text, head_of, journals_of, rounds_notices, IsCutShort, IsPart}
 use Rattle.dispatch_report.specs.declared.fault.ReportFault.{ReportFault}
 use Rattle.dispatch_report.specs.declared.fault.ReportFault.TheVariants as report
 use Rattle.ridepool.specs.declared.status.RunStatus.{RunStatus}
@@ -130,7 +130,7 @@ module _ (settings : Settings) (roads : Roads) where
 
   -- why a text isn't written whole, where these are its first lines, its first rounds, and all with its last lines
   pub data IsReportFault (head : List ℕ) (AreFirst : List DayRound → Type 0) (AreAllWith : List DayRound → List ℕ → Type 0) (before after : Option (List ℕ)) (notifiers left : List NotifierView) (low high : ℕ) : RunStatus → Type 0 where
-    failed : Rose low high → IsCut settings roads head AreFirst AreAllWith before after notifiers left → IsReportFault head AreFirst AreAllWith before after notifiers left low high WriteFault
+    failed : Rose low high → IsCutShort settings roads head AreFirst AreAllWith before after notifiers left → IsReportFault head AreFirst AreAllWith before after notifiers left low high WriteFault
     unstored : IsPart settings roads head AreFirst AreAllWith before after notifiers left → IsReportFault head AreFirst AreAllWith before after notifiers left low high OutOfMemory
 
 -- these are the rounds, and these the last lines
