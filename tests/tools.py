@@ -27,7 +27,7 @@ import words  # noqa: E402
 
 
 def find_python():
-    """Goes on with a Python that has the packages; where there is none, says so and passes."""
+    """Goes on with a Python that has the packages; where there is none, says that they were skipped."""
     if not words.missing_modules(words.PACKAGES):
         return
     probe = f"import sys; sys.path.insert(0, {str(TOOLS)!r}); import words; " \
@@ -35,7 +35,7 @@ def find_python():
     for python in dict.fromkeys((words.DEBIAN_PYTHON, shutil.which("python3"))):
         if python and os.path.exists(python) and subprocess.run([python, "-c", probe]).returncode == 0:
             os.execv(python, [python, *sys.argv])
-    print(f"tools not tested, since no Python here has all they need: {words.INSTALL}")
+    print(f"skipped: the tools, since no Python here has all they need: {words.INSTALL}")
     print("0 passed, 0 failed")
     sys.exit(0)
 
@@ -415,7 +415,9 @@ def test_town(folder):
           "from=2015-01-15T08:00:00", "to=2015-01-15T08:30:00")
     for name in ("fleet.csv", "script.csv"):
         assert (folder / name).read_text() == (TOWN / name).read_text(), name
-    if shutil.which("netconvert"):
+    if shutil.which("netconvert") is None:
+        print("skipped: the town's map as a network, since there is no netconvert")
+    else:
         home = {"SUMO_HOME": "/usr/share/sumo", **os.environ}
         net = folder / "town.net.xml"
         subprocess.run(["netconvert", "--osm-files", TOWN / "town.osm", "--output-file", net],
