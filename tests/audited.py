@@ -5,7 +5,8 @@
 A change takes one byte, one number or one line: it is altered, left out, put in twice, or changes places with the next, or
 the text is cut. A changed report is refused exactly where the judge of these tests refuses it (other multipliers may show
 the same bound, and another setting need not matter), and the refusal names the changed line, or the first of the batch's
-block in which it stands. The last line is `N passed, M failed`, by reports and by changes.
+block in which it stands, with a point that lines of its kind decide. The last line is `N passed, M failed`, by reports and
+by changes.
 """
 
 import os
@@ -25,6 +26,17 @@ from run import CASES, prepare, text_in
 DRAWN = 60  # runs that are drawn, of which some are days or made workloads, and then aren't audited
 LARGEST = 60_000  # bytes of a report in which changes are made
 FILES = ("network", "fleet", "script")
+# By the first word of a block's line, the points that a change of it can fail: who expired, the graphs, late vehicles, the
+# trips, the plan, the bound, the tree, better plans near, the moves.
+POINTS = {
+    **dict.fromkeys(("batch", "expired", "overflow"), {0}),
+    **dict.fromkeys(("lapsed", "rv", "rr", "row"), {1}),
+    "late": {2},
+    "trip": {3},
+    **dict.fromkeys(("out", "cost"), {4}),
+    **dict.fromkeys(("bound", "nodes", "branch", "leaf", "dead"), {5, 6}),
+    "move": {8},
+}
 
 
 class Printed:
@@ -68,13 +80,18 @@ class Printed:
             return False
         return True
 
+    def points_of(self, lines):
+        """The points that a change of these lines, counted from 1, can fail."""
+        words = [self.lines[line - 1].split(" ")[0] for line in lines if line <= len(self.lines)]
+        return set().union(*(POINTS.get(word, ()) for word in words))
+
     def refuse(self, change, number):
         """The changed report is refused, if it is none, at the changed line or at the batch in whose block it stands."""
         way, at, text = change
         ran = self.verdict(text, number)
         if ran.returncode == 0 and self.is_right(text):
             return
-        found = re.fullmatch(r"ridepool: report: (?:(?:cut at|bad form at|wrong head at|wrong entry at) line (\d+)|wrong batch at line (\d+) point [0-8])\n", ran.stderr)
+        found = re.fullmatch(r"ridepool: report: (?:(?:cut at|bad form at|wrong head at|wrong entry at) line (\d+)|wrong batch at line (\d+) point ([0-8]))\n", ran.stderr)
         if ran.returncode != 13 or ran.stdout or not found:
             raise Wrong(f"{way} of line {at + 1}: {ran.returncode}, {ran.stdout!r}, {ran.stderr!r}")
         block = [begin for begin, end in self.blocks if begin <= at <= end]
@@ -82,6 +99,9 @@ class Printed:
         lines = [at + 1, at + 2] if way == "swapped lines" else [at + 1]  # a line may come too early, or the one behind it too late
         if not is_setting and (found[1] and int(found[1]) not in lines or found[2] and int(found[2]) - 1 not in block):
             raise Wrong(f"{way} of line {at + 1}: {ran.stderr!r}")
+        touched = [at] if way == "doubled line" else lines  # the second of two equal lines is the first that differs
+        if not is_setting and found[3] and int(found[3]) not in self.points_of(touched):
+            raise Wrong(f"{way} of line {at + 1}, {self.lines[at]!r}: {ran.stderr!r}")
         if at != 1 and way != "zero in front" and self.is_right(text):  # the judge asks no setting for its range, and reads 07 as 7
             raise Wrong(f"{way} of line {at + 1}: a right report is refused: {ran.stderr!r}")
 

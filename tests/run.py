@@ -77,15 +77,32 @@ def fixed_summary(text):
     return "\n".join([re.sub(r"^(batch \d+) .*", r"\1", line) for line in lines] + first)
 
 
+def setting(words, key, without):
+    """The number that words give a key, or else the one that it has without them."""
+    return next((int(word.partition("=")[2]) for word in words if word.startswith(f"{key}=")), without)
+
+
+def out_of_range(words, got):
+    """The batches of a summary that cost less than the penalties of who is left out, or more than these and the longest delay
+    of each who is served; whose bound is no number of seconds up to the cost; or that have more trips than vehicles."""
+    penalty, delay, vehicles = setting(words, "penalty", 10_000), setting(words, "delay", 180), setting(words, "vehicles", 100)
+    wrong = []
+    for line in re.findall(r"^batch .* served .*$", got, re.M):
+        _, served, out, rows, trips, cost, bound = map(int, re.findall(r"-?\d+", line))
+        least = out * penalty
+        if not (least <= cost <= least + served * delay and 0 <= bound <= cost and trips <= min(vehicles, rows)):
+            wrong.append(f"out of range: {line}")
+    return wrong
+
+
 def judged_as_summary(folder, case, words, got):
-    """What `load` prints: the first batch's riders and pairs are determined, and its cost, where that is its bound; and no
-    bound is above its cost."""
+    """What `load` prints: the first batch's riders and pairs are determined, and its cost, where that is its bound; and the
+    numbers of each batch are within their ranges."""
     wanted = text_in(case, "stdout")
     costs = [re.findall(r"cost (\d+) bound (-?\d+)$", text, re.M) for text in (wanted, got)]
     first = [cost for batches in costs for cost, bound in batches[:1] if cost == bound]
-    high = [f"the bound {bound} is above the cost {cost}" for cost, bound in costs[1] if int(bound) > int(cost)]
     other = [f"the first batch costs {first[1]}, and it can be {first[0]}"] if len({*first}) > 1 else []
-    return difference("what is determined", fixed_summary(wanted), fixed_summary(got)) + high + other
+    return difference("what is determined", fixed_summary(wanted), fixed_summary(got)) + out_of_range(words, got) + other
 
 
 JUDGES = {"rules": judged_by_rules, "summary": judged_as_summary}
@@ -95,10 +112,27 @@ def prepare(case, folder):
     """The case's files, and of the street those that it lacks."""
     for source in (STREET, case):
         shutil.copytree(source, folder, dirs_exist_ok=True)
-    for name in ("notices", "stdout", "stderr", "status"):
+    for name in ("again", "notices", "stdout", "stderr", "status"):
         (folder / name).unlink(missing_ok=True)
     for line in text_in(case, "make").splitlines():
         make(line, folder)
+
+
+def with_words(words, others):
+    """The words with these others in place of those of the same keys."""
+    keys = tuple(f"{other.partition('=')[0]}=" for other in others)
+    return [*(word for word in words if not word.startswith(keys)), *others]
+
+
+def run_again(program, case, folder, words, got):
+    """With the words of each line of `again` in place of its own the program has to print the same bytes."""
+    wrong = []
+    for line in text_in(case, "again").splitlines():
+        ran = subprocess.run([program, *with_words(words, line.split(" "))], cwd=folder, capture_output=True, timeout=120)
+        if (ran.returncode, ran.stderr) != (0, b""):
+            wrong += [f"with {line}: status {ran.returncode}, {ran.stderr!r}"]
+        wrong += difference(f"standard output with {line}", got, ran.stdout.decode(errors="surrogateescape"))
+    return wrong
 
 
 def try_case(program, case):
@@ -123,7 +157,7 @@ def try_case(program, case):
             wrong += difference("standard output", text_in(case, "stdout"), got)
         if (case / "notices").exists():
             wrong += difference("notices", text_in(case, "notices"), text_in(folder, "notices"))
-        return wrong
+        return wrong or run_again(program, case, folder, words, got)
 
 
 def try_readme(program):

@@ -28,7 +28,7 @@ import words  # noqa: E402
 
 
 def find_python(name, *modules):
-    """Goes on with a Python that has the modules; where there is none, says so and passes."""
+    """Goes on with a Python that has the modules; where there is none, says that they were skipped."""
     if not words.missing_modules(modules):
         return
     probe = f"import sys; sys.path.insert(0, {str(TOOLS)!r}); import words; " \
@@ -36,7 +36,7 @@ def find_python(name, *modules):
     for python in dict.fromkeys((words.DEBIAN_PYTHON, shutil.which("python3"))):
         if python and os.path.exists(python) and subprocess.run([python, "-c", probe]).returncode == 0:
             os.execv(python, [python, *sys.argv])
-    print(f"{name} not tested, since no Python here has all they need: {words.INSTALL}")
+    print(f"skipped: {name}, since no Python here has all they need: {words.INSTALL}")
     print("0 passed, 0 failed")
     sys.exit(0)
 
@@ -416,7 +416,9 @@ def test_town(folder):
           "from=2015-01-15T08:00:00", "to=2015-01-15T08:30:00")
     for name in ("fleet.csv", "script.csv"):
         assert (folder / name).read_text() == (TOWN / name).read_text(), name
-    if shutil.which("netconvert"):
+    if shutil.which("netconvert") is None:
+        print("skipped: the town's map as a network, since there is no netconvert")
+    else:
         home = {"SUMO_HOME": "/usr/share/sumo", **os.environ}
         net = folder / "town.net.xml"
         subprocess.run(["netconvert", "--osm-files", TOWN / "town.osm", "--output-file", net],
@@ -560,5 +562,5 @@ def run_tests(module):
 
 
 if __name__ == "__main__":
-    find_python("tools", "sumolib", "matplotlib", "scipy", "pyproj")
+    find_python("the tools", "sumolib", "matplotlib", "scipy", "pyproj")
     sys.exit(run_tests(globals()))

@@ -79,11 +79,12 @@ fn way(options: &[String]) -> TimesWay
     }
 }
 
-/// The settings that words give: a command, `run`, `drive` or `load`, then `key=value` in any order, each key
-/// once. Words count from 1.
+/// The settings that words give: a command, `run`, `drive`, `load` or `audit`, then `key=value` in any order, each
+/// key once. Words count from 1.
 ///
-/// `run` and `drive` need the keys `network`, `fleet` and `script`, and take `notices` and `proof`; `load` takes
-/// `seed`, `side`, `vehicles`, `riders` and `rounds`; all take the others. It takes no memory.
+/// `run`, `drive` and `audit` need the keys `network`, `fleet` and `script`, and `audit` needs `report` too. `audit`
+/// takes `workers` beside these. `run` and `drive` take `notices` and `proof`; `load` takes `seed`, `side`,
+/// `vehicles`, `riders` and `rounds`; these three take all other keys. It takes no memory.
 ///
 /// The first fault is given: no command, then word for word an unknown key, a repeated key, a bad value,
 /// and after the last word the first missing file.

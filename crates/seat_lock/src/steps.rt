@@ -44,11 +44,13 @@ pub(crate) fn wait_turn<B: Logged, R: Wait>(
     ensures turn { (x : ℕ) × TakesTurn B.root B.log B.spare place.old.me.0 x place.new.me }
 {
     for _ in rt.forever() {
-        let heard = bells.heard(ticket);
+        let heard = bells.listen(ticket);
         if queue.shared.load::<Look<B>>(place, SERVED) == ticket {
+            bells.leave(ticket);
             return;
         }
         bells.sleep(rt, ticket, heard);
+        bells.leave(ticket);
     }
     unreachable!()
 }

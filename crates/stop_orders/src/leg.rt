@@ -1,3 +1,5 @@
+ghost use Rattle.std.specs.Prelude.{◌≡◌};
+
 use pool_base::Party;
 
 /// One rider's way, from place to place, and its limits. Places are indexes of a table of travel times.
@@ -17,6 +19,8 @@ pub struct Leg {
 
 /// A leg of one person from place 0 to itself, whose limits are all 0.
 impl Default for Leg {
+    ghost is_default = { λ leg. leg ≡ record { origin = 0; destination = 0; latest_pickup = 0; ideal = 0; latest_dropoff = 0; party = 1 } };
+
     fn default() -> Leg {
         Leg {
             origin: 0,

@@ -1,3 +1,5 @@
+ghost use Rattle.std.specs.Prelude.{◌≡◌};
+
 /// One stop of a vehicle's order of stops.
 #[derive(Clone, Copy, Debug, PartialEq, Eq)]
 pub enum Stop {
@@ -11,6 +13,10 @@ pub enum Stop {
 
 /// The pickup of rider 0.
 impl Default for Stop {
+    ghost use Rattle.stop_orders.specs.declared.stop.Stop.{Stop};
+
+    ghost is_default = { λ stop. stop ≡ Stop.Pick 0 };
+
     fn default() -> Stop {
         Stop::Pick(0)
     }

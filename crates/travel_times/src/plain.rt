@@ -76,7 +76,7 @@ fn none_waiting(alloc: Global, nodes: usize) -> Result<Vec<bool>, OutOfMemory>
     Ok(vec![in alloc; false; nodes]?)
 }
 
-/// RelaxesHops the arcs of a node.
+/// Relaxes the arcs of a node.
 fn relax(hops: &[Hop], here: u32, seconds: &mut [u32], waiting: &mut [bool])
     requires lengths { length waiting.old ≡ length seconds.old }
     requires short { here ≤ longest }

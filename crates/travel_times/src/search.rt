@@ -113,7 +113,7 @@ pub(crate) fn first_waiting(waiting: &[bool]) -> Option<usize>
     None
 }
 
-/// RelaxesHops the arcs of a node: where one gives fewer seconds, these are noted, and the node at its end waits.
+/// Relaxes the arcs of a node: where one gives fewer seconds, these are noted, and the node at its end waits.
 fn relax(
     hops: &[ShortHop],
     here: u32,
