@@ -34,7 +34,7 @@ WORDS = ["run", *(f"{name}={name}.csv" for name in FILES)]
 STREET = (TESTS / "street" / "network.csv").read_text()
 QUICK_STEP = 13  # of many runs one in so many is quick
 MOST_SHOWN = 10  # wrong runs of a part
-BUFFER = 8192  # bytes that the program holds back at most within a round
+PIECE = 32768  # bytes from which on a round's text is written in more than one piece
 
 
 def table(name, *rows):
@@ -108,10 +108,11 @@ class Whole:
         return sum(end <= len(text) for end in self.ends)
 
     def begins_with(self, left):
-        """Whether a beginning stands, with the notices of its whole rounds, or of all such rounds but the last."""
-        left.need(self.report.startswith(left.output), f"{left.output!r} is no beginning of the report")
+        """Whether a beginning stands that isn't the whole, with the notices of its whole rounds; without memory maybe of all but the last."""
+        is_beginning = self.report.startswith(left.output) and left.output != self.report
+        left.need(is_beginning, f"{left.output!r} is no beginning of the report, or all of it")
         rounds = self.rounds_in(left.output)
-        allowed = ["".join(self.told[:many]) for many in {rounds, max(0, rounds - 1)}]
+        allowed = ["".join(self.told[:many]) for many in {rounds, max(0, rounds - 1) if left.status == 9 else rounds}]
         left.need(left.notices in allowed, f"{left.notices!r} aren't the notices of {rounds} rounds")
 
 
@@ -233,14 +234,14 @@ def failing_reads(part, shim):
 def failing_writes(part, shim):
     for inputs in (POOLED, RIDDEN, DAY):
         whole = Whole(shim.program, inputs, ["proof=1"])
-        most = {"output": 7}
 
         def stands(left, whole=whole):
             left.need((left.status, left.error) == (8, "ridepool: report: write failed\n"), "status 8 should come")
             whole.begins_with(left)
 
-        calls = calls_of(shim, whole, most)["output"]
-        part.try_all([(f"write {k}", with_fault(shim, whole, most, "output", k, stands)) for k in range(1, calls + 1)])
+        for most in ({"output": 7}, {}):
+            calls = calls_of(shim, whole, most)["output"]
+            part.try_all([(f"write {k}", with_fault(shim, whole, most, "output", k, stands)) for k in range(1, calls + 1)])
 
 
 def failing_notices(part, shim):
@@ -269,9 +270,9 @@ class Audit:
         self.report = f"audit ok entries {entries} batches {batches}\n"
 
     def stands(self, left):
-        """Whether what is written is a beginning of the line, or the line where nothing failed."""
+        """Whether the line is written, or, where something failed, a beginning that isn't the whole."""
         left.need(self.report.startswith(left.output), "what stands is no beginning of the line")
-        left.need(left.status or left.output == self.report, "the line should be whole")
+        left.need((left.output == self.report) == (left.status == 0), "the line should be whole just where nothing failed")
 
 
 def cut_report(program, audit, length):
@@ -349,9 +350,10 @@ def refused_memory(part, shim):
             if DROPPED in left.error:
                 left.need(whole.notices.startswith(left.notices), "these are no beginning of the notices")
                 left.need(whole.report.startswith(left.output), "what stands is no beginning of the report")
-            else:
+            elif left.status:
                 whole.begins_with(left)
-                left.need(left.status or left.notices == whole.notices, "all should be told")
+            else:
+                left.need(left.notices == whole.notices, "all should be told")
 
         refused_requests(part, shim, whole.words, inputs, stands, name)
 
@@ -365,7 +367,7 @@ def refused_memory(part, shim):
 
     def sums_up(left):
         left.need(summary.startswith(left.output), "what stands is no beginning of the summary")
-        left.need(left.status or left.output == summary, "the summary should be whole")
+        left.need((left.output == summary) == (left.status == 0), "the summary should be whole just where nothing failed")
 
     refused_requests(part, shim, LOAD, {}, sums_up, "load")
 
@@ -413,7 +415,7 @@ def kill(program, whole, rounds, again=True):
 def killed(part, program):
     whole = Whole(program, long_run(), [])
     longest = max(b - a for a, b in zip([0, *whole.ends], whole.ends))
-    if longest >= BUFFER:
+    if longest >= PIECE:
         raise Wrong(f"a round of {longest} bytes is no test of whole rounds")
     part.try_some([(f"killed after round {k}", kill(program, whole, k)) for k in range(1, len(whole.ends))])
 
@@ -453,13 +455,12 @@ PROGRESS = r"round \d+, batches closed: \d+(?:, last: (?:overflow|\d+ rows, gap 
 
 
 def progress_of(summary):
-    """The lines that are shown as this summary of a made workload is written, two rounds for each batch."""
+    """The lines that are shown as this summary of a made workload is written, a line for each batch."""
     shown = ["round 1, batches closed: 0"]
     for k, line in enumerate(summary.splitlines()[1:-1], 1):
-        shown.append(f"round {2 * k}, {shown[-1].partition(', ')[2]}")
         words = line.split(" ")
         last = "overflow" if words[2] == "overflow" else f"{words[7]} rows, gap {int(words[11]) - int(words[13])}"
-        shown.append(f"round {2 * k + 1}, batches closed: {k}, last: {last}")
+        shown.append(f"round {k + 1}, batches closed: {k}, last: {last}")
     return shown
 
 
@@ -631,7 +632,79 @@ def ended_early(program, folder):
     left.is_refused(*refusal({**POOLED, "script": POOLED["script"][:-10]}))
 
 
+TAKEN = "ridepool: notices: the file is an input or standard output: not written\n"
+
+
+def taken(prepare, key):
+    """Notices to a path that leads to an input: no byte of it changes, and the report goes on."""
+
+    def run(program, folder):
+        path = prepare(folder, f"{key}.csv")
+        left = run_in(folder, lambda it: start(program, it, [*WORDS, f"notices={path}"]), POOLED)
+        left.need((left.status, left.error) == (0, TAKEN), "the report should go on")
+        judge(Run(folder, WORDS), left.output)
+        for name, text in POOLED.items():
+            left.need((folder / f"{name}.csv").read_text() == text, f"the {name} should be as it was")
+
+    return run
+
+
+def same(folder, name):
+    return name
+
+
+def linked(folder, name):
+    (folder / "link").symlink_to(name)
+    return "link"
+
+
+def hard_linked(folder, name):
+    (folder / name).touch()
+    os.link(folder / name, folder / "link")
+    return "link"
+
+
+def notices_as_output(program, folder):
+    """The report and the notices on one file: the report alone stands there."""
+    with open(folder / "report", "wb") as output:
+        left = run_in(folder, lambda it: start(program, it, [*WORDS, "notices=report"], stdout=output), POOLED)
+    left.need((left.status, left.error) == (0, TAKEN), "the report should go on")
+    judge(Run(folder, WORDS), (folder / "report").read_text())
+
+
+def old_notices(words, inputs, status, is_kept):
+    """A file of notices that was there is emptied where the run begins to write, and left where it is refused."""
+
+    def run(program, folder):
+        (folder / "notices").write_text("old\n")
+        left = run_in(folder, lambda it: start(program, it, [*words, "notices=notices"]), inputs)
+        left.need(left.status == status, f"status {status} should come")
+        left.need((left.notices == "old\n") == is_kept, f"in the file of notices stands {left.notices!r}")
+
+    return run
+
+
+def unopened(program, folder):
+    """Faulty words open no file: a pipe that nobody writes to would keep them waiting."""
+    os.mkfifo(folder / "pipe")
+    for words in (["load", "network=pipe"], ["run", "network=pipe", "fleet=pipe"], ["audit", "report=pipe", "wait=x"]):
+        ran = subprocess.run([program, *words], cwd=folder, capture_output=True, timeout=10)
+        if ran.returncode != 2:
+            raise Wrong(f"status {ran.returncode} comes of {words}, and 2 should")
+
+
+NO_ROUND = {**POOLED, "script": table("script")}
+
 PLACES = {
+    **{f"notices to the {name}": taken(same, name) for name in FILES},
+    "notices to a link to the script": taken(linked, "script"),
+    "notices to another name of the network": taken(hard_linked, "network"),
+    "notices to standard output": notices_as_output,
+    "old notices of a run": old_notices(WORDS, POOLED, 0, False),
+    "old notices of a run without a round": old_notices(WORDS, NO_ROUND, 0, False),
+    "old notices of a refused script": old_notices(WORDS, {**POOLED, "script": "x\n"}, 5, True),
+    "old notices of faulty words": old_notices([*WORDS, "wait=x"], POOLED, 2, True),
+    "faulty words": unopened,
     "a run's report to a full device": full_device([*WORDS, "notices=notices"]),
     "a summary to a full device": full_device(LOAD),
     "the help to a full device": full_device(["--help"]),
@@ -683,10 +756,17 @@ def main():
         if names and name not in names:
             continue
         if name in SHIM_PARTS and shim.why:
-            print(f"skipped: {name}, since {shim.why}")
+            if shim.is_missing:
+                print(f"skipped: {name}, since {shim.why}")
+            else:
+                print(f"{name}: no run was made, since {shim.why}")
+                failed += 1
             continue
         part, began = Part(QUICK_STEP if is_quick else 1), time.monotonic()
         run(part, shim if name in SHIM_PARTS else program)
+        if not part.runs or (name in SHIM_PARTS and not part.faults):
+            part.wrong.append("no run was made, or no call failed in one")
+            part.runs += 1
         print(f"{name}: {part.runs} runs, {part.faults} faults, {time.monotonic() - began:.1f} s")
         for line in part.wrong[:MOST_SHOWN]:
             print(f"    {line}")

@@ -27,21 +27,22 @@ class Plan:
 
 
 class Shim:
-    """The library that stands before the C library. `works` tells whether there is one for this program."""
+    """The library that stands before the C library. `why` tells why there is none, `is_missing` whether for want of a compiler."""
 
     def __init__(self, program):
         self.program = program
         self.folder = tempfile.TemporaryDirectory()
         self.library = Path(self.folder.name) / "faults.so"
+        self.compiler = next(filter(None, map(shutil.which, [os.environ.get("CC", "cc"), "gcc", "clang"])), None)
+        self.is_missing = not self.compiler
         self.why = self.build() or self.probe()
 
     def build(self):
-        compiler = next(filter(None, map(shutil.which, [os.environ.get("CC", "cc"), "gcc", "clang"])), None)
-        if not compiler:
+        if self.is_missing:
             return "there is no C compiler"
         source = Path(__file__).with_name("faults.c")
-        ran = subprocess.run([compiler, "-O2", "-shared", "-fPIC", "-o", self.library, source], capture_output=True, text=True)
-        return ran.returncode and f"{compiler} can't build tests/faults.c: {ran.stderr.strip()}"
+        ran = subprocess.run([self.compiler, "-O2", "-shared", "-fPIC", "-o", self.library, source], capture_output=True, text=True)
+        return ran.returncode and f"{self.compiler} can't build tests/faults.c: {ran.stderr.strip()}"
 
     def probe(self):
         """Why no call of the program passes through the library, if none does."""

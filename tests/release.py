@@ -29,8 +29,9 @@ def copied(folder):
 
 def released(folder, program):
     """Makes a release of the program there, as `release/make` does after its build."""
-    shutil.copy(program, folder / "release" / "ridepool_program")
-    text = subprocess.run([folder / "release" / "text", program], capture_output=True, check=True).stdout
+    made = folder / "release" / "ridepool_program"
+    subprocess.run(["strip", "-o", made, program], check=True)
+    text = subprocess.run([folder / "release" / "text", made], capture_output=True, check=True).stdout
     (folder / "release" / "MADE_OF").write_bytes(text)
 
 

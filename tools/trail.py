@@ -3,7 +3,7 @@
 
     tools/trail.py            the figures, and each fault; status 1 where there is one
     tools/trail.py --list     one line for each definition on the way: depth, lines, place
-    tools/trail.py --write    writes the lists of docs/DEFINITIONS.md anew
+    tools/trail.py --write    writes the lists of docs/proof/DEFINITIONS.md anew
     tools/trail.py --stood COMMIT
                               how many of the definitions on the headline's way at a commit stand, by name and in a crate
                               that stood, and in how many lines
@@ -16,8 +16,8 @@ counted.
 A fault is: a definition on a way that lies in specs/lemmas/ or specs/work/; a file of specs/ that imports from these
 or from proofs/, or one of specs/lemmas/ that imports from specs/work/; any file that imports from specs/work/ of another
 crate; a file of proofs/ that imports more than proofs/lemmas/ of another crate; a name that stands for several
-definitions on a way; a definition on a way without a line of comment; lists of docs/DEFINITIONS.md that are not the
-ways'.
+definitions on a way; a definition on a way without a line of comment; lists of docs/proof/DEFINITIONS.md that are not
+the ways'.
 """
 import io
 import re
@@ -30,7 +30,7 @@ from pathlib import Path
 
 TOP = Path(__file__).resolve().parent.parent
 CRATES = TOP / "crates"
-BOOK = TOP / "docs" / "DEFINITIONS.md"
+BOOK = TOP / "docs" / "proof" / "DEFINITIONS.md"
 HEADLINE = ("ridepool", "ridepool")
 
 TOKEN = re.compile(r"[^\s(){}\[\],;.`\"]+")
@@ -316,7 +316,7 @@ BEGIN, END = "<!-- {}: begin -->", "<!-- {}: end -->"
 def with_list(text, name, body):
     a, b = BEGIN.format(name), END.format(name)
     if a not in text or b not in text:
-        raise SystemExit(f"docs/DEFINITIONS.md lacks the marks of the list {name}")
+        raise SystemExit(f"docs/proof/DEFINITIONS.md lacks the marks of the list {name}")
     return text[: text.index(a) + len(a)] + "\n" + body + text[text.index(b):]
 
 
@@ -364,7 +364,7 @@ def main():
         if "--write" in sys.argv:
             BOOK.write_text(wanted)
         else:
-            faults.append("docs/DEFINITIONS.md: its lists are not those of tools/trail.py --write")
+            faults.append("docs/proof/DEFINITIONS.md: its lists are not those of tools/trail.py --write")
     for fault in faults:
         print(f"trail: {fault}")
     return 1 if faults else 0

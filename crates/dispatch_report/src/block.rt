@@ -19,35 +19,40 @@ use request_book::{
 /// Writes the block of a closed batch.
 pub(crate) fn write_block<K: Sink>(
     sink: &mut K,
-    line: &mut Vec<u8>,
+    piece: &mut Vec<u8>,
     batch: u64,
     outcome: &Outcome,
     proof: bool,
 ) -> Result<(), ReportFault>
-    ensures { WritesLines (sink_seen K.written K.faults sink.old sink.new) (block_lines proof batch outcome.now) result }
+    ensures { WritesLines (sink_seen K.written K.faults sink.old sink.new) piece.old.items piece.new.items (block_lines proof batch outcome.now) result }
 {
-    write_number(sink, line, b"batch ", batch)?;
-    write_list(sink, line, &Riders { words: b"expired " }, &outcome.expired)?;
-    write_answer(sink, line, &outcome.answer, proof)?;
-    write_words(sink, line, b"end")?;
+    write_number(sink, piece, b"batch ", batch)?;
+    write_list(
+        sink,
+        piece,
+        &Riders { words: b"expired " },
+        &outcome.expired,
+    )?;
+    write_answer(sink, piece, &outcome.answer, proof)?;
+    write_words(sink, piece, b"end")?;
     Ok(())
 }
 
 fn write_answer<K: Sink>(
     sink: &mut K,
-    line: &mut Vec<u8>,
+    piece: &mut Vec<u8>,
     answer: &Answer,
     proof: bool,
 ) -> Result<(), ReportFault>
-    ensures { WritesLines (sink_seen K.written K.faults sink.old sink.new) (answer_lines proof answer.now) result }
+    ensures { WritesLines (sink_seen K.written K.faults sink.old sink.new) piece.old.items piece.new.items (answer_lines proof answer.now) result }
 {
     match answer {
-        Answer::Overflow => write_words(sink, line, b"overflow"),
+        Answer::Overflow => write_words(sink, piece, b"overflow"),
         Answer::Planned(plan) => {
-            write_graphs(sink, line, plan)?;
-            write_plan(sink, line, plan)?;
-            write_bound(sink, line, plan)?;
-            write_tree(sink, line, plan, proof)?;
+            write_graphs(sink, piece, plan)?;
+            write_plan(sink, piece, plan)?;
+            write_bound(sink, piece, plan)?;
+            write_tree(sink, piece, plan, proof)?;
             Ok(())
         }
     }
@@ -55,55 +60,59 @@ fn write_answer<K: Sink>(
 
 fn write_graphs<K: Sink>(
     sink: &mut K,
-    line: &mut Vec<u8>,
+    piece: &mut Vec<u8>,
     plan: &Planned,
 ) -> Result<(), ReportFault>
-    ensures { WritesLines (sink_seen K.written K.faults sink.old sink.new) (graph_lines plan.now) result }
+    ensures { WritesLines (sink_seen K.written K.faults sink.old sink.new) piece.old.items piece.new.items (graph_lines plan.now) result }
 {
-    write_list(sink, line, &Riders { words: b"lapsed " }, &plan.lapsed)?;
-    write_list(sink, line, &Late, &plan.late)?;
-    write_list(sink, line, &Rv, &plan.rv)?;
-    write_list(sink, line, &Rr, &plan.rr)?;
-    write_list(sink, line, &Row, &plan.rows)?;
+    write_list(sink, piece, &Riders { words: b"lapsed " }, &plan.lapsed)?;
+    write_list(sink, piece, &Late, &plan.late)?;
+    write_list(sink, piece, &Rv, &plan.rv)?;
+    write_list(sink, piece, &Rr, &plan.rr)?;
+    write_list(sink, piece, &Row, &plan.rows)?;
     Ok(())
 }
 
-fn write_plan<K: Sink>(sink: &mut K, line: &mut Vec<u8>, plan: &Planned) -> Result<(), ReportFault>
-    ensures { WritesLines (sink_seen K.written K.faults sink.old sink.new) (plan_lines plan.now) result }
+fn write_plan<K: Sink>(sink: &mut K, piece: &mut Vec<u8>, plan: &Planned) -> Result<(), ReportFault>
+    ensures { WritesLines (sink_seen K.written K.faults sink.old sink.new) piece.old.items piece.new.items (plan_lines plan.now) result }
 {
-    write_list(sink, line, &Trip, &plan.chosen)?;
-    write_list(sink, line, &Riders { words: b"out " }, &plan.left)?;
-    write_list(sink, line, &Move, &plan.moves)?;
+    write_list(sink, piece, &Trip, &plan.chosen)?;
+    write_list(sink, piece, &Riders { words: b"out " }, &plan.left)?;
+    write_list(sink, piece, &Move, &plan.moves)?;
     Ok(())
 }
 
-fn write_bound<K: Sink>(sink: &mut K, line: &mut Vec<u8>, plan: &Planned) -> Result<(), ReportFault>
-    ensures { WritesLines (sink_seen K.written K.faults sink.old sink.new) (bound_lines plan.now) result }
+fn write_bound<K: Sink>(
+    sink: &mut K,
+    piece: &mut Vec<u8>,
+    plan: &Planned,
+) -> Result<(), ReportFault>
+    ensures { WritesLines (sink_seen K.written K.faults sink.old sink.new) piece.old.items piece.new.items (bound_lines plan.now) result }
 {
-    write_number(sink, line, b"cost ", plan.cost)?;
-    write_signed(sink, line, b"bound ", &plan.bound)?;
-    write_nodes(sink, line, &plan.tree)?;
+    write_number(sink, piece, b"cost ", plan.cost)?;
+    write_signed(sink, piece, b"bound ", &plan.bound)?;
+    write_nodes(sink, piece, &plan.tree)?;
     Ok(())
 }
 
-fn write_nodes<K: Sink>(sink: &mut K, line: &mut Vec<u8>, tree: &Tree) -> Result<(), ReportFault>
-    ensures { WritesLines (sink_seen K.written K.faults sink.old sink.new) (numbered (codes "nodes ") (length tree.now) ∷ []) result }
+fn write_nodes<K: Sink>(sink: &mut K, piece: &mut Vec<u8>, tree: &Tree) -> Result<(), ReportFault>
+    ensures { WritesLines (sink_seen K.written K.faults sink.old sink.new) piece.old.items piece.new.items (numbered (codes "nodes ") (length tree.now) ∷ []) result }
 {
-    write_number(sink, line, b"nodes ", tree.nodes().len() as u64)
+    write_number(sink, piece, b"nodes ", tree.nodes().len() as u64)
 }
 
 fn write_tree<K: Sink>(
     sink: &mut K,
-    line: &mut Vec<u8>,
+    piece: &mut Vec<u8>,
     plan: &Planned,
     proof: bool,
 ) -> Result<(), ReportFault>
-    ensures { WritesLines (sink_seen K.written K.faults sink.old sink.new) (tree_lines proof plan.now) result }
+    ensures { WritesLines (sink_seen K.written K.faults sink.old sink.new) piece.old.items piece.new.items (tree_lines proof plan.now) result }
 {
     if proof {
         write_lines(
             sink,
-            line,
+            piece,
             &TreeNode {
                 rows: plan.rows.as_slice(),
             },
@@ -117,41 +126,38 @@ fn write_tree<K: Sink>(
 /// Writes a line of these words.
 pub(crate) fn write_words<K: Sink>(
     sink: &mut K,
-    line: &mut Vec<u8>,
+    piece: &mut Vec<u8>,
     words: &[u8],
 ) -> Result<(), ReportFault>
-    ensures { WritesLines (sink_seen K.written K.faults sink.old sink.new) (words.now ∷ []) result }
+    ensures { WritesLines (sink_seen K.written K.faults sink.old sink.new) piece.old.items piece.new.items (words.now ∷ []) result }
 {
-    line.clear();
-    put_bytes(line, words)?;
-    write_line(sink, line)
+    put_bytes(piece, words)?;
+    write_line(sink, piece)
 }
 
 /// Writes a line of a word and a number.
 pub(crate) fn write_number<K: Sink>(
     sink: &mut K,
-    line: &mut Vec<u8>,
+    piece: &mut Vec<u8>,
     words: &[u8],
     number: u64,
 ) -> Result<(), ReportFault>
-    ensures { WritesLines (sink_seen K.written K.faults sink.old sink.new) (numbered words.now number ∷ []) result }
+    ensures { WritesLines (sink_seen K.written K.faults sink.old sink.new) piece.old.items piece.new.items (numbered words.now number ∷ []) result }
 {
-    line.clear();
-    put_numbered(line, words, number)?;
-    write_line(sink, line)
+    put_numbered(piece, words, number)?;
+    write_line(sink, piece)
 }
 
 fn write_signed<K: Sink>(
     sink: &mut K,
-    line: &mut Vec<u8>,
+    piece: &mut Vec<u8>,
     words: &[u8],
     number: &i128,
 ) -> Result<(), ReportFault>
-    ensures { WritesLines (sink_seen K.written K.faults sink.old sink.new) (signed words.now number.now ∷ []) result }
+    ensures { WritesLines (sink_seen K.written K.faults sink.old sink.new) piece.old.items piece.new.items (signed words.now number.now ∷ []) result }
 {
-    line.clear();
-    put_signed(line, words, number)?;
-    write_line(sink, line)
+    put_signed(piece, words, number)?;
+    write_line(sink, piece)
 }
 
 /// Riders, each behind the same words.

@@ -6,7 +6,7 @@ ghost use Rattle.dispatch_report.specs.work.Lines.{WritesLines};
 
 use crate::block::write_number;
 use crate::fault::ReportFault;
-use crate::lines::write_line;
+use crate::lines::{write_line, write_piece};
 use crate::words::put_numbered;
 use pool_base::OutOfMemory;
 use pool_io::Sink;
@@ -33,21 +33,21 @@ pub fn write_day_end<K: Sink>(
 ) -> Result<(), ReportFault>
     ensures { WritesText (sink_seen K.written K.faults sink.old sink.new) (day_end_text counts.now entries) result }
 {
-    let mut line = Vec::new(alloc);
-    write_counts(sink, &mut line, counts)?;
-    write_number(sink, &mut line, b"done ", entries)
+    let mut piece = Vec::new(alloc);
+    write_counts(sink, &mut piece, counts)?;
+    write_number(sink, &mut piece, b"done ", entries)?;
+    write_piece(sink, &mut piece)
 }
 
 fn write_counts<K: Sink>(
     sink: &mut K,
-    line: &mut Vec<u8>,
+    piece: &mut Vec<u8>,
     counts: &DayCounts,
 ) -> Result<(), ReportFault>
-    ensures { WritesLines (sink_seen K.written K.faults sink.old sink.new) (day_line counts.now ∷ []) result }
+    ensures { WritesLines (sink_seen K.written K.faults sink.old sink.new) piece.old.items piece.new.items (day_line counts.now ∷ []) result }
 {
-    line.clear();
-    put_counts(line, counts)?;
-    write_line(sink, line)
+    put_counts(piece, counts)?;
+    write_line(sink, piece)
 }
 
 fn put_counts(line: &mut Vec<u8>, counts: &DayCounts) -> Result<(), OutOfMemory>

@@ -6,7 +6,7 @@ ghost use Rattle.dispatch_report.specs.work.Lines.{WritesLines};
 
 use crate::block::{write_number, write_words};
 use crate::fault::ReportFault;
-use crate::lines::write_line;
+use crate::lines::{write_line, write_piece};
 use crate::words::put_numbered;
 use pool_base::{OutOfMemory, put_bytes};
 use pool_io::Sink;
@@ -27,35 +27,34 @@ pub fn write_head<K: Sink>(
 ) -> Result<(), ReportFault>
     ensures { WritesText (sink_seen K.written K.faults sink.old sink.new) (head_text settings.now network.now vehicles) result }
 {
-    let mut line = Vec::new(alloc);
-    write_words(sink, &mut line, b"ridepool report 1")?;
-    write_settings(sink, &mut line, settings)?;
-    write_network(sink, &mut line, network)?;
-    write_number(sink, &mut line, b"fleet vehicles=", vehicles as u64)
+    let mut piece = Vec::new(alloc);
+    write_words(sink, &mut piece, b"ridepool report 1")?;
+    write_settings(sink, &mut piece, settings)?;
+    write_network(sink, &mut piece, network)?;
+    write_number(sink, &mut piece, b"fleet vehicles=", vehicles as u64)?;
+    write_piece(sink, &mut piece)
 }
 
 fn write_settings<K: Sink>(
     sink: &mut K,
-    line: &mut Vec<u8>,
+    piece: &mut Vec<u8>,
     settings: &Settings,
 ) -> Result<(), ReportFault>
-    ensures { WritesLines (sink_seen K.written K.faults sink.old sink.new) (settings_line settings.now ∷ []) result }
+    ensures { WritesLines (sink_seen K.written K.faults sink.old sink.new) piece.old.items piece.new.items (settings_line settings.now ∷ []) result }
 {
-    line.clear();
-    put_settings(line, settings)?;
-    write_line(sink, line)
+    put_settings(piece, settings)?;
+    write_line(sink, piece)
 }
 
 fn write_network<K: Sink>(
     sink: &mut K,
-    line: &mut Vec<u8>,
+    piece: &mut Vec<u8>,
     network: &Network,
 ) -> Result<(), ReportFault>
-    ensures { WritesLines (sink_seen K.written K.faults sink.old sink.new) ((numbered (codes "network nodes=") (length network.now.nodes) ++ numbered (codes " arcs=") (length network.now.arcs)) ∷ []) result }
+    ensures { WritesLines (sink_seen K.written K.faults sink.old sink.new) piece.old.items piece.new.items ((numbered (codes "network nodes=") (length network.now.nodes) ++ numbered (codes " arcs=") (length network.now.arcs)) ∷ []) result }
 {
-    line.clear();
-    put_network(line, network)?;
-    write_line(sink, line)
+    put_network(piece, network)?;
+    write_line(sink, piece)
 }
 
 fn put_settings(line: &mut Vec<u8>, settings: &Settings) -> Result<(), OutOfMemory>

@@ -2,7 +2,8 @@
 //! made workload its shape and a line for each batch.
 //!
 //! Every text is a list of lines, and each call says which lines the sink has taken: all of them, or with
-//! an error a beginning that isn't the whole. At most one line is kept in memory at a time.
+//! an error a beginning that isn't the whole. Text goes out in pieces of whole lines: a piece is written as soon as
+//! it has 32 KB, and at the end of each call. No line is longer than that, so a piece has at most 64 KB.
 #![tactic(auto)]
 
 mod block;

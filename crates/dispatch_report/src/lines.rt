@@ -1,6 +1,6 @@
 ghost use Rattle.std.specs.Prelude.{◌≡◌, ◌++◌, ◌∷◌, [], List, ℕ, OnOk, map};
 ghost use Rattle.dispatch_report.specs.Written.{sink_seen};
-ghost use Rattle.dispatch_report.specs.work.Lines.{WritesLines};
+ghost use Rattle.dispatch_report.specs.work.Lines.{WritesBytes, WritesLines};
 
 use crate::fault::ReportFault;
 use pool_base::{OutOfMemory, Sequence};
@@ -17,13 +17,18 @@ pub(crate) trait Line {
         ensures { OnOk result (line.new.items ≡ line.old.items ++ text self.now item.now) };
 }
 
-/// Ends the line and writes it.
-pub(crate) fn write_line<K: Sink>(sink: &mut K, line: &mut Vec<u8>) -> Result<(), ReportFault>
-    ensures { WritesLines (sink_seen K.written K.faults sink.old sink.new) (line.old.items ∷ []) result }
+/// A piece is written as soon as it has so many bytes. No line has as many, so a piece stays below 64 KB.
+const FULL: usize = 32_768;
+
+/// Ends the line that the piece ends with, and writes the piece where it is full.
+pub(crate) fn write_line<K: Sink>(sink: &mut K, piece: &mut Vec<u8>) -> Result<(), ReportFault>
+    ensures { WritesBytes (sink_seen K.written K.faults sink.old sink.new) piece.old.items piece.new.items (10 ∷ []) result }
 {
-    end_line(line)?;
-    write_all(sink, line.as_slice())?;
-    Ok(())
+    end_line(piece)?;
+    if piece.len() < FULL {
+        return Ok(());
+    }
+    write_piece(sink, piece)
 }
 
 fn end_line(line: &mut Vec<u8>) -> Result<(), OutOfMemory>
@@ -33,17 +38,27 @@ fn end_line(line: &mut Vec<u8>) -> Result<(), OutOfMemory>
     Ok(())
 }
 
+/// Writes the piece and empties it.
+pub(crate) fn write_piece<K: Sink>(sink: &mut K, piece: &mut Vec<u8>) -> Result<(), ReportFault>
+    ensures bytes { WritesBytes (sink_seen K.written K.faults sink.old sink.new) piece.old.items piece.new.items [] result }
+    ensures empty { OnOk result (piece.new.items ≡ []) }
+{
+    write_all(sink, piece.as_slice())?;
+    piece.clear();
+    Ok(())
+}
+
 /// Writes the line of each item.
 pub(crate) fn write_lines<K: Sink, L: Line>(
     sink: &mut K,
-    line: &mut Vec<u8>,
+    piece: &mut Vec<u8>,
     kind: &L,
     items: &[L::Item],
 ) -> Result<(), ReportFault>
-    ensures { WritesLines (sink_seen K.written K.faults sink.old sink.new) (map (L.text kind.now) items.now) result }
+    ensures { WritesLines (sink_seen K.written K.faults sink.old sink.new) piece.old.items piece.new.items (map (L.text kind.now) items.now) result }
 {
     'items: for item in items {
-        write_item(sink, line, kind, item)?;
+        write_item(sink, piece, kind, item)?;
     }
     Ok(())
 }
@@ -51,24 +66,23 @@ pub(crate) fn write_lines<K: Sink, L: Line>(
 /// The same for a list.
 pub(crate) fn write_list<K: Sink, L: Line>(
     sink: &mut K,
-    line: &mut Vec<u8>,
+    piece: &mut Vec<u8>,
     kind: &L,
     items: &Sequence<L::Item>,
 ) -> Result<(), ReportFault>
-    ensures { WritesLines (sink_seen K.written K.faults sink.old sink.new) (map (L.text kind.now) items.now) result }
+    ensures { WritesLines (sink_seen K.written K.faults sink.old sink.new) piece.old.items piece.new.items (map (L.text kind.now) items.now) result }
 {
-    write_lines(sink, line, kind, items.as_slice())
+    write_lines(sink, piece, kind, items.as_slice())
 }
 
 fn write_item<K: Sink, L: Line>(
     sink: &mut K,
-    line: &mut Vec<u8>,
+    piece: &mut Vec<u8>,
     kind: &L,
     item: &L::Item,
 ) -> Result<(), ReportFault>
-    ensures { WritesLines (sink_seen K.written K.faults sink.old sink.new) (L.text kind.now item.now ∷ []) result }
+    ensures { WritesLines (sink_seen K.written K.faults sink.old sink.new) piece.old.items piece.new.items (L.text kind.now item.now ∷ []) result }
 {
-    line.clear();
-    kind.put(line, item)?;
-    write_line(sink, line)
+    kind.put(piece, item)?;
+    write_line(sink, piece)
 }

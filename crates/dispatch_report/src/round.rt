@@ -8,7 +8,7 @@ ghost use Rattle.dispatch_report.specs.work.Lines.{WritesLines};
 use crate::block::{write_block, write_number};
 use crate::entry::put_entry;
 use crate::fault::ReportFault;
-use crate::lines::write_line;
+use crate::lines::{write_line, write_piece};
 use pool_io::Sink;
 use request_book::{Command, Entry, Journal, Outcome, Reply};
 use std::alloc::Global;
@@ -27,10 +27,10 @@ pub fn write_round<K: Sink>(
 ) -> Result<(), ReportFault>
     ensures { WritesText (sink_seen K.written K.faults sink.old sink.new) (round_text number proof journal.now) result }
 {
-    let mut line = Vec::new(alloc);
-    write_round_line(sink, &mut line, number)?;
-    write_journal(sink, &mut line, journal, proof)?;
-    Ok(())
+    let mut piece = Vec::new(alloc);
+    write_round_line(sink, &mut piece, number)?;
+    write_journal(sink, &mut piece, journal, proof)?;
+    write_piece(sink, &mut piece)
 }
 
 /// Writes the last line of a report.
@@ -40,43 +40,50 @@ pub fn write_round<K: Sink>(
 pub fn write_end<K: Sink>(alloc: Global, sink: &mut K, entries: u64) -> Result<(), ReportFault>
     ensures { WritesText (sink_seen K.written K.faults sink.old sink.new) (end_text entries) result }
 {
-    let mut line = Vec::new(alloc);
-    write_number(sink, &mut line, b"done ", entries)
+    let mut piece = Vec::new(alloc);
+    write_number(sink, &mut piece, b"done ", entries)?;
+    write_piece(sink, &mut piece)
 }
 
 fn write_round_line<K: Sink>(
     sink: &mut K,
-    line: &mut Vec<u8>,
+    piece: &mut Vec<u8>,
     number: u32,
 ) -> Result<(), ReportFault>
-    ensures { WritesLines (sink_seen K.written K.faults sink.old sink.new) (numbered (codes "round ") number ∷ []) result }
+    ensures { WritesLines (sink_seen K.written K.faults sink.old sink.new) piece.old.items piece.new.items (numbered (codes "round ") number ∷ []) result }
 {
-    write_number(sink, line, b"round ", u64::from(number))
+    write_number(sink, piece, b"round ", u64::from(number))
 }
 
 fn write_journal<K: Sink>(
     sink: &mut K,
-    line: &mut Vec<u8>,
+    piece: &mut Vec<u8>,
     journal: &Journal,
     proof: bool,
 ) -> Result<(), ReportFault>
-    ensures { WritesLines (sink_seen K.written K.faults sink.old sink.new) (entries_lines proof journal.now.first journal.now.entries) result }
+    ensures { WritesLines (sink_seen K.written K.faults sink.old sink.new) piece.old.items piece.new.items (entries_lines proof journal.now.first journal.now.entries) result }
 {
-    write_entries(sink, line, journal.first, journal.entries.as_slice(), proof)
+    write_entries(
+        sink,
+        piece,
+        journal.first,
+        journal.entries.as_slice(),
+        proof,
+    )
 }
 
 fn write_entries<K: Sink>(
     sink: &mut K,
-    line: &mut Vec<u8>,
+    piece: &mut Vec<u8>,
     first: u64,
     entries: &[Entry],
     proof: bool,
 ) -> Result<(), ReportFault>
-    ensures { WritesLines (sink_seen K.written K.faults sink.old sink.new) (entries_lines proof first entries.now) result }
+    ensures { WritesLines (sink_seen K.written K.faults sink.old sink.new) piece.old.items piece.new.items (entries_lines proof first entries.now) result }
 {
     let mut position = first;
     for entry in entries {
-        write_entry(sink, line, position, entry, proof)?;
+        write_entry(sink, piece, position, entry, proof)?;
         position = position.saturating_add(1);
     }
     Ok(())
@@ -84,42 +91,41 @@ fn write_entries<K: Sink>(
 
 fn write_entry<K: Sink>(
     sink: &mut K,
-    line: &mut Vec<u8>,
+    piece: &mut Vec<u8>,
     position: u64,
     entry: &Entry,
     proof: bool,
 ) -> Result<(), ReportFault>
-    ensures { WritesLines (sink_seen K.written K.faults sink.old sink.new) ((entry_line position entry.now ∷ []) ++ entry_block proof entry.now.command entry.now.reply) result }
+    ensures { WritesLines (sink_seen K.written K.faults sink.old sink.new) piece.old.items piece.new.items ((entry_line position entry.now ∷ []) ++ entry_block proof entry.now.command entry.now.reply) result }
 {
-    write_entry_line(sink, line, position, entry)?;
-    write_entry_block(sink, line, entry, proof)?;
+    write_entry_line(sink, piece, position, entry)?;
+    write_entry_block(sink, piece, entry, proof)?;
     Ok(())
 }
 
 fn write_entry_line<K: Sink>(
     sink: &mut K,
-    line: &mut Vec<u8>,
+    piece: &mut Vec<u8>,
     position: u64,
     entry: &Entry,
 ) -> Result<(), ReportFault>
-    ensures { WritesLines (sink_seen K.written K.faults sink.old sink.new) (entry_line position entry.now ∷ []) result }
+    ensures { WritesLines (sink_seen K.written K.faults sink.old sink.new) piece.old.items piece.new.items (entry_line position entry.now ∷ []) result }
 {
-    line.clear();
-    put_entry(line, position, entry)?;
-    write_line(sink, line)
+    put_entry(piece, position, entry)?;
+    write_line(sink, piece)
 }
 
 fn write_entry_block<K: Sink>(
     sink: &mut K,
-    line: &mut Vec<u8>,
+    piece: &mut Vec<u8>,
     entry: &Entry,
     proof: bool,
 ) -> Result<(), ReportFault>
-    ensures { WritesLines (sink_seen K.written K.faults sink.old sink.new) (entry_block proof entry.now.command entry.now.reply) result }
+    ensures { WritesLines (sink_seen K.written K.faults sink.old sink.new) piece.old.items piece.new.items (entry_block proof entry.now.command entry.now.reply) result }
 {
     match &entry.command {
         Command::Close { batch, outcome } => {
-            write_closed(sink, line, *batch, outcome, entry.reply, proof)
+            write_closed(sink, piece, *batch, outcome, entry.reply, proof)
         }
         _ => Ok(()),
     }
@@ -127,16 +133,16 @@ fn write_entry_block<K: Sink>(
 
 fn write_closed<K: Sink>(
     sink: &mut K,
-    line: &mut Vec<u8>,
+    piece: &mut Vec<u8>,
     batch: u64,
     outcome: &Outcome,
     reply: Reply,
     proof: bool,
 ) -> Result<(), ReportFault>
-    ensures { WritesLines (sink_seen K.written K.faults sink.old sink.new) (entry_block proof (Command.Close batch outcome.now) reply) result }
+    ensures { WritesLines (sink_seen K.written K.faults sink.old sink.new) piece.old.items piece.new.items (entry_block proof (Command.Close batch outcome.now) reply) result }
 {
     match reply {
-        Reply::Closed => write_block(sink, line, batch, outcome, proof),
+        Reply::Closed => write_block(sink, piece, batch, outcome, proof),
         _ => Ok(()),
     }
 }

@@ -7,7 +7,7 @@ ghost use Rattle.dispatch_report.specs.Written.{sink_seen, WritesText};
 ghost use Rattle.dispatch_report.specs.work.Lines.{WritesLines};
 
 use crate::fault::ReportFault;
-use crate::lines::write_line;
+use crate::lines::{write_line, write_piece};
 use crate::words::{put_numbered, put_signed};
 use pool_base::{OutOfMemory, RiderId, Sequence, put_bytes};
 use pool_io::Sink;
@@ -26,8 +26,9 @@ pub fn write_load<K: Sink>(
 ) -> Result<(), ReportFault>
     ensures { WritesText (sink_seen K.written K.faults sink.old sink.new) (load_text shape.now) result }
 {
-    let mut line = Vec::new(alloc);
-    write_shape(sink, &mut line, shape)
+    let mut piece = Vec::new(alloc);
+    write_shape(sink, &mut piece, shape)?;
+    write_piece(sink, &mut piece)
 }
 
 /// Writes what a round adds to a made workload's text: for each close that was answered `closed` a line
@@ -43,45 +44,45 @@ pub fn write_summary<K: Sink>(
 ) -> Result<(), ReportFault>
     ensures { WritesText (sink_seen K.written K.faults sink.old sink.new) (summary_text journal.now) result }
 {
-    let mut line = Vec::new(alloc);
-    write_batches(sink, &mut line, journal.entries.as_slice())
+    let mut piece = Vec::new(alloc);
+    write_batches(sink, &mut piece, journal.entries.as_slice())?;
+    write_piece(sink, &mut piece)
 }
 
 fn write_shape<K: Sink>(
     sink: &mut K,
-    line: &mut Vec<u8>,
+    piece: &mut Vec<u8>,
     shape: &LoadShape,
 ) -> Result<(), ReportFault>
-    ensures { WritesLines (sink_seen K.written K.faults sink.old sink.new) (((numbered (codes "load seed=") shape.now.seed ++ numbered (codes " side=") shape.now.side) ++ (numbered (codes " vehicles=") shape.now.vehicles ++ numbered (codes " riders=") shape.now.riders ++ numbered (codes " rounds=") shape.now.rounds)) ∷ []) result }
+    ensures { WritesLines (sink_seen K.written K.faults sink.old sink.new) piece.old.items piece.new.items (((numbered (codes "load seed=") shape.now.seed ++ numbered (codes " side=") shape.now.side) ++ (numbered (codes " vehicles=") shape.now.vehicles ++ numbered (codes " riders=") shape.now.riders ++ numbered (codes " rounds=") shape.now.rounds)) ∷ []) result }
 {
-    line.clear();
-    put_shape(line, shape)?;
-    write_line(sink, line)
+    put_shape(piece, shape)?;
+    write_line(sink, piece)
 }
 
 fn write_batches<K: Sink>(
     sink: &mut K,
-    line: &mut Vec<u8>,
+    piece: &mut Vec<u8>,
     entries: &[Entry],
 ) -> Result<(), ReportFault>
-    ensures { WritesLines (sink_seen K.written K.faults sink.old sink.new) (flat_map (λ e. batch_lines e.command e.reply) entries.now) result }
+    ensures { WritesLines (sink_seen K.written K.faults sink.old sink.new) piece.old.items piece.new.items (flat_map (λ e. batch_lines e.command e.reply) entries.now) result }
 {
     for entry in entries {
-        write_entry_summary(sink, line, entry)?;
+        write_entry_summary(sink, piece, entry)?;
     }
     Ok(())
 }
 
 fn write_entry_summary<K: Sink>(
     sink: &mut K,
-    line: &mut Vec<u8>,
+    piece: &mut Vec<u8>,
     entry: &Entry,
 ) -> Result<(), ReportFault>
-    ensures { WritesLines (sink_seen K.written K.faults sink.old sink.new) (batch_lines entry.now.command entry.now.reply) result }
+    ensures { WritesLines (sink_seen K.written K.faults sink.old sink.new) piece.old.items piece.new.items (batch_lines entry.now.command entry.now.reply) result }
 {
     match &entry.command {
         Command::Close { batch, outcome } => {
-            write_closed(sink, line, *batch, outcome, entry.reply)
+            write_closed(sink, piece, *batch, outcome, entry.reply)
         }
         _ => Ok(()),
     }
@@ -89,30 +90,29 @@ fn write_entry_summary<K: Sink>(
 
 fn write_closed<K: Sink>(
     sink: &mut K,
-    line: &mut Vec<u8>,
+    piece: &mut Vec<u8>,
     batch: u64,
     outcome: &Outcome,
     reply: Reply,
 ) -> Result<(), ReportFault>
-    ensures { WritesLines (sink_seen K.written K.faults sink.old sink.new) (batch_lines (Command.Close batch outcome.now) reply) result }
+    ensures { WritesLines (sink_seen K.written K.faults sink.old sink.new) piece.old.items piece.new.items (batch_lines (Command.Close batch outcome.now) reply) result }
 {
     match reply {
-        Reply::Closed => write_batch(sink, line, batch, outcome),
+        Reply::Closed => write_batch(sink, piece, batch, outcome),
         _ => Ok(()),
     }
 }
 
 fn write_batch<K: Sink>(
     sink: &mut K,
-    line: &mut Vec<u8>,
+    piece: &mut Vec<u8>,
     batch: u64,
     outcome: &Outcome,
 ) -> Result<(), ReportFault>
-    ensures { WritesLines (sink_seen K.written K.faults sink.old sink.new) ((numbered (codes "batch ") batch ++ answer_text outcome.now.answer) ∷ []) result }
+    ensures { WritesLines (sink_seen K.written K.faults sink.old sink.new) piece.old.items piece.new.items ((numbered (codes "batch ") batch ++ answer_text outcome.now.answer) ∷ []) result }
 {
-    line.clear();
-    put_batch(line, batch, outcome)?;
-    write_line(sink, line)
+    put_batch(piece, batch, outcome)?;
+    write_line(sink, piece)
 }
 
 fn put_shape(line: &mut Vec<u8>, shape: &LoadShape) -> Result<(), OutOfMemory>

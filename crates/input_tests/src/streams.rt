@@ -87,18 +87,6 @@ fn writes_all_in_short_writes_and_a_part_before_a_failure(rt: HostRuntime) -> Re
     Ok(())
 }
 
-#[test]
-fn a_planned_flush_fails_and_keeps_the_bytes(rt: HostRuntime) -> Result<(), Fail> {
-    let mut fail = Vec::new(rt.alloc());
-    fail.push(1)?;
-    let mut sink = MemorySink::new(rt.alloc(), 8, fail);
-    write_all(&mut sink, b"abc")?;
-    assert!(rt; sink.flush().is_err());
-    assert!(rt; sink.flush().is_ok());
-    assert_eq!(rt; sink.written(), b"abc".as_slice());
-    Ok(())
-}
-
 fn has_fields(table: &Rows, row: usize, first: &[u8], second: &[u8]) -> bool
     requires { table.now.columns ≡ 2 }
 {

@@ -3,6 +3,7 @@ use Rattle.std.proofs.Common.{◌≡◌, ℕ, List, Some, Ok, Err, refl, sym, ap
 use Rattle.std.specs.Prelude.{◌⊎◌}
 use Rattle.route_drive.specs.declared.day_run.DayRound.{DayRound}
 use Rattle.pool_base.specs.declared.which.Which.{Which}
+use Rattle.pool_io.specs.Sink.{AppendsPart}
 use Rattle.pool_base.specs.declared.which.Which.TheVariants as file
 use Rattle.rider_limits.specs.Words.{fault_of}
 use Rattle.rider_limits.specs.declared.settings.Mode.{Mode}
@@ -15,7 +16,7 @@ use Rattle.ridepool.specs.Inputs.{Inputs, IsWithin, AreUntouched, AreInputs, Are
 use Rattle.report_audit.specs.declared.fault.Audited.{Audited}
 use Rattle.ridepool.specs.Audit.{yes_text}
 use Rattle.ridepool.specs.Reading.{network_in, IsFleetIn, script_in}
-use Rattle.ridepool.specs.Report.{Begins, IsWhole}
+use Rattle.ridepool.specs.Report.{IsReportWhole}
 use Rattle.dispatch_report.specs.Written.{Change, SinkView}
 use Rattle.route_drive.specs.declared.day.DayFault.{DayFault}
 use Rattle.ridepool.specs.Seen.{IsUntouched, SourceView, Sources, Seen, IsSilent, source_at}
@@ -23,7 +24,7 @@ use Rattle.ridepool.specs.declared.inputs.ReadInputs.{ReadInputs}
 use Rattle.ridepool.specs.declared.status.RunStatus.{RunStatus}
 use Rattle.ridepool.specs.declared.status.RunStatus.TheVariants.{Done, Words, Network, Fleet, Script, TooLong, ReadFault, WriteFault, OutOfMemory, Day, TooLate, Report}
 use Rattle.ridepool.specs.work.Reading.{IsUnread, IsNoInput, IsReadAsNoDay, GotInputs}
-use Rattle.ridepool.specs.work.Writing.{IsWritingFault, IsTextFault}
+use Rattle.ridepool.specs.work.Writing.{IsReportFault, IsWritingFault, IsTextFault}
 use Rattle.ridepool.specs.work.Auditing.{IsSameSink, RefusesBytes, WritesYes, IsAuditFault}
 use Rattle.ridepool.proofs.CompleteLemmas.{complete}
 use Rattle.ridepool.proofs.ReadingLemmas.{reads_as, reads_within}
@@ -108,8 +109,7 @@ limited seen Done (inl all) report = accepted_limited seen all.0 _ all.1 report
 limited seen Done (inr line) report = accepted_limited seen line.read.inputs _ line.read.accepted report
 limited seen (Words fault) why report = untouched_limited seen.sources _ why.1
 limited seen WriteFault (inl part, rose) report = accepted_limited seen part.0 _ part.1 report
-limited seen WriteFault (inr (inl all), rose) report = accepted_limited seen all.0 _ all.1 report
-limited seen WriteFault (inr (inr line), rose) report = accepted_limited seen line.read.inputs _ line.read.accepted report
+limited seen WriteFault (inr line, rose) report = accepted_limited seen line.read.inputs _ line.read.accepted report
 limited seen OutOfMemory (inl stop) report = stop_limited seen.sources _ stop.1
 limited seen OutOfMemory (inr (inl load)) report = untouched_limited seen.sources _ load.1
 limited seen OutOfMemory (inr (inr (inl part))) report = accepted_limited seen part.0 _ part.1 report
@@ -141,8 +141,7 @@ untouched seen Done (inl all) = touches seen all.0 all.1
 untouched seen Done (inr line) = touches seen line.read.inputs line.read.accepted
 untouched seen (Words fault) why = inr why.1
 untouched seen WriteFault (inl part, rose) = touches seen part.0 part.1
-untouched seen WriteFault (inr (inl all), rose) = touches seen all.0 all.1
-untouched seen WriteFault (inr (inr line), rose) = touches seen line.read.inputs line.read.accepted
+untouched seen WriteFault (inr line, rose) = touches seen line.read.inputs line.read.accepted
 untouched seen OutOfMemory (inl stop) = inl stop.0
 untouched seen OutOfMemory (inr (inl load)) = inr load.1
 untouched seen OutOfMemory (inr (inr (inl part))) = touches seen part.0 part.1
@@ -265,19 +264,9 @@ same_sink c bytes faults = grind (arith, bytes, faults)
 -- a report that is written, or isn't
 fault_answer : (seen : Seen) (i : Inputs) (e : RunStatus) → AreAccepted seen i → (ReadsReport i.settings.mode → ⊥) → IsUntouched seen.sources.report
     → IsWritingFault i seen.out.before.written seen.out.after.written seen.notifiers.before seen.notifiers.after seen.out.before.faults seen.out.after.faults e → Answers seen e
-fault_answer seen i WriteFault accepted prints report (rose, inl part) = answer_without seen WriteFault (inl (i, accepted, prints, part), rose) tt report
-fault_answer seen i WriteFault accepted prints report (rose, inr all) = answer_without seen WriteFault (inr (inl (i, accepted, prints, all)), rose) tt report
-fault_answer seen i OutOfMemory accepted prints report why = answer_without seen OutOfMemory (inr (inr (inl (i, accepted, prints, why)))) tt report
-fault_answer seen i Done accepted prints report why = absurd why
-fault_answer seen i (Words fault) accepted prints report why = absurd why
-fault_answer seen i (Network fault) accepted prints report why = absurd why
-fault_answer seen i (Fleet fault) accepted prints report why = absurd why
-fault_answer seen i (Script fault) accepted prints report why = absurd why
-fault_answer seen i (TooLong w) accepted prints report why = absurd why
-fault_answer seen i (ReadFault w) accepted prints report why = absurd why
-fault_answer seen i (Day fault) accepted prints report why = absurd why
-fault_answer seen i (Report fault) accepted prints report why = absurd why
-fault_answer seen i (TooLate round made) accepted prints report (driven, late, bytes, faults, told) =
+fault_answer seen i _ accepted prints report (IsWritingFault.unwritten _ (IsReportFault.failed rose short)) = answer_without seen WriteFault (inl (i, accepted, prints, short), rose) tt report
+fault_answer seen i _ accepted prints report (IsWritingFault.unwritten _ (IsReportFault.unstored part)) = answer_without seen OutOfMemory (inr (inr (inl (i, accepted, prints, part)))) tt report
+fault_answer seen i _ accepted prints report (IsWritingFault.late round made driven late bytes faults told) =
     answer_without seen (TooLate round made)
     (record { inputs = i; accepted = accepted; mode = driven; late = late }, record { out = same_sink seen.out bytes faults; notifiers = told }) tt report
 
@@ -288,7 +277,7 @@ accepted_by seen settings got good inputs = record { words = good; inputs = inpu
 pub done_answer : (seen : Seen) (settings : Settings) (got : ReadInputs) → AreGood seen.words settings → GotInputs settings seen.sources (Ok got)
     → (ReadsReport settings.mode → ⊥) → IsUntouched seen.sources.report
     → (let i : Inputs = record { settings = settings; roads = got.network; vehicles = got.fleet; rounds = got.script } in
-    IsWhole i seen.out.before.written seen.out.after.written seen.notifiers.before seen.notifiers.after)
+    IsReportWhole i seen.out.before.written seen.out.after.written seen.notifiers.before seen.notifiers.after)
     → Answers seen Done
 done_answer seen settings got good inputs prints report written = answer_without seen Done (inl (_, accepted_by seen settings got good inputs, prints, written)) tt report
 
@@ -363,26 +352,14 @@ module _ (seen : Seen) (settings : Settings) (got : ReadInputs) (good : AreGood 
   refused_answer (Day fault) bytes read why quiet = absurd why
   refused_answer (TooLate round made) bytes read why quiet = absurd why
 
+  begins : (audited : Audited) → Reads file.Report seen.sources.report (λ bytes. IsRunReport (inputs_got settings got) bytes audited)
+      → AppendsPart seen.out.before.written seen.out.after.written (yes_text audited) → BeginsYes seen
+  begins audited read part = record { audited = audited; read = has_report (λ j bytes. IsRunReport j bytes audited) read; line = part; notifiers = told }
+
   unwritten_answer : (e : RunStatus) (audited : Audited) → Reads file.Report seen.sources.report (λ bytes. IsRunReport (inputs_got settings got) bytes audited)
       → IsTextFault (yes_text audited) seen.out.before.written seen.out.after.written seen.out.before.faults seen.out.after.faults e → Answers seen e
-  unwritten_answer e audited read why = by e why
-    where
-      begins : Begins seen.out.before.written seen.out.after.written (yes_text audited) → BeginsYes seen
-      begins part = record { audited = audited; read = has_report (λ j bytes. IsRunReport j bytes audited) read; line = part; notifiers = told }
-
-      by : (x : RunStatus) → IsTextFault (yes_text audited) seen.out.before.written seen.out.after.written seen.out.before.faults seen.out.after.faults x → Answers seen x
-      by WriteFault why = of_audit WriteFault (inr (inr (begins why.1)), why.0) tt (inl (reads_within seen.sources.report _ read))
-      by OutOfMemory why = of_audit OutOfMemory (inr (inr (inr (inr (begins why))))) tt (inl (reads_within seen.sources.report _ read))
-      by Done why = absurd why
-      by (Words fault) why = absurd why
-      by (Network fault) why = absurd why
-      by (Fleet fault) why = absurd why
-      by (Script fault) why = absurd why
-      by (TooLong w) why = absurd why
-      by (ReadFault w) why = absurd why
-      by (Day fault) why = absurd why
-      by (TooLate round made) why = absurd why
-      by (Report fault) why = absurd why
+  unwritten_answer _ audited read (IsTextFault.failed rose part) = of_audit WriteFault (inr (begins audited read part), rose) tt (inl (reads_within seen.sources.report _ read))
+  unwritten_answer _ audited read (IsTextFault.unstored part) = of_audit OutOfMemory (inr (inr (inr (inr (begins audited read part))))) tt (inl (reads_within seen.sources.report _ read))
 
   pub no_answer : (e : RunStatus) → IsAuditFault (inputs_got settings got) seen.sources.report seen.out.before.written seen.out.after.written seen.out.before.faults seen.out.after.faults e → Answers seen e
   no_answer _ (IsAuditFault.unread e why same) = unread_answer e why (silent same)

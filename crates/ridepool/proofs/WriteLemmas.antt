@@ -12,7 +12,12 @@ use Rattle.pool_io.specs.Sink.{AppendsPart}
 use Rattle.dispatch_engine.specs.Run.{IsReady, IsRoundRun, IsRun, IsSameRun, position_after_run, journal_of}
 use Rattle.dispatch_engine.specs.lemmas.Run.{state_after_run}
 use Rattle.dispatch_report.specs.Day.{day_end_text}
+use Rattle.dispatch_report.specs.Head.{head_text}
+use Rattle.dispatch_report.specs.Lines.{lines_text}
 use Rattle.dispatch_report.specs.Round.{end_text}
+use Rattle.dispatch_report.specs.Summary.{load_text}
+use Rattle.report_audit.specs.declared.fault.Audited.{Audited}
+use Rattle.ridepool.specs.Audit.{yes_text}
 use Rattle.dispatch_report.specs.declared.day.DayCounts.{DayCounts}
 use Rattle.dispatch_report.specs.declared.fault.ReportFault.{ReportFault}
 use Rattle.dispatch_report.specs.declared.fault.ReportFault.TheVariants as report
@@ -40,10 +45,10 @@ use Rattle.ridepool.specs.Inputs.{Inputs}
 use Rattle.rider_notices.specs.Notices.{notices}
 use Rattle.rider_notices.specs.Told.{NotifierView, HaveHeard}
 use Rattle.rider_notices.proofs.lemmas.HeardLemmas.{all-heard-nothing, all-heard-more}
-use Rattle.ridepool.specs.Report.{AreAll, AreFirst, IsDayEnd, IsEnd, Runs, IsReport, first_text, added_text, begun_text, journals_of, rounds_notices, Begins, IsWhole, IsPart}
-use Rattle.ridepool.specs.work.Writing.{BeginsRounds, EndsRounds, NextJournal, HasPut, PutsRound, IsUnput, StopsIn, RunsAll, RunsFirst, RunsFrom, WritesReport, WritesRound, WritesRounds, IsReportFault, IsRoundsPart, IsTextFault, IsFlushed, IsRoundFault, IsRoundsFault, IsWritingFault, day_counts, day_ending, late_status, made_of, status_of, rounds_text}
+use Rattle.ridepool.specs.Report.{AreAll, AreFirst, AppendsWithPart, IsCutShort, IsDayEnd, IsEnd, IsPart, IsReport, IsReportCut, IsReportPart, IsReportWhole, IsWhole, Runs, added_text, first_text, head_of, journals_of, rounds_notices}
+use Rattle.ridepool.specs.work.Writing.{BeginsRounds, EndsRounds, NextJournal, HasPut, PutsRound, IsUnput, StopsIn, RunsAll, RunsFirst, RunsFrom, WritesRound, IsReportFault, IsTextFault, IsRoundFault, IsWritingFault, day_counts, day_ending, late_status, made_of, status_of, rounds_text}
 use Rattle.ridepool.specs.declared.status.RunStatus.{RunStatus}
-use Rattle.ridepool.specs.declared.status.RunStatus.TheVariants.{Done, Words, Network, Fleet, Script, TooLong, ReadFault, WriteFault, OutOfMemory, Day, TooLate, Report}
+use Rattle.ridepool.specs.declared.status.RunStatus.TheVariants.{WriteFault, OutOfMemory, TooLate}
 
 -- positions of runs
 pub position_after_run-more : (position : ℕ) (js : List Journal) (j : Journal) → position_after_run position (js ++ j ∷ []) ≡ next_position (position_after_run position js) j.entries
@@ -54,36 +59,6 @@ position_after_run-more position (k ∷ js) j = position_after_run-more (next_po
 pub position_after_run-most : (position : ℕ) (js : List Journal) → position ≤ 2 ^ 64 - 1 → position_after_run position js ≤ 2 ^ 64 - 1
 position_after_run-most position [] most = most
 position_after_run-most position (k ∷ js) most = position_after_run-most (next_position position k.entries) js (omega arith)
-
--- a part of bytes, as a beginning that lacks something
-pub begins_part : (a b : Option (List ℕ)) (bytes : List ℕ) → AppendsPart a b bytes → (x : Begins a b bytes) × (0 < length x.unwritten)
-begins_part a b bytes part =
-    let short : part.0 < length bytes = part.1 in (
-      record { written = take part.0 bytes; unwritten = drop part.0 bytes; whole = take-append-drop part.0 bytes; appends = part.2 },
-      omega (arith, length-drop part.0 bytes, short),
-    )
-
--- what was written before, and a beginning of more
-pub begins_after : (a b c : Option (List ℕ)) (front back : List ℕ) → Appends a b front → Begins b c back → Begins a c (front ++ back)
-begins_after a b c front back first next =
-    record {
-      written = front ++ next.written;
-      unwritten = next.unwritten;
-      whole = append_assoc front next.written next.unwritten ∙ ap (λ t. front ++ t) next.whole;
-      appends = Appends-trans a b c front next.written first next.appends;
-    }
-
--- the same text
-pub begins_as : (a b : Option (List ℕ)) (t u : List ℕ) → t ≡ u → Begins a b t → Begins a b u
-begins_as a b t u is x = record { written = x.written; unwritten = x.unwritten; whole = x.whole ∙ is; appends = x.appends }
-
--- no bytes more
-pub begins_kept : (a b c : Option (List ℕ)) (text : List ℕ) → Begins a b text → Keeps b c → Begins a c text
-begins_kept a b c text x keeps = record { written = x.written; unwritten = x.unwritten; whole = x.whole; appends = Appends-kept a b c x.written x.appends keeps }
-
--- all of it is a beginning
-pub begins_whole : (a b : Option (List ℕ)) (text : List ℕ) → Appends a b text → Begins a b text
-begins_whole a b text h = record { written = text; unwritten = []; whole = append-nil text; appends = h }
 
 -- a list up to the next item
 take_next : {X : Type 0} (xs : List X) (i : ℕ) (x : X) → i < length xs → x ≡ get_or xs i x → take i xs ++ x ∷ [] ≡ take (i + 1) xs
@@ -230,110 +205,96 @@ module _ (settings : Settings) (roads : Roads) where
   written_whole book current rounds i a b n m end w = subst (λ rs. HasWritten book rs a b n m current) (ap (λ k. take k rounds) end ∙ take-length rounds) w
 
   module _ (P : List DayRound → Type 0) (Q : List DayRound → List ℕ → Type 0) where
-    -- nothing of a round's text, and some of it
-    stays_part : (made : List DayRound) (a b c : Option (List ℕ)) (n m : List NotifierView) → P made → HasPut settings roads made a b n m → Keeps b c → IsRoundsPart settings roads P Q a c n m
-    stays_part made a b c n m first w keeps = IsRoundsPart.whole made first (Appends-kept a b c (rounds_text settings made) w.text keeps) w.told
+    -- a text behind rounds, and a part of it
+    part_behind : (made : List DayRound) (text : List ℕ) (a b c : Option (List ℕ)) (n m : List NotifierView) → HasPut settings roads made a b n m → AppendsPart b c text
+        → AppendsWithPart a c (rounds_text settings made) text
+    part_behind made text a b c n m w part = (part.0, part.1, Appends-trans a b c (rounds_text settings made) (take part.0 text) w.text part.2)
 
-    next_part : (made : List DayRound) (r : DayRound) (a b c : Option (List ℕ)) (n m : List NotifierView) → P (made ++ r ∷ []) → HasPut settings roads made a b n m
-        → Begins b c (added_text settings.mode settings.proof r) → IsRoundsPart settings roads P Q a c n m
-    unfolding begins_after begins_as
-    next_part made r a b c n m first w part =
-        let front = rounds_text settings made in
-        let back = added_text settings.mode settings.proof r in
-        IsRoundsPart.next_round made r first
-        (begins_as a c (front ++ back) (rounds_text settings (made ++ r ∷ [])) (sym (flat_more (added_text settings.mode settings.proof) made r)) (begins_after a b c front back w.text part))
-        (omega (arith, length-append front part.written))
-        w.told
-
-    -- the same of other notifiers
-    left_as : (a b : Option (List ℕ)) (n m k : List NotifierView) → k ≡ m → IsRoundsPart settings roads P Q a b n m → IsRoundsPart settings roads P Q a b n k
-    left_as a b n m k same part = subst (IsRoundsPart settings roads P Q a b n) (sym same) part
-
-    -- a round that wasn't written whole
-    unput_by : (made : List DayRound) (r : DayRound) (a b c : Option (List ℕ)) (n m k : List NotifierView) (low middle high : ℕ) (s : RunStatus)
-        → P (made ++ r ∷ []) → HasPut settings roads made a b n m → low ≤ middle → IsTextFault (added_text settings.mode settings.proof r) b c middle high s → k ≡ m
-        → IsRoundsFault settings roads P Q a c n k low high s
-    unput_by made r a b c n m k low middle high WriteFault first w up why same =
-        (omega (arith, why.0, up), inl (left_as a c n m k same (next_part made r a b c n m first w why.1)))
-    unput_by made r a b c n m k low middle high OutOfMemory first w up why same = left_as a c n m k same (next_part made r a b c n m first w why)
-    unput_by made r a b c n m k low middle high Done first w up why same = absurd why
-    unput_by made r a b c n m k low middle high (Words fault) first w up why same = absurd why
-    unput_by made r a b c n m k low middle high (Network fault) first w up why same = absurd why
-    unput_by made r a b c n m k low middle high (Fleet fault) first w up why same = absurd why
-    unput_by made r a b c n m k low middle high (Script fault) first w up why same = absurd why
-    unput_by made r a b c n m k low middle high (TooLong f) first w up why same = absurd why
-    unput_by made r a b c n m k low middle high (ReadFault f) first w up why same = absurd why
-    unput_by made r a b c n m k low middle high (Day fault) first w up why same = absurd why
-    unput_by made r a b c n m k low middle high (TooLate round late) first w up why same = absurd why
-    unput_by made r a b c n m k low middle high (Report fault) first w up why same = absurd why
-
+    -- a round that wasn't put out
     pub unput_fault : (made : List DayRound) (r : DayRound) (a b c : Option (List ℕ)) (n m k : List NotifierView) (low middle high : ℕ) (s : RunStatus)
-        → P (made ++ r ∷ []) → HasPut settings roads made a b n m → low ≤ middle → IsUnput settings roads r b c m k middle high s → IsRoundsFault settings roads P Q a c n k low high s
-    unput_fault made r a b c n m k low middle high s first w up why = unput_by made r a b c n m k low middle high s first w up why.part why.told
+        → P (made ++ r ∷ []) → HasPut settings roads made a b n m → low ≤ middle → IsUnput settings roads r b c m k middle high s → IsReportFault settings roads [] P Q a c n k low high s
+    unput_fault made r a b c n m k low middle high _ first w up (IsUnput.unwritten _ (IsTextFault.failed rose part) same) =
+        IsReportFault.failed (omega (arith, rose, up))
+        (subst (IsCutShort settings roads [] P Q a c n) (sym same) (IsCutShort.round made r first (part_behind made (added_text settings.mode settings.proof r) a b c n m w part) w.told))
+    unput_fault made r a b c n m k low middle high _ first w up (IsUnput.unwritten _ (IsTextFault.unstored part) same) =
+        IsReportFault.unstored
+        (IsPart.cut (subst (IsCutShort settings roads [] P Q a c n) (sym same) (IsCutShort.round made r first (part_behind made (added_text settings.mode settings.proof r) a b c n m w part) w.told)))
+    unput_fault made r a b c n m k low middle high _ first w up (IsUnput.untold text same) =
+        IsReportFault.unstored
+        (subst (IsPart settings roads [] P Q a c n) (sym same)
+        (IsPart.untold made r first
+        (subst (Appends a c) (sym (flat_more (added_text settings.mode settings.proof) made r)) (Appends-trans a b c (rounds_text settings made) (added_text settings.mode settings.proof r) w.text text))
+        w.told))
 
     pub stops_fault : (rounds : List DayRound) (a b : Option (List ℕ)) (n m : List NotifierView) (low high : ℕ) (s : RunStatus) → ((made : List DayRound) → BeginsRounds rounds made → P made)
-        → StopsIn settings roads rounds a b n m low high s → IsRoundsFault settings roads P Q a b n m low high s
+        → StopsIn settings roads rounds a b n m low high s → IsReportFault settings roads [] P Q a b n m low high s
     stops_fault rounds a b n m low high s firsts stop =
         unput_fault stop.made stop.next a stop.here b n stop.heard m low stop.faults high s (firsts (stop.made ++ stop.next ∷ []) stop.first) stop.puts stop.up stop.why
 
-    -- all rounds and the last lines are written
-    pub written_all : (made : List DayRound) (end : List ℕ) (a b c : Option (List ℕ)) (n m : List NotifierView) → Q made end → HasPut settings roads made a b n m → Appends b c end → WritesRounds settings roads P Q a c n m
-    written_all made end a b c n m report w last =
-        record { made = made; end = end; report = report; text = Appends-trans a b c (rounds_text settings made) end w.text last; told = w.told }
+    -- all rounds and the last lines
+    pub written_all : (made : List DayRound) (end : List ℕ) (a b c : Option (List ℕ)) (n m : List NotifierView) → Q made end → HasPut settings roads made a b n m → Appends b c end → IsWhole settings roads [] P Q a c n m
+    written_all made end a b c n m all w last =
+        record { made = made; end = end; all = all; text = Appends-trans a b c (rounds_text settings made) end w.text last; told = w.told }
 
-    pub lacks_end : (made : List DayRound) (end : List ℕ) (a b c : Option (List ℕ)) (n m : List NotifierView) → Q made end → HasPut settings roads made a b n m → AppendsPart b c end → IsRoundsPart settings roads P Q a c n m
-    unfolding begins_after
-    lacks_end made end a b c n m report w part =
-        let front = rounds_text settings made in
-        let x = begins_part b c end part in
-        IsRoundsPart.last_lines made end report (begins_after a b c front end w.text x.0) (omega (arith, length-append front x.0.written)) x.1 w.told
-
-    -- a text that wasn't written whole, as that of the last lines
-    pub end_unwritten : (a b : Option (List ℕ)) (n m : List NotifierView) (low middle high : ℕ) (fault : ReportFault) (s : RunStatus)
-        → s ≡ status_of fault → IsRoundsPart settings roads P Q a b n m → low ≤ middle → (fault ≡ report.WriteFault → Rose middle high) → IsRoundsFault settings roads P Q a b n m low high s
-    end_unwritten a b n m low middle high report.WriteFault s is lacks up rose =
+    -- last lines that aren't written whole
+    pub end_unwritten : (made : List DayRound) (end : List ℕ) (a b c : Option (List ℕ)) (n m : List NotifierView) (low middle high : ℕ) (fault : ReportFault) (s : RunStatus)
+        → s ≡ status_of fault → Q made end → HasPut settings roads made a b n m → AppendsPart b c end → low ≤ middle → (fault ≡ report.WriteFault → Rose middle high) → IsReportFault settings roads [] P Q a c n m low high s
+    end_unwritten made end a b c n m low middle high report.WriteFault s is all w part up rose =
         let rises : Rose middle high = rose refl in
-        subst (IsRoundsFault settings roads P Q a b n m low high) (sym is) (omega (arith, rises, up), inl lacks)
-    end_unwritten a b n m low middle high report.OutOfMemory s is lacks up rose = subst (IsRoundsFault settings roads P Q a b n m low high) (sym is) lacks
+        subst (IsReportFault settings roads [] P Q a c n m low high) (sym is)
+        (IsReportFault.failed (omega (arith, rises, up)) (IsCutShort.last_lines made end all (part_behind made end a b c n m w part) w.told))
+    end_unwritten made end a b c n m low middle high report.OutOfMemory s is all w part up rose =
+        subst (IsReportFault settings roads [] P Q a c n m low high) (sym is)
+        (IsReportFault.unstored (IsPart.cut (IsCutShort.last_lines made end all (part_behind made end a b c n m w part) w.told)))
 
-    kept_rounds : (a b c : Option (List ℕ)) (n m : List NotifierView) → WritesRounds settings roads P Q a b n m → Keeps b c → WritesRounds settings roads P Q a c n m
-    kept_rounds a b c n m w keeps =
-        record { made = w.made; end = w.end; report = w.report; text = Appends-kept a b c (rounds_text settings w.made ++ w.end) w.text keeps; told = w.told }
+    -- what stands behind the first lines
+    module _ (head : List ℕ) (a b c : Option (List ℕ)) (n m : List NotifierView) (first : Appends a b head) where
+      text_behind : (text more : List ℕ) → Appends b c (text ++ more) → Appends a c ((head ++ text) ++ more)
+      text_behind text more h = subst (Appends a c) (sym (append_assoc head text more)) (Appends-trans a b c head (text ++ more) first h)
 
-    -- the last lines were written, and flushed or not
-    pub flushed_end : (a b c : Option (List ℕ)) (n m : List NotifierView) (low middle high : ℕ) (r : Result (Unit {0}) RunStatus)
-        → low ≤ middle → WritesRounds settings roads P Q a b n m → IsFlushed b c middle high r
-        → MatchResult r (λ _. WritesRounds settings roads P Q a c n m) (IsRoundsFault settings roads P Q a c n m low high)
-    flushed_end a b c n m low middle high (Ok x) up w f = kept_rounds a b c n m w f.bytes
-    flushed_end a b c n m low middle high (Err s) up w f =
-        subst (IsRoundsFault settings roads P Q a c n m low high) (sym f.fault.0)
-        (omega (arith, f.fault.1, up), inr (kept_rounds a b c n m w f.bytes))
+      cut_behind : IsCutShort settings roads [] P Q b c n m → IsCutShort settings roads head P Q a c n m
+      cut_behind (IsCutShort.first_lines part same) = absurd (let short : part.0 < 0 = part.1 in omega (arith, short))
+      cut_behind (IsCutShort.round made next rounds part told) =
+          IsCutShort.round made next rounds (part.0, part.1, text_behind (rounds_text settings made) (take part.0 (added_text settings.mode settings.proof next)) part.2) told
+      cut_behind (IsCutShort.last_lines made end all part told) = IsCutShort.last_lines made end all (part.0, part.1, text_behind (rounds_text settings made) (take part.0 end) part.2) told
+
+      part_of : IsPart settings roads [] P Q b c n m → IsPart settings roads head P Q a c n m
+      part_of (IsPart.cut short) = IsPart.cut (cut_behind short)
+      part_of (IsPart.rounds made rounds text told) = IsPart.rounds made rounds (Appends-trans a b c head (rounds_text settings made) first text) told
+      part_of (IsPart.untold made last rounds text told) = IsPart.untold made last rounds (Appends-trans a b c head (rounds_text settings (made ++ last ∷ [])) first text) told
+
+      fault_behind : (low middle high : ℕ) (s : RunStatus) → low ≤ middle → IsReportFault settings roads [] P Q b c n m middle high s → IsReportFault settings roads head P Q a c n m low high s
+      fault_behind low middle high _ up (IsReportFault.failed rose short) = IsReportFault.failed (omega (arith, rose, up)) (cut_behind short)
+      fault_behind low middle high _ up (IsReportFault.unstored part) = IsReportFault.unstored (part_of part)
+
+      whole_behind : IsWhole settings roads [] P Q b c n m → IsWhole settings roads head P Q a c n m
+      whole_behind w = record { made = w.made; end = w.end; all = w.all; text = text_behind (rounds_text settings w.made) w.end w.text; told = w.told }
 
     -- the first lines, and what became of the rounds behind them
     pub behind_head : (head : List ℕ) (a b c : Option (List ℕ)) (n m : List NotifierView) (low middle high : ℕ) (r : Result (Unit {0}) RunStatus) → Appends a b head → low ≤ middle
-        → MatchResult r (λ _. WritesRounds settings roads P Q b c n m) (IsRoundsFault settings roads P Q b c n m middle high)
-        → MatchResult r (λ _. WritesReport settings roads P Q head a c n m) (IsReportFault settings roads P Q head a c n m low high)
-    behind_head head a b c n m low middle high (Ok x) first up w = record { here = b; first = first; rounds = w }
-    behind_head head a b c n m low middle high (Err s) first up why = IsReportFault.behind s b middle first up why
+        → MatchResult r (λ _. IsWhole settings roads [] P Q b c n m) (IsReportFault settings roads [] P Q b c n m middle high)
+        → MatchResult r (λ _. IsWhole settings roads head P Q a c n m) (IsReportFault settings roads head P Q a c n m low high)
+    behind_head head a b c n m low middle high (Ok x) first up w = whole_behind head a b c n m first w
+    behind_head head a b c n m low middle high (Err s) first up why = fault_behind head a b c n m first low middle high s up why
 
-  -- the first rounds of a run, and all of them with the last line
-  abbrev pub RunPart : BookView → List NumberedLanes → Option (List ℕ) → Option (List ℕ) → List NotifierView → List NotifierView → Type 0
-  RunPart book rounds a b n m = IsRoundsPart settings roads (RunsFirst settings roads book rounds) (RunsAll settings roads book rounds) a b n m
+    -- first lines that aren't written whole
+    pub unbegun : (head : List ℕ) (a b : Option (List ℕ)) (n : List NotifierView) (low high : ℕ) (fault : ReportFault) (s : RunStatus) → s ≡ status_of fault → AppendsPart a b head → (fault ≡ report.WriteFault → Rose low high)
+        → IsReportFault settings roads head P Q a b n n low high s
+    unbegun head a b n low high report.WriteFault s is part rose =
+        subst (IsReportFault settings roads head P Q a b n n low high) (sym is) (IsReportFault.failed (rose refl) (IsCutShort.first_lines part refl))
+    unbegun head a b n low high report.OutOfMemory s is part rose =
+        subst (IsReportFault settings roads head P Q a b n n low high) (sym is) (IsReportFault.unstored (IsPart.cut (IsCutShort.first_lines part refl)))
 
-  abbrev pub RunFault : BookView → List NumberedLanes → Option (List ℕ) → Option (List ℕ) → List NotifierView → List NotifierView → ℕ → ℕ → RunStatus → Type 0
-  RunFault book rounds a b n m low high s = IsRoundsFault settings roads (RunsFirst settings roads book rounds) (RunsAll settings roads book rounds) a b n m low high s
-
-  abbrev pub WritesRun : BookView → List NumberedLanes → Option (List ℕ) → Option (List ℕ) → List NotifierView → List NotifierView → Type 0
-  WritesRun book rounds a b n m = WritesRounds settings roads (RunsFirst settings roads book rounds) (RunsAll settings roads book rounds) a b n m
-
-  -- a round of a run that wasn't run or written whole
+  -- a round of a run that wasn't run or put out
   pub round_fault : (book current : BookView) (rounds : List NumberedLanes) (i : ℕ) (r : NumberedLanes) (a b c : Option (List ℕ)) (n m k : List NotifierView) (low middle high : ℕ) (s : RunStatus)
       → i < length rounds → r ≡ get_or rounds i r → low ≤ middle
-      → HasWritten book (take i rounds) a b n m current → IsRoundFault settings roads current r b c m k middle high s → RunFault book rounds a c n k low high s
+      → HasWritten book (take i rounds) a b n m current → IsRoundFault settings roads current r b c m k middle high s
+      → IsReportFault settings roads [] (RunsFirst settings roads book rounds) (RunsAll settings roads book rounds) a c n k low high s
   round_fault book current rounds i r a b c n m k low middle high _ within is up w (IsRoundFault.unrun keeps same) =
       let P = RunsFirst settings roads book rounds in
       let Q = RunsAll settings roads book rounds in
-      left_as P Q a c n m k same (stays_part P Q w.made a b c n m (i, w.runs) w.puts keeps)
+      IsReportFault.unstored
+      (subst (IsPart settings roads [] P Q a c n) (sym same) (IsPart.rounds w.made (i, w.runs) (Appends-kept a b c (rounds_text settings w.made) w.puts.text keeps) w.puts.told))
   round_fault book current rounds i r a b c n m k low middle high _ within is up w (IsRoundFault.unput j s next why) =
       let made = made_of settings roads r j in
       unput_fault (RunsFirst settings roads book rounds) (RunsAll settings roads book rounds) w.made made a b c n m k low middle high s
@@ -347,14 +308,18 @@ module _ (settings : Settings) (roads : Roads) where
       (w.runs, ap end_text (is ∙ ap (λ p. next_position p current.entries) w.first ∙ ap (λ es. next_position (position_after_run book.first (journals_of w.made)) es) w.entries))
 
   pub run_written : (book current : BookView) (rounds : List NumberedLanes) (a b c : Option (List ℕ)) (n m : List NotifierView) (number : ℕ)
-      → HasWritten book rounds a b n m current → number ≡ next_position current.first current.entries → Appends b c (end_text number) → WritesRun book rounds a c n m
+      → HasWritten book rounds a b n m current → number ≡ next_position current.first current.entries → Appends b c (end_text number)
+      → IsWhole settings roads [] (RunsFirst settings roads book rounds) (RunsAll settings roads book rounds) a c n m
   run_written book current rounds a b c n m number w is last =
       written_all (RunsFirst settings roads book rounds) (RunsAll settings roads book rounds) w.made (end_text number) a b c n m (runs_all book current rounds a b n m number w is) w.puts last
 
-  pub run_lacks_end : (book current : BookView) (rounds : List NumberedLanes) (a b c : Option (List ℕ)) (n m : List NotifierView) (number : ℕ)
-      → HasWritten book rounds a b n m current → number ≡ next_position current.first current.entries → AppendsPart b c (end_text number) → RunPart book rounds a c n m
-  run_lacks_end book current rounds a b c n m number w is part =
-      lacks_end (RunsFirst settings roads book rounds) (RunsAll settings roads book rounds) w.made (end_text number) a b c n m (runs_all book current rounds a b n m number w is) w.puts part
+  pub run_lacks_end : (book current : BookView) (rounds : List NumberedLanes) (a b c : Option (List ℕ)) (n m : List NotifierView) (number low middle high : ℕ) (fault : ReportFault) (s : RunStatus)
+      → s ≡ status_of fault → HasWritten book rounds a b n m current → number ≡ next_position current.first current.entries → AppendsPart b c (end_text number)
+      → low ≤ middle → (fault ≡ report.WriteFault → Rose middle high)
+      → IsReportFault settings roads [] (RunsFirst settings roads book rounds) (RunsAll settings roads book rounds) a c n m low high s
+  run_lacks_end book current rounds a b c n m number low middle high fault s named w is part up rose =
+      end_unwritten (RunsFirst settings roads book rounds) (RunsAll settings roads book rounds) w.made (end_text number) a b c n m low middle high fault s named
+      (runs_all book current rounds a b n m number w is) w.puts part up rose
 
   -- the journal that a round's book gives up, seen from the book before the round
   pub next_journal : (book after : BookView) (r : NumberedLanes) (j : Journal) → IsRoundRun settings roads r (journal_of after) → IsSameRun book after → j ≡ journal_of after → NextJournal settings roads book r j
@@ -399,32 +364,43 @@ module _ (settings : Settings) (roads : Roads) where
         entries = ap (λ k. k.entries) emptied;
       }
 
--- a text that was written, and flushed or not
-pub text_flushed : (text : List ℕ) (a b c : Option (List ℕ)) (low middle high : ℕ) (r : Result (Unit {0}) RunStatus) → low ≤ middle → Appends a b text → IsFlushed b c middle high r
-    → MatchResult r (λ _. Appends a c text) (IsTextFault text a c low high)
-text_flushed text a b c low middle high (Ok x) up h f = Appends-kept a b c text h f.bytes
-text_flushed text a b c low middle high (Err s) up h f =
-    subst (IsTextFault text a c low high) (sym f.fault.0) (omega (arith, f.fault.1, up), begins_kept a b c text (begins_whole a b text h) f.bytes)
-
+-- a text that isn't written whole
 pub text_unwritten : (text : List ℕ) (a b : Option (List ℕ)) (low high : ℕ) (fault : ReportFault) (s : RunStatus)
     → s ≡ status_of fault → AppendsPart a b text → (fault ≡ report.WriteFault → Rose low high) → IsTextFault text a b low high s
-text_unwritten text a b low high report.WriteFault s is part rose = subst (IsTextFault text a b low high) (sym is) (rose refl, (begins_part a b text part).0)
-text_unwritten text a b low high report.OutOfMemory s is part rose = subst (IsTextFault text a b low high) (sym is) (begins_part a b text part).0
+text_unwritten text a b low high report.WriteFault s is part rose = subst (IsTextFault text a b low high) (sym is) (IsTextFault.failed (rose refl) part)
+text_unwritten text a b low high report.OutOfMemory s is part rose = subst (IsTextFault text a b low high) (sym is) (IsTextFault.unstored part)
 
--- a beginning of a text that was written in part
-pub begins_of_part : (text bytes : List ℕ) (a b : Option (List ℕ)) → bytes ≡ text → AppendsPart a b bytes → Begins a b text
-begins_of_part text bytes a b is part = subst (Begins a b) is (begins_part a b bytes part).0
+-- the same of equal bytes
+pub part_as : (text bytes : List ℕ) (a b : Option (List ℕ)) → bytes ≡ text → AppendsPart a b bytes → AppendsPart a b text
+part_as text bytes a b is part = subst (AppendsPart a b) is part
 
 pub appends_of : (text bytes : List ℕ) (a b : Option (List ℕ)) → bytes ≡ text → Appends a b bytes → Appends a b text
 appends_of text bytes a b is whole = subst (Appends a b) is whole
 
--- the text before the first round
-abbrev pub head_of : Inputs → List ℕ
-head_of i = first_text i.settings.mode i.settings i.roads (length i.vehicles)
+-- lines have bytes
+some_bytes : (x : List ℕ) (xs : List (List ℕ)) → 0 < length (lines_text (x ∷ xs))
+unfolding lines_text
+some_bytes x xs = omega (arith, length-append (x ++ 10 ∷ []) (flat_map (λ line. line ++ 10 ∷ []) xs), length-append x (10 ∷ []))
+
+some_head : (m : Mode) (s : Settings) (roads : Roads) (count : ℕ) → 0 < length (first_text m s roads count)
+unfolding head_text load_text
+some_head (Load shape) s roads count = some_bytes _ []
+some_head Run s roads count = some_bytes _ _
+some_head Drive s roads count = some_bytes _ _
+some_head Audit s roads count = some_bytes _ _
+
+pub some_yes : (audited : Audited) → 0 < length (yes_text audited)
+unfolding yes_text
+some_yes audited = some_bytes _ []
 
 -- nothing is written
-pub nothing_written : (i : Inputs) (a : Option (List ℕ)) (n : List NotifierView) → IsPart i a a n n
-nothing_written i a n = IsPart.head (record { written = []; unwritten = head_of i; whole = refl; appends = Appends-nil a }) refl
+pub nothing_of : (text : List ℕ) (a : Option (List ℕ)) → 0 < length text → AppendsPart a a text
+nothing_of text a some = (0, some, Appends-nil a)
+
+pub nothing_written : (i : Inputs) (a : Option (List ℕ)) (n : List NotifierView) (low : ℕ) → IsWritingFault i a a n n low low OutOfMemory
+nothing_written i a n low =
+    IsWritingFault.unwritten OutOfMemory
+    (IsReportFault.unstored (IsPart.cut (IsCutShort.first_lines (nothing_of (head_of i) a (some_head i.settings.mode i.settings i.roads (length i.vehicles))) refl)))
 
 -- the book of a call before its first round
 abbrev pub opened : Inputs → BookView
@@ -439,82 +415,40 @@ pub record Serves (i : Inputs) (P : List DayRound → Type 0) (Q : List DayRound
   pub first : (made : List DayRound) → P made → AreFirst i.settings.mode i made
   pub all : (made : List DayRound) (end : List ℕ) → Q made end → IsReport i made end
 
-module _ (i : Inputs) (P : List DayRound → Type 0) (Q : List DayRound → List ℕ → Type 0) (serves : Serves i P Q) where
-  report_whole : (a b c : Option (List ℕ)) (n m : List NotifierView) → Appends a b (head_of i) → WritesRounds i.settings i.roads P Q b c n m → IsWhole i a c n m
-  report_whole a b c n m head w =
-      let texts = rounds_text i.settings w.made in
-      record {
-        made = w.made;
-        end = w.end;
-        report = serves.all w.made w.end w.report;
-        text = subst (Appends a c) (sym (append_assoc (head_of i) texts w.end)) (Appends-trans a b c (head_of i) (texts ++ w.end) head w.text);
-        told = w.told;
-      }
+module _ (i : Inputs) (P : List DayRound → Type 0) (Q : List DayRound → List ℕ → Type 0) (serves : Serves i P Q) (a c : Option (List ℕ)) (n m : List NotifierView) where
+  report_whole : IsWhole i.settings i.roads (head_of i) P Q a c n m → IsReportWhole i a c n m
+  report_whole w = record { made = w.made; end = w.end; all = serves.all w.made w.end w.all; text = w.text; told = w.told }
 
-  part_of_rounds : (a b c : Option (List ℕ)) (n m : List NotifierView) → Appends a b (head_of i) → IsRoundsPart i.settings i.roads P Q b c n m → IsPart i a c n m
-  unfolding begins_after begins_as
-  part_of_rounds a b c n m head (IsRoundsPart.whole made first text told) =
-      IsPart.rounds made (serves.first made first) (Appends-trans a b c (head_of i) (rounds_text i.settings made) head text) told
-  part_of_rounds a b c n m head (IsRoundsPart.next_round made next first text front told) =
-      IsPart.next_round made next (serves.first (made ++ next ∷ []) first) (begins_after a b c (head_of i) (rounds_text i.settings (made ++ next ∷ [])) head text)
-      (omega (arith, length-append (head_of i) (rounds_text i.settings made), length-append (head_of i) text.written, front)) told
-  part_of_rounds a b c n m head (IsRoundsPart.last_lines made end report text front lacks told) =
-      let texts = rounds_text i.settings made in
-      IsPart.last_lines made end (serves.all made end report)
-      (begins_as a c (head_of i ++ (texts ++ end)) (begun_text i made ++ end) (sym (append_assoc (head_of i) texts end)) (begins_after a b c (head_of i) (texts ++ end) head text))
-      (omega (arith, length-append (head_of i) texts, length-append (head_of i) text.written, front)) lacks told
+  report_cut : IsCutShort i.settings i.roads (head_of i) P Q a c n m → IsReportCut i a c n m
+  report_cut (IsCutShort.first_lines part same) = IsCutShort.first_lines part same
+  report_cut (IsCutShort.round made next first part told) = IsCutShort.round made next (serves.first (made ++ next ∷ []) first) part told
+  report_cut (IsCutShort.last_lines made end all part told) = IsCutShort.last_lines made end (serves.all made end all) part told
 
-  rounds_unwritten : (a b c : Option (List ℕ)) (n m : List NotifierView) (low middle high : ℕ) (s : RunStatus) → Appends a b (head_of i) → low ≤ middle
-      → IsRoundsFault i.settings i.roads P Q b c n m middle high s → IsWritingFault i a c n m low high s
-  rounds_unwritten a b c n m low middle high WriteFault head up (rose, inl part) = (omega (arith, rose, up), inl (part_of_rounds a b c n m head part))
-  rounds_unwritten a b c n m low middle high WriteFault head up (rose, inr all) = (omega (arith, rose, up), inr (report_whole a b c n m head all))
-  rounds_unwritten a b c n m low middle high OutOfMemory head up why = part_of_rounds a b c n m head why
-  rounds_unwritten a b c n m low middle high Done head up why = absurd why
-  rounds_unwritten a b c n m low middle high (Words fault) head up why = absurd why
-  rounds_unwritten a b c n m low middle high (Network fault) head up why = absurd why
-  rounds_unwritten a b c n m low middle high (Fleet fault) head up why = absurd why
-  rounds_unwritten a b c n m low middle high (Script fault) head up why = absurd why
-  rounds_unwritten a b c n m low middle high (TooLong f) head up why = absurd why
-  rounds_unwritten a b c n m low middle high (ReadFault f) head up why = absurd why
-  rounds_unwritten a b c n m low middle high (Day fault) head up why = absurd why
-  rounds_unwritten a b c n m low middle high (TooLate round made) head up why = absurd why
-  rounds_unwritten a b c n m low middle high (Report fault) head up why = absurd why
+  report_part : IsPart i.settings i.roads (head_of i) P Q a c n m → IsReportPart i a c n m
+  report_part (IsPart.cut short) = IsPart.cut (report_cut short)
+  report_part (IsPart.rounds made first text told) = IsPart.rounds made (serves.first made first) text told
+  report_part (IsPart.untold made last first text told) = IsPart.untold made last (serves.first (made ++ last ∷ []) first) text told
 
-  -- first lines that weren't written
-  unbegun_head : (a b : Option (List ℕ)) (n m : List NotifierView) (low high : ℕ) (s : RunStatus) → IsTextFault (head_of i) a b low high s → m ≡ n → IsWritingFault i a b n m low high s
-  unbegun_head a b n m low high WriteFault why same = (why.0, inl (IsPart.head why.1 same))
-  unbegun_head a b n m low high OutOfMemory why same = IsPart.head why same
-  unbegun_head a b n m low high Done why same = absurd why
-  unbegun_head a b n m low high (Words fault) why same = absurd why
-  unbegun_head a b n m low high (Network fault) why same = absurd why
-  unbegun_head a b n m low high (Fleet fault) why same = absurd why
-  unbegun_head a b n m low high (Script fault) why same = absurd why
-  unbegun_head a b n m low high (TooLong f) why same = absurd why
-  unbegun_head a b n m low high (ReadFault f) why same = absurd why
-  unbegun_head a b n m low high (Day fault) why same = absurd why
-  unbegun_head a b n m low high (TooLate round made) why same = absurd why
-  unbegun_head a b n m low high (Report fault) why same = absurd why
-
-  report_fault : (a c : Option (List ℕ)) (n m : List NotifierView) (low high : ℕ) (s : RunStatus) → IsReportFault i.settings i.roads P Q (head_of i) a c n m low high s → IsWritingFault i a c n m low high s
-  report_fault a c n m low high _ (IsReportFault.unbegun s why same) = unbegun_head a c n m low high s why same
-  report_fault a c n m low high _ (IsReportFault.behind s b middle head up why) = rounds_unwritten a b c n m low middle high s head up why
+  report_fault : (low high : ℕ) (s : RunStatus) → IsReportFault i.settings i.roads (head_of i) P Q a c n m low high s → IsWritingFault i a c n m low high s
+  report_fault low high _ (IsReportFault.failed rose short) = IsWritingFault.unwritten WriteFault (IsReportFault.failed rose (report_cut short))
+  report_fault low high _ (IsReportFault.unstored part) = IsWritingFault.unwritten OutOfMemory (IsReportFault.unstored (report_part part))
 
   -- the report, from what became of its parts
-  report_from : (a c : Option (List ℕ)) (n m : List NotifierView) (low high : ℕ) (r : Result (Unit {0}) RunStatus)
-      → MatchResult r (λ _. WritesReport i.settings i.roads P Q (head_of i) a c n m) (IsReportFault i.settings i.roads P Q (head_of i) a c n m low high)
-      → MatchResult r (λ _. IsWhole i a c n m) (IsWritingFault i a c n m low high)
-  report_from a c n m low high (Ok x) w = report_whole a w.here c n m w.first w.rounds
-  report_from a c n m low high (Err s) why = report_fault a c n m low high s why
+  report_from : (low high : ℕ) (r : Result (Unit {0}) RunStatus)
+      → MatchResult r (λ _. IsWhole i.settings i.roads (head_of i) P Q a c n m) (IsReportFault i.settings i.roads (head_of i) P Q a c n m low high)
+      → MatchResult r (λ _. IsReportWhole i a c n m) (IsWritingFault i a c n m low high)
+  report_from low high (Ok x) w = report_whole w
+  report_from low high (Err s) why = report_fault low high s why
 
   -- the same with a count of the vehicles
-  pub report_counted : (count : ℕ) (a c : Option (List ℕ)) (n m : List NotifierView) (low high : ℕ) (r : Result (Unit {0}) RunStatus) → count ≡ length i.vehicles
-      → MatchResult r (λ _. WritesReport i.settings i.roads P Q (first_text i.settings.mode i.settings i.roads count) a c n m)
-      (IsReportFault i.settings i.roads P Q (first_text i.settings.mode i.settings i.roads count) a c n m low high)
-      → MatchResult r (λ _. IsWhole i a c n m) (IsWritingFault i a c n m low high)
-  report_counted count a c n m low high r is h =
-      report_from a c n m low high r
-      (subst (λ k. MatchResult r (λ _. WritesReport i.settings i.roads P Q (first_text i.settings.mode i.settings i.roads k) a c n m)
-      (IsReportFault i.settings i.roads P Q (first_text i.settings.mode i.settings i.roads k) a c n m low high)) is h)
+  pub report_counted : (low high count : ℕ) (r : Result (Unit {0}) RunStatus) → count ≡ length i.vehicles
+      → MatchResult r (λ _. IsWhole i.settings i.roads (first_text i.settings.mode i.settings i.roads count) P Q a c n m)
+      (IsReportFault i.settings i.roads (first_text i.settings.mode i.settings i.roads count) P Q a c n m low high)
+      → MatchResult r (λ _. IsReportWhole i a c n m) (IsWritingFault i a c n m low high)
+  report_counted low high count r is h =
+      report_from low high r
+      (subst (λ k. MatchResult r (λ _. IsWhole i.settings i.roads (first_text i.settings.mode i.settings i.roads k) P Q a c n m)
+      (IsReportFault i.settings i.roads (first_text i.settings.mode i.settings i.roads k) P Q a c n m low high)) is h)
 
 -- a run's rounds
 first_run : (m : Mode) (i : Inputs) (made : List DayRound) → (m ≡ Drive → ⊥) → (count : ℕ) × Runs i (take count i.rounds) made → AreFirst m i made
@@ -626,5 +560,5 @@ pub day_fault : (i : Inputs) (book : BookView) (a : Option (List ℕ)) (n : List
     → s ≡ late_status fault → IsLateAnswer i.settings i.roads book.state i.rounds fault → IsWritingFault i a a n n low low s
 day_fault i book a n low (drive.TooLate round made) s driven is named late =
     subst (IsWritingFault i a a n n low low) (sym named)
-    (driven, subst (λ b. IsTooLateDay i.settings i.roads b.state i.rounds round made) is late, refl, refl, refl)
-day_fault i book a n low drive.OutOfMemory s driven is named late = subst (IsWritingFault i a a n n low low) (sym named) (nothing_written i a n)
+    (IsWritingFault.late round made driven (subst (λ b. IsTooLateDay i.settings i.roads b.state i.rounds round made) is late) refl refl refl)
+day_fault i book a n low drive.OutOfMemory s driven is named late = subst (IsWritingFault i a a n n low low) (sym named) (nothing_written i a n low)

@@ -6,6 +6,7 @@ use Rattle.load_maker.specs.Texts.{Texts}
 use Rattle.pool_base.specs.declared.which.Which.{Which}
 use Rattle.pool_base.specs.declared.which.Which.TheVariants as file
 use Rattle.pool_io.specs.Faults.{Rose}
+use Rattle.pool_io.specs.Sink.{AppendsPart}
 use Rattle.pool_io.specs.declared.input.Input.TheVariants.{Rows, Own}
 use Rattle.pool_io.specs.declared.records.RowFault.TheVariants as row
 use Rattle.rider_limits.specs.Settings.{AreGiven}
@@ -27,7 +28,7 @@ use Rattle.route_drive.specs.declared.day_run.DayRound.{DayRound}
 use Rattle.script_rows.specs.declared.fault.ScriptFault.TheVariants as script
 use Rattle.ridepool.specs.Inputs.{Inputs, AreInputs, AreReadFrom, AreTexts, AreUntouched, IsDayFor, IsReportUnread, IsStop, IsWithin, Reads, ReadsReport, ReadsSources, most_bytes}
 use Rattle.ridepool.specs.Audit.{yes_text}
-use Rattle.ridepool.specs.Report.{Begins, IsWhole, IsPart}
+use Rattle.ridepool.specs.Report.{IsReportWhole, IsReportCut, IsReportPart}
 use Rattle.dispatch_report.specs.Written.{Change}
 use Rattle.ridepool.specs.Seen.{Seen, SourceView, IsSilent, IsUntouched, source_at}
 use Rattle.ridepool.specs.declared.status.RunStatus.{RunStatus}
@@ -68,11 +69,15 @@ pub record IsLateRun (seen : Seen) (round : ℕ) (made : List DayRound) : Type 0
 
 -- the inputs pass, all is written, and its notices were told
 abbrev pub WritesAll : Seen → Type 0
-WritesAll seen = (i : Inputs) × AreAccepted seen i × (ReadsReport i.settings.mode → ⊥) × IsWhole i seen.out.before.written seen.out.after.written seen.notifiers.before seen.notifiers.after
+WritesAll seen = (i : Inputs) × AreAccepted seen i × (ReadsReport i.settings.mode → ⊥) × IsReportWhole i seen.out.before.written seen.out.after.written seen.notifiers.before seen.notifiers.after
 
--- the inputs pass, and the first rounds stand in part
+-- the inputs pass, and what is written ends within the first lines, a round's text or the last lines
+abbrev pub WritesCut : Seen → Type 0
+WritesCut seen = (i : Inputs) × AreAccepted seen i × (ReadsReport i.settings.mode → ⊥) × IsReportCut i seen.out.before.written seen.out.after.written seen.notifiers.before seen.notifiers.after
+
+-- the inputs pass, and what is written ends there or behind a round
 abbrev pub WritesPart : Seen → Type 0
-WritesPart seen = (i : Inputs) × AreAccepted seen i × (ReadsReport i.settings.mode → ⊥) × IsPart i seen.out.before.written seen.out.after.written seen.notifiers.before seen.notifiers.after
+WritesPart seen = (i : Inputs) × AreAccepted seen i × (ReadsReport i.settings.mode → ⊥) × IsReportPart i seen.out.before.written seen.out.after.written seen.notifiers.before seen.notifiers.after
 
 -- the inputs of an audit pass, and its report wasn't read to its end, or not judged for want of memory
 abbrev pub StopsAudit : Seen → RunStatus → Type 0
@@ -97,9 +102,9 @@ pub record Confirms (seen : Seen) (Holds : List ℕ → Type 0) : Type 0 where
 abbrev pub SaysYes : Seen → Type 0
 SaysYes seen = Confirms seen (Appends seen.out.before.written seen.out.after.written)
 
--- a beginning of it stands
+-- a beginning of it stands that isn't the whole
 abbrev pub BeginsYes : Seen → Type 0
-BeginsYes seen = Confirms seen (Begins seen.out.before.written seen.out.after.written)
+BeginsYes seen = Confirms seen (AppendsPart seen.out.before.written seen.out.after.written)
 
 -- the report of an audit was read, and this is wrong with it: it is the report of no run
 abbrev pub RefusesReport : Seen → AuditFault → Type 0
@@ -107,12 +112,11 @@ RefusesReport seen fault =
     HasReport seen (λ i bytes. HasFault i.roads i.vehicles i.rounds i.settings.workers bytes fault × (IsReportOfRun i.roads i.vehicles i.rounds i.settings.workers bytes → ⊥))
     × IsSilent seen
 
--- why a call ended as it did, what is written, and who was told what; where the flush behind the last line fails, the
--- report is written whole
+-- why a call ended as it did, what is written, and who was told what
 abbrev pub Explains : Seen → RunStatus → Type 0
 Explains seen Done = WritesAll seen ⊎ SaysYes seen
 Explains seen (Words fault) = (fault_of seen.words ≡ Some fault) × AreUntouched seen.sources × IsSilent seen
-Explains seen WriteFault = (WritesPart seen ⊎ WritesAll seen ⊎ BeginsYes seen) × Rose seen.out.before.faults seen.out.after.faults
+Explains seen WriteFault = (WritesCut seen ⊎ BeginsYes seen) × Rose seen.out.before.faults seen.out.after.faults
 Explains seen OutOfMemory =
     StopsRun seen OutOfMemory ⊎ (AreGoodFor (λ mode. ReadsSources mode → ⊥) seen.words × AreUntouched seen.sources × IsSilent seen)
     ⊎ WritesPart seen ⊎ StopsAudit seen OutOfMemory ⊎ BeginsYes seen

@@ -1,6 +1,7 @@
 -- What a call writes: the report of a run or of a driven day, or of a made workload its summary; and what its riders are told.
 use Rattle.std.specs.Prelude.{◌≡◌, ℕ, ◌<◌, ◌≤◌, Bool, List, [], ◌∷◌, ◌++◌, length, map, take, Option}
 use Rattle.std.specs.Io.KnownBytes.{Appends}
+use Rattle.pool_io.specs.Sink.{AppendsPart}
 use Rattle.std.specs.List.{flat_map}
 use Rattle.dispatch_engine.specs.Run.{IsRun, position_after_run}
 use Rattle.dispatch_report.specs.Day.{day_end_text}
@@ -55,11 +56,6 @@ abbrev pub added_text : Mode → Bool → DayRound → List ℕ
 added_text (Load shape) proof r = summary_text r.journal
 added_text _ proof r = round_text r.number proof r.journal
 
--- the first lines, and what these rounds add, one after the other
-abbrev pub begun_text : Inputs → List DayRound → List ℕ
-begun_text i made =
-    first_text i.settings.mode i.settings i.roads (length i.vehicles) ++ flat_map (added_text i.settings.mode i.settings.proof) made
-
 -- a day's last lines: its counts, of which the worst are within the limits, and then how many entries there were
 pub record IsDayEnd (i : Inputs) (made : List DayRound) (text : List ℕ) : Type 0 where
   pub counts : DayCounts
@@ -78,38 +74,57 @@ pub record IsReport (i : Inputs) (made : List DayRound) (end : List ℕ) : Type 
   pub all : AreAll i.settings.mode i made
   pub ends : IsEnd i.settings.mode i made end
 
--- the bytes written have grown by a beginning of this text: some bytes that the others complete
-pub record Begins (before after : Option (List ℕ)) (text : List ℕ) : Type 0 where
-  pub written : List ℕ
-  pub unwritten : List ℕ
-  pub whole : written ++ unwritten ≡ text
-  pub appends : Appends before after written
-
 -- the notices of rounds, one after the other
 abbrev pub rounds_notices : Settings → Roads → List DayRound → List Notice
 rounds_notices settings roads made = flat_map (λ r. notices roads.nodes settings.wait r.journal) made
 
--- all is written, and each notifier that is left was told its notices
-pub record IsWhole (i : Inputs) (before after : Option (List ℕ)) (notifiers left : List NotifierView) : Type 0 where
-  pub made : List DayRound
-  pub end : List ℕ
-  pub report : IsReport i made end
-  pub text : Appends before after (begun_text i made ++ end)
-  pub told : HaveHeard (rounds_notices i.settings i.roads made) notifiers left
+-- the bytes written have grown by a text, and by a beginning of another that isn't the whole
+abbrev pub AppendsWithPart : Option (List ℕ) → Option (List ℕ) → List ℕ → List ℕ → Type 0
+AppendsWithPart before after text next = (count : ℕ) × (count < length next) × Appends before after (text ++ take count next)
 
--- the first rounds stand in part
-pub data IsPart (i : Inputs) (before after : Option (List ℕ)) (notifiers left : List NotifierView) : Type 0 where
-  -- a beginning of the first lines is written, and nobody was told anything
-  head : Begins before after (first_text i.settings.mode i.settings i.roads (length i.vehicles)) → left ≡ notifiers → IsPart i before after notifiers left
-  -- some rounds are written whole, and their notices were told
-  rounds : (made : List DayRound) → AreFirst i.settings.mode i made
-      → Appends before after (begun_text i made)
-      → HaveHeard (rounds_notices i.settings i.roads made) notifiers left → IsPart i before after notifiers left
-  -- so are some rounds; and of the next, whose notices weren't told, a beginning is written
-  next_round : (made : List DayRound) (next : DayRound) → AreFirst i.settings.mode i (made ++ next ∷ [])
-      → (b : Begins before after (begun_text i (made ++ next ∷ []))) → length (begun_text i made) ≤ length b.written
-      → HaveHeard (rounds_notices i.settings i.roads made) notifiers left → IsPart i before after notifiers left
-  -- so are all rounds, and a beginning of the last lines that lacks something
-  last_lines : (made : List DayRound) (end : List ℕ) → IsReport i made end
-      → (b : Begins before after (begun_text i made ++ end)) → length (begun_text i made) ≤ length b.written → 0 < length b.unwritten
-      → HaveHeard (rounds_notices i.settings i.roads made) notifiers left → IsPart i before after notifiers left
+-- the first lines, and what these rounds add, one after the other
+abbrev pub begun_text : Settings → List ℕ → List DayRound → List ℕ
+begun_text settings head made = head ++ flat_map (added_text settings.mode settings.proof) made
+
+-- what stands of a text of these first lines, where some rounds are its first, and some are all with their last lines
+module _ (settings : Settings) (roads : Roads) (head : List ℕ) (AreFirst : List DayRound → Type 0) (AreAllWith : List DayRound → List ℕ → Type 0) where
+  -- all is written, and each notifier that is left was told its notices
+  pub record IsWhole (before after : Option (List ℕ)) (notifiers left : List NotifierView) : Type 0 where
+    pub made : List DayRound
+    pub end : List ℕ
+    pub all : AreAllWith made end
+    pub text : Appends before after (begun_text settings head made ++ end)
+    pub told : HaveHeard (rounds_notices settings roads made) notifiers left
+
+  -- it ends within the first lines, a round's text or the last lines, and the rounds before that are written whole and were
+  -- told
+  pub data IsCutShort (before after : Option (List ℕ)) (notifiers left : List NotifierView) : Type 0 where
+    first_lines : AppendsPart before after head → left ≡ notifiers → IsCutShort before after notifiers left
+    round : (made : List DayRound) (next : DayRound) → AreFirst (made ++ next ∷ [])
+        → AppendsWithPart before after (begun_text settings head made) (added_text settings.mode settings.proof next)
+        → HaveHeard (rounds_notices settings roads made) notifiers left → IsCutShort before after notifiers left
+    last_lines : (made : List DayRound) (end : List ℕ) → AreAllWith made end
+        → AppendsWithPart before after (begun_text settings head made) end
+        → HaveHeard (rounds_notices settings roads made) notifiers left → IsCutShort before after notifiers left
+
+  -- or it ends behind a round, whose notices were told or not
+  pub data IsPart (before after : Option (List ℕ)) (notifiers left : List NotifierView) : Type 0 where
+    cut : IsCutShort before after notifiers left → IsPart before after notifiers left
+    rounds : (made : List DayRound) → AreFirst made → Appends before after (begun_text settings head made)
+        → HaveHeard (rounds_notices settings roads made) notifiers left → IsPart before after notifiers left
+    untold : (made : List DayRound) (last : DayRound) → AreFirst (made ++ last ∷ []) → Appends before after (begun_text settings head (made ++ last ∷ []))
+        → HaveHeard (rounds_notices settings roads made) notifiers left → IsPart before after notifiers left
+
+-- the first lines of a call's text
+abbrev pub head_of : Inputs → List ℕ
+head_of i = first_text i.settings.mode i.settings i.roads (length i.vehicles)
+
+-- the text of a call is written whole; it ends somewhere within; or it ends there or behind a round
+abbrev pub IsReportWhole : Inputs → Option (List ℕ) → Option (List ℕ) → List NotifierView → List NotifierView → Type 0
+IsReportWhole i before after notifiers left = IsWhole i.settings i.roads (head_of i) (AreFirst i.settings.mode i) (IsReport i) before after notifiers left
+
+abbrev pub IsReportCut : Inputs → Option (List ℕ) → Option (List ℕ) → List NotifierView → List NotifierView → Type 0
+IsReportCut i before after notifiers left = IsCutShort i.settings i.roads (head_of i) (AreFirst i.settings.mode i) (IsReport i) before after notifiers left
+
+abbrev pub IsReportPart : Inputs → Option (List ℕ) → Option (List ℕ) → List NotifierView → List NotifierView → Type 0
+IsReportPart i before after notifiers left = IsPart i.settings i.roads (head_of i) (AreFirst i.settings.mode i) (IsReport i) before after notifiers left

@@ -13,7 +13,6 @@ use crate::inputs::ReadInputs;
 use crate::reading::read_input;
 use crate::status::RunStatus;
 use crate::text::put_at;
-use crate::writing::flush;
 use pool_base::{OutOfMemory, Which, put_bytes};
 use pool_io::{Sink, Source, WriteAll, write_all};
 use report_audit::{AuditFault, Audited, audit};
@@ -92,7 +91,7 @@ fn judge_report<G: Gate>(
     }
 }
 
-/// Writes the line that says yes, and flushes it.
+/// Writes the line that says yes.
 fn write_yes<K: Sink>(alloc: Global, out: &mut K, audited: &Audited) -> Result<(), RunStatus>
     ensures text { MatchResult result (λ _. Appends (K.written out.old) (K.written out.new) (yes_text audited.now))
         (IsTextFault (yes_text audited.now) (K.written out.old) (K.written out.new) (K.faults out.old) (K.faults out.new)) }
@@ -102,7 +101,7 @@ fn write_yes<K: Sink>(alloc: Global, out: &mut K, audited: &Audited) -> Result<(
         return Err(RunStatus::OutOfMemory);
     };
     match write_all(out, &line) {
-        Ok(()) => flush(out),
+        Ok(()) => Ok(()),
         Err(WriteAll::WriteFault) => Err(RunStatus::WriteFault),
         Err(WriteAll::OutOfMemory) => Err(RunStatus::OutOfMemory),
     }

@@ -42,7 +42,7 @@ impl<W> LineNotifier<W> {
 }
 
 impl<W: Write> LineNotifier<W> {
-    /// Writes the line of a notice, and flushes it.
+    /// Writes the line of a notice.
     fn write_line(&mut self, notice: &Notice) -> Result<(), Failed>
         ensures { self.new ≡ self.old }
     {
@@ -53,10 +53,7 @@ impl<W: Write> LineNotifier<W> {
         if put_notice(&mut self.line, notice).is_err() {
             return Err(Failed);
         }
-        if writer.write_all(&self.line).is_err() {
-            return Err(Failed);
-        }
-        match writer.flush() {
+        match writer.write_all(&self.line) {
             Ok(()) => Ok(()),
             Err(_) => Err(Failed),
         }

@@ -33,7 +33,7 @@ use worker_gate::Gate;
 ///
 /// The gate hears of each piece of growth and of each receipt of a lane.
 ///
-/// After each round its text is flushed, and then its notices are told. A notifier that fails is told no
+/// A round's text is written as soon as the round was run, and then its notices are told. A notifier that fails is told no
 /// more, taken out and dropped, and changes neither report nor status; one that is sure of as many calls as
 /// the run has notices is kept.
 ///
@@ -48,9 +48,9 @@ use worker_gate::Gate;
 /// has the rounds before that. `WriteFault` comes only where the sink's count
 /// of faults rose. Where nothing of this is so, the answer is `Done` or `OutOfMemory`. After all of these
 /// but `WriteFault` nothing is written and nobody was told anything; after `WriteFault` and `OutOfMemory` a
-/// beginning of the report of a run of the script's first rounds stands, and the notices told are those of
-/// the rounds that were written whole and flushed, of all such rounds or, without memory, of all but the
-/// last. Where the flush behind the last line fails, the whole report is written.
+/// beginning of the report of a run of the script's first rounds stands that isn't the whole, and the notices
+/// told are those of the rounds that are written whole; without memory, of all of these or of all but the last.
+/// Text goes out in pieces of whole lines, one at least for each round.
 pub fn ridepool<N: Source, F: Source, S: Source, A: Source, K: Sink, G: Gate>(
     rt: &(impl Threads + Wait + Sync),
     alloc: Global,

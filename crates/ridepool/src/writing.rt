@@ -1,5 +1,4 @@
 ghost use Rattle.std.specs.Prelude.{◌≡◌, ◌≤◌, [], List, map, MatchResult};
-ghost use Rattle.std.specs.Io.KnownBytes.{Appends};
 ghost use Rattle.std.specs.List.{All};
 ghost use Rattle.dispatch_engine.specs.Run.{IsReady, position_after_run};
 ghost use Rattle.request_book.specs.Consistent.{IsConsistent, IsNode};
@@ -9,8 +8,8 @@ ghost use Rattle.rider_notices.specs.Told.{HaveHeard};
 ghost use Rattle.dispatch_report.specs.Written.{sink_seen, WritesText};
 ghost use Rattle.request_book.specs.Book.{next_position};
 ghost use Rattle.ridepool.specs.Inputs.{Inputs, IsDayFor};
-ghost use Rattle.ridepool.specs.Report.{first_text, added_text, journals_of, IsWhole};
-ghost use Rattle.ridepool.specs.work.Writing.{BeginsRounds, EndsRounds, IsWritingFault, IsRoundsFault, IsReportFault, IsRoundFault, IsTextFault, IsFlushed, IsUnput, HasPut, PutsRound, StopsIn, RunsAll, RunsFirst, WritesReport, WritesRound, WritesRounds, day_counts, day_ending, late_status, status_of};
+ghost use Rattle.ridepool.specs.Report.{IsReportWhole, IsWhole, first_text, added_text, journals_of};
+ghost use Rattle.ridepool.specs.work.Writing.{BeginsRounds, EndsRounds, IsWritingFault, IsReportFault, IsRoundFault, IsUnput, HasPut, PutsRound, StopsIn, RunsAll, RunsFirst, WritesRound, day_counts, day_ending, late_status, status_of};
 
 use crate::inputs::ReadInputs;
 use crate::setup::Setup;
@@ -24,7 +23,7 @@ use dispatch_report::{
 use hub_labels::{LabelWays, Labels};
 use plan_drafts::RelaxationDrafter;
 use pool_base::OutOfMemory;
-use pool_io::{Failed, Sink};
+use pool_io::Sink;
 use request_book::{Book, Journal, states_are_consistent};
 use rider_limits::{Mode, Settings, TimesWay};
 use rider_notices::{Notifier, notices_of, tell_all};
@@ -39,7 +38,7 @@ use travel_times::{NetworkWays, Ways};
 use worker_gate::Gate;
 
 /// Runs the script, or drives the vehicles through its day, and writes the report, or a made workload's summary;
-/// after each round its text is flushed and its notices are told. Travel times come in the way that the settings
+/// after each round's text its notices are told. Travel times come in the way that the settings
 /// name.
 ///
 /// A script is run and written round by round; a day is driven to its end before anything of it is written.
@@ -58,7 +57,7 @@ pub(crate) fn write_report<K: Sink, G: Gate>(
         let all = map (λ n. notifier_seen (⟦<dyn Notifier as Notifier>⟧ n.vtable) n.value) notifiers.old.items in
         let left = map (λ n. notifier_seen (⟦<dyn Notifier as Notifier>⟧ n.vtable) n.value) notifiers.new.items in
         MatchResult result
-        (λ _. IsWhole i (K.written out.old) (K.written out.new) all left)
+        (λ _. IsReportWhole i (K.written out.old) (K.written out.new) all left)
         (IsWritingFault i (K.written out.old) (K.written out.new) all left (K.faults out.old) (K.faults out.new)) }
     ensures never_falls { K.faults out.old ≤ K.faults out.new }
 {
@@ -93,7 +92,7 @@ fn write_in<K: Sink, G: Gate>(
         let all = map (λ n. notifier_seen (⟦<dyn Notifier as Notifier>⟧ n.vtable) n.value) notifiers.old.items in
         let left = map (λ n. notifier_seen (⟦<dyn Notifier as Notifier>⟧ n.vtable) n.value) notifiers.new.items in
         MatchResult result
-        (λ _. IsWhole i (K.written out.old) (K.written out.new) all left)
+        (λ _. IsReportWhole i (K.written out.old) (K.written out.new) all left)
         (IsWritingFault i (K.written out.old) (K.written out.new) all left (K.faults out.old) (K.faults out.new)) }
     ensures never_falls { K.faults out.old ≤ K.faults out.new }
 {
@@ -143,7 +142,7 @@ fn write_by<K: Sink, W: Ways, D: Drafter, G: Gate>(
         let all = map (λ n. notifier_seen (⟦<dyn Notifier as Notifier>⟧ n.vtable) n.value) notifiers.old.items in
         let left = map (λ n. notifier_seen (⟦<dyn Notifier as Notifier>⟧ n.vtable) n.value) notifiers.new.items in
         MatchResult result
-        (λ _. IsWhole i (K.written out.old) (K.written out.new) all left)
+        (λ _. IsReportWhole i (K.written out.old) (K.written out.new) all left)
         (IsWritingFault i (K.written out.old) (K.written out.new) all left (K.faults out.old) (K.faults out.new)) }
     ensures never_falls { K.faults out.old ≤ K.faults out.new }
 {
@@ -207,8 +206,8 @@ fn write_day<K: Sink>(
         let all = map (λ n. notifier_seen (⟦<dyn Notifier as Notifier>⟧ n.vtable) n.value) notifiers.old.items in
         let left = map (λ n. notifier_seen (⟦<dyn Notifier as Notifier>⟧ n.vtable) n.value) notifiers.new.items in
         MatchResult result
-        (λ _. WritesReport settings.now network.now (BeginsRounds run.now.rounds) (EndsRounds run.now.rounds end) head (K.written out.old) (K.written out.new) all left)
-        (IsReportFault settings.now network.now (BeginsRounds run.now.rounds) (EndsRounds run.now.rounds end) head (K.written out.old) (K.written out.new) all left (K.faults out.old) (K.faults out.new)) }
+        (λ _. IsWhole settings.now network.now head (BeginsRounds run.now.rounds) (EndsRounds run.now.rounds end) (K.written out.old) (K.written out.new) all left)
+        (IsReportFault settings.now network.now head (BeginsRounds run.now.rounds) (EndsRounds run.now.rounds end) (K.written out.old) (K.written out.new) all left (K.faults out.old) (K.faults out.new)) }
     ensures never_falls { K.faults out.old ≤ K.faults out.new }
 {
     match write_first(alloc, out, settings, network, vehicles) {
@@ -235,8 +234,8 @@ fn write_run<K: Sink, W: Ways, D: Drafter, G: Gate>(
         let all = map (λ n. notifier_seen (⟦<dyn Notifier as Notifier>⟧ n.vtable) n.value) notifiers.old.items in
         let left = map (λ n. notifier_seen (⟦<dyn Notifier as Notifier>⟧ n.vtable) n.value) notifiers.new.items in
         MatchResult result
-        (λ _. WritesReport s roads (RunsFirst s roads book rounds.now) (RunsAll s roads book rounds.now) head (K.written out.old) (K.written out.new) all left)
-        (IsReportFault s roads (RunsFirst s roads book rounds.now) (RunsAll s roads book rounds.now) head (K.written out.old) (K.written out.new) all left (K.faults out.old) (K.faults out.new)) }
+        (λ _. IsWhole s roads head (RunsFirst s roads book rounds.now) (RunsAll s roads book rounds.now) (K.written out.old) (K.written out.new) all left)
+        (IsReportFault s roads head (RunsFirst s roads book rounds.now) (RunsAll s roads book rounds.now) (K.written out.old) (K.written out.new) all left (K.faults out.old) (K.faults out.new)) }
     ensures never_falls { K.faults out.old ≤ K.faults out.new }
 {
     match write_first(alloc, out, setup.settings, setup.network, vehicles) {
@@ -264,8 +263,8 @@ fn write_each<K: Sink, W: Ways, D: Drafter, G: Gate>(
         let all = map (λ n. notifier_seen (⟦<dyn Notifier as Notifier>⟧ n.vtable) n.value) notifiers.old.items in
         let left = map (λ n. notifier_seen (⟦<dyn Notifier as Notifier>⟧ n.vtable) n.value) notifiers.new.items in
         MatchResult result
-        (λ _. WritesRounds s roads (RunsFirst s roads book rounds.now) (RunsAll s roads book rounds.now) (K.written out.old) (K.written out.new) all left)
-        (IsRoundsFault s roads (RunsFirst s roads book rounds.now) (RunsAll s roads book rounds.now) (K.written out.old) (K.written out.new) all left (K.faults out.old) (K.faults out.new)) }
+        (λ _. IsWhole s roads [] (RunsFirst s roads book rounds.now) (RunsAll s roads book rounds.now) (K.written out.old) (K.written out.new) all left)
+        (IsReportFault s roads [] (RunsFirst s roads book rounds.now) (RunsAll s roads book rounds.now) (K.written out.old) (K.written out.new) all left (K.faults out.old) (K.faults out.new)) }
     ensures never_falls { K.faults out.old ≤ K.faults out.new }
 {
     let mut current = book;
@@ -278,7 +277,7 @@ fn write_each<K: Sink, W: Ways, D: Drafter, G: Gate>(
     let position = current.next_position();
     drop(current);
     match write_end(alloc, out, position) {
-        Ok(()) => flush(out),
+        Ok(()) => Ok(()),
         Err(fault) => Err(status_of(fault)),
     }
 }
@@ -347,8 +346,8 @@ fn write_driven<K: Sink>(
         let all = map (λ n. notifier_seen (⟦<dyn Notifier as Notifier>⟧ n.vtable) n.value) notifiers.old.items in
         let left = map (λ n. notifier_seen (⟦<dyn Notifier as Notifier>⟧ n.vtable) n.value) notifiers.new.items in
         MatchResult result
-        (λ _. WritesRounds settings.now network.now (BeginsRounds run.now.rounds) (EndsRounds run.now.rounds end) (K.written out.old) (K.written out.new) all left)
-        (IsRoundsFault settings.now network.now (BeginsRounds run.now.rounds) (EndsRounds run.now.rounds end) (K.written out.old) (K.written out.new) all left (K.faults out.old) (K.faults out.new)) }
+        (λ _. IsWhole settings.now network.now [] (BeginsRounds run.now.rounds) (EndsRounds run.now.rounds end) (K.written out.old) (K.written out.new) all left)
+        (IsReportFault settings.now network.now [] (BeginsRounds run.now.rounds) (EndsRounds run.now.rounds end) (K.written out.old) (K.written out.new) all left (K.faults out.old) (K.faults out.new)) }
     ensures never_falls { K.faults out.old ≤ K.faults out.new }
 {
     let rounds = run.rounds.as_slice();
@@ -358,12 +357,12 @@ fn write_driven<K: Sink>(
     };
     let counts = counts_of(run);
     match write_day_end(alloc, out, &counts, position) {
-        Ok(()) => flush(out),
+        Ok(()) => Ok(()),
         Err(fault) => Err(status_of(fault)),
     }
 }
 
-/// Writes rounds, each flushed and its notices told, and gives the position behind their entries.
+/// Writes rounds, each with its notices told, and gives the position behind their entries.
 fn write_made<K: Sink>(
     alloc: Global,
     out: &mut K,
@@ -406,7 +405,7 @@ fn counts_of(run: &DayRun) -> DayCounts
     }
 }
 
-/// Writes what a round adds, flushes it, and tells its notices.
+/// Writes what a round adds, and tells its notices.
 fn put_round<K: Sink>(
     alloc: Global,
     out: &mut K,
@@ -423,12 +422,12 @@ fn put_round<K: Sink>(
         (IsUnput settings.now network.now made.now (K.written out.old) (K.written out.new) all left (K.faults out.old) (K.faults out.new)) }
     ensures never_falls { K.faults out.old ≤ K.faults out.new }
 {
-    match write_flushed(alloc, out, settings, made) {
+    match write_added(alloc, out, settings, made) {
         Ok(()) => match tell_journal(alloc, notifiers, &made.journal, network, settings.wait) {
             Ok(()) => Ok(()),
             Err(OutOfMemory) => Err(RunStatus::OutOfMemory),
         },
-        Err(status) => Err(status),
+        Err(fault) => Err(status_of(fault)),
     }
 }
 
@@ -451,33 +450,6 @@ fn tell_journal(
     let told = notices_of(alloc, journal, network, wait)?;
     tell_all(notifiers, &told);
     Ok(())
-}
-
-/// Writes what a round adds, and flushes it.
-fn write_flushed<K: Sink>(
-    alloc: Global,
-    out: &mut K,
-    settings: &Settings,
-    made: &DayRound,
-) -> Result<(), RunStatus>
-    ensures text { let text = added_text settings.now.mode settings.now.proof made.now in
-        MatchResult result (λ _. Appends (K.written out.old) (K.written out.new) text)
-        (IsTextFault text (K.written out.old) (K.written out.new) (K.faults out.old) (K.faults out.new)) }
-    ensures never_falls { K.faults out.old ≤ K.faults out.new }
-{
-    match write_added(alloc, out, settings, made) {
-        Ok(()) => flush(out),
-        Err(fault) => Err(status_of(fault)),
-    }
-}
-
-pub(crate) fn flush<K: Sink>(out: &mut K) -> Result<(), RunStatus>
-    ensures { IsFlushed (K.written out.old) (K.written out.new) (K.faults out.old) (K.faults out.new) result }
-{
-    match out.flush() {
-        Ok(()) => Ok(()),
-        Err(Failed) => Err(RunStatus::WriteFault),
-    }
 }
 
 /// Writes the first lines: the head of a report, or the shape of a made workload.

@@ -4,6 +4,9 @@
 //! status and the line on standard error are those of the call's answer.
 #![tactic(auto)]
 
+mod notices;
+
+use crate::notices::{OpeningSink, SharedFile, is_taken};
 use pool_base::OutOfMemory;
 use pool_io::{StdSink, StdSource};
 use ridepool::{LineNotifier, RunStatus, fault_text, ridepool};
@@ -11,7 +14,7 @@ use rider_limits::{read_words, value_of};
 use rider_notices::Notifier;
 use run_progress::WatchedSink;
 use std::fs::File;
-use std::io::{BufWriter, IsTerminal, Write};
+use std::io::{IsTerminal, Stderr, Write};
 use std::process::ExitCode;
 use std::sync::Wait;
 use std::thread::Threads;
@@ -138,32 +141,28 @@ fn print_page(rt: &HostRuntime, page: &str) -> RunStatus {
     }
 }
 
-/// Runs the words on the files that they name, with standard output as the sink.
+/// Runs the words on the files that they name, with standard output as the sink. Faulty words touch no file.
 fn run(rt: &HostRuntime, threads: &(impl Threads + Wait + Sync), words: &[String]) -> RunStatus {
-    let Ok(mut output) = BufWriter::new(rt.alloc(), rt.stdout()) else {
+    let named: &[String] = if read_words(words).is_ok() {
+        words
+    } else {
+        &[]
+    };
+    let path = notices_path(rt, named);
+    let Ok(file) = SharedFile::new(rt.alloc()) else {
         return RunStatus::OutOfMemory;
     };
-    let mut notifiers: Vec<Box<dyn Notifier>> = Vec::new(rt.alloc());
-    if let Some(path) = notices_path(words) {
-        let notifier = LineNotifier::over(rt.alloc(), File::create(rt, path).ok());
-        let Ok(boxed) = Box::new(rt.alloc(), notifier) else {
-            return RunStatus::OutOfMemory;
-        };
-        if notifiers.push(boxed).is_err() {
-            return RunStatus::OutOfMemory;
-        }
+    let mut notifiers = Vec::new(rt.alloc());
+    if value_of(named, "notices").is_some() && add_notifier(rt, &mut notifiers, &file).is_err() {
+        return RunStatus::OutOfMemory;
     }
     let given = notifiers.len();
-    let mut network = source_of(rt, words, "network");
-    let mut fleet = source_of(rt, words, "fleet");
-    let mut script = source_of(rt, words, "script");
-    let mut report = source_of(rt, words, "report");
-    let terminal = if rt.stderr().is_terminal() {
-        Some(rt.stderr())
-    } else {
-        None
-    };
-    let mut sink = WatchedSink::over(rt.alloc(), StdSink::over(&mut output), terminal);
+    let mut network = source_of(rt, named, "network");
+    let mut fleet = source_of(rt, named, "fleet");
+    let mut script = source_of(rt, named, "script");
+    let mut report = source_of(rt, named, "report");
+    let sink = OpeningSink::over(rt, StdSink::over(rt.stdout()), path, file);
+    let mut sink = WatchedSink::over(rt.alloc(), sink, terminal_of(rt));
     let status = ridepool(
         threads,
         rt.alloc(),
@@ -177,17 +176,49 @@ fn run(rt: &HostRuntime, threads: &(impl Threads + Wait + Sync), words: &[String
         &FreeGate,
     );
     sink.clear();
-    if notifiers.len() < given {
+    if notifiers.len() < given && path.is_some() {
         print_line(rt, b"notices: write failed");
     }
     status
 }
 
-/// The file for notices, where the words are good and name one: faulty words touch no file.
-fn notices_path(words: &[String]) -> Option<&str> {
-    match read_words(words) {
-        Ok(_) => value_of(words, "notices"),
-        Err(_) => None,
+/// Standard error, where it is a terminal.
+fn terminal_of(rt: &HostRuntime) -> Option<Stderr> {
+    if rt.stderr().is_terminal() {
+        Some(rt.stderr())
+    } else {
+        None
+    }
+}
+
+/// The file for notices, where the words name one that is no input and not standard output; else a line says so.
+fn notices_path<'a>(rt: &HostRuntime, words: &'a [String]) -> Option<&'a str> {
+    let path = value_of(words, "notices")?;
+    let inputs = [
+        value_of(words, "network"),
+        value_of(words, "fleet"),
+        value_of(words, "script"),
+    ];
+    if is_taken(rt, path, &inputs) {
+        print_line(
+            rt,
+            b"notices: the file is an input or standard output: not written",
+        );
+        return None;
+    }
+    Some(path)
+}
+
+/// Adds a notifier that writes to this file.
+fn add_notifier(
+    rt: &HostRuntime,
+    notifiers: &mut Vec<Box<dyn Notifier>>,
+    file: &SharedFile,
+) -> Result<(), OutOfMemory> {
+    let notifier = LineNotifier::over(rt.alloc(), Some(file.share()?));
+    match Box::new(rt.alloc(), notifier) {
+        Ok(boxed) => Ok(notifiers.push(boxed)?),
+        Err(_) => Err(OutOfMemory),
     }
 }
 

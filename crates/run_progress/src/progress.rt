@@ -10,7 +10,7 @@ const FRONT: usize = 128;
 pub(crate) struct Progress {
     /// The front of the line that is begun.
     front: ArrayVec<u8, FRONT>,
-    /// The rounds that were written.
+    /// The rounds that were run.
     rounds: u64,
     batches: u64,
     last: Option<Closed>,
@@ -38,9 +38,8 @@ impl Progress {
         self.runs
     }
 
-    /// Reads what was written. Whether it ends the lines before the first round.
-    pub(crate) fn read(&mut self, bytes: &[u8]) -> bool {
-        let ran = self.runs;
+    /// Reads what was written.
+    pub(crate) fn read(&mut self, bytes: &[u8]) {
         for &byte in bytes {
             if byte == b'\n' {
                 let line = read_line(&self.front);
@@ -50,17 +49,12 @@ impl Progress {
                 self.front.push(byte);
             }
         }
-        self.runs && !ran
-    }
-
-    /// Notes that a round's text is out.
-    pub(crate) fn end_round(&mut self) {
-        self.rounds = self.rounds.saturating_add(1);
     }
 
     fn note(&mut self, line: Line) {
         match line {
             Line::HeadEnd => self.runs = true,
+            Line::Round => self.end_round(),
             Line::Batch => self.rows = 0,
             Line::Row => self.rows = self.rows.saturating_add(1),
             Line::Cost(cost) => self.cost = cost,
@@ -69,10 +63,18 @@ impl Progress {
                 gap: self.cost.saturating_sub(bound),
             }),
             Line::Overflow => self.close(Closed::Overflow),
-            Line::Summed(closed) => self.close(closed),
+            Line::Summed(closed) => {
+                self.end_round();
+                self.close(closed);
+            }
             Line::Done => self.runs = false,
             Line::Other => {}
         }
+    }
+
+    /// Counts a round whose text begins: it was run, since a round is run before it is written.
+    fn end_round(&mut self) {
+        self.rounds = self.rounds.saturating_add(1);
     }
 
     fn close(&mut self, closed: Closed) {

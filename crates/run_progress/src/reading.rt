@@ -13,13 +13,15 @@ pub(crate) enum Closed {
 pub(crate) enum Line {
     /// The last before the first round.
     HeadEnd,
+    /// A round's text begins.
+    Round,
     /// A batch's block begins.
     Batch,
     Row,
     Cost(i64),
     Bound(i64),
     Overflow,
-    /// A batch in one line.
+    /// A batch in one line, the whole text of its round.
     Summed(Closed),
     Done,
     Other,
@@ -36,6 +38,7 @@ pub(crate) fn read_line(bytes: &[u8]) -> Line {
 fn line_of(text: &str) -> Line {
     match text.split_once(' ') {
         Some(("fleet" | "load", _)) => Line::HeadEnd,
+        Some(("round", _)) => Line::Round,
         Some(("batch", rest)) => batch_line(rest),
         Some(("row", _)) => Line::Row,
         Some(("cost", cost)) => number(cost).map_or(Line::Other, Line::Cost),

@@ -1,10 +1,10 @@
-ghost use Rattle.std.specs.Prelude.{◌≡◌, ◌<◌, ◌≤◌, length, IfOk, OnErr};
+ghost use Rattle.std.specs.Prelude.{◌≡◌, ◌<◌, ◌≤◌, length, IfOk};
 ghost use Rattle.std.specs.Result.{IsErrOf};
-ghost use Rattle.std.specs.Io.KnownBytes.{Keeps, WriteAppends};
+ghost use Rattle.std.specs.Io.KnownBytes.{WriteAppends};
 ghost use Rattle.pool_io.specs.Faults.{Rose};
 
 use crate::progress::Progress;
-use pool_io::{Failed, Sink, SinkFault};
+use pool_io::{Sink, SinkFault};
 use std::alloc::Global;
 use std::io::Write;
 use std::marker::Model;
@@ -15,8 +15,8 @@ const CLEAR: &[u8] = b"\r\x1b[K";
 /// A sink whose bytes pass on to another one unchanged, and a line on a terminal that says how far the run is
 /// whose report or summary they are.
 ///
-/// The line comes when the lines before the first round are written and after each flush, which ends a round;
-/// the next write or flush takes it away, so that what the sink holds back never stands behind it. A terminal that fails, and want of memory for the line, change nothing else.
+/// The line comes when a piece of whole lines is written, from the lines before the first round on; the next
+/// write takes it away. A terminal that fails, and want of memory for the line, change nothing else.
 #[derive(Drop)]
 pub struct WatchedSink<K, W> {
     sink: K,
@@ -70,17 +70,17 @@ impl<K, W: Write> WatchedSink<K, W> {
         self.is_shown = false;
     }
 
-    /// Shows the line, in place of one that stands.
-    fn show(&mut self)
+    /// Reads what was written, and shows the line where that ends with a whole line.
+    fn watch(&mut self, bytes: &[u8])
         ensures { self.new ≡ self.old }
     {
-        self.clear();
-        if !self.progress.runs() {
-            return;
-        }
         let Some(terminal) = &mut self.terminal else {
             return;
         };
+        self.progress.read(bytes);
+        if !self.progress.runs() || bytes.last() != Some(&b'\n') {
+            return;
+        }
         if let Ok(text) = self.progress.text(self.alloc) {
             let _ = terminal.write_all(text.as_bytes());
             self.is_shown = true;
@@ -96,17 +96,7 @@ impl<K: Sink, W: Write> Sink for WatchedSink<K, W> {
     fn write(&mut self, piece: &[u8]) -> Result<usize, SinkFault> {
         self.clear();
         let count = self.sink.write(piece)?;
-        if self.terminal.is_some() && self.progress.read(&piece[..count]) {
-            self.show();
-        }
+        self.watch(&piece[..count]);
         Ok(count)
-    }
-
-    fn flush(&mut self) -> Result<(), Failed> {
-        self.clear();
-        self.sink.flush()?;
-        self.progress.end_round();
-        self.show();
-        Ok(())
     }
 }

@@ -340,7 +340,7 @@ fn is_untouched(left: &Left, line: &[u8]) -> bool {
     left.shown.as_slice() == line && left.told == 0 && left.notifiers == 3
 }
 
-// Whether a beginning of the report stands. The notices of its one batch are told between the last round and the last line.
+// Whether a beginning of the report stands that isn't the whole. The notices of its one batch are told between the last round and the last line.
 fn has_begun(left: &Left, whole: &Left) -> bool {
     match left
         .shown
@@ -360,8 +360,8 @@ fn is_beginning(written: &[u8], told: u64, whole: &Left) -> bool {
         return false;
     };
     let is_told = told == whole.told && written.starts_with(rounds);
-    let is_silent = told == 0 && rounds.starts_with(written);
-    report.starts_with(written) && (is_told || is_silent)
+    let is_silent = told == 0 && written.len() < rounds.len();
+    report.starts_with(written) && written.len() < report.len() && (is_told || is_silent)
 }
 
 // How many calls fail well in turn, until there is no further one. Pieces of five or seven bytes.

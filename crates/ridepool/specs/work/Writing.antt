@@ -1,11 +1,12 @@
--- What stands where the report, or a part of it, was or wasn't written.
-use Rattle.std.specs.Prelude.{◌≡◌, ℕ, ◌<◌, ◌≤◌, List, [], ◌∷◌, ◌++◌, length, map, take, Option, Result, IfErr, ◌⊎◌}
+-- What stands where a report, or a part of it, is or isn't written.
+use Rattle.std.specs.Prelude.{◌≡◌, ℕ, ◌≤◌, List, [], ◌∷◌, ◌++◌, map, take, Option}
 use Rattle.std.specs.Io.KnownBytes.{Appends, Keeps}
 use Rattle.dispatch_engine.specs.Run.{IsReady, IsRoundRun, IsRun, position_after_run}
 use Rattle.dispatch_report.specs.Day.{day_end_text}
 use Rattle.dispatch_report.specs.Round.{end_text}
 use Rattle.dispatch_report.specs.declared.day.DayCounts.{DayCounts}
 use Rattle.pool_io.specs.Faults.{Rose}
+use Rattle.pool_io.specs.Sink.{AppendsPart}
 use Rattle.request_book.specs.Book.{BookView, next_position, opening}
 use Rattle.request_book.specs.Replay.{state_after}
 use Rattle.request_book.specs.declared.journal.Journal.{Journal}
@@ -21,7 +22,7 @@ use Rattle.route_drive.specs.declared.day_run.DriveFault.{DriveFault}
 use Rattle.route_drive.specs.declared.day_run.DriveFault.TheVariants as drive
 use Rattle.script_rows.specs.Round.{NumberedLanes}
 use Rattle.ridepool.specs.Inputs.{Inputs}
-use Rattle.ridepool.specs.Report.{added_text, journals_of, rounds_notices, Begins, IsWhole, IsPart}
+use Rattle.ridepool.specs.Report.{AreFirst, IsReport, added_text, head_of, journals_of, rounds_notices, IsCutShort, IsPart}
 use Rattle.dispatch_report.specs.declared.fault.ReportFault.{ReportFault}
 use Rattle.dispatch_report.specs.declared.fault.ReportFault.TheVariants as report
 use Rattle.ridepool.specs.declared.status.RunStatus.{RunStatus}
@@ -49,17 +50,10 @@ day_counts run = record { picked = run.picked; dropped = run.dropped; worst_wait
 abbrev pub day_ending : DayRun → List ℕ
 day_ending run = day_end_text (day_counts run) (position_after_run 0 (journals_of run.rounds))
 
--- a text was written and flushed, or a beginning of it stands
-abbrev pub IsTextFault : List ℕ → Option (List ℕ) → Option (List ℕ) → ℕ → ℕ → RunStatus → Type 0
-IsTextFault text before after low high WriteFault = Rose low high × Begins before after text
-IsTextFault text before after low high OutOfMemory = Begins before after text
-IsTextFault text before after low high _ = ⊥
-
--- a flush changes no bytes, and fails where the sink does
-pub record IsFlushed (before after : Option (List ℕ)) (low high : ℕ) (result : Result (Unit {0}) RunStatus) : Type 0 where
-  pub bytes : Keeps before after
-  pub fault : IfErr result (λ status. (status ≡ WriteFault) × Rose low high)
-  pub never_falls : low ≤ high
+-- a beginning of a text is written that isn't the whole: a write failed, or there was no memory
+pub data IsTextFault (text : List ℕ) (before after : Option (List ℕ)) (low high : ℕ) : RunStatus → Type 0 where
+  failed : Rose low high → AppendsPart before after text → IsTextFault text before after low high WriteFault
+  unstored : AppendsPart before after text → IsTextFault text before after low high OutOfMemory
 
 -- these are the first of some rounds
 abbrev pub BeginsRounds : List DayRound → List DayRound → Type 0
@@ -71,10 +65,12 @@ module _ (settings : Settings) (roads : Roads) where
     pub text : Appends before after (added_text settings.mode settings.proof r)
     pub told : HaveHeard (notices roads.nodes settings.wait r.journal) notifiers left
 
-  -- why a round wasn't written whole, flushed and told; nobody was told anything of it
-  pub record IsUnput (r : DayRound) (before after : Option (List ℕ)) (notifiers left : List NotifierView) (low high : ℕ) (status : RunStatus) : Type 0 where
-    pub part : IsTextFault (added_text settings.mode settings.proof r) before after low high status
-    pub told : left ≡ notifiers
+  -- why a round wasn't put out: its text isn't written whole, or there was no memory for its notices; nobody was told
+  -- anything of it
+  pub data IsUnput (r : DayRound) (before after : Option (List ℕ)) (notifiers left : List NotifierView) (low high : ℕ) : RunStatus → Type 0 where
+    unwritten : (status : RunStatus) → IsTextFault (added_text settings.mode settings.proof r) before after low high status → left ≡ notifiers
+        → IsUnput r before after notifiers left low high status
+    untold : Appends before after (added_text settings.mode settings.proof r) → left ≡ notifiers → IsUnput r before after notifiers left low high OutOfMemory
 
   -- what rounds add is written, and their notices were told
   pub record HasPut (made : List DayRound) (before after : Option (List ℕ)) (notifiers left : List NotifierView) : Type 0 where
@@ -113,7 +109,7 @@ module _ (settings : Settings) (roads : Roads) where
     pub base : next.base ≡ state_after roads.nodes settings.wait book.base journal.entries
     pub entries : next.entries ≡ []
 
-  -- why a round wasn't run, written whole, flushed and told
+  -- why a round wasn't run, written whole and told
   pub data IsRoundFault (book : BookView) (round : NumberedLanes) (before after : Option (List ℕ)) (notifiers left : List NotifierView) (low high : ℕ) : RunStatus → Type 0 where
     unrun : Keeps before after → left ≡ notifiers → IsRoundFault book round before after notifiers left low high OutOfMemory
     unput : (journal : Journal) (status : RunStatus) → NextJournal book round journal
@@ -132,55 +128,18 @@ module _ (settings : Settings) (roads : Roads) where
   abbrev pub RunsAll : BookView → List NumberedLanes → List DayRound → List ℕ → Type 0
   RunsAll book rounds made end = RunsFrom book rounds made × (end ≡ end_text (next_position (position_after_run book.first (journals_of made)) []))
 
-  module _ (AreFirst : List DayRound → Type 0) (IsReport : List DayRound → List ℕ → Type 0) where
-    -- all rounds and the last lines are written behind the first lines, and the notices were told
-    pub record WritesRounds (before after : Option (List ℕ)) (notifiers left : List NotifierView) : Type 0 where
-      pub made : List DayRound
-      pub end : List ℕ
-      pub report : IsReport made end
-      pub text : Appends before after (rounds_text settings made ++ end)
-      pub told : HaveHeard (rounds_notices settings roads made) notifiers left
-
-    -- the first rounds stand in part behind the first lines
-    pub data IsRoundsPart (before after : Option (List ℕ)) (notifiers left : List NotifierView) : Type 0 where
-      whole : (made : List DayRound) → AreFirst made → Appends before after (rounds_text settings made)
-          → HaveHeard (rounds_notices settings roads made) notifiers left → IsRoundsPart before after notifiers left
-      next_round : (made : List DayRound) (next : DayRound) → AreFirst (made ++ next ∷ [])
-          → (b : Begins before after (rounds_text settings (made ++ next ∷ []))) → length (rounds_text settings made) ≤ length b.written
-          → HaveHeard (rounds_notices settings roads made) notifiers left → IsRoundsPart before after notifiers left
-      last_lines : (made : List DayRound) (end : List ℕ) → IsReport made end
-          → (b : Begins before after (rounds_text settings made ++ end)) → length (rounds_text settings made) ≤ length b.written → 0 < length b.unwritten
-          → HaveHeard (rounds_notices settings roads made) notifiers left → IsRoundsPart before after notifiers left
-
-    -- why rounds weren't written whole, or the last flush failed
-    abbrev pub IsRoundsFault : Option (List ℕ) → Option (List ℕ) → List NotifierView → List NotifierView → ℕ → ℕ → RunStatus → Type 0
-    IsRoundsFault before after notifiers left low high WriteFault =
-        Rose low high × (IsRoundsPart before after notifiers left ⊎ WritesRounds before after notifiers left)
-    IsRoundsFault before after notifiers left low high OutOfMemory = IsRoundsPart before after notifiers left
-    IsRoundsFault before after notifiers left low high _ = ⊥
-
-    -- the first lines, all rounds and the last lines are written
-    pub record WritesReport (head : List ℕ) (before after : Option (List ℕ)) (notifiers left : List NotifierView) : Type 0 where
-      pub here : Option (List ℕ)
-      pub first : Appends before here head
-      pub rounds : WritesRounds here after notifiers left
-
-    -- why not: the first lines weren't, or behind them the rounds weren't
-    pub data IsReportFault (head : List ℕ) (before after : Option (List ℕ)) (notifiers left : List NotifierView) (low high : ℕ) : RunStatus → Type 0 where
-      unbegun : (status : RunStatus) → IsTextFault head before after low high status → left ≡ notifiers → IsReportFault head before after notifiers left low high status
-      behind : (status : RunStatus) (here : Option (List ℕ)) (middle : ℕ) → Appends before here head → low ≤ middle → IsRoundsFault here after notifiers left middle high status
-          → IsReportFault head before after notifiers left low high status
+  -- why a text isn't written whole, where these are its first lines, its first rounds, and all with its last lines
+  pub data IsReportFault (head : List ℕ) (AreFirst : List DayRound → Type 0) (AreAllWith : List DayRound → List ℕ → Type 0) (before after : Option (List ℕ)) (notifiers left : List NotifierView) (low high : ℕ) : RunStatus → Type 0 where
+    failed : Rose low high → IsCutShort settings roads head AreFirst AreAllWith before after notifiers left → IsReportFault head AreFirst AreAllWith before after notifiers left low high WriteFault
+    unstored : IsPart settings roads head AreFirst AreAllWith before after notifiers left → IsReportFault head AreFirst AreAllWith before after notifiers left low high OutOfMemory
 
 -- these are the rounds, and these the last lines
 abbrev pub EndsRounds : List DayRound → List ℕ → List DayRound → List ℕ → Type 0
 EndsRounds rounds last made end = (made ≡ rounds) × (end ≡ last)
 
--- why the report of these inputs wasn't written whole, or the last flush failed; or a day comes too late, and nothing is
--- written
-abbrev pub IsWritingFault : Inputs → Option (List ℕ) → Option (List ℕ) → List NotifierView → List NotifierView → ℕ → ℕ → RunStatus → Type 0
-IsWritingFault i before after notifiers left low high WriteFault = Rose low high × (IsPart i before after notifiers left ⊎ IsWhole i before after notifiers left)
-IsWritingFault i before after notifiers left low high OutOfMemory = IsPart i before after notifiers left
-IsWritingFault i before after notifiers left low high (TooLate round made) =
-    (i.settings.mode ≡ Drive) × IsTooLateDay i.settings i.roads (opening i.vehicles) i.rounds round made
-    × (after ≡ before) × (high ≡ low) × (left ≡ notifiers)
-IsWritingFault i before after notifiers left low high _ = ⊥
+-- why the report of these inputs isn't written whole; or a day comes too late, and nothing is written
+pub data IsWritingFault (i : Inputs) (before after : Option (List ℕ)) (notifiers left : List NotifierView) (low high : ℕ) : RunStatus → Type 0 where
+  unwritten : (status : RunStatus) → IsReportFault i.settings i.roads (head_of i) (AreFirst i.settings.mode i) (IsReport i) before after notifiers left low high status
+      → IsWritingFault i before after notifiers left low high status
+  late : (round : ℕ) (made : List DayRound) → i.settings.mode ≡ Drive → IsTooLateDay i.settings i.roads (opening i.vehicles) i.rounds round made
+      → after ≡ before → high ≡ low → left ≡ notifiers → IsWritingFault i before after notifiers left low high (TooLate round made)

@@ -9,4 +9,4 @@ returns-in_err-put_numbered g c =
     rw (p.1, p.2) (no_memory _ (numbered c.args.words.now c.args.number))
 
 pub returns : goal.returns
-returns g c = line_is _ (numbered c.args.words.now c.args.number) (rw c.clear.ensures.items at c.in_ok-put_numbered.ensures) c.write_line.ensures
+returns g c = line_is (numbered c.args.words.now c.args.number) c.in_ok-put_numbered.ensures c.write_line.ensures

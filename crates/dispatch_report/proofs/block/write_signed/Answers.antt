@@ -9,4 +9,4 @@ returns-in_err-put_signed g c =
     rw (p.1, p.2) (no_memory _ (signed c.args.words.now c.args.number.now))
 
 pub returns : goal.returns
-returns g c = line_is _ (signed c.args.words.now c.args.number.now) (rw c.clear.ensures.items at c.in_ok-put_signed.ensures) c.write_line.ensures
+returns g c = line_is (signed c.args.words.now c.args.number.now) c.in_ok-put_signed.ensures c.write_line.ensures

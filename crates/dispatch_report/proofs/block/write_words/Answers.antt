@@ -8,4 +8,4 @@ returns-in_err-put_bytes g c =
     rw (p.1, p.2) (no_memory _ (c.args.words.now))
 
 pub returns : goal.returns
-returns g c = line_is _ (c.args.words.now) (rw c.clear.ensures.items at c.in_ok-put_bytes.ensures.ok) c.write_line.ensures
+returns g c = line_is (c.args.words.now) c.in_ok-put_bytes.ensures.ok c.write_line.ensures

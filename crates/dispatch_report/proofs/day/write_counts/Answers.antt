@@ -9,4 +9,4 @@ returns-in_err-put_counts g c =
     rw (p.1, p.2) (no_memory _ (day_line c.args.counts.now))
 
 pub returns : goal.returns
-returns g c = line_is _ (day_line c.args.counts.now) (rw c.clear.ensures.items at c.in_ok-put_counts.ensures) c.write_line.ensures
+returns g c = line_is (day_line c.args.counts.now) c.in_ok-put_counts.ensures c.write_line.ensures

@@ -2,27 +2,33 @@ use Rattle.std.proofs.Common.{◌∷◌, ◌++◌, [], length, codes}
 use Rattle.dispatch_report.specs.Words.{numbered}
 use Rattle.dispatch_report.specs.Head.{head_text, settings_line}
 use Rattle.std.proofs.lemmas.Result.{err_from_is_err_and}
-use Rattle.dispatch_report.proofs.LineLemmas.{as_text, fails, then}
+use Rattle.dispatch_report.proofs.LineLemmas.{as_text, failed_text, fails, then}
 use Rattle.dispatch_report.proofs.head.write_head.Goals as goal
 
 pub returns-in_err-write_words : goal.returns-in_err-write_words
 unfolding head_text
 returns-in_err-write_words g c =
     let p = err_from_is_err_and c.from_residual.result c.from_residual.ensures.1 in
-    rw (p.1, p.2) (as_text (fails (numbered (codes "fleet vehicles=") c.args.vehicles ∷ []) (fails ((numbered (codes "network nodes=") (length c.args.network.now.nodes) ++ numbered (codes " arcs=") (length c.args.network.now.arcs)) ∷ []) (fails (settings_line c.args.settings.now ∷ []) c.in_err-write_words.ensures))))
+    rw (p.1, p.2) (failed_text c.new-piece.ensures.items (fails (numbered (codes "fleet vehicles=") c.args.vehicles ∷ []) (fails ((numbered (codes "network nodes=") (length c.args.network.now.nodes) ++ numbered (codes " arcs=") (length c.args.network.now.arcs)) ∷ []) (fails (settings_line c.args.settings.now ∷ []) c.in_err-write_words.ensures))))
 
 pub returns-in_err-write_settings : goal.returns-in_err-write_settings
 unfolding head_text
 returns-in_err-write_settings g c =
     let p = err_from_is_err_and c.from_residual-in_err-write_settings.result c.from_residual-in_err-write_settings.ensures.1 in
-    rw (p.1, p.2) (as_text (fails (numbered (codes "fleet vehicles=") c.args.vehicles ∷ []) (fails ((numbered (codes "network nodes=") (length c.args.network.now.nodes) ++ numbered (codes " arcs=") (length c.args.network.now.arcs)) ∷ []) (then c.in_ok-write_words.ensures c.in_err-write_settings.ensures))))
+    rw (p.1, p.2) (failed_text c.new-piece.ensures.items (fails (numbered (codes "fleet vehicles=") c.args.vehicles ∷ []) (fails ((numbered (codes "network nodes=") (length c.args.network.now.nodes) ++ numbered (codes " arcs=") (length c.args.network.now.arcs)) ∷ []) (then c.in_ok-write_words.ensures c.in_err-write_settings.ensures))))
 
 pub returns-in_err-write_network : goal.returns-in_err-write_network
 unfolding head_text
 returns-in_err-write_network g c =
     let p = err_from_is_err_and c.from_residual-in_err-write_network.result c.from_residual-in_err-write_network.ensures.1 in
-    rw (p.1, p.2) (as_text (fails (numbered (codes "fleet vehicles=") c.args.vehicles ∷ []) (then (then c.in_ok-write_words.ensures c.in_ok-write_settings.ensures) c.in_err-write_network.ensures)))
+    rw (p.1, p.2) (failed_text c.new-piece.ensures.items (fails (numbered (codes "fleet vehicles=") c.args.vehicles ∷ []) (then (then c.in_ok-write_words.ensures c.in_ok-write_settings.ensures) c.in_err-write_network.ensures)))
+
+pub returns-in_err-write_number : goal.returns-in_err-write_number
+unfolding head_text
+returns-in_err-write_number g c =
+    let p = err_from_is_err_and c.from_residual-in_err-write_number.result c.from_residual-in_err-write_number.ensures.1 in
+    rw (p.1, p.2) (failed_text c.new-piece.ensures.items (then (then (then c.in_ok-write_words.ensures c.in_ok-write_settings.ensures) c.in_ok-write_network.ensures) c.in_err-write_number.ensures))
 
 pub returns : goal.returns
 unfolding head_text
-returns g c = as_text (then (then (then c.in_ok-write_words.ensures c.in_ok-write_settings.ensures) c.in_ok-write_network.ensures) c.write_number.ensures)
+returns g c = as_text c.new-piece.ensures.items c.write_piece.ensures.empty (then (then (then c.in_ok-write_words.ensures c.in_ok-write_settings.ensures) c.in_ok-write_network.ensures) c.in_ok-write_number.ensures) c.write_piece.ensures.bytes

@@ -10,4 +10,4 @@ returns-in_err-put_network g c =
     rw (p.1, p.2) (no_memory _ (numbered (codes "network nodes=") (length c.args.network.now.nodes) ++ numbered (codes " arcs=") (length c.args.network.now.arcs)))
 
 pub returns : goal.returns
-returns g c = line_is _ (numbered (codes "network nodes=") (length c.args.network.now.nodes) ++ numbered (codes " arcs=") (length c.args.network.now.arcs)) (rw c.clear.ensures.items at c.in_ok-put_network.ensures) c.write_line.ensures
+returns g c = line_is (numbered (codes "network nodes=") (length c.args.network.now.nodes) ++ numbered (codes " arcs=") (length c.args.network.now.arcs)) c.in_ok-put_network.ensures c.write_line.ensures

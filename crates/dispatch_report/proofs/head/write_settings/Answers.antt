@@ -9,4 +9,4 @@ returns-in_err-put_settings g c =
     rw (p.1, p.2) (no_memory _ (settings_line c.args.settings.now))
 
 pub returns : goal.returns
-returns g c = line_is _ (settings_line c.args.settings.now) (rw c.clear.ensures.items at c.in_ok-put_settings.ensures) c.write_line.ensures
+returns g c = line_is (settings_line c.args.settings.now) c.in_ok-put_settings.ensures c.write_line.ensures

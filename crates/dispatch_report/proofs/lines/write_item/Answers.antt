@@ -8,4 +8,4 @@ returns-in_err-put g c =
     rw (p.1, p.2) (no_memory _ (g.L.Line.text c.args.kind.now c.args.item.now))
 
 pub returns : goal.returns
-returns g c = line_is _ (g.L.Line.text c.args.kind.now c.args.item.now) (rw c.clear.ensures.items at c.in_ok-put.ensures) c.write_line.ensures
+returns g c = line_is (g.L.Line.text c.args.kind.now c.args.item.now) c.in_ok-put.ensures c.write_line.ensures

@@ -9,4 +9,4 @@ returns-in_err-put_entry g c =
     rw (p.1, p.2) (no_memory _ (entry_line c.args.position c.args.entry.now))
 
 pub returns : goal.returns
-returns g c = line_is _ (entry_line c.args.position c.args.entry.now) (rw c.clear.ensures.items at c.in_ok-put_entry.ensures) c.write_line.ensures
+returns g c = line_is (entry_line c.args.position c.args.entry.now) c.in_ok-put_entry.ensures c.write_line.ensures

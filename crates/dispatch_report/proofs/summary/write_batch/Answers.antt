@@ -11,4 +11,4 @@ returns-in_err-put_batch g c =
     rw (p.1, p.2) (no_memory _ (numbered (codes "batch ") c.args.batch ++ answer_text c.args.outcome.now.answer))
 
 pub returns : goal.returns
-returns g c = line_is _ (numbered (codes "batch ") c.args.batch ++ answer_text c.args.outcome.now.answer) (rw c.clear.ensures.items at c.in_ok-put_batch.ensures) c.write_line.ensures
+returns g c = line_is (numbered (codes "batch ") c.args.batch ++ answer_text c.args.outcome.now.answer) c.in_ok-put_batch.ensures c.write_line.ensures

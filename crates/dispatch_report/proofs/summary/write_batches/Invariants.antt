@@ -7,4 +7,4 @@ use Rattle.dispatch_report.proofs.summary.write_batches.Given as goal
 
 abbrev pub invariant-loop-entry : goal.invariant-loop-entry
 invariant-loop-entry g l =
-    WritesLines (sink_seen g.K.Sink.written g.K.Sink.faults l.initial.sink l.sink) (flat_map entry_summary (take l.entry-index l.entries)) (Ok tt)
+    WritesLines (sink_seen g.K.Sink.written g.K.Sink.faults l.initial.sink l.sink) l.initial.piece.items l.piece.items (flat_map entry_summary (take l.entry-index l.entries)) (Ok tt)

@@ -10,4 +10,4 @@ returns-in_err-put_shape g c =
     rw (p.1, p.2) (no_memory _ ((numbered (codes "load seed=") c.args.shape.now.seed ++ numbered (codes " side=") c.args.shape.now.side) ++ (numbered (codes " vehicles=") c.args.shape.now.vehicles ++ numbered (codes " riders=") c.args.shape.now.riders ++ numbered (codes " rounds=") c.args.shape.now.rounds)))
 
 pub returns : goal.returns
-returns g c = line_is _ ((numbered (codes "load seed=") c.args.shape.now.seed ++ numbered (codes " side=") c.args.shape.now.side) ++ (numbered (codes " vehicles=") c.args.shape.now.vehicles ++ numbered (codes " riders=") c.args.shape.now.riders ++ numbered (codes " rounds=") c.args.shape.now.rounds)) (rw c.clear.ensures.items at c.in_ok-put_shape.ensures) c.write_line.ensures
+returns g c = line_is ((numbered (codes "load seed=") c.args.shape.now.seed ++ numbered (codes " side=") c.args.shape.now.side) ++ (numbered (codes " vehicles=") c.args.shape.now.vehicles ++ numbered (codes " riders=") c.args.shape.now.riders ++ numbered (codes " rounds=") c.args.shape.now.rounds)) c.in_ok-put_shape.ensures c.write_line.ensures

@@ -7,7 +7,7 @@ use Rattle.ridepool.proofs.writing.write_by.Goals as goal
 pub returns-in_default-clause-report : goal.returns-in_default-clause-report
 returns-in_default-clause-report g c =
     let i : Inputs = record { settings = c.args.setup.now.settings.now; roads = c.args.setup.now.network.now; vehicles = c.args.fleet; rounds = c.args.script.now } in
-    nothing_written i (g.K.Sink.written c.args.out.now) _
+    nothing_written i (g.K.Sink.written c.args.out.now) _ (g.K.Sink.faults c.args.out.now)
 
 pub drive_day-driven-requires-clause-new : goal.drive_day-driven-requires-clause-new
 drive_day-driven-requires-clause-new g c κs within =
@@ -43,7 +43,7 @@ returns-in-Ok-driven-clause-report g c =
     let run = c.in-Ok-driven.run' in
     report_counted i (BeginsRounds run.rounds) (EndsRounds run.rounds (day_ending run)) (day_serves i c.in-Ok.book run c.in-Drive.is c.in-Ok.ensures c.in-Ok-driven.ensures.run c.in-Ok-driven.ensures.counts
     c.in-Ok-driven.ensures.keeps c.in-Ok-driven.ensures.worst)
-    _ (g.K.Sink.written c.args.out.now) (g.K.Sink.written c.write_day-written.new.out) _ _ (g.K.Sink.faults c.args.out.now) (g.K.Sink.faults c.write_day-written.new.out) c.write_day-written.result
+    (g.K.Sink.written c.args.out.now) (g.K.Sink.written c.write_day-written.new.out) _ _ (g.K.Sink.faults c.args.out.now) (g.K.Sink.faults c.write_day-written.new.out) _ c.write_day-written.result
     (ap length c.vehicles-vehicles.ensures.vehicles) c.write_day-written.ensures.report
 
 pub returns-in_default-mode-clause-report : goal.returns-in_default-mode-clause-report
@@ -51,5 +51,5 @@ returns-in_default-mode-clause-report g c =
     let i : Inputs = record { settings = c.args.setup.now.settings.now; roads = c.args.setup.now.network.now; vehicles = c.args.fleet; rounds = c.args.script.now } in
     report_counted i (RunsFirst i.settings i.roads c.in-Ok.book c.rounds.result.now) (RunsAll i.settings i.roads c.in-Ok.book c.rounds.result.now)
     (run_serves i c.in-Ok.book c.rounds.result.now c.in_default-mode.not-Drive c.in-Ok.ensures c.rounds.ensures)
-    _ (g.K.Sink.written c.args.out.now) (g.K.Sink.written c.write_run.new.out) _ _ (g.K.Sink.faults c.args.out.now) (g.K.Sink.faults c.write_run.new.out) c.write_run.result
+    (g.K.Sink.written c.args.out.now) (g.K.Sink.written c.write_run.new.out) _ _ (g.K.Sink.faults c.args.out.now) (g.K.Sink.faults c.write_run.new.out) _ c.write_run.result
     (ap length c.vehicles-vehicles.ensures.vehicles) c.write_run.ensures.report

@@ -1,6 +1,6 @@
-use Rattle.std.proofs.Common.{Err, ap, arith, refl, sym}
+use Rattle.std.proofs.Common.{Err, ap, refl, sym}
 use Rattle.ridepool.specs.work.Writing.{BeginsRounds, EndsRounds, day_ending}
-use Rattle.ridepool.proofs.WriteLemmas.{stops_fault, written_all, lacks_end, end_unwritten, flushed_end, day_end}
+use Rattle.ridepool.proofs.WriteLemmas.{stops_fault, written_all, end_unwritten, day_end}
 use Rattle.ridepool.proofs.writing.write_driven.Goals as goal
 
 pub returns-in-Err-clause-rounds : goal.returns-in-Err-clause-rounds
@@ -22,11 +22,7 @@ returns-in-Ok-write_day_end-clause-rounds g c =
     let here = g.K.Sink.written c.write_made.new.out in
     let after = g.K.Sink.written c.write_day_end.new.sink in
     let h = day_end s roads run c.as_slice-rounds.result.now before here _ _ c.in-Ok.position c.counts_of-counts.result c.as_slice-rounds.ensures c.counts_of-counts.ensures c.in-Ok.ensures.rounds in
-    flushed_end s roads P Q before after (g.K.Sink.written c.flush.new.out) _ _
-    (g.K.Sink.faults c.args.out.now) (g.K.Sink.faults c.write_day_end.new.sink) (g.K.Sink.faults c.flush.new.out) c.flush.result
-    (omega (arith, c.write_made.ensures.never_falls, c.write_day_end.ensures.never_falls))
-    (written_all s roads P Q run.rounds (day_ending run) before here after _ _ (refl, refl) h.0 (rw (sym h.1) c.in-Ok-write_day_end.ensures.bytes))
-    c.flush.ensures
+    written_all s roads P Q run.rounds (day_ending run) before here after _ _ (refl, refl) h.0 (rw (sym h.1) c.in-Ok-write_day_end.ensures.bytes)
 
 pub returns-in-Err-write_day_end-clause-rounds : goal.returns-in-Err-write_day_end-clause-rounds
 returns-in-Err-write_day_end-clause-rounds g c =
@@ -39,8 +35,8 @@ returns-in-Err-write_day_end-clause-rounds g c =
     let here = g.K.Sink.written c.write_made.new.out in
     let after = g.K.Sink.written c.write_day_end.new.sink in
     let h = day_end s roads run c.as_slice-rounds.result.now before here _ _ c.in-Ok.position c.counts_of-counts.result c.as_slice-rounds.ensures c.counts_of-counts.ensures c.in-Ok.ensures.rounds in
-    end_unwritten s roads P Q before after _ _
+    end_unwritten s roads P Q run.rounds (day_ending run) before here after _ _
     (g.K.Sink.faults c.args.out.now) (g.K.Sink.faults c.write_made.new.out) (g.K.Sink.faults c.write_day_end.new.sink)
     c.in-Err-write_day_end.fault c.status_of.result c.status_of.ensures
-    (lacks_end s roads P Q run.rounds (day_ending run) before here after _ _ (refl, refl) h.0 (rw (sym h.1) c.in-Err-write_day_end.ensures.bytes))
+    (refl, refl) h.0 (rw (sym h.1) c.in-Err-write_day_end.ensures.bytes)
     c.write_made.ensures.never_falls (λ is. c.in-Err-write_day_end.ensures.fault (ap Err is))

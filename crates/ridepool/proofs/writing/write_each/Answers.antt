@@ -1,6 +1,5 @@
 use Rattle.std.proofs.Common.{◌<◌, ◌≡◌, Err, length, ap, arith}
-use Rattle.ridepool.specs.work.Writing.{RunsAll, RunsFirst}
-use Rattle.ridepool.proofs.WriteLemmas.{written_none, written_next, written_whole, round_fault, run_written, run_lacks_end, end_unwritten, flushed_end}
+use Rattle.ridepool.proofs.WriteLemmas.{written_none, written_next, written_whole, round_fault, run_written, run_lacks_end}
 use Rattle.ridepool.proofs.writing.write_each.Goals as goal
 
 pub loop-round-init : goal.loop-round-init
@@ -36,12 +35,8 @@ returns-in-Ok-write_end-clause-rounds g c =
     let before = g.K.Sink.written c.args.out.now in
     let here = g.K.Sink.written c.loop-round.out in
     let end : i ≡ length rounds = omega arith in
-    flushed_end s roads (RunsFirst s roads c.args.book rounds) (RunsAll s roads c.args.book rounds) before (g.K.Sink.written c.write_end.new.sink) (g.K.Sink.written c.flush.new.out) _ _
-    (g.K.Sink.faults c.args.out.now) (g.K.Sink.faults c.write_end.new.sink) (g.K.Sink.faults c.flush.new.out) c.flush.result
-    (omega (arith, c.loop-round.invariant.1, c.write_end.ensures.never_falls))
-    (run_written s roads c.args.book c.loop-round.current rounds before here (g.K.Sink.written c.write_end.new.sink) _ _ c.next_position-position.result
-    (written_whole s roads c.args.book c.loop-round.current rounds i before here _ _ end c.loop-round.invariant.0) c.next_position-position.ensures c.in-Ok-write_end.ensures.bytes)
-    c.flush.ensures
+    run_written s roads c.args.book c.loop-round.current rounds before here (g.K.Sink.written c.write_end.new.sink) _ _ c.next_position-position.result
+    (written_whole s roads c.args.book c.loop-round.current rounds i before here _ _ end c.loop-round.invariant.0) c.next_position-position.ensures c.in-Ok-write_end.ensures.bytes
 
 pub returns-in-Err-write_end-clause-rounds : goal.returns-in-Err-write_end-clause-rounds
 returns-in-Err-write_end-clause-rounds g c =
@@ -53,9 +48,8 @@ returns-in-Err-write_end-clause-rounds g c =
     let here = g.K.Sink.written c.loop-round.out in
     let after = g.K.Sink.written c.write_end.new.sink in
     let end : i ≡ length rounds = omega arith in
-    end_unwritten s roads (RunsFirst s roads c.args.book rounds) (RunsAll s roads c.args.book rounds) before after _ _
+    run_lacks_end s roads c.args.book c.loop-round.current rounds before here after _ _ c.next_position-position.result
     (g.K.Sink.faults c.args.out.now) (g.K.Sink.faults c.loop-round.out) (g.K.Sink.faults c.write_end.new.sink)
     c.in-Err-write_end.fault c.status_of.result c.status_of.ensures
-    (run_lacks_end s roads c.args.book c.loop-round.current rounds before here after _ _ c.next_position-position.result
-    (written_whole s roads c.args.book c.loop-round.current rounds i before here _ _ end c.loop-round.invariant.0) c.next_position-position.ensures c.in-Err-write_end.ensures.bytes)
+    (written_whole s roads c.args.book c.loop-round.current rounds i before here _ _ end c.loop-round.invariant.0) c.next_position-position.ensures c.in-Err-write_end.ensures.bytes
     c.loop-round.invariant.1 (λ is. c.in-Err-write_end.ensures.fault (ap Err is))

@@ -1,7 +1,7 @@
-use Rattle.std.proofs.Common.{Err, ap, refl}
+use Rattle.std.proofs.Common.{Err, ap}
 use Rattle.ridepool.specs.Report.{first_text}
-use Rattle.ridepool.specs.work.Writing.{RunsAll, RunsFirst, IsReportFault}
-use Rattle.ridepool.proofs.WriteLemmas.{behind_head, text_unwritten}
+use Rattle.ridepool.specs.work.Writing.{RunsAll, RunsFirst}
+use Rattle.ridepool.proofs.WriteLemmas.{behind_head, unbegun}
 use Rattle.ridepool.proofs.writing.write_run.Goals as goal
 
 pub returns-in-Ok-clause-report : goal.returns-in-Ok-clause-report
@@ -17,7 +17,6 @@ pub returns-in-Err-clause-report : goal.returns-in-Err-clause-report
 returns-in-Err-clause-report g c =
     let s = c.args.setup.now.settings.now in
     let roads = c.args.setup.now.network.now in
-    IsReportFault.unbegun _
-    (text_unwritten (first_text s.mode s roads c.args.vehicles) (g.K.Sink.written c.args.out.now) (g.K.Sink.written c.write_first.new.out) (g.K.Sink.faults c.args.out.now) (g.K.Sink.faults c.write_first.new.out)
-    c.in-Err.fault c.status_of.result c.status_of.ensures c.in-Err.ensures.bytes (λ is. c.in-Err.ensures.fault (ap Err is)))
-    refl
+    unbegun s roads (RunsFirst s roads c.args.book c.args.rounds.now) (RunsAll s roads c.args.book c.args.rounds.now) (first_text s.mode s roads c.args.vehicles)
+    (g.K.Sink.written c.args.out.now) (g.K.Sink.written c.write_first.new.out) _ (g.K.Sink.faults c.args.out.now) (g.K.Sink.faults c.write_first.new.out)
+    c.in-Err.fault c.status_of.result c.status_of.ensures c.in-Err.ensures.bytes (λ is. c.in-Err.ensures.fault (ap Err is))
