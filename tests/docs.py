@@ -72,12 +72,12 @@ def scratch(folder, program):
 
 
 def run(command, folder):
-    """What a command prints there."""
+    """What a command prints there, and its status."""
     environment = {**os.environ, "HOME": str(folder / "home"), "SUMO_HOME": os.environ.get("SUMO_HOME", "/usr/share/sumo")}
     environment["PATH"] = f"{folder}/home/.local/bin:{environment['PATH']}"
     bash = ["bash", "-c", command]
     ran = subprocess.run(bash, cwd=folder, env=environment, stdout=subprocess.PIPE, stderr=subprocess.STDOUT, timeout=300)
-    return ran.stdout.decode(errors="replace").replace(f"{folder}/home", "/home/you")
+    return ran.stdout.decode(errors="replace").replace(f"{folder}/home", "/home/you"), ran.returncode
 
 
 def fits(wanted, got):
@@ -105,19 +105,19 @@ def try_guide(path, program, is_written):
             nonlocal count
             absent = missing((block["needs"] or "").split())
             if absent:
-                print(f"{path.relative_to(TOP)}: a block wasn't run, since {', '.join(absent)} isn't here")
+                print(f"skipped: a block of {path.relative_to(TOP)}, since {', '.join(absent)} isn't here")
                 return block[0]
             lines = []
             for command, wanted in commands_of(block["kind"], block["body"]):
                 if command.strip() in NOT_RUN:
                     continue
                 count += 1
-                got = run(command, folder)
+                got, status = run(command, folder)
                 is_cut = wanted is not None and ".." in wanted.splitlines()
                 if wanted is not None and not fits(wanted, got):
                     wrong.extend([f"{path.relative_to(TOP)}: {command}", *difference("what", wanted, got)])
-                if wanted is None and re.search(r"^(bash|Traceback|.*: fault|.*: not found)", got, re.M):
-                    wrong.extend([f"{path.relative_to(TOP)}: {command}", got])
+                if wanted is None and status:
+                    wrong.extend([f"{path.relative_to(TOP)}: {command}: status {status}", got])
                 lines.append(f"$ {command}\n{wanted if is_cut and fits(wanted, got) else got}")
             if block["kind"] == "sh":
                 return block[0]
@@ -138,7 +138,8 @@ def function(path, name, is_contract):
     if first is None:
         return f"{path.relative_to(TOP)} has no function {name}\n"
     indent = re.match(r"\s*", rows[first])[0]
-    last = next(at for at, row in enumerate(rows) if at > first and row == indent + ("{" if is_contract else "}")) + (not is_contract)
+    ends = (indent + "{", indent + "{}") if is_contract else (indent + "}", indent + "{}")
+    last = next((at for at, row in enumerate(rows) if at > first and row in ends), len(rows)) + (not is_contract)
     while not is_contract and rows[first - 1].strip().startswith(("///", "#[")):
         first -= 1
     return textwrap.dedent("\n".join(rows[first:last])) + "\n"
