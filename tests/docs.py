@@ -1,8 +1,10 @@
 #!/usr/bin/env python3
 """Holds the documents to the program and to each other.
 
-    tests/docs.py PROGRAM            runs the commands of README.md and docs/guide, and looks at all documents
-    tests/docs.py PROGRAM --write    also writes what each command printed into its document
+    tests/docs.py PROGRAM [--write] [DOCUMENT ..]
+
+runs the commands of README.md and docs/guide, or of these documents, and looks at all documents. With --write it also writes
+what each command printed, and the code that is quoted, into its document.
 
 A block ```console has lines `$ COMMAND`, each followed by what it prints on standard output and error; a line `..` there
 stands for any lines. A block ```sh has commands that print nothing to be shown. All run from the top of the repository,
@@ -220,11 +222,12 @@ def stale_pages(program):
 
 
 def main():
-    if len(sys.argv) < 2 or sys.argv[2:] not in ([], ["--write"]):
+    if len(sys.argv) < 2:
         sys.exit(__doc__)
-    program, is_written = os.path.abspath(sys.argv[1]), bool(sys.argv[2:])
+    program, is_written = os.path.abspath(sys.argv[1]), "--write" in sys.argv
+    named = [Path(name).resolve() for name in sys.argv[2:] if name != "--write"]
     with ThreadPoolExecutor() as pool:
-        tried = list(pool.map(lambda path: try_guide(path, program, is_written), guides()))
+        tried = list(pool.map(lambda path: try_guide(path, program, is_written), named or guides()))
     passed, wrong = sum(count for _, count in tried), [it for it, _ in tried if it]
     if not passed:
         wrong.append(["no document has a command"])
