@@ -1,13 +1,15 @@
 #!/usr/bin/env python3
-"""Draws a printed report of ridepool: a day of its vehicles, the service of its batches, or one batch's map."""
+"""Draws a printed report of ridepool: a day of its vehicles, the service of its batches, or one batch's map; or
+the figures of a study."""
 
 from report import read_report
+from studies.plan import SETTINGS
 from tables import MOST_NUMBER
 from words import Fault, need, number, run_tool, split_words
 
 USAGE = ("use: draw.py REPORT day|service|batch=N [nodes=nodes.csv|made=1] [network=network.csv] "
-         "[fleet=fleet.csv] OUT.svg|png|pdf")
-PICTURES = ("day", "service")
+         "[fleet=fleet.csv] OUT.svg|png|pdf, or draw.py cells.csv study [SETTING=VALUE ..] OUT.svg|png|pdf")
+PICTURES = ("day", "service", "study")
 WORDS = ("batch", "nodes", "network", "fleet", "made")
 
 
@@ -20,8 +22,13 @@ def which_picture(plain, values):
     return asked[0], files
 
 
-def picture_of(kind, report, values):
+def picture_of(kind, path, values):
     """The picture."""
+    if kind == "study":
+        from pictures import study
+
+        return study.draw(path, values)
+    report = read_report(path)
     if kind == "day":
         from pictures import day
 
@@ -40,13 +47,13 @@ def picture_of(kind, report, values):
 
 def convert(arguments):
     """The tool."""
-    plain, values = split_words(arguments, WORDS, USAGE)
+    plain, values = split_words(arguments, (*WORDS, *SETTINGS), USAGE)
     kind, (path, out) = which_picture(plain, values)
     need("matplotlib", "scipy")
     from pictures import style
 
     style.check_ending(out)
-    style.write(picture_of(kind, read_report(path), values), out)
+    style.write(picture_of(kind, path, values), out)
 
 
 if __name__ == "__main__":

@@ -20,6 +20,7 @@ COUNTED = ("rv", "rr", "row", "branch", "leaf", "dead")
 class Entry:
     """A command with its reply. `party` counts for a submit alone."""
 
+    round: int
     position: int
     lane: int
     command: str
@@ -137,8 +138,8 @@ def days_totals(words):
     return dict(zip(words[::2], map(int, words[1::2])))
 
 
-def entry_of(words):
-    """A command's line: position, lane, command, fields, party where it isn't 1, reply."""
+def entry_of(number, words):
+    """A command's line in a round: position, lane, command, fields, party where it isn't 1, reply."""
     position, lane, command, *rest = words
     count = FIELDS[command]
     fields, reply, party = rest[:count], rest[count:], 1
@@ -146,7 +147,7 @@ def entry_of(words):
         party, *reply = int(reply[0]), *reply[1:]
     if len(fields) < count or not reply:
         raise ValueError
-    return Entry(int(position), int(lane), command, tuple(map(int, fields)), party, " ".join(reply))
+    return Entry(number, int(position), int(lane), command, tuple(map(int, fields)), party, " ".join(reply))
 
 
 class Reader:
@@ -154,6 +155,7 @@ class Reader:
 
     def __init__(self):
         self.report = None
+        self.round = None
         self.batch = None
         self.seals = {}
         self.done = None
@@ -177,7 +179,7 @@ class Reader:
         if self.batch is not None:
             self.batch_line(*words)
         elif words[0] == "round":
-            int(words[1])
+            self.round = int(words[1])
         elif words[0] == "batch":
             self.batch = self.opened(int(words[1]))
         elif words[0] == "day":
@@ -185,7 +187,7 @@ class Reader:
         elif words[0] == "done":
             self.done = int(words[1])
         else:
-            self.entry(entry_of(words))
+            self.entry(entry_of(self.round, words))
 
     def entry(self, entry):
         """A command's line, whose position must be the next one."""

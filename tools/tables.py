@@ -1,6 +1,7 @@
 """The CSV files of ridepool, and nodes.csv, which says where the nodes of a network lie."""
 
 import csv
+import io
 import math
 import pathlib
 from dataclasses import dataclass
@@ -41,9 +42,16 @@ def write_table(path, header, rows):
     path = pathlib.Path(path)
     path.parent.mkdir(parents=True, exist_ok=True)
     with open(path, "w", newline="", encoding="utf-8") as file:
-        table = csv.writer(file, lineterminator="\n")
-        table.writerow(header)
-        table.writerows(rows)
+        file.write(table_text(header, rows))
+
+
+def table_text(header, rows):
+    """A CSV file as a text."""
+    text = io.StringIO()
+    table = csv.writer(text, lineterminator="\n")
+    table.writerow(header)
+    table.writerows(rows)
+    return text.getvalue()
 
 
 def read_table(path, header):

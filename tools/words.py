@@ -9,6 +9,7 @@ PACKAGES = {
     "matplotlib": "python3-matplotlib",
     "scipy": "python3-scipy",
     "pyproj": "python3-pyproj",
+    "distributed": "python3-distributed",
 }
 INSTALL = "apt-get install sumo " + " ".join(PACKAGES.values())
 DEBIAN_PYTHON = "/usr/bin/python3"

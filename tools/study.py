@@ -1,0 +1,205 @@
+#!/usr/bin/env python3
+"""Drives one day for each combination of settings, on as many processors and machines as there are.
+
+Dask shares the days among the processors of this machine, or among the workers of a running dask-scheduler.
+Days that were driven are kept, so the same call goes on where it stopped.
+"""
+
+import contextlib
+import logging
+import os
+import pathlib
+import subprocess
+import sys
+import tempfile
+import time
+import zlib
+
+import tables
+from one_drive import NotDriven, Stopped, Task, drive
+from words import Fault, need, number, run_tool, split_words
+
+USAGE = "use: study.py STUDY.toml OUT/ [cluster=ADDRESS] [processors=] [limit=] [program=]"
+WORDS = ("cluster", "processors", "limit", "program")
+SENT = ("words.py", "report.py", "measure.py", "one_drive.py")
+HERE = pathlib.Path(__file__).resolve().parent
+BAR = 30
+
+
+def program_of(values):
+    """The path of the program: the word, or the proved program of these sources."""
+    if "program" in values:
+        return values["program"]
+    found = subprocess.run([HERE.parent / "release" / "find"], capture_output=True, text=True)
+    if found.returncode != 0:
+        raise Fault(f"{found.stderr.strip()}; ./ridepool builds it, and program= names another")
+    return found.stdout.strip()
+
+
+def tasks_of(cell, ground, limit):
+    """The days of a cell as tasks."""
+    from studies.plan import OF_THE_CALL
+
+    words = tuple(f"{name}={getattr(cell, name)}" for name in OF_THE_CALL)
+    return [Task(*texts, words, direct, limit) for *texts, direct in ground.days(cell)]
+
+
+@contextlib.contextmanager
+def client_of(values):
+    """A client of the named cluster, or of one of this machine's processors."""
+    from distributed import Client, LocalCluster
+
+    if "cluster" in values:
+        try:
+            client = Client(values["cluster"], timeout=10)
+        except (OSError, ValueError) as fault:
+            raise Fault(f"cluster={values['cluster']}: {fault}") from None
+        with client:
+            yield client
+        return
+    count = number(values, "processors", 1, 1024, len(os.sched_getaffinity(0)))
+    with tempfile.TemporaryDirectory(prefix="ridepool-study-") as folder:
+        with LocalCluster(n_workers=count, threads_per_worker=1, memory_limit=None, dashboard_address=None,
+                          local_directory=folder, silence_logs=logging.CRITICAL) as cluster, Client(cluster) as client:
+            yield client
+
+
+class Progress:
+    """Says what is done: a line for each cell, and on a terminal a bar with what is left."""
+
+    def __init__(self, cells, left):
+        self.cells, self.left, self.all, self.begun = cells, left, left, time.monotonic()
+        self.shown = sys.stderr.isatty()
+
+    def bar(self):
+        """The bar, and how long what is left may take if it goes on as so far."""
+        done = self.all - self.left
+        full = BAR * done // max(1, self.all)
+        took = time.monotonic() - self.begun
+        left = f", about {took / done * self.left / 60:.0f} minutes left" if done else ""
+        return f"[{'#' * full}{'.' * (BAR - full)}] {done} of {self.all} days{left}"
+
+    def show(self):
+        """Draws the bar anew."""
+        if self.shown:
+            print(f"\r\033[K{self.bar()}", end="", file=sys.stderr, flush=True)
+
+    def hide(self):
+        """Takes the bar away."""
+        if self.shown:
+            print("\r\033[K", end="", file=sys.stderr, flush=True)
+
+    def day(self):
+        """A day is done."""
+        self.left -= 1
+        self.show()
+
+    def say(self, text):
+        """A line above the bar."""
+        self.hide()
+        print(text, flush=True)
+        self.show()
+
+
+class Study:
+    """The cells of a study, and what is known of their days."""
+
+    def __init__(self, plan, ground, kept, limit):
+        from studies.plan import SETTINGS
+
+        self.kept, self.limit, self.tasks, self.known, self.days = kept, limit, {}, {}, {}
+        self.varied = [name for name in SETTINGS if len({getattr(cell, name) for cell in plan.cells}) > 1]
+        for cell in plan.cells:
+            tasks = {kept.key_of(task): task for task in tasks_of(cell, ground, limit)}
+            self.days[cell] = list(tasks)
+            self.tasks.update(tasks)
+            self.known.update((key, kept.find(key, limit)) for key in tasks)
+
+    def open(self):
+        """The days that have to be driven."""
+        return {key: task for key, task in self.tasks.items() if self.known[key] is None}
+
+    def cells(self):
+        """Each cell with what is known of its days."""
+        return [(cell, [self.known[key] for key in keys]) for cell, keys in self.days.items()]
+
+    def take(self, key, future):
+        """Takes what became of a day. Gives the cells that are whole by it."""
+        fault = future.exception()
+        if fault is None:
+            self.known[key] = future.result()
+            self.kept.keep(key, self.known[key])
+        elif isinstance(fault, Stopped):
+            self.kept.keep(key, {"stopped": self.limit})
+            self.known[key] = str(fault)
+        else:
+            self.known[key] = str(fault) if isinstance(fault, NotDriven) else f"{type(fault).__name__}: {fault}"
+        return [(cell, days) for cell, days in self.cells() if key in self.days[cell] and None not in days]
+
+    def line(self, cell, days):
+        """What is said of a cell."""
+        from studies.table import COLUMNS, row_of
+
+        row = dict(zip(COLUMNS, row_of(cell, days, "")))
+        name = " ".join(f"{setting}={row[setting]}" for setting in self.varied) or "the cell"
+        if row["state"] != "done":
+            return f"{name}: {row['state']}"
+        return f"{name}: {row['served']} of {row['requests']} served, {row['seconds']} s"
+
+
+def run(study, values, program, network, write):
+    """Drives the days that aren't known, on the cluster. Writes the table after each cell."""
+    from distributed import as_completed
+
+    todo = study.open()
+    progress = Progress(study, len(todo))
+    if not todo:
+        return
+    with client_of(values) as client:
+        for name in SENT:
+            client.upload_file(str(HERE / name))
+        if not client.scheduler_info()["workers"]:
+            progress.say("no workers yet: the days wait for one")
+        progress.show()
+        futures = {client.submit(drive, program, network, task, key=f"ridepool-{key}"): key
+                   for key, task in todo.items()}
+        for future in as_completed(futures):
+            for cell, days in study.take(futures[future], future):
+                progress.say(study.line(cell, days))
+                write()
+            progress.day()
+        progress.hide()
+
+
+def convert(arguments):
+    """The tool."""
+    plain, values = split_words(arguments, WORDS, USAGE)
+    if len(plain) != 2:
+        raise Fault(USAGE)
+    path, out = plain
+    limit = number(values, "limit", 1, tables.MOST_NUMBER, None)
+    need("distributed", "scipy")
+    from studies.ground import ground_of
+    from studies.kept import Kept, checksum, write_cells
+    from studies.plan import read_plan
+
+    program = pathlib.Path(program_of(values)).read_bytes()
+    plan = read_plan(path)
+    ground = ground_of(plan, os.path.dirname(path), out)
+    kept, table = Kept(out, checksum(program), ground.network), os.path.join(out, "cells.csv")
+    study = Study(plan, ground, kept, limit)
+
+    def write():
+        write_cells(table, study.cells(), checksum(program))
+
+    driven = len(study.open())
+    run(study, values, zlib.compress(program), zlib.compress(ground.network.encode()), write)
+    write()
+    amiss = sum(1 for _, days in study.cells() if any(isinstance(day, str) for day in days))
+    print(f"{table}: {len(study.days)} cells of {len(study.tasks)} days, {driven} driven now, {amiss} cells amiss")
+    if amiss:
+        sys.exit(1)
+
+
+if __name__ == "__main__":
+    run_tool(convert, USAGE)
