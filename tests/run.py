@@ -1,4 +1,4 @@
-"""Runs the program on the cases of tests/cases (README.md says what a case is) and on the README's example.
+"""Runs the program on the cases of tests/cases (README.md says what a case is).
 
     run.py PROGRAM [CASE ..]
 
@@ -160,33 +160,19 @@ def try_case(program, case):
         return wrong or run_again(program, case, folder, words, got)
 
 
-def try_readme(program):
-    """The README's first command has to print the README's report."""
-    readme = text_in(TESTS.parent, "README.md")
-    command = re.search(r"^\./ridepool (run .*)$", readme, re.M)
-    report = re.search(r"^```\n(ridepool report 1\n.*?)^```$", readme, re.M | re.S)
-    if not command or not report:
-        return ["README.md has no line ./ridepool run .., or no report"]
-    ran = subprocess.run([program, *command[1].split(" ")], cwd=TESTS.parent, capture_output=True, timeout=120)
-    return difference("the README's report", report[1], ran.stdout.decode(errors="replace") + ran.stderr.decode(errors="replace"))
-
-
 def main():
     if len(sys.argv) < 2:
         sys.exit(__doc__)
     program, names = os.path.abspath(sys.argv[1]), sys.argv[2:]
     cases = [it for it in sorted(CASES.iterdir()) if it.is_dir() and (not names or it.name in names)]
-    tasks = {case.name: (try_case, program, case) for case in cases}
-    if not names:
-        tasks["the README's example"] = try_readme, program
     with ThreadPoolExecutor(len(os.sched_getaffinity(0))) as pool:
-        answers = pool.map(lambda it: it[0](*it[1:]), tasks.values())
+        answers = pool.map(lambda case: try_case(program, case), cases)
     failed = 0
-    for name, wrong in zip(tasks, answers):
+    for case, wrong in zip(cases, answers):
         if wrong:
             failed += 1
-            print("\n".join([f"{name}:", *(f"    {line}" for line in wrong)]))
-    print(f"{len(tasks) - failed} passed, {failed} failed")
+            print("\n".join([f"{case.name}:", *(f"    {line}" for line in wrong)]))
+    print(f"{len(cases) - failed} passed, {failed} failed")
     return failed != 0
 
 

@@ -20,6 +20,7 @@ use crate::guide::Guide;
 use crate::lookups::Lookups;
 use crate::lowest_leaf::bound_at;
 use crate::open_leaves::OpenLeaves;
+use crate::plain_draft::NoDrafter;
 use crate::root::root_leaf;
 use crate::step::{Outcome, next};
 use plan_rules::{Node, Plan, Tree, TripGraph, cost_of};
@@ -29,9 +30,27 @@ use std::alloc::Global;
 
 /// A lawful plan and a bound on every lawful plan's cost, with a tree of at most `budget` nodes that shows it.
 ///
-/// The bound meets the cost unless the budget has no room for another branch. The search follows a draft, and
-/// judges all that it takes of it.
-pub fn search<D: Drafter>(
+/// The bound meets the cost unless the budget has no room for another branch. The search begins with a plain draft:
+/// the held plan, and multipliers by an ascent from the first-fit ones.
+pub fn search(alloc: Global, graph: &TripGraph, budget: u32) -> Result<Found, OutOfMemory>
+    requires { 1 ≤ budget }
+    ensures lawful { IfOk result (λ found. IsLawful graph.now found.plan) }
+    ensures cost { IfOk result (λ found. found.cost ≡ cost_of graph.now found.plan) }
+    ensures held { IfOk result (λ found. found.cost ≤ cost_of graph.now graph.now.held) }
+    ensures greedy { IfOk result (λ found. (chosen : List (Option ℕ)) → IsGreedy graph.now chosen → IsLawful graph.now chosen → found.cost ≤ cost_of graph.now chosen) }
+    ensures change { IfOk result (λ found. HasNoBetterChange graph.now found.plan) }
+    ensures nodes { IfOk result (λ found. length found.tree ≤ budget) }
+    ensures shown { IfOk result (λ found. Shows graph.now found.bound found.tree) }
+    ensures root { IfOk result (λ found. rounded_up (first_fit_value graph.now every_row) ≤ℤ found.bound) }
+    ensures limited { IfOk result (λ found. found.bound <ℤ pos found.cost → budget < length found.tree + 2) }
+    ensures closed { IfOk result (λ found. 2 * choice_count graph.now every_row ≤ budget → found.bound ≡ pos found.cost) }
+{
+    search_by(alloc, graph, budget, &NoDrafter)
+}
+
+/// The same, begun with the draft of this drafter. All that the search takes of a draft it judges. Where the
+/// drafter fails, a plain draft takes its place.
+pub fn search_by<D: Drafter>(
     alloc: Global,
     graph: &TripGraph,
     budget: u32,

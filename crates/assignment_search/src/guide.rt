@@ -2,6 +2,7 @@
 ghost use Rattle.std.specs.Prelude.{◌<◌, IfOk, IfSome};
 ghost use Rattle.plan_rules.specs.Plan.{IsLawful, cost_of};
 
+use crate::plain_draft::plain_draft;
 use plan_rules::{Plan, TripGraph, cost_of, is_lawful};
 use pool_base::OutOfMemory;
 use row_tables::{Draft, Drafter, RowTable};
@@ -24,7 +25,7 @@ pub struct Guide {
 }
 
 impl Guide {
-    /// A draft with at most so many nodes, and a tree of one node.
+    /// A draft with at most so many nodes, or a plain one where the drafter fails, and a tree of one node.
     pub fn new<D: Drafter>(
         alloc: Global,
         graph: &TripGraph,
@@ -32,7 +33,10 @@ impl Guide {
         drafter: &D,
     ) -> Result<Self, OutOfMemory> {
         let table = RowTable::of_graph(alloc, graph)?;
-        let draft = drafter.draft(alloc, &table, graph.held(), budget)?;
+        let draft = match drafter.draft(alloc, &table, graph.held(), budget) {
+            Ok(draft) => draft,
+            Err(OutOfMemory) => plain_draft(alloc, graph)?,
+        };
         let mut numbers = Vec::new(alloc);
         numbers.push(Some(0))?;
         Ok(Guide {

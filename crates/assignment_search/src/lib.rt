@@ -16,11 +16,12 @@ mod lookups;
 mod lowest_leaf;
 mod open_leaves;
 mod parting;
+mod plain_draft;
 mod root;
 mod sole_plan;
 mod standing;
 mod step;
 
-pub use branch_and_bound::search;
+pub use branch_and_bound::{search, search_by};
 pub use exchange::better_change;
 pub use found::Found;

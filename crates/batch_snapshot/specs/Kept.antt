@@ -28,6 +28,8 @@ pub record IsKept (b : Batch) : Type 0 where
   pub once : IsOnce (map (λ r. r.id) b.riders ++ riders_aboard b.vehicles)
   -- no rider of the batch is among those whose wait ended
   pub apart : All (λ r. ¬ (Contains b.expired r.id)) b.riders
+  -- nor is anybody aboard
+  pub aboard_apart : All (λ id. ¬ (Contains b.expired id)) (riders_aboard b.vehicles)
 
 -- what every fleet keeps
 pub record IsFleet (vehicles : List Vehicle) : Type 0 where

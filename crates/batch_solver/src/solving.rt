@@ -17,7 +17,7 @@ use crate::left::left_riders;
 use crate::lines::{lapsed_ids, rider_ids, row_lines, rr_lines, rv_lines};
 use crate::moves::move_lines;
 use crate::trips::chosen_trips;
-use assignment_search::{Found, search};
+use assignment_search::{Found, search_by};
 use batch_snapshot::{Points, Snapshot};
 use pair_graph::RvEdge;
 use plan_rules::{Tree, TripGraph, tree_value_is_a_bound};
@@ -224,7 +224,7 @@ fn bounded_plan<D: Drafter>(
     ensures bound { IfOk result (λ found. IsBound graph.now found.bound) }
 {
     tree_value_is_a_bound();
-    search(alloc, graph, budget, drafter)
+    search_by(alloc, graph, budget, drafter)
 }
 
 /// The bound. It is a call, so that a caller knows that it is within its type's range.

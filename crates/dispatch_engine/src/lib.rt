@@ -12,6 +12,7 @@ mod laws;
 mod round;
 mod setup;
 
+pub use batch_solver::solve_batch;
 pub use lane::run_lane;
 pub use laws::commands_follow_from_the_input;
 pub use round::run_round;

@@ -1,6 +1,6 @@
 //! What a check of a search says of trees and plans of the worked pairs.
 use crate::worked::three_pairs;
-use assignment_search::{Found, search};
+use assignment_search::{Found, search_by};
 use plan_drafts::RelaxationDrafter;
 use plan_rules::{Multipliers, Node, Tree, TripGraph, held_plan};
 use search_check::{is_best_near, is_close, is_fair, shows_bound};
@@ -33,10 +33,10 @@ fn passes(alloc: Global, graph: &TripGraph, budget: u32, found: &Found) -> Resul
 fn what_a_search_finds_passes(rt: HostRuntime) -> Result<(), Fail> {
     let alloc = rt.alloc();
     let graph = three_pairs(alloc)?;
-    let quick = search(alloc, &graph, 1, &RelaxationDrafter)?;
+    let quick = search_by(alloc, &graph, 1, &RelaxationDrafter)?;
     assert!(rt; passes(alloc, &graph, 1, &quick)?);
     assert!(rt; is_best_near(alloc, &graph, &quick.plan)?);
-    let whole = search(alloc, &graph, 16, &RelaxationDrafter)?;
+    let whole = search_by(alloc, &graph, 16, &RelaxationDrafter)?;
     assert!(rt; passes(alloc, &graph, 16, &whole)?);
     Ok(())
 }
@@ -45,7 +45,7 @@ fn what_a_search_finds_passes(rt: HostRuntime) -> Result<(), Fail> {
 fn a_tree_beyond_the_budget_is_refused(rt: HostRuntime) -> Result<(), Fail> {
     let alloc = rt.alloc();
     let graph = three_pairs(alloc)?;
-    let whole = search(alloc, &graph, 16, &RelaxationDrafter)?;
+    let whole = search_by(alloc, &graph, 16, &RelaxationDrafter)?;
     assert!(rt; whole.tree.nodes().len() > 2);
     assert!(rt; !passes(alloc, &graph, 2, &whole)?);
     Ok(())
@@ -78,7 +78,7 @@ fn the_held_plan_is_not_best(rt: HostRuntime) -> Result<(), Fail> {
 fn answers_with_memory(rt: HostRuntime) -> Result<(), Fail> {
     let alloc = rt.alloc();
     let graph = TripGraph::new(alloc, 0, 0, 100, Vec::new(alloc), Vec::new(alloc))?;
-    let found = search(alloc, &graph, 1, &RelaxationDrafter)?;
+    let found = search_by(alloc, &graph, 1, &RelaxationDrafter)?;
     assert!(rt; passes(alloc, &graph, 1, &found)?);
     assert!(rt; is_best_near(alloc, &graph, &found.plan)?);
     Ok(())

@@ -1,7 +1,7 @@
 //! What a search shows of worked rows and of a wide graph, and a relaxation that is broken off.
 use crate::wide::wide_graph;
 use crate::worked::{one_held, three_pairs};
-use assignment_search::search;
+use assignment_search::{search, search_by};
 use bound_checker::check;
 use dual_bound::leaf_value;
 use linear_relaxation::Relaxation;
@@ -17,7 +17,7 @@ use std::test::Fail;
 /// What a search with this budget says: its bound, its cost, how many nodes it has, and what the checker
 /// says of its tree.
 fn told(alloc: Global, graph: &TripGraph, budget: u32) -> Option<(i128, u64, usize, i128)> {
-    let found = search(alloc, graph, budget.max(1), &RelaxationDrafter).ok()?;
+    let found = search_by(alloc, graph, budget.max(1), &RelaxationDrafter).ok()?;
     let checked = check(alloc, graph, &found.tree).ok()?;
     Some((found.bound, found.cost, found.tree.nodes().len(), checked))
 }
@@ -107,10 +107,26 @@ fn finds(
 
 /// Whether it chooses these rows.
 fn chooses(alloc: Global, graph: &TripGraph, rows: &[Option<u32>]) -> bool {
-    match search(alloc, graph, 1, &RelaxationDrafter) {
+    match search_by(alloc, graph, 1, &RelaxationDrafter) {
         Ok(found) => found.plan.chosen() == rows && found.tree.nodes().len() == 1,
         Err(_) => false,
     }
+}
+
+/// Whether the search by its own plain draft comes to this cost and bound.
+fn finds_plainly(alloc: Global, graph: &TripGraph, budget: u32, cost: u64) -> bool {
+    match search(alloc, graph, budget.max(1)) {
+        Ok(found) => found.cost == cost && found.bound == i128::from(cost),
+        Err(_) => false,
+    }
+}
+
+#[test]
+fn a_search_without_a_drafter(rt: HostRuntime) -> Result<(), Fail> {
+    let alloc = rt.alloc();
+    let graph = three_pairs(alloc)?;
+    assert!(rt; finds_plainly(alloc, &graph, 64, 110));
+    Ok(())
 }
 
 #[test]

@@ -116,6 +116,18 @@ impl Book {
         Ok(())
     }
 
+    /// The same, with room for so many seals beside: these then move no list to make room.
+    pub fn reserve_with_seals(&mut self, n: u64, seals: u64) -> Result<(), OutOfMemory>
+        ensures room { OnOk result (n ≤ self.new.spare) }
+        ensures same { IsSameBook self.old self.new }
+        ensures kept { self.old.spare ≤ self.new.spare }
+    {
+        let additional = n.saturating_add(seals) as usize;
+        self.entries.reserve(additional)?;
+        self.register.reserve(additional)?;
+        self.reserve(n)
+    }
+
     /// Room for one command: a seal leaves as much as there was.
     fn make_room(&mut self, command: &Command) -> Result<(), OutOfMemory>
         ensures room { OnOk result (0 < self.new.spare) }

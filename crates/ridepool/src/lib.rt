@@ -18,6 +18,7 @@ mod text;
 mod writing;
 
 pub use line_notifier::LineNotifier;
+pub use pool_base::Which;
 pub use run::ridepool;
 pub use status::RunStatus;
 pub use text::fault_text;

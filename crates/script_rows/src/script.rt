@@ -19,7 +19,8 @@ impl Model for Script {
 }
 
 impl Script {
-    pub(crate) fn of(rounds: Vec<Round>) -> Script
+    /// A script of these rounds.
+    pub fn of(rounds: Vec<Round>) -> Script
         ensures { result ≡ rounds.items }
     {
         Script { rounds }

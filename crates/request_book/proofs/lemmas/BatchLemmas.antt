@@ -324,6 +324,31 @@ module _ (wait now : ℕ) (s : State) (kept : IsConsistent s) where
       waiting k None e found x = let none = look_up-keys (λ (y : Rider). y.id) k batch-list ∙ ap (option_map (λ (y : Rider). y.id)) e in absurd cc
       waiting k (Some y) e found x = let at = batch-found k y e in ap (option_and_then (seat_in x)) at.1 ∙ pool-seatless at.0 x at.2.active
 
+  -- whose wait is over was in the pool, and so is aboard of no vehicle
+  over-seatless : (k : ℕ) → look_up (λ n. n) k expired-list ≡ Some k → (x : ℕ) → option_and_then (seat_in x) (find_rider k s.riders) ≡ None
+  over-seatless k listed x =
+      by (find_rider k s.riders) (sym (
+      expired-order.found k
+      ∙ look_up-filter_map (λ (r : BookRider). r.id) (λ n. n) (over_id wait now) (λ r n e. (over-is wait now r n e).0) k s.riders kept.riders_differ
+      ) ∙ listed)
+    where
+      by : (o : Option BookRider) → option_and_then (over_id wait now) o ≡ Some k → option_and_then (seat_in x) o ≡ None
+      by None e = absurd cc
+      by (Some r) e = pool-seatless r x (over-is wait now r k e).1
+
+  batch-aboard_apart : All (λ id. ¬ (Contains expired-list id)) (riders_aboard s.vehicles)
+  batch-aboard_apart =
+      let vehicles = KeysDiffer-from_rise (λ (v : Vehicle). v.id) s.vehicles kept.vehicles_rise in
+      All-from_look_up (λ n. n) (λ id. ¬ (Contains expired-list id)) (riders_aboard s.vehicles)
+      (aboard-differ s.riders s.vehicles vehicles batch-seated (λ x v found. All-look_up (λ (v : Vehicle). v.id) (λ (u : Vehicle). KeysDiffer (λ p. p.rider) u.aboard.items) x s.vehicles v kept.passengers found))
+      (λ k id found in'.
+      let own : id ≡ k = look_up-key (λ n. n) k (riders_aboard s.vehicles) id found in
+      let at = look_up-at (λ n. n) in'.0 expired-list id (KeysDiffer-from_rise (λ n. n) expired-list expired-order.rise) in'.1 in
+      let some : look_up (λ n. n) id expired-list ≡ Some id = subst (λ j. look_up (λ n. n) j expired-list ≡ Some j) in'.2 at in
+      let none : look_up (λ n. n) id (riders_aboard s.vehicles) ≡ None = nobody s.riders id s.vehicles vehicles batch-seated (λ x v at. over-seatless id some x) in
+      let listed : look_up (λ n. n) id (riders_aboard s.vehicles) ≡ Some id = subst (λ j. look_up (λ n. n) j (riders_aboard s.vehicles) ≡ Some id) (sym own) found in
+      absurd cc)
+
   pub batch-kept : IsKept (batch_of wait s now)
   unfolding batch_of
   batch-kept = record {
@@ -336,6 +361,7 @@ module _ (wait now : ℕ) (s : State) (kept : IsConsistent s) where
     asked = batch-each (λ (y : Rider). y.time ≤ now) (λ k r y found is. is.asked);
     once = batch-once;
     apart = batch-apart;
+    aboard_apart = batch-aboard_apart;
   }
 
 -- what a seal makes of the riders and the pool

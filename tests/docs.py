@@ -1,0 +1,240 @@
+#!/usr/bin/env python3
+"""Holds the documents to the program and to each other.
+
+    tests/docs.py PROGRAM            runs the commands of README.md and docs/guide, and looks at all documents
+    tests/docs.py PROGRAM --write    also writes what each command printed into its document
+
+A block ```console has lines `$ COMMAND`, each followed by what it prints on standard output and error; a line `..` there
+stands for any lines. A block ```sh has commands that print nothing to be shown. All run from the top of the repository,
+in a copy of what they need, document by document; ./ridepool is PROGRAM there. A comment `<!-- needs A B -->` before a
+block says which programs or modules of Python it needs. The last line is `N passed, M failed`.
+"""
+
+import os
+import re
+import shutil
+import subprocess
+import sys
+import tempfile
+import textwrap
+from concurrent.futures import ThreadPoolExecutor
+from pathlib import Path
+
+from run import difference
+
+TOP = Path(__file__).resolve().parent.parent
+NOT_RUN = {"./check", "./check quick"}  # they run this test
+COPIED = ["examples", "tools", "share", "install", "LICENSE-MIT", "LICENSE-APACHE", "CHANGELOG.md"]
+MOST_WORDS, MOST_IN_SENTENCE = 900, 30
+BLOCK = re.compile(r"(?:<!-- needs (?P<needs>[^\n]*) -->\n+)?^```(?P<kind>console|sh)\n(?P<body>.*?)^```$", re.M | re.S)
+QUOTED = re.compile(r"<!-- (contract|code) of (\S+) (\w+) -->\n+```rust\n(.*?)^```$", re.M | re.S)
+LINK = re.compile(r"\]\((?!https?:)([^)#\s]*)(?:#([^)\s]*))?\)")
+
+
+def documents():
+    """All documents of the repository."""
+    named = subprocess.run(["git", "ls-files", "-co", "--exclude-standard", "*.md"], cwd=TOP, capture_output=True, text=True)
+    return sorted(TOP / name for name in named.stdout.split())
+
+
+def guides():
+    return [TOP / "README.md", *sorted((TOP / "docs" / "guide").glob("*.md"))]
+
+
+def without_code(text):
+    return re.sub(r"^```.*?^```$", "", text, flags=re.M | re.S)
+
+
+def missing(needs):
+    """Those of the programs and modules of Debian's Python that aren't here."""
+
+    def is_here(name):
+        python = ["/usr/bin/python3", "-c", f"import {name}"]
+        return shutil.which(name) or (name.isidentifier() and subprocess.run(python, capture_output=True).returncode == 0)
+
+    return [name for name in needs if not is_here(name)]
+
+
+def scratch(folder, program):
+    """What the commands need of the repository, with the program in the place of ./ridepool."""
+    for name in COPIED:
+        path = TOP / name
+        (shutil.copytree if path.is_dir() else shutil.copy)(path, folder / name)
+    (folder / "ridepool").write_text(f'#!/bin/sh\nexec "{program}" "$@"\n')
+    (folder / "release").mkdir()
+    (folder / "release" / "find").write_text(f'#!/bin/sh\necho "{folder}/program/ridepool_program"\n')
+    for name in ("ridepool", "release/find"):
+        (folder / name).chmod(0o755)
+    (folder / "program").mkdir()
+    shutil.copy(program, folder / "program" / "ridepool_program")
+    (folder / "program" / "MADE_OF").write_text("sources 0\n")
+    (folder / "home").mkdir()
+
+
+def run(command, folder):
+    """What a command prints there."""
+    environment = {**os.environ, "HOME": str(folder / "home"), "SUMO_HOME": os.environ.get("SUMO_HOME", "/usr/share/sumo")}
+    environment["PATH"] = f"{folder}/home/.local/bin:{environment['PATH']}"
+    bash = ["bash", "-c", command]
+    ran = subprocess.run(bash, cwd=folder, env=environment, stdout=subprocess.PIPE, stderr=subprocess.STDOUT, timeout=300)
+    return ran.stdout.decode(errors="replace").replace(f"{folder}/home", "/home/you")
+
+
+def fits(wanted, got):
+    """Whether the lines are those that stand there, where `..` stands for any."""
+    pattern = "".join(r"(?:.*\n)*" if line == ".." else re.escape(line) + r"\n" for line in wanted.splitlines())
+    return re.fullmatch(pattern, got) is not None
+
+
+def commands_of(kind, body):
+    """The commands of a block, each with what it should print. A command goes on behind a backslash at a line's end."""
+    if kind == "sh":
+        return [(line, None) for line in body.replace("\\\n", " ").splitlines() if line and not line.startswith("#")]
+    found = re.findall(r"^\$ ((?:.*\\\n)*.*)\n((?:(?!\$ ).*\n)*)", body, re.M)
+    return [(command, printed) for command, printed in found]
+
+
+def try_guide(path, program, is_written):
+    """Runs a document's commands: what is wrong, the number of commands that ran, and the text with what they printed."""
+    wrong, count, text = [], 0, path.read_text()
+    with tempfile.TemporaryDirectory() as folder:
+        folder = Path(folder).resolve()
+        scratch(folder, program)
+
+        def tried(block):
+            nonlocal count
+            absent = missing((block["needs"] or "").split())
+            if absent:
+                print(f"{path.relative_to(TOP)}: a block wasn't run, since {', '.join(absent)} isn't here")
+                return block[0]
+            lines = []
+            for command, wanted in commands_of(block["kind"], block["body"]):
+                if command.strip() in NOT_RUN:
+                    continue
+                count += 1
+                got = run(command, folder)
+                is_cut = wanted is not None and ".." in wanted.splitlines()
+                if wanted is not None and not fits(wanted, got):
+                    wrong.extend([f"{path.relative_to(TOP)}: {command}", *difference("what", wanted, got)])
+                if wanted is None and re.search(r"^(bash|Traceback|.*: fault|.*: not found)", got, re.M):
+                    wrong.extend([f"{path.relative_to(TOP)}: {command}", got])
+                lines.append(f"$ {command}\n{wanted if is_cut and fits(wanted, got) else got}")
+            if block["kind"] == "sh":
+                return block[0]
+            head = block[0][: block.start("body") - block.start()]
+            return head + "".join(lines) + "```"
+
+        text = BLOCK.sub(tried, text)
+    if is_written:
+        path.write_text(text)
+        wrong = []
+    return wrong, count
+
+
+def function(path, name, is_contract):
+    """The text of a function of a file: its head with its clauses, or all of it with the lines above that are its own."""
+    rows = path.read_text().splitlines()
+    first = next((at for at, row in enumerate(rows) if re.match(rf"\s*(pub(\(\w+\))? )?(const )?fn {name}\b", row)), None)
+    if first is None:
+        return f"{path.relative_to(TOP)} has no function {name}\n"
+    indent = re.match(r"\s*", rows[first])[0]
+    last = next(at for at, row in enumerate(rows) if at > first and row == indent + ("{" if is_contract else "}")) + (not is_contract)
+    while not is_contract and rows[first - 1].strip().startswith(("///", "#[")):
+        first -= 1
+    return textwrap.dedent("\n".join(rows[first:last])) + "\n"
+
+
+def look_at_quotes(path, is_written):
+    """Code that a document quotes stands in the file that it names."""
+    wrong, text = [], path.read_text()
+
+    def looked(quote):
+        kind, place, name, code = quote.groups()
+        wanted = function(TOP / place, name, kind == "contract")
+        wrong.extend(difference(f"{path.relative_to(TOP)}: the {kind} of {name}", wanted, code))
+        return quote[0][: quote.start(4) - quote.start()] + wanted + "```"
+
+    text = QUOTED.sub(looked, text)
+    if is_written and wrong:
+        path.write_text(text)
+        return []
+    return wrong
+
+
+def anchors(path):
+    """The anchors of a document's headings, as GitHub makes them."""
+    heads = re.findall(r"^#+ (.*)$", without_code(path.read_text()), re.M)
+    plain = (re.sub(r"\[([^\]]*)\]\([^)]*\)", r"\1", head).lower() for head in heads)
+    return {re.sub(r"[^\w\- ]", "", head).replace(" ", "-") for head in plain}
+
+
+def broken_links(path):
+    wrong = []
+    for name, anchor in LINK.findall(without_code(path.read_text())):
+        place = path.parent / name if name else path
+        if not place.exists():
+            wrong.append(f"{path.relative_to(TOP)}: the link {name} leads nowhere")
+        elif anchor and place.suffix == ".md" and anchor not in anchors(place):
+            wrong.append(f"{path.relative_to(TOP)}: {name} has no heading #{anchor}")
+    return wrong
+
+
+def sentences(text):
+    """The sentences of a document: of its paragraphs, list items and cells of tables."""
+    text = re.sub(r"!?\[([^\]]*)\]\([^)]*\)", r"\1", without_code(text))
+    parts = re.split(r"\n\n|\n(?=[-|#]|\d+\. )|\|", text)
+    return [it for part in parts for it in re.split(r"(?<=[.!?])\s+", part.replace("\n", " ").strip()) if it]
+
+
+def long_sentences(path):
+    text = path.read_text()
+    wrong = [f"{path.name}: {len(it.split())} words: {it}" for it in sentences(text) if len(it.split()) > MOST_IN_SENTENCE]
+    words = len(without_code(text).split())
+    return wrong + [f"{path.name} has {words} words, and may have {MOST_WORDS}"] * (words > MOST_WORDS)
+
+
+def crate_orders():
+    """The crates of crates.txt, ARCHITECTURE.md and the table of what is proved: each has all, and the last two one order."""
+    names = re.findall(r"^(\w+)[^:\n]*:", (TOP / "crates.txt").read_text(), re.M)
+    tables = [TOP / "docs" / "contributing" / "ARCHITECTURE.md", TOP / "docs" / "proof" / "README.md"]
+    listed = []
+    for path, title in zip(tables, ("Storeys", "Crate by crate")):
+        text = re.search(rf"^## {title}\n(.*?)(?=^## |\Z)", path.read_text(), re.M | re.S)[1]
+        rows = [row for row in text.splitlines() if row.startswith("|")]
+        found = [name for row in rows for cell in row.split("|")[1:3] for name in re.findall(r"^ *`(\w+)`|(?<=, )`(\w+)`", cell)]
+        listed.append([a or b for a, b in found if (a or b) in names])
+    wrong = []
+    for path, found in zip(tables, listed):
+        absent, twice = [it for it in names if it not in found], {it for it in found if found.count(it) > 1}
+        wrong += [f"{path.name} lacks the crates {' '.join(absent)}"] * bool(absent)
+        wrong += [f"{path.name} has the crates {' '.join(twice)} twice"] * bool(twice)
+    if not wrong and listed[0] != listed[1]:
+        wrong.append("ARCHITECTURE.md and docs/proof/README.md list the crates in different orders")
+    return wrong
+
+
+def stale_pages(program):
+    ran = subprocess.run([TOP / "tools" / "pages.py", program], capture_output=True, text=True)
+    return (ran.stdout + ran.stderr).splitlines()
+
+
+def main():
+    if len(sys.argv) < 2 or sys.argv[2:] not in ([], ["--write"]):
+        sys.exit(__doc__)
+    program, is_written = os.path.abspath(sys.argv[1]), bool(sys.argv[2:])
+    with ThreadPoolExecutor() as pool:
+        tried = list(pool.map(lambda path: try_guide(path, program, is_written), guides()))
+    passed, wrong = sum(count for _, count in tried), [it for it, _ in tried if it]
+    if not passed:
+        wrong.append(["no document has a command"])
+    looks = [look_at_quotes(path, is_written) for path in documents() if QUOTED.search(path.read_text())]
+    looks += [broken_links(path) for path in documents()]
+    looks += [long_sentences(TOP / "README.md"), crate_orders(), stale_pages(program)]
+    wrong += [it for it in looks if it]
+    print("\n".join(line for it in wrong for line in it))
+    print(f"{passed + len(looks) - len(wrong)} passed, {len(wrong)} failed")
+    return bool(wrong)
+
+
+if __name__ == "__main__":
+    sys.exit(main())
