@@ -18,7 +18,7 @@ drive() { # SEED SIDE VEHICLES RIDERS BATCHES KEY=VALUE ..
     # shellcheck disable=SC2046
     /usr/bin/time -f '%U user seconds, %e s, %M kB' "$program" $(cat words) >report || exit 1
     python3 "$here/../tests/walked.py" . report || exit 1
-    python3 "$here/driven_script.py" report >driven.csv
+    "$here/../tools/script_of.py" report lanes=1 >driven.csv
     # shellcheck disable=SC2046
     /usr/bin/time -f 'its driven script: %U user seconds, %e s, %M kB' "$program" run $(sed '1d; s/script.csv/driven.csv/' words) >run || exit 1
     diff <(in_one_lane report) run >/dev/null && echo "the same report" || exit 1

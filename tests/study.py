@@ -1,12 +1,13 @@
 #!/usr/bin/env python3
 """Tests of studies. Use: study.py PROGRAM. Status 0 where all pass; the last line is `N passed, M failed`.
 
-Where no Python here has the packages that studies stand on, it says so in a line and passes.
+Where no Python here has the packages that studies stand on, it says that they were skipped.
 """
 
 import contextlib
 import csv
 import heapq
+import json
 import math
 import os
 import pathlib
@@ -111,8 +112,6 @@ def two_workers(folder):
         until(address.exists, "the scheduler")
         worker = ("--no-nanny", "--nthreads", "1", "--no-dashboard", "--local-directory", folder)
         workers = [begin("worker", *worker) for _ in range(2)]
-        import json
-
         yield json.loads(address.read_text())["address"], workers
     finally:
         for process in begun:
@@ -255,7 +254,7 @@ def test_grid_with_a_worker_killed(folder):
     for at, row in enumerate(rows):
         plain = Plain(folder / f"plain-{at}", row, int(row["demand"])).result()
         assert {key: row[key] for key in plain} == plain, (row, plain)
-        assert 1 <= int(row["megabytes"]) <= 50 and len(row["program"]) == 64, row
+        assert row["megabytes"] in ("", *map(str, range(1, 51))) and len(row["program"]) == 64, row
     assert 0 < sum(float(row["seconds"]) for row in rows) < 60, rows
     works("draw", folder / "out" / "cells.csv", "study", "demand=100", folder / "study.svg")
     svg = Svg(folder / "study.svg")
@@ -275,15 +274,16 @@ def test_cells_that_fail(folder):
     report.write_text("ridepool report 1\nsettings wait=120 delay=180\nnetwork nodes=5 arcs=8\nfleet vehicles=1\ndone 0\n")
     playing = script_for(folder, "playing", PLAYING.format(report=report))
     text = CITY + "[[grid]]\ntrip = [1, 2, 3]\n"
-    out, rows = studied(folder, f"program={playing}", "limit=3", status=1, text=text)
-    assert [row["state"] for row in rows] == ["status 9: ridepool: out of memory", "stopped after 3 seconds", "done"]
+    out, rows = studied(folder, f"program={playing}", "limit=15", status=1, text=text)
+    states = [row["state"] for row in rows]
+    assert states == ["status 9: ridepool: out of memory", "stopped after 15 seconds", "done"], states
     assert "trip=1: status 9: ridepool: out of memory\n" in out and "3 driven now, 2 cells amiss" in out, out
-    for limit, driven in ((3, 1), (2, 1), (4, 2)):
+    for limit, driven in ((14, 1), (16, 2)):
         out, rows = studied(folder, f"program={playing}", f"limit={limit}", status=1, text=text)
         assert f"{driven} driven now, 2 cells amiss" in out, out
-    assert [row["state"] for row in rows][1] == "stopped after 4 seconds", rows
+    assert [row["state"] for row in rows][1] == "stopped after 16 seconds", rows
     playing.write_text(playing.read_text() + "# another program\n")
-    out, rows = studied(folder, f"program={playing}", "limit=3", status=1, text=text)
+    out, rows = studied(folder, f"program={playing}", "limit=15", status=1, text=text)
     assert "3 driven now" in out, out
 
 
@@ -325,8 +325,6 @@ def test_zones_add_up(folder):
     _, (one, three) = studied(folder, f"program={program()}", text=text)
     assert (one["requests"], three["requests"], three["batches"]) == ("80", "80", "30"), (one, three)
     assert int(one["batches"]) == 10 and 0 < int(three["served"]) <= 80
-    import json
-
     days = [json.loads(file.read_text()) for file in (folder / "out" / "kept").iterdir()]
     zones = [day for day in days if day["requests"] < 80]
     assert len(zones) == 3 and sum(day["requests"] for day in zones) == 80

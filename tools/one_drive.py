@@ -67,7 +67,7 @@ def waited(process, limit):
     was ended.
 
     What the system counts as a process's peak is at least that of this Python, which it began as; where it is no more
-    than that, the peak is what was last seen.
+    than that, the peak is what was last seen, or None where the process was too short to be seen.
     """
     begun, peak, stopped, pid = time.monotonic(), 0, False, 0
     while not pid:
@@ -80,7 +80,7 @@ def waited(process, limit):
     process.returncode = os.waitstatus_to_exitcode(status)
     if usage.ru_maxrss > resource.getrusage(resource.RUSAGE_SELF).ru_maxrss:
         peak = usage.ru_maxrss
-    return usage.ru_utime + usage.ru_stime, peak / 1024, stopped
+    return usage.ru_utime + usage.ru_stime, peak / 1024 or None, stopped
 
 
 def drive(program, network, task):

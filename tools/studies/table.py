@@ -27,6 +27,7 @@ def results_of(days):
         return sum(day[name] for day in days)
 
     waits, delays = ([value for day in days for value in day[name]] for name in ("waits", "delays"))
+    memory = [day["memory"] for day in days if day["memory"] is not None]
     requests, served, vehicle_seconds = total("requests"), len(waits), total("vehicle_seconds")
     return (
         requests, served, f"{served / requests:.4f}" if requests else "",
@@ -34,7 +35,7 @@ def results_of(days):
         total("shared"), f"{total('aboard_seconds') / vehicle_seconds:.4f}" if vehicle_seconds else "",
         total("empty_seconds"), total("driven_seconds"),
         total("batches"), total("overflows"), total("open"), f"{max(day['gap'] for day in days):.4f}",
-        f"{total('seconds'):.2f}", f"{max(day['memory'] for day in days):.0f}")
+        f"{total('seconds'):.2f}", f"{max(memory):.0f}" if memory else "")
 
 
 def row_of(cell, days, program):
