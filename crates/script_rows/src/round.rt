@@ -88,11 +88,12 @@ impl Round {
         Ok(Round { number, lanes })
     }
 
-    /// Puts a command at the end of a lane. It fails only for want of memory.
+    /// Puts a command at the end of a lane. It fails only for want of memory, and has then changed nothing.
     pub fn add(&mut self, lane: u8, command: Command) -> Result<(), ScriptFault>
         requires lane { lane < 16 }
         requires stands { MayStand lane command }
         ensures added { OnOk result (self.new ≡ with_command self.old lane command) }
+        ensures unchanged { OnErr result (self.new ≡ self.old) }
         ensures refused { IfErr result (λ fault. fault ≡ ScriptFault.OutOfMemory) }
     {
         self.lanes[lane as usize].push(command)

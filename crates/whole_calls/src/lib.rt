@@ -2,4 +2,10 @@
 #![tactic(auto)]
 
 #[cfg(test)]
+mod calls;
+#[cfg(test)]
+mod gating;
+#[cfg(test)]
+mod telling;
+#[cfg(test)]
 mod tests;
