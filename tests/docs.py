@@ -1,8 +1,10 @@
 #!/usr/bin/env python3
 """Holds the documents to the program and to each other.
 
-    tests/docs.py PROGRAM            runs the commands of README.md and docs/guide, and looks at all documents
-    tests/docs.py PROGRAM --write    also writes what each command printed into its document
+    tests/docs.py PROGRAM [--write] [DOCUMENT ..]
+
+runs the commands of README.md and docs/guide, or of these documents, and looks at all documents. With --write it also writes
+what each command printed, and the code that is quoted, into its document.
 
 A block ```console has lines `$ COMMAND`, each followed by what it prints on standard output and error; a line `..` there
 stands for any lines. A block ```sh has commands that print nothing to be shown. All run from the top of the repository,
@@ -72,12 +74,12 @@ def scratch(folder, program):
 
 
 def run(command, folder):
-    """What a command prints there."""
+    """What a command prints there, and its status."""
     environment = {**os.environ, "HOME": str(folder / "home"), "SUMO_HOME": os.environ.get("SUMO_HOME", "/usr/share/sumo")}
     environment["PATH"] = f"{folder}/home/.local/bin:{environment['PATH']}"
     bash = ["bash", "-c", command]
     ran = subprocess.run(bash, cwd=folder, env=environment, stdout=subprocess.PIPE, stderr=subprocess.STDOUT, timeout=300)
-    return ran.stdout.decode(errors="replace").replace(f"{folder}/home", "/home/you")
+    return ran.stdout.decode(errors="replace").replace(f"{folder}/home", "/home/you"), ran.returncode
 
 
 def fits(wanted, got):
@@ -105,19 +107,19 @@ def try_guide(path, program, is_written):
             nonlocal count
             absent = missing((block["needs"] or "").split())
             if absent:
-                print(f"{path.relative_to(TOP)}: a block wasn't run, since {', '.join(absent)} isn't here")
+                print(f"skipped: a block of {path.relative_to(TOP)}, since {', '.join(absent)} isn't here")
                 return block[0]
             lines = []
             for command, wanted in commands_of(block["kind"], block["body"]):
                 if command.strip() in NOT_RUN:
                     continue
                 count += 1
-                got = run(command, folder)
+                got, status = run(command, folder)
                 is_cut = wanted is not None and ".." in wanted.splitlines()
                 if wanted is not None and not fits(wanted, got):
                     wrong.extend([f"{path.relative_to(TOP)}: {command}", *difference("what", wanted, got)])
-                if wanted is None and re.search(r"^(bash|Traceback|.*: fault|.*: not found)", got, re.M):
-                    wrong.extend([f"{path.relative_to(TOP)}: {command}", got])
+                if wanted is None and status:
+                    wrong.extend([f"{path.relative_to(TOP)}: {command}: status {status}", got])
                 lines.append(f"$ {command}\n{wanted if is_cut and fits(wanted, got) else got}")
             if block["kind"] == "sh":
                 return block[0]
@@ -138,7 +140,8 @@ def function(path, name, is_contract):
     if first is None:
         return f"{path.relative_to(TOP)} has no function {name}\n"
     indent = re.match(r"\s*", rows[first])[0]
-    last = next(at for at, row in enumerate(rows) if at > first and row == indent + ("{" if is_contract else "}")) + (not is_contract)
+    ends = (indent + "{", indent + "{}") if is_contract else (indent + "}", indent + "{}")
+    last = next((at for at, row in enumerate(rows) if at > first and row in ends), len(rows)) + (not is_contract)
     while not is_contract and rows[first - 1].strip().startswith(("///", "#[")):
         first -= 1
     return textwrap.dedent("\n".join(rows[first:last])) + "\n"
@@ -219,11 +222,12 @@ def stale_pages(program):
 
 
 def main():
-    if len(sys.argv) < 2 or sys.argv[2:] not in ([], ["--write"]):
+    if len(sys.argv) < 2:
         sys.exit(__doc__)
-    program, is_written = os.path.abspath(sys.argv[1]), bool(sys.argv[2:])
+    program, is_written = os.path.abspath(sys.argv[1]), "--write" in sys.argv
+    named = [Path(name).resolve() for name in sys.argv[2:] if name != "--write"]
     with ThreadPoolExecutor() as pool:
-        tried = list(pool.map(lambda path: try_guide(path, program, is_written), guides()))
+        tried = list(pool.map(lambda path: try_guide(path, program, is_written), named or guides()))
     passed, wrong = sum(count for _, count in tried), [it for it, _ in tried if it]
     if not passed:
         wrong.append(["no document has a command"])

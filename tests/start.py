@@ -170,7 +170,7 @@ def installed(copy):
 def manual(copy):
     """The manual page has no line that the formatter warns of."""
     if not shutil.which("man"):
-        print("no man here, so the manual page wasn't tried")
+        print("skipped: the manual page, since man isn't here")
         return
     page = copy.top / "share" / "man" / "man1" / "ridepool.1"
     ran = subprocess.run(["man", "--warnings", "-E", "UTF-8", "-l", "-Tutf8", page], capture_output=True, text=True)

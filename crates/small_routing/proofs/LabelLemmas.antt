@@ -56,6 +56,12 @@ module _ (points : ℕ) (tau : ℕ → ℕ → ℕ) (t : IsTravelTime points tau
   room_most (Drop i) h room = omega (arith, (valid.riders i no_leg h).party)
   room_most (Alight j) h room = omega (arith, (valid.passengers j no_leg h).party)
 
+  -- a stop is reached at a small second
+  pub second_most : (label : Label) (s : Stop) (second : ℕ) → label.free ≤ 30000000000 → CanVisit tau task label s → second ≡ second_at tau task label s → second ≤ 40000000000
+  second_most label s second small can is =
+      let hop : tau label.place (place_of (visit_at task s)) ≤ longest = t.range label.place (place_of (visit_at task s)) can.0 in
+      omega (arith, is, hop, small)
+
   -- the numbers stay small
   pub small_next : (label : Label) (s : Stop) (left less : ℕ) → IsSmallLabel points left label → less + 1 ≤ left → IsNextStop (task_riders task) (task_passengers task) label.done s → CanVisit tau task label s
       → IsSmallLabel points less (next_label tau task label s)

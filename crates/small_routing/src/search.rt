@@ -8,7 +8,7 @@ ghost use Rattle.small_routing.specs.work.Kept.{labels_of};
 ghost use Rattle.small_routing.specs.work.Search.{LeadsTo, IsExhausted, IsLabelDone, Searched};
 
 use crate::ahead::look_ahead;
-use crate::candidate::candidates_after;
+use crate::candidate::list_candidates;
 use crate::kept::Kept;
 use crate::label::{Label, label_after};
 use arrayvec::ArrayVec;
@@ -43,12 +43,11 @@ pub(crate) fn try_all(
         }
         return Ok(());
     }
-    let candidates = candidates_after(task, times, label);
+    let mut candidates = ArrayVec::new();
+    list_candidates(task, times, label, &mut candidates);
     for candidate in candidates.as_slice() {
         let stop = candidate.stop;
-        let Some(next) = label_after(task, times, label, stop) else {
-            continue;
-        };
+        let next = label_after(task, label, stop, candidate.second);
         if is_hopeless(task, times, &next, best, kept) {
             continue;
         }

@@ -47,15 +47,19 @@ CanVisit tau task label stop =
     (tau label.place (place_of (visit_at task stop)) < never) × (second_at tau task label stop ≤ latest_of (visit_at task stop))
     × (boarding_of (visit_at task stop) ≤ label.room)
 
--- the label after one more stop
-abbrev pub next_label : (ℕ → ℕ → ℕ) → Task → Label → Stop → Label
-next_label tau task label stop = record {
+-- the label after one more stop, at a second
+abbrev pub label_at : Task → Label → Stop → ℕ → Label
+label_at task label stop second = record {
   done = with_stop label.done stop;
   place = place_of (visit_at task stop);
-  free = second_at tau task label stop + task.dwell;
+  free = second + task.dwell;
   room = room_after (visit_at task stop) label.room;
-  delay = label.delay + lateness (visit_at task stop) (second_at tau task label stop);
+  delay = label.delay + lateness (visit_at task stop) second;
 }
+
+-- the label after one more stop
+abbrev pub next_label : (ℕ → ℕ → ℕ) → Task → Label → Stop → Label
+next_label tau task label stop = label_at task label stop (second_at tau task label stop)
 
 -- these stops complete what is done, and serve from the label
 pub record GoesOn (tau : ℕ → ℕ → ℕ) (task : Task) (label : Label) (rest : List Stop) : Type 0 where

@@ -10,7 +10,7 @@ use Rattle.stop_orders.specs.Done.{IsNextStop}
 use Rattle.stop_orders.specs.lemmas.Plain.{IsFound, NoneBetter, StaysGood, MakesOrders}
 use Rattle.small_routing.specs.declared.label.Label.{Label}
 use Rattle.small_routing.specs.declared.candidate.Candidate.{Candidate}
-use Rattle.small_routing.specs.work.Label.{task_riders, task_passengers, CanVisit, GoesOn, rest_delay}
+use Rattle.small_routing.specs.work.Label.{task_riders, task_passengers, CanVisit, GoesOn, rest_delay, second_at}
 use Rattle.small_routing.specs.work.Kept.{IsLabelPlaced}
 
 -- these stops lead to the label: whatever goes on from it goes on from them
@@ -33,10 +33,11 @@ pub record IsLabelDone (points : ℕ) (tau : ℕ → ℕ → ℕ) (task : Task) 
   pub placed : IsLabelPlaced points label
   pub exhausted : IsExhausted tau task best label
 
--- a stop that may come next and can be served
+-- a stop that may come next and can be served, at the second at which it is reached
 pub record IsCandidate (tau : ℕ → ℕ → ℕ) (task : Task) (label : Label) (candidate : Candidate) : Type 0 where
   pub next : IsNextStop (task_riders task) (task_passengers task) label.done candidate.stop
   pub can : CanVisit tau task label candidate.stop
+  pub second : candidate.second ≡ second_at tau task label candidate.stop
 
 -- the candidates are all stops that may come next and can be served, of so many riders and passengers
 pub record AreCandidates (tau : ℕ → ℕ → ℕ) (task : Task) (label : Label) (riders passengers : ℕ) (candidates : List Candidate) : Type 0 where

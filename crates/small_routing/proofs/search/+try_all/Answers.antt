@@ -10,16 +10,16 @@ use Rattle.stop_orders.specs.lemmas.Rest.{left_count}
 use Rattle.stop_orders.proofs.lemmas.DoneLemmas.{left_count-falls}
 use Rattle.stop_orders.proofs.lemmas.PlainLemmas.{IsAllDone-at, IsAllDone-not_at, path_back}
 use Rattle.small_routing.specs.declared.candidate.Candidate.{Candidate}
-use Rattle.small_routing.specs.work.Label.{task_riders, task_passengers, IsSmallLabel}
+use Rattle.small_routing.specs.work.Label.{task_riders, task_passengers, next_label, label_at, IsSmallLabel}
 use Rattle.small_routing.specs.work.Kept.{labels_of, IsLabelPlaced}
 use Rattle.small_routing.specs.work.Search.{LeadsTo, IsCandidate, IsTried, IsLabelDone, Searched}
-use Rattle.small_routing.proofs.LabelLemmas.{known_next, small_next, leads_next}
+use Rattle.small_routing.proofs.LabelLemmas.{known_next, second_most, small_next, leads_next}
 use Rattle.small_routing.proofs.SearchLemmas.{searched_better, searched_no_better, exhausted_tried, tried_searched, tries_more}
 use Rattle.small_routing.proofs.search.+try_all.Goals as goal
 
 -- what is read where there is no such candidate
 abbrev no_candidate : Candidate
-no_candidate = record { stop = Pick 0; free = 0 }
+no_candidate = record { stop = Pick 0; second = 0 }
 
 read_again : (items : List Candidate) (i : ℕ) → i < length items → get_or items i no_candidate ≡ get_or items i (get_or items i no_candidate)
 read_again items i h = get_or_default items i no_candidate (get_or items i no_candidate) h
@@ -41,21 +41,30 @@ returns-then-is_better-clause-searched t c =
     searched_better (point_count c.args.times.now) (travel_time c.args.times.now) c.args.times.now.table.times task c.requires.valid c.args.path.now.items c.args.path.now.items label c.args.best.now
     (record { stops = c.copy_of_stops.result; delay = label.delay }) (labels_of c.args.kept.now) c.requires.leads all same refl (λ n. true≢false (sym c.if-is_better.true ∙ c.is_better.ensures.1 n)) c.requires.settled
 
-pub label_after-requires-clause-known : goal.label_after-requires-clause-known
-label_after-requires-clause-known t c =
+pub label_after-next-requires-clause-known : goal.label_after-next-requires-clause-known
+label_after-next-requires-clause-known t c =
     let task = c.args.task.now in
     let label = c.args.label.now in
-    let is = candidate_at (IsCandidate (travel_time c.args.times.now) task label) c.candidates_after-candidates.result.items c.as_slice-candidate-items.result.now c.loop-candidate.candidate-index (get_or c.as_slice-candidate-items.result.now c.loop-candidate.candidate-index no_candidate)
-    c.as_slice-candidate-items.ensures.value c.loop-candidate-test.true (read_again c.as_slice-candidate-items.result.now c.loop-candidate.candidate-index c.loop-candidate-test.true) c.candidates_after-candidates.ensures.each in
+    let is = candidate_at (IsCandidate (travel_time c.args.times.now) task label) c.list_candidates.new.candidates.items c.as_slice-candidate-items.result.now c.loop-candidate.candidate-index (get_or c.as_slice-candidate-items.result.now c.loop-candidate.candidate-index no_candidate)
+    c.as_slice-candidate-items.ensures.value c.loop-candidate-test.true (read_again c.as_slice-candidate-items.result.now c.loop-candidate.candidate-index c.loop-candidate-test.true) c.list_candidates.ensures.each in
     known_next (task_riders task) (task_passengers task) label.done (get_or c.as_slice-candidate-items.result.now c.loop-candidate.candidate-index no_candidate).stop is.next
 
-pub loop-candidate-preserved-in_default : goal.loop-candidate-preserved-in_default
-loop-candidate-preserved-in_default t c =
+pub label_after-next-requires-clause-second : goal.label_after-next-requires-clause-second
+label_after-next-requires-clause-second t c =
     let task = c.args.task.now in
     let label = c.args.label.now in
-    let is = candidate_at (IsCandidate (travel_time c.args.times.now) task label) c.candidates_after-candidates.result.items c.as_slice-candidate-items.result.now c.loop-candidate.candidate-index (get_or c.as_slice-candidate-items.result.now c.loop-candidate.candidate-index no_candidate)
-    c.as_slice-candidate-items.ensures.value c.loop-candidate-test.true (read_again c.as_slice-candidate-items.result.now c.loop-candidate.candidate-index c.loop-candidate-test.true) c.candidates_after-candidates.ensures.each in
-    absurd (c.in_default.ensures is.can)
+    let is = candidate_at (IsCandidate (travel_time c.args.times.now) task label) c.list_candidates.new.candidates.items c.as_slice-candidate-items.result.now c.loop-candidate.candidate-index (get_or c.as_slice-candidate-items.result.now c.loop-candidate.candidate-index no_candidate)
+    c.as_slice-candidate-items.ensures.value c.loop-candidate-test.true (read_again c.as_slice-candidate-items.result.now c.loop-candidate.candidate-index c.loop-candidate-test.true) c.list_candidates.ensures.each in
+    let s = (get_or c.as_slice-candidate-items.result.now c.loop-candidate.candidate-index no_candidate).stop in
+    second_most (point_count c.args.times.now) (travel_time c.args.times.now) c.args.times.now.table.times task c.requires.valid label s _ (omega (arith, c.requires.small.free)) is.can is.second
+
+pub label_after-next-requires-clause-seats : goal.label_after-next-requires-clause-seats
+label_after-next-requires-clause-seats t c =
+    let task = c.args.task.now in
+    let label = c.args.label.now in
+    let is = candidate_at (IsCandidate (travel_time c.args.times.now) task label) c.list_candidates.new.candidates.items c.as_slice-candidate-items.result.now c.loop-candidate.candidate-index (get_or c.as_slice-candidate-items.result.now c.loop-candidate.candidate-index no_candidate)
+    c.as_slice-candidate-items.ensures.value c.loop-candidate-test.true (read_again c.as_slice-candidate-items.result.now c.loop-candidate.candidate-index c.loop-candidate-test.true) c.list_candidates.ensures.each in
+    is.can.2
 
 pub is_hopeless-requires-clause-small : goal.is_hopeless-requires-clause-small
 is_hopeless-requires-clause-small t c =
@@ -64,10 +73,11 @@ is_hopeless-requires-clause-small t c =
     let tau = travel_time c.args.times.now in
     let points = point_count c.args.times.now in
     let s = (get_or c.as_slice-candidate-items.result.now c.loop-candidate.candidate-index no_candidate).stop in
-    let is = candidate_at (IsCandidate tau task label) c.candidates_after-candidates.result.items c.as_slice-candidate-items.result.now c.loop-candidate.candidate-index (get_or c.as_slice-candidate-items.result.now c.loop-candidate.candidate-index no_candidate)
-    c.as_slice-candidate-items.ensures.value c.loop-candidate-test.true (read_again c.as_slice-candidate-items.result.now c.loop-candidate.candidate-index c.loop-candidate-test.true) c.candidates_after-candidates.ensures.each in
+    let is = candidate_at (IsCandidate tau task label) c.list_candidates.new.candidates.items c.as_slice-candidate-items.result.now c.loop-candidate.candidate-index (get_or c.as_slice-candidate-items.result.now c.loop-candidate.candidate-index no_candidate)
+    c.as_slice-candidate-items.ensures.value c.loop-candidate-test.true (read_again c.as_slice-candidate-items.result.now c.loop-candidate.candidate-index c.loop-candidate-test.true) c.list_candidates.ensures.each in
+    let same : c.label_after-next.result ≡ next_label tau task label s = c.label_after-next.ensures ∙ ap (λ n. label_at task label s n) is.second in
     let fall = left_count-falls (task_riders task) (task_passengers task) label.done c.requires.valid.rider_count s is.next in
-    subst (λ l. IsSmallLabel points (left_count (task_riders task) (task_passengers task) l.done) l) (sym c.in-Some.ensures.1)
+    subst (λ l. IsSmallLabel points (left_count (task_riders task) (task_passengers task) l.done) l) (sym same)
     (small_next points tau c.args.times.now.table.times task c.requires.valid label s (left_count (task_riders task) (task_passengers task) label.done) (left_count (task_riders task) (task_passengers task) (with_stop label.done s)) c.requires.small fall is.next is.can)
 
 pub loop-candidate-preserved-then-is_hopeless : goal.loop-candidate-preserved-then-is_hopeless
@@ -81,19 +91,21 @@ loop-candidate-preserved-then-is_hopeless t c =
     let best = c.loop-candidate.best in
     let labels = labels_of c.loop-candidate.kept in
     let candidate = (get_or c.as_slice-candidate-items.result.now c.loop-candidate.candidate-index no_candidate) in
-    let is = candidate_at (IsCandidate tau task label) c.candidates_after-candidates.result.items c.as_slice-candidate-items.result.now c.loop-candidate.candidate-index candidate
-    c.as_slice-candidate-items.ensures.value c.loop-candidate-test.true (read_again c.as_slice-candidate-items.result.now c.loop-candidate.candidate-index c.loop-candidate-test.true) c.candidates_after-candidates.ensures.each in
-    let searched = searched_no_better points tau time task c.requires.valid c.in-Some.next best labels inv.found (c.is_hopeless.ensures c.if-is_hopeless.true) inv.settled in
-    let tried = tried_searched points tau time task c.requires.valid label c.in-Some.next candidate.stop best best labels c.in-Some.ensures.1 searched in
-    tries_more points tau task label c.in-Some.next c.args.path.now.items c.loop-candidate.path.items c.loop-candidate.path.items c.args.best.now best best labels labels
+    let is = candidate_at (IsCandidate tau task label) c.list_candidates.new.candidates.items c.as_slice-candidate-items.result.now c.loop-candidate.candidate-index candidate
+    c.as_slice-candidate-items.ensures.value c.loop-candidate-test.true (read_again c.as_slice-candidate-items.result.now c.loop-candidate.candidate-index c.loop-candidate-test.true) c.list_candidates.ensures.each in
+    let s = candidate.stop in
+    let same : c.label_after-next.result ≡ next_label tau task label s = c.label_after-next.ensures ∙ ap (λ n. label_at task label s n) is.second in
+    let searched = searched_no_better points tau time task c.requires.valid c.label_after-next.result best labels inv.found (c.is_hopeless.ensures c.if-is_hopeless.true) inv.settled in
+    let tried = tried_searched points tau time task c.requires.valid label c.label_after-next.result candidate.stop best best labels same searched in
+    tries_more points tau task label c.label_after-next.result c.args.path.now.items c.loop-candidate.path.items c.loop-candidate.path.items c.args.best.now best best labels labels
     c.as_slice-candidate-items.result.now c.loop-candidate.candidate-index candidate c.loop-candidate-test.true (read_again c.as_slice-candidate-items.result.now c.loop-candidate.candidate-index c.loop-candidate-test.true) inv.same searched tried inv
 
 pub push-requires : goal.push-requires
 push-requires t c =
     let task = c.args.task.now in
     let label = c.args.label.now in
-    let is = candidate_at (IsCandidate (travel_time c.args.times.now) task label) c.candidates_after-candidates.result.items c.as_slice-candidate-items.result.now c.loop-candidate.candidate-index (get_or c.as_slice-candidate-items.result.now c.loop-candidate.candidate-index no_candidate)
-    c.as_slice-candidate-items.ensures.value c.loop-candidate-test.true (read_again c.as_slice-candidate-items.result.now c.loop-candidate.candidate-index c.loop-candidate-test.true) c.candidates_after-candidates.ensures.each in
+    let is = candidate_at (IsCandidate (travel_time c.args.times.now) task label) c.list_candidates.new.candidates.items c.as_slice-candidate-items.result.now c.loop-candidate.candidate-index (get_or c.as_slice-candidate-items.result.now c.loop-candidate.candidate-index no_candidate)
+    c.as_slice-candidate-items.ensures.value c.loop-candidate-test.true (read_again c.as_slice-candidate-items.result.now c.loop-candidate.candidate-index c.loop-candidate-test.true) c.list_candidates.ensures.each in
     let fall = left_count-falls (task_riders task) (task_passengers task) label.done c.requires.valid.rider_count (get_or c.as_slice-candidate-items.result.now c.loop-candidate.candidate-index no_candidate).stop is.next in
     let same : length c.loop-candidate.path.items ≡ length c.args.path.now.items = ap length c.loop-candidate.invariant.same in
     let room : length c.loop-candidate.path.items < 22 = omega (arith, c.requires.room, fall, same) in
@@ -108,24 +120,25 @@ try_all-requires t c =
     let time = c.args.times.now.table.times in
     let candidate = (get_or c.as_slice-candidate-items.result.now c.loop-candidate.candidate-index no_candidate) in
     let s = candidate.stop in
-    let is = candidate_at (IsCandidate tau task label) c.candidates_after-candidates.result.items c.as_slice-candidate-items.result.now c.loop-candidate.candidate-index (get_or c.as_slice-candidate-items.result.now c.loop-candidate.candidate-index no_candidate)
-    c.as_slice-candidate-items.ensures.value c.loop-candidate-test.true (read_again c.as_slice-candidate-items.result.now c.loop-candidate.candidate-index c.loop-candidate-test.true) c.candidates_after-candidates.ensures.each in
+    let is = candidate_at (IsCandidate tau task label) c.list_candidates.new.candidates.items c.as_slice-candidate-items.result.now c.loop-candidate.candidate-index (get_or c.as_slice-candidate-items.result.now c.loop-candidate.candidate-index no_candidate)
+    c.as_slice-candidate-items.ensures.value c.loop-candidate-test.true (read_again c.as_slice-candidate-items.result.now c.loop-candidate.candidate-index c.loop-candidate-test.true) c.list_candidates.ensures.each in
+    let same : c.label_after-next.result ≡ next_label tau task label s = c.label_after-next.ensures ∙ ap (λ n. label_at task label s n) is.second in
     let fall = left_count-falls (task_riders task) (task_passengers task) label.done c.requires.valid.rider_count s is.next in
     let pushed : c.push.new.self.items ≡ c.args.path.now.items ++ s ∷ [] = c.push.ensures.items ∙ ap (λ xs. xs ++ s ∷ []) c.loop-candidate.invariant.same in
     let longer : length c.push.new.self.items ≡ length c.args.path.now.items + 1 = ap length pushed ∙ length-append c.args.path.now.items (s ∷ []) in
-    let left : left_count (task_riders task) (task_passengers task) c.in-Some.next.done + 1 ≤ left_count (task_riders task) (task_passengers task) label.done =
-    subst (λ l. left_count (task_riders task) (task_passengers task) l.done + 1 ≤ left_count (task_riders task) (task_passengers task) label.done) (sym c.in-Some.ensures.1) fall in
+    let left : left_count (task_riders task) (task_passengers task) c.label_after-next.result.done + 1 ≤ left_count (task_riders task) (task_passengers task) label.done =
+    subst (λ l. left_count (task_riders task) (task_passengers task) l.done + 1 ≤ left_count (task_riders task) (task_passengers task) label.done) (sym same) fall in
     let measure = c.decreases in
-    let less : left_count (task_riders task) (task_passengers task) c.in-Some.next.done < t = omega (arith, left, measure) in
+    let less : left_count (task_riders task) (task_passengers task) c.label_after-next.result.done < t = omega (arith, left, measure) in
     let leads = leads_next points tau time task c.requires.valid label c.args.path.now.items s c.requires.leads is.next is.can in
     let small = small_next points tau time task c.requires.valid label s (left_count (task_riders task) (task_passengers task) label.done) (left_count (task_riders task) (task_passengers task) (with_stop label.done s)) c.requires.small fall is.next is.can in (
       less,
       (
         c.requires.valid,
         (
-          subst (λ p. LeadsTo tau task p c.in-Some.next) (sym pushed) (subst (λ l. LeadsTo tau task (c.args.path.now.items ++ s ∷ []) l) (sym c.in-Some.ensures.1) leads),
+          subst (λ p. LeadsTo tau task p c.label_after-next.result) (sym pushed) (subst (λ l. LeadsTo tau task (c.args.path.now.items ++ s ∷ []) l) (sym same) leads),
           (
-            subst (λ l. IsSmallLabel points (left_count (task_riders task) (task_passengers task) l.done) l) (sym c.in-Some.ensures.1) small,
+            subst (λ l. IsSmallLabel points (left_count (task_riders task) (task_passengers task) l.done) l) (sym same) small,
             (
               omega (arith, left, longer, c.requires.room),
               (c.loop-candidate.invariant.found, c.loop-candidate.invariant.settled),
@@ -145,13 +158,14 @@ loop-candidate-preserved t c =
     let path = c.args.path.now.items in
     let candidate = (get_or c.as_slice-candidate-items.result.now c.loop-candidate.candidate-index no_candidate) in
     let s = candidate.stop in
-    let is = candidate_at (IsCandidate tau task label) c.candidates_after-candidates.result.items c.as_slice-candidate-items.result.now c.loop-candidate.candidate-index (get_or c.as_slice-candidate-items.result.now c.loop-candidate.candidate-index no_candidate)
-    c.as_slice-candidate-items.ensures.value c.loop-candidate-test.true (read_again c.as_slice-candidate-items.result.now c.loop-candidate.candidate-index c.loop-candidate-test.true) c.candidates_after-candidates.ensures.each in
+    let is = candidate_at (IsCandidate tau task label) c.list_candidates.new.candidates.items c.as_slice-candidate-items.result.now c.loop-candidate.candidate-index (get_or c.as_slice-candidate-items.result.now c.loop-candidate.candidate-index no_candidate)
+    c.as_slice-candidate-items.ensures.value c.loop-candidate-test.true (read_again c.as_slice-candidate-items.result.now c.loop-candidate.candidate-index c.loop-candidate-test.true) c.list_candidates.ensures.each in
+    let same : c.label_after-next.result ≡ next_label tau task label s = c.label_after-next.ensures ∙ ap (λ n. label_at task label s n) is.second in
     let pushed : c.push.new.self.items ≡ path ++ s ∷ [] = c.push.ensures.items ∙ ap (λ xs. xs ++ s ∷ []) c.loop-candidate.invariant.same in
     let back = path_back path c.try_all.new.path.items c.pop.new.self.items s (c.in_ok-try_all.ensures.path ∙ pushed) c.pop.ensures.rest in
     let searched = c.in_ok-try_all.ensures.searched in
-    let tried = tried_searched points tau time task c.requires.valid label c.in-Some.next s c.loop-candidate.best c.try_all.new.best (labels_of c.try_all.new.kept) c.in-Some.ensures.1 searched in
-    tries_more points tau task label c.in-Some.next path c.loop-candidate.path.items c.pop.new.self.items c.args.best.now c.loop-candidate.best c.try_all.new.best (labels_of c.loop-candidate.kept) (labels_of c.try_all.new.kept)
+    let tried = tried_searched points tau time task c.requires.valid label c.label_after-next.result s c.loop-candidate.best c.try_all.new.best (labels_of c.try_all.new.kept) same searched in
+    tries_more points tau task label c.label_after-next.result path c.loop-candidate.path.items c.pop.new.self.items c.args.best.now c.loop-candidate.best c.try_all.new.best (labels_of c.loop-candidate.kept) (labels_of c.try_all.new.kept)
     c.as_slice-candidate-items.result.now c.loop-candidate.candidate-index candidate c.loop-candidate-test.true (read_again c.as_slice-candidate-items.result.now c.loop-candidate.candidate-index c.loop-candidate-test.true) back searched tried c.loop-candidate.invariant
 
 pub returns-then-not-is_of_use-clause-searched : goal.returns-then-not-is_of_use-clause-searched
@@ -168,7 +182,7 @@ returns-then-not-is_of_use-clause-searched t c =
     record {
       found = inv.found;
       good = inv.good;
-      exhausted = exhausted_tried points tau time task c.requires.valid label best c.candidates_after-candidates.result.items more c.candidates_after-candidates.ensures tried;
+      exhausted = exhausted_tried points tau time task c.requires.valid label best c.list_candidates.new.candidates.items more c.list_candidates.ensures tried;
       settled = inv.settled;
     }
 
@@ -183,7 +197,7 @@ returns-clause-searched t c =
     let inv = c.loop-candidate.invariant in
     let best = c.loop-candidate.best in
     let tried = subst (λ xs. All (λ c. IsTried tau task best label c.stop) xs) (take_all c.loop-candidate.candidate-index c.as_slice-candidate-items.result.now c.loop-candidate-test.false ∙ c.as_slice-candidate-items.ensures.value) inv.tried in
-    let exhausted = exhausted_tried points tau time task c.requires.valid label best c.candidates_after-candidates.result.items more c.candidates_after-candidates.ensures tried in
+    let exhausted = exhausted_tried points tau time task c.requires.valid label best c.list_candidates.new.candidates.items more c.list_candidates.ensures tried in
     let free : label.free ≤ 30000000000 = omega (arith, c.requires.small.free) in
     let placed : IsLabelPlaced points label = record { place = c.requires.small.place; free = free } in
     let settled : IsLabelDone points tau task best label = record { placed = placed; exhausted = exhausted } in
