@@ -340,7 +340,8 @@ def test_studies_that_are_refused(folder):
     for text, said in (
             ("[city]\n", "no [[grid]]"),
             ("[[grid]]\n", "one of [city] and [files] must stand there"),
-            ("[city]\n[files]\n[[grid]]\n", "[files] has no network and no nodes and no trips"),
+            ("[city]\n[files]\n[[grid]]\n", "one of [city] and [files] must stand there"),
+            ("[files]\n[[grid]]\n", "[files] has no network and no nodes and no trips"),
             ("[city]\ncars = 3\n[[grid]]\n", "unknown word cars in city"),
             ("[city]\n[[grid]]\nseats = 11\n", "seats = 11 is not a whole number from 1 to 10"),
             ("[city]\n[[grid]]\nwait = [1, \"2\"]\n", "wait = 2 is not a whole number from 0 to 7200"),

@@ -13,6 +13,7 @@ import subprocess
 import sys
 import tempfile
 import time
+import warnings
 import zlib
 
 import tables
@@ -46,7 +47,9 @@ def tasks_of(cell, ground, limit):
 
 @contextlib.contextmanager
 def client_of(values):
-    """A client of the named cluster, or of one of this machine's processors."""
+    """A client of the named cluster, or of one of this machine's processors. What Dask warns of is not shown."""
+    os.environ.setdefault("PYTHONWARNINGS", "ignore")
+    warnings.simplefilter("ignore")
     from distributed import Client, LocalCluster
 
     if "cluster" in values:
@@ -59,7 +62,7 @@ def client_of(values):
         return
     count = number(values, "processors", 1, 1024, len(os.sched_getaffinity(0)))
     with tempfile.TemporaryDirectory(prefix="ridepool-study-") as folder:
-        with LocalCluster(n_workers=count, threads_per_worker=1, memory_limit=None, dashboard_address=None,
+        with LocalCluster(n_workers=count, threads_per_worker=1, memory_limit=None, dashboard_address=":0",
                           local_directory=folder, silence_logs=logging.CRITICAL) as cluster, Client(cluster) as client:
             yield client
 
@@ -144,7 +147,7 @@ class Study:
         name = " ".join(f"{setting}={row[setting]}" for setting in self.varied) or "the cell"
         if row["state"] != "done":
             return f"{name}: {row['state']}"
-        return f"{name}: {row['served']} of {row['requests']} served, {row['seconds']} s"
+        return f"{name}: {row['served']} of {row['requests']} served"
 
 
 def run(study, values, program, network, write):
