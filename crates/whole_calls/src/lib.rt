@@ -2,10 +2,4 @@
 #![tactic(auto)]
 
 #[cfg(test)]
-mod calls;
-#[cfg(test)]
-mod gating;
-#[cfg(test)]
-mod telling;
-#[cfg(test)]
 mod tests;
