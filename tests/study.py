@@ -60,7 +60,7 @@ def program():
     return pathlib.Path(sys.argv[1]).resolve()
 
 
-def until(true, what, seconds=300):
+def until(true, what, seconds=1200):
     """Waits until something is true."""
     end = time.monotonic() + seconds
     while not true():
