@@ -60,7 +60,7 @@ def program():
     return pathlib.Path(sys.argv[1]).resolve()
 
 
-def until(true, what, seconds=300):
+def until(true, what, seconds=1200):
     """Waits until something is true."""
     end = time.monotonic() + seconds
     while not true():
@@ -294,6 +294,18 @@ def ground(folder, *city):
 
     with contextlib.redirect_stdout(None):
         return ground_of(Plan([], dict(word.split("=") for word in city), None), folder, folder)
+
+
+def test_ground_of_files(folder):
+    """Files give the same days as the made city that they are of."""
+    from studies.ground import ground_of
+    from studies.plan import Plan
+
+    made = ground(folder, "requests=50", "avenues=5", "streets=20", "seconds=600")
+    files = {name: f"city/{name}.csv" for name in ("network", "nodes", "trips")}
+    with contextlib.redirect_stdout(None):
+        given = ground_of(Plan([], None, {**files, **dict(word.split("=") for word in COLUMNS)}), folder, folder)
+    assert given == made and len(made.requests) == 50 and made.length == 600
 
 
 def test_zones(folder):

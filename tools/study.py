@@ -70,8 +70,8 @@ def client_of(values):
 class Progress:
     """Says what is done: a line for each cell, and on a terminal a bar with what is left."""
 
-    def __init__(self, cells, left):
-        self.cells, self.left, self.all, self.begun = cells, left, left, time.monotonic()
+    def __init__(self, days):
+        self.left, self.all, self.begun = days, days, time.monotonic()
         self.shown = sys.stderr.isatty()
 
     def bar(self):
@@ -113,10 +113,10 @@ class Study:
         self.kept, self.limit, self.tasks, self.known, self.days = kept, limit, {}, {}, {}
         self.varied = [name for name in SETTINGS if len({getattr(cell, name) for cell in plan.cells}) > 1]
         for cell in plan.cells:
-            tasks = {kept.key_of(task): task for task in tasks_of(cell, ground, limit)}
-            self.days[cell] = list(tasks)
-            self.tasks.update(tasks)
-            self.known.update((key, kept.find(key, limit)) for key in tasks)
+            tasks = tasks_of(cell, ground, limit)
+            self.days[cell] = [kept.key_of(task) for task in tasks]
+            self.tasks.update(zip(self.days[cell], tasks))
+            self.known.update((key, kept.find(key, limit)) for key in self.days[cell])
 
     def open(self):
         """The days that have to be driven."""
@@ -155,7 +155,7 @@ def run(study, values, program, network, write):
     from distributed import as_completed
 
     todo = study.open()
-    progress = Progress(study, len(todo))
+    progress = Progress(len(todo))
     if not todo:
         return
     with client_of(values) as client:
@@ -166,12 +166,16 @@ def run(study, values, program, network, write):
         progress.show()
         futures = {client.submit(drive, program, network, task, key=f"ridepool-{key}"): key
                    for key, task in todo.items()}
-        for future in as_completed(futures):
-            for cell, days in study.take(futures[future], future):
-                progress.say(study.line(cell, days))
-                write()
-            progress.day()
-        progress.hide()
+        try:
+            for future in as_completed(futures):
+                for cell, days in study.take(futures[future], future):
+                    progress.say(study.line(cell, days))
+                    write()
+                progress.day()
+        except KeyboardInterrupt:
+            raise Fault("interrupted: the same call goes on where it stopped") from None
+        finally:
+            progress.hide()
 
 
 def convert(arguments):
