@@ -80,7 +80,8 @@ def waited(process, limit):
     process.returncode = os.waitstatus_to_exitcode(status)
     if usage.ru_maxrss > resource.getrusage(resource.RUSAGE_SELF).ru_maxrss:
         peak = usage.ru_maxrss
-    return usage.ru_utime + usage.ru_stime, peak / 1024 or None, stopped
+    # Below a megabyte the process was seen before it became the program.
+    return usage.ru_utime + usage.ru_stime, peak / 1024 if peak >= 1024 else None, stopped
 
 
 def drive(program, network, task):
