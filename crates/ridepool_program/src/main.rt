@@ -152,9 +152,14 @@ fn run(rt: &HostRuntime, threads: &(impl Threads + Wait + Sync), words: &[String
     let Ok(file) = SharedFile::new(rt.alloc()) else {
         return RunStatus::OutOfMemory;
     };
-    let mut notifiers = Vec::new(rt.alloc());
-    if value_of(named, "notices").is_some() && add_notifier(rt, &mut notifiers, &file).is_err() {
-        return RunStatus::OutOfMemory;
+    let mut notifiers: Vec<Box<dyn Notifier>> = Vec::new(rt.alloc());
+    if value_of(named, "notices").is_some() {
+        let Ok(notifier) = notifier_to(rt, &file) else {
+            return RunStatus::OutOfMemory;
+        };
+        if notifiers.push(notifier).is_err() {
+            return RunStatus::OutOfMemory;
+        }
     }
     let given = notifiers.len();
     let mut network = source_of(rt, named, "network");
@@ -209,15 +214,14 @@ fn notices_path<'a>(rt: &HostRuntime, words: &'a [String]) -> Option<&'a str> {
     Some(path)
 }
 
-/// Adds a notifier that writes to this file.
-fn add_notifier(
+/// A notifier that writes to this file.
+fn notifier_to(
     rt: &HostRuntime,
-    notifiers: &mut Vec<Box<dyn Notifier>>,
     file: &SharedFile,
-) -> Result<(), OutOfMemory> {
+) -> Result<Box<LineNotifier<SharedFile>>, OutOfMemory> {
     let notifier = LineNotifier::over(rt.alloc(), Some(file.share()?));
     match Box::new(rt.alloc(), notifier) {
-        Ok(boxed) => Ok(notifiers.push(boxed)?),
+        Ok(boxed) => Ok(boxed),
         Err(_) => Err(OutOfMemory),
     }
 }
