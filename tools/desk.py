@@ -21,6 +21,7 @@ USAGE = """use: desk.py demo [words]
 words: port=8000 host=127.0.0.1 name=HOSTNAME[,..] token=FILE tiles=https://PLACE/{z}/{x}/{y}.png
        every=30 speed=1 far=500 drivers=1 riders=1 seed=1 program=FILE
        and the settings of live: wait delay trip penalty budget pairs workers proof dwell times"""
+SHORT = "desk.py --help lists the words"
 SETTINGS = ("wait", "delay", "trip", "penalty", "budget", "pairs", "workers", "proof", "dwell", "times")
 INPUTS = ("network", "nodes", "fleet")
 WORDS = SETTINGS + INPUTS + ("day", "port", "host", "name", "token", "tiles", "every", "speed", "far", "drivers",
@@ -34,7 +35,7 @@ def with_demo(plain, values):
     if not plain:
         return values
     if plain != ["demo"] or any(it in values for it in INPUTS):
-        raise Fault(USAGE)
+        raise Fault(SHORT)
     files = {name: str(TOWN / f"{name}.csv") for name in INPUTS}
     return {**DEMO, "day": tempfile.mkdtemp(prefix="ridepool-demo-"), **values, **files}
 
@@ -54,7 +55,7 @@ def day_of(values):
     from dispatch.folder import Folder
 
     if "day" not in values:
-        raise Fault(USAGE)
+        raise Fault(SHORT)
     given = [it for it in INPUTS if it in values]
     folder = Folder(values["day"])
     if folder.description is None:
@@ -234,8 +235,6 @@ async def run_desk(dispatcher, app, listener, clients):
                             limit_concurrency=1000)
     server = uvicorn.Server(config)
     tasks = [asyncio.ensure_future(it) for it in clients]
-    host, port = listener.getsockname()[:2]
-    print(f"desk: http://{host}:{port} keeps its day in {dispatcher.folder.path}", file=sys.stderr)
     try:
         await ended(server, listener, dispatcher)
     finally:
@@ -250,6 +249,8 @@ async def ended(server, listener, dispatcher):
     serving = asyncio.ensure_future(server.serve(sockets=[listener]))
     while not server.started and not serving.done():
         await asyncio.sleep(0.01)
+    host, port = listener.getsockname()[:2]
+    print(f"desk: http://{host}:{port} keeps its day in {dispatcher.folder.path}", file=sys.stderr, flush=True)
 
     def stop():
         dispatcher.release_listeners()
@@ -262,7 +263,7 @@ async def ended(server, listener, dispatcher):
 
 def open_desk(arguments):
     """The tool."""
-    plain, values = split_words(arguments, WORDS, USAGE)
+    plain, values = split_words(arguments, WORDS, SHORT)
     values = with_demo(plain, values)
     need("fastapi", "uvicorn", install=DESK_INSTALL)
     if not os.path.exists("/usr/share/javascript/leaflet/leaflet.js"):

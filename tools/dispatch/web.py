@@ -8,6 +8,7 @@ from fastapi import FastAPI, HTTPException, Query, Request
 from fastapi.exceptions import RequestValidationError
 from fastapi.responses import FileResponse, JSONResponse, StreamingResponse
 from pydantic import BaseModel, Extra, StrictInt, confloat, conint
+from starlette.exceptions import HTTPException as AnyHTTPException
 
 from dispatch.dispatcher import Refused, Unavailable
 
@@ -197,8 +198,8 @@ def make_app(desk):
 
 def add_faults(app):
     """Faults in one shape: a `text` that a person understands."""
-    @app.exception_handler(HTTPException)
-    async def plain(request: Request, fault: HTTPException):
+    @app.exception_handler(AnyHTTPException)
+    async def plain(request: Request, fault: AnyHTTPException):
         return answered(fault.status_code, {"text": fault.detail})
 
     @app.exception_handler(RequestValidationError)
