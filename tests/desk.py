@@ -516,7 +516,7 @@ def live_that_is_killed_is_started_again_three_times():
         assert status == 503 and answer["text"] == health[1]["why"], answer
         assert len(it.gives("GET", "/rides")) == 4
         it.end()
-        assert sum("ended with status" in line for line in it.said) == 4, it.said
+        assert sum("was ended by signal 9" in line for line in it.said) == 4, it.said
 
 
 @test
@@ -769,6 +769,63 @@ def watched_round(it, browser, pool, turn):
     shown = time.monotonic() - placed
     time.sleep(max(0.0, began + 1 - time.monotonic()))
     return shown
+
+
+# --- a simulator as client ----------------------------------------------------------------------------------------
+
+def small_day(place):
+    """A quarter of an hour in the town for SUMO: three taxis, and eight persons who ask."""
+    network = place / "town.net.xml"
+    subprocess.run(["netconvert", "--osm-files", str(TOWN / "town.osm"), "--output-file", str(network)], check=True,
+                   capture_output=True, env={**os.environ, "SUMO_HOME": "/usr/share/sumo"})
+    subprocess.run([str(TOOLS / "from_sumo.py"), str(network), str(place / "town"), "edges=1"], check=True,
+                   capture_output=True)
+    streets = [line.rsplit(",", 1)[1] for line in (place / "town" / "nodes.csv").read_text().splitlines()[1:]]
+    taxis = "".join(
+        f'<trip id="t{n}" type="taxi" depart="0" from="{it}" to="{it}" departPos="5">'
+        f'<stop edge="{it}" endPos="20" triggered="person"/></trip>' for n, it in enumerate(streets[10:200:70]))
+    persons = "".join(
+        f'<person id="p{n}" depart="{40 * n + 5}"><ride from="{streets[29 * n]}" to="{streets[29 * n + 17]}" lines="taxi"/>'
+        "</person>" for n in range(8))
+    taxi = '<param key="has.taxi.device" value="true"/><param key="device.taxi.dropOffDuration" value="5"/>'
+    (place / "day.rou.xml").write_text(
+        f'<routes><vType id="taxi" vClass="taxi" personCapacity="4">{taxi}</vType>{taxis}{persons}</routes>')
+    (place / "day.sumocfg").write_text(
+        '<configuration><input><net-file value="town.net.xml"/><route-files value="day.rou.xml"/></input>'
+        '<time><begin value="0"/><end value="3000"/></time></configuration>')
+
+
+@test
+def a_simulations_taxis_are_dispatched():
+    if shutil.which("sumo") is None or words.missing_modules(["traci", "sumolib"]):
+        raise Skipped("there is no SUMO: apt-get install sumo sumo-tools")
+    with tempfile.TemporaryDirectory(prefix="desk-test-") as folder:
+        place = pathlib.Path(folder)
+        small_day(place)
+        own = not words.missing_modules(["pulp"])
+        call = [sys.executable, str(TOOLS / "sumo_client.py"), str(place / "day.sumocfg"), "wait=600", "delay=900",
+                f"network={place}/town/network.csv", f"nodes={place}/town/nodes.csv", f"own={int(own)}", "proof=1",
+                f"transcript={place}/transcript", f"fleet={place}/fleet.csv", f"program={PROGRAM}"]
+        done = subprocess.run(call, capture_output=True, text=True)
+        assert done.returncode == 0, done.stderr
+        lines = done.stdout.splitlines()
+        assert lines[0].startswith("ridepool: served 8 of 8, wait "), done.stdout
+        assert not own or lines[2].startswith("drtOnline.py: served "), done.stdout
+        wait, worst = map(int, re.search(r"wait (\d+) s, at most (\d+) s", lines[0]).groups())
+        assert 0 < wait <= worst <= 700, lines[0]
+        confirmed(place)
+
+
+def confirmed(place):
+    """The simulation's transcript must be that of a run of its rows."""
+    from dispatch import folder, rows
+
+    lines = (place / "transcript").read_text().splitlines()
+    text = "".join(map(rows.entrys_row, folder.entries_of(lines)))
+    assert text.count("dropoff") == text.count("pickup") == 8, text
+    (place / "rows.csv").write_text(rows.HEADER + "\n" + text)
+    shutil.copyfile(place / "town" / "network.csv", place / "network.csv")
+    audited(place, sum(line.startswith("batch ") for line in lines))
 
 
 def run(names):

@@ -45,7 +45,8 @@ class Live:
         await errors
         status = await self.child.wait()
         self.child.stdin.close()
-        self.on_end(f"ridepool live ended with status {status}" + (f": {self.told}" if self.told else ""))
+        how = f"was ended by signal {-status}" if status < 0 else f"ended with status {status}"
+        self.on_end(f"ridepool live {how}" + (f": {self.told}" if self.told else ""))
 
     async def read_lines(self):
         """Hands on whole lines as they come."""
