@@ -12,6 +12,7 @@ import json
 import os
 import pathlib
 import re
+import resource
 import select
 import shutil
 import signal
@@ -57,6 +58,15 @@ def find_python():
     sys.exit(0)
 
 
+def find_live():
+    """Skips all tests, and says so, where the program has no word `live` yet."""
+    found = subprocess.run([PROGRAM, "live", "network=none"], capture_output=True, text=True)
+    if "words: missing" not in found.stderr:
+        print(f"desk not tested, since {PROGRAM} has no word `live`")
+        print(f"0 passed, 0 failed, {len(TESTS)} skipped")
+        sys.exit(0)
+
+
 def until(holds, what, patience=PATIENCE):
     """Waits until something holds, and gives it."""
     end = time.monotonic() + patience
@@ -71,14 +81,15 @@ def until(holds, what, patience=PATIENCE):
 class Desk:
     """A started desk. Its port is a free one; batches are sealed by calls alone, if `every` isn't given."""
 
-    def __init__(self, folder, *arguments, answer=None):
+    def __init__(self, folder, *arguments, answer=None, most_bytes=None):
         extra = ["port=0", f"program={PROGRAM}"]
         if not {"demo", "every=0"} & set(arguments) and not pathlib.Path(folder, "day.json").exists():
             extra.append("every=0")
         extra = [word for word in extra if not any(it.startswith(word.split("=")[0] + "=") for it in arguments)]
         self.child = subprocess.Popen(
             [sys.executable, str(TOOLS / "desk.py"), *arguments, f"day={folder}", *extra],
-            stdin=subprocess.PIPE, stderr=subprocess.PIPE, text=True)
+            stdin=subprocess.PIPE, stderr=subprocess.PIPE, text=True,
+            preexec_fn=most_bytes and (lambda: resource.setrlimit(resource.RLIMIT_FSIZE, (most_bytes, most_bytes))))
         if answer is not None:
             self.child.stdin.write(answer + "\n")
         self.child.stdin.close()
@@ -140,7 +151,11 @@ class Desk:
         """Ends the desk. Gives its status."""
         if self.child.poll() is None:
             self.child.send_signal(which)
-        self.child.wait(PATIENCE)
+        try:
+            self.child.wait(PATIENCE)
+        except subprocess.TimeoutExpired:
+            self.child.kill()
+            raise
         self.said += self.child.stderr.read().splitlines()
         self.child.stderr.close()
         return self.child.returncode
@@ -520,6 +535,27 @@ def live_that_is_killed_is_started_again_three_times():
 
 
 @test
+def a_disk_that_takes_no_more_loses_nothing_answered():
+    with folder_for_days() as folder:
+        with desk(*inputs(LINE), folder=folder, most_bytes=2_000) as it:
+            answered = []
+            while (call := it.call("POST", "/rides", {"from": 1, "to": 2, "time": 0}))[0] == 201:
+                answered.append(call[1]["ride"])
+                assert len(answered) < 200, "the limit was not met"
+            assert call[0] == 503 and answered, call
+            while it.call("POST", "/rides", {"from": 1, "to": 2, "time": 0})[0] == 503:
+                health = it.call("GET", "/health")
+                if "3 times already" in health[1]["why"]:
+                    break
+                time.sleep(0.1)
+            assert health[0] == 503 and "File too large" in health[1]["why"], health
+        with desk(folder=folder) as it:
+            kept = [ride["ride"] for ride in it.gives("GET", "/rides")]
+            assert kept[:len(answered)] == answered and len(kept) <= len(answered) + 4, (answered, kept)
+            it.gives("POST", "/rides", {"from": 1, "to": 2})
+
+
+@test
 def a_day_goes_on_with_its_own_inputs_and_settings():
     with folder_for_days() as folder:
         with desk(*inputs(LINE), "wait=300", folder=folder) as it:
@@ -853,6 +889,7 @@ if __name__ == "__main__":
         sys.exit("use: desk.py PROGRAM [NAME ..]")
     find_python()
     PROGRAM = str(pathlib.Path(sys.argv[1]).resolve())
+    find_live()
     found = run(sys.argv[2:])
     print(", ".join(f"{count} {name}" for name, count in found.items()))
     sys.exit(1 if found["failed"] else 0)

@@ -254,6 +254,7 @@ async def ended(server, listener, dispatcher):
 
     def stop():
         dispatcher.release_listeners()
+        server.force_exit = server.should_exit
         server.should_exit = True
 
     for which in (signal.SIGINT, signal.SIGTERM):

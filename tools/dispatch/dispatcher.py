@@ -32,6 +32,11 @@ class Waiting:
         self.number, self.command, self.fields = number, command, fields
         self.answer = asyncio.get_running_loop().create_future()
 
+    def fail(self, fault):
+        """Tells who waits that there is no answer."""
+        if not self.answer.done():
+            self.answer.set_exception(fault)
+
 
 class Clock:
     """Seconds of the book. They pass `speed` times as fast as real ones, and never go back."""
@@ -75,17 +80,15 @@ class Dispatcher:
     async def begin(self):
         """Starts `live` and gives it the day so far. Gives the Difference where it answers otherwise.
 
-        A difference may come of a batch that closed sooner or later than before, so it is tried again.
+        Where a difference may come of a batch that closed sooner or later than before, it is tried again.
         """
         kept = self.folder.kept_lines()
-        for tries in range(REPLAYS):
+        for left in reversed(range(REPLAYS if replay.has_rows_among_batches(kept) else 1)):
             await self.replay(kept)
             found = replay.difference(kept, self.lines)
-            if found is None:
-                break
-            if tries < REPLAYS - 1:
-                await self.live.kill()
-        return found
+            if found is None or left == 0:
+                return found
+            await self.live.kill()
 
     async def replay(self, kept):
         """Starts `live` and sends it the rows of a transcript."""
@@ -203,10 +206,16 @@ class Dispatcher:
             self.lines += lines
         else:
             self.folder.append("".join(rows), "".join(line + "\n" for line in lines))
-            self.to_sync.append((answers, events))
-            if self.syncing is None:
-                self.syncing = asyncio.ensure_future(self.sync())
+            self.release_after_sync(answers, events)
         asyncio.ensure_future(self.notify())
+
+    def release_after_sync(self, answers, events):
+        """Answers and events that wait for the disk."""
+        for waiting, _ in answers:
+            self.numbers.pop(waiting.number, None)
+        self.to_sync.append((answers, events))
+        if self.syncing is None:
+            self.syncing = asyncio.ensure_future(self.sync())
 
     def answered(self, entry, answers):
         """Finds the row that an entry answers. While the day so far is given to `live`, nobody waits."""
@@ -215,7 +224,6 @@ class Dispatcher:
         waiting = self.waiting[entry.lane].popleft()
         if (waiting.command, waiting.fields) != (entry.command, entry.fields):
             raise ValueError("live answered another row than was sent")
-        del self.numbers[waiting.number]
         answers.append((waiting, entry))
 
     def note_time(self, change):
@@ -239,8 +247,7 @@ class Dispatcher:
             try:
                 await asyncio.get_running_loop().run_in_executor(None, self.folder.sync)
             except OSError as fault:
-                self.live.told = str(fault)
-                self.live.child.kill()
+                self.not_on_disk([*pieces, *self.to_sync], fault)
                 break
             for answers, events in pieces:
                 for waiting, entry in answers:
@@ -250,6 +257,15 @@ class Dispatcher:
                     self.publish_change(change)
         self.syncing = None
 
+    def not_on_disk(self, pieces, fault):
+        """Where the disk fails, `live` is ended, and nobody is told an answer that may be lost."""
+        self.to_sync.clear()
+        self.live.told = str(fault)
+        self.live.child.kill()
+        for answers, _ in pieces:
+            for waiting, _ in answers:
+                waiting.fail(Unavailable(f"the day can't be kept: {fault}"))
+
     def on_refused(self, number, text):
         """A row that `live` refused. It is in no transcript."""
         waiting = self.numbers.pop(number, None)
@@ -257,13 +273,12 @@ class Dispatcher:
             for lane in self.waiting.values():
                 if waiting in lane:
                     lane.remove(waiting)
-            waiting.answer.set_exception(Refused(text))
+            waiting.fail(Refused(text))
 
     def on_end(self, text):
         """`live` has ended: nobody who waits is answered any more, and it is started again."""
-        for waiting in list(self.numbers.values()):
-            if not waiting.answer.done():
-                waiting.answer.set_exception(Unavailable("the dispatcher ended before it answered; ask again"))
+        for waiting in self.numbers.values():
+            waiting.fail(Unavailable("the dispatcher ended before it answered; look before you ask again"))
         self.numbers.clear()
         was_ready = self.status == "ready"
         self.set_status("ended", text)
@@ -281,12 +296,14 @@ class Dispatcher:
         self.restarts += 1
         try:
             found = await self.begin()
+            if found is None:
+                self.go_on()
         except (Unavailable, OSError) as fault:
+            await self.live.kill()
             return self.set_status("ended", str(fault))
         if found is not None:
             await self.live.kill()
             return self.set_status("ended", f"the replies differ at {found}; start the desk again to decide")
-        self.go_on()
         print("desk: ridepool live goes on from the folder", file=sys.stderr)
 
     # Listeners

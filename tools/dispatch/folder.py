@@ -1,5 +1,6 @@
 """The folder of a day: the inputs, the words, the accepted rows and the transcript. It outlives the desk at any moment."""
 
+import contextlib
 import fcntl
 import json
 import os
@@ -104,10 +105,11 @@ class Folder:
         os.fdatasync(self.transcript.fileno())
 
     def close(self):
-        """Closes the files of rows and transcript."""
+        """Closes the files of rows and transcript. What could not be written was told when it was appended."""
         for file in (self.rows, self.transcript):
             if file is not None:
-                file.close()
+                with contextlib.suppress(OSError):
+                    file.close()
         self.rows = self.transcript = None
 
 

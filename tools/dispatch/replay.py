@@ -39,6 +39,11 @@ def pieces(lines):
     return found + [("".join(rows), None)]
 
 
+def has_rows_among_batches(lines):
+    """Whether rows came while a batch was open."""
+    return any(batch is not None and rows.count("\n") > 1 for rows, batch in pieces(lines))
+
+
 def parts(lines):
     """The replies, and apart from them the closes with their blocks, each line with its number and no position.
 
