@@ -31,7 +31,7 @@ sys.path.insert(0, str(TOOLS))
 import words  # noqa: E402
 
 PROGRAM = None
-PATIENCE = 60
+PATIENCE = 120
 TESTS = []
 
 
