@@ -156,8 +156,9 @@ class Desk:
         except subprocess.TimeoutExpired:
             self.child.kill()
             raise
-        self.said += self.child.stderr.read().splitlines()
-        self.child.stderr.close()
+        if not self.child.stderr.closed:
+            self.said += self.child.stderr.read().splitlines()
+            self.child.stderr.close()
         return self.child.returncode
 
 
@@ -188,12 +189,18 @@ def inputs(place):
     return [f"{name}={place / name}.csv" for name in ("network", "nodes", "fleet")]
 
 
-def fails(text, *arguments):
-    """A desk that must not open, with status 2 and this text in its last line."""
-    with folder_for_days() as folder:
-        it = Desk(folder, *arguments)
-        assert it.port is None, (arguments, it.said)
+def fails(text, *arguments, folder=None, **more):
+    """A desk that must not open, with status 2 and this text in its last line. Gives all its lines."""
+    place = folder or tempfile.mkdtemp(prefix="desk-test-")
+    it = Desk(place, *arguments, **more)
+    try:
+        assert it.port is None, ("it opened", arguments, it.said)
         assert it.child.returncode == 2 and text in it.said[-1], (arguments, it.said)
+        return it.said
+    finally:
+        it.end()
+        if not folder:
+            shutil.rmtree(place, ignore_errors=True)
 
 
 def audited(folder, batches):
@@ -378,8 +385,11 @@ def faults_of_the_words_are_said_in_a_line():
     fails("is not a whole number from 0 to 65535", *inputs(LINE), "port=-1")
     fails("nodes: node 1 of the network isn't there", f"network={LINE}/network.csv", f"fleet={LINE}/fleet.csv",
           f"nodes={pathlib.Path(__file__).parent}/desk_parts/one-node.csv")
-    fails("words: bad value", *inputs(LINE), "wait=8000")
     fails("No such file", f"network={LINE}/none.csv", f"fleet={LINE}/fleet.csv", f"nodes={LINE}/nodes.csv")
+    with folder_for_days() as folder:
+        fails("words: bad value", *inputs(LINE), "wait=8000", folder=folder)
+        with desk(*inputs(LINE), "wait=7200", folder=folder) as it:
+            assert it.gives("GET", "/rides") == []
     with socket.socket() as taken:
         taken.bind(("127.0.0.1", 0))
         taken.listen()
@@ -560,13 +570,10 @@ def a_day_goes_on_with_its_own_inputs_and_settings():
     with folder_for_days() as folder:
         with desk(*inputs(LINE), "wait=300", folder=folder) as it:
             it.gives("POST", "/rides", {"from": 2, "to": 4})
-            other = Desk(folder)
-            assert other.child.returncode == 2 and "another desk keeps this day" in other.said[-1], other.said
+            fails("another desk keeps this day", folder=folder)
         assert (folder / "transcript").read_text().endswith("done 1\n")
-        for arguments, text in ((["wait=200"], "the day there has other settings: wait=300"),
-                                ([f"fleet={TOWN}/fleet.csv"], "has another fleet")):
-            it = Desk(folder, *arguments)
-            assert it.child.returncode == 2 and text in it.said[-1], it.said
+        fails("the day there has other settings: wait=300", "wait=200", folder=folder)
+        fails("has another fleet", f"fleet={TOWN}/fleet.csv", folder=folder)
         with desk(*inputs(LINE), "wait=300", folder=folder) as it:
             assert len(it.gives("GET", "/rides")) == 1
         with open(folder / "transcript", "a", encoding="ascii") as file:
@@ -585,9 +592,8 @@ def other_replies_than_before_are_asked_about():
         spoiled = path.read_text().replace("trip 1 ", "trip 2 ")
         line = spoiled[:spoiled.index("trip 2 ")].count("\n") + 1
         path.write_text(spoiled)
-        it = Desk(folder, answer="no")
-        assert it.child.returncode == 2 and it.said[-1].endswith("the day was left as it is"), it.said
-        assert any(f"differ at line {line}: it was `trip 2 " in said for said in it.said), it.said
+        said = fails("the day was left as it is", folder=folder, answer="no")
+        assert any(f"differ at line {line}: it was `trip 2 " in text for text in said), said
         assert path.read_text() == spoiled
         with desk(folder=folder, answer="yes") as it:
             assert it.gives("GET", "/rides/1")["state"] == "promised"

@@ -181,6 +181,7 @@ async def replayed(dispatcher, folder, kept):
     try:
         found = await dispatcher.begin()
     except Unavailable as fault:
+        folder.forget_unbegun()
         raise Fault(str(fault)) from None
     if found is not None and not await asyncio.to_thread(asked, found, folder.path / "transcript"):
         await dispatcher.live.kill()

@@ -68,6 +68,11 @@ class Folder:
         write_whole(self.path / DESCRIPTION, json.dumps(description, indent=1) + "\n")
         self.description = description
 
+    def forget_unbegun(self):
+        """Takes the description away again where no transcript stands: the day may begin with other words."""
+        if not (self.path / TRANSCRIPT).exists():
+            (self.path / DESCRIPTION).unlink()
+
     def input(self, name):
         """The day's own copy of an input."""
         return self.path / f"{name}.csv"
