@@ -1,7 +1,5 @@
 """The rows that `ridepool live` is sent. All of a day stand in one round, so that no row waits for another lane."""
 
-from report import FIELDS
-
 HEADER = "round,lane,command,a,b,c,d,e"
 RIDER_LANES, VEHICLE_LANES = range(1, 12), range(12, 16)
 
@@ -24,9 +22,3 @@ def row_of(lane, command, fields, party=1):
 def entrys_row(entry):
     """The row that an entry of a transcript answers."""
     return row_of(entry.lane, entry.command, entry.fields, entry.party)
-
-
-def well_formed(command, fields, party=1):
-    """Whether a command is one that `live` takes: as many numbers as it has, each within its range."""
-    return (len(fields) == FIELDS[command] and all(0 <= it <= 1_000_000_000 for it in fields)
-            and 1 <= party <= 6)

@@ -5,7 +5,6 @@ from typing import Optional
 
 from report import Reader
 
-IN_POOL = ("waiting", "promised")
 ENDED = ("delivered", "cancelled", "expired")
 
 
