@@ -11,6 +11,7 @@ use std::alloc::Global;
 /// How much a branch is tried for.
 const EFFORT: Effort = Effort {
     candidates: 6,
+    idle: 8,
     pivots: 100,
     most_pivots: u64::MAX,
 };
