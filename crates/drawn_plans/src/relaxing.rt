@@ -1,6 +1,6 @@
 //! What the relaxation of the worked pairs chooses, and what is asked of it on the way.
 use crate::worked::three_pairs;
-use linear_relaxation::{Relaxation, Saved, first_multipliers};
+use linear_relaxation::{Ended, Relaxation, Saved, first_multipliers};
 use plan_rules::{TripGraph, leaf_value};
 use pool_base::OutOfMemory;
 use row_tables::{RowTable, Share};
@@ -49,5 +49,33 @@ fn halves_of_pairs(rt: HostRuntime) -> Result<(), Fail> {
     let alloc = rt.alloc();
     let graph = three_pairs(alloc)?;
     assert_eq!(rt; relaxed(alloc, &graph)?, (15 * 1024, 6));
+    Ok(())
+}
+
+/// How many seconds the relaxation's cost rises as the pair of vehicle 0 is forbidden, and its value then, by the
+/// dual simplex from the best solution, twice. `None` where it fails.
+fn risen(alloc: Global, graph: &TripGraph) -> Result<Option<(i64, i64)>, OutOfMemory> {
+    let table = RowTable::of_graph(alloc, graph)?;
+    let mut relaxation = Relaxation::new(alloc, &table, graph.held())?;
+    relaxation.solve(&table, i64::MAX, 20, 10)?;
+    let mut saved = Saved::new(alloc);
+    relaxation.save(&mut saved)?;
+    relaxation.hold(true);
+    relaxation.forbid(1);
+    let (ended, rise) = relaxation.pivot_dual(&table, 100, i64::MAX)?;
+    relaxation.go_back(&saved)?;
+    if ended != Ended::Solved || !relaxation.solve_dual(&table, i64::MAX, 20)? {
+        return Ok(None);
+    }
+    let seconds = rise.saturating_add(1 << 31) >> 32;
+    Ok(Some((seconds, relaxation.value())))
+}
+
+/// Without the pair of vehicle 0 one rider is left out: 110 seconds in place of 15.
+#[test]
+fn a_pair_less(rt: HostRuntime) -> Result<(), Fail> {
+    let alloc = rt.alloc();
+    let graph = three_pairs(alloc)?;
+    assert_eq!(rt; risen(alloc, &graph)?, Some((95, 110 * 1024)));
     Ok(())
 }
