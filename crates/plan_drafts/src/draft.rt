@@ -69,7 +69,7 @@ const MORE_STEPS: u32 = 2000;
 const MOST_IDLE_ROUNDS: u32 = 3;
 
 /// How many moves an annealing has.
-const MOVES: u64 = 2_000_000;
+const MOVES: u64 = 2_500_000;
 
 /// How many plans are merged at most.
 const MOST_OPTIMA: usize = 10;
@@ -378,7 +378,7 @@ impl Drafting {
         optima: &mut Vec<Vec<Option<u32>>>,
     ) -> Result<(), OutOfMemory> {
         self.plans.adopt(table, &self.plan)?;
-        self.plans.anneal(table, round, MOVES)?;
+        self.plans.anneal(table, u64::from(round), MOVES)?;
         self.plans.better(table, self.bound, MORE_IDLE, MORE_STEPS)?;
         self.keep()?;
         self.note(optima)

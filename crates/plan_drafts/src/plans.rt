@@ -134,13 +134,13 @@ impl Plans {
         self.keep(table)
     }
 
-    /// Makes so many moves of an annealing from the present plan, and takes the best plan that it finds.
-    pub fn anneal(&mut self, table: &RowTable, round: u32, moves: u64) -> Result<(), OutOfMemory> {
+    /// Makes so many drawn moves of an annealing from the present plan, and takes the best plan that it finds.
+    pub fn anneal(&mut self, table: &RowTable, seed: u64, moves: u64) -> Result<(), OutOfMemory> {
         let mut annealing = match self.annealing.take() {
             Some(annealing) => annealing,
             None => Annealing::new(self.alloc, table)?,
         };
-        let outcome = self.run(&mut annealing, table, round, moves);
+        let outcome = self.run(&mut annealing, table, seed, moves);
         self.annealing = Some(annealing);
         outcome
     }
@@ -149,10 +149,10 @@ impl Plans {
         &mut self,
         annealing: &mut Annealing,
         table: &RowTable,
-        round: u32,
+        seed: u64,
         moves: u64,
     ) -> Result<(), OutOfMemory> {
-        if annealing.run(table, &self.regrets, &self.chosen, round, moves)? {
+        if annealing.run(table, &self.regrets, &self.chosen, seed, moves)? {
             self.adopt(table, annealing.best())?;
         }
         Ok(())

@@ -5,7 +5,7 @@
 //! cheapest, and the vehicles that lost riders fill up. A move that isn't taken is undone by its log.
 
 use crate::beside::Beside;
-use crate::cooling::{Chances, Cooling};
+use crate::cooling::{Chances, temperature};
 use crate::groups::{Groups, NONE};
 use crate::regrets::Regrets;
 use pool_base::OutOfMemory;
@@ -18,13 +18,13 @@ use std::alloc::Global;
 const MOVES_EACH: u64 = 1024;
 
 /// How many moves there are at most for each row of the table.
-const MOVES_A_ROW: u64 = 600;
+const MOVES_A_ROW: u64 = 150;
 
 /// How many riders a row has at most.
 const MOST_RIDERS: usize = 6;
 
-/// Of how many rows of each vehicle moves take one, round after round.
-const WIDTHS: [usize; 3] = [40, 200, 80];
+/// Of how many rows of each vehicle moves take one.
+const WIDTH: usize = 40;
 
 /// A vehicle and the row that it had before a step.
 #[derive(Clone, Copy)]
@@ -61,7 +61,7 @@ impl Annealing {
         let mut annealing = Annealing {
             beside,
             chances,
-            draws: Draws::new(999),
+            draws: Draws::new(0),
             proposals: Groups::new(alloc),
             rows: Vec::new(alloc),
             servers: Vec::new(alloc),
@@ -84,22 +84,23 @@ impl Annealing {
         Ok(())
     }
 
-    /// Makes so many moves from this plan, fewer where there are few rows. Whether it found a better one.
+    /// Makes so many moves from this plan, fewer where there are few rows, drawn from a seed. Whether it found a
+    /// better one.
     pub fn run(
         &mut self,
         table: &RowTable,
         regrets: &Regrets,
         chosen: &[Option<u32>],
-        round: u32,
+        seed: u64,
         moves: u64,
     ) -> Result<bool, OutOfMemory> {
-        self.propose(regrets, round)?;
+        self.draws = Draws::new(seed);
+        self.propose(regrets)?;
         self.start(table, chosen);
-        let cooling = Cooling::of_round(round);
         let most = (table.row_count() as u64).saturating_mul(MOVES_A_ROW);
         let stages = moves.min(most) / MOVES_EACH;
         for stage in 0..stages {
-            let temperature = cooling.temperature(stage, stages);
+            let temperature = temperature(stage, stages);
             for _ in 0..MOVES_EACH {
                 self.attempt(table, temperature)?;
             }
@@ -113,14 +114,13 @@ impl Annealing {
     }
 
     /// Lists for each rider the rows of least regret of each vehicle.
-    fn propose(&mut self, regrets: &Regrets, round: u32) -> Result<(), OutOfMemory> {
-        let width = item(&WIDTHS, (round % 3) as usize, 0);
+    fn propose(&mut self, regrets: &Regrets) -> Result<(), OutOfMemory> {
         self.proposals.clear();
         for rider in 0..regrets.rider_count() {
             for place in regrets.with(rider) {
                 let place = *place as usize;
                 let (first, _) = regrets.places_of(regrets.vehicle(place));
-                if place.saturating_sub(first) < width {
+                if place.saturating_sub(first) < WIDTH {
                     self.proposals.push(regrets.row(place))?;
                 }
             }

@@ -11,40 +11,14 @@ const CHANCES: usize = 4096;
 /// The bits after the point of a logarithm under way.
 const FRACTION: u32 = 40;
 
-/// From the warmest to the coldest: seconds at the start, and how often they halve, in 1/65536.
-#[derive(Clone, Copy)]
-pub struct Cooling {
-    start: i64,
-    halvings: u64,
-}
+/// The temperature at the start, in seconds; at the end it is half of that. Neighbourhoods do the rest.
+const START: i64 = 300;
 
-/// From 300 seconds to 20.
-const MILD: Cooling = Cooling {
-    start: 300,
-    halvings: 256_044,
-};
-
-/// From 1,000 seconds to 30.
-const HOT: Cooling = Cooling {
-    start: 1000,
-    halvings: 331_540,
-};
-
-impl Cooling {
-    /// Mild and hot rounds take turns.
-    pub fn of_round(round: u32) -> Self {
-        if round % 2 == 0 { MILD } else { HOT }
-    }
-
-    /// The temperature after so many of all stages, in 1/1024 second: it halves in even steps.
-    pub fn temperature(self, stage: u64, stages: u64) -> i64 {
-        let share = self.halvings.saturating_mul(stage);
-        let halved = share.checked_div(stages).unwrap_or(0);
-        let whole = (halved >> 16).min(40) as u32;
-        let rest = (halved & 65_535) as i64;
-        let warm = self.start.saturating_mul(1024) >> whole;
-        warm.saturating_sub(warm.saturating_mul(rest) >> 17)
-    }
+/// The temperature after so many of all stages, in 1/1024 second.
+pub fn temperature(stage: u64, stages: u64) -> i64 {
+    let half = START * 512;
+    let part = (stage.min(stages) << 16).checked_div(stages).unwrap_or(0) as i64;
+    2 * half - (half.saturating_mul(part) >> 16)
 }
 
 /// For each chance its negative logarithm, in 1/1024.
