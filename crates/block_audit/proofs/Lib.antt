@@ -1,7 +1,6 @@
 pub mod ShapeLemmas
-pub mod OneOutcome
-pub mod BareLemmas
+pub mod ToldLemmas
 pub mod NumberedLemmas
+pub mod OutcomeLemmas
 pub mod AuditLemmas
 pub mod LawLemmas
-pub mod RefusalLemmas

@@ -5,11 +5,11 @@ use Rattle.block_audit.specs.declared.refusal.BlockRefusal.TheVariants as block
 use Rattle.dispatch_engine.specs.Run.{IsRun, position_after_run}
 use Rattle.dispatch_report.specs.Head.{head_text}
 use Rattle.dispatch_report.specs.Round.{end_text, round_text}
-use Rattle.report_head.specs.Head.{BeginsWithHead}
-use Rattle.report_head.specs.Settings.{AreOf}
-use Rattle.report_head.specs.Fault.{HeadFails}
-use Rattle.report_head.specs.declared.fault.HeadFault.{HeadFault}
-use Rattle.report_head.specs.declared.fault.HeadFault.TheVariants as head
+use Rattle.report_lines.specs.Head.{BeginsWithHead}
+use Rattle.report_lines.specs.Settings.{AreOf}
+use Rattle.report_lines.specs.HeadFault.{HeadFails}
+use Rattle.report_lines.specs.declared.head_fault.HeadFault.{HeadFault}
+use Rattle.report_lines.specs.declared.head_fault.HeadFault.TheVariants as head
 use Rattle.request_book.specs.Book.{opening}
 use Rattle.rider_limits.specs.declared.settings.Settings.{Settings}
 use Rattle.road_network.specs.Roads.{Roads}
@@ -88,9 +88,9 @@ module _ (roads : Roads) (vehicles : List Vehicle) (rounds : List NumberedLanes)
     stopped : (stop : Stop) → WhereAllStops settings roads rounds (opening vehicles) behind stop → IsLeftOf text stop × HasFault roads vehicles rounds workers text (fault_of text stop)
     stopped stop (WhereAllStops.between before later made rest all has_read stops) =
         let head : List ℕ = head_text settings roads (length vehicles) in
-        both_at (Extent.between later (position_after_run 0 made)) (rounds_so_far settings roads vehicles before made) rest
+        both_at (Extent.between before later (position_after_run 0 made)) (rounds_so_far settings roads vehicles before made) rest
         (head_is ∙ ap (λ (t : List ℕ). head ++ t) has_read.printed ∙ sym (append_assoc head (rounds_text before made) rest))
-        (record { before = before; made = made; all = all; rounds_made = record { run = has_read.run; told = has_read.told }; position_is = refl; printed = refl }) stop stops
+        (record { made = made; all = all; rounds_made = record { run = has_read.run; told = has_read.told }; position_is = refl; printed = refl }) stop stops
     stopped stop (WhereAllStops.within before later round made j rest all has_read base first begins going stops) =
         let head : List ℕ = head_text settings roads (length vehicles) in
         let so_far : List ℕ = rounds_so_far settings roads vehicles before made in

@@ -12,7 +12,7 @@ use crate::numbers::{fits_command, fits_reply};
 use crate::setup::Setup;
 use crate::stop::{Between, Stop, line_between, wrong_line};
 use batch_snapshot::Snapshot;
-use entry_lines::NextLine;
+use report_lines::NextLine;
 use lane_progress::Progress;
 use request_book::{Book, Reply};
 use script_rows::Round;

@@ -1,5 +1,5 @@
 //! Lines between blocks, of each kind, and lines that are out of form.
-use entry_lines::{NextLine, read_next};
+use report_lines::{NextLine, read_next};
 
 // The lane of an entry's line; 1000 where the line is none.
 fn lane(line: &[u8]) -> u16 {
@@ -60,4 +60,7 @@ fn out_of_form(rt: HostRuntime) {
     assert_eq!(rt; lane(b"0 0 cancel 1000000001 cancelled"), 1000);
     assert_eq!(rt; lane(b"0 0 seal 60 sealed"), 1000);
     assert_eq!(rt; lane(b"0 0 cancel 1 refused ended gone"), 1000);
+    assert_eq!(rt; lane(b"0 0 cancel 1 refused ended waiting"), 1000);
+    assert_eq!(rt; lane(b"0 0 cancel 1 refused ended promised"), 1000);
+    assert_eq!(rt; lane(b"0 0 cancel 1 refused ended aboard"), 1000);
 }

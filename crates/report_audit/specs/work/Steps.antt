@@ -1,11 +1,11 @@
 -- The steps of an audit.
-use Rattle.std.specs.Prelude.{◌≡◌, ◌≢◌, ℕ, ◌<◌, ◌^◌, true, List, ◌++◌, length, Option, None, option_map}
+use Rattle.std.specs.Prelude.{◌≡◌, ◌≢◌, ℕ, ◌<◌, ◌^◌, true, List, [], ◌++◌, length, Option, None, option_map}
 use Rattle.batch_snapshot.specs.Batch.{Batch}
 use Rattle.block_audit.specs.declared.refusal.BlockRefusal.TheVariants as refusal
 use Rattle.dispatch_engine.specs.Run.{journal_of}
-use Rattle.entry_lines.specs.Next.{IsNextLine}
-use Rattle.entry_lines.specs.declared.next.NextLine.{NextLine}
-use Rattle.entry_lines.specs.declared.next.NextLine.TheVariants.{Entry as EntryOf}
+use Rattle.report_lines.specs.Next.{IsNextLine}
+use Rattle.report_lines.specs.declared.next.NextLine.{NextLine}
+use Rattle.report_lines.specs.declared.next.NextLine.TheVariants.{Entry as EntryOf}
 use Rattle.lane_progress.specs.Stand.{HaveCome, stand_at}
 use Rattle.lane_progress.specs.declared.stand.LaneStand.{LaneStand}
 use Rattle.report_lines.specs.Cut.{is_one_line}
@@ -15,7 +15,7 @@ use Rattle.request_book.specs.declared.journal.Journal.{Journal}
 use Rattle.rider_limits.specs.declared.settings.Settings.{Settings}
 use Rattle.road_network.specs.Roads.{Roads}
 use Rattle.script_rows.specs.Round.{IsRound, NumberedLanes}
-use Rattle.report_head.specs.Line.{IsFirstLine}
+use Rattle.report_lines.specs.Line.{IsFirstLine}
 use Rattle.report_audit.specs.Fault.{IsCut, IsOutOfForm, IsWrongLine, IsWrongBatch}
 use Rattle.report_audit.specs.Place.{Extent, BeginsRound, AreAtEnd, position_behind}
 use Rattle.report_audit.specs.declared.stop.LineFault.{LineFault}
@@ -41,6 +41,14 @@ abbrev pub HasNoNext : List ℕ → Stop → Type 0
 HasNoNext text (Line left wrong.Cut) = (left ≡ length text) × (is_one_line text ≡ true)
 HasNoNext text (Line left wrong.Form) = (left ≡ length text) × ((l after : List ℕ) × IsFirstLine text l after × ((x : NextLine) → IsNextLine x l → ⊥))
 HasNoNext text _ = ⊥
+
+-- the text begins with the line of an entry
+abbrev pub BeginsWithEntry : List ℕ → Type 0
+BeginsWithEntry text = (lane : ℕ) × (line after : List ℕ) × IsFirstLine text line after × IsNextLine (EntryOf lane) line
+
+-- behind these rounds no line is out of form for being an entry: there is a round, or the text begins with none
+abbrev pub MayBegin : List NumberedLanes → List ℕ → Type 0
+MayBegin before text = before ≡ [] → BeginsWithEntry text → ⊥
 
 -- the book is that of these roads and settings
 pub record IsBookOf (settings : Settings) (roads : Roads) (b : BookView) : Type 0 where
