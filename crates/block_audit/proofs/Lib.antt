@@ -4,3 +4,4 @@ pub mod NumberedLemmas
 pub mod OutcomeLemmas
 pub mod AuditLemmas
 pub mod LawLemmas
+pub mod TellingLemmas

@@ -1,5 +1,5 @@
 -- An outcome is judged as itself, and lines that can be told are those of the outcome as which they are judged.
-use Rattle.std.proofs.Common.{◌≡◌, ℕ, ◌<◌, ◌≤◌, ◌+◌, Bool, true, false, cond, nat_le, IfSome, List, [], ◌∷◌, ◌++◌, length, map, slice_get, unwrap_or, option_map, Option, Some, None, append_assoc, refl, sym, ap, ◌∙◌, subst, arith}
+use Rattle.std.proofs.Common.{◌≡◌, ℕ, ◌<◌, ◌≤◌, ◌+◌, Bool, true, false, cond, nat_le, IfSome, List, [], ◌∷◌, ◌++◌, length, get_or, map, slice_get, unwrap_or, option_map, Option, Some, None, append_assoc, refl, sym, ap, ◌∙◌, subst, arith}
 use Rattle.std.specs.List.{All}
 use Rattle.std.proofs.lemmas.Bool.{cond-true, cond_both, le-leb, leb-true}
 use Rattle.std.proofs.lemmas.List.{length-map}
@@ -26,7 +26,7 @@ use Rattle.request_book.specs.declared.outcome.Planned.{Planned}
 use Rattle.request_book.specs.declared.outcome.PlannedStop.{PlannedStop}
 use Rattle.request_book.specs.declared.outcome.RowLine.{RowLine}
 use Rattle.block_audit.specs.Fits.{HasFewStops}
-use Rattle.block_audit.specs.Judged.{at_most, row_of, trip_of, late_of, node_of, number_among, judged_plan, judged_outcome, NamesRow, CanBeTold, HasTrips}
+use Rattle.block_audit.specs.Judged.{at_most, stops_of, row_of, trip_of, late_of, node_of, number_among, judged_plan, judged_outcome, NamesRow, CanBeTold, HasTrips}
 use Rattle.block_audit.specs.Told.{Told, told_by}
 use Rattle.block_audit.proofs.NumberedLemmas.{AreNumbered, IsNumbered}
 use Rattle.block_audit.proofs.ShapeLemmas.{HasShape, IsNodeLine, Parts, has_shape, nest, overflow_block, plan_block}
@@ -143,14 +143,14 @@ trip_again trip low = ap (λ l. record { vehicle = trip.vehicle; cost = trip.cos
 late_back : (late : LateText) → IfSome late.stops (λ stops. length stops ≤ 10) → late_text (late_of late) ≡ late
 late_back late low = ap (λ o. record { vehicle = late.vehicle; delay = late.delay; stops = o }) (by late.stops low)
   where
-    by : (o : Option (List PlannedStop)) → IfSome o (λ stops. length stops ≤ 10) → option_map (λ (s : ArrayVec PlannedStop). s.items) (option_map (λ stops. record { items = at_most 10 stops }) o) ≡ o
+    by : (o : Option (List PlannedStop)) → IfSome o (λ stops. length stops ≤ 10) → option_map (λ (s : ArrayVec PlannedStop). s.items) (option_map (stops_of 10) o) ≡ o
     by None low = refl
     by (Some stops) low = ap Some (kept 10 stops low)
 
 late_again : (late : LateVehicle) → IfSome late.stops (λ stops. length stops.items ≤ 10) → late_of (late_text late) ≡ late
 late_again late low = ap (λ o. record { vehicle = late.vehicle; delay = late.delay; stops = o }) (by late.stops low)
   where
-    by : (o : Option (ArrayVec PlannedStop)) → IfSome o (λ stops. length stops.items ≤ 10) → option_map (λ stops. record { items = at_most 10 stops }) (option_map (λ (s : ArrayVec PlannedStop). s.items) o) ≡ o
+    by : (o : Option (ArrayVec PlannedStop)) → IfSome o (λ stops. length stops.items ≤ 10) → option_map (stops_of 10) (option_map (λ (s : ArrayVec PlannedStop). s.items) o) ≡ o
     by None low = refl
     by (Some stops) low = ap (λ l. Some (record { items = l })) (kept 10 stops.items low)
 
@@ -213,10 +213,10 @@ lines_are ids lines f e can = by (has_shape lines f e)
     by : HasShape lines → lines ≡ lines_of (told_by lines).batch (judged_outcome ids (told_by lines))
     by (HasShape.overflows batch expired is) =
         let t : told_by lines ≡ overflow_told batch expired = ap told_by is ∙ overflow_is_told batch expired in
-        is ∙ sym (overflow_lines batch expired) ∙ ap (λ u. lines_of u.batch (judged_outcome ids u)) (sym t)
+        is ∙ sym (overflow_lines batch expired) ∙ ap (λ (u : Told). lines_of u.batch (judged_outcome ids u)) (sym t)
     by (HasShape.plans batch expired p drawn is) =
         let t : told_by lines ≡ plan_told batch expired p = ap told_by is ∙ plan_is_told batch expired p drawn in
-        let told : (q : Point) → CanBeTold q (plan_told batch expired p) = λ q. subst (λ u. CanBeTold q u) t (can q) in
+        let told : (q : Point) → CanBeTold q (plan_told batch expired p) = λ q. subst (λ (u : Told). CanBeTold q u) t (can q) in
         let late = back late_of late_text (λ late. IfSome late.stops (λ stops. length stops ≤ 10)) late_back p.late (told point.Late) in
         let rows = back row_of row_text (λ row. length row.riders ≤ 6) row_back p.rows (told point.Graphs) in
         let chosen = back trip_of trip_text (λ trip. length trip.stops ≤ 22) trip_back p.chosen (told point.Trips) in
@@ -224,7 +224,7 @@ lines_are ids lines f e can = by (has_shape lines f e)
         let tree = tree_back ids p.rows p.tree drawn (told point.Bound).1 in
         let same : parts_of (judged_plan ids (plan_told batch expired p)) ≡ p =
         (λ i. record { lapsed = p.lapsed; late = late i; rv = p.rv; rr = p.rr; rows = rows i; chosen = chosen i; left = p.left; moves = p.moves; cost = p.cost; bound = p.bound; nodes = nodes i; tree = tree i }) in
-        is ∙ ap (plan_block batch expired) (sym same) ∙ sym (plan_lines batch expired (judged_plan ids (plan_told batch expired p))) ∙ ap (λ u. lines_of u.batch (judged_outcome ids u)) (sym t)
+        is ∙ ap (plan_block batch expired) (sym same) ∙ sym (plan_lines batch expired (judged_plan ids (plan_told batch expired p))) ∙ ap (λ (u : Told). lines_of u.batch (judged_outcome ids u)) (sym t)
 
 -- no list of the outcome as which lines are judged is longer than there can be
 pub judged_few : (ids : List ℕ) (t : Told) → HasFewStops (judged_outcome ids t).answer × HasTrips (judged_outcome ids t).answer
@@ -233,7 +233,7 @@ judged_few ids t = by t.overflow
     late_few : (late : LateText) → IfSome (late_of late).stops (λ stops. length stops.items ≤ 10)
     late_few late = at late.stops
       where
-        at : (o : Option (List PlannedStop)) → IfSome (option_map (λ stops. record { items = at_most 10 stops }) o) (λ stops. length stops.items ≤ 10)
+        at : (o : Option (List PlannedStop)) → IfSome (option_map (stops_of 10) o) (λ stops. length stops.items ≤ 10)
         at None = tt
         at (Some stops) = few 10 stops
 
@@ -241,10 +241,10 @@ judged_few ids t = by t.overflow
     by true = (tt, tt)
     by false = (
       (
-        All-map (λ late. IfSome late.stops (λ stops. length stops.items ≤ 10)) late_of t.late (λ k d within. late_few _),
-        All-map (λ trip. length trip.stops.items ≤ 22) trip_of t.chosen (λ k d within. few 22 _),
+        All-map (λ late. IfSome late.stops (λ stops. length stops.items ≤ 10)) late_of t.late (λ k d within. late_few (get_or t.late k d)),
+        All-map (λ trip. length trip.stops.items ≤ 22) trip_of t.chosen (λ k d within. few 22 (get_or t.chosen k d).stops),
       ),
-      All-map (λ row. length row.riders.items ≤ 6) row_of t.rows (λ k d within. few 6 _),
+      All-map (λ row. length row.riders.items ≤ 6) row_of t.rows (λ k d within. few 6 (get_or t.rows k d).riders),
     )
 
 -- an outcome whose lists are no longer than there can be is judged as itself
@@ -253,46 +253,50 @@ pub record IsToldAs (ids : List ℕ) (batch : ℕ) (outcome : Outcome) (t : Told
   pub same : judged_outcome ids t ≡ outcome
   pub can : (q : Point) → CanBeTold q t
 
+abbrev answered_by : List ℕ → Answer → Outcome
+answered_by expired answer = record { expired = expired; answer = answer }
+
+late_told : (late : LateVehicle) → IfSome late.stops (λ stops. length stops.items ≤ 10) → IfSome (late_text late).stops (λ stops. length stops ≤ 10)
+late_told late low = at late.stops low
+  where
+    at : (o : Option (ArrayVec PlannedStop)) → IfSome o (λ stops. length stops.items ≤ 10) → IfSome (option_map (λ (s : ArrayVec PlannedStop). s.items) o) (λ stops. length stops ≤ 10)
+    at None low = tt
+    at (Some s) low = low
+
+none_told : (batch : ℕ) (expired : List ℕ) (q : Point) → CanBeTold q (overflow_told batch expired)
+none_told batch expired point.Graphs = λ k d within. absurd (omega arith)
+none_told batch expired point.Late = λ k d within. absurd (omega arith)
+none_told batch expired point.Trips = λ k d within. absurd (omega arith)
+none_told batch expired point.Bound = (refl, λ k d within. absurd (omega arith))
+none_told batch expired q = tt
+
+module _ (batch : ℕ) (expired : List ℕ) (plan : Planned) (stops : HasFewStops (Plan plan)) (trips : HasTrips (Plan plan)) where
+  all_told : (q : Point) → CanBeTold q (plan_told batch expired (parts_of plan))
+  all_told point.Graphs = All-map (λ row. length row.riders ≤ 6) row_text plan.rows trips
+  all_told point.Late = All-map (λ late. IfSome late.stops (λ stops. length stops ≤ 10)) late_text plan.late (λ k d within. late_told (get_or plan.late k d) (stops.0 k d within))
+  all_told point.Trips = All-map (λ trip. length trip.stops ≤ 22) trip_text plan.chosen stops.1
+  all_told point.Bound = (sym (length-map plan.tree (tree_line plan.rows)), tree_named plan.rows plan.tree)
+  all_told q = tt
+
+  plan_again : (ids : List ℕ) → AreNumbered ids (Plan plan) → judged_plan ids (plan_told batch expired (parts_of plan)) ≡ plan
+  plan_again ids numbered =
+      let late = back late_text late_of (λ late. IfSome late.stops (λ stops. length stops.items ≤ 10)) late_again plan.late stops.0 in
+      let rows = back row_text row_of (λ row. length row.riders.items ≤ 6) row_again plan.rows trips in
+      let chosen = back trip_text trip_of (λ trip. length trip.stops.items ≤ 22) trip_again plan.chosen stops.1 in
+      let tree = tree_again ids plan.rows plan.tree numbered in
+      (λ i. record { lapsed = plan.lapsed; late = late i; rv = plan.rv; rr = plan.rr; rows = rows i; chosen = chosen i; left = plan.left; moves = plan.moves; cost = plan.cost; bound = plan.bound; tree = tree i })
+
 pub outcome_is_told : (ids : List ℕ) (batch : ℕ) (outcome : Outcome) → HasFewStops outcome.answer → HasTrips outcome.answer → AreNumbered ids outcome.answer → IsToldAs ids batch outcome (told_by (lines_of batch outcome))
 outcome_is_told ids batch outcome stops trips numbered = by outcome.answer stops trips numbered
   where
-    of : Answer → Outcome
-    of answer = record { expired = outcome.expired; answer = answer }
-
-    by : (answer : Answer) → HasFewStops answer → HasTrips answer → AreNumbered ids answer → IsToldAs ids batch (of answer) (told_by (lines_of batch (of answer)))
-    unfolding of
+    by : (answer : Answer) → HasFewStops answer → HasTrips answer → AreNumbered ids answer → IsToldAs ids batch (answered_by outcome.expired answer) (told_by (lines_of batch (answered_by outcome.expired answer)))
     by TooMany stops trips numbered =
-        let t : overflow_told batch outcome.expired ≡ told_by (lines_of batch (of TooMany)) = sym (ap told_by (overflow_lines batch outcome.expired) ∙ overflow_is_told batch outcome.expired) in
-        subst (IsToldAs ids batch (of TooMany)) t (record { number = refl; same = refl; can = none })
-      where
-        none : (q : Point) → CanBeTold q (overflow_told batch outcome.expired)
-        none point.Graphs = λ k d within. absurd (omega arith)
-        none point.Late = λ k d within. absurd (omega arith)
-        none point.Trips = λ k d within. absurd (omega arith)
-        none point.Bound = (refl, λ k d within. absurd (omega arith))
-        none q = tt
+        let t : overflow_told batch outcome.expired ≡ told_by (lines_of batch (answered_by outcome.expired TooMany)) =
+        sym (ap told_by (overflow_lines batch outcome.expired) ∙ overflow_is_told batch outcome.expired) in
+        subst (λ (u : Told). IsToldAs ids batch (answered_by outcome.expired TooMany) u) t (record { number = refl; same = refl; can = none_told batch outcome.expired })
     by (Plan plan) stops trips numbered =
-        let p : Parts = parts_of plan in
-        let t : plan_told batch outcome.expired p ≡ told_by (lines_of batch (of (Plan plan))) =
-        sym (ap told_by (plan_lines batch outcome.expired plan) ∙ plan_is_told batch outcome.expired p (tree_drawn plan.rows plan.tree)) in
-        let late = back late_text late_of (λ late. IfSome late.stops (λ stops. length stops.items ≤ 10)) late_again plan.late stops.0 in
-        let rows = back row_text row_of (λ row. length row.riders.items ≤ 6) row_again plan.rows trips in
-        let chosen = back trip_text trip_of (λ trip. length trip.stops.items ≤ 22) trip_again plan.chosen stops.1 in
-        let tree = tree_again ids plan.rows plan.tree numbered in
-        let same : judged_plan ids (plan_told batch outcome.expired p) ≡ plan =
-        (λ i. record { lapsed = plan.lapsed; late = late i; rv = plan.rv; rr = plan.rr; rows = rows i; chosen = chosen i; left = plan.left; moves = plan.moves; cost = plan.cost; bound = plan.bound; tree = tree i }) in
-        subst (IsToldAs ids batch (of (Plan plan))) t (record { number = refl; same = ap (λ x. of (Plan x)) same; can = all })
-      where
-        late_told : (late : LateVehicle) → IfSome late.stops (λ stops. length stops.items ≤ 10) → IfSome (late_text late).stops (λ stops. length stops ≤ 10)
-        late_told late low = at late.stops low
-          where
-            at : (o : Option (ArrayVec PlannedStop)) → IfSome o (λ stops. length stops.items ≤ 10) → IfSome (option_map (λ (s : ArrayVec PlannedStop). s.items) o) (λ stops. length stops ≤ 10)
-            at None low = tt
-            at (Some s) low = low
-
-        all : (q : Point) → CanBeTold q (plan_told batch outcome.expired (parts_of plan))
-        all point.Graphs = All-map (λ row. length row.riders ≤ 6) row_text plan.rows trips
-        all point.Late = All-map (λ late. IfSome late.stops (λ stops. length stops ≤ 10)) late_text plan.late (λ k d within. late_told _ (stops.0 k d within))
-        all point.Trips = All-map (λ trip. length trip.stops ≤ 22) trip_text plan.chosen stops.1
-        all point.Bound = (sym (length-map plan.tree (tree_line plan.rows)), tree_named plan.rows plan.tree)
-        all q = tt
+        let t : plan_told batch outcome.expired (parts_of plan) ≡ told_by (lines_of batch (answered_by outcome.expired (Plan plan))) =
+        sym (ap told_by (plan_lines batch outcome.expired plan) ∙ plan_is_told batch outcome.expired (parts_of plan) (tree_drawn plan.rows plan.tree)) in
+        let same : answered_by outcome.expired (Plan (judged_plan ids (plan_told batch outcome.expired (parts_of plan)))) ≡ answered_by outcome.expired (Plan plan) =
+        ap (λ (x : Planned). answered_by outcome.expired (Plan x)) (plan_again batch outcome.expired plan stops trips ids numbered) in
+        subst (λ (u : Told). IsToldAs ids batch (answered_by outcome.expired (Plan plan)) u) t (record { number = refl; same = same; can = all_told batch outcome.expired plan stops trips })

@@ -1,5 +1,5 @@
 //! The audit of a block.
-ghost use Rattle.std.specs.Prelude.{◌≡◌, ◌≢◌, ℕ, ◌≤◌, true, All, Contains, IfOk, IfErr, List, length, map};
+ghost use Rattle.std.specs.Prelude.{◌≡◌, ◌≢◌, ℕ, ◌≤◌, true, All, Contains, IfOk, IfErr, List, length, map, min};
 ghost use Rattle.batch_snapshot.specs.Points.{named_nodes};
 ghost use Rattle.dispatch_report.specs.Block.{block_lines};
 ghost use Rattle.request_book.specs.declared.outcome.Outcome.{Outcome as OneOutcome};
@@ -110,7 +110,16 @@ fn judged<W: Ways, G: Gate>(
     };
     let outcome = outcome_of(alloc, told, &ids)?;
     match judge(rt, alloc, snapshot, network, ways, settings, &outcome, gate) {
-        Ok(verdict) => Ok((outcome, untold.min(place_of(verdict)))),
-        Err(_fault) => Err(OutOfMemory),
+        Ok(verdict) => Ok((outcome, least(untold, place_of(verdict)))),
+        Err(fault) => {
+            drop(outcome);
+            Err(fault)
+        }
     }
+}
+
+fn least(one: u8, other: u8) -> u8
+    ensures { result ≡ min one other }
+{
+    if one < other { one } else { other }
 }

@@ -1,5 +1,5 @@
 //! What the lines of a block tell.
-ghost use Rattle.std.specs.Prelude.{◌≡◌, IfOk};
+ghost use Rattle.std.specs.Prelude.{◌≡◌, IfOk, fold};
 ghost use Rattle.block_audit.specs.Told.{nothing_told, told_by, with_line};
 ghost use Rattle.block_audit.specs.work.Told.{told_in};
 
@@ -80,15 +80,24 @@ impl BlockTold {
 }
 
 /// What these lines tell.
-pub(crate) fn told_by(
-    alloc: Global,
-    lines: Sequence<BlockLine>,
-) -> Result<BlockTold, OutOfMemory>
+pub(crate) fn told_by(alloc: Global, lines: Sequence<BlockLine>) -> Result<BlockTold, OutOfMemory>
     ensures { IfOk result (λ told. told_in told ≡ told_by lines) }
 {
     let mut told = BlockTold::nothing(alloc);
-    for line in lines.into_vec() {
+    match take_all(&mut told, lines.into_vec()) {
+        Ok(()) => Ok(told),
+        Err(fault) => {
+            drop(told);
+            Err(fault)
+        }
+    }
+}
+
+fn take_all(told: &mut BlockTold, lines: Vec<BlockLine>) -> Result<(), OutOfMemory>
+    ensures { IfOk result (λ _. told_in told.new ≡ fold with_line (told_in told.old) lines.items) }
+{
+    for line in lines {
         told.take(line)?;
     }
-    Ok(told)
+    Ok(())
 }

@@ -6,9 +6,8 @@ ghost use Rattle.report_audit.specs.declared.stop.Stop.TheVariants.{OutOfMemory 
 ghost use Rattle.report_audit.specs.work.Steps.{BeginsWithEntry, HasNoNext};
 
 use block_audit::BlockRefusal;
-use report_lines::{NextLine, read_next};
 use pool_base::OutOfMemory;
-use report_lines::line_first;
+use report_lines::{NextLine, line_first, read_next};
 
 /// What is wrong with a line.
 #[derive(Clone, Copy)]

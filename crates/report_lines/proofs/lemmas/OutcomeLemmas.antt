@@ -131,7 +131,7 @@ then_kind K place p before high some le at may r xs =
     run_join p before (map K xs) 1 high 1 place r (λ q l h. kind_run K 1 place some at may xs q l (let a : q ≤ high = h in omega arith))
 
 -- the lists of a plan up to the rows
-graph_run : (p : ℕ) → 1 ≤ p → p ≤ 2 → (plan : Planned) → Run p (map Lapsed plan.lapsed ++ map Late plan.late ++ map Alone plan.rv ++ map Shared plan.rr ++ map row_as_line plan.rows) 1 7
+graph_run : (p : ℕ) → 1 ≤ p → p ≤ 2 → (plan : Planned) → Run p (map Lapsed plan.lapsed ++ map late_as_line plan.late ++ map Alone plan.rv ++ map Shared plan.rr ++ map row_as_line plan.rows) 1 7
 graph_run p l h plan =
     then_kind row_as_line 7 p _ 6 (omega arith) (omega arith) (λ x. refl) (λ q x. between 1 7 q)
     (then_kind Shared 6 p _ 5 (omega arith) (omega arith) (λ x. refl) (λ q x. between 1 6 q)
@@ -140,7 +140,7 @@ graph_run p l h plan =
     (kind_run Lapsed 1 3 (omega arith) (λ x. refl) (λ q x. between 1 3 q) plan.lapsed p l (omega arith))
     plan.late) plan.rv) plan.rr) plan.rows
 
-choice_run : (p : ℕ) → 1 ≤ p → p ≤ 7 → (plan : Planned) → Run p (map Trip plan.chosen ++ map Out plan.left ++ map Move plan.moves) 1 10
+choice_run : (p : ℕ) → 1 ≤ p → p ≤ 7 → (plan : Planned) → Run p (map trip_as_line plan.chosen ++ map Out plan.left ++ map Move plan.moves) 1 10
 choice_run p l h plan =
     then_kind Move 10 p _ 9 (omega arith) (omega arith) (λ x. refl) (λ q x. between 1 10 q)
     (then_kind Out 9 p _ 8 (omega arith) (omega arith) (λ x. refl) (λ q x. between 1 9 q)

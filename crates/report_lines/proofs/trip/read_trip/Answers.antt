@@ -18,7 +18,7 @@ returns-in_default c trip is e =
 pub returns-in_default-2 : goal.returns-in_default-2
 returns-in_default-2 c trip is e =
     let cost : trip.cost ≤ 18446744073709551615 = omega (arith, is.1) in
-    let none = rw c.in_default-2.is at c.in_ok-stops_to_end.ensures in
+    let none = rw c.in_default-2.is at c.in_ok-stops.ensures in
     tail_none (both_texts (numbered (codes "trip ")) spaced) (BothAre (λ n. n ≤ 1000000000) (λ n. n ≤ 18446744073709551615)) (flat_map stop_text) c.args.line.now
     (pair_once (codes "trip ") 1000000000 18446744073709551615 (omega arith) (omega arith)) c.in-Some.head c.in-Some.after.now c.in-Some.ensures
     (trip.vehicle, trip.cost) trip.stops (is.0, cost) (many_end stop_text FitsStop stop_apart trip.stops) (none trip.stops is.2) e
