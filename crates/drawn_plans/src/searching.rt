@@ -125,7 +125,7 @@ fn finds_plainly(alloc: Global, graph: &TripGraph, budget: u32, cost: u64) -> bo
 fn a_search_without_a_drafter(rt: HostRuntime) -> Result<(), Fail> {
     let alloc = rt.alloc();
     let graph = three_pairs(alloc)?;
-    assert!(rt; finds_plainly(alloc, &graph, 64, 110));
+    assert!(rt; finds_plainly(alloc, &graph, 50_000, 110));
     Ok(())
 }
 
