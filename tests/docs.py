@@ -221,6 +221,13 @@ def stale_pages(program):
     return (ran.stdout + ran.stderr).splitlines()
 
 
+def other_version(program):
+    """The newest version of CHANGELOG.md is the program's."""
+    said = subprocess.run([program, "--version"], capture_output=True, text=True).stdout.split()[-1]
+    newest = re.search(r"^## (\S+),", (TOP / "CHANGELOG.md").read_text(), re.M)[1]
+    return [] if said == newest else [f"the program's version is {said}, and CHANGELOG.md's newest is {newest}"]
+
+
 def main():
     if len(sys.argv) < 2:
         sys.exit(__doc__)
@@ -233,7 +240,7 @@ def main():
         wrong.append(["no document has a command"])
     looks = [look_at_quotes(path, is_written) for path in documents() if QUOTED.search(path.read_text())]
     looks += [broken_links(path) for path in documents()]
-    looks += [long_sentences(TOP / "README.md"), crate_orders(), stale_pages(program)]
+    looks += [long_sentences(TOP / "README.md"), crate_orders(), stale_pages(program), other_version(program)]
     wrong += [it for it in looks if it]
     print("\n".join(line for it in wrong for line in it))
     print(f"{passed + len(looks) - len(wrong)} passed, {len(wrong)} failed")
