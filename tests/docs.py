@@ -221,6 +221,37 @@ def stale_pages(program):
     return (ran.stdout + ran.stderr).splitlines()
 
 
+def exported(crate):
+    """The names that a crate offers."""
+    uses = re.findall(r"^pub use [\w:]+::(?:\{([^}]*)\}|(\w+));", (crate / "src" / "lib.rt").read_text(), re.M)
+    return {name.split(" as ")[0].strip() for many, one in uses for name in (many or one).split(",")} - {""}
+
+
+def undocumented(crate):
+    """The public items of a crate, and the public methods of its types, that have no line of documentation."""
+    names, wrong = exported(crate), []
+    for path in sorted(crate.glob("src/**/*.rt")):
+        rows, owner = path.read_text().splitlines(), ""
+        for at, row in enumerate(rows):
+            head = re.match(r"impl(?:<[^{]*?>)?\s+(?:[\w:]+(?:<[^{]*?>)?\s+for\s+)?(\w+)", row)
+            owner = head[1] if head else owner
+            item = re.match(r"(\s*)pub (?:const )?(?:fn|struct|enum|trait|type|const) (\w+)", row)
+            if not item or (owner if item[1] else item[2]) not in names:
+                continue
+            above = at - 1
+            while rows[above].strip().startswith("#["):
+                above -= 1
+            if not rows[above].strip().startswith("///"):
+                wrong.append(f"{path.relative_to(TOP)}:{at + 1}: `{item[2]}` has no line of documentation")
+    return wrong
+
+
+def undocumented_items():
+    tested = {"input_tests", "travel_tests", "book_tests", "report_tests", "worked_batches", "drawn_plans", "whole_calls"}
+    crates = (path.parent.parent for path in sorted((TOP / "crates").glob("*/src/lib.rt")))
+    return [it for crate in crates if crate.name not in tested for it in undocumented(crate)]
+
+
 def other_version(program):
     """The newest version of CHANGELOG.md is the program's."""
     said = subprocess.run([program, "--version"], capture_output=True, text=True).stdout.split()[-1]
@@ -240,7 +271,7 @@ def main():
         wrong.append(["no document has a command"])
     looks = [look_at_quotes(path, is_written) for path in documents() if QUOTED.search(path.read_text())]
     looks += [broken_links(path) for path in documents()]
-    looks += [long_sentences(TOP / "README.md"), crate_orders(), stale_pages(program), other_version(program)]
+    looks += [long_sentences(TOP / "README.md"), crate_orders(), stale_pages(program), other_version(program), undocumented_items()]
     wrong += [it for it in looks if it]
     print("\n".join(line for it in wrong for line in it))
     print(f"{passed + len(looks) - len(wrong)} passed, {len(wrong)} failed")

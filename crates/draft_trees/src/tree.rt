@@ -307,6 +307,7 @@ impl DraftTree {
         Ok(())
     }
 
+    /// How many nodes the tree has.
     pub fn node_count(&self) -> usize {
         self.standings.len()
     }

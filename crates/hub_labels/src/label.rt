@@ -52,6 +52,7 @@ impl Label {
         Ok(())
     }
 
+    /// The hubs, by rank.
     pub fn as_slice(&self) -> &[Hub]
         ensures { result.now ≡ self.now }
     {

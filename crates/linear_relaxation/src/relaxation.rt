@@ -265,6 +265,7 @@ impl Relaxation {
         self.pivots >= self.most_pivots
     }
 
+    /// Whether the row is forbidden.
     pub fn is_forbidden(&self, row: usize) -> bool {
         item(&self.is_forbidden, row, false)
     }
@@ -276,6 +277,7 @@ impl Relaxation {
         is_new
     }
 
+    /// Allows a row that was forbidden.
     pub fn allow(&mut self, row: usize) {
         set_at(&mut self.is_forbidden, row, false);
     }

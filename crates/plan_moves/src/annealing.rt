@@ -55,6 +55,7 @@ pub struct Annealing {
 }
 
 impl Annealing {
+    /// The room of an annealing over the rows of this table.
     pub fn new(alloc: Global, table: &RowTable) -> Result<Self, OutOfMemory> {
         let chances = Chances::new(alloc)?;
         let beside = Beside::new(alloc, table)?;

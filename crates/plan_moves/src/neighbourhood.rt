@@ -23,6 +23,7 @@ pub struct Neighbourhood {
 }
 
 impl Neighbourhood {
+    /// The room of a search among so many vehicles and riders.
     pub fn new(alloc: Global, vehicles: usize, riders: usize) -> Result<Self, OutOfMemory> {
         Ok(Neighbourhood {
             vehicles: Vec::new(alloc),

@@ -24,6 +24,7 @@ impl Present {
         })
     }
 
+    /// Takes all rows away.
     pub fn clear(&mut self) {
         self.places.as_mut_slice().fill(NONE);
         self.servers.as_mut_slice().fill(NONE);

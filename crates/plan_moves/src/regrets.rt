@@ -140,10 +140,12 @@ impl Regrets {
         }
     }
 
+    /// How many vehicles there are.
     pub fn vehicle_count(&self) -> usize {
         self.ends.len()
     }
 
+    /// How many riders there are.
     pub fn rider_count(&self) -> usize {
         self.left.len()
     }
@@ -174,11 +176,13 @@ impl Regrets {
         None
     }
 
+    /// The row at this place.
     #[inline]
     pub fn row(&self, place: usize) -> u32 {
         item(&self.rows, place, NONE)
     }
 
+    /// The vehicle of the row at this place.
     #[inline]
     pub fn vehicle(&self, place: usize) -> usize {
         item(&self.vehicles, place, NONE) as usize
@@ -190,6 +194,7 @@ impl Regrets {
         item(&self.above, place, 0)
     }
 
+    /// The riders of the row at this place.
     #[inline]
     pub fn riders(&self, place: usize) -> &[u32] {
         self.riders.of(place)

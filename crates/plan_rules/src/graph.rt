@@ -71,6 +71,7 @@ impl TripGraph {
         })
     }
 
+    /// How many vehicles there are.
     pub fn vehicle_count(&self) -> usize
         ensures value { result ≡ self.now.vehicles }
         ensures within { result ≤ 500 }
@@ -79,6 +80,7 @@ impl TripGraph {
         self.parts.vehicles
     }
 
+    /// How many riders there are.
     pub fn rider_count(&self) -> usize
         ensures value { result ≡ self.now.riders }
         ensures within { result ≤ 1000 }
@@ -95,6 +97,7 @@ impl TripGraph {
         self.parts.penalty
     }
 
+    /// All rows, vehicle by vehicle.
     pub fn rows(&self) -> &[TripRow]
         ensures value { result.now ≡ self.now.rows }
         ensures good { IsGoodGraph self.now }

@@ -15,18 +15,21 @@ impl Model for Multipliers {
 }
 
 impl Multipliers {
+    /// These multipliers, one for each rider.
     pub fn of(values: Vec<i64>) -> Self
         ensures { result ≡ values.items }
     {
         Multipliers { values }
     }
 
+    /// The multipliers, rider by rider.
     pub fn as_slice(&self) -> &[i64]
         ensures { result.now ≡ self.now }
     {
         self.values.as_slice()
     }
 
+    /// The multipliers, rider by rider.
     pub fn into_vec(self) -> Vec<i64>
         ensures { result.items ≡ self }
     {

@@ -41,6 +41,7 @@ impl Path {
         }
     }
 
+    /// The decisions from the root on.
     pub fn decisions(&self) -> &[Decision]
         ensures { result.now ≡ self.now }
     {

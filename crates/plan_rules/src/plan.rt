@@ -15,18 +15,21 @@ impl Model for Plan {
 }
 
 impl Plan {
+    /// The plan with these rows, one for each vehicle or none.
     pub fn of(chosen: Vec<Option<u32>>) -> Self
         ensures { result ≡ chosen.items }
     {
         Plan { chosen }
     }
 
+    /// The row of each vehicle, or none.
     pub fn chosen(&self) -> &[Option<u32>]
         ensures { result.now ≡ self.now }
     {
         self.chosen.as_slice()
     }
 
+    /// The row of each vehicle, or none.
     pub fn into_chosen(self) -> Vec<Option<u32>>
         ensures { result.items ≡ self }
     {

@@ -18,18 +18,21 @@ impl Model for Tree {
 }
 
 impl Tree {
+    /// The tree with these nodes, in preorder.
     pub fn of(nodes: Vec<Node>) -> Self
         ensures { result ≡ nodes.items }
     {
         Tree { nodes }
     }
 
+    /// The nodes, in preorder.
     pub fn nodes(&self) -> &[Node]
         ensures { result.now ≡ self.now }
     {
         self.nodes.as_slice()
     }
 
+    /// The nodes, in preorder.
     pub fn into_nodes(self) -> Vec<Node>
         ensures { result.items ≡ self }
     {

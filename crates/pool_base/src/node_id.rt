@@ -33,6 +33,7 @@ impl NodeId {
         }
     }
 
+    /// The number of the id.
     pub fn get(self) -> u32
         ensures value { result ≡ self }
         ensures within { self ≤ 1000000000 }

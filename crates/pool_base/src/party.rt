@@ -36,6 +36,7 @@ impl Party {
         }
     }
 
+    /// How many persons there are.
     pub fn get(self) -> u8
         ensures value { result ≡ self }
         ensures within { (1 ≤ self) × (self ≤ 6) }

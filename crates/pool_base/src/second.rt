@@ -33,6 +33,7 @@ impl Second {
         }
     }
 
+    /// The number of the second.
     pub fn get(self) -> u32
         ensures value { result ≡ self }
         ensures within { self ≤ 1000000000 }

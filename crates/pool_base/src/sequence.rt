@@ -49,24 +49,28 @@ impl<T> Sequence<T> {
         items
     }
 
+    /// How many items there are.
     pub fn len(&self) -> usize
         ensures { result ≡ length self.now }
     {
         self.items.len()
     }
 
+    /// Whether there is no item.
     pub fn is_empty(&self) -> bool
         ensures { result ≡ (length self.now == 0) }
     {
         self.items.is_empty()
     }
 
+    /// The items in their order.
     pub fn as_slice(&self) -> &[T]
         ensures { result.now ≡ self.now }
     {
         self.items.as_slice()
     }
 
+    /// The items, one after the other.
     pub fn iter(&self) -> slice::Iter<'_, T>
         ensures { iter_rest result ≡ self.now }
     {

@@ -28,30 +28,35 @@ impl Model for Pairs {
 }
 
 impl Pairs {
+    /// These pairs.
     pub fn of(items: Vec<(usize, usize)>) -> Pairs
         ensures { result ≡ items.items }
     {
         Pairs { items }
     }
 
+    /// The pairs in their order.
     pub fn into_vec(self) -> Vec<(usize, usize)>
         ensures { result.items ≡ self }
     {
         self.items
     }
 
+    /// The pairs in their order.
     pub fn as_slice(&self) -> &[(usize, usize)]
         ensures { result.now ≡ self.now }
     {
         self.items.as_slice()
     }
 
+    /// How many pairs there are.
     pub fn len(&self) -> usize
         ensures { result ≡ length self.now }
     {
         self.items.len()
     }
 
+    /// Whether there is no pair.
     pub fn is_empty(&self) -> bool
         ensures { result ≡ (length self.now == 0) }
     {
@@ -72,30 +77,35 @@ impl Model for Potentials {
 }
 
 impl Potentials {
+    /// These potentials, one for each place.
     pub fn of(items: Vec<i64>) -> Potentials
         ensures { result ≡ items.items }
     {
         Potentials { items }
     }
 
+    /// The potentials, place by place.
     pub fn into_vec(self) -> Vec<i64>
         ensures { result.items ≡ self }
     {
         self.items
     }
 
+    /// The potentials, place by place.
     pub fn as_slice(&self) -> &[i64]
         ensures { result.now ≡ self.now }
     {
         self.items.as_slice()
     }
 
+    /// How many potentials there are.
     pub fn len(&self) -> usize
         ensures { result ≡ length self.now }
     {
         self.items.len()
     }
 
+    /// Whether there is no potential.
     pub fn is_empty(&self) -> bool
         ensures { result ≡ (length self.now == 0) }
     {

@@ -10,6 +10,7 @@ pub struct Draws {
 }
 
 impl Draws {
+    /// Numbers drawn from this seed.
     pub fn new(seed: u64) -> Self {
         Draws {
             source: Xoshiro256PlusPlus::seed_from_u64(seed),

@@ -92,16 +92,19 @@ impl RowTable {
         self.rows.transpose(&self.riders, self.must.len())
     }
 
+    /// How many vehicles there are.
     #[inline]
     pub fn vehicle_count(&self) -> usize {
         self.ends.len()
     }
 
+    /// How many riders there are.
     #[inline]
     pub fn rider_count(&self) -> usize {
         self.must.len()
     }
 
+    /// How many rows there are.
     #[inline]
     pub fn row_count(&self) -> usize {
         self.costs.len()
@@ -130,11 +133,13 @@ impl RowTable {
         self.rows.list(rider)
     }
 
+    /// The cost of the row.
     #[inline]
     pub fn cost(&self, row: usize) -> i64 {
         item(&self.costs, row, 0)
     }
 
+    /// The vehicle of the row.
     #[inline]
     pub fn vehicle(&self, row: usize) -> usize {
         item(&self.vehicles, row, 0) as usize

@@ -19,18 +19,21 @@ impl Model for SettledVehicles {
 impl SettledVehicles {
     ghost use Rattle.std.specs.Prelude.{◌≡◌};
 
+    /// These vehicles.
     pub fn of(vehicles: Vec<SettledVehicle>) -> SettledVehicles
         ensures { result ≡ vehicles.items }
     {
         SettledVehicles { vehicles }
     }
 
+    /// The vehicles in their order.
     pub fn into_vec(self) -> Vec<SettledVehicle>
         ensures { result.items ≡ self }
     {
         self.vehicles
     }
 
+    /// The vehicles in their order.
     pub fn as_slice(&self) -> &[SettledVehicle]
         ensures { result.now ≡ self.now }
     {
@@ -56,18 +59,21 @@ impl Model for SettledRiders {
 impl SettledRiders {
     ghost use Rattle.std.specs.Prelude.{◌≡◌};
 
+    /// These riders.
     pub fn of(riders: Vec<SettledRider>) -> SettledRiders
         ensures { result ≡ riders.items }
     {
         SettledRiders { riders }
     }
 
+    /// The riders in their order.
     pub fn into_vec(self) -> Vec<SettledRider>
         ensures { result.items ≡ self }
     {
         self.riders
     }
 
+    /// The riders in their order.
     pub fn as_slice(&self) -> &[SettledRider]
         ensures { result.now ≡ self.now }
     {

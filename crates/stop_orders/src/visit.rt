@@ -22,6 +22,7 @@ impl Visit {
     ghost use Rattle.std.specs.Prelude.{◌≡◌, ◌+◌, ◌-◌, ◌≤◌, ◌<◌, ◌^◌};
     ghost use Rattle.stop_orders.specs.Visit.{place_of, latest_of, boarding_of, room_after, lateness};
 
+    /// The place of the visit.
     pub fn place(&self) -> usize
         ensures { result ≡ place_of self.now }
     {
