@@ -221,6 +221,17 @@ def stale_pages(program):
     return (ran.stdout + ran.stderr).splitlines()
 
 
+def stale_callers():
+    """The caller that a crate's README.md quotes also stands in its first comment."""
+    wrong = []
+    for path in sorted((TOP / "crates").glob("*/README.md")):
+        caller = next((code for kind, _, _, code in QUOTED.findall(path.read_text()) if kind == "code"), "")
+        wanted = "".join(f"//! {row}".rstrip() + "\n" for row in caller.splitlines())
+        if wanted not in (path.parent / "src" / "lib.rt").read_text():
+            wrong.append(f"{path.parent.name}: the caller in src/lib.rt isn't that of README.md")
+    return wrong
+
+
 def exported(crate):
     """The names that a crate offers."""
     uses = re.findall(r"^pub use [\w:]+::(?:\{([^}]*)\}|(\w+));", (crate / "src" / "lib.rt").read_text(), re.M)
@@ -271,7 +282,7 @@ def main():
         wrong.append(["no document has a command"])
     looks = [look_at_quotes(path, is_written) for path in documents() if QUOTED.search(path.read_text())]
     looks += [broken_links(path) for path in documents()]
-    looks += [long_sentences(TOP / "README.md"), crate_orders(), stale_pages(program), other_version(program), undocumented_items()]
+    looks += [long_sentences(TOP / "README.md"), crate_orders(), stale_pages(program), other_version(program), undocumented_items(), stale_callers()]
     wrong += [it for it in looks if it]
     print("\n".join(line for it in wrong for line in it))
     print(f"{passed + len(looks) - len(wrong)} passed, {len(wrong)} failed")

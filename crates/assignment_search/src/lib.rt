@@ -2,6 +2,21 @@
 //!
 //! The tree grows at the leaf of least value, on rows that a vehicle may still use; the bound never falls,
 //! and it meets the plan's cost unless the budget of nodes is spent.
+//!
+//! A caller, from the tests of `drawn_plans`:
+//!
+//! ```
+//! /// What a search with this budget says: its bound, its cost, how many nodes it has, and what the checker
+//! /// says of its tree.
+//! fn told(alloc: Global, graph: &TripGraph, budget: u32) -> Option<(i128, u64, usize, i128)> {
+//!     let found = search_by(alloc, graph, budget.max(1), &RelaxationDrafter).ok()?;
+//!     let checked = check(alloc, graph, &found.tree).ok()?;
+//!     Some((found.bound, found.cost, found.tree.nodes().len(), checked))
+//! }
+//! ```
+//!
+//! Main clauses: `search`: `lawful`, `cost`, `held`, `greedy`, `change`, `nodes`, `shown`, `root`,
+//! `limited`, `closed`. README.md quotes them.
 #![tactic(auto)]
 
 mod branch_and_bound;

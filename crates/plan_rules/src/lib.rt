@@ -3,6 +3,24 @@
 //!
 //! A graph is good by its type; the held plan is always lawful; and no lawful plan costs less than the
 //! value of a sound tree. The search and the separate checker both stand on these definitions.
+//!
+//! A caller, from the tests of `drawn_plans`:
+//!
+//! ```
+//! /// The graph of three vehicles, three riders and these rows, if there are few.
+//! pub fn graph_of(
+//!     alloc: Global,
+//!     rows: Vec<TripRow>,
+//!     held: Vec<Option<u32>>,
+//! ) -> Result<TripGraph, GraphFault> {
+//!     if rows.len() > 100 {
+//!         return Err(GraphFault::OutOfMemory);
+//!     }
+//!     TripGraph::new(alloc, 3, 3, 100, rows, held)
+//! }
+//! ```
+//!
+//! Main clauses: `is_lawful`; `cost_of`; `tree_value_is_a_bound`. README.md quotes them.
 #![tactic(auto)]
 
 mod dead_end;

@@ -3,6 +3,26 @@
 //! A source and a sink count their faults, so that a call above may answer "reading failed" only where
 //! the source really failed. Sources and sinks in memory plan their failures and short calls; adapters
 //! over std's readers and writers are the edge to the world. Rows are what the `csv` crate reads.
+//!
+//! A caller, from the tests of `input_tests`:
+//!
+//! ```
+//! fn is_read(alloc: Global, text: &[u8]) -> bool {
+//!     match owned(alloc, text) {
+//!         Ok(bytes) => {
+//!             let mut source = PlainSource::new(bytes);
+//!             match read_all(alloc, &mut source, 16) {
+//!                 Ok(read) => read.as_slice() == text,
+//!                 Err(_) => false,
+//!             }
+//!         }
+//!         Err(_) => false,
+//!     }
+//! }
+//! ```
+//!
+//! Main clauses: `read_all`: `whole`, `ended`, `counted`, `within`, `moved`, `too_long`, `its_limit`,
+//! `fault`, `never_falls`; `write_all`: `whole`, `part`, `fault`, `never_falls`. README.md quotes them.
 #![tactic(auto)]
 
 mod fill;

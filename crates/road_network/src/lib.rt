@@ -2,6 +2,22 @@
 //!
 //! A network is what its rows say, or their first refusal with its place. Walks along its arcs and the
 //! least time over them are defined here too. Reading is linear in the bytes.
+//!
+//! A caller, from the tests of `input_tests`:
+//!
+//! ```
+//! fn network_of(alloc: Global, text: &[u8]) -> Option<Network> {
+//!     match rows(alloc, text, b"from,to,seconds") {
+//!         Ok(table) => match read_network(alloc, &table) {
+//!             Ok(network) => Some(network),
+//!             Err(_) => None,
+//!         },
+//!         Err(_) => None,
+//!     }
+//! }
+//! ```
+//!
+//! Main clauses: `read_network`: `network`, `refused`, `every_row`. README.md quotes them.
 #![tactic(auto)]
 
 mod arc;

@@ -3,6 +3,28 @@
 //! A lane plays its calls by its pass, one at a time and in the order of tickets. The pass knows which
 //! calls it made, with their replies and their positions, and `finish` shows that the value's log is
 //! just those calls of all passes. That a waiting call returns, and which lane comes first, is not said.
+//!
+//! A caller, from the tests of `book_tests`:
+//!
+//! ```
+//! fn play_one<R: Wait>(
+//!     rt: &R,
+//!     alloc: Global,
+//!     lock: &SeatLock<Counter>,
+//!     passes: &mut Vec<Pass<Counter>>,
+//!     lane: usize,
+//!     amount: u64,
+//! ) -> Option<Played<u64>>
+//!     requires all { AreAllPasses lock.now passes.old.items }
+//!     requires lane { lane < vec_len passes.old }
+//!     ensures { AreAllPasses lock.now passes.new.items }
+//! {
+//!     lock.with_turn(rt, alloc, &mut passes[lane], amount).ok()
+//! }
+//! ```
+//!
+//! Main clauses: `with_turn`: `pass`, `calls`, `position`, `seen`, `fits`, `refused`, `light`; `finish`:
+//! `finished`, `log`, `root`. README.md quotes them.
 #![tactic(auto)]
 
 mod bells;

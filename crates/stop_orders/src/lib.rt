@@ -3,6 +3,29 @@
 //! The definitions stand here once: an order of a vehicle's passengers and a trip's riders, the seconds
 //! of its stops, its delay, the trips that a vehicle can serve, and the edges between riders and vehicles.
 //! The calls decide them exactly, and the laws say that whoever is left out of a serving order leaves one.
+//!
+//! A caller, from the tests of `travel_tests`:
+//!
+//! ```
+//! #[test]
+//! fn out_of_reach(rt: HostRuntime) -> Result<(), Fail> {
+//!     let cells = vec![in rt.alloc(); 0, 60, Times::NEVER, 0]?;
+//!     let times = Times::checked(2, cells)?;
+//!     let mut task = vehicle(4);
+//!     let _rider = task.riders.try_push(leg(1, 0, 0));
+//!     let stops = [Stop::Pick(0), Stop::Drop(0)];
+//!     assert!(rt; is_valid(&task, times.len()));
+//!     assert!(rt; !serves(&task, &times, &stops));
+//!     assert!(rt; is_order(&task, &stops));
+//!     assert_eq!(rt; stop_second(&task, &times, &stops, 0), Some(60));
+//!     assert_eq!(rt; stop_second(&task, &times, &stops, 1), None);
+//!     assert_eq!(rt; delay_of(&task, &times, &stops), None);
+//!     assert!(rt; least_over_all_orders(&task, &times).is_none());
+//!     Ok(())
+//! }
+//! ```
+//!
+//! Main clauses: `serves`; `delay_of`. README.md quotes them.
 #![tactic(auto)]
 
 mod done;

@@ -2,6 +2,25 @@
 //!
 //! `times_between` runs one search with a priority queue for each point, rows in parallel. Its table has, for
 //! each two points, the least seconds over all walks, and says so exactly where there is none.
+//!
+//! A caller, from the tests of `travel_tests`:
+//!
+//! ```
+//! fn fast(
+//!     rt: &(impl Threads + Sync),
+//!     alloc: Global,
+//!     network: &Network,
+//!     nodes: &[NodeId],
+//! ) -> Option<Result<Times, OutOfMemory>> {
+//!     if nodes.len() <= 12_500 && are_known(network, nodes) {
+//!         Some(times_between(rt, alloc, network, nodes))
+//!     } else {
+//!         None
+//!     }
+//! }
+//! ```
+//!
+//! Main clauses: `times_between`. README.md quotes them.
 #![tactic(auto)]
 
 mod arcs;
