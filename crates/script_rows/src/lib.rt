@@ -14,7 +14,8 @@ mod version;
 mod word;
 
 pub use fault::ScriptFault;
-pub use reading::read_script;
+pub use line::Line;
+pub use reading::{read_row, read_script};
 pub use round::Round;
 pub use script::Script;
 pub use version::ScriptVersion;

@@ -2,8 +2,8 @@ use request_book::Command;
 
 /// A row of a script.
 #[derive(Drop)]
-pub(crate) struct Line {
-    pub(crate) round: u32,
-    pub(crate) lane: u8,
-    pub(crate) command: Command,
+pub struct Line {
+    pub round: u32,
+    pub lane: u8,
+    pub command: Command,
 }

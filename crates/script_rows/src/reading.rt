@@ -56,6 +56,15 @@ fn read_line(
     })
 }
 
+/// The one row of a table, read behind a row of round `last`. A fault names it as row 1.
+pub fn read_row(rows: &Rows, version: ScriptVersion, last: u32) -> Result<Line, ScriptFault>
+    requires one { length rows.now.records ≡ 1 }
+    requires columns { rows.now.columns ≡ columns_of version }
+    ensures { result ≡ line_in version 1 last (record_at rows.now 0) }
+{
+    read_line(rows, 0, version, last)
+}
+
 /// Whether the last round has this number.
 fn joins(rounds: &[Round], number: u32) -> bool
     ensures value { result ≡ joins rounds.now number }
