@@ -22,6 +22,14 @@ unfoldable pub entries_lines : Bool → ℕ → List Entry → List (List ℕ)
 entries_lines proof position [] = []
 entries_lines proof position (e ∷ es) = ((entry_line position e ∷ []) ++ entry_block proof e.command e.reply) ++ entries_lines proof (one_more position) es
 
+-- the line that begins a round
+abbrev pub round_line : ℕ → List ℕ
+round_line number = lines_text (numbered (codes "round ") number ∷ [])
+
+-- the text of an entry: its line, and behind a close that was answered `closed` the block of its batch
+abbrev pub entry_text : Bool → ℕ → Entry → List ℕ
+entry_text proof position e = lines_text ((entry_line position e ∷ []) ++ entry_block proof e.command e.reply)
+
 -- the text of a round
 unfoldable pub round_text : ℕ → Bool → Journal → List ℕ
 round_text number proof journal = lines_text ((numbered (codes "round ") number ∷ []) ++ entries_lines proof journal.first journal.entries)

@@ -14,6 +14,7 @@ mod head;
 mod lines;
 mod reply;
 mod round;
+mod step;
 mod summary;
 mod words;
 
@@ -22,4 +23,5 @@ pub use entry::put_entry;
 pub use fault::ReportFault;
 pub use head::write_head;
 pub use round::{write_end, write_round};
+pub use step::{write_round_start, write_step};
 pub use summary::{write_load, write_summary};

@@ -89,7 +89,7 @@ fn write_entries<K: Sink>(
     Ok(())
 }
 
-fn write_entry<K: Sink>(
+pub(crate) fn write_entry<K: Sink>(
     sink: &mut K,
     piece: &mut Vec<u8>,
     position: u64,
