@@ -8,9 +8,9 @@ set -euo pipefail
 work=$(mktemp -d)
 trap 'rm -rf "$work"' EXIT
 [ $# -gt 0 ] || set -- square:20 uneven:20 square:50 uneven:50 uneven:100
-(cd crates/times_bench && rt run > /dev/null) || [ $? = 2 ]
+(cd crates/calls_bench && rt run > /dev/null) || [ $? = 2 ]
 # What the program prints for the network, and the greatest memory that it had, in kilobytes.
-timed() { /usr/bin/time -f '%M kilobytes' taskset -c 0 crates/times_bench/out/times_bench "$work/network" "$@" 2>&1; }
+timed() { /usr/bin/time -f '%M kilobytes' taskset -c 0 crates/calls_bench/out/calls_bench tables "$work/network" "$@" 2>&1; }
 least_and_cells() { awk '$2 == "microseconds," { if (!least || $1 < least) least = $1; cells = $4 } END { print least, cells }' "$1"; }
 kilobytes() { sed -n 's/ kilobytes$//p' "$1"; }
 measure() {

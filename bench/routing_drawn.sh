@@ -8,13 +8,13 @@ tasks=${1:-20000}
 work=$(mktemp -d)
 trap 'rm -rf "$work"' EXIT
 g++ -O2 -march=x86-64-v2 -o "$work/native" bench/routing.cpp
-(cd crates/routing_bench && rt run > /dev/null) || [ $? = 2 ]
+(cd crates/calls_bench && rt run > /dev/null) || [ $? = 2 ]
 least() { awk '$2 ~ /^microseconds/ { if (!least || $1 < least) least = $1 } END { print least }' "$1"; }
 for seed in 1 2 3; do
     : > "$work/ours"
     : > "$work/theirs"
     for _ in 1 2 3; do
-        crates/routing_bench/out/routing_bench "$seed" "$tasks" >> "$work/ours"
+        crates/calls_bench/out/calls_bench routing "$seed" "$tasks" >> "$work/ours"
         "$work/native" "$seed" "$tasks" >> "$work/theirs"
     done
     if [ "$(grep served "$work/ours")" != "$(grep served "$work/theirs")" ]; then

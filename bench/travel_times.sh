@@ -8,19 +8,20 @@ set -euo pipefail
 work=$(mktemp -d)
 trap 'rm -rf "$work"' EXIT
 g++ -O2 -march=x86-64-v2 -pthread -o "$work/native" bench/times_peer.cpp
-(cd crates/times_bench && rt run > /dev/null) || [ $? = 2 ]
+(cd crates/calls_bench && rt run > /dev/null) || [ $? = 2 ]
 TIMEFORMAT=%U
-# The processor seconds of a program on the network, with so many points and repeats and the words behind; it writes to
-# a file.
-seconds_of() { { time taskset -c "$1" "$2" "$work/network" "$points" "$3" "${@:5}" > "$4"; } 2>&1; }
+ours() { crates/calls_bench/out/calls_bench tables "$1" "$2" "$3" rows; }
+export -f ours
+# The processor seconds of a program on the network, with so many points and repeats; it writes to a file.
+seconds_of() { { time taskset -c "$1" bash -c '"$@"' _ "$2" "$work/network" "$points" "$3" > "$4"; } 2>&1; }
 least_and_cells() { awk '$2 == "microseconds," { if (!least || $1 < least) least = $1; cells = $4 } END { print least, cells }' "$1"; }
 for side in 20 100 300; do
     python3 bench/made_texts.py 1 "$side" 1 0 0 network > "$work/network"
     for points in 50 500 2000; do
         for processors in 0 0-3; do
-            ours_all=$(seconds_of "$processors" crates/times_bench/out/times_bench 3 "$work/ours" rows)
+            ours_all=$(seconds_of "$processors" ours 3 "$work/ours")
             theirs_all=$(seconds_of "$processors" "$work/native" 3 "$work/theirs")
-            ours_reading=$(seconds_of "$processors" crates/times_bench/out/times_bench 0 "$work/threads" rows)
+            ours_reading=$(seconds_of "$processors" ours 0 "$work/threads")
             theirs_reading=$(seconds_of "$processors" "$work/native" 0 "$work/threads")
             read -r ours ours_cells < <(least_and_cells "$work/ours")
             read -r theirs theirs_cells < <(least_and_cells "$work/theirs")

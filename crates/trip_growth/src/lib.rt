@@ -3,7 +3,7 @@
 //! A trip is tried only where every trip with one rider fewer is a row already, since whoever is left out
 //! of a serving order leaves a serving order. The rows are exact: none is missing, none stands twice.
 //!
-//! A caller, from the tests of `worked_batches`:
+//! A caller, from the tests of `whole_calls`:
 //!
 //! ```
 //! fn text_of_first<L: Ledger>(

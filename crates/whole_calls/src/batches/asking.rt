@@ -1,0 +1,35 @@
+//! The batch of two riders on the line.
+use crate::batches::line::{TWO_SEATS, book_of, line, settings, two_submit};
+use batch_snapshot::Snapshot;
+use pool_base::Second;
+use request_book::Book;
+use road_network::Network;
+use std::alloc::Global;
+
+/// The batch that a seal at second 0 would put up.
+pub fn sealed(book: &Book) -> Option<Snapshot> {
+    match book.would_seal(Second::default()) {
+        Ok(snapshot) => snapshot,
+        Err(_) => None,
+    }
+}
+
+/// The batch of a fleet that two riders ask for a ride.
+pub fn batch_on(alloc: Global, network: &Network, fleet: &[u8]) -> Option<Snapshot> {
+    match book_of(alloc, network, fleet, &settings(200_000, 0)) {
+        Some(mut book) => asked(&mut book),
+        None => None,
+    }
+}
+
+fn asked(book: &mut Book) -> Option<Snapshot> {
+    if two_submit(book) { sealed(book) } else { None }
+}
+
+/// The batch of a vehicle with two seats. `None` for want of memory.
+pub fn batch(alloc: Global) -> Option<Snapshot> {
+    match line(alloc) {
+        Some(network) => batch_on(alloc, &network, TWO_SEATS),
+        None => None,
+    }
+}

@@ -1,4 +1,0 @@
-use Rattle.worked_batches.proofs.texts.text_of_trips.Given as goal
-
-abbrev pub ghosts-text_of_first : goal.ghosts-text_of_first
-ghosts-text_of_first a = record { name = a.blank.name; parts = a.blank.parts }
