@@ -19,8 +19,8 @@ pub(crate) fn least_in_common(rank: &[u32], forward: &[Hub], backward: &[Hub]) -
     while i < forward.len() && j < backward.len() {
         let ahead = forward[i];
         let back = backward[j];
-        let near = rank[ahead.node as usize];
-        let far = rank[back.node as usize];
+        let near = rank[ahead.node];
+        let far = rank[back.node];
         if near < far {
             i += 1;
         } else if far < near {

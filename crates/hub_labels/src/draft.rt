@@ -57,7 +57,7 @@ fn hand_over_one(
         return Ok(());
     }
     labels[node].push(Hub {
-        node: start as u32,
+        node: start,
         seconds: found,
     })
 }

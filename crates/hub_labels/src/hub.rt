@@ -2,6 +2,6 @@
 #[derive(Clone, Copy, Debug, PartialEq, Eq)]
 pub struct Hub {
     /// The index of the node.
-    pub node: u32,
+    pub node: usize,
     pub seconds: u32,
 }

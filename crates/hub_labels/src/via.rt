@@ -14,7 +14,7 @@ pub(crate) fn spread(label: &[Hub], via: &mut [u32])
     ensures { HasSpread label.now (length label.now) via.new }
 {
     for hub in label {
-        via[hub.node as usize] = hub.seconds;
+        via[hub.node] = hub.seconds;
     }
 }
 
@@ -25,7 +25,7 @@ pub(crate) fn clear(label: &[Hub], via: &mut [u32])
     ensures { All (λ seconds. seconds ≡ never) via.new }
 {
     for hub in label {
-        via[hub.node as usize] = Times::NEVER;
+        via[hub.node] = Times::NEVER;
     }
 }
 
@@ -35,7 +35,7 @@ pub(crate) fn is_told(label: &[Hub], via: &[u32], most: u32) -> bool
     ensures { IsTrue result ↔ IsTold label.now via.now most }
 {
     for hub in label {
-        if u64::from(via[hub.node as usize]) + u64::from(hub.seconds) <= u64::from(most) {
+        if u64::from(via[hub.node]) + u64::from(hub.seconds) <= u64::from(most) {
             return true;
         }
     }

@@ -41,7 +41,7 @@ fn seconds(labels: &Labels, a: usize, b: usize) -> Option<u32> {
     }
 }
 
-fn hub(node: u32, seconds: u32) -> Hub {
+fn hub(node: usize, seconds: u32) -> Hub {
     Hub { node, seconds }
 }
 
