@@ -45,7 +45,7 @@ pub fn write_end<K: Sink>(alloc: Global, sink: &mut K, entries: u64) -> Result<(
     write_piece(sink, &mut piece)
 }
 
-fn write_round_line<K: Sink>(
+pub(crate) fn write_round_line<K: Sink>(
     sink: &mut K,
     piece: &mut Vec<u8>,
     number: u32,

@@ -2,10 +2,9 @@
 ghost use Rattle.dispatch_report.specs.Round.{entry_text, round_line};
 ghost use Rattle.dispatch_report.specs.Written.{sink_seen, WritesText};
 
-use crate::block::write_number;
 use crate::fault::ReportFault;
 use crate::lines::write_piece;
-use crate::round::write_entry;
+use crate::round::{write_entry, write_round_line};
 use pool_io::Sink;
 use request_book::Entry;
 
@@ -20,7 +19,7 @@ pub fn write_round_start<K: Sink>(
     ensures { WritesText (sink_seen K.written K.faults sink.old sink.new) (round_line number) result }
 {
     piece.clear();
-    write_number(sink, piece, b"round ", u64::from(number))?;
+    write_round_line(sink, piece, number)?;
     write_piece(sink, piece)
 }
 
