@@ -2,7 +2,7 @@
 
 import re
 
-# a word, with the point before it where it is the field of another
+# a word; the field of another keeps its point, and so names nothing
 WORD = re.compile(r"(?:(?<=[\w)])\.)?[^\s(){}\[\],;.`\"]+")
 USE = re.compile(r"^(?:pub\s+)?use\s+Rattle\.(?P<path>[\w.]+?)(?:\.\{(?P<names>[^}]*)\}|\s+as\s+(?P<alias>\S+))\s*;?\s*$")
 VARIANTS = ".TheVariants"
@@ -82,8 +82,7 @@ class Book:
 
     def named_in(self, text, names, module=""):
         """The pieces that a text names, in their order."""
-        words = [word for word in WORD.findall(text) if not word.startswith(".")]
-        found = [self.found(*(names.single.get(word) or (module, word))) for word in words]
+        found = [self.found(*(names.single.get(word) or (module, word))) for word in WORD.findall(text)]
         for alias, path in names.alias.items():
             found += [self.found(path, word) for word in re.findall(rf"(?<![\w.]){re.escape(alias)}\.(\w+)", text)]
         return [piece for piece in found if piece]
