@@ -1,8 +1,8 @@
 """The order in which a reader meets the definitions: chapters, in each its files, those that others name first."""
 
 CHAPTERS = (
-    ("Numbers, ids and walks", "Whole numbers, the ids of the files, the network, and the least seconds from node to node.",
-     "pool_base", "pool_io/specs/Faults", "road_network/src/arc", "road_network/specs/Roads", "road_network/specs/Walk", "travel_times", "hub_labels"),
+    ("Ids and walks", "The ids of the files, the network, and the least seconds from node to node.",
+     "pool_base/src", "pool_base/specs/TravelTime", "pool_base/specs/Times", "pool_io/specs/Faults", "road_network/src/arc", "road_network/specs/Roads", "road_network/specs/Walk", "travel_times", "hub_labels"),
     ("Orders of stops", "What a vehicle has to serve, the orders of its stops, and which of them serve everybody in time.",
      "stop_orders", "small_routing"),
     ("What a batch asks", "The settings, what a batch sees of riders and vehicles, and the limits that it settles for each.",
@@ -17,11 +17,11 @@ CHAPTERS = (
     ("Outcomes", "What a batch comes to: its lists, its plan, its bound and its moves, and when these are good.",
      "rebalancing", "request_book/src/outcome", "batch_solver/specs/Outcome", "batch_solver", "outcome_check"),
     ("Steps", "What a command changes of the book, and what it answers.",
-     "request_book", "script_rows/src/version", "script_rows/specs/Round"),
+     "pool_base/specs/InOrder", "request_book", "script_rows/src/version", "script_rows/specs/Round"),
     ("Runs", "What lanes make of a round, and rounds of a script.",
      "seat_lock", "worker_gate", "shared_book", "dispatch_engine"),
     ("Files, words and texts", "How files and words are read, and how a report is written.",
-     "pool_io", "road_network", "fleet_state", "script_rows", "rider_limits", "dispatch_report"),
+     "pool_base", "pool_base/src/which", "pool_base/src/memory", "pool_io", "road_network", "fleet_state", "script_rows", "rider_limits", "dispatch_report"),
     ("Days", "What vehicles do that follow their plans.", "route_drive"),
     ("Notices", "What riders are told.", "rider_notices"),
     ("Audits", "How a report is read back, and what is wrong with one.",
