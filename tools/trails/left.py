@@ -29,7 +29,7 @@ FAULTS = {
 SENTENCES = {
     ("assignment_search/specs/Found", "IsBranchJustified"): "a node that is a branch was worth making; no other node has to be",
     ("lane_progress/specs/Stand", "stand_after"): "how far a lane that stands so has come with one more entry of this reply",
-    ("lane_progress/specs/Stand", "after_from"): "the same by the batch that waits for its close, and by how many commands were taken",
+    ("lane_progress/specs/Stand", "after_from"): "how far a lane has come with one more entry, by the batch that waits for its close and how many commands were taken",
     ("plan_rules/specs/Graph", "cost_at"): "the cost of the row of this number",
     ("plan_rules/specs/Graph", "riders_at"): "the riders of the row of this number",
     ("plan_rules/specs/Graph", "row_vehicle"): "the vehicle of the row of this number",
