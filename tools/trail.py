@@ -7,6 +7,8 @@
     tools/trail.py --stood COMMIT
                               how many of the definitions on the headline's way at a commit stand, by name and in a crate
                               that stood, and in how many lines
+    tools/trail.py --figures [COMMIT]
+                              lines of code, definitions and proofs, functions and crates, here or at a commit
 
 There are two ways. The headline's begins at the clauses of `ridepool::ridepool`; the other at the clauses of all public
 functions and traits, and at the ghost members of public types. A definition or a type is passed where a clause, or what
@@ -20,7 +22,9 @@ crate; a file of proofs/ that imports more than proofs/lemmas/ of another crate;
 definitions or types on a way; one without a line of comment of its own; lists of docs/proof/DEFINITIONS.md that are not
 the ways'. tools/trails/left.py lists the faults that stand for now; each is printed with its reason.
 """
+import contextlib
 import io
+import re
 import subprocess
 import sys
 import tarfile
@@ -197,27 +201,41 @@ def say_faults(faults):
     return len(faults)
 
 
-def trail_at(commit):
-    """The trail at a commit, and the crates that it had."""
+@contextlib.contextmanager
+def crates_at(commit):
+    """The folder of the crates at a commit."""
     archive = subprocess.run(["git", "archive", commit, "crates"], cwd=TOP, check=True, stdout=subprocess.PIPE).stdout
     with tempfile.TemporaryDirectory() as folder:
         tarfile.open(fileobj=io.BytesIO(archive)).extractall(folder)
-        crates = Path(folder) / "crates"
-        return Trail(crates), {path.name for path in crates.iterdir()}
+        yield Path(folder) / "crates"
 
 
 def say_what_stood(commit):
     """What became of the definitions on the headline's way at a commit."""
-    was, crates = trail_at(commit)
-    then = [piece for piece in was.headline if not piece.is_type]
+    with crates_at(commit) as folder:
+        then = [piece for piece in Trail(folder).headline if not piece.is_type]
+        crates = {path.name for path in folder.iterdir()}
     stood = {piece.name for piece in then}
     now = [piece for piece in Trail(CRATES).headline if not piece.is_type and piece.name in stood and piece.crate in crates]
     print(f"trail: at {commit} {len(then)} definitions, {lines_of(then)} lines; of these stand {len(now)}, in {lines_of(now)} lines")
 
 
+def say_figures(crates):
+    """How large the crates are."""
+    kinds = {"code": "src/**/*.rt", "definitions": "specs/**/*.antt", "proofs": "proofs/**/*.antt"}
+    texts = {name: [path.read_text() for path in crates.glob(f"*/{kind}")] for name, kind in kinds.items()}
+    lines = ", ".join(f"{sum(text.count(chr(10)) for text in found):,} of {name}" for name, found in texts.items())
+    functions = sum(len(re.findall(r"^\s*(?:pub(?:\(\w+\))? )?(?:unsafe )?fn ", text, re.M)) for text in texts["code"])
+    print(f"trail: lines: {lines}; {functions:,} functions in {sum(1 for _ in crates.glob('*/src'))} crates")
+
+
 def main():
     if "--stood" in sys.argv:
         return say_what_stood(sys.argv[sys.argv.index("--stood") + 1])
+    if "--figures" in sys.argv:
+        commit = sys.argv[sys.argv.index("--figures") + 1:]
+        with crates_at(commit[0]) if commit else contextlib.nullcontext(CRATES) as crates:
+            return say_figures(crates)
     trail = Trail(CRATES)
     if "--list" in sys.argv:
         for piece, depth in {**trail.every, **trail.headline}.items():
