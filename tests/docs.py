@@ -4,7 +4,7 @@
     tests/docs.py PROGRAM [--write] [DOCUMENT ..]
 
 runs the commands of README.md and docs/guide, or of these documents, and looks at all documents. With --write it also writes
-what each command printed, and the code that is quoted, into its document.
+what each command printed, and the code that is quoted, into its document, and sorts the tables of crates.
 
 A block ```console has lines `$ COMMAND`, each followed by what it prints on standard output and error; a line `..` there
 stands for any lines. A block ```sh has commands that print nothing to be shown. All run from the top of the repository,
@@ -196,23 +196,23 @@ def long_sentences(path):
     return wrong + [f"{path.name} has {words} words, and may have {MOST_WORDS}"] * (words > MOST_WORDS)
 
 
-def crate_orders():
-    """The crates of crates.txt, ARCHITECTURE.md and the table of what is proved: each has all, and the last two one order."""
-    names = re.findall(r"^(\w+)[^:\n]*:", (TOP / "crates.txt").read_text(), re.M)
-    tables = [TOP / "docs" / "contributing" / "ARCHITECTURE.md", TOP / "docs" / "proof" / "README.md"]
-    listed = []
-    for path, title in zip(tables, ("Storeys", "Crate by crate")):
-        text = re.search(rf"^## {title}\n(.*?)(?=^## |\Z)", path.read_text(), re.M | re.S)[1]
-        rows = [row for row in text.splitlines() if row.startswith("|")]
-        found = [name for row in rows for cell in row.split("|")[1:3] for name in re.findall(r"^ *`(\w+)`|(?<=, )`(\w+)`", cell)]
-        listed.append([a or b for a, b in found if (a or b) in names])
-    wrong = []
-    for path, found in zip(tables, listed):
-        absent, twice = [it for it in names if it not in found], {it for it in found if found.count(it) > 1}
-        wrong += [f"{path.name} lacks the crates {' '.join(absent)}"] * bool(absent)
-        wrong += [f"{path.name} has the crates {' '.join(twice)} twice"] * bool(twice)
-    if not wrong and listed[0] != listed[1]:
-        wrong.append("ARCHITECTURE.md and docs/proof/README.md list the crates in different orders")
+def crate_orders(is_written):
+    """The tables of crates in ARCHITECTURE.md and docs/proof/README.md have the crates of crates.txt, in its order."""
+    names, wrong = re.findall(r"^(\w+)[^:\n]*:", (TOP / "crates.txt").read_text(), re.M), []
+    for name, title in (("contributing/ARCHITECTURE.md", "Storeys"), ("proof/README.md", "Crate by crate")):
+        path = TOP / "docs" / name
+        text = path.read_text()
+        section = re.search(rf"^## {title}\n.*?(?=^## |\Z)", text, re.M | re.S)[0]
+        rows = dict(re.findall(r"^\| `(\w+)` (\|.*\n)", section, re.M))
+        if list(rows) == names:
+            continue
+        amiss = [f"{name} lacks the crate {it}" for it in names if it not in rows]
+        amiss += [f"{name} has a crate {it} that crates.txt lacks" for it in rows if it not in names]
+        if is_written and not amiss:
+            table = "".join(f"| `{it}` {row}" for it, row in rows.items())
+            path.write_text(text.replace(table, "".join(f"| `{it}` {rows[it]}" for it in names)))
+        else:
+            wrong += amiss or [f"{name} has the crates in another order than crates.txt: docs.py PROGRAM --write sorts them"]
     return wrong
 
 
@@ -282,7 +282,7 @@ def main():
         wrong.append(["no document has a command"])
     looks = [look_at_quotes(path, is_written) for path in documents() if QUOTED.search(path.read_text())]
     looks += [broken_links(path) for path in documents()]
-    looks += [long_sentences(TOP / "README.md"), crate_orders(), stale_pages(program), other_version(program), undocumented_items(), stale_callers()]
+    looks += [long_sentences(TOP / "README.md"), crate_orders(is_written), stale_pages(program), other_version(program), undocumented_items(), stale_callers()]
     wrong += [it for it in looks if it]
     print("\n".join(line for it in wrong for line in it))
     print(f"{passed + len(looks) - len(wrong)} passed, {len(wrong)} failed")

@@ -105,6 +105,8 @@ def roff_of(text):
             lines += table(rows)
         elif part.startswith("- "):
             lines += [line for row in rows for line in (".IP \\(bu 2", escaped(row.removeprefix("- ")))]
+        elif part.startswith("1. "):
+            lines += [line for row in rows for line in (f".IP {row.partition(' ')[0]} 3", escaped(row.partition(" ")[2]))]
         else:
             lines += [".PP", *(escaped(row) for row in rows)]
     return lines

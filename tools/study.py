@@ -47,9 +47,11 @@ def tasks_of(cell, ground, limit):
 
 @contextlib.contextmanager
 def client_of(values):
-    """A client of the named cluster, or of one of this machine's processors. What Dask warns of is not shown."""
+    """A client of the named cluster, or of one of this machine's processors. What Dask warns of is not shown, nor what
+    it says of its connections to a worker that died."""
     os.environ.setdefault("PYTHONWARNINGS", "ignore")
     warnings.simplefilter("ignore")
+    logging.getLogger("asyncio").setLevel(logging.CRITICAL)
     from distributed import Client, LocalCluster
 
     if "cluster" in values:

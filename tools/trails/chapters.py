@@ -1,0 +1,68 @@
+"""The order in which a reader meets the definitions: chapters, in each its files, those that others name first."""
+
+CHAPTERS = (
+    ("Ids and walks", "The ids of the files, the network, and the least seconds from node to node.",
+     "pool_base/src", "pool_base/specs/TravelTime", "pool_base/specs/Times", "pool_io/specs/Faults", "road_network/src/arc", "road_network/specs/Roads", "road_network/specs/Walk", "travel_times", "hub_labels"),
+    ("Orders of stops", "What a vehicle has to serve, the orders of its stops, and which of them serve everybody in time.",
+     "stop_orders", "small_routing"),
+    ("What a batch asks", "The settings, what a batch sees of riders and vehicles, and the limits that it settles for each.",
+     "rider_limits/src/settings", "rider_limits/src/load_shape", "rider_limits/specs/Range", "rider_limits/specs/lemmas/Range",
+     "batch_snapshot", "promise_check"),
+    ("The trip graph", "Which vehicle can serve which riders, and at what delay.",
+     "plan_rules/src/row", "plan_rules/specs/Sums", "plan_rules/specs/Graph", "pair_graph", "trip_growth", "trip_graph", "batch_laws"),
+    ("Plans", "Which trip each vehicle takes, whether that is lawful, and what it costs.",
+     "plan_rules/specs/Plan", "plan_rules/specs/Greedy", "row_tables"),
+    ("Bounds", "What no plan can cost less than, and the tree that shows it.",
+     "plan_rules", "dual_bound", "assignment_search", "bound_checker", "search_check"),
+    ("Outcomes", "What a batch comes to: its lists, its plan, its bound and its moves, and when these are good.",
+     "rebalancing", "request_book/src/outcome", "batch_solver/specs/Outcome", "batch_solver", "outcome_check"),
+    ("Steps", "What a command changes of the book, and what it answers.",
+     "pool_base/specs/InOrder", "request_book", "script_rows/src/version", "script_rows/specs/Round"),
+    ("Runs", "What lanes make of a round, and rounds of a script.",
+     "seat_lock", "worker_gate", "shared_book", "dispatch_engine"),
+    ("Files, words and texts", "How files and words are read, and how a report is written.",
+     "pool_base", "pool_base/src/which", "pool_base/src/memory", "pool_io", "road_network", "fleet_state", "script_rows", "rider_limits", "dispatch_report"),
+    ("Days", "What vehicles do that follow their plans.", "route_drive"),
+    ("Notices", "What riders are told.", "rider_notices"),
+    ("Audits", "How a report is read back, and what is wrong with one.",
+     "lane_progress", "report_lines", "report_head", "entry_lines", "block_outcome", "block_audit", "report_audit"),
+    ("Made workloads", "What is made of a seed.", "load_maker", "made_inputs"),
+    ("Live sessions", "What is read, answered and written while requests come in.",
+     "live_rows", "live_desk", "live_batch", "live_dispatch"),
+    ("The call", "What the program answers, and what stands then. The headline's clause is `Answers`.", "ridepool"),
+)
+
+
+def chapter_of(place):
+    """The number of the chapter of a file: of the longest name that it begins with; behind all where none is it."""
+    best = (0, len(CHAPTERS))
+    for at, (_, _, *homes) in enumerate(CHAPTERS):
+        best = max(best, *((len(home), at) for home in homes if place == home or place.startswith(f"{home}/")), (0, -1))
+    return best[1]
+
+
+def place_in(place):
+    """Where a file stands in its chapter, before its own uses are looked at."""
+    homes = CHAPTERS[chapter_of(place)][2:] if chapter_of(place) < len(CHAPTERS) else ()
+    return max(((len(home), -at) for at, home in enumerate(homes) if place == home or place.startswith(f"{home}/")), default=(0, 0))[1]
+
+
+def in_order(uses):
+    """Files in the order of a chapter, each behind those of the chapter that it uses, where there is no ring of them.
+    `uses` has for each file those whose definitions it names."""
+    order, seen = [], set()
+
+    def visit(place):
+        if place in seen or place not in uses:
+            return
+        seen.add(place)
+        for used in sorted(uses[place], key=rank):
+            visit(used)
+        order.append(place)
+
+    def rank(place):
+        return -place_in(place), place
+
+    for place in sorted(uses, key=rank):
+        visit(place)
+    return order
