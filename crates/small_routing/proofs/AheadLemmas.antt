@@ -34,7 +34,7 @@ sum_below-le_one f g (suc n) i x b h one = elim (cases_eq i n) [
 ]
 
 -- who is sooner can still serve whom the other can, with no more delay
-still_soon : (tau : ℕ → ℕ → ℕ) (dwell : ℕ) (leg : Leg) (picked dropped : Bool) (p f q g : ℕ) → AtLeastAsSoon tau p f q g → CanStill tau dwell leg picked dropped q g
+pub still_soon : (tau : ℕ → ℕ → ℕ) (dwell : ℕ) (leg : Leg) (picked dropped : Bool) (p f q g : ℕ) → AtLeastAsSoon tau p f q g → CanStill tau dwell leg picked dropped q g
     → CanStill tau dwell leg picked dropped p f × (late_at_once tau dwell leg picked dropped p f ≤ late_at_once tau dwell leg picked dropped q g)
 still_soon tau dwell leg picked true p f q g soon can = (tt, omega arith)
 still_soon tau dwell leg true false p f q g soon can =
@@ -76,7 +76,7 @@ pub record IsAhead (tau : ℕ → ℕ → ℕ) (task : Task) (label : Label) (re
   pub least : least_ahead tau task label ≤ rest_delay tau task label rest
 
 module _ (points : ℕ) (tau : ℕ → ℕ → ℕ) (t : IsTravelTime points tau) (task : Task) (few : task_riders task ≤ 6) where
-  soon_next : (label : Label) (s : Stop) → tau label.place (place_of (visit_at task s)) < never → AtLeastAsSoon tau label.place label.free (next_label tau task label s).place (next_label tau task label s).free
+  pub soon_next : (label : Label) (s : Stop) → tau label.place (place_of (visit_at task s)) < never → AtLeastAsSoon tau label.place label.free (next_label tau task label s).place (next_label tau task label s).free
   soon_next label s reach = record {
     soon = λ x there. let hops = two_hops points tau t label.place (place_of (visit_at task s)) x reach there in (hops.0, omega (arith, hops.1));
   }

@@ -18,7 +18,8 @@ use Rattle.small_routing.specs.declared.label.Label.{Label}
 use Rattle.small_routing.specs.work.Label.{IsRoutable, IsRoutableLeg, task_riders, task_passengers, first_label, second_at, CanVisit, next_label, rest_delay, IsSmallLabel}
 use Rattle.small_routing.specs.work.Search.{LeadsTo}
 
-routable_leg : (points : ℕ) (leg : Leg) → IsLeg points leg → IsRoutableLeg points leg
+-- a valid leg can be searched
+pub routable_leg : (points : ℕ) (leg : Leg) → IsLeg points leg → IsRoutableLeg points leg
 routable_leg points leg h = record { origin = h.origin; destination = h.destination; party = h.party }
 
 -- a valid task can be searched

@@ -3,3 +3,4 @@ pub mod CandidateLemmas
 pub mod LabelLemmas
 pub mod SearchLemmas
 pub mod UnlimitedLemmas
+mod ApartLemmas

@@ -10,6 +10,7 @@ use stop_orders::{Leg, Task, arrival};
 
 /// A lower bound of the delay from a label on, as if the vehicle went to each rider at once; `None` only
 /// where not even so someone is served in time.
+#[inline(always)]
 pub(crate) fn look_ahead(task: &Task, times: &Times, label: &Label) -> Option<u64>
     requires valid { IsRoutable (point_count times.now) task.now }
     requires place { label.now.place < point_count times.now }
@@ -33,7 +34,8 @@ pub(crate) fn look_ahead(task: &Task, times: &Times, label: &Label) -> Option<u6
 }
 
 /// The delay of one rider where the vehicle goes there at once; `None` exactly where that is too late.
-fn late_if_at_once(
+#[inline(always)]
+pub(crate) fn late_if_at_once(
     times: &Times,
     dwell: u16,
     leg: &Leg,
@@ -64,6 +66,7 @@ fn late_if_at_once(
 }
 
 /// The delay of a drop-off straight from a place; `None` exactly where it is too late.
+#[inline(always)]
 fn dropped_at(times: &Times, leg: &Leg, place: usize, free: u64) -> Option<u64>
     requires leg { IsRoutableLeg (point_count times.now) leg.now }
     requires place { place < point_count times.now }

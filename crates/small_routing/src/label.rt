@@ -34,6 +34,7 @@ impl Default for Label {
 }
 
 /// The second at which a stop is reached; `None` exactly where it can't be reached, is late, or finds too few seats.
+#[inline(always)]
 pub(crate) fn second_of(task: &Task, times: &Times, label: &Label, stop: Stop) -> Option<u64>
     requires valid { IsRoutable (point_count times.now) task.now }
     requires known { IsKnown (task_riders task.now) (task_passengers task.now) stop }
@@ -63,6 +64,7 @@ pub(crate) fn second_of(task: &Task, times: &Times, label: &Label, stop: Stop) -
 }
 
 /// The second at which a place is reached; `None` exactly where it can't be reached, or is late.
+#[inline(always)]
 fn second_in_time(times: &Times, label: &Label, place: usize, latest: u64) -> Option<u64>
     requires to { place < point_count times.now }
     requires place { label.now.place < point_count times.now }
@@ -80,6 +82,7 @@ fn second_in_time(times: &Times, label: &Label, place: usize, latest: u64) -> Op
 }
 
 /// The label after one more stop, which is reached at this second and finds its seats.
+#[inline(always)]
 pub(crate) fn label_after(task: &Task, label: &Label, stop: Stop, second: u64) -> Label
     requires known { IsKnown (task_riders task.now) (task_passengers task.now) stop }
     requires few { task_riders task.now ≤ 6 }
@@ -108,6 +111,7 @@ pub(crate) fn label_after(task: &Task, label: &Label, stop: Stop, second: u64) -
 }
 
 /// The label after the drop-off of this leg, which is reached at this second.
+#[inline(always)]
 fn label_out(task: &Task, label: &Label, stop: Stop, second: u64, leg: &Leg) -> Label
     requires known { IsKnown (task_riders task.now) (task_passengers task.now) stop }
     requires few { task_riders task.now ≤ 6 }

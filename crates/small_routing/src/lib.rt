@@ -25,6 +25,7 @@
 #![tactic(auto)]
 
 mod ahead;
+mod apart;
 mod candidate;
 mod kept;
 mod label;
@@ -32,6 +33,7 @@ mod least;
 mod search;
 mod unlimited;
 
+pub use apart::are_apart;
 pub use kept::Workspace;
 pub use least::{least_delay, least_delay_with};
 pub use stop_orders::Route;

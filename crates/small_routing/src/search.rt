@@ -63,6 +63,7 @@ pub(crate) fn try_all(
 
 /// Whether it is seen at once that no way on from a label is better than what was found: someone can't be
 /// served any more, or not with less delay, or a label from which all ways on were tried dominates it.
+#[inline(always)]
 pub(crate) fn is_hopeless(
     task: &Task,
     times: &Times,
@@ -85,6 +86,7 @@ pub(crate) fn is_hopeless(
 }
 
 /// Whether this delay is less than that of what was found.
+#[inline(always)]
 fn is_better(delay: u64, best: &Option<Route>) -> bool
     ensures { IsFalse result ↔ NoneBetter best.now delay }
 {

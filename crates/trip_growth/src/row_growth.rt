@@ -6,7 +6,7 @@ ghost use Rattle.trip_growth.specs.work.Growth.{CanGrow, rider_count, serves, co
 
 use crate::candidate::{have_same_front, is_possible, with_rider};
 use crate::growth::Growth;
-use crate::route_cost::cost_with;
+use crate::route_cost::{are_apart_with, cost_with};
 use crate::trip_of::TripOf;
 use pool_base::{OutOfMemory, Steps};
 use small_routing::Workspace;
@@ -39,12 +39,15 @@ fn add_trip<L: Ledger>(
     ensures steps { steps.new ≤ steps.old + 1 }
     ensures task { OnOk result (task.new ≡ task.old) }
 {
+    let leg = growth.settled.riders.as_slice()[rider].leg;
+    if are_apart_with(task, &leg, growth.times) {
+        return Ok(true);
+    }
     let longer = with_rider(riders, rider);
     let trip = longer.as_slice();
     if !is_possible(growth, rows, trip) {
         return Ok(true);
     }
-    let leg = growth.settled.riders.as_slice()[rider].leg;
     let Some(cost) = cost_with(workspace, task, leg, growth.times, steps)? else {
         return Ok(true);
     };

@@ -7,6 +7,24 @@ use Rattle.trip_growth.proofs.Levels.{taken, passed}
 use Rattle.trip_growth.proofs.RowGrowth.{row_of, one_too_many, longer_task}
 use Rattle.trip_growth.proofs.row_growth.add_trip.Goals as goal
 
+pub are_apart_with-requires : goal.are_apart_with-requires
+are_apart_with-requires g c =
+    let growth = c.args.growth.now in
+    let longer = length_push c.args.riders.now c.args.rider in
+    let same = longer_task growth.settled.now growth.vehicle c.args.task.now c.args.riders.now c.args.rider c.as_slice.result.now c.index-as_slice-rider.result c.requires.task c.as_slice.ensures c.requires.trip in
+    subst (IsTask (point_count growth.times.now)) (sym same)
+    ((c.requires.can.sound.each growth.vehicle c.requires.can.vehicle).tasks (c.args.riders.now ++ c.args.rider ∷ []) c.requires.trip (omega arith))
+
+pub returns-then-are_apart_with-clause-answer : goal.returns-then-are_apart_with-clause-answer
+returns-then-are_apart_with-clause-answer g c =
+    let growth = c.args.growth.now in
+    let same = longer_task growth.settled.now growth.vehicle c.args.task.now c.args.riders.now c.args.rider c.as_slice.result.now c.index-as_slice-rider.result c.requires.task c.as_slice.ensures c.requires.trip in
+    let apart = c.are_apart_with.ensures c.if-are_apart_with.true in (
+      passed (rider_count growth) (serves growth) (costs growth) c.requires.can.rule c.args.riders.now c.args.rider c.args.found.now.items
+          (λ s. apart (subst (IsServable (travel_time growth.times.now)) (sym same) s.servable)) c.requires.upto,
+      c.requires.room,
+    )
+
 pub returns-then-not-is_possible-clause-answer : goal.returns-then-not-is_possible-clause-answer
 returns-then-not-is_possible-clause-answer g c =
     let growth = c.args.growth.now in
