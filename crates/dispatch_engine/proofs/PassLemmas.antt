@@ -1,6 +1,7 @@
 -- How a pass runs its lane's commands, piece by piece.
-use Rattle.std.proofs.Common.{◌≡◌, ℕ, true, List, [], ◌∷◌, ◌++◌, map, Option, Some, None, refl, sym, ap, subst, ◌∙◌, append_assoc, append-nil, true≢false}
+use Rattle.std.proofs.Common.{◌≡◌, ℕ, ◌≤◌, true, List, All, [], ◌∷◌, ◌++◌, map, Option, Some, None, refl, sym, ap, subst, ◌∙◌, append_assoc, append-nil, true≢false, arith}
 use Rattle.std.proofs.lemmas.List.{map-append}
+use Rattle.std.proofs.lemmas.List.Elements.{All-nil, All-cons, All-append, All-weaker}
 use Rattle.batch_snapshot.specs.Batch.{Batch}
 use Rattle.batch_solver.specs.Outcome.{IsGoodOutcome}
 use Rattle.request_book.specs.declared.command.Command.{Command}
@@ -17,8 +18,8 @@ use Rattle.seat_lock.specs.declared.logged.Entry.{Entry as Logged}
 use Rattle.shared_book.specs.declared.locked.LockedReply.{LockedReply}
 use Rattle.shared_book.specs.declared.shared.Receipt.{Receipt}
 use Rattle.shared_book.specs.Locked.{entry_of, is_light, sealed_by, Fits}
-use Rattle.shared_book.specs.Shared.{BookPass, with_snapshot, HasCalled, HasCalledSome}
-use Rattle.dispatch_engine.specs.Lane.{IsLaneRunFrom, IsLaneRun, IsLaneBeginning, last_sealed, IsGoodFor, LaneClosesAreGood, HasRun, HasBegun}
+use Rattle.shared_book.specs.Shared.{BookPass, with_snapshot, HasCalled, HasCalledSome, IsSamePass}
+use Rattle.dispatch_engine.specs.Lane.{IsLaneRunFrom, IsLaneRun, IsLaneBeginning, last_sealed, IsGoodFor, LaneClosesAreGood, HasGained, HasRun, HasBegun}
 use Rattle.dispatch_engine.specs.lemmas.Lanes.{IsPlain}
 use Rattle.dispatch_engine.specs.work.Lanes.{calls_of_pass}
 
@@ -64,6 +65,34 @@ nothing-left : (p : Option ℕ) → p ≡ None → IsLaneRunFrom p [] []
 nothing-left None e = tt
 nothing-left (Some batch) e = absurd cc
 
+gained-same : (old new : BookPass) → IsSamePass old new → HasGained [] old new
+gained-same old new same = record {
+  calls = same.0 ∙ sym (append-nil old.calls);
+  behind = All-nil (λ (c : ℕ × Logged Command LockedReply). old.seen ≤ c.0);
+  seen = same.1;
+}
+
+gained-call : (nodes : List ℕ) (old new : BookPass) (command : Command) (position : ℕ) (reply : LockedReply) → HasCalled nodes old command position reply new
+    → HasGained ((position, entry old.lane command reply) ∷ []) old new
+gained-call nodes old new command position reply called =
+    let P : ℕ × Logged Command LockedReply → Type 0 = λ c. old.seen ≤ c.0 in
+    record {
+      calls = called.calls;
+      behind = All-cons P (position, entry old.lane command reply) [] called.after (All-nil P);
+      seen = (let after = called.after in let seen = called.seen in omega (arith, after, seen));
+    }
+
+gained-more : (a b c : BookPass) (xs ys : List (ℕ × Logged Command LockedReply)) → HasGained xs a b → HasGained ys b c → HasGained (xs ++ ys) a c
+gained-more a b c xs ys p q =
+    let first = p.seen in
+    let second = q.seen in
+    let P : ℕ × Logged Command LockedReply → Type 0 = λ e. a.seen ≤ e.0 in
+    record {
+      calls = q.calls ∙ ap (λ l. l ++ ys) p.calls ∙ append_assoc a.calls xs ys;
+      behind = All-append P xs ys p.behind (All-weaker (λ (e : ℕ × Logged Command LockedReply). b.seen ≤ e.0) P (λ e after. omega (arith, first, after)) ys q.behind);
+      seen = omega (arith, first, second);
+    }
+
 module _ (settings : Settings) (roads : Roads) where
   -- what is good though nothing was sealed before is good after any batch
   later : (last : Option Batch) (calls : List (Logged Command LockedReply)) → LaneClosesAreGood settings roads None calls → LaneClosesAreGood settings roads last calls
@@ -88,12 +117,12 @@ module _ (settings : Settings) (roads : Roads) where
   closes-append last (x ∷ xs) ys p q = (p.0, closes-append (last_sealed last x.reply.snapshot) xs ys p.1 q)
 
   pub runs-none : (p : BookPass) → HasRun settings roads [] p p
-  runs-none p = record { more = []; calls = sym (append-nil p.calls); run = tt; closes = tt }
+  runs-none p = record { more = []; gained = gained-same p p (refl, omega arith); run = tt; closes = tt }
 
   pub runs-more : (a b c : BookPass) (cs ds : List Command) → HasRun settings roads cs a b → HasRun settings roads ds b c → HasRun settings roads (cs ++ ds) a c
   runs-more a b c cs ds p q = record {
     more = p.more ++ q.more;
-    calls = q.calls ∙ ap (λ l. l ++ q.more) p.calls ∙ append_assoc a.calls p.more q.more;
+    gained = gained-more a b c p.more q.more p.gained q.gained;
     run = subst (IsLaneRun (cs ++ ds)) (sym (map-append (λ c. entry_of c.1) p.more q.more)) (run-append None cs ds _ _ p.run q.run);
     closes = subst (LaneClosesAreGood settings roads None) (sym (map-append (λ c. c.1) p.more q.more)) (closes-append None _ _ p.closes q.closes);
   }
@@ -102,7 +131,7 @@ module _ (settings : Settings) (roads : Roads) where
   pub runs-plain : (nodes : List ℕ) (old new : BookPass) (command : Command) (receipt : Receipt) → IsPlain command → HasCalledSome nodes old command receipt new → HasRun settings roads (command ∷ []) old new
   runs-plain nodes old new command receipt plain called = record {
     more = (receipt.position, entry old.lane command (with_snapshot receipt.reply called.snapshot)) ∷ [];
-    calls = called.called.calls;
+    gained = gained-call nodes old new command receipt.position (with_snapshot receipt.reply called.snapshot) called.called;
     run = (refl, nothing-left (sealed_by receipt.reply) (light-unsealed nodes command receipt.reply called.snapshot (plain-light command plain) called.called.fits));
     closes = (here command plain, tt);
   }
@@ -120,7 +149,7 @@ module _ (settings : Settings) (roads : Roads) where
   pub runs-refused : (nodes : List ℕ) (old new : BookPass) (now position : ℕ) (reply : Reply) → HasCalled nodes old (Seal now) position (with_snapshot reply None) new → HasRun settings roads (Seal now ∷ []) old new
   runs-refused nodes old new now position reply called = record {
     more = (position, entry old.lane (Seal now) (with_snapshot reply None)) ∷ [];
-    calls = called.calls;
+    gained = gained-call nodes old new (Seal now) position (with_snapshot reply None) called;
     run = (refl, nothing-left (sealed_by reply) (sym called.fits.sealed));
     closes = (tt, tt);
   }
@@ -134,30 +163,32 @@ module _ (settings : Settings) (roads : Roads) where
       let second_entry : Entry = entry_of second.1 in
       record {
         more = first ∷ second ∷ [];
-        calls = closed.called.calls ∙ ap (λ l. l ++ second ∷ []) sealed.calls ∙ append_assoc old.calls (first ∷ []) (second ∷ []);
+        gained = gained-more old between new (first ∷ []) (second ∷ [])
+            (gained-call nodes old between (Seal now) position (with_snapshot reply (Some b)) sealed)
+            (gained-call nodes between new (Close b.number outcome) receipt.position (with_snapshot receipt.reply closed.snapshot) closed.called);
         run = (refl, subst (λ (o : Option ℕ). IsLaneRunFrom o [] (second_entry ∷ [])) sealed.fits.sealed (refl, tt));
         closes = (tt, ((b, refl, good), tt));
       }
 
   -- no call more
-  pub begun-none : (commands : List Command) (old new : BookPass) → new.calls ≡ old.calls → HasBegun settings roads commands old new
+  pub begun-none : (commands : List Command) (old new : BookPass) → IsSamePass old new → HasBegun settings roads commands old new
   begun-none commands old new same = let run = some-run commands in record {
     more = [];
-    calls = same ∙ sym (append-nil old.calls);
+    gained = gained-same old new same;
     begun = (run.0, run.1);
     closes = tt;
   }
 
   -- a seal whose batch isn't closed yet
   pub begun-sealed : (nodes : List ℕ) (old between new : BookPass) (now position : ℕ) (reply : Reply) (b : Batch)
-      → HasCalled nodes old (Seal now) position (with_snapshot reply (Some b)) between → new.calls ≡ between.calls → HasBegun settings roads (Seal now ∷ []) old new
+      → HasCalled nodes old (Seal now) position (with_snapshot reply (Some b)) between → IsSamePass between new → HasBegun settings roads (Seal now ∷ []) old new
   begun-sealed nodes old between new now position reply b sealed same =
       let first : ℕ × Logged Command LockedReply = (position, entry old.lane (Seal now) (with_snapshot reply (Some b))) in
       let outcome : Outcome = record { expired = []; answer = Overflow } in
       let close : Entry = record { lane = 0; command = Close b.number outcome; reply = Accepted } in
       record {
         more = first ∷ [];
-        calls = same ∙ sealed.calls;
+        gained = gained-more old between new (first ∷ []) [] (gained-call nodes old between (Seal now) position (with_snapshot reply (Some b)) sealed) (gained-same between new same);
         begun = (close ∷ [], (refl, subst (λ (o : Option ℕ). IsLaneRunFrom o [] (close ∷ [])) sealed.fits.sealed (refl, tt)));
         closes = (tt, tt);
       }
@@ -166,7 +197,7 @@ module _ (settings : Settings) (roads : Roads) where
   pub begun-after : (a b c : BookPass) (cs ds rest : List Command) → HasRun settings roads cs a b → HasBegun settings roads ds b c → HasBegun settings roads ((cs ++ ds) ++ rest) a c
   begun-after a b c cs ds rest p q = record {
     more = p.more ++ q.more;
-    calls = q.calls ∙ ap (λ l. l ++ q.more) p.calls ∙ append_assoc a.calls p.more q.more;
+    gained = gained-more a b c p.more q.more p.gained q.gained;
     begun = subst (IsLaneBeginning ((cs ++ ds) ++ rest)) (sym (map-append (λ c. entry_of c.1) p.more q.more)) (begun-more (cs ++ ds) rest _ (begun-next cs ds _ _ p.run q.begun));
     closes = subst (LaneClosesAreGood settings roads None) (sym (map-append (λ c. c.1) p.more q.more)) (closes-append None _ _ p.closes q.closes);
   }
@@ -174,7 +205,7 @@ module _ (settings : Settings) (roads : Roads) where
   -- a pass that had made no call
   pub ran-fresh : (old new : BookPass) (commands : List Command) → HasRun settings roads commands old new → old.calls ≡ [] → IsLaneRun commands (map entry_of (calls_of_pass new)) × LaneClosesAreGood settings roads None (calls_of_pass new)
   ran-fresh old new commands p fresh =
-      let calls : new.calls ≡ p.more = p.calls ∙ ap (λ l. l ++ p.more) fresh in (
+      let calls : new.calls ≡ p.more = p.gained.calls ∙ ap (λ l. l ++ p.more) fresh in (
         subst (IsLaneRun commands) (twice p.more ∙ ap (λ l. map entry_of (map (λ c. c.1) l)) (sym calls)) p.run,
         subst (LaneClosesAreGood settings roads None) (ap (map (λ c. c.1)) (sym calls)) p.closes,
       )

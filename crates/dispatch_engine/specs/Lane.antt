@@ -1,5 +1,5 @@
 -- What a lane did: its commands, each once, in their order, and the closes of the batches that it sealed.
-use Rattle.std.specs.Prelude.{◌≡◌, ℕ, ◌==◌, List, [], ◌∷◌, ◌++◌, Option, None, Some, filter, map}
+use Rattle.std.specs.Prelude.{◌≡◌, ℕ, ◌≤◌, ◌==◌, List, [], ◌∷◌, ◌++◌, Option, None, Some, All, filter, map}
 use Rattle.batch_snapshot.specs.Batch.{Batch}
 use Rattle.batch_solver.specs.Outcome.{IsGoodOutcome}
 use Rattle.request_book.specs.Step.{step}
@@ -46,6 +46,12 @@ abbrev pub last_sealed : Option Batch → Option Batch → Option Batch
 last_sealed last None = last
 last_sealed last (Some b) = Some b
 
+-- the pass has gained these calls: they stand behind all that it had seen, and it has seen no less
+pub record HasGained (more : List (ℕ × Logged Command LockedReply)) (old new : BookPass) : Type 0 where
+  pub calls : new.calls ≡ old.calls ++ more
+  pub behind : All (λ c. old.seen ≤ c.0) more
+  pub seen : old.seen ≤ new.seen
+
 module _ (settings : Settings) (roads : Roads) where
   -- where a close was answered `closed`, its outcome is good for the batch that is sealed in the state before it
   abbrev pub IsGoodClose : State → Command → Reply → Type 0
@@ -70,13 +76,13 @@ module _ (settings : Settings) (roads : Roads) where
   -- the pass has gained calls that are a run of these commands, with good closes
   pub record HasRun (commands : List Command) (old new : BookPass) : Type 0 where
     pub more : List (ℕ × Logged Command LockedReply)
-    pub calls : new.calls ≡ old.calls ++ more
+    pub gained : HasGained more old new
     pub run : IsLaneRun commands (map (λ c. entry_of c.1) more)
     pub closes : LaneClosesAreGood None (map (λ c. c.1) more)
 
   -- the pass has gained calls that are a beginning of a run of these commands, with good closes
   pub record HasBegun (commands : List Command) (old new : BookPass) : Type 0 where
     pub more : List (ℕ × Logged Command LockedReply)
-    pub calls : new.calls ≡ old.calls ++ more
+    pub gained : HasGained more old new
     pub begun : IsLaneBeginning commands (map (λ c. entry_of c.1) more)
     pub closes : LaneClosesAreGood None (map (λ c. c.1) more)

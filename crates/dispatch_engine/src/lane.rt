@@ -2,6 +2,7 @@
 ghost use Rattle.std.specs.Prelude.{◌≡◌, ◌∷◌, [], All, OnErr, OnOk};
 ghost use Rattle.script_rows.specs.Round.{MayStand};
 ghost use Rattle.seat_lock.specs.Values.{IsPassOf};
+ghost use Rattle.shared_book.specs.Shared.{IsSamePass};
 ghost use Rattle.dispatch_engine.specs.Lane.{HasBegun, HasRun};
 ghost use Rattle.dispatch_engine.specs.work.Crew.{HasTaken};
 
@@ -153,7 +154,7 @@ fn take<G: Gate>(
     requires { IsPassOf book.now pass.old }
     ensures pass { IsPassOf book.now pass.new × (pass.new.lane ≡ pass.old.lane) }
     ensures taken { OnOk result (HasTaken book.now.start.nodes pass.old command pass.new) }
-    ensures refused { OnErr result (pass.new.calls ≡ pass.old.calls) }
+    ensures refused { OnErr result (IsSamePass pass.old pass.new) }
 {
     match book.call(rt, alloc, pass, command) {
         Ok(_receipt) => {

@@ -8,7 +8,7 @@ ghost use Rattle.dispatch_engine.specs.Run.{IsReady, IsRoundRun, IsSameRun, jour
 use crate::crew::{are_done, crew_of, passes_of, work_all};
 use crate::setup::Setup;
 use pool_base::OutOfMemory;
-use request_book::Book;
+use request_book::{Book, Command};
 use rider_limits::Settings;
 use road_network::Network;
 use row_tables::Drafter;
@@ -70,7 +70,8 @@ fn with_room(book: Book, round: &Round) -> Result<Book, OutOfMemory>
     ensures { IfOk result (IsSameBook book) }
 {
     let mut book = book;
-    match book.reserve(most_entries(round)) {
+    let seals = seal_count(round.lane(0));
+    match book.reserve_with_seals(most_entries(round, seals), seals) {
         Ok(()) => Ok(book),
         Err(fault) => {
             drop(book);
@@ -149,10 +150,21 @@ fn lanes_in_use(round: &Round) -> u8
     lanes
 }
 
-/// At most how many entries a round makes: one for each command, and a close for each of lane 0. Room for
-/// them is made at the start, so that no lane asks for it while others wait.
-fn most_entries(round: &Round) -> u64 {
-    let mut most = round.lane(0).len() as u64;
+/// How many of the commands are seals.
+fn seal_count(commands: &[Command]) -> u64 {
+    let mut count = 0u64;
+    for command in commands {
+        if matches!(command, Command::Seal { .. }) {
+            count = count.saturating_add(1);
+        }
+    }
+    count
+}
+
+/// At most how many entries a round makes: one for each command, and a close for each seal. Room for them is
+/// made at the start, so that no lane asks for it while others wait.
+fn most_entries(round: &Round, seals: u64) -> u64 {
+    let mut most = seals;
     for lane in 0..Round::LANES {
         most = most.saturating_add(round.lane(lane).len() as u64);
     }

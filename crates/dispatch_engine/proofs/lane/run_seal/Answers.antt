@@ -1,4 +1,4 @@
-use Rattle.std.proofs.Common.{◌≡◌, ◌∷◌, [], Some, None, refl, sym, ap, subst}
+use Rattle.std.proofs.Common.{◌≡◌, ◌∷◌, [], Some, None, refl, sym, ap, subst, arith}
 use Rattle.std.proofs.lemmas.Result.{on_ok_weaker, on_err_weaker}
 use Rattle.request_book.specs.declared.command.Command.TheVariants.{Seal, Close}
 use Rattle.shared_book.specs.Shared.{HasCalled, with_snapshot}
@@ -40,7 +40,7 @@ returns-clause-run g c =
 pub returns-in_err-snapshot-clause-begun : goal.returns-in_err-snapshot-clause-begun
 returns-in_err-snapshot-clause-begun g c =
     on-err c.from_residual.result _
-    (begun-none c.args.setup.now.settings.now c.args.setup.now.network.now (Seal c.args.now ∷ []) c.args.pass.now c.seal.new.pass c.in_err-snapshot.ensures.refused.0)
+    (begun-none c.args.setup.now.settings.now c.args.setup.now.network.now (Seal c.args.now ∷ []) c.args.pass.now c.seal.new.pass c.in_err-snapshot.ensures.refused)
 
 pub returns-in_err-outcome-clause-begun : goal.returns-in_err-outcome-clause-begun
 returns-in_err-outcome-clause-begun g c =
@@ -50,7 +50,7 @@ returns-in_err-outcome-clause-begun g c =
     let some : c.in_ok-snapshot.field-0.snapshot ≡ Some b = (let a = c.in-Some.is in let b = c.in_ok-snapshot.snapshot-is in cc) in
     let called = subst (λ o. HasCalled nodes c.args.pass.now (Seal c.args.now) r.position (with_snapshot r.reply o) c.seal.new.pass) some c.in_ok-snapshot.ensures.call in
     on-err c.from_residual-in_err-outcome.result _
-    (begun-sealed c.args.setup.now.settings.now c.args.setup.now.network.now nodes c.args.pass.now c.seal.new.pass c.seal.new.pass c.args.now r.position r.reply b called refl)
+    (begun-sealed c.args.setup.now.settings.now c.args.setup.now.network.now nodes c.args.pass.now c.seal.new.pass c.seal.new.pass c.args.now r.position r.reply b called (refl, omega arith))
 
 pub returns-clause-begun : goal.returns-clause-begun
 returns-clause-begun g c =
