@@ -22,6 +22,7 @@ pub record IsJustified (g : Graph) (bound : ℤ) (usable : Usable) : Type 0 wher
   pub below_held : rounded_up (first_fit_value g usable) <ℤ pos (cost_of g g.held)
   pub below_greedy : (chosen : List (Option ℕ)) → IsGreedy g chosen → IsLawful g chosen → rounded_up (first_fit_value g usable) <ℤ pos (cost_of g chosen)
 
+-- a node that is a branch was worth making; no other node has to be
 abbrev pub IsBranchJustified : Graph → ℤ → Usable → Node → Type 0
 IsBranchJustified g bound usable (Branch v k) = IsJustified g bound usable
 IsBranchJustified g bound usable _ = Unit {0}

@@ -29,11 +29,12 @@ IsNextFrom (Some batch) taken commands command = IsCloseOf batch command
 abbrev pub IsNext : List Command → LaneStand → Command → Type 0
 IsNext commands stand command = IsNextFrom stand.pending stand.taken commands command
 
--- how far a lane has come with one more entry of this reply
+-- how far a lane has come with one more entry, by the batch that waits for its close and how many commands were taken
 abbrev pub after_from : Option ℕ → ℕ → Reply → LaneStand
 after_from None taken reply = record { taken = taken + 1; pending = sealed_by reply }
 after_from (Some batch) taken reply = record { taken = taken; pending = None }
 
+-- how far a lane that stands so has come with one more entry of this reply
 abbrev pub stand_after : LaneStand → Reply → LaneStand
 stand_after stand reply = after_from stand.pending stand.taken reply
 

@@ -4,8 +4,7 @@ use Rattle.road_network.specs.Roads.{Roads}
 use Rattle.road_network.specs.Reading.{network_of}
 use Rattle.load_maker.specs.Texts.{Texts}
 use Rattle.pool_base.specs.Header.{network_header}
-use Rattle.made_inputs.specs.Accepted.{IsNetworkText, IsFleetText, IsScriptText}
-use Rattle.made_inputs.specs.work.Accepted.{AreReadable}
+use Rattle.made_inputs.specs.Accepted.{AreReadable, IsNetworkText, IsFleetText, IsScriptText}
 use Rattle.made_inputs.specs.work.Some.{AreSomeRounds, IsSomeFleet, IsSomeNetwork}
 
 value_or : {A E : Type 0} → A → Result A E → A

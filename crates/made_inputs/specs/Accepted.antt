@@ -33,3 +33,10 @@ pub record AreRead (texts : Texts) (roads : Roads) (vehicles : List Vehicle) (ro
   pub network : IsNetworkText texts.network roads
   pub fleet : IsFleetText roads.nodes texts.fleet vehicles
   pub script : IsScriptText texts.script rounds
+
+-- the readers accept a network, a fleet on it and a script
+pub record AreReadable (texts : Texts) : Type 0 where
+  pub roads : Roads
+  pub vehicles : List Vehicle
+  pub rounds : List NumberedLanes
+  pub read : AreRead texts roads vehicles rounds

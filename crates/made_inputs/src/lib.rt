@@ -3,7 +3,7 @@
 #![tactic(auto)]
 
 ghost use Rattle.load_maker.specs.Texts.{texts_of};
-ghost use Rattle.made_inputs.specs.work.Accepted.{AreReadable};
+ghost use Rattle.made_inputs.specs.Accepted.{AreReadable};
 
 mod reading;
 

@@ -27,12 +27,15 @@ no_row = record { vehicle = 0; riders = record { items = [] }; cost = 0 }
 abbrev pub row_at : Graph → ℕ → TripRow
 row_at g k = slice_index_or g.rows k no_row
 
+-- the vehicle of the row of this number
 abbrev pub row_vehicle : Graph → ℕ → ℕ
 row_vehicle g k = (row_at g k).vehicle
 
+-- the riders of the row of this number
 abbrev pub riders_at : Graph → ℕ → List ℕ
 riders_at g k = (row_at g k).riders.items
 
+-- the cost of the row of this number
 abbrev pub cost_at : Graph → ℕ → ℕ
 cost_at g k = (row_at g k).cost
 

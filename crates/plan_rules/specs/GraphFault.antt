@@ -30,7 +30,7 @@ pub record IsFirstOutOfOrder (g : Graph) (row : ℕ) : Type 0 where
   pub rows : HasGoodRows g
   pub first : IsFirstUnordered g row
 
--- the least vehicle that holds wrongly; the number of vehicles where only the length of the list differs
+-- the least vehicle that holds wrongly
 pub record IsFirstHeldWrongly (g : Graph) (vehicle : ℕ) : Type 0 where
   pub rows : HasGoodRows g
   pub order : HasRowsInOrder g
@@ -38,6 +38,7 @@ pub record IsFirstHeldWrongly (g : Graph) (vehicle : ℕ) : Type 0 where
   pub wrong : HoldsRightly g vehicle → ⊥
   pub before : (v : ℕ) → v < vehicle → HoldsRightly g v
 
+-- no vehicle holds wrongly, but the list of what they hold has another length; named is the number of vehicles
 pub record HasHeldOfOtherLength (g : Graph) (vehicle : ℕ) : Type 0 where
   pub rows : HasGoodRows g
   pub order : HasRowsInOrder g

@@ -121,11 +121,13 @@ is_choice_usable usable (Some k) = usable k
 unfoldable pub is_within : Graph → Usable → List (Option ℕ) → Bool
 is_within g usable chosen = all_below g.vehicles (λ v. is_choice_usable usable (choice_at chosen v))
 
+-- whether a node is a dead end
 abbrev pub is_dead : Node → Bool
 is_dead Dead = true
 is_dead (Leaf ms) = false
 is_dead (Branch v k) = false
 
+-- whether a node is a leaf
 abbrev pub is_leaf : Node → Bool
 is_leaf (Leaf ms) = true
 is_leaf Dead = false

@@ -1,9 +1,10 @@
 use Rattle.std.specs.Prelude.{ℕ, List, codes}
 
--- the header lines of the files, without their ends
+-- the header line of the network's file, without its end
 abbrev pub network_header : List ℕ
 network_header = codes "from,to,seconds"
 
+-- the header line of the fleet's file, without its end
 abbrev pub fleet_header : List ℕ
 fleet_header = codes "vehicle,seats,node,second"
 

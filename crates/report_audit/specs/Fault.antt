@@ -48,6 +48,7 @@ pub record IsWrongBlock (settings : Settings) (roads : Roads) (round : NumberedL
   pub sealed : (state_behind settings roads j).sealed ≡ Some batch
   pub refused : Refuses settings roads batch after refusal
 
+-- a report that is right up to a place within a round fails there in a batch's block
 abbrev pub IsWrongBatch : BlockRefusal → Settings → Roads → Extent → List ℕ → Type 0
 IsWrongBatch refusal settings roads (Extent.within round j) text = IsWrongBlock settings roads round j text refusal
 IsWrongBatch refusal settings roads _ text = ⊥

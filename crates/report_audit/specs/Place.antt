@@ -22,10 +22,11 @@ use Rattle.report_audit.specs.Types.{AreTold, JournalsAreTold}
 
 -- How far a report is right, and which lines may follow there.
 
--- the state after a journal, and the position of the next entry
+-- the state after a journal
 abbrev pub state_behind : Settings → Roads → Journal → State
 state_behind settings roads j = state_after roads.nodes settings.wait j.base j.entries
 
+-- the position of the entry that follows a journal
 abbrev pub position_behind : Journal → ℕ
 position_behind j = next_position j.first j.entries
 

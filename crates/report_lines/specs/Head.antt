@@ -30,5 +30,6 @@ pub record AreSettings (s : SettingsText) : Type 0 where
 abbrev pub sizes_text : ℕ × ℕ → List ℕ
 sizes_text sizes = numbered (codes "network nodes=") sizes.0 ++ numbered (codes " arcs=") sizes.1
 
+-- the numbers of nodes and arcs are within 64 bits
 abbrev pub AreSizes : ℕ × ℕ → Type 0
 AreSizes sizes = (sizes.0 < 2 ^ 64) × (sizes.1 < 2 ^ 64)

@@ -119,12 +119,14 @@ module _ (settings : Settings) (roads : Roads) (head : List ℕ) (AreFirst : Lis
 abbrev pub head_of : Inputs → List ℕ
 head_of i = first_text i.settings.mode i.settings i.roads (length i.vehicles)
 
--- the text of a call is written whole; it ends somewhere within; or it ends there or behind a round
+-- the text of a call is written whole
 abbrev pub IsReportWhole : Inputs → Option (List ℕ) → Option (List ℕ) → List NotifierView → List NotifierView → Type 0
 IsReportWhole i before after notifiers left = IsWhole i.settings i.roads (head_of i) (AreFirst i.settings.mode i) (IsReport i) before after notifiers left
 
+-- the text of a call ends within its first lines, a round's text or its last lines
 abbrev pub IsReportCut : Inputs → Option (List ℕ) → Option (List ℕ) → List NotifierView → List NotifierView → Type 0
 IsReportCut i before after notifiers left = IsCutShort i.settings i.roads (head_of i) (AreFirst i.settings.mode i) (IsReport i) before after notifiers left
 
+-- the text of a call ends there or behind a round
 abbrev pub IsReportPart : Inputs → Option (List ℕ) → Option (List ℕ) → List NotifierView → List NotifierView → Type 0
 IsReportPart i before after notifiers left = IsPart i.settings i.roads (head_of i) (AreFirst i.settings.mode i) (IsReport i) before after notifiers left

@@ -1,4 +1,4 @@
-ghost use Rattle.rider_limits.specs.lemmas.Range.{IsShapeInRange};
+ghost use Rattle.rider_limits.specs.Range.{IsShapeInRange};
 
 /// How large a made workload is, and the seed that it is drawn from. Its type keeps each number within
 /// its range.

@@ -18,10 +18,11 @@ use Rattle.request_book.specs.declared.state.State.{State}
 use Rattle.rider_notices.specs.declared.notice.Notice.{Notice}
 use Rattle.rider_notices.specs.declared.notice.Notice.TheVariants.{Promised, Unserved}
 
--- the second of the first stop that picks the rider up, or that drops the rider
+-- the second of the first stop that picks the rider up
 abbrev pub pickup_second : ℕ → List PlannedStop → Option ℕ
 pickup_second rider stops = option_map (λ stop. stop.second) (find (λ stop. stop.pick && (stop.rider == rider)) stops)
 
+-- the second of the first stop that drops the rider
 abbrev pub dropoff_second : ℕ → List PlannedStop → Option ℕ
 dropoff_second rider stops = option_map (λ stop. stop.second) (find (λ stop. not stop.pick && (stop.rider == rider)) stops)
 

@@ -41,7 +41,7 @@ impl Counter {
 
 impl Logged for Counter {
     ghost use Rattle.std.specs.Prelude.{ℕ, ◌-◌, ◌<◌, true, map, vec_len, vec_capacity};
-    ghost use Rattle.seat_lock.specs.work.Counted.{entry_of};
+    ghost use Rattle.seat_lock.specs.Counted.{counted_entry};
 
     type Call = u64;
 
@@ -51,7 +51,7 @@ impl Logged for Counter {
 
     ghost root = { λ c. c.limit };
 
-    ghost log = { λ c. map entry_of c.additions.items };
+    ghost log = { λ c. map counted_entry c.additions.items };
 
     ghost spare = { λ c. vec_capacity c.additions - vec_len c.additions };
 

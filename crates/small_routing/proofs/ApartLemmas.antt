@@ -14,7 +14,8 @@ use Rattle.stop_orders.proofs.lemmas.ClockLemmas.{soon_there}
 use Rattle.small_routing.specs.declared.label.Label.{Label}
 use Rattle.small_routing.specs.work.Label.{task_riders, task_passengers, first_label, CanVisit, next_label, GoesOn}
 use Rattle.small_routing.specs.work.Ahead.{CanStill}
-use Rattle.small_routing.specs.work.Apart.{with_leg, CanFollow, Waits}
+use Rattle.small_routing.specs.Apart.{with_leg}
+use Rattle.small_routing.specs.work.Apart.{CanFollow, Waits}
 use Rattle.small_routing.proofs.AheadLemmas.{still_soon, soon_next, goes_on_next, is_ahead}
 
 module _ (points : ℕ) (tau : ℕ → ℕ → ℕ) (t : IsTravelTime points tau) (task : Task) (few : task_riders task ≤ 6) where

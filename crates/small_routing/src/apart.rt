@@ -2,7 +2,8 @@ ghost use Rattle.std.specs.Prelude.{◌≡◌, ◌<◌, ◌≤◌, IsTrue, IsFal
 ghost use Rattle.pool_base.specs.Times.{point_count, travel_time};
 ghost use Rattle.stop_orders.specs.Task.{IsTask, IsServable};
 ghost use Rattle.small_routing.specs.work.Label.{IsRoutableLeg};
-ghost use Rattle.small_routing.specs.work.Apart.{with_leg, CanFollow};
+ghost use Rattle.small_routing.specs.Apart.{with_leg};
+ghost use Rattle.small_routing.specs.work.Apart.{CanFollow};
 
 use crate::ahead::late_if_at_once;
 use crate::label::Label;

@@ -49,6 +49,7 @@ visit_at task (Pick i) = let leg = leg_at task.riders.items i in Pickup leg.orig
 visit_at task (Drop i) = let leg = leg_at task.riders.items i in Dropoff leg.destination leg.latest_dropoff leg.ideal leg.party
 visit_at task (Alight j) = let leg = leg_at task.aboard.items j in Dropoff leg.destination leg.latest_dropoff leg.ideal leg.party
 
+-- what the clock and the seats see of each stop
 abbrev pub visits_of : Task → List Stop → List Visit
 visits_of task stops = map (visit_at task) stops
 

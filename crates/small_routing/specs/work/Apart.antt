@@ -1,13 +1,9 @@
-use Rattle.std.specs.Prelude.{◌≡◌, ℕ, ◌+◌, ◌<◌, ◌++◌, ◌∷◌, [], false}
+-- Whether a vehicle that is at one rider can still serve another.
+use Rattle.std.specs.Prelude.{◌≡◌, ℕ, ◌+◌, ◌<◌, false}
 use Rattle.pool_base.specs.TravelTime.{never}
 use Rattle.stop_orders.specs.declared.leg.Leg.{Leg}
-use Rattle.stop_orders.specs.declared.task.Task.{Task}
 use Rattle.stop_orders.specs.Done.{has}
 use Rattle.small_routing.specs.work.Ahead.{CanStill}
-
--- the task with one more rider
-abbrev pub with_leg : Task → Leg → Task
-with_leg task leg = record task { riders = record { items = task.riders.items ++ leg ∷ [] } }
 
 -- the vehicle can go to one rider at once, and then still serve another
 abbrev pub CanFollow : (ℕ → ℕ → ℕ) → ℕ → Leg → Leg → ℕ → ℕ → Type 0

@@ -4,5 +4,5 @@ use Rattle.seat_lock.specs.declared.counter.Addition.{Addition}
 use Rattle.seat_lock.specs.declared.logged.Entry.{Entry}
 
 -- what was added, by whom, and the count after it
-abbrev pub entry_of : Addition → Entry ℕ ℕ
-entry_of a = record { lane = a.lane; call = a.amount; reply = a.count }
+abbrev pub counted_entry : Addition → Entry ℕ ℕ
+counted_entry a = record { lane = a.lane; call = a.amount; reply = a.count }
