@@ -8,8 +8,8 @@ use Rattle.std.proofs.lemmas.List.{drop-drop, drop-take, drop_more, take-append-
 use Rattle.std.proofs.Math.Seq.{take-append-add}
 use Rattle.std.proofs.lemmas.List.Elements.{All-append, All-nil}
 use Rattle.std.proofs.lemmas.List.Splits.{slice_split_at, slice_split_none}
-use Rattle.live_rows.specs.Lines.{ends_line, front_of, lines_of, TakesLine}
-use Rattle.live_rows.specs.work.Pieces.{EndsNoLine, HasTaken, TakesPiece, to_come}
+use Rattle.live_rows.specs.Lines.{bytes_to_come, ends_line, front_of, lines_in, TakesLine}
+use Rattle.live_rows.specs.work.Pieces.{EndsNoLine, HasTaken, TakesPiece}
 
 -- of the bytes at hand the first are taken
 consumes-front : (left : Option (List ℕ)) (ahead piece rest : List ℕ) → ahead ≡ piece ++ rest → Consumes (prepend_known ahead left) (prepend_known rest left) piece
@@ -43,7 +43,7 @@ front-joined line piece count short is =
 pub piece-ended : (left : Option (List ℕ)) (buffer : List ℕ) (at filled end : ℕ) (before after : List ℕ) → at + end < filled → filled ≤ length buffer
     → EndsNoLine (take end (take (filled - at) (drop at buffer))) → ends_line (get_or (take (filled - at) (drop at buffer)) end 0) ≡ true
     → after ≡ front_of (before ++ take end (take (filled - at) (drop at buffer)))
-    → TakesPiece (to_come left buffer at filled) (to_come left buffer (at + end + 1) filled) before after true
+    → TakesPiece (bytes_to_come left buffer at filled) (bytes_to_come left buffer (at + end + 1) filled) before after true
 piece-ended left buffer at filled end before after inside within none here front =
     let ahead : List ℕ = take (filled - at) (drop at buffer) in
     let below : end < length ahead = omega (arith, inside, within, length-take (filled - at) (drop at buffer), length-drop at buffer) in
@@ -59,7 +59,7 @@ piece-ended left buffer at filled end before after inside within none here front
 pub piece-inner : (left : Option (List ℕ)) (buffer : List ℕ) (at filled end : ℕ) (before after : List ℕ) → at + end ≡ filled → filled ≤ length buffer
     → EndsNoLine (take end (take (filled - at) (drop at buffer)))
     → after ≡ front_of (before ++ take end (take (filled - at) (drop at buffer)))
-    → TakesPiece (to_come left buffer at filled) (to_come left buffer (at + end) filled) before after false
+    → TakesPiece (bytes_to_come left buffer at filled) (bytes_to_come left buffer (at + end) filled) before after false
 piece-inner left buffer at filled end before after whole within none front =
     let ahead : List ℕ = take (filled - at) (drop at buffer) in
     let rest : drop end ahead ≡ take (filled - (at + end)) (drop (at + end) buffer) = at-hand buffer at filled end (omega (arith, whole)) in
@@ -89,9 +89,9 @@ line-ends : (old next : Option (List ℕ)) (line gone : List ℕ) (end : ℕ) �
 line-ends None next line gone end none here front took = tt
 line-ends (Some text) None line gone end none here front took = absurd took
 line-ends (Some text) (Some rest) line gone end none here front took =
-    ap lines_of (took ∙ append_assoc gone (end ∷ []) rest)
+    ap lines_in (took ∙ append_assoc gone (end ∷ []) rest)
     ∙ ap (map front_of) (slice_split_at ends_line gone end rest none here)
-    ∙ ap (λ l. l ∷ lines_of rest) (sym front)
+    ∙ ap (λ l. l ∷ lines_in rest) (sym front)
 
 pub taken-ended : (old now next : Option (List ℕ)) (before after : List ℕ) → HasTaken old now before → TakesPiece now next before after true → TakesLine true old next after
 taken-ended old now next before after taken (TakesPiece.ended piece end none here front took) =
@@ -106,6 +106,6 @@ taken-last None now line taken end = tt
 taken-last (Some text) None line taken end = absurd taken.took
 taken-last (Some text) (Some rest) line taken end =
     let whole : text ≡ taken.gone = taken.took ∙ ap (λ l. taken.gone ++ l) end ∙ append-nil taken.gone in (
-      ap lines_of whole ∙ ap (map front_of) (slice_split_none ends_line taken.gone taken.inside) ∙ ap (λ l. l ∷ []) (sym taken.front),
+      ap lines_in whole ∙ ap (map front_of) (slice_split_none ends_line taken.gone taken.inside) ∙ ap (λ l. l ∷ []) (sym taken.front),
       end,
     )

@@ -1,29 +1,31 @@
 -- Lines that are judged one by one.
-use Rattle.std.proofs.Common.{◌≡◌, ℕ, ◌<◌, Bool, true, false, List, [], ◌∷◌, Option, None, Some, length, get_or, refl, sym, ap, ◌∙◌, arith}
+use Rattle.std.proofs.Common.{◌≡◌, ℕ, ◌<◌, Bool, true, false, List, [], ◌∷◌, ◌++◌, Option, None, Some, length, get_or, refl, sym, ap, ◌∙◌, arith}
 use Rattle.std.specs.Prelude.{Result, Ok, Err, IfOk, nat_lt, ◌==◌, if◌then◌else◌}
-use Rattle.pool_io.specs.Table.{table_of}
+use Rattle.pool_io.specs.Table.{Table, table_of}
 use Rattle.pool_io.specs.declared.records.RowFault.{RowFault}
 use Rattle.pool_io.specs.declared.records.RowFault.TheVariants as row
 use Rattle.script_rows.specs.Word.{header_of}
 use Rattle.script_rows.specs.declared.version.ScriptVersion.TheVariants.{One, Two}
-use Rattle.script_rows.specs.Line.{line_in}
+use Rattle.script_rows.specs.Line.{line_in, IsBehind}
+use Rattle.script_rows.specs.declared.fault.ScriptFault.{ScriptFault}
+use Rattle.script_rows.proofs.lemmas.LineLemmas.{IsRead-line_in}
 use Rattle.script_rows.specs.declared.line.Line.{Line}
 use Rattle.script_rows.specs.declared.version.ScriptVersion.{ScriptVersion}
-use Rattle.live_rows.specs.Lines.{lines_of, TakesLine}
-use Rattle.live_rows.specs.Rows.{accepted, judged, next_row, records_judged, row_judged, rows_to_come, NoRows, TakesRows}
+use Rattle.live_rows.specs.Lines.{lines_in, TakesLine}
+use Rattle.live_rows.specs.Rows.{accepted, judged, next_row, records_judged, row_judged, rows_to_come, table_judged, NoRows, TakesRows}
 use Rattle.live_rows.specs.Start.{live_rows, other_start, start_of, started, table_start, HasOtherStart, HasStarted}
 use Rattle.live_rows.specs.declared.judge.Judged.{Judged}
 use Rattle.live_rows.specs.declared.judge.Judged.TheVariants as judged_as
 use Rattle.live_rows.specs.declared.judge.RowRefusal.{RowRefusal}
-use Rattle.live_rows.specs.declared.judge.RowRefusal.TheVariants.{UnequalLength}
+use Rattle.live_rows.specs.declared.judge.RowRefusal.TheVariants.{TooLong, UnequalLength}
 use Rattle.live_rows.specs.declared.rows.Step.TheVariants.{Skipped, Ended}
 use Rattle.live_rows.specs.declared.start.Start.{Start}
 use Rattle.live_rows.specs.declared.start.Start.TheVariants as start
 use Rattle.live_rows.specs.work.Steps.{HasStepped, IsSameScript}
 
 -- no byte gives no row
-accepted-none : (version : ScriptVersion) (last : ℕ) (rest : List ℕ) → rest ≡ [] → accepted version last (lines_of rest) ≡ []
-accepted-none version last rest none = ap (λ bytes. accepted version last (lines_of bytes)) none
+accepted-none : (version : ScriptVersion) (last : ℕ) (rest : List ℕ) → rest ≡ [] → accepted version last (lines_in rest) ≡ []
+accepted-none version last rest none = ap (λ bytes. accepted version last (lines_in bytes)) none
 
 same-rest : (last : ℕ) (j : Judged) (f g : ℕ → List Line) → ((n : ℕ) → f n ≡ g n) → next_row last j f ≡ next_row last j g
 same-rest last (judged_as.Accepted row) f g same = ap (λ rows. row ∷ rows) (same row.round)
@@ -32,11 +34,11 @@ same-rest last (judged_as.Refused refusal) f g same = same last
 
 -- the rows of a text, by its first line
 first-line : (version : ScriptVersion) (last : ℕ) (ended : Bool) (text rest line : List ℕ) → TakesLine ended (Some text) (Some rest) line
-    → accepted version last (lines_of text) ≡ next_row last (judged version last line) (λ round. accepted version round (lines_of rest))
+    → accepted version last (lines_in text) ≡ next_row last (judged version last line) (λ round. accepted version round (lines_in rest))
 first-line version last true text rest line takes = ap (accepted version last) takes
 first-line version last false text rest line takes =
     ap (accepted version last) takes.0
-    ∙ same-rest last (judged version last line) (λ round. []) (λ round. accepted version round (lines_of rest)) (λ round. sym (accepted-none version round rest takes.1))
+    ∙ same-rest last (judged version last line) (λ round. []) (λ round. accepted version round (lines_in rest)) (λ round. sym (accepted-none version round rest takes.1))
 
 -- a line whose row is accepted
 pub row-taken : (version : ScriptVersion) (last : ℕ) (ended : Bool) (old new : Option (List ℕ)) (line : List ℕ) (row : Line) → TakesLine ended old new line
@@ -48,7 +50,7 @@ row-taken version last ended (Some text) None line row takes is = absurd (none-l
     none-left true text line takes = takes
     none-left false text line takes = takes
 row-taken version last ended (Some text) (Some rest) line row takes is =
-    first-line version last ended text rest line takes ∙ ap (λ j. next_row last j (λ round. accepted version round (lines_of rest))) is
+    first-line version last ended text rest line takes ∙ ap (λ j. next_row last j (λ round. accepted version round (lines_in rest))) is
 
 -- a line without a row
 stepped-by : (version : ScriptVersion) (last : ℕ) (ended : Bool) (old new : Option (List ℕ)) (line : List ℕ) → TakesLine ended old new line
@@ -58,9 +60,9 @@ stepped-by version last true None new line takes skips = tt
 stepped-by version last false None new line takes skips = tt
 stepped-by version last true (Some text) None line takes skips = absurd takes
 stepped-by version last false (Some text) None line takes skips = absurd takes
-stepped-by version last true (Some text) (Some rest) line takes skips = first-line version last true text rest line takes ∙ skips (λ round. accepted version round (lines_of rest))
+stepped-by version last true (Some text) (Some rest) line takes skips = first-line version last true text rest line takes ∙ skips (λ round. accepted version round (lines_in rest))
 stepped-by version last false (Some text) (Some rest) line takes skips =
-    first-line version last false text rest line takes ∙ skips (λ round. accepted version round (lines_of rest)) ∙ accepted-none version last rest takes.1
+    first-line version last false text rest line takes ∙ skips (λ round. accepted version round (lines_in rest)) ∙ accepted-none version last rest takes.1
 
 pub stepped-empty : (version : ScriptVersion) (last : ℕ) (ended : Bool) (old new : Option (List ℕ)) (line : List ℕ) → TakesLine ended old new line
     → judged version last line ≡ judged_as.Empty → HasStepped (rows_to_come version last old) (rows_to_come version last new) (if ended then Skipped else Ended)
@@ -98,7 +100,7 @@ start-empty None old new line same takes is = tt
 start-empty (Some text) None new line same takes is = absurd same
 start-empty (Some text) (Some now) None line same takes is = absurd takes
 start-empty (Some text) (Some now) (Some rest) line same takes is =
-    same ∙ ap live_rows takes ∙ ap (λ s. started s (lines_of rest) (live_rows (lines_of rest))) is
+    same ∙ ap live_rows takes ∙ ap (λ s. started s (lines_in rest) (live_rows (lines_in rest))) is
 
 -- no line but empty ones
 pub start-ends : (first old new : Option (List ℕ)) (line : List ℕ) → IsSameScript first old → TakesLine false old new line → start_of line ≡ start.Empty → HasOtherStart first 0
@@ -115,7 +117,7 @@ start-header (Some text) None new ended line version same takes is = absurd same
 start-header (Some text) (Some now) None true line version same takes is = absurd takes
 start-header (Some text) (Some now) None false line version same takes is = absurd takes
 start-header (Some text) (Some now) (Some rest) true line version same takes is =
-    same ∙ ap live_rows takes ∙ ap (λ s. started s (lines_of rest) (live_rows (lines_of rest))) is
+    same ∙ ap live_rows takes ∙ ap (λ s. started s (lines_in rest) (live_rows (lines_in rest))) is
 start-header (Some text) (Some now) (Some rest) false line version same takes is =
     same ∙ ap live_rows takes.0 ∙ ap (λ s. started s [] (Err 0)) is ∙ ap (λ rows. Ok rows) (sym (accepted-none version 0 rest takes.1))
 
@@ -127,7 +129,7 @@ start-other (Some text) None new ended line fields same takes is = absurd same
 start-other (Some text) (Some now) None true line fields same takes is = absurd takes
 start-other (Some text) (Some now) None false line fields same takes is = absurd takes
 start-other (Some text) (Some now) (Some rest) true line fields same takes is =
-    same ∙ ap live_rows takes ∙ ap (λ s. started s (lines_of rest) (live_rows (lines_of rest))) is
+    same ∙ ap live_rows takes ∙ ap (λ s. started s (lines_in rest) (live_rows (lines_in rest))) is
 start-other (Some text) (Some now) (Some rest) false line fields same takes is = same ∙ ap live_rows takes.0 ∙ ap (λ s. started s [] (Err 0)) is
 
 -- no row, one, or more
@@ -170,3 +172,25 @@ start-second {E} line header fault r some short named refused other = by r other
     by : (q : Result Start E) → IfOk q (λ s. s ≡ other_start (table_of (header_of Two) line)) → IfOk q (λ s. s ≡ start_of line)
     by (Ok s) e = e ∙ sym is
     by (Err fault) e = e
+
+-- an accepted row stands behind the row before it
+pub row-behind : (version : ScriptVersion) (last : ℕ) (line : List ℕ) (row : Line) → judged version last line ≡ judged_as.Accepted row → IsBehind last row
+row-behind version last line row is = by-length (length line == 0) (nat_lt 65536 (length line)) (table_of (header_of version) (header_of version ++ 10 ∷ line)) is
+  where
+    by-row : (fields : List (List ℕ)) (r : Result Line ScriptFault) → line_in version 1 last fields ≡ r → row_judged r ≡ judged_as.Accepted row → IsBehind last row
+    by-row fields (Ok read) named e = let same : read ≡ row = cc in (IsRead-line_in version 1 last fields row (named ∙ ap Ok same)).behind
+    by-row fields (Err fault) named e = absurd cc
+
+    by-records : (records : List (List (List ℕ))) → records_judged version last records ≡ judged_as.Accepted row → IsBehind last row
+    by-records [] e = absurd cc
+    by-records (fields ∷ []) e = by-row fields (line_in version 1 last fields) refl e
+    by-records (fields ∷ next ∷ rest) e = absurd cc
+
+    by-table : (t : Result Table RowFault) → table_judged version last t ≡ judged_as.Accepted row → IsBehind last row
+    by-table (Ok read) e = by-records read.records e
+    by-table (Err fault) e = absurd cc
+
+    by-length : (empty long : Bool) (t : Result Table RowFault) → (if empty then judged_as.Empty else if long then judged_as.Refused TooLong else table_judged version last t) ≡ judged_as.Accepted row → IsBehind last row
+    by-length true long t e = absurd cc
+    by-length false true t e = absurd cc
+    by-length false false t e = by-table t e

@@ -2,12 +2,12 @@
 use Rattle.std.specs.Prelude.{◌≡◌, ℕ, ◌==◌, List, [], ◌∷◌, ◌++◌, Option, None, Some, Result, Ok, Err, length, nat_lt, option_map, if◌then◌else◌, ⊤}
 use Rattle.pool_io.specs.Table.{Table, table_of}
 use Rattle.pool_io.specs.declared.records.RowFault.{RowFault}
-use Rattle.script_rows.specs.Line.{line_in}
+use Rattle.script_rows.specs.Line.{line_in, IsBehind}
 use Rattle.script_rows.specs.Word.{header_of}
 use Rattle.script_rows.specs.declared.fault.ScriptFault.{ScriptFault}
 use Rattle.script_rows.specs.declared.line.Line.{Line}
 use Rattle.script_rows.specs.declared.version.ScriptVersion.{ScriptVersion}
-use Rattle.live_rows.specs.Lines.{lines_of}
+use Rattle.live_rows.specs.Lines.{lines_in}
 use Rattle.live_rows.specs.declared.judge.Judged.{Judged}
 use Rattle.live_rows.specs.declared.judge.Judged.TheVariants.{Empty, Accepted, Refused}
 use Rattle.live_rows.specs.declared.judge.RowRefusal.TheVariants.{TooLong, UnequalLength, Own}
@@ -47,7 +47,7 @@ accepted version last (line ∷ lines) = next_row last (judged version last line
 
 -- the rows to come, where the bytes to come are told
 abbrev pub rows_to_come : ScriptVersion → ℕ → Option (List ℕ) → Option (List Line)
-rows_to_come version last bytes = option_map (λ text. accepted version last (lines_of text)) bytes
+rows_to_come version last bytes = option_map (λ text. accepted version last (lines_in text)) bytes
 
 -- the rows to come, where they are told, begin with these, and lose them
 abbrev pub TakesRows : Option (List Line) → Option (List Line) → List Line → Type 0
@@ -64,3 +64,8 @@ NoRows (Some all) = all ≡ []
 abbrev pub GivesRow : Option (List Line) → Option (List Line) → Option Line → Type 0
 GivesRow old new None = NoRows old
 GivesRow old new (Some row) = TakesRows old new (row ∷ [])
+
+-- the next row, if there is one, stands behind the row before it, and is the last then
+abbrev pub ComesBehind : ℕ → ℕ → Option Line → Type 0
+ComesBehind old new None = ⊤
+ComesBehind old new (Some row) = IsBehind old row × (new ≡ row.round)

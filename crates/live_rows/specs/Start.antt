@@ -7,7 +7,7 @@ use Rattle.script_rows.specs.Word.{header_of}
 use Rattle.script_rows.specs.declared.line.Line.{Line}
 use Rattle.script_rows.specs.declared.version.ScriptVersion.{ScriptVersion}
 use Rattle.script_rows.specs.declared.version.ScriptVersion.TheVariants.{One, Two}
-use Rattle.live_rows.specs.Lines.{lines_of}
+use Rattle.live_rows.specs.Lines.{lines_in}
 use Rattle.live_rows.specs.Rows.{accepted}
 use Rattle.live_rows.specs.declared.start.Start.{Start}
 use Rattle.live_rows.specs.declared.start.Start.TheVariants.{Empty, Header, Other}
@@ -46,9 +46,9 @@ live_rows (line ∷ lines) = started (start_of line) lines (live_rows lines)
 abbrev pub HasStarted : Option (List ℕ) → Option (List ℕ) → ScriptVersion → Type 0
 HasStarted None new version = ⊤
 HasStarted (Some text) None version = ⊥
-HasStarted (Some text) (Some rest) version = live_rows (lines_of text) ≡ Ok (accepted version 0 (lines_of rest))
+HasStarted (Some text) (Some rest) version = live_rows (lines_in text) ≡ Ok (accepted version 0 (lines_in rest))
 
 -- where the bytes are told, the script's first line has so many fields
 abbrev pub HasOtherStart : Option (List ℕ) → ℕ → Type 0
 HasOtherStart None fields = ⊤
-HasOtherStart (Some text) fields = live_rows (lines_of text) ≡ Err fields
+HasOtherStart (Some text) fields = live_rows (lines_in text) ≡ Err fields

@@ -33,12 +33,11 @@ pub struct LineStream<S: Source> {
 }
 
 impl<S: Source> Model for LineStream<S> {
-    ghost use Rattle.live_rows.specs.Lines.{Streamed};
-    ghost use Rattle.live_rows.specs.work.Pieces.{to_come};
+    ghost use Rattle.live_rows.specs.Lines.{Streamed, bytes_to_come};
 
     ghost Value = { Streamed };
 
-    ghost view = { λ s. record { to_come = to_come (S.left s.source) s.buffer s.at s.filled; faults = S.faults s.source } };
+    ghost view = { λ s. record { to_come = bytes_to_come (S.left s.source) s.buffer s.at s.filled; faults = S.faults s.source } };
 }
 
 impl<S: Source> LineStream<S> {

@@ -2,8 +2,8 @@
 ghost use Rattle.std.specs.Prelude.{◌≡◌, ◌≤◌, IfOk, if◌then◌else◌};
 ghost use Rattle.std.specs.Result.{IsErrOf};
 ghost use Rattle.pool_io.specs.Faults.{Rose};
-ghost use Rattle.live_rows.specs.Rows.{GivesRow, rows_to_come};
-ghost use Rattle.live_rows.specs.work.Steps.{HasStepped};
+ghost use Rattle.live_rows.specs.Rows.{ComesBehind, GivesRow, rows_to_come};
+ghost use Rattle.live_rows.specs.work.Steps.{HasStepped, StepsBehind};
 
 use crate::judge::{Judged, RowRefusal, judge};
 use crate::lines::{LineFault, LineStream};
@@ -25,12 +25,16 @@ pub trait RowSource {
     /// The rows still to come, where they are told.
     ghost to_come: { Self → Option (List Line) };
 
+    /// The round of the row that came last, or 0.
+    ghost last: { Self → ℕ };
+
     /// How many reads of the source have failed.
     ghost faults: { Self → ℕ };
 
     /// The next accepted row, if there is one.
     fn next(&mut self) -> Result<Option<Line>, LineFault>
         ensures row { IfOk result (GivesRow (to_come self.old) (to_come self.new)) }
+        ensures behind { IfOk result (ComesBehind (last self.old) (last self.new)) }
         ensures fault { IsErrOf result LineFault.ReadFault → Rose (faults self.old) (faults self.new) }
         ensures never_falls { faults self.old ≤ faults self.new };
 }
@@ -93,6 +97,7 @@ impl<S: Source, L: RefusalListener + Drop> LiveRows<S, L> {
     fn step(&mut self) -> Result<Step, LineFault>
         ensures step { IfOk result (HasStepped (rows_to_come self.old.version self.old.last self.old.lines.to_come)
             (rows_to_come self.new.version self.new.last self.new.lines.to_come)) }
+        ensures behind { IfOk result (StepsBehind self.old.last self.new.last) }
         ensures fault { IsErrOf result LineFault.ReadFault → Rose self.old.lines.faults self.new.lines.faults }
         ensures never_falls { self.old.lines.faults ≤ self.new.lines.faults }
     {
@@ -138,6 +143,8 @@ fn without_row(ended: bool) -> Step
 
 impl<S: Source, L: RefusalListener + Drop> RowSource for LiveRows<S, L> {
     ghost to_come = { λ r. rows_to_come r.version r.last r.lines.to_come };
+
+    ghost last = { λ r. r.last };
 
     ghost faults = { λ r. r.lines.faults };
 

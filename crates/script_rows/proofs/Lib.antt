@@ -1,4 +1,4 @@
+pub mod lemmas
 pub mod RangeLemmas
-pub mod LineLemmas
 pub mod GroupLemmas
 pub mod ScriptLemmas

@@ -11,9 +11,9 @@ use Rattle.script_rows.specs.declared.fault.ScriptFault.{ScriptFault}
 use Rattle.script_rows.specs.declared.fault.ScriptFault.TheVariants.{TooManyRows}
 use Rattle.script_rows.specs.declared.line.Line.{Line}
 use Rattle.script_rows.specs.declared.version.ScriptVersion.{ScriptVersion}
-use Rattle.script_rows.specs.Line.{line_in}
+use Rattle.script_rows.specs.Line.{line_in, IsBehind}
 use Rattle.script_rows.specs.Round.{NumberedLanes}
-use Rattle.script_rows.specs.work.Building.{IsBehind, last_round, joins, with_line}
+use Rattle.script_rows.specs.work.Building.{last_round, joins, with_line}
 use Rattle.script_rows.specs.Round.{empty_round, with_command}
 use Rattle.script_rows.specs.Script.{round_before, round_of, script_of}
 use Rattle.script_rows.specs.lemmas.Named.{line_at, rounds_of}

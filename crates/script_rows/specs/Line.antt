@@ -1,4 +1,4 @@
-use Rattle.std.specs.Prelude.{ℕ, ◌+◌, ◌-◌, Bool, true, false, not, ◌&&◌, List, Result, Ok, Err, length, nat_lt, nat_le, ◌==◌, if◌then◌else◌}
+use Rattle.std.specs.Prelude.{ℕ, ◌+◌, ◌-◌, ◌<◌, ◌≤◌, Bool, true, false, not, ◌&&◌, List, Result, Ok, Err, length, nat_lt, nat_le, ◌==◌, if◌then◌else◌}
 use Rattle.std.specs.List.{list_all, range_with_len}
 use Rattle.std.specs.Option.{ok_or}
 use Rattle.pool_base.specs.InOrder.{◌>>=◌, refused_where}
@@ -13,6 +13,7 @@ use Rattle.script_rows.specs.declared.version.ScriptVersion.{ScriptVersion}
 use Rattle.script_rows.specs.declared.version.ScriptVersion.TheVariants.{One, Two}
 use Rattle.script_rows.specs.declared.word.Word.{Word}
 use Rattle.script_rows.specs.declared.word.Word.TheVariants.{Submit, Cancel, Report, Pickup, Dropoff, Seal}
+use Rattle.script_rows.specs.Round.{MayStand}
 use Rattle.script_rows.specs.Word.{word_of, used_by, columns_of}
 
 -- the party of a request: one person in the first version, and what the last column says in the second
@@ -71,3 +72,10 @@ line_in version row last fields = do
   _ ← refused_where (not (leaves_empty version fields word)) (ExtraField row)
   _ ← refused_where (is_seal word && not (lane == 0)) (SealLane row)
   Ok (record { round = round; lane = lane; command = command })
+
+-- what a row keeps that stands behind a row of a round
+pub record IsBehind (last : ℕ) (line : Line) : Type 0 where
+  pub round : last ≤ line.round
+  pub number : line.round ≤ 1000000000
+  pub lane : line.lane < 16
+  pub stands : MayStand line.lane line.command

@@ -2,9 +2,9 @@ ghost use Rattle.std.specs.Prelude.{◌≡◌, ◌≢◌, ◌+◌, ◌<◌, leng
 ghost use Rattle.pool_io.specs.Table.{record_at};
 ghost use Rattle.script_rows.specs.Word.{columns_of};
 ghost use Rattle.script_rows.specs.work.Row.{IsScriptRow};
-ghost use Rattle.script_rows.specs.Line.{line_in};
+ghost use Rattle.script_rows.specs.Line.{line_in, IsBehind};
 ghost use Rattle.script_rows.specs.Round.{empty_round, with_command};
-ghost use Rattle.script_rows.specs.work.Building.{IsBehind, joins, with_line};
+ghost use Rattle.script_rows.specs.work.Building.{joins, with_line};
 ghost use Rattle.script_rows.specs.Script.{script_of};
 
 use crate::fault::ScriptFault;

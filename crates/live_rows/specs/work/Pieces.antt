@@ -1,12 +1,8 @@
 -- A line that is read piece by piece.
-use Rattle.std.specs.Prelude.{◌≡◌, ℕ, ◌-◌, Bool, true, false, List, [], ◌∷◌, ◌++◌, Option, take, drop}
-use Rattle.std.specs.Io.KnownBytes.{prepend_known, Consumes}
+use Rattle.std.specs.Prelude.{◌≡◌, ℕ, Bool, true, false, List, [], ◌∷◌, ◌++◌, Option}
+use Rattle.std.specs.Io.KnownBytes.{Consumes}
 use Rattle.std.specs.List.{All}
 use Rattle.live_rows.specs.Lines.{ends_line, front_of}
-
--- the bytes to come, where they are told: those at hand, and then those of the source
-abbrev pub to_come : Option (List ℕ) → List ℕ → ℕ → ℕ → Option (List ℕ)
-to_come left buffer at filled = prepend_known (take (filled - at) (drop at buffer)) left
 
 -- no byte of it ends a line
 abbrev pub EndsNoLine : List ℕ → Type 0

@@ -1,15 +1,8 @@
-use Rattle.std.specs.Prelude.{ℕ, ◌-◌, ◌<◌, ◌≤◌, Bool, ◌&&◌, List, [], ◌∷◌, ◌++◌, length, map, nat_lt, ◌==◌, slice_index_or, slice_set, if◌then◌else◌}
+use Rattle.std.specs.Prelude.{ℕ, ◌-◌, Bool, ◌&&◌, List, [], ◌∷◌, ◌++◌, length, map, nat_lt, ◌==◌, slice_index_or, slice_set, if◌then◌else◌}
 use Rattle.std.specs.List.{filter}
 use Rattle.request_book.specs.declared.command.Command.{Command}
 use Rattle.script_rows.specs.declared.line.Line.{Line}
-use Rattle.script_rows.specs.Round.{NumberedLanes, MayStand, empty_round, with_command}
-
--- what a row keeps that stands behind a row of a round
-pub record IsBehind (last : ℕ) (line : Line) : Type 0 where
-  pub round : last ≤ line.round
-  pub number : line.round ≤ 1000000000
-  pub lane : line.lane < 16
-  pub stands : MayStand line.lane line.command
+use Rattle.script_rows.specs.Round.{NumberedLanes, empty_round, with_command}
 
 -- the commands of a round's lane, in the order of the rows
 abbrev pub commands_of : List Line → ℕ → ℕ → List Command

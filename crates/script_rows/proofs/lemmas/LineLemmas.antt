@@ -15,9 +15,8 @@ use Rattle.script_rows.specs.declared.version.ScriptVersion.{ScriptVersion}
 use Rattle.script_rows.specs.declared.word.Word.{Word}
 use Rattle.script_rows.specs.declared.word.Word.TheVariants.{Submit, Cancel, Report, Pickup, Dropoff, Seal}
 use Rattle.script_rows.specs.Word.{word_of}
-use Rattle.script_rows.specs.Line.{party_in, submit_in, three_in, command_in, leaves_empty, is_seal, line_in}
+use Rattle.script_rows.specs.Line.{party_in, submit_in, three_in, command_in, leaves_empty, is_seal, line_in, IsBehind}
 use Rattle.script_rows.specs.Round.{MayStand}
-use Rattle.script_rows.specs.work.Building.{IsBehind}
 
 -- where a step answers with a command that stands, so does its answer
 stands_as : (lane : ℕ) (made command : Command) → ◌≡◌ {A = Result Command ScriptFault} (Ok made) (Ok command) → MayStand lane made → MayStand lane command

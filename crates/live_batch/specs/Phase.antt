@@ -1,0 +1,130 @@
+-- What the two threads do while a batch is open.
+use Rattle.live_desk.specs.Desk.{desk_log, desk_root, pass_of, DeskView, IsDesk}
+use Rattle.std.specs.Prelude.{◌≡◌, ◌≢◌, ℕ, ◌≤◌, ◌==◌, Bool, true, false, filter, IsTrue, IsFalse, List, [], ◌∷◌, ◌++◌, map, Option, None, Some, All, ⊤}
+use Rattle.batch_snapshot.specs.Batch.{Batch}
+use Rattle.pool_io.specs.Faults.{Rose}
+use Rattle.batch_solver.specs.Outcome.{IsGoodOutcome}
+use Rattle.request_book.specs.declared.command.Command.TheVariants.{Close}
+use Rattle.request_book.specs.declared.journal.Entry.{Entry}
+use Rattle.request_book.specs.declared.outcome.Outcome.{Outcome}
+use Rattle.rider_limits.specs.declared.settings.Settings.{Settings}
+use Rattle.road_network.specs.Roads.{Roads}
+use Rattle.seat_lock.specs.Values.{PassValue, GainsCalls}
+use Rattle.dispatch_report.specs.Written.{SinkView}
+use Rattle.dispatch_report.specs.declared.fault.ReportFault.{ReportFault}
+use Rattle.request_book.specs.Book.{BookView}
+use Rattle.shared_book.specs.declared.locked.LockedReply.{LockedReply}
+use Rattle.live_desk.specs.declared.desk.LaneCommand.{LaneCommand}
+use Rattle.script_rows.specs.Line.{IsBehind}
+use Rattle.script_rows.specs.declared.line.Line.{Line}
+use Rattle.live_batch.specs.declared.read_on.Stop.{Stop}
+use Rattle.live_batch.specs.declared.read_on.Stop.TheVariants as stop
+use Rattle.live_rows.specs.Rows.{TakesRows}
+
+-- a row's command with its lane
+abbrev pub row_command : Line → LaneCommand
+row_command line = record { lane = line.lane; command = line.command }
+
+-- the commands that a pass called
+abbrev pub commands_in : {B : Type 0} → PassValue B LaneCommand LockedReply → List LaneCommand
+commands_in p = map (λ c. c.1.call) p.calls
+
+-- the pass closed the batch, with an outcome that is good for it
+pub record HasClosed {B : Type 0} (settings : Settings) (roads : Roads) (b : Batch) (p : PassValue B LaneCommand LockedReply) : Type 0 where
+  pub outcome : Outcome
+  pub good : IsGoodOutcome settings roads b outcome
+  pub called : commands_in p ≡ (record { lane = 0; command = Close b.number outcome }) ∷ []
+
+-- a row may be run while the batch of this round is open
+abbrev pub MayGoOn : ℕ → Line → Type 0
+MayGoOn round line = (line.lane ≢ 0) × (line.round ≡ round)
+
+-- a row that was run while the batch of this round was open
+abbrev pub GoesOn : ℕ → Line → Type 0
+GoesOn round line = IsBehind round line × MayGoOn round line
+
+-- the rows to come begin with these
+abbrev pub StartsWith : Option (List Line) → List Line → Type 0
+StartsWith None run = ⊤
+StartsWith (Some all) run = (rest : List Line) × (all ≡ run ++ rest)
+
+-- these are the rows to come
+abbrev pub AllLines : Option (List Line) → List Line → Type 0
+AllLines None run = ⊤
+AllLines (Some all) run = all ≡ run
+
+-- the rows run are those read, but for one that is held back; after a fault they begin those to come
+abbrev pub TakesRun : Stop → Option (List Line) → Option (List Line) → List Line → Type 0
+TakesRun (stop.Held line) old new run = TakesRows old new (run ++ line ∷ [])
+TakesRun stop.Ended old new run = AllLines old run
+TakesRun _ old new run = StartsWith old run
+
+-- a row is held back because it may not be run yet; it stands behind the round, and is the last that came
+abbrev pub IsHeldBack : ℕ → ℕ → Stop → Type 0
+IsHeldBack round last (stop.Held line) = (MayGoOn round line → ⊥) × IsBehind round line × (last ≡ line.round)
+IsHeldBack round last _ = ⊤
+
+-- the count of faults has not fallen, and where a read failed it rose
+abbrev pub FaultsFrom : Stop → ℕ → ℕ → Type 0
+FaultsFrom stop.ReadFault before now = Rose before now
+FaultsFrom _ before now = before ≤ now
+
+-- the rows read are those run, each called once and in order, and the one held back
+pub record HasReadOn {B : Type 0} (round : ℕ) (old new : Option (List Line)) (p : PassValue B LaneCommand LockedReply) (end : Stop) : Type 0 where
+  pub run : List Line
+  pub going : All (GoesOn round) run
+  pub called : commands_in p ≡ map row_command run
+  pub taken : TakesRun end old new run
+
+-- rows were run so far
+pub record HasRun {B : Type 0} (round : ℕ) (old now : Option (List Line)) (p : PassValue B LaneCommand LockedReply) : Type 0 where
+  pub run : List Line
+  pub going : All (GoesOn round) run
+  pub called : commands_in p ≡ map row_command run
+  pub taken : TakesRows old now run
+
+-- what came of a book and a sink while a batch was open: what two passes called, in one history, which is written
+pub record IsOpenRun (settings : Settings) (roads : Roads) (b : Batch) (round : ℕ) (old new : Option (List Line)) (start after : DeskView) (closed : Bool) (end : Stop) : Type 0 where
+  pub desk : IsDesk after
+  pub root : desk_root after ≡ desk_root start
+  pub opened : after.opened ≡ start.now
+  pub first : PassValue DeskView LaneCommand LockedReply
+  pub second : PassValue DeskView LaneCommand LockedReply
+  pub gains : GainsCalls (desk_log start) (desk_log after) (first ∷ second ∷ [])
+  pub close : IsTrue closed → HasClosed settings roads b first
+  pub left : IsFalse closed → first.calls ≡ []
+  pub read : HasReadOn round old new second end
+
+-- a desk after a batch
+abbrev pub desk_after : BookView → Bool → SinkView → BookView → SinkView → Option ReportFault → DeskView
+desk_after start proof opened book now fault = record { book = book; proof = proof; opened = opened; now = now; fault = fault }
+
+-- an entry's command with its lane
+abbrev pub entry_command : Entry → LaneCommand
+entry_command e = record { lane = e.lane; command = e.command }
+
+-- the commands of the entries that a pass calls: the first those of lane 0, the second all others
+abbrev pub commands_of_pass : ℕ → List Entry → List LaneCommand
+commands_of_pass pass entries = map entry_command (filter (λ e. pass_of e.lane == pass) entries)
+
+-- lane 0 closed the batch, once and with an outcome that is good for it; or it did nothing
+abbrev pub ClosesBatch : Settings → Roads → Batch → Bool → List LaneCommand → Type 0
+ClosesBatch settings roads b true commands =
+    (outcome : Outcome) × IsGoodOutcome settings roads b outcome × (commands ≡ (record { lane = 0; command = Close b.number outcome }) ∷ [])
+ClosesBatch settings roads b false commands = commands ≡ []
+
+-- rows of other lanes and of this round were run, those read but for one that is held back, each once and in order
+pub record RanRows (round : ℕ) (old new : Option (List Line)) (commands : List LaneCommand) (end : Stop) : Type 0 where
+  pub run : List Line
+  pub going : All (GoesOn round) run
+  pub called : commands ≡ map row_command run
+  pub taken : TakesRun end old new run
+
+-- what came of a book and a sink while a batch was open, in one history, which is written: lane 0 closed it, and the rows
+-- of other lanes were run
+pub record HasRunOpen (settings : Settings) (roads : Roads) (b : Batch) (round : ℕ) (old new : Option (List Line)) (start after : DeskView) (closed : Bool) (end : Stop) : Type 0 where
+  pub desk : IsDesk after
+  pub root : desk_root after ≡ desk_root start
+  pub opened : after.opened ≡ start.now
+  pub close : ClosesBatch settings roads b closed (commands_of_pass 0 after.book.entries)
+  pub rows : RanRows round old new (commands_of_pass 1 after.book.entries) end

@@ -1,0 +1,147 @@
+ghost use Rattle.std.specs.Prelude.{◌≡◌, ◌<◌, ◌^◌, [], ◌∷◌, All, Contains, None, IsOk, IsTrue, IsFalse, IfOk, IfErr, vec_capacity};
+ghost use Rattle.dispatch_report.specs.Written.{SinkView};
+ghost use Rattle.request_book.specs.Book.{BookView};
+ghost use Rattle.live_desk.specs.Desk.{DeskView, desk_log, desk_root};
+ghost use Rattle.batch_snapshot.specs.Points.{named_nodes};
+ghost use Rattle.seat_lock.specs.Values.{AreAllPasses, GainsCalls, IsNew, IsPassOf};
+ghost use Rattle.live_batch.specs.Phase.{FaultsFrom, HasClosed, HasReadOn, IsHeldBack};
+
+use crate::close::close_batch;
+use crate::read_on::{Stop, read_on};
+use batch_snapshot::Snapshot;
+use live_desk::{Desk, Opening};
+use live_rows::RowSource;
+use pool_io::Sink;
+use rider_limits::Settings;
+use road_network::Network;
+use row_tables::Drafter;
+use seat_lock::{Pass, SeatLock};
+use std::alloc::Global;
+use std::sync::Wait;
+use std::thread;
+use std::thread::Threads;
+use travel_times::Ways;
+use worker_gate::Gate;
+
+/// The reader's part, with what it was lent.
+pub(crate) struct Reading<K: Sink, J: Opening, L> {
+    pub(crate) pass: Pass<Desk<K, J>>,
+    pub(crate) lines: L,
+    pub(crate) stop: Stop,
+}
+
+fn read_lines<K: Sink, J: Opening, L: RowSource>(
+    rt: &impl Wait,
+    alloc: Global,
+    lock: &SeatLock<Desk<K, J>>,
+    mut pass: Pass<Desk<K, J>>,
+    mut lines: L,
+    round: u32,
+) -> Reading<K, J, L>
+    requires own { IsPassOf lock.now pass }
+    requires lane { (pass.lane ≡ 1) × (pass.calls ≡ []) }
+    requires last { L.last lines ≡ round }
+    ensures own { IsPassOf lock.now result.pass }
+    ensures lane { result.pass.lane ≡ 1 }
+    ensures read { HasReadOn round (L.to_come lines) (L.to_come result.lines) result.pass result.stop }
+    ensures held { IsHeldBack round (L.last result.lines) result.stop }
+    ensures faults { FaultsFrom result.stop (L.faults lines) (L.faults result.lines) }
+{
+    let stop = read_on(rt, alloc, lock, &mut pass, &mut lines, round);
+    Reading { pass, lines, stop }
+}
+
+/// Solves the batch that is open in one thread, and goes on with the rows in this one.
+pub(crate) fn work_both<
+    K: Sink + Send,
+    J: Opening + Send + Sync,
+    L: RowSource + Send + Drop,
+    W: Ways,
+    D: Drafter,
+    G: Gate,
+>(
+    rt: &(impl Threads + Wait + Sync),
+    alloc: Global,
+    lock: &SeatLock<Desk<K, J>>,
+    first: Pass<Desk<K, J>>,
+    second: Pass<Desk<K, J>>,
+    lines: L,
+    round: u32,
+    snapshot: &Snapshot,
+    network: &Network,
+    ways: &W,
+    drafter: &D,
+    settings: &Settings,
+    gate: &G,
+) -> ((Pass<Desk<K, J>>, bool), Reading<K, J, L>)
+    requires first { IsPassOf lock.now first × (first.lane ≡ 0) × (first.calls ≡ []) }
+    requires second { IsPassOf lock.now second × (second.lane ≡ 1) × (second.calls ≡ []) }
+    requires last { L.last lines ≡ round }
+    requires nodes { All (λ node. Contains network.now.nodes node) (named_nodes snapshot.now) }
+    requires ways { W.roads ways.now ≡ network.now }
+    ensures own { IsPassOf lock.now result.0.0 × IsPassOf lock.now result.1.pass }
+    ensures lanes { (result.0.0.lane ≡ 0) × (result.1.pass.lane ≡ 1) }
+    ensures closed { IsTrue result.0.1 → HasClosed settings.now network.now snapshot.entry.now result.0.0 }
+    ensures none { IsFalse result.0.1 → result.0.0.calls ≡ [] }
+    ensures read { HasReadOn round (L.to_come lines) (L.to_come result.1.lines) result.1.pass result.1.stop }
+    ensures held { IsHeldBack round (L.last result.1.lines) result.1.stop }
+    ensures faults { FaultsFrom result.1.stop (L.faults lines) (L.faults result.1.lines) }
+{
+    thread::join(
+        rt,
+        move || -> (Pass<Desk<K, J>>, bool)
+            requires { IsPassOf lock.now first × (first.lane ≡ 0) × (first.calls ≡ []) × All (λ node. Contains network.now.nodes node) (named_nodes snapshot.now) × (W.roads ways.now ≡ network.now) }
+            ensures { IsPassOf lock.entry.now result.0 × (result.0.lane ≡ 0) × (IsTrue result.1 → HasClosed settings.entry.now network.entry.now snapshot.entry.now result.0) × (IsFalse result.1 → result.0.calls ≡ []) }
+        {
+            close_batch(
+                rt, alloc, lock, first, snapshot, network, ways, drafter, settings, gate,
+            )
+        },
+        move || -> Reading<K, J, L>
+            requires { IsPassOf lock.now second × (second.lane ≡ 1) × (second.calls ≡ []) × (L.last lines ≡ round) }
+            ensures { IsPassOf lock.entry.now result.pass × (result.pass.lane ≡ 1) × HasReadOn round (L.to_come lines) (L.to_come result.lines) result.pass result.stop × IsHeldBack round (L.last result.lines) result.stop × FaultsFrom result.stop (L.faults lines) (L.faults result.lines) }
+        { read_lines(rt, alloc, lock, second, lines, round) },
+    )
+}
+
+// The two passes of a lock of two lanes.
+pub(crate) fn two_of<K: Sink, J: Opening>(
+    lock: &SeatLock<Desk<K, J>>,
+    mut passes: Vec<Pass<Desk<K, J>>>,
+) -> (Pass<Desk<K, J>>, Pass<Desk<K, J>>)
+    requires lanes { lock.now.lanes ≡ 2 }
+    requires passes { AreAllPasses lock.now passes.items }
+    requires fresh { All IsNew passes.items }
+    ensures first { IsPassOf lock.now result.0 × (result.0.lane ≡ 0) × (result.0.calls ≡ []) }
+    ensures second { IsPassOf lock.now result.1 × (result.1.lane ≡ 1) × (result.1.calls ≡ []) }
+{
+    let Some(second) = passes.pop() else {
+        unreachable!()
+    };
+    let Some(first) = passes.pop() else {
+        unreachable!()
+    };
+    (first, second)
+}
+
+// The desk, once both passes are back.
+pub(crate) fn finish<K: Sink, J: Opening>(
+    lock: SeatLock<Desk<K, J>>,
+    mut passes: Vec<Pass<Desk<K, J>>>,
+    first: Pass<Desk<K, J>>,
+    second: Pass<Desk<K, J>>,
+) -> Desk<K, J>
+    requires lanes { lock.lanes ≡ 2 }
+    requires room { (passes.items ≡ []) × (vec_capacity passes ≡ 2) }
+    requires first { IsPassOf lock first × (first.lane ≡ 0) }
+    requires second { IsPassOf lock second × (second.lane ≡ 1) }
+    ensures log { GainsCalls (desk_log lock.start) (desk_log result) (first ∷ second ∷ []) }
+    ensures root { desk_root result ≡ desk_root lock.start }
+{
+    passes.push_reserved(first);
+    passes.push_reserved(second);
+    match lock.finish(passes) {
+        Ok(desk) => desk,
+        Err(_) => unreachable!(),
+    }
+}

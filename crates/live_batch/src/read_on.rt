@@ -1,0 +1,68 @@
+ghost use Rattle.std.specs.Prelude.{◌≡◌, []};
+ghost use Rattle.seat_lock.specs.Values.{IsPassOf};
+ghost use Rattle.live_batch.specs.Phase.{FaultsFrom, HasReadOn, IsHeldBack};
+
+use live_desk::{Desk, LaneCommand, Opening};
+use live_rows::{LineFault, RowSource};
+use pool_io::Sink;
+use script_rows::Line;
+use seat_lock::{Pass, SeatLock};
+use std::alloc::Global;
+use std::sync::Wait;
+
+/// Why no more rows are read while a batch is open.
+#[derive(Drop)]
+pub enum Stop {
+    /// This row waits for the close.
+    Held(Line),
+    /// There is no row more.
+    Ended,
+    /// A read failed.
+    ReadFault,
+    /// There was no memory, or the desk takes no more.
+    OutOfMemory,
+}
+
+/// Reads rows and runs them, until a row of lane 0 or of another round comes.
+pub(crate) fn read_on<K: Sink, J: Opening, L: RowSource>(
+    rt: &impl Wait,
+    alloc: Global,
+    lock: &SeatLock<Desk<K, J>>,
+    pass: &mut Pass<Desk<K, J>>,
+    lines: &mut L,
+    round: u32,
+) -> Stop
+    requires own { IsPassOf lock.now pass.old }
+    requires lane { (pass.old.lane ≡ 1) × (pass.old.calls ≡ []) }
+    requires last { L.last lines.old ≡ round }
+    ensures own { IsPassOf lock.now pass.new }
+    ensures lane { pass.new.lane ≡ 1 }
+    ensures read { HasReadOn round (L.to_come lines.old) (L.to_come lines.new) pass.new result }
+    ensures held { IsHeldBack round (L.last lines.new) result }
+    ensures faults { FaultsFrom result (L.faults lines.old) (L.faults lines.new) }
+{
+    'rows: for _ in 0..u64::MAX {
+        match lines.next() {
+            Ok(Some(line)) => {
+                if line.lane == 0 || line.round != round {
+                    return Stop::Held(line);
+                }
+                let Line {
+                    round: _,
+                    lane,
+                    command,
+                } = line;
+                if lock
+                    .with_turn(rt, alloc, pass, LaneCommand { lane, command })
+                    .is_err()
+                {
+                    return Stop::OutOfMemory;
+                }
+            }
+            Ok(None) => return Stop::Ended,
+            Err(LineFault::ReadFault) => return Stop::ReadFault,
+            Err(LineFault::OutOfMemory) => return Stop::OutOfMemory,
+        }
+    }
+    Stop::OutOfMemory
+}
