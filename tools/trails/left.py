@@ -13,8 +13,6 @@ FAULTS = {
         "the first is a node of a search tree, the second a node of the network at a second",
     "Standing stands for several definitions: plan_rules/specs/Path, route_drive/src/course":
         "the first is where a path in a search tree leads, the second where a vehicle stands",
-    "lines_of stands for several definitions: live_rows/specs/Lines, report_lines/specs/Outcome":
-        "the first is of a text, the second of an outcome",
 }
 
 # sentences of definitions that have no comment of their own, or share one
