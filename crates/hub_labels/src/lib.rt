@@ -7,7 +7,6 @@
 //! A caller, from the tests of `travel_tests`:
 //!
 //! ```
-//! #[test]
 //! fn labels_of_a_line(rt: HostRuntime) -> Result<(), Fail> {
 //!     let network = read(&rt, rt.alloc(), LINE);
 //!     let labels = Labels::build(rt.alloc(), &network)?;

@@ -7,7 +7,6 @@
 //! A caller, from the tests of `travel_tests`:
 //!
 //! ```
-//! #[test]
 //! fn out_of_reach(rt: HostRuntime) -> Result<(), Fail> {
 //!     let cells = vec![in rt.alloc(); 0, 60, Times::NEVER, 0]?;
 //!     let times = Times::checked(2, cells)?;
