@@ -1,0 +1,285 @@
+-- The entries that a row gave, or a batch from its seal to its close.
+use Rattle.std.proofs.Common.{◌≡◌, ◌≢◌, ℕ, Bool, true, false, cond, eqb, List, [], ◌∷◌, ◌++◌, map, Option, None, Some, refl, sym, ap, subst, ◌∙◌, append-nil}
+use Rattle.std.specs.Prelude.{All, filter, option_map}
+use Rattle.std.proofs.lemmas.Bool.{eq-eqb, ne_eqb, eqb-true, eqb-false}
+use Rattle.std.proofs.lemmas.List.Elements.{All-head, All-tail}
+use Rattle.batch_snapshot.specs.Batch.{Batch}
+use Rattle.batch_solver.specs.Outcome.{IsGoodOutcome}
+use Rattle.dispatch_engine.specs.Lane.{of_lane, IsCloseOf, IsLaneRunFrom, IsLaneRun, IsLaneBeginning, IsGoodClose, IsGoodFor, LaneClosesAreGood, ClosesAreGood}
+use Rattle.dispatch_engine.specs.lemmas.Lanes.{IsPlain}
+use Rattle.dispatch_engine.proofs.lemmas.LaneLemmas.{plain-quiet, closes-join, ends-closed}
+use Rattle.dispatch_engine.proofs.lemmas.StandLemmas.{stands-plain}
+use Rattle.live_batch.specs.Phase.{GoesOn, commands_of_pass, entry_command, row_command}
+use Rattle.live_desk.specs.Desk.{pass_of}
+use Rattle.live_desk.specs.declared.desk.LaneCommand.{LaneCommand}
+use Rattle.request_book.specs.Replay.{state_after, RepliesAreSteps}
+use Rattle.request_book.specs.Step.{step}
+use Rattle.request_book.specs.declared.command.Command.{Command}
+use Rattle.request_book.specs.declared.command.Command.TheVariants.{Submit, Cancel, Report, Pickup, Dropoff, Seal, Close}
+use Rattle.request_book.specs.declared.journal.Entry.{Entry}
+use Rattle.request_book.specs.declared.outcome.Answer.TheVariants.{Overflow}
+use Rattle.request_book.specs.declared.outcome.Outcome.{Outcome}
+use Rattle.request_book.specs.declared.reply.Reply.{Reply}
+use Rattle.request_book.specs.declared.reply.Reply.TheVariants.{Accepted}
+use Rattle.request_book.specs.declared.state.State.{State}
+use Rattle.rider_limits.specs.declared.settings.Settings.{Settings}
+use Rattle.rider_notices.specs.Notices.{entry_notices}
+use Rattle.road_network.specs.Roads.{Roads}
+use Rattle.script_rows.specs.Round.{MayStand}
+use Rattle.script_rows.specs.declared.line.Line.{Line}
+use Rattle.seat_lock.specs.declared.logged.Entry.{Entry as Logged}
+use Rattle.shared_book.specs.Locked.{calls_from, sealed_by, snapshot_after}
+use Rattle.shared_book.specs.declared.locked.LockedReply.{LockedReply}
+use Rattle.live_dispatch.specs.work.Rows.{in_lane}
+use Rattle.live_dispatch.proofs.RowLemmas.{AreOf}
+
+-- a row's command is no close
+pub stands-good : (settings : Settings) (roads : Roads) (lane : ℕ) (s : State) (command : Command) (reply : Reply) → MayStand lane command → IsGoodClose settings roads s command reply
+stands-good settings roads lane s (Submit rider origin destination time party) reply stands = tt
+stands-good settings roads lane s (Cancel rider) reply stands = tt
+stands-good settings roads lane s (Report vehicle node time) reply stands = tt
+stands-good settings roads lane s (Pickup vehicle rider time) reply stands = tt
+stands-good settings roads lane s (Dropoff vehicle rider time) reply stands = tt
+stands-good settings roads lane s (Seal now) reply stands = tt
+stands-good settings roads lane s (Close batch outcome) reply stands = absurd stands
+
+-- and has no notices
+pub stands-silent : (lane : ℕ) (s : State) (command : Command) (reply : Reply) → MayStand lane command → entry_notices s command reply ≡ []
+stands-silent lane s (Submit rider origin destination time party) reply stands = refl
+stands-silent lane s (Cancel rider) reply stands = refl
+stands-silent lane s (Report vehicle node time) reply stands = refl
+stands-silent lane s (Pickup vehicle rider time) reply stands = refl
+stands-silent lane s (Dropoff vehicle rider time) reply stands = refl
+stands-silent lane s (Seal now) reply stands = refl
+stands-silent lane s (Close batch outcome) reply stands = absurd stands
+
+-- each command is plain
+abbrev ArePlain : List Command → Type 0
+ArePlain [] = Unit {0}
+ArePlain (c ∷ cs) = IsPlain c × ArePlain cs
+
+-- each entry outside lane 0 is plain
+abbrev IsInZero : Entry → Type 0
+IsInZero e = e.lane ≢ 0 → IsPlain e.command
+
+abbrev EachInZero : List Entry → Type 0
+EachInZero [] = Unit {0}
+EachInZero (e ∷ es) = IsInZero e × EachInZero es
+
+-- the command of a lane's command
+abbrev pub told : LaneCommand → Command
+told c = c.command
+
+entries-told : (es : List Entry) → map told (map entry_command es) ≡ map (λ e. e.command) es
+entries-told [] = refl
+entries-told (e ∷ es) = ap (λ l. e.command ∷ l) (entries-told es)
+
+rows-told : (rows : List Line) → map told (map row_command rows) ≡ map (λ l. l.command) rows
+rows-told [] = refl
+rows-told (r ∷ rs) = ap (λ l. r.command ∷ l) (rows-told rs)
+
+-- the first pass plays lane 0
+zero-pass : (es : List Entry) → filter (λ e. eqb (pass_of e.lane) 0) es ≡ of_lane 0 es
+zero-pass [] = refl
+zero-pass (e ∷ es) = by (eqb e.lane 0) (zero-pass es)
+  where
+    by : (b : Bool) → filter (λ e. eqb (pass_of e.lane) 0) es ≡ of_lane 0 es
+        → cond (eqb (cond b 0 1) 0) (e ∷ filter (λ e. eqb (pass_of e.lane) 0) es) (filter (λ e. eqb (pass_of e.lane) 0) es) ≡ cond b (e ∷ of_lane 0 es) (of_lane 0 es)
+    by true same = ap (λ l. e ∷ l) same
+    by false same = same
+
+pub zero-commands : (es : List Entry) → map (λ e. e.command) (of_lane 0 es) ≡ map told (commands_of_pass 0 es)
+zero-commands es = sym (entries-told (of_lane 0 es)) ∙ ap (λ l. map told (map entry_command l)) (sym (zero-pass es))
+
+-- the second pass plays each other lane
+other-pass : (lane : ℕ) (es : List Entry) → lane ≢ 0 → filter (λ c. eqb c.lane lane) (commands_of_pass 1 es) ≡ map entry_command (of_lane lane es)
+other-pass lane [] other = refl
+other-pass lane (e ∷ es) other = by (eqb e.lane 0) refl (other-pass lane es other)
+  where
+    kept : (b : Bool) → filter (λ c. eqb c.lane lane) (commands_of_pass 1 es) ≡ map entry_command (of_lane lane es)
+        → cond b (entry_command e ∷ filter (λ c. eqb c.lane lane) (commands_of_pass 1 es)) (filter (λ c. eqb c.lane lane) (commands_of_pass 1 es)) ≡ map entry_command (cond b (e ∷ of_lane lane es) (of_lane lane es))
+    kept true same = ap (λ l. entry_command e ∷ l) same
+    kept false same = same
+
+    by : (b : Bool) → eqb e.lane 0 ≡ b → filter (λ c. eqb c.lane lane) (commands_of_pass 1 es) ≡ map entry_command (of_lane lane es)
+        → filter (λ c. eqb c.lane lane) (map entry_command (cond (eqb (cond b 0 1) 1) (e ∷ filter (λ e. eqb (pass_of e.lane) 1) es) (filter (λ e. eqb (pass_of e.lane) 1) es)))
+        ≡ map entry_command (cond (eqb e.lane lane) (e ∷ of_lane lane es) (of_lane lane es))
+    by true h same = same ∙ ap (λ b. map entry_command (cond b (e ∷ of_lane lane es) (of_lane lane es))) (sym (ne_eqb e.lane lane (λ is. other (sym is ∙ eqb-true e.lane 0 h))))
+    by false h same = kept (eqb e.lane lane) same
+
+rows-lane : (lane : ℕ) (rows : List Line) → filter (λ c. eqb c.lane lane) (map row_command rows) ≡ map row_command (filter (λ l. eqb l.lane lane) rows)
+rows-lane lane [] = refl
+rows-lane lane (r ∷ rs) = by (eqb r.lane lane) (rows-lane lane rs)
+  where
+    by : (b : Bool) → filter (λ c. eqb c.lane lane) (map row_command rs) ≡ map row_command (filter (λ l. eqb l.lane lane) rs)
+        → cond b (row_command r ∷ filter (λ c. eqb c.lane lane) (map row_command rs)) (filter (λ c. eqb c.lane lane) (map row_command rs)) ≡ map row_command (cond b (r ∷ filter (λ l. eqb l.lane lane) rs) (filter (λ l. eqb l.lane lane) rs))
+    by true same = ap (λ l. row_command r ∷ l) same
+    by false same = same
+
+-- the entries of another lane have the commands of its rows
+other-commands : (lane : ℕ) (es : List Entry) (rows : List Line) → lane ≢ 0 → commands_of_pass 1 es ≡ map row_command rows → map (λ e. e.command) (of_lane lane es) ≡ in_lane rows lane
+other-commands lane es rows other are =
+    sym (entries-told (of_lane lane es))
+    ∙ ap (map told) (sym (other-pass lane es other) ∙ ap (filter (λ (c : LaneCommand). eqb c.lane lane)) are ∙ rows-lane lane rows)
+    ∙ rows-told (filter (λ (l : Line). eqb l.lane lane) rows)
+
+-- rows that went on are plain, and outside lane 0
+rows-plain : (round : ℕ) (rows : List Line) → All (GoesOn round) rows → ArePlain (map (λ l. l.command) rows)
+rows-plain round [] going = tt
+rows-plain round (r ∷ rs) going =
+    let here : GoesOn round r = All-head (GoesOn round) r rs going in
+    (stands-plain r.lane r.command here.1.0 here.0.stands, rows-plain round rs (All-tail (GoesOn round) r rs going))
+
+lane-plain : (round lane : ℕ) (rows : List Line) → All (GoesOn round) rows → ArePlain (in_lane rows lane)
+lane-plain round lane [] going = tt
+lane-plain round lane (r ∷ rs) going =
+    let here : GoesOn round r = All-head (GoesOn round) r rs going in
+    by (eqb r.lane lane) (stands-plain r.lane r.command here.1.0 here.0.stands) (lane-plain round lane rs (All-tail (GoesOn round) r rs going))
+  where
+    by : (b : Bool) → IsPlain r.command → ArePlain (in_lane rs lane) → ArePlain (map (λ l. l.command) (cond b (r ∷ filter (λ l. eqb l.lane lane) rs) (filter (λ l. eqb l.lane lane) rs)))
+    by true plain more = (plain, more)
+    by false plain more = more
+
+pub rows-of : (round : ℕ) (rows : List Line) → All (GoesOn round) rows → AreOf round rows
+rows-of round [] going = tt
+rows-of round (r ∷ rs) going =
+    let here : GoesOn round r = All-head (GoesOn round) r rs going in
+    (here.1.1, here.0.lane, rows-of round rs (All-tail (GoesOn round) r rs going))
+
+zero-rows : (round : ℕ) (rows : List Line) → All (GoesOn round) rows → in_lane rows 0 ≡ []
+zero-rows round [] going = refl
+zero-rows round (r ∷ rs) going =
+    let here : GoesOn round r = All-head (GoesOn round) r rs going in
+    ap (λ b. map (λ (l : Line). l.command) (cond b (r ∷ filter (λ l. eqb l.lane 0) rs) (filter (λ l. eqb l.lane 0) rs))) (ne_eqb r.lane 0 here.1.0)
+    ∙ zero-rows round rs (All-tail (GoesOn round) r rs going)
+
+-- so each entry outside lane 0 is plain
+in-zero : (es : List Entry) → ArePlain (map told (commands_of_pass 1 es)) → EachInZero es
+in-zero [] plain = tt
+in-zero (e ∷ es) plain = by (eqb e.lane 0) refl (in-zero es) plain
+  where
+    by : (b : Bool) → eqb e.lane 0 ≡ b → (ArePlain (map told (commands_of_pass 1 es)) → EachInZero es)
+        → ArePlain (map told (map entry_command (cond (eqb (cond b 0 1) 1) (e ∷ filter (λ e. eqb (pass_of e.lane) 1) es) (filter (λ e. eqb (pass_of e.lane) 1) es)))) → IsInZero e × EachInZero es
+    by true h more plain = (λ other. absurd (other (eqb-true e.lane 0 h)), more plain)
+    by false h more plain = (λ other. plain.0, more plain.1)
+
+-- the close of lane 0, or nothing
+pub close-run : (batch : ℕ) (outcome : Outcome) (es : List Entry) → map (λ e. e.command) es ≡ Close batch outcome ∷ [] → IsLaneRunFrom (Some batch) [] es
+close-run batch outcome [] are = absurd cc
+close-run batch outcome (e ∷ []) are = let is : e.command ≡ Close batch outcome = cc in (subst (IsCloseOf batch) (sym is) refl, tt)
+close-run batch outcome (e ∷ f ∷ es) are = absurd cc
+
+pub none-left : (es : List Entry) → map (λ e. e.command) es ≡ [] → es ≡ []
+none-left [] are = refl
+none-left (e ∷ es) are = absurd cc
+
+-- a close of a batch
+abbrev pub some_close : ℕ → Entry
+some_close batch = record { lane = 0; command = Close batch (record { expired = []; answer = Overflow }); reply = Accepted }
+
+module _ (nodes : List ℕ) (wait : ℕ) where
+  -- entries of plain commands are a run of them
+  plain-lane : (lane : ℕ) (s : State) (es : List Entry) → RepliesAreSteps nodes wait s es → ArePlain (map (λ e. e.command) (of_lane lane es)) → IsLaneRun (map (λ e. e.command) (of_lane lane es)) (of_lane lane es)
+  unfolding RepliesAreSteps
+  plain-lane lane s [] replies plain = tt
+  plain-lane lane s (e ∷ es) replies plain =
+      by (eqb e.lane lane) (λ p. ap sealed_by replies.0 ∙ (plain-quiet nodes wait s e.command p).told) (plain-lane lane (step nodes wait s e.command).0 es replies.1) plain
+    where
+      by : (b : Bool) → (IsPlain e.command → sealed_by e.reply ≡ None) → (ArePlain (map (λ e. e.command) (of_lane lane es)) → IsLaneRun (map (λ e. e.command) (of_lane lane es)) (of_lane lane es))
+          → ArePlain (map (λ e. e.command) (cond b (e ∷ of_lane lane es) (of_lane lane es))) → IsLaneRun (map (λ e. e.command) (cond b (e ∷ of_lane lane es) (of_lane lane es))) (cond b (e ∷ of_lane lane es) (of_lane lane es))
+      by true quiet more plain = (refl, subst (λ (p : Option ℕ). IsLaneRunFrom p (map (λ e. e.command) (of_lane lane es)) (of_lane lane es)) (sym (quiet plain.0)) (more plain.1))
+      by false quiet more plain = more plain
+
+  call-commands : (s : State) (es : List Entry) → map (λ c. c.call) (filter (λ c. eqb c.lane 0) (calls_from nodes wait s es)) ≡ map (λ e. e.command) (of_lane 0 es)
+  unfolding calls_from
+  call-commands s [] = refl
+  call-commands s (e ∷ es) = by (eqb e.lane 0) (record { lane = e.lane; call = e.command; reply = record { reply = e.reply; snapshot = snapshot_after e.reply (step nodes wait s e.command).0 } })
+      (filter (λ c. eqb c.lane 0) (calls_from nodes wait (step nodes wait s e.command).0 es)) refl (call-commands (step nodes wait s e.command).0 es)
+    where
+      by : (b : Bool) (c : Logged Command LockedReply) (rest : List (Logged Command LockedReply)) → c.call ≡ e.command → map (λ c. c.call) rest ≡ map (λ e. e.command) (of_lane 0 es)
+          → map (λ c. c.call) (cond b (c ∷ rest) rest) ≡ map (λ e. e.command) (cond b (e ∷ of_lane 0 es) (of_lane 0 es))
+      by true c rest is same = (λ i. is i ∷ same i)
+      by false c rest is same = same
+
+module _ (settings : Settings) (roads : Roads) where
+  good-calls : (b : Batch) (outcome : Outcome) → IsGoodOutcome settings roads b outcome → (calls : List (Logged Command LockedReply)) → map (λ c. c.call) calls ≡ Close b.number outcome ∷ [] → LaneClosesAreGood settings roads (Some b) calls
+  good-calls b outcome good [] are = absurd cc
+  good-calls b outcome good (c ∷ []) are = let is : c.call ≡ Close b.number outcome = cc in (subst (IsGoodFor settings roads (Some b)) (sym is) (b, refl, good), tt)
+  good-calls b outcome good (c ∷ d ∷ calls) are = absurd cc
+
+  no-calls : (last : Option Batch) (calls : List (Logged Command LockedReply)) → map (λ c. c.call) calls ≡ [] → LaneClosesAreGood settings roads last calls
+  no-calls last [] are = tt
+  no-calls last (c ∷ calls) are = absurd cc
+
+  -- what entries beside an open batch are
+  module _ (b : Batch) (s : State) (es : List Entry) (round : ℕ) (run : List Line) (sealed : s.sealed ≡ Some b) (replies : RepliesAreSteps roads.nodes settings.wait s es)
+      (going : All (GoesOn round) run) (called : commands_of_pass 1 es ≡ map row_command run) where
+    zeroth : EachInZero es
+    zeroth = in-zero es (subst ArePlain (sym (rows-told run) ∙ ap (map told) (sym called)) (rows-plain round run going))
+
+    last : (c : Batch) → s.sealed ≡ Some c → Some b ≡ Some c
+    last c is = sym sealed ∙ is
+
+    pub batch-others : (lane : ℕ) → lane ≢ 0 → IsLaneRun (in_lane run lane) (of_lane lane es)
+    batch-others lane other =
+        let are : map (λ e. e.command) (of_lane lane es) ≡ in_lane run lane = other-commands lane es run other called in
+        subst (λ cs. IsLaneRun cs (of_lane lane es)) are
+        (plain-lane roads.nodes settings.wait lane s es replies (subst ArePlain (sym are) (lane-plain round lane run going)))
+
+    pub batch-closes : (outcome : Outcome) → IsGoodOutcome settings roads b outcome → map (λ e. e.command) (of_lane 0 es) ≡ Close b.number outcome ∷ [] → ClosesAreGood settings roads s es
+    batch-closes outcome good are =
+        closes-join settings roads s (Some b) es last replies zeroth
+        (good-calls b outcome good (filter (λ (c : Logged Command LockedReply). eqb c.lane 0) (calls_from roads.nodes settings.wait s es)) (call-commands roads.nodes settings.wait s es ∙ are))
+
+    pub batch-unclosed : map (λ e. e.command) (of_lane 0 es) ≡ [] → ClosesAreGood settings roads s es
+    batch-unclosed are =
+        closes-join settings roads s (Some b) es last replies zeroth
+        (no-calls (Some b) (filter (λ (c : Logged Command LockedReply). eqb c.lane 0) (calls_from roads.nodes settings.wait s es)) (call-commands roads.nodes settings.wait s es ∙ are))
+
+    pub batch-ended : (outcome : Outcome) → map (λ e. e.command) (of_lane 0 es) ≡ Close b.number outcome ∷ [] → (state_after roads.nodes settings.wait s es).sealed ≡ None
+    batch-ended outcome are =
+        ends-closed roads.nodes settings.wait s (Some b.number) [] es (ap (option_map (λ (c : Batch). c.number)) sealed) replies zeroth (close-run b.number outcome (of_lane 0 es) are)
+
+-- a row's entry, by itself, where it sealed nothing
+row-kept : (same : Bool) (c : Command) (row : Line) (e : Entry) → row.command ≡ c → e.command ≡ c → sealed_by e.reply ≡ None → IsLaneRun (map (λ (l : Line). l.command) (cond same (row ∷ []) [])) (cond same (e ∷ []) [])
+row-kept true c row e is was none = (was ∙ sym is, subst (λ (p : Option ℕ). IsLaneRunFrom p [] []) (sym none) tt)
+row-kept false c row e is was none = tt
+
+pub row-lanes : (row : Line) (reply : Reply) → sealed_by reply ≡ None → (lane : ℕ) → IsLaneRun (in_lane (row ∷ []) lane) (of_lane lane ((record { lane = row.lane; command = row.command; reply = reply }) ∷ []))
+row-lanes row reply none lane = row-kept (eqb row.lane lane) row.command row (record { lane = row.lane; command = row.command; reply = reply }) refl refl none
+
+-- a seal that opened a batch, and then lanes of which lane 0 closes it, or may yet
+module _ (row : Line) (e : Entry) (batch round : ℕ) (run : List Line) (es : List Entry) (zero : row.lane ≡ 0) (first : e.lane ≡ 0) (is : e.command ≡ row.command) (opened : sealed_by e.reply ≡ Some batch)
+    (going : All (GoesOn round) run) (others : (lane : ℕ) → lane ≢ 0 → IsLaneRun (in_lane run lane) (of_lane lane es)) where
+  -- lane 0's commands and entries, or another lane's
+  abbrev commands_at : Bool → ℕ → List Command
+  commands_at b lane = map (λ (l : Line). l.command) (cond b (row ∷ filter (λ l. eqb l.lane lane) run) (filter (λ l. eqb l.lane lane) run))
+
+  abbrev entries_at : Bool → ℕ → List Entry
+  entries_at b lane = cond b (e ∷ of_lane lane es) (of_lane lane es)
+
+  zero-run : (rest : List Entry) → IsLaneRunFrom (Some batch) [] (of_lane 0 es ++ rest) → IsLaneRun (row.command ∷ in_lane run 0) ((e ∷ of_lane 0 es) ++ rest)
+  zero-run rest close = subst (λ cs. IsLaneRun (row.command ∷ cs) (e ∷ (of_lane 0 es ++ rest))) (sym (zero-rows round run going))
+      (is, subst (λ (p : Option ℕ). IsLaneRunFrom p [] (of_lane 0 es ++ rest)) (sym opened) close)
+
+  by-lane : (P : List Command → List Entry → Type 0) → P (row.command ∷ in_lane run 0) (e ∷ of_lane 0 es) → ((lane : ℕ) → lane ≢ 0 → P (in_lane run lane) (of_lane lane es))
+      → (lane : ℕ) → P (in_lane (row ∷ run) lane) (of_lane lane (e ∷ es))
+  by-lane P here there lane = by (eqb lane 0) refl
+    where
+      by : (b : Bool) → eqb lane 0 ≡ b → P (in_lane (row ∷ run) lane) (of_lane lane (e ∷ es))
+      by true h =
+          let at : lane ≡ 0 = eqb-true lane 0 h in
+          subst (λ k. P (commands_at (eqb row.lane k) k) (entries_at (eqb e.lane k) k)) (sym at)
+          (subst (λ b. P (commands_at b 0) (entries_at (eqb e.lane 0) 0)) (sym (eq-eqb row.lane 0 zero))
+          (subst (λ b. P (commands_at true 0) (entries_at b 0)) (sym (eq-eqb e.lane 0 first)) here))
+      by false h =
+          let other : lane ≢ 0 = eqb-false lane 0 h in
+          subst (λ b. P (commands_at b lane) (entries_at (eqb e.lane lane) lane)) (sym (ne_eqb row.lane lane (λ same. other (sym same ∙ zero))))
+          (subst (λ b. P (commands_at false lane) (entries_at b lane)) (sym (ne_eqb e.lane lane (λ same. other (sym same ∙ first)))) (there lane other))
+
+  pub batch-lanes : IsLaneRunFrom (Some batch) [] (of_lane 0 es) → (lane : ℕ) → IsLaneRun (in_lane (row ∷ run) lane) (of_lane lane (e ∷ es))
+  batch-lanes close = by-lane IsLaneRun (subst (IsLaneRun (row.command ∷ in_lane run 0)) (append-nil (e ∷ of_lane 0 es)) (zero-run [] (subst (IsLaneRunFrom (Some batch) []) (sym (append-nil (of_lane 0 es))) close))) others
+
+  pub batch-begun : (rest : List Entry) → IsLaneRunFrom (Some batch) [] (of_lane 0 es ++ rest) → (lane : ℕ) → IsLaneBeginning (in_lane (row ∷ run) lane) (of_lane lane (e ∷ es))
+  batch-begun rest close = by-lane IsLaneBeginning (rest, zero-run rest close)
+      (λ lane other. ([], subst (IsLaneRun (in_lane run lane)) (sym (append-nil (of_lane lane es))) (others lane other)))

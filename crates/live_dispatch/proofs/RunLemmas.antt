@@ -1,0 +1,355 @@
+-- A run of the rounds of rows, with some more rows of one round and the entries that they gave.
+use Rattle.std.proofs.Common.{◌≡◌, ℕ, ◌<◌, ◌^◌, Bool, List, [], ◌∷◌, ◌++◌, map, Option, None, Some, codes, refl, sym, ap, subst, ◌∙◌, append_assoc, append-nil, length-append, arith}
+use Rattle.std.proofs.lemmas.Grind.{flat_map-append}
+use Rattle.std.proofs.lemmas.List.{map-append}
+use Rattle.std.proofs.lemmas.List.Elements.{filter-append}
+use Rattle.dispatch_engine.specs.Lane.{of_lane, IsLaneRunFrom, IsLaneRun, IsLaneBeginning, ClosesAreGood}
+use Rattle.dispatch_engine.specs.Run.{IsRoundRun, IsRun, position_after_run}
+use Rattle.dispatch_report.specs.Entry.{entry_line}
+use Rattle.dispatch_report.specs.Lines.{lines_text}
+use Rattle.dispatch_report.specs.Round.{entries_lines, entry_block, round_line, round_text}
+use Rattle.dispatch_report.specs.Words.{numbered}
+use Rattle.pool_io.specs.Faults.{one_more}
+use Rattle.request_book.specs.Book.{next_position}
+use Rattle.request_book.specs.Replay.{state_after, RepliesAreSteps}
+use Rattle.request_book.specs.Step.{step}
+use Rattle.request_book.specs.declared.command.Command.{Command}
+use Rattle.request_book.specs.declared.journal.Entry.{Entry}
+use Rattle.request_book.specs.declared.journal.Journal.{Journal}
+use Rattle.request_book.specs.declared.state.State.{State}
+use Rattle.rider_limits.specs.declared.settings.Settings.{Settings}
+use Rattle.rider_notices.specs.Notices.{entry_notices, notices_from}
+use Rattle.rider_notices.specs.declared.notice.Notice.{Notice}
+use Rattle.road_network.specs.Roads.{Roads}
+use Rattle.script_rows.specs.Round.{NumberedLanes, lane_at}
+use Rattle.script_rows.specs.Script.{round_of}
+use Rattle.script_rows.specs.declared.line.Line.{Line}
+use Rattle.script_rows.specs.lemmas.Named.{rounds_of}
+use Rattle.shared_book.specs.Locked.{sealed_by}
+use Rattle.live_dispatch.specs.Live.{IsBegunRun, IsRoundBeginning, journals_notices, journals_text, state_behind}
+use Rattle.live_dispatch.specs.work.Rows.{EndsIn, in_lane, start_text}
+use Rattle.live_dispatch.proofs.RowLemmas.{AreOf, RoundsGrow, lane-grows}
+
+-- a lane's run, and one more
+pub lane-append : (pending : Option ℕ) (cs ds : List Command) (es fs : List Entry) → IsLaneRunFrom pending cs es → IsLaneRun ds fs → IsLaneRunFrom pending (cs ++ ds) (es ++ fs)
+lane-append None [] ds [] fs p q = q
+lane-append None [] ds (e ∷ es) fs p q = absurd p
+lane-append None (c ∷ cs) ds [] fs p q = absurd p
+lane-append None (c ∷ cs) ds (e ∷ es) fs p q = (p.0, lane-append (sealed_by e.reply) cs ds es fs p.1 q)
+lane-append (Some batch) cs ds [] fs p q = absurd p
+lane-append (Some batch) cs ds (e ∷ es) fs p q = (p.0, lane-append None cs ds es fs p.1 q)
+
+lane-begins : (cs ds : List Command) (es fs : List Entry) → IsLaneRun cs es → IsLaneBeginning ds fs → IsLaneBeginning (cs ++ ds) (es ++ fs)
+lane-begins cs ds es fs p q = (q.0, subst (IsLaneRun (cs ++ ds)) (sym (append_assoc es fs q.0)) (lane-append None cs ds es (fs ++ q.0) p q.1))
+
+lane-entries : (lane : ℕ) (xs ys : List Entry) → of_lane lane (xs ++ ys) ≡ of_lane lane xs ++ of_lane lane ys
+lane-entries lane xs ys = filter-append _ xs ys
+
+-- positions
+next-none : (p : ℕ) → p < 2 ^ 64 → next_position p [] ≡ p
+next-none p low = omega arith
+
+next-more : (p : ℕ) (e : Entry) (es : List Entry) → next_position (one_more p) es ≡ next_position p (e ∷ es)
+next-more p e es = omega arith
+
+pub next-append : (p : ℕ) (xs ys : List Entry) → next_position p (xs ++ ys) ≡ next_position (next_position p xs) ys
+next-append p xs ys = omega (arith, length-append xs ys)
+
+pub next-low : (p : ℕ) (es : List Entry) → next_position p es < 2 ^ 64
+next-low p es = omega arith
+
+position-low : (p : ℕ) (js : List Journal) → p < 2 ^ 64 → position_after_run p js < 2 ^ 64
+position-low p [] low = low
+position-low p (j ∷ js) low = position-low (next_position p j.entries) js (next-low p j.entries)
+
+position-push : (p : ℕ) (js : List Journal) (j : Journal) → position_after_run p (js ++ j ∷ []) ≡ next_position (position_after_run p js) j.entries
+position-push p [] j = refl
+position-push p (k ∷ js) j = position-push (next_position p k.entries) js j
+
+-- texts
+lines-append : (xs ys : List (List ℕ)) → lines_text (xs ++ ys) ≡ lines_text xs ++ lines_text ys
+unfolding lines_text
+lines-append xs ys = flat_map-append (λ line. line ++ 10 ∷ []) xs ys
+
+lines-none : lines_text [] ≡ []
+unfolding lines_text
+lines-none = refl
+
+pub entries-append : (proof : Bool) (p : ℕ) (xs ys : List Entry) → p < 2 ^ 64
+    → lines_text (entries_lines proof p (xs ++ ys)) ≡ lines_text (entries_lines proof p xs) ++ lines_text (entries_lines proof (next_position p xs) ys)
+unfolding entries_lines
+entries-append proof p [] ys low =
+    ap (λ (k : ℕ). lines_text (entries_lines proof k ys)) (sym (next-none p low)) ∙ ap (λ (t : List ℕ). t ++ lines_text (entries_lines proof (next_position p []) ys)) (sym lines-none)
+entries-append proof p (e ∷ es) ys low =
+    let block : List (List ℕ) = (entry_line p e ∷ []) ++ entry_block proof e.command e.reply in
+    lines-append block (entries_lines proof (one_more p) (es ++ ys))
+    ∙ ap (λ (t : List ℕ). lines_text block ++ t) (entries-append proof (one_more p) es ys (omega arith))
+    ∙ ap (λ (k : ℕ). lines_text block ++ (lines_text (entries_lines proof (one_more p) es) ++ lines_text (entries_lines proof k ys))) (next-more p e es)
+    ∙ sym (append_assoc (lines_text block) (lines_text (entries_lines proof (one_more p) es)) (lines_text (entries_lines proof (next_position p (e ∷ es)) ys)))
+    ∙ ap (λ (t : List ℕ). t ++ lines_text (entries_lines proof (next_position p (e ∷ es)) ys)) (sym (lines-append block (entries_lines proof (one_more p) es)))
+
+round-begins : (number : ℕ) (proof : Bool) (j : Journal) → round_text number proof j ≡ round_line number ++ lines_text (entries_lines proof j.first j.entries)
+unfolding round_text
+round-begins number proof j = lines-append (numbered (codes "round ") number ∷ []) (entries_lines proof j.first j.entries)
+
+-- a journal with more entries
+abbrev with_more : Journal → List Entry → Journal
+with_more j es = record { first = j.first; base = j.base; entries = j.entries ++ es }
+
+round-grows : (number : ℕ) (proof : Bool) (j : Journal) (es : List Entry) → j.first < 2 ^ 64
+    → round_text number proof (with_more j es) ≡ round_text number proof j ++ lines_text (entries_lines proof (next_position j.first j.entries) es)
+round-grows number proof j es low =
+    round-begins number proof (with_more j es)
+    ∙ ap (λ t. round_line number ++ t) (entries-append proof j.first j.entries es low)
+    ∙ sym (append_assoc (round_line number) (lines_text (entries_lines proof j.first j.entries)) (lines_text (entries_lines proof (next_position j.first j.entries) es)))
+    ∙ ap (λ t. t ++ lines_text (entries_lines proof (next_position j.first j.entries) es)) (sym (round-begins number proof j))
+
+-- states, replies and notices
+module _ (nodes : List ℕ) (wait : ℕ) where
+  pub state-append : (s : State) (xs ys : List Entry) → state_after nodes wait s (xs ++ ys) ≡ state_after nodes wait (state_after nodes wait s xs) ys
+  unfolding state_after
+  state-append s [] ys = refl
+  state-append s (e ∷ es) ys = state-append (step nodes wait s e.command).0 es ys
+
+  state-push : (s : State) (js : List Journal) (j : Journal) → state_behind nodes wait s (js ++ j ∷ []) ≡ state_after nodes wait (state_behind nodes wait s js) j.entries
+  state-push s [] j = refl
+  state-push s (k ∷ js) j = state-push (state_after nodes wait s k.entries) js j
+
+  replies-append : (s : State) (xs ys : List Entry) → RepliesAreSteps nodes wait s xs → RepliesAreSteps nodes wait (state_after nodes wait s xs) ys → RepliesAreSteps nodes wait s (xs ++ ys)
+  unfolding RepliesAreSteps state_after
+  replies-append s [] ys p q = q
+  replies-append s (e ∷ es) ys p q = (p.0, replies-append (step nodes wait s e.command).0 es ys p.1 q)
+
+  pub notices-append : (s : State) (xs ys : List Entry) → notices_from nodes wait s (xs ++ ys) ≡ notices_from nodes wait s xs ++ notices_from nodes wait (state_after nodes wait s xs) ys
+  unfolding notices_from state_after
+  notices-append s [] ys = refl
+  notices-append s (e ∷ es) ys =
+      ap (λ t. entry_notices s e.command e.reply ++ t) (notices-append (step nodes wait s e.command).0 es ys)
+      ∙ sym (append_assoc (entry_notices s e.command e.reply) (notices_from nodes wait (step nodes wait s e.command).0 es) (notices_from nodes wait (state_after nodes wait (step nodes wait s e.command).0 es) ys))
+
+module _ (settings : Settings) (roads : Roads) where
+  closes-append : (s : State) (xs ys : List Entry) → ClosesAreGood settings roads s xs → ClosesAreGood settings roads (state_after roads.nodes settings.wait s xs) ys → ClosesAreGood settings roads s (xs ++ ys)
+  unfolding ClosesAreGood state_after
+  closes-append s [] ys p q = q
+  closes-append s (e ∷ es) ys p q = (p.0, closes-append (step roads.nodes settings.wait s e.command).0 es ys p.1 q)
+
+  -- the state and the position behind journals
+  abbrev after : State → List Journal → State
+  after s js = state_behind roads.nodes settings.wait s js
+
+  -- one more round
+  pub run-push : (s : State) (p : ℕ) (rs : List NumberedLanes) (js : List Journal) (r : NumberedLanes) (j : Journal) → IsRun settings roads s p rs js
+      → j.base ≡ after s js → j.first ≡ position_after_run p js → IsRoundRun settings roads r j → IsRun settings roads s p (rs ++ r ∷ []) (js ++ j ∷ [])
+  run-push s p [] [] r j run base first is = (base, first, is, tt)
+  run-push s p [] (k ∷ js) r j run base first is = absurd run
+  run-push s p (q ∷ rs) [] r j run base first is = absurd run
+  run-push s p (q ∷ rs) (k ∷ js) r j run base first is =
+      (run.0, run.1, run.2, run-push (state_after roads.nodes settings.wait s k.entries) (next_position p k.entries) rs js r j run.3 base first is)
+
+  text-push : (s : State) (p : ℕ) (rs : List NumberedLanes) (js : List Journal) (r : NumberedLanes) (j : Journal) → IsRun settings roads s p rs js
+      → journals_text settings.proof (rs ++ r ∷ []) (js ++ j ∷ []) ≡ journals_text settings.proof rs js ++ round_text r.number settings.proof j
+  text-push s p [] [] r j run = append-nil (round_text r.number settings.proof j)
+  text-push s p [] (k ∷ js) r j run = absurd run
+  text-push s p (q ∷ rs) [] r j run = absurd run
+  text-push s p (q ∷ rs) (k ∷ js) r j run =
+      ap (λ t. round_text q.number settings.proof k ++ t) (text-push (state_after roads.nodes settings.wait s k.entries) (next_position p k.entries) rs js r j run.3)
+      ∙ sym (append_assoc (round_text q.number settings.proof k) (journals_text settings.proof rs js) (round_text r.number settings.proof j))
+
+  -- the notices of a journal from its base
+  abbrev own_notices : Journal → List Notice
+  own_notices j = notices_from roads.nodes settings.wait j.base j.entries
+
+  notices-push : (js : List Journal) (j : Journal) → journals_notices settings roads (js ++ j ∷ []) ≡ journals_notices settings roads js ++ own_notices j
+  notices-push js j = flat_map-append own_notices js (j ∷ []) ∙ ap (λ t. journals_notices settings roads js ++ t) (append-nil (own_notices j))
+
+  -- the last round of a run
+  record LastOf (s : State) (p : ℕ) (rs : List NumberedLanes) (r : NumberedLanes) (js : List Journal) : Type 0 where
+    front : List Journal
+    journal : Journal
+    are : js ≡ front ++ journal ∷ []
+    run : IsRun settings roads s p rs front
+    base : journal.base ≡ after s front
+    first : journal.first ≡ position_after_run p front
+    is : IsRoundRun settings roads r journal
+
+  run-last : (s : State) (p : ℕ) (rs : List NumberedLanes) (r : NumberedLanes) (js : List Journal) → IsRun settings roads s p (rs ++ r ∷ []) js → LastOf s p rs r js
+  run-last s p [] r [] run = absurd run
+  run-last s p [] r (j ∷ []) run = record { front = []; journal = j; are = refl; run = tt; base = run.0; first = run.1; is = run.2 }
+  run-last s p [] r (j ∷ k ∷ js) run = absurd run.3
+  run-last s p (q ∷ rs) r [] run = absurd run
+  run-last s p (q ∷ rs) r (j ∷ js) run =
+      let rest = run-last (state_after roads.nodes settings.wait s j.entries) (next_position p j.entries) rs r js run.3 in
+      record {
+        front = j ∷ rest.front;
+        journal = rest.journal;
+        are = ap (λ ks. j ∷ ks) rest.are;
+        run = (run.0, run.1, run.2, rest.run);
+        base = rest.base;
+        first = rest.first;
+        is = rest.is;
+      }
+
+  -- a run of the rounds of rows has grown by more rows of one round and their entries: the last round is a run, or a
+  -- beginning of one, where the entries are
+  pub record HasGrown (s : State) (p : ℕ) (round : Option ℕ) (lines rows : List Line) (number : ℕ) (journals : List Journal) (es : List Entry) : Type 0 where
+    pub fronts : List NumberedLanes
+    pub done : List Journal
+    pub journal : Journal
+    pub rounds : rounds_of (lines ++ rows) ≡ fronts ++ round_of (lines ++ rows) number ∷ []
+    pub run : IsRun settings roads s p fronts done
+    pub base : journal.base ≡ after s done
+    pub first : journal.first ≡ position_after_run p done
+    pub whole : ((lane : ℕ) → IsLaneRun (in_lane rows lane) (of_lane lane es)) → IsRoundRun settings roads (round_of (lines ++ rows) number) journal
+    pub begun : ((lane : ℕ) → IsLaneBeginning (in_lane rows lane) (of_lane lane es)) → IsRoundBeginning settings roads (round_of (lines ++ rows) number) journal
+    pub text : journals_text settings.proof (fronts ++ round_of (lines ++ rows) number ∷ []) (done ++ journal ∷ [])
+        ≡ journals_text settings.proof (rounds_of lines) journals ++ (start_text round number ++ lines_text (entries_lines settings.proof (position_after_run p journals) es))
+    pub notices : journals_notices settings roads (done ++ journal ∷ []) ≡ journals_notices settings roads journals ++ notices_from roads.nodes settings.wait (after s journals) es
+    pub state : after s (done ++ journal ∷ []) ≡ state_after roads.nodes settings.wait (after s journals) es
+    pub position : position_after_run p (done ++ journal ∷ []) ≡ next_position (position_after_run p journals) es
+
+  module _ (s : State) (p : ℕ) (round : Option ℕ) (lines rows : List Line) (number : ℕ) (es : List Entry) (low : p < 2 ^ 64) (are : AreOf number rows) where
+    -- the last round grows
+    grown-last : (front : List NumberedLanes) (done : List Journal) (j : Journal) → IsRun settings roads s p front done → j.base ≡ after s done → j.first ≡ position_after_run p done
+        → IsRoundRun settings roads (round_of lines number) j → start_text round number ≡ [] → rounds_of lines ≡ front ++ round_of lines number ∷ [] → rounds_of (lines ++ rows) ≡ front ++ round_of (lines ++ rows) number ∷ []
+        → RepliesAreSteps roads.nodes settings.wait (after s (done ++ j ∷ [])) es → ClosesAreGood settings roads (after s (done ++ j ∷ [])) es
+        → HasGrown s p round lines rows number (done ++ j ∷ []) es
+    grown-last front done j run base first is starts was rounds replies closes =
+        let k : Journal = with_more j es in
+        let own : NumberedLanes = round_of lines number in
+        let grown : NumberedLanes = round_of (lines ++ rows) number in
+        let here : State = state_after roads.nodes settings.wait j.base j.entries in
+        let state : after s (done ++ j ∷ []) ≡ here = state-push roads.nodes settings.wait s done j ∙ ap (λ t. state_after roads.nodes settings.wait t j.entries) (sym base) in
+        let position : position_after_run p (done ++ j ∷ []) ≡ next_position j.first j.entries = position-push p done j ∙ ap (λ n. next_position n j.entries) (sym first) in
+        let small : j.first < 2 ^ 64 = subst (λ (n : ℕ). n < 2 ^ 64) (sym first) (position-low p done low) in
+        let all_replies : RepliesAreSteps roads.nodes settings.wait j.base (j.entries ++ es) =
+        replies-append roads.nodes settings.wait j.base j.entries es is.replies (subst (λ t. RepliesAreSteps roads.nodes settings.wait t es) state replies) in
+        let all_closes : ClosesAreGood settings roads j.base (j.entries ++ es) =
+        closes-append j.base j.entries es is.closes (subst (λ t. ClosesAreGood settings roads t es) state closes) in
+        record {
+          fronts = front;
+          done = done;
+          journal = k;
+          rounds = rounds;
+          run = run;
+          base = base;
+          first = first;
+          whole = λ lanes. record {
+            replies = all_replies;
+            closes = all_closes;
+            lanes = λ lane.
+                subst (λ cs. IsLaneRun cs (of_lane lane (j.entries ++ es))) (sym (lane-grows lines rows number lane are))
+                (subst (IsLaneRun (lane_at own lane ++ in_lane rows lane)) (sym (lane-entries lane j.entries es))
+                (lane-append None (lane_at own lane) (in_lane rows lane) (of_lane lane j.entries) (of_lane lane es) (is.lanes lane) (lanes lane)));
+          };
+          begun = λ lanes. record {
+            replies = all_replies;
+            closes = all_closes;
+            lanes = λ lane.
+                subst (λ cs. IsLaneBeginning cs (of_lane lane (j.entries ++ es))) (sym (lane-grows lines rows number lane are))
+                (subst (IsLaneBeginning (lane_at own lane ++ in_lane rows lane)) (sym (lane-entries lane j.entries es))
+                (lane-begins (lane_at own lane) (in_lane rows lane) (of_lane lane j.entries) (of_lane lane es) (is.lanes lane) (lanes lane)));
+          };
+          text =
+              let more : List ℕ = lines_text (entries_lines settings.proof (next_position j.first j.entries) es) in
+              let before : List ℕ = journals_text settings.proof front done in
+              text-push s p front done grown k run
+              ∙ ap (λ t. before ++ t) (round-grows number settings.proof j es small)
+              ∙ sym (append_assoc before (round_text number settings.proof j) more)
+              ∙ ap (λ t. t ++ more) (sym (text-push s p front done own j run) ∙ ap (λ rs. journals_text settings.proof rs (done ++ j ∷ [])) (sym was))
+              ∙ ap (λ n. journals_text settings.proof (rounds_of lines) (done ++ j ∷ []) ++ lines_text (entries_lines settings.proof n es)) (sym position)
+              ∙ ap (λ t. journals_text settings.proof (rounds_of lines) (done ++ j ∷ []) ++ (t ++ lines_text (entries_lines settings.proof (position_after_run p (done ++ j ∷ [])) es))) (sym starts);
+          notices =
+              notices-push done k
+              ∙ ap (λ t. journals_notices settings roads done ++ t) (notices-append roads.nodes settings.wait j.base j.entries es)
+              ∙ sym (append_assoc (journals_notices settings roads done) (own_notices j) (notices_from roads.nodes settings.wait here es))
+              ∙ (λ i. sym (notices-push done j) i ++ notices_from roads.nodes settings.wait (sym state i) es);
+          state =
+              state-push roads.nodes settings.wait s done k
+              ∙ ap (λ t. state_after roads.nodes settings.wait t (j.entries ++ es)) (sym base)
+              ∙ state-append roads.nodes settings.wait j.base j.entries es
+              ∙ ap (λ t. state_after roads.nodes settings.wait t es) (sym state);
+          position =
+              position-push p done k
+              ∙ ap (λ n. next_position n (j.entries ++ es)) (sym first)
+              ∙ next-append j.first j.entries es
+              ∙ ap (λ n. next_position n es) (sym position);
+        }
+
+    -- there is one round more
+    grown-new : (journals : List Journal) → IsRun settings roads s p (rounds_of lines) journals → start_text round number ≡ round_line number
+        → rounds_of (lines ++ rows) ≡ rounds_of lines ++ round_of (lines ++ rows) number ∷ [] → ((lane : ℕ) → lane_at (round_of lines number) lane ≡ [])
+        → RepliesAreSteps roads.nodes settings.wait (after s journals) es → ClosesAreGood settings roads (after s journals) es
+        → HasGrown s p round lines rows number journals es
+    grown-new journals run starts rounds none replies closes =
+        let k : Journal = record { first = position_after_run p journals; base = after s journals; entries = es } in
+        let grown : NumberedLanes = round_of (lines ++ rows) number in
+        let lane_is : (lane : ℕ) → lane_at grown lane ≡ in_lane rows lane = λ lane. lane-grows lines rows number lane are ∙ ap (λ cs. cs ++ in_lane rows lane) (none lane) in
+        let before : List ℕ = journals_text settings.proof (rounds_of lines) journals in
+        record {
+          fronts = rounds_of lines;
+          done = journals;
+          journal = k;
+          rounds = rounds;
+          run = run;
+          base = refl;
+          first = refl;
+          whole = λ lanes. record {
+            replies = replies;
+            closes = closes;
+            lanes = λ lane. subst (λ cs. IsLaneRun cs (of_lane lane es)) (sym (lane_is lane)) (lanes lane);
+          };
+          begun = λ lanes. record {
+            replies = replies;
+            closes = closes;
+            lanes = λ lane. subst (λ cs. IsLaneBeginning cs (of_lane lane es)) (sym (lane_is lane)) (lanes lane);
+          };
+          text =
+              text-push s p (rounds_of lines) journals grown k run
+              ∙ ap (λ t. before ++ t) (round-begins number settings.proof k)
+              ∙ ap (λ t. before ++ (t ++ lines_text (entries_lines settings.proof (position_after_run p journals) es))) (sym starts);
+          notices = notices-push journals k;
+          state = state-push roads.nodes settings.wait s journals k;
+          position = position-push p journals k;
+        }
+
+    grown-joins : (front : List NumberedLanes) (journals : List Journal) → LastOf s p front (round_of lines number) journals → start_text round number ≡ []
+        → rounds_of lines ≡ front ++ round_of lines number ∷ [] → rounds_of (lines ++ rows) ≡ front ++ round_of (lines ++ rows) number ∷ []
+        → RepliesAreSteps roads.nodes settings.wait (after s journals) es → ClosesAreGood settings roads (after s journals) es
+        → HasGrown s p round lines rows number journals es
+    grown-joins front journals last starts was rounds replies closes =
+        subst (λ js. HasGrown s p round lines rows number js es) (sym last.are)
+        (grown-last front last.front last.journal last.run last.base last.first last.is starts was rounds
+        (subst (λ js. RepliesAreSteps roads.nodes settings.wait (after s js) es) last.are replies)
+        (subst (λ js. ClosesAreGood settings roads (after s js) es) last.are closes))
+
+    pub has-grown : (journals : List Journal) → IsRun settings roads s p (rounds_of lines) journals → RoundsGrow round lines rows number
+        → RepliesAreSteps roads.nodes settings.wait (after s journals) es → ClosesAreGood settings roads (after s journals) es
+        → HasGrown s p round lines rows number journals es
+    has-grown journals run (RoundsGrow.joins front starts was rounds) replies closes =
+        grown-joins front journals (run-last s p front (round_of lines number) journals (subst (λ rs. IsRun settings roads s p rs journals) was run)) starts was rounds replies closes
+    has-grown journals run (RoundsGrow.begins starts rounds none) replies closes = grown-new journals run starts rounds none replies closes
+
+  -- a run of a round is a beginning of one
+  round-begun : (r : NumberedLanes) (j : Journal) → IsRoundRun settings roads r j → IsRoundBeginning settings roads r j
+  round-begun r j run = record {
+    replies = run.replies;
+    closes = run.closes;
+    lanes = λ lane. ([], subst (IsLaneRun (lane_at r lane)) (sym (append-nil (of_lane lane j.entries))) (run.lanes lane));
+  }
+
+  last-begun : (s : State) (p : ℕ) (rs : List NumberedLanes) (r : NumberedLanes) (js : List Journal) → LastOf s p rs r js → IsBegunRun settings roads s p (rs ++ r ∷ []) js
+  last-begun s p rs r js last = subst (IsBegunRun settings roads s p (rs ++ r ∷ [])) (sym last.are)
+      (IsBegunRun.some rs last.front r last.journal last.run last.base last.first (round-begun r last.journal last.is))
+
+  none-begun : (s : State) (p : ℕ) (js : List Journal) → IsRun settings roads s p [] js → IsBegunRun settings roads s p [] js
+  none-begun s p [] run = IsBegunRun.none
+  none-begun s p (j ∷ js) run = absurd run
+
+  -- a run of the rounds of rows is a begun one
+  pub run-begins : (s : State) (p : ℕ) (round : Option ℕ) (lines : List Line) (js : List Journal) → EndsIn lines round → IsRun settings roads s p (rounds_of lines) js → IsBegunRun settings roads s p (rounds_of lines) js
+  run-begins s p _ lines js (EndsIn.in_none empty) run =
+      subst (λ ls. IsBegunRun settings roads s p (rounds_of ls) js) (sym empty) (none-begun s p js (subst (λ ls. IsRun settings roads s p (rounds_of ls) js) empty run))
+  run-begins s p _ lines js (EndsIn.in_round front last ends low here below) run =
+      let are : rounds_of lines ≡ map (round_of lines) front ++ round_of lines last ∷ [] = ap (map (round_of lines)) ends ∙ map-append (round_of lines) front (last ∷ []) in
+      subst (λ rs. IsBegunRun settings roads s p rs js) (sym are)
+      (last-begun s p (map (round_of lines) front) (round_of lines last) js (run-last s p (map (round_of lines) front) (round_of lines last) js (subst (λ rs. IsRun settings roads s p rs js) are run)))

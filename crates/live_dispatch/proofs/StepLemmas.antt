@@ -1,0 +1,423 @@
+-- What stands after a row, and after an open batch.
+use Rattle.std.proofs.Common.{◌≡◌, ◌≢◌, ℕ, ◌≤◌, Bool, true, false, cond, eqb, List, [], ◌∷◌, ◌++◌, get_or, map, Option, None, Some, refl, sym, ap, subst, ◌∙◌, append_assoc, append-nil, arith}
+use Rattle.std.specs.Prelude.{All, Contains, option_map}
+use Rattle.std.specs.Io.KnownBytes.{Appends}
+use Rattle.std.proofs.KnownBytes.{Appends-trans}
+use Rattle.std.proofs.lemmas.Bool.{eqb-true}
+use Rattle.std.proofs.lemmas.Map.Views.{Contains-from_any}
+use Rattle.batch_snapshot.specs.Batch.{Batch}
+use Rattle.batch_snapshot.specs.Points.{named_nodes}
+use Rattle.dispatch_engine.specs.Lane.{of_lane, IsLaneRunFrom, IsLaneRun, IsLaneBeginning, ClosesAreGood}
+use Rattle.dispatch_engine.specs.Run.{IsReady, journal_of}
+use Rattle.dispatch_engine.proofs.lemmas.LaneLemmas.{ends-closed}
+use Rattle.dispatch_engine.proofs.lemmas.StandLemmas.{stands-plain}
+use Rattle.dispatch_report.specs.Lines.{lines_text}
+use Rattle.dispatch_report.specs.Round.{entries_lines, entry_text}
+use Rattle.dispatch_report.specs.Written.{SinkView}
+use Rattle.dispatch_report.specs.declared.fault.ReportFault.{ReportFault}
+use Rattle.live_batch.specs.Phase.{AllLines, ClosesBatch, StartsWith, TakesRun, commands_of_pass, desk_after}
+use Rattle.live_batch.specs.declared.read_on.Stop.{Stop}
+use Rattle.live_batch.specs.declared.read_on.Stop.TheVariants as stop
+use Rattle.live_desk.specs.Desk.{IsWritten, desk_of, desk_root, entries_text}
+use Rattle.live_desk.specs.declared.desk.DeskRoot.{DeskRoot}
+use Rattle.live_desk.specs.declared.desk.LaneCommand.{LaneCommand}
+use Rattle.live_rows.specs.Rows.{TakesRows}
+use Rattle.request_book.specs.Book.{BookView, next_position}
+use Rattle.request_book.specs.Consistent.{IsNode}
+use Rattle.request_book.specs.Replay.{state_after, RepliesAreSteps}
+use Rattle.request_book.specs.Step.{step}
+use Rattle.request_book.specs.declared.command.Command.{Command}
+use Rattle.request_book.specs.declared.command.Command.TheVariants.{Submit, Cancel, Report, Pickup, Dropoff, Seal, Close}
+use Rattle.request_book.specs.declared.journal.Entry.{Entry}
+use Rattle.request_book.specs.declared.reply.Reply.{Reply}
+use Rattle.request_book.specs.declared.state.State.{State}
+use Rattle.rider_limits.specs.declared.settings.Settings.{Settings}
+use Rattle.rider_notices.specs.Notices.{notices, notices_from}
+use Rattle.rider_notices.specs.Told.{HaveHeard, NotifierView}
+use Rattle.rider_notices.specs.declared.notice.Notice.{Notice}
+use Rattle.rider_notices.proofs.lemmas.HeardLemmas.{all-heard-nothing}
+use Rattle.road_network.specs.Roads.{Roads}
+use Rattle.script_rows.specs.Line.{IsBehind}
+use Rattle.script_rows.specs.Round.{MayStand}
+use Rattle.script_rows.specs.declared.line.Line.{Line}
+use Rattle.shared_book.specs.Locked.{is_light, sealed_by}
+use Rattle.shared_book.proofs.lemmas.LockedLemmas.{step-seals}
+use Rattle.live_dispatch.specs.Live.{AreRows, BeginWithRows, BeginsRows}
+use Rattle.live_dispatch.specs.work.Rows.{in_lane, last_of, start_text}
+use Rattle.live_dispatch.specs.work.Standing.{AppendsSome, HasRunOn, HasTaken, HaveCome, Moment, Stands, entry_for, row_text}
+use Rattle.live_dispatch.proofs.BatchLemmas.{batch-begun, batch-closes, batch-ended, batch-lanes, batch-others, batch-unclosed, close-run, none-left, row-lanes, rows-of, some_close, stands-good, stands-silent, told, zero-commands}
+use Rattle.live_dispatch.proofs.RunLemmas.{entries-append, next-append, next-low}
+use Rattle.live_dispatch.proofs.StandLemmas.{Gives, begins-after, stands-after}
+use Rattle.live_dispatch.proofs.WriteLemmas.{then-some, written-some}
+
+-- rows that were taken
+pub takes-begin : (old new : Option (List Line)) (rows : List Line) → TakesRows old new rows → BeginWithRows old rows
+takes-begin None new rows takes = tt
+takes-begin (Some all) None rows takes = absurd takes
+takes-begin (Some all) (Some rest) rows takes = (rest, takes)
+
+pub takes-all : (old new : Option (List Line)) (rows : List Line) → TakesRows old new rows → (new ≡ None → old ≡ None) → ((rest : List Line) → new ≡ Some rest → rest ≡ []) → AreRows old rows
+takes-all None new rows takes none ends = tt
+takes-all (Some all) None rows takes none ends = absurd takes
+takes-all (Some all) (Some rest) rows takes none ends = takes ∙ ap (λ l. rows ++ l) (ends rest refl) ∙ append-nil rows
+
+pub takes-more : (a b c : Option (List Line)) (xs ys : List Line) → TakesRows a b xs → TakesRows b c ys → TakesRows a c (xs ++ ys)
+takes-more None b c xs ys p q = tt
+takes-more (Some a) None c xs ys p q = absurd p
+takes-more (Some a) (Some b) None xs ys p q = absurd q
+takes-more (Some a) (Some b) (Some c) xs ys p q = p ∙ ap (λ l. xs ++ l) q ∙ sym (append_assoc xs ys c)
+
+takes-last : (a b : Option (List Line)) (xs ys : List Line) → TakesRows a b xs → AllLines b ys → AreRows a (xs ++ ys)
+takes-last None b xs ys p q = tt
+takes-last (Some a) None xs ys p q = absurd p
+takes-last (Some a) (Some b) xs ys p q = p ∙ ap (λ l. xs ++ l) q
+
+takes-start : (a b : Option (List Line)) (xs ys : List Line) → TakesRows a b xs → StartsWith b ys → BeginWithRows a (xs ++ ys)
+takes-start None b xs ys p q = tt
+takes-start (Some a) None xs ys p q = absurd p
+takes-start (Some a) (Some b) xs ys p q = (q.0, p ∙ ap (λ l. xs ++ l) q.1 ∙ sym (append_assoc xs ys q.0))
+
+pub all-begin : (old : Option (List Line)) (rows : List Line) → AreRows old rows → BeginWithRows old rows
+all-begin None rows are = tt
+all-begin (Some all) rows are = ([], are ∙ sym (append-nil rows))
+
+-- the rows behind a batch, by why no more came
+abbrev pub Behind : Stop → Option (List Line) → Option (List Line) → List Line → Type 0
+Behind (stop.Held row) old new lines = TakesRows old new (lines ++ row ∷ [])
+Behind stop.Ended old new lines = AreRows old lines
+Behind stop.ReadFault old new lines = BeginWithRows old lines
+Behind stop.OutOfMemory old new lines = BeginWithRows old lines
+
+come-behind : (end : Stop) (a b c : Option (List Line)) (xs ys : List Line) → TakesRows a b xs → TakesRun end b c ys → Behind end a c (xs ++ ys)
+come-behind (stop.Held row) a b c xs ys p q = subst (TakesRows a c) (sym (append_assoc xs ys (row ∷ []))) (takes-more a b c xs (ys ++ row ∷ []) p q)
+come-behind stop.Ended a b c xs ys p q = takes-last a b xs ys p q
+come-behind stop.ReadFault a b c xs ys p q = takes-start a b xs ys p q
+come-behind stop.OutOfMemory a b c xs ys p q = takes-start a b xs ys p q
+
+pub behind-begin : (end : Stop) (old new : Option (List Line)) (lines : List Line) → Behind end old new lines → BeginWithRows old lines
+behind-begin (stop.Held row) old new lines behind = cut old new lines (row ∷ []) behind
+  where
+    cut : (old new : Option (List Line)) (xs ys : List Line) → TakesRows old new (xs ++ ys) → BeginWithRows old xs
+    cut None new xs ys takes = tt
+    cut (Some all) None xs ys takes = absurd takes
+    cut (Some all) (Some rest) xs ys takes = (ys ++ rest, takes ∙ append_assoc xs ys rest)
+behind-begin stop.Ended old new lines behind = all-begin old lines behind
+behind-begin stop.ReadFault old new lines behind = behind
+behind-begin stop.OutOfMemory old new lines behind = behind
+
+-- one entry's text
+one-text : (proof : Bool) (p : ℕ) (e : Entry) → lines_text (entries_lines proof p (e ∷ [])) ≡ entry_text proof p e
+unfolding entries_lines
+one-text proof p e = ap lines_text (append-nil _)
+
+-- a row's entry begins its lane's run, or is one with a close
+row-begun : (row : Line) (reply : Reply) (lane : ℕ) → IsLaneBeginning (in_lane (row ∷ []) lane) (of_lane lane ((record { lane = row.lane; command = row.command; reply = reply }) ∷ []))
+row-begun row reply lane = by (eqb row.lane lane) (sealed_by reply) refl
+  where
+    e : Entry
+    e = record { lane = row.lane; command = row.command; reply = reply }
+
+    by : (b : Bool) (o : Option ℕ) → sealed_by reply ≡ o → IsLaneBeginning (map (λ (l : Line). l.command) (cond b (row ∷ []) [])) (cond b ((record { lane = row.lane; command = row.command; reply = reply }) ∷ []) [])
+    by true None is = ([], (refl, subst (λ (p : Option ℕ). IsLaneRunFrom p [] []) (sym is) tt))
+    by true (Some batch) is = (some_close batch ∷ [], (refl, subst (λ (p : Option ℕ). IsLaneRunFrom p [] (some_close batch ∷ [])) (sym is) (refl, tt)))
+    by false o is = ([], tt)
+
+none-number : (o : Option Batch) (p : Option ℕ) → option_map (λ (b : Batch). b.number) o ≡ p → o ≡ None → p ≡ None
+none-number o p is none = sym is ∙ ap (option_map (λ (b : Batch). b.number)) none
+
+module _ (settings : Settings) (roads : Roads) where
+  -- the nodes of a batch that is sealed are on the roads
+  pub sealed-known : (old new : BookView) (lane : ℕ) (command : Command) (b : Batch) → HasTaken old lane command (Some b) new → old.nodes ≡ roads.nodes → All (λ node. Contains roads.nodes node) (named_nodes b)
+  sealed-known old new lane command b taken is = λ k d within.
+      found (get_or (named_nodes b) k d) (subst (λ (ns : List ℕ). IsNode ns (get_or (named_nodes b) k d)) is (taken.fits.named b refl k d within))
+    where
+      found : (node : ℕ) → IsNode roads.nodes node → Contains roads.nodes node
+      found node is = Contains-from_any {eq = λ q n. eqb n q} (λ x y same. sym (eqb-true y x same)) node roads.nodes is
+
+  -- the step of a book that is over these roads
+  step-is : (b : BookView) (command : Command) → IsReady settings roads b → step b.nodes b.wait b.state command ≡ step roads.nodes settings.wait b.state command
+  step-is b command ready = (λ i. step (ready.nodes i) (ready.wait i) b.state command)
+
+  module _ (before : BookView) (row : Line) (ready : IsReady settings roads before) (number last : ℕ) (is : row.round ≡ number) (behind : IsBehind last row) where
+    abbrev own : Entry
+    own = entry_for before row.lane row.command
+
+    own-replies : (more : List Entry) → RepliesAreSteps roads.nodes settings.wait (step roads.nodes settings.wait before.state row.command).0 more → RepliesAreSteps roads.nodes settings.wait before.state (own ∷ more)
+    unfolding RepliesAreSteps
+    own-replies more replies = (ap (λ p. p.1) (step-is before row.command ready), replies)
+
+    own-closes : (more : List Entry) → ClosesAreGood settings roads (step roads.nodes settings.wait before.state row.command).0 more → ClosesAreGood settings roads before.state (own ∷ more)
+    unfolding ClosesAreGood
+    own-closes more closes = (stands-good settings roads row.lane before.state row.command own.reply behind.stands, closes)
+
+    no-replies : (s : State) → RepliesAreSteps roads.nodes settings.wait s []
+    unfolding RepliesAreSteps
+    no-replies s = tt
+
+    no-closes : (s : State) → ClosesAreGood settings roads s []
+    unfolding ClosesAreGood
+    no-closes s = tt
+
+    own-notices : (more : List Entry) → notices_from roads.nodes settings.wait before.state (own ∷ more) ≡ notices_from roads.nodes settings.wait (step roads.nodes settings.wait before.state row.command).0 more
+    unfolding notices_from
+    own-notices more = ap (λ ns. ns ++ notices_from roads.nodes settings.wait (step roads.nodes settings.wait before.state row.command).0 more) (stands-silent row.lane before.state row.command own.reply behind.stands)
+
+    own-silent : notices_from roads.nodes settings.wait before.state (own ∷ []) ≡ []
+    unfolding notices_from
+    own-silent = own-notices []
+
+    own-state : (more : List Entry) → state_after roads.nodes settings.wait before.state (own ∷ more) ≡ state_after roads.nodes settings.wait (step roads.nodes settings.wait before.state row.command).0 more
+    unfolding state_after
+    own-state more = refl
+
+    own-next : state_after roads.nodes settings.wait before.state (own ∷ []) ≡ (step roads.nodes settings.wait before.state row.command).0
+    unfolding state_after
+    own-next = refl
+
+    own-gives : Gives settings roads before.state row.round (row ∷ []) (own ∷ [])
+    own-gives = record {
+      are = (refl, behind.lane, tt);
+      replies = own-replies [] (no-replies (step roads.nodes settings.wait before.state row.command).0);
+      closes = own-closes [] (no-closes (step roads.nodes settings.wait before.state row.command).0);
+    }
+
+    -- what is known once the command was taken
+    taken-state : (new : BookView) (sealed : Option Batch) → HasTaken before row.lane row.command sealed new → new.state ≡ (step roads.nodes settings.wait before.state row.command).0
+    taken-state new sealed taken = ap (λ p. p.0) (taken.applied.stepped ∙ step-is before row.command ready)
+
+    taken-reply : (new : BookView) (sealed : Option Batch) → HasTaken before row.lane row.command sealed new → option_map (λ (b : Batch). b.number) sealed ≡ sealed_by own.reply
+    taken-reply new sealed taken = taken.fits.sealed ∙ ap (λ p. sealed_by p.1) taken.applied.stepped
+
+    taken-position : (new : BookView) (sealed : Option Batch) → HasTaken before row.lane row.command sealed new → next_position new.first new.entries ≡ next_position (next_position before.first before.entries) (own ∷ [])
+    taken-position new sealed taken =
+        (λ i. next_position (taken.applied.first i) (taken.applied.entries i))
+        ∙ next-append before.first before.entries ((record { lane = row.lane; command = row.command; reply = taken.reply }) ∷ [])
+
+    taken-ready : (new : BookView) → HasTaken before row.lane row.command None new → IsReady settings roads new
+    taken-ready new taken =
+        let none : sealed_by own.reply ≡ None = sym (taken-reply new None taken) in
+        record {
+          nodes = taken.applied.nodes ∙ ready.nodes;
+          wait = taken.applied.wait ∙ ready.wait;
+          closed = ap (λ (s : State). s.sealed) (taken-state new None taken ∙ sym own-next)
+              ∙ ends-closed roads.nodes settings.wait before.state None (in_lane (row ∷ []) 0) (own ∷ []) (ap (option_map (λ (b : Batch). b.number)) ready.closed)
+              own-gives.replies ((λ other. stands-plain row.lane row.command other behind.stands), tt) (row-lanes row own.reply none 0);
+        }
+
+  module _ (start before : Moment) (row : Line) (stands : Stands settings roads start before (HaveCome start before (Some row))) (behind : IsBehind (last_of before.round) row) where
+    abbrev book : BookView
+    book = before.book
+
+    row-more : (written : List ℕ) → written ≡ row_text settings.proof before.round book row
+        → written ≡ start_text before.round row.round ++ lines_text (entries_lines settings.proof (next_position book.first book.entries) (entry_for book row.lane row.command ∷ []))
+    row-more written is = is ∙ ap (λ t. start_text before.round row.round ++ t) (sym (one-text settings.proof (next_position book.first book.entries) (entry_for book row.lane row.command)))
+
+    pub row-stands : (now : Moment) → HasTaken book row.lane row.command None now.book → now.round ≡ Some row.round → Appends before.sink.written now.sink.written (row_text settings.proof before.round book row)
+        → now.rows ≡ before.rows → now.notifiers ≡ before.notifiers → before.sink.faults ≤ now.sink.faults → now.reads ≡ before.reads → Stands settings roads start now (HaveCome start now None)
+    row-stands now taken round text rows notifiers writes reads =
+        let e : Entry = entry_for book row.lane row.command in
+        let ready = stands.ready in
+        let none : sealed_by e.reply ≡ None = sym (taken-reply book row ready row.round (last_of before.round) refl behind now.book None taken) in
+        stands-after settings roads start before (HaveCome start before (Some row)) stands row [] row.round (e ∷ []) behind.round (own-gives book row ready row.round (last_of before.round) refl behind)
+        now (HaveCome start now None)
+        (subst (λ r. TakesRows start.rows r (stands.lines ++ row ∷ [])) (sym rows) stands.are)
+        (row-lanes row e.reply none)
+        round
+        (taken-state book row ready row.round (last_of before.round) refl behind now.book None taken ∙ sym (own-next book row ready row.round (last_of before.round) refl behind))
+        (taken-position book row ready row.round (last_of before.round) refl behind now.book None taken)
+        (taken-ready book row ready row.round (last_of before.round) refl behind now.book taken)
+        (subst (λ (t : List ℕ). Appends before.sink.written now.sink.written t) (row-more (row_text settings.proof before.round book row) refl) text)
+        (subst (λ (ns : List Notice). HaveHeard ns before.notifiers now.notifiers) (sym (own-silent book row ready row.round (last_of before.round) refl behind))
+        (subst (λ ns. HaveHeard [] before.notifiers ns) (sym notifiers) (all-heard-nothing before.notifiers)))
+        writes
+        (omega (arith, reads))
+
+    pub row-begins : (written : Option (List ℕ)) (faults : ℕ) → AppendsSome before.sink.written written (row_text settings.proof before.round book row)
+        → BeginsRows settings roads start.book start.rows (record { before = start.sink; after = record { written = written; faults = faults } }) (record { before = start.notifiers; after = before.notifiers })
+    row-begins written faults text =
+        let e : Entry = entry_for book row.lane row.command in
+        let ready = stands.ready in
+        begins-after settings roads start before (HaveCome start before (Some row)) stands row [] row.round (e ∷ []) behind.round (own-gives book row ready row.round (last_of before.round) refl behind)
+        written faults before.notifiers [] []
+        (takes-begin start.rows before.rows (stands.lines ++ row ∷ []) stands.are)
+        (row-begun row e.reply)
+        (subst (λ (t : List ℕ). AppendsSome before.sink.written written t) (row-more (row_text settings.proof before.round book row) refl) text)
+        (sym (own-silent book row ready row.round (last_of before.round) refl behind))
+        (all-heard-nothing before.notifiers)
+
+  -- a batch from its seal on
+  module _ (start : Moment) (b : Batch) (round : ℕ) (book : BookView) (rows : Option (List Line)) (sink : SinkView) (notifiers : List NotifierView) (closed : Bool) (end : Stop) (fault : Option ReportFault) (reads : ℕ)
+      (on : HasRunOn settings roads start b round book rows sink notifiers closed end fault reads) where
+    abbrev before : Moment
+    before = on.opens.before
+
+    abbrev row : Line
+    row = on.row
+
+    abbrev last : ℕ
+    last = last_of before.round
+
+    abbrev first : Entry
+    first = entry_for before.book row.lane row.command
+
+    abbrev es : List Entry
+    es = book.entries
+
+    abbrev run : List Line
+    run = on.ran.rows.run
+
+    -- the state behind the seal
+    abbrev opened : State
+    opened = (step roads.nodes settings.wait before.book.state row.command).0
+
+    ready : IsReady settings roads before.book
+    ready = on.opens.stands.ready
+
+    behind : IsBehind last row
+    behind = on.opens.behind
+
+    number : row.round ≡ round
+    number = on.number
+
+    sealed-state : on.sealed.book.state ≡ opened
+    sealed-state = taken-state before.book row ready round last number behind on.sealed.book (Some b) on.opens.taken
+
+    stands-sealed : opened.sealed ≡ Some b
+    stands-sealed =
+        ap (λ p. p.0.sealed) (sym (step-is before.book row.command ready))
+        ∙ (step-seals before.book.nodes before.book.wait before.book.state row.command b (sym on.opens.taken.shown)).stands
+
+    -- the book's root
+    root : desk_root (desk_after on.fresh settings.proof on.sealed.sink book sink fault) ≡ desk_root (desk_of on.fresh settings.proof on.sealed.sink)
+    root = on.ran.root
+
+    base : book.base ≡ opened
+    base = ap (λ (r : DeskRoot). r.base) root ∙ ap (λ (f : BookView). f.base) on.fresh_is ∙ sealed-state
+
+    first-is : book.first ≡ next_position (next_position before.book.first before.book.entries) (first ∷ [])
+    first-is = ap (λ (r : DeskRoot). r.first) root ∙ ap (λ (f : BookView). f.first) on.fresh_is ∙ taken-position before.book row ready round last number behind on.sealed.book (Some b) on.opens.taken
+
+    nodes-are : book.nodes ≡ roads.nodes
+    nodes-are = ap (λ (r : DeskRoot). r.nodes) root ∙ ap (λ (f : BookView). f.nodes) on.fresh_is ∙ on.opens.taken.applied.nodes ∙ ready.nodes
+
+    wait-is : book.wait ≡ settings.wait
+    wait-is = ap (λ (r : DeskRoot). r.wait) root ∙ ap (λ (f : BookView). f.wait) on.fresh_is ∙ on.opens.taken.applied.wait ∙ ready.wait
+
+    replies : RepliesAreSteps roads.nodes settings.wait opened es
+    replies =
+        subst (λ s. RepliesAreSteps roads.nodes settings.wait s es) base
+        (subst (λ ns. RepliesAreSteps ns settings.wait book.base es) nodes-are (subst (λ w. RepliesAreSteps book.nodes w book.base es) wait-is on.ran.desk.book.replies))
+
+    state-is : book.state ≡ state_after roads.nodes settings.wait before.book.state (first ∷ es)
+    state-is =
+        on.ran.desk.book.state
+        ∙ (λ i. state_after (nodes-are i) (wait-is i) (base i) es)
+        ∙ sym (own-state before.book row ready round last number behind es)
+
+    -- lane 0 of what was run
+    zero-is : (commands : List LaneCommand) → commands_of_pass 0 es ≡ commands → map (λ e. e.command) (of_lane 0 es) ≡ map told commands
+    zero-is commands is = zero-commands es ∙ ap (map told) is
+
+    closes-by : (c : Bool) → ClosesBatch settings roads b c (commands_of_pass 0 es) → ClosesAreGood settings roads opened es
+    closes-by true close = batch-closes settings roads b opened es round run stands-sealed replies on.ran.rows.going on.ran.rows.called close.0 close.1 (zero-is _ close.2)
+    closes-by false close = batch-unclosed settings roads b opened es round run stands-sealed replies on.ran.rows.going on.ran.rows.called (zero-is _ close)
+
+    gives : Gives settings roads before.book.state round (row ∷ run) (first ∷ es)
+    gives = record {
+      are = (number, behind.lane, rows-of round run on.ran.rows.going);
+      replies = own-replies before.book row ready round last number behind es replies;
+      closes = own-closes before.book row ready round last number behind es (closes-by closed on.ran.close);
+    }
+
+    seals : sealed_by first.reply ≡ Some b.number
+    seals = sym (taken-reply before.book row ready round last number behind on.sealed.book (Some b) on.opens.taken)
+
+    zero-lane : row.lane ≡ 0
+    zero-lane = in_zero row.command behind.stands (on.opens.taken.fits.seals b refl)
+      where
+        in_zero : (command : Command) → MayStand row.lane command → is_light command ≡ false → row.lane ≡ 0
+        in_zero (Seal now) stands light = stands
+        in_zero (Close batch outcome) stands light = absurd stands
+        in_zero (Submit rider origin destination time party) stands light = absurd cc
+        in_zero (Cancel rider) stands light = absurd cc
+        in_zero (Report vehicle node time) stands light = absurd cc
+        in_zero (Pickup vehicle rider time) stands light = absurd cc
+        in_zero (Dropoff vehicle rider time) stands light = absurd cc
+
+    others : (lane : ℕ) → lane ≢ 0 → IsLaneRun (in_lane run lane) (of_lane lane es)
+    others = batch-others settings roads b opened es round run stands-sealed replies on.ran.rows.going on.ran.rows.called
+
+    begun-by : (c : Bool) → ClosesBatch settings roads b c (commands_of_pass 0 es) → (lane : ℕ) → IsLaneBeginning (in_lane (row ∷ run) lane) (of_lane lane (first ∷ es))
+    begun-by true close =
+        batch-begun row first b.number round run es zero-lane zero-lane refl seals on.ran.rows.going others []
+        (subst (IsLaneRunFrom (Some b.number) []) (sym (append-nil (of_lane 0 es))) (close-run b.number close.0 (of_lane 0 es) (zero-is _ close.2)))
+    begun-by false close =
+        batch-begun row first b.number round run es zero-lane zero-lane refl seals on.ran.rows.going others (some_close b.number ∷ [])
+        (subst (λ (l : List Entry). IsLaneRunFrom (Some b.number) [] (l ++ some_close b.number ∷ [])) (sym (none-left (of_lane 0 es) (zero-is _ close))) (refl, tt))
+
+    -- the texts
+    abbrev at : ℕ
+    at = next_position before.book.first before.book.entries
+
+    abbrev front : List ℕ
+    front = row_text settings.proof before.round before.book row
+
+    text-is : front ++ entries_text settings.proof book ≡ start_text before.round round ++ lines_text (entries_lines settings.proof at (first ∷ es))
+    text-is =
+        append_assoc (start_text before.round row.round) (entry_text settings.proof at first) (entries_text settings.proof book)
+        ∙ (λ i. start_text before.round (number i) ++ (sym (one-text settings.proof at first) i ++ lines_text (entries_lines settings.proof (first-is i) es)))
+        ∙ ap (λ t. start_text before.round round ++ t) (sym (entries-append settings.proof at (first ∷ []) es (next-low before.book.first before.book.entries)))
+
+    notices-are : notices_from roads.nodes settings.wait before.book.state (first ∷ es) ≡ notices roads.nodes settings.wait (journal_of book)
+    notices-are = own-notices before.book row ready round last number behind es ∙ ap (λ s. notices_from roads.nodes settings.wait s es) (sym base)
+
+    all-are : (on.opens.stands.lines ++ row ∷ []) ++ run ≡ on.opens.stands.lines ++ (row ∷ run)
+    all-are = append_assoc on.opens.stands.lines (row ∷ []) run
+
+    pub lines-behind : Behind end start.rows rows (on.opens.stands.lines ++ (row ∷ run))
+    lines-behind = subst (Behind end start.rows rows) all-are (come-behind end start.rows before.rows rows (on.opens.stands.lines ++ row ∷ []) run on.opens.stands.are
+        (subst (λ r. TakesRun end r rows run) on.opens.same.0 on.ran.rows.taken))
+
+    low : last ≤ round
+    low = subst (λ n. last ≤ n) number behind.round
+
+    pub batch-stands : (now : Moment) (Now : List Line → Type 0) → closed ≡ true → fault ≡ None → now.book ≡ record { nodes = book.nodes; wait = book.wait; first = next_position book.first book.entries; base = book.state; entries = []; state = book.state; spare = 0 }
+        → now.sink ≡ sink → now.round ≡ Some round → HaveHeard (notices roads.nodes settings.wait (journal_of book)) notifiers now.notifiers → reads ≤ now.reads
+        → Now (on.opens.stands.lines ++ (row ∷ run)) → Stands settings roads start now Now
+    batch-stands now Now is_closed whole cut sink_is round_is heard failed are =
+        let close : ClosesBatch settings roads b true (commands_of_pass 0 es) = subst (λ c. ClosesBatch settings roads b c (commands_of_pass 0 es)) is_closed on.ran.close in
+        let zero : map (λ (e : Entry). e.command) (of_lane 0 es) ≡ map told ((record { lane = 0; command = Close b.number close.0 }) ∷ []) = zero-is _ close.2 in
+        let wrote : Appends on.sealed.sink.written sink.written (entries_text settings.proof book) = subst (λ f. IsWritten f on.sealed.sink sink (entries_text settings.proof book)) whole on.ran.desk.text in
+        let falls : on.sealed.sink.faults ≤ sink.faults = on.ran.desk.never_falls in
+        let were : before.sink.faults ≤ on.sealed.sink.faults = on.opens.writes in
+        stands-after settings roads start before (HaveCome start before (Some row)) on.opens.stands row run round (first ∷ es) low gives now Now are
+        (batch-lanes row first b.number round run es zero-lane zero-lane refl seals on.ran.rows.going others (close-run b.number close.0 (of_lane 0 es) zero))
+        round_is
+        (ap (λ (k : BookView). k.state) cut ∙ state-is)
+        (ap (λ (k : BookView). next_position k.first k.entries) cut ∙ sym (next-append book.first es []) ∙ ap (next_position book.first) (append-nil es) ∙ ap (λ n. next_position n es) first-is
+        ∙ sym (next-append at (first ∷ []) es))
+        (record {
+          nodes = ap (λ (k : BookView). k.nodes) cut ∙ nodes-are;
+          wait = ap (λ (k : BookView). k.wait) cut ∙ wait-is;
+          closed = ap (λ (k : BookView). k.state.sealed) cut ∙ ap (λ (s : State). s.sealed) (state-is ∙ own-state before.book row ready round last number behind es)
+              ∙ batch-ended settings roads b opened es round run stands-sealed replies on.ran.rows.going on.ran.rows.called close.0 zero;
+        })
+        (subst (λ (t : List ℕ). Appends before.sink.written now.sink.written t) text-is
+        (subst (λ (k : SinkView). Appends before.sink.written k.written (front ++ entries_text settings.proof book)) (sym sink_is)
+        (Appends-trans before.sink.written on.sealed.sink.written sink.written front (entries_text settings.proof book) on.opens.text wrote)))
+        (subst (λ (ns : List Notice). HaveHeard ns before.notifiers now.notifiers) (sym notices-are)
+        (subst (λ ns. HaveHeard (notices roads.nodes settings.wait (journal_of book)) ns now.notifiers) (on.told ∙ on.opens.same.2) heard))
+        (subst (λ (k : SinkView). before.sink.faults ≤ k.faults) (sym sink_is) (omega (arith, were, falls)))
+        (omega (arith, failed, on.reads_were, on.opens.same.1))
+
+    pub batch-begins : BeginsRows settings roads start.book start.rows (record { before = start.sink; after = sink }) (record { before = start.notifiers; after = notifiers })
+    batch-begins =
+        begins-after settings roads start before (HaveCome start before (Some row)) on.opens.stands row run round (first ∷ es) low gives
+        sink.written sink.faults notifiers [] (notices_from roads.nodes settings.wait before.book.state (first ∷ es))
+        (behind-begin end start.rows rows (on.opens.stands.lines ++ (row ∷ run)) lines-behind)
+        (begun-by closed on.ran.close)
+        (subst (λ (t : List ℕ). AppendsSome before.sink.written sink.written t) text-is
+        (then-some before.sink.written on.sealed.sink.written sink.written front (entries_text settings.proof book) on.opens.text
+        (written-some fault on.sealed.sink sink (entries_text settings.proof book) on.ran.desk.text)))
+        refl
+        (subst (λ ns. HaveHeard [] before.notifiers ns) (sym (on.told ∙ on.opens.same.2)) (all-heard-nothing before.notifiers))

@@ -1,0 +1,172 @@
+-- From one row to the next.
+use Rattle.std.proofs.Common.{◌≡◌, ℕ, ◌<◌, ◌≤◌, ◌^◌, Bool, List, [], ◌∷◌, ◌++◌, Option, None, Some, Result, Ok, Err, refl, sym, ap, subst, ◌∙◌, append_assoc, append-nil, arith}
+use Rattle.std.specs.Io.KnownBytes.{Appends}
+use Rattle.std.proofs.KnownBytes.{Appends-nil}
+use Rattle.batch_snapshot.specs.Batch.{Batch}
+use Rattle.dispatch_engine.specs.Run.{IsReady}
+use Rattle.dispatch_report.specs.Written.{SinkView}
+use Rattle.dispatch_report.specs.declared.fault.ReportFault.{ReportFault}
+use Rattle.dispatch_report.specs.declared.fault.ReportFault.TheVariants as report
+use Rattle.live_rows.specs.Rows.{NoRows, TakesRows}
+use Rattle.live_rows.specs.declared.lines.LineFault.{LineFault}
+use Rattle.live_rows.specs.declared.lines.LineFault.TheVariants as line
+use Rattle.pool_io.specs.Faults.{Rose}
+use Rattle.request_book.specs.Book.{BookView, IsBook, next_position}
+use Rattle.request_book.specs.Replay.{state_after}
+use Rattle.request_book.specs.declared.journal.Entry.{Entry}
+use Rattle.rider_limits.specs.declared.settings.Settings.{Settings}
+use Rattle.rider_notices.specs.Told.{HaveHeard}
+use Rattle.rider_notices.proofs.lemmas.HeardLemmas.{all-heard-nothing}
+use Rattle.road_network.specs.Roads.{Roads}
+use Rattle.script_rows.specs.Line.{IsBehind}
+use Rattle.script_rows.specs.declared.line.Line.{Line}
+use Rattle.script_rows.specs.lemmas.Named.{rounds_of}
+use Rattle.live_dispatch.specs.Live.{AreRows, BeginWithRows, journals_notices, journals_text}
+use Rattle.live_dispatch.specs.declared.fault.LiveFault.{LiveFault}
+use Rattle.live_dispatch.specs.declared.fault.LiveFault.TheVariants as live
+use Rattle.live_dispatch.specs.work.Rows.{EndsIn, last_of}
+use Rattle.live_dispatch.specs.work.Standing.{AppendsSome, Awaits, GivesNext, HasEnded, HasTaken, HaveCome, Moment, Opens, Stands, WritesSome, of_line, of_report, row_text}
+use Rattle.live_dispatch.proofs.EndLemmas.{begun-ended, stood-ended}
+use Rattle.live_dispatch.proofs.StepLemmas.{row-begins, takes-begin, takes-more}
+
+-- what holds between two rows
+pub record IsBetween (settings : Settings) (roads : Roads) (start now : Moment) (came : ℕ) (held : Option Line) (proof : Bool) : Type 0 where
+  pub stands : Stands settings roads start now (HaveCome start now held)
+  pub awaits : Awaits (last_of now.round) came held
+  pub proof_is : proof ≡ settings.proof
+
+-- the row that is next is held or came
+next-held : (start now : Moment) (held : Option Line) (rows : Option (List Line)) (row : Line) (lines : List Line) → HaveCome start now held lines → GivesNext held now.rows rows (Some row) → TakesRows start.rows rows (lines ++ row ∷ [])
+next-held start now None rows row lines come gives = takes-more start.rows now.rows rows lines (row ∷ []) come gives
+next-held start now (Some held) rows row lines come gives =
+    let same : held ≡ row = (let both : Some row ≡ Some held = gives.0 in cc) in
+    subst (λ r. TakesRows start.rows r (lines ++ row ∷ [])) (sym gives.1) (subst (λ r. TakesRows start.rows now.rows (lines ++ r ∷ [])) same come)
+
+all-come : (old new : Option (List Line)) (rows : List Line) → TakesRows old new rows → NoRows new → AreRows old rows
+all-come None new rows takes none = tt
+all-come (Some all) None rows takes none = absurd takes
+all-come (Some all) (Some rest) rows takes none = takes ∙ ap (λ l. rows ++ l) none ∙ append-nil rows
+
+next-none : (start now : Moment) (held : Option Line) (rows : Option (List Line)) (lines : List Line) → HaveCome start now held lines → GivesNext held now.rows rows None → AreRows start.rows lines
+next-none start now None rows lines come gives = all-come start.rows now.rows lines come gives
+next-none start now (Some held) rows lines come gives = (let both : None ≡ Some held = gives.0 in absurd cc)
+
+come-begin : (start now : Moment) (held : Option Line) (lines : List Line) → HaveCome start now held lines → BeginWithRows start.rows lines
+come-begin start now None lines come = takes-begin start.rows now.rows lines come
+come-begin start now (Some row) lines come = cut start.rows now.rows lines (row ∷ []) come
+  where
+    cut : (old new : Option (List Line)) (xs ys : List Line) → TakesRows old new (xs ++ ys) → BeginWithRows old xs
+    cut None new xs ys takes = tt
+    cut (Some all) None xs ys takes = absurd takes
+    cut (Some all) (Some rest) xs ys takes = (ys ++ rest, takes ∙ append_assoc xs ys rest)
+
+line-write : (fault : LineFault) → of_line fault ≡ live.WriteFault → ⊥
+line-write line.ReadFault e = absurd cc
+line-write line.OutOfMemory e = absurd cc
+
+line-read : (fault : LineFault) → of_line fault ≡ live.ReadFault → fault ≡ line.ReadFault
+line-read line.ReadFault e = refl
+line-read line.OutOfMemory e = absurd cc
+
+report-write : (fault : ReportFault) → of_report fault ≡ live.WriteFault → fault ≡ report.WriteFault
+report-write report.WriteFault e = refl
+report-write report.OutOfMemory e = absurd cc
+
+report-read : (fault : ReportFault) → of_report fault ≡ live.ReadFault → ⊥
+report-read report.WriteFault e = absurd cc
+report-read report.OutOfMemory e = absurd cc
+
+module _ (settings : Settings) (roads : Roads) (start : Moment) where
+  -- what stands says nothing of how far reading is, but for the rows and the count of its faults
+  pub restand : (now later : Moment) (Now Later : List Line → Type 0) → (stands : Stands settings roads start now Now) → Later stands.lines → later.book ≡ now.book → later.round ≡ now.round → later.sink ≡ now.sink → later.notifiers ≡ now.notifiers → now.reads ≤ later.reads
+      → Stands settings roads start later Later
+  restand now later Now Later stands are book round sink notifiers reads = record {
+    lines = stands.lines;
+    are = are;
+    ends = subst (EndsIn stands.lines) (sym round) stands.ends;
+    journals = stands.journals;
+    run = stands.run;
+    text = subst (λ (k : SinkView). Appends start.sink.written k.written (journals_text settings.proof (rounds_of stands.lines) stands.journals)) (sym sink) stands.text;
+    told = subst (λ ns. HaveHeard (journals_notices settings roads stands.journals) start.notifiers ns) (sym notifiers) stands.told;
+    state = ap (λ (b : BookView). b.state) book ∙ stands.state;
+    position = ap (λ (b : BookView). next_position b.first b.entries) book ∙ stands.position;
+    ready = subst (IsReady settings roads) (sym book) stands.ready;
+    small = stands.small;
+    writes = subst (λ (k : SinkView). start.sink.faults ≤ k.faults) (sym sink) stands.writes;
+    reads = omega (arith, reads, stands.reads);
+  }
+
+  pub next-stands : (now later : Moment) (held : Option Line) (row : Line) → Stands settings roads start now (HaveCome start now held) → GivesNext held now.rows later.rows (Some row)
+      → later.book ≡ now.book → later.round ≡ now.round → later.sink ≡ now.sink → later.notifiers ≡ now.notifiers → now.reads ≤ later.reads → Stands settings roads start later (HaveCome start later (Some row))
+  next-stands now later held row stands gives = restand now later (HaveCome start now held) (HaveCome start later (Some row)) stands (next-held start now held later.rows row stands.lines stands.are gives)
+
+  pub none-stands : (now later : Moment) (held : Option Line) → Stands settings roads start now (HaveCome start now held) → GivesNext held now.rows later.rows None
+      → later.book ≡ now.book → later.round ≡ now.round → later.sink ≡ now.sink → later.notifiers ≡ now.notifiers → now.reads ≤ later.reads → Stands settings roads start later (AreRows start.rows)
+  none-stands now later held stands gives = restand now later (HaveCome start now held) (AreRows start.rows) stands (next-none start now held later.rows stands.lines stands.are gives)
+
+  -- a read failed, or there was no memory for a row
+  pub unread-ended : (now : Moment) (held : Option Line) → Stands settings roads start now (HaveCome start now held) → (fault : LineFault) (failed : ℕ) (sink : SinkView) (why : LiveFault) (ended : Result (Unit {0}) LiveFault)
+      → ended ≡ Err why → why ≡ of_line fault → sink ≡ now.sink → (fault ≡ line.ReadFault → Rose now.reads failed) → HasEnded settings roads start failed sink now.notifiers ended
+  unread-ended now held stands fault failed sink why ended is why_is sink_is rose =
+      stood-ended settings roads start now (HaveCome start now held) stands (come-begin start now held stands.lines stands.are) failed sink (of_line fault) ended (is ∙ ap Err why_is) sink_is
+      (line-write fault) (λ e. (let risen : Rose now.reads failed = rose (line-read fault e) in let were = stands.reads in omega (arith, risen, were)))
+
+  -- no more rows can be counted
+  pub counted-ended : (now : Moment) (held : Option Line) → Stands settings roads start now (HaveCome start now held) → (failed : ℕ) (sink : SinkView) (ended : Result (Unit {0}) LiveFault) → ended ≡ Err live.OutOfMemory → sink ≡ now.sink
+      → HasEnded settings roads start failed sink now.notifiers ended
+  counted-ended now held stands failed sink ended is sink_is =
+      stood-ended settings roads start now (HaveCome start now held) stands (come-begin start now held stands.lines stands.are) failed sink live.OutOfMemory ended is sink_is (λ e. absurd cc) (λ e. absurd cc)
+
+  -- a row's text wasn't written whole, or there was no memory for it
+  pub row-ended : (now : Moment) (row : Line) → Stands settings roads start now (HaveCome start now (Some row)) → IsBehind (last_of now.round) row → (proof : Bool) → proof ≡ settings.proof → (A : Type 0) (fault : ReportFault) (later : SinkView)
+      → WritesSome {A = A} (record { before = now.sink; after = later }) (row_text proof now.round now.book row) (Err fault)
+      → (failed : ℕ) (sink : SinkView) (why : LiveFault) (ended : Result (Unit {0}) LiveFault) → ended ≡ Err why → why ≡ of_report fault → sink ≡ later → HasEnded settings roads start failed sink now.notifiers ended
+  row-ended now row stands behind proof proof_is A fault later wrote failed sink why ended is why_is sink_is =
+      let falls : now.sink.faults ≤ later.faults = wrote.never_falls in
+      let were : start.sink.faults ≤ now.sink.faults = stands.writes in
+      subst (λ (k : SinkView). HasEnded settings roads start failed k now.notifiers ended) (sym sink_is)
+      (begun-ended settings roads start failed later now.notifiers (of_report fault) ended (is ∙ ap Err why_is)
+      (row-begins settings roads start now row stands behind later.written later.faults
+      (subst (λ p. AppendsSome now.sink.written later.written (row_text p now.round now.book row)) proof_is wrote.bytes))
+      (λ e. (let risen : Rose now.sink.faults later.faults = wrote.fault (ap Err (report-write fault e)) in omega (arith, risen, were)))
+      (λ e. absurd (report-read fault e)) (omega (arith, falls, were)))
+
+  -- a row sealed a batch
+  pub row-opens : (now : Moment) (row : Line) → Stands settings roads start now (HaveCome start now (Some row)) → IsBehind (last_of now.round) row → (proof : Bool) → proof ≡ settings.proof → (b : Batch) (later : Moment) (A : Type 0) (x : A)
+      → HasTaken now.book row.lane row.command (Some b) later.book → WritesSome {A = A} (record { before = now.sink; after = later.sink }) (row_text proof now.round now.book row) (Ok x)
+      → later.rows ≡ now.rows → later.reads ≡ now.reads → later.notifiers ≡ now.notifiers → Opens settings roads start row b later
+  row-opens now row stands behind proof proof_is b later A x taken wrote rows reads notifiers = record {
+    before = now;
+    stands = stands;
+    behind = behind;
+    taken = taken;
+    text = subst (λ p. Appends now.sink.written later.sink.written (row_text p now.round now.book row)) proof_is wrote.bytes;
+    writes = wrote.never_falls;
+    same = (rows, reads, notifiers);
+  }
+
+  -- at the start
+  pub start-stands : start.round ≡ None → IsBook start.book → start.book.entries ≡ [] → start.book.first < 2 ^ 64 → IsReady settings roads start.book → Stands settings roads start start (HaveCome start start None)
+  unfolding state_after
+  start-stands round kept empty low ready = record {
+    lines = [];
+    are = nothing start.rows;
+    ends = subst (EndsIn []) (sym round) (EndsIn.in_none refl);
+    journals = [];
+    run = tt;
+    text = Appends-nil start.sink.written;
+    told = all-heard-nothing start.notifiers;
+    state = kept.state ∙ ap (λ (es : List Entry). state_after start.book.nodes start.book.wait start.book.base es) empty;
+    position = ap (next_position start.book.first) empty ∙ at start.book.first low;
+    ready = ready;
+    small = low;
+    writes = omega arith;
+    reads = omega arith;
+  }
+    where
+      nothing : (rows : Option (List Line)) → TakesRows rows rows []
+      nothing None = tt
+      nothing (Some all) = refl
+
+      at : (p : ℕ) → p < 2 ^ 64 → next_position p [] ≡ p
+      at p low = omega arith

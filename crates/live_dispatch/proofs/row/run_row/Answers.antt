@@ -1,0 +1,5 @@
+use Rattle.live_dispatch.proofs.WriteLemmas.{some-then}
+use Rattle.live_dispatch.proofs.row.run_row.Goals as goal
+
+pub returns-in-Ok-clause-wrote : goal.returns-in-Ok-clause-wrote
+returns-in-Ok-clause-wrote g c = some-then _ _ _ _ _ c.in-Ok.field-0 c.run_command.result c.in-Ok.ensures c.run_command.ensures.wrote

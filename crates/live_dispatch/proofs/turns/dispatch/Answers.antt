@@ -1,0 +1,45 @@
+use Rattle.std.proofs.Common.{refl}
+use Rattle.live_dispatch.proofs.TurnLemmas.{counted-ended, start-stands}
+use Rattle.live_dispatch.proofs.turns.dispatch.Goals as goal
+
+pub loop-init : goal.loop-init
+loop-init g c = record {
+  stands = start-stands _ _ _ refl c.entries-entries.ensures.kept c.requires.empty c.requires.small c.requires.ready;
+  awaits = c.requires.first;
+  proof_is = refl;
+}
+
+pub run_next-requires-clause-ready : goal.run_next-requires-clause-ready
+run_next-requires-clause-ready g c κs within = c.loop.invariant.stands.ready
+
+pub run_next-requires-clause-awaits : goal.run_next-requires-clause-awaits
+run_next-requires-clause-awaits g c κs within = (c.loop.invariant.awaits, c.loop.invariant.proof_is)
+
+pub returns-in-Err-clause-run : goal.returns-in-Err-clause-run
+returns-in-Err-clause-run g c = (c.in-Err.ensures.ended _ c.loop.invariant.stands).run
+
+pub returns-in-Err-clause-write_fault : goal.returns-in-Err-clause-write_fault
+returns-in-Err-clause-write_fault g c = (c.in-Err.ensures.ended _ c.loop.invariant.stands).write_fault
+
+pub returns-in-Err-clause-read_fault : goal.returns-in-Err-clause-read_fault
+returns-in-Err-clause-read_fault g c = (c.in-Err.ensures.ended _ c.loop.invariant.stands).read_fault
+
+pub returns-in-Err-clause-never_falls : goal.returns-in-Err-clause-never_falls
+returns-in-Err-clause-never_falls g c = (c.in-Err.ensures.ended _ c.loop.invariant.stands).writes
+
+pub loop-preserved : goal.loop-preserved
+loop-preserved g c = record {
+  stands = c.in-Ok.ensures.goes_on _ c.loop.invariant.stands;
+  awaits = c.in-Ok.ensures.awaits.0;
+  proof_is = c.in-Ok.ensures.awaits.1;
+}
+
+pub returns-clause-run : goal.returns-clause-run
+returns-clause-run g c =
+    (counted-ended _ _ _ _ c.loop.held c.loop.invariant.stands (g.L.RowSource.faults c.stop.result.rows) _ c.stop.result.ended c.stop.ensures.ended
+    (λ i. record { written = g.K.Sink.written (c.stop.ensures.sink i); faults = g.K.Sink.faults (c.stop.ensures.sink i) })).run
+
+pub returns-clause-never_falls : goal.returns-clause-never_falls
+returns-clause-never_falls g c =
+    (counted-ended _ _ _ _ c.loop.held c.loop.invariant.stands (g.L.RowSource.faults c.stop.result.rows) _ c.stop.result.ended c.stop.ensures.ended
+    (λ i. record { written = g.K.Sink.written (c.stop.ensures.sink i); faults = g.K.Sink.faults (c.stop.ensures.sink i) })).writes

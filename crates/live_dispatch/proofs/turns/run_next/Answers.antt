@@ -1,0 +1,44 @@
+use Rattle.std.proofs.Common.{◌≡◌, Some, Err, refl, sym, ap, subst, ◌∙◌}
+use Rattle.pool_io.specs.Faults.{Rose}
+use Rattle.script_rows.specs.Line.{IsBehind}
+use Rattle.live_dispatch.specs.work.Rows.{last_of}
+use Rattle.live_dispatch.specs.work.Standing.{GivesNext, IsNext, moment}
+use Rattle.live_dispatch.specs.Live.{AreRows}
+use Rattle.live_dispatch.proofs.EndLemmas.{all-ended, if-err, if-ok}
+use Rattle.live_dispatch.proofs.TurnLemmas.{next-stands, none-stands, unread-ended}
+use Rattle.live_dispatch.proofs.turns.run_next.Goals as goal
+
+pub run_one-requires-clause-behind : goal.run_one-requires-clause-behind
+run_one-requires-clause-behind g c κs within =
+    let next : IsNext (last_of c.args.run.round) (g.L.RowSource.last c.next_row.new.rows) (Some c.in-Ok-Some.row) =
+    subst (IsNext (last_of c.args.run.round) (g.L.RowSource.last c.next_row.new.rows)) c.in-Ok-Some.field-0-is (c.in-Ok-Some.ensures.behind (last_of c.args.run.round) c.requires.awaits.0) in
+    let all : IsBehind (last_of c.args.run.round) c.in-Ok-Some.row × (g.L.RowSource.last c.next_row.new.rows ≡ c.in-Ok-Some.row.round) × (c.args.run.proof ≡ c.args.setup.now.settings.now.proof) =
+    (next.0, next.1, c.requires.awaits.1) in
+    all
+
+pub returns-in-Ok-Some-clause-goes_on : goal.returns-in-Ok-Some-clause-goes_on
+returns-in-Ok-Some-clause-goes_on g c =
+    if-ok _ _ c.run_one.result (λ r went start stands. went start
+    (next-stands c.args.setup.now.settings.now c.args.setup.now.network.now start _
+    (moment c.args.run.book c.args.run.round (g.L.RowSource.to_come c.next_row.new.rows) (g.L.RowSource.faults c.next_row.new.rows) (g.K.Sink.written c.args.run.sink) (g.K.Sink.faults c.args.run.sink) _)
+    c.args.held c.in-Ok-Some.row stands (subst (GivesNext c.args.held (g.L.RowSource.to_come c.args.run.rows) (g.L.RowSource.to_come c.next_row.new.rows)) c.in-Ok-Some.field-0-is c.in-Ok-Some.ensures.row) refl refl refl refl c.next_row.ensures.never_falls)) c.run_one.ensures.goes_on
+
+pub returns-in-Ok-Some-clause-ended : goal.returns-in-Ok-Some-clause-ended
+returns-in-Ok-Some-clause-ended g c =
+    if-err _ _ c.run_one.result (λ d went start stands. went start
+    (next-stands c.args.setup.now.settings.now c.args.setup.now.network.now start _
+    (moment c.args.run.book c.args.run.round (g.L.RowSource.to_come c.next_row.new.rows) (g.L.RowSource.faults c.next_row.new.rows) (g.K.Sink.written c.args.run.sink) (g.K.Sink.faults c.args.run.sink) _)
+    c.args.held c.in-Ok-Some.row stands (subst (GivesNext c.args.held (g.L.RowSource.to_come c.args.run.rows) (g.L.RowSource.to_come c.next_row.new.rows)) c.in-Ok-Some.field-0-is c.in-Ok-Some.ensures.row) refl refl refl refl c.next_row.ensures.never_falls)) c.run_one.ensures.ended
+
+pub returns-in-Ok-None-clause-ended : goal.returns-in-Ok-None-clause-ended
+returns-in-Ok-None-clause-ended g c = λ start stands.
+    let all = none-stands c.args.setup.now.settings.now c.args.setup.now.network.now start _
+    (moment c.args.run.book c.args.run.round (g.L.RowSource.to_come c.next_row.new.rows) (g.L.RowSource.faults c.next_row.new.rows) (g.K.Sink.written c.args.run.sink) (g.K.Sink.faults c.args.run.sink) _)
+    c.args.held stands (subst (GivesNext c.args.held (g.L.RowSource.to_come c.args.run.rows) (g.L.RowSource.to_come c.next_row.new.rows)) c.in-Ok-None.field-0-is c.in-Ok-None.ensures.row) refl refl refl refl c.next_row.ensures.never_falls in
+    all-ended c.args.setup.now.settings.now c.args.setup.now.network.now start _ (AreRows start.rows) all all.are (g.L.RowSource.faults c.end.result.rows) _ c.end.result.ended c.end.ensures.wrote
+
+pub returns-in-Err-clause-ended : goal.returns-in-Err-clause-ended
+returns-in-Err-clause-ended g c = λ start stands.
+    unread-ended c.args.setup.now.settings.now c.args.setup.now.network.now start _ c.args.held stands c.in-Err.fault (g.L.RowSource.faults c.stop.result.rows) _ c.fault_of_line.result c.stop.result.ended c.stop.ensures.ended c.fault_of_line.ensures
+    (λ i. record { written = g.K.Sink.written (c.stop.ensures.sink i); faults = g.K.Sink.faults (c.stop.ensures.sink i) })
+    (λ e. subst (λ r. Rose (g.L.RowSource.faults c.args.run.rows) (g.L.RowSource.faults r)) (sym c.stop.ensures.rows) (c.next_row.ensures.fault (c.in-Err.is ∙ ap Err e)))

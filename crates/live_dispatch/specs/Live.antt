@@ -1,0 +1,93 @@
+-- What stands of a run whose rows come one by one.
+use Rattle.std.specs.Prelude.{◌≡◌, ℕ, Bool, List, [], ◌∷◌, ◌++◌, map, Option, None, Some}
+use Rattle.std.specs.Io.KnownBytes.{Appends}
+use Rattle.std.specs.List.{flat_map}
+use Rattle.pool_base.specs.Distinct.{distinct}
+use Rattle.pool_io.specs.Sink.{AppendsPart}
+use Rattle.dispatch_engine.specs.Lane.{ClosesAreGood, IsLaneBeginning, of_lane}
+use Rattle.dispatch_engine.specs.Run.{IsRun, position_after_run}
+use Rattle.dispatch_report.specs.Round.{end_text, round_text}
+use Rattle.dispatch_report.specs.Written.{Change, SinkView}
+use Rattle.request_book.specs.Book.{BookView}
+use Rattle.request_book.specs.Replay.{state_after, RepliesAreSteps}
+use Rattle.request_book.specs.declared.journal.Journal.{Journal}
+use Rattle.request_book.specs.declared.state.State.{State}
+use Rattle.rider_limits.specs.declared.settings.Settings.{Settings}
+use Rattle.rider_notices.specs.Notices.{notices}
+use Rattle.rider_notices.specs.Told.{HaveHeard, NotifierView}
+use Rattle.rider_notices.specs.declared.notice.Notice.{Notice}
+use Rattle.road_network.specs.Roads.{Roads}
+use Rattle.script_rows.specs.Round.{NumberedLanes, lane_at}
+use Rattle.script_rows.specs.Script.{round_of}
+use Rattle.script_rows.specs.declared.line.Line.{Line}
+
+-- the rows to come, where they are told, are these
+abbrev pub AreRows : Option (List Line) → List Line → Type 0
+AreRows None rows = Unit {0}
+AreRows (Some all) rows = all ≡ rows
+
+-- they begin with these
+abbrev pub BeginWithRows : Option (List Line) → List Line → Type 0
+BeginWithRows None rows = Unit {0}
+BeginWithRows (Some all) rows = (rest : List Line) × (all ≡ rows ++ rest)
+
+-- the rounds of rows, one for each number
+abbrev pub rows_rounds : List Line → List NumberedLanes
+rows_rounds lines = map (round_of lines) (distinct (map (λ l. l.round) lines))
+
+-- the state behind journals
+abbrev pub state_behind : List ℕ → ℕ → State → List Journal → State
+state_behind nodes wait s [] = s
+state_behind nodes wait s (j ∷ js) = state_behind nodes wait (state_after nodes wait s j.entries) js
+
+-- the texts of rounds with their journals, one after the other
+abbrev pub journals_text : Bool → List NumberedLanes → List Journal → List ℕ
+journals_text proof (round ∷ rounds) (journal ∷ journals) = round_text round.number proof journal ++ journals_text proof rounds journals
+journals_text proof _ _ = []
+
+-- the notices of journals, one after the other
+abbrev pub journals_notices : Settings → Roads → List Journal → List Notice
+journals_notices settings roads journals = flat_map (notices roads.nodes settings.wait) journals
+
+module _ (settings : Settings) (roads : Roads) where
+  -- a journal is a beginning of a run of a round: each lane's entries begin a run of its commands
+  pub record IsRoundBeginning (round : NumberedLanes) (journal : Journal) : Type 0 where
+    pub replies : RepliesAreSteps roads.nodes settings.wait journal.base journal.entries
+    pub closes : ClosesAreGood settings roads journal.base journal.entries
+    pub lanes : (lane : ℕ) → IsLaneBeginning (lane_at round lane) (of_lane lane journal.entries)
+
+  -- journals are a run of rounds from a state and a position, and the last a beginning of a run of its round
+  pub data IsBegunRun (s : State) (position : ℕ) : List NumberedLanes → List Journal → Type 0 where
+    none : IsBegunRun s position [] []
+    some : (rounds : List NumberedLanes) (journals : List Journal) (round : NumberedLanes) (journal : Journal)
+        → IsRun settings roads s position rounds journals
+        → journal.base ≡ state_behind roads.nodes settings.wait s journals
+        → journal.first ≡ position_after_run position journals
+        → IsRoundBeginning round journal
+        → IsBegunRun s position (rounds ++ round ∷ []) (journals ++ journal ∷ [])
+
+  -- the report behind its head of journals of the rounds of these rows
+  abbrev pub rows_text : ℕ → List Line → List Journal → List ℕ
+  rows_text position lines journals = journals_text settings.proof (rows_rounds lines) journals ++ end_text (position_after_run position journals)
+
+  -- all rows were run and are written, with the last line, and their notices were told
+  pub record RunsRows (book : BookView) (rows : Option (List Line)) (sink : Change SinkView) (notifiers : Change (List NotifierView)) : Type 0 where
+    pub lines : List Line
+    pub all : AreRows rows lines
+    pub journals : List Journal
+    pub run : IsRun settings roads book.base book.first (rows_rounds lines) journals
+    pub text : Appends sink.before.written sink.after.written (rows_text book.first lines journals)
+    pub told : HaveHeard (journals_notices settings roads journals) notifiers.before notifiers.after
+
+  -- some first rows were run, the last round maybe in part; what is written begins their report and isn't the whole; and
+  -- the notices of some first entries were told
+  pub record BeginsRows (book : BookView) (rows : Option (List Line)) (sink : Change SinkView) (notifiers : Change (List NotifierView)) : Type 0 where
+    pub lines : List Line
+    pub begin : BeginWithRows rows lines
+    pub journals : List Journal
+    pub run : IsBegunRun book.base book.first (rows_rounds lines) journals
+    pub text : AppendsPart sink.before.written sink.after.written (rows_text book.first lines journals)
+    pub told : List Notice
+    pub untold : List Notice
+    pub notices : told ++ untold ≡ journals_notices settings roads journals
+    pub heard : HaveHeard told notifiers.before notifiers.after

@@ -1,0 +1,170 @@
+-- What stands of a run between two rows, and what a row or a batch adds.
+use Rattle.std.specs.Prelude.{◌≡◌, ℕ, ◌<◌, ◌≤◌, ◌^◌, Bool, List, [], ◌∷◌, ◌++◌, Option, None, Some, Result, Ok, Err, OnErr, OnOk, MatchResult, ⊤, true}
+use Rattle.std.specs.Result.{IsErrOf}
+use Rattle.std.specs.Io.KnownBytes.{Appends}
+use Rattle.batch_snapshot.specs.Batch.{Batch}
+use Rattle.dispatch_engine.specs.Run.{IsReady, IsRun, journal_of, position_after_run}
+use Rattle.dispatch_report.specs.Round.{entry_text}
+use Rattle.dispatch_report.specs.Written.{Change, SinkView}
+use Rattle.dispatch_report.specs.declared.fault.ReportFault.{ReportFault}
+use Rattle.dispatch_report.specs.declared.fault.ReportFault.TheVariants as report
+use Rattle.live_batch.specs.Phase.{HasRunOpen, desk_after}
+use Rattle.live_batch.specs.declared.read_on.Stop.{Stop}
+use Rattle.live_desk.specs.Desk.{desk_of}
+use Rattle.live_rows.specs.Rows.{GivesRow, TakesRows}
+use Rattle.live_rows.specs.declared.lines.LineFault.{LineFault}
+use Rattle.live_rows.specs.declared.lines.LineFault.TheVariants as line
+use Rattle.pool_io.specs.Faults.{Rose}
+use Rattle.request_book.specs.Book.{BookView, IsApplied, next_position}
+use Rattle.request_book.specs.Step.{step}
+use Rattle.request_book.specs.declared.command.Command.{Command}
+use Rattle.request_book.specs.declared.journal.Entry.{Entry}
+use Rattle.request_book.specs.declared.journal.Journal.{Journal}
+use Rattle.request_book.specs.declared.reply.Reply.{Reply}
+use Rattle.rider_limits.specs.declared.settings.Settings.{Settings}
+use Rattle.rider_notices.specs.Notices.{notices}
+use Rattle.rider_notices.specs.Told.{HaveHeard, NotifierView}
+use Rattle.road_network.specs.Roads.{Roads}
+use Rattle.script_rows.specs.Line.{IsBehind}
+use Rattle.script_rows.specs.declared.line.Line.{Line}
+use Rattle.script_rows.specs.lemmas.Named.{rounds_of}
+use Rattle.shared_book.specs.Locked.{Fits}
+use Rattle.shared_book.specs.lemmas.Locked.{snapshot_before}
+use Rattle.live_dispatch.specs.Live.{BeginsRows, journals_notices, journals_text, RunsRows, state_behind}
+use Rattle.live_dispatch.specs.declared.fault.LiveFault.{LiveFault}
+use Rattle.live_dispatch.specs.declared.fault.LiveFault.TheVariants as live
+use Rattle.live_dispatch.specs.work.Rows.{EndsIn, last_of, start_text}
+
+-- what is seen of a run between two rows: its book, the round of the last row, its rows to come, how many reads failed, its
+-- sink and its notifiers
+pub record Moment : Type 0 where
+  pub book : BookView
+  pub round : Option ℕ
+  pub rows : Option (List Line)
+  pub reads : ℕ
+  pub sink : SinkView
+  pub notifiers : List NotifierView
+
+-- by its parts
+abbrev pub moment : BookView → Option ℕ → Option (List Line) → ℕ → Option (List ℕ) → ℕ → List NotifierView → Moment
+moment book round rows reads written faults notifiers =
+    record { book = book; round = round; rows = rows; reads = reads; sink = record { written = written; faults = faults }; notifiers = notifiers }
+
+-- the rows were taken from those to come, but for one that is held
+abbrev pub HaveCome : Moment → Moment → Option Line → List Line → Type 0
+HaveCome start now None lines = TakesRows start.rows now.rows lines
+HaveCome start now (Some row) lines = TakesRows start.rows now.rows (lines ++ row ∷ [])
+
+-- the row that is held stands behind the last, and is the last that came
+abbrev pub Awaits : ℕ → ℕ → Option Line → Type 0
+Awaits last came None = came ≡ last
+Awaits last came (Some row) = IsBehind last row × (came ≡ row.round)
+
+-- the row that was held, or the next that came
+abbrev pub GivesNext : Option Line → Option (List Line) → Option (List Line) → Option Line → Type 0
+GivesNext None old new row = GivesRow old new row
+GivesNext (Some held) old new row = (row ≡ Some held) × (new ≡ old)
+
+-- it stands behind the last, and is the last that came
+abbrev pub IsNext : ℕ → ℕ → Option Line → Type 0
+IsNext last came None = ⊤
+IsNext last came (Some row) = IsBehind last row × (came ≡ row.round)
+
+-- the fault of a report, of a line, and how writing ended
+abbrev pub of_report : ReportFault → LiveFault
+of_report report.WriteFault = live.WriteFault
+of_report report.OutOfMemory = live.OutOfMemory
+
+abbrev pub of_line : LineFault → LiveFault
+of_line line.ReadFault = live.ReadFault
+of_line line.OutOfMemory = live.OutOfMemory
+
+abbrev pub ended_by : Result (Unit {0}) ReportFault → Result (Unit {0}) LiveFault
+ended_by (Ok done) = Ok done
+ended_by (Err fault) = Err (of_report fault)
+
+-- the entry of a command, with the step's reply
+abbrev pub entry_for : BookView → ℕ → Command → Entry
+entry_for b lane command = record { lane = lane; command = command; reply = (step b.nodes b.wait b.state command).1 }
+
+-- what a row writes: the line that begins its round, if it does, and its entry
+abbrev pub row_text : Bool → Option ℕ → BookView → Line → List ℕ
+row_text proof round b row = start_text round row.round ++ entry_text proof (next_position b.first b.entries) (entry_for b row.lane row.command)
+
+-- the bytes written, where they are told, grow by a beginning of a text
+pub record AppendsSome (old new : Option (List ℕ)) (text : List ℕ) : Type 0 where
+  pub written : List ℕ
+  pub unwritten : List ℕ
+  pub parts : written ++ unwritten ≡ text
+  pub bytes : Appends old new written
+
+-- a text was written whole, or with a fault a beginning of it
+pub record WritesSome {A : Type 0} (sink : Change SinkView) (text : List ℕ) (result : Result A ReportFault) : Type 0 where
+  pub bytes : MatchResult result (λ _. Appends sink.before.written sink.after.written text) (λ _. AppendsSome sink.before.written sink.after.written text)
+  pub fault : IsErrOf result report.WriteFault → Rose sink.before.faults sink.after.faults
+  pub never_falls : sink.before.faults ≤ sink.after.faults
+
+-- the book took the command of a lane, which sealed this batch, if it did one
+pub record HasTaken (old : BookView) (lane : ℕ) (command : Command) (sealed : Option Batch) (new : BookView) : Type 0 where
+  pub reply : Reply
+  pub applied : IsApplied old lane command reply new
+  pub fits : Fits old.nodes command (record { reply = reply; snapshot = sealed })
+  pub shown : sealed ≡ snapshot_before old.wait old.state command
+
+-- a batch was closed and written whole, and its journal was given up and its notices were told; or nobody was told anything
+pub record HasToldBatch (nodes : List ℕ) (wait : ℕ) (old new : BookView) (closed : Bool) (fault : Option ReportFault) (before after : List NotifierView) (result : Result (Unit {0}) LiveFault) : Type 0 where
+  pub told : OnOk result (HaveHeard (notices nodes wait (journal_of old)) before after)
+  pub is_closed : OnOk result (closed ≡ true)
+  pub whole : OnOk result (fault ≡ None)
+  pub cut : OnOk result (new ≡ record { nodes = old.nodes; wait = old.wait; first = next_position old.first old.entries; base = old.state; entries = []; state = old.state; spare = 0 })
+  pub untold : OnErr result (after ≡ before)
+  pub write_fault : IsErrOf result live.WriteFault → fault ≡ Some report.WriteFault
+  pub no_read : IsErrOf result live.ReadFault → ⊥
+
+module _ (settings : Settings) (roads : Roads) where
+  -- from its start rows were run and are written, and their notices were told; no batch waits for its close
+  pub record Stands (start now : Moment) (Are : List Line → Type 0) : Type 0 where
+    pub lines : List Line
+    pub are : Are lines
+    pub ends : EndsIn lines now.round
+    pub journals : List Journal
+    pub run : IsRun settings roads start.book.base start.book.first (rounds_of lines) journals
+    pub text : Appends start.sink.written now.sink.written (journals_text settings.proof (rounds_of lines) journals)
+    pub told : HaveHeard (journals_notices settings roads journals) start.notifiers now.notifiers
+    pub state : now.book.state ≡ state_behind roads.nodes settings.wait start.book.base journals
+    pub position : next_position now.book.first now.book.entries ≡ position_after_run start.book.first journals
+    pub ready : IsReady settings roads now.book
+    pub small : start.book.first < 2 ^ 64
+    pub writes : start.sink.faults ≤ now.sink.faults
+    pub reads : start.reads ≤ now.reads
+
+  -- then a row was run and is written that sealed a batch
+  pub record Opens (start : Moment) (row : Line) (b : Batch) (now : Moment) : Type 0 where
+    pub before : Moment
+    pub stands : Stands start before (HaveCome start before (Some row))
+    pub behind : IsBehind (last_of before.round) row
+    pub taken : HasTaken before.book row.lane row.command (Some b) now.book
+    pub text : Appends before.sink.written now.sink.written (row_text settings.proof before.round before.book row)
+    pub writes : before.sink.faults ≤ now.sink.faults
+    pub same : (now.rows ≡ before.rows) × (now.reads ≡ before.reads) × (now.notifiers ≡ before.notifiers)
+
+  -- and the batch was open, from a new journal on, while rows of other lanes were run
+  pub record HasRunOn (start : Moment) (b : Batch) (round : ℕ) (book : BookView) (rows : Option (List Line)) (sink : SinkView) (notifiers : List NotifierView) (closed : Bool) (stop : Stop) (fault : Option ReportFault) (reads : ℕ) : Type 0 where
+    pub row : Line
+    pub number : row.round ≡ round
+    pub sealed : Moment
+    pub opens : Opens start row b sealed
+    pub told : notifiers ≡ sealed.notifiers
+    pub reads_were : sealed.reads ≡ reads
+    pub fresh : BookView
+    pub fresh_is : fresh ≡ record { nodes = sealed.book.nodes; wait = sealed.book.wait; first = next_position sealed.book.first sealed.book.entries; base = sealed.book.state; entries = []; state = sealed.book.state; spare = 0 }
+    pub ran : HasRunOpen settings roads b round sealed.rows rows (desk_of fresh settings.proof sealed.sink) (desk_after fresh settings.proof sealed.sink book sink fault) closed stop
+
+  -- how a run ended, from its start
+  pub record HasEnded (start : Moment) (failed : ℕ) (sink : SinkView) (notifiers : List NotifierView) (ended : Result (Unit {0}) LiveFault) : Type 0 where
+    pub run : MatchResult ended
+        (λ _. RunsRows settings roads start.book start.rows (record { before = start.sink; after = sink }) (record { before = start.notifiers; after = notifiers }))
+        (λ _. BeginsRows settings roads start.book start.rows (record { before = start.sink; after = sink }) (record { before = start.notifiers; after = notifiers }))
+    pub write_fault : IsErrOf ended live.WriteFault → Rose start.sink.faults sink.faults
+    pub read_fault : IsErrOf ended live.ReadFault → Rose start.reads failed
+    pub writes : start.sink.faults ≤ sink.faults

@@ -1,0 +1,89 @@
+//! A run between two rows, and its end.
+ghost use Rattle.std.specs.Prelude.{◌≡◌, Result, Err};
+ghost use Rattle.dispatch_report.specs.Round.{end_text};
+ghost use Rattle.dispatch_report.specs.Written.{sink_seen, WritesText};
+ghost use Rattle.dispatch_report.specs.declared.fault.ReportFault.{ReportFault};
+ghost use Rattle.request_book.specs.Book.{next_position};
+ghost use Rattle.live_dispatch.specs.work.Standing.{ended_by};
+
+use crate::fault::{LiveFault, fault_of_text};
+use dispatch_report::write_end;
+use live_rows::RowSource;
+use pool_io::Sink;
+use request_book::Book;
+use std::alloc::Global;
+
+/// A run while no batch is open: the book, the sink of its report and its rows to come.
+#[derive(Drop)]
+pub(crate) struct LiveRun<K: Sink, L: RowSource> {
+    pub(crate) book: Book,
+    pub(crate) sink: K,
+    pub(crate) rows: L,
+    /// Room for a line.
+    pub(crate) line: Vec<u8>,
+    /// The round of the last row.
+    pub(crate) round: Option<u32>,
+    /// Whether search trees are printed.
+    pub(crate) proof: bool,
+}
+
+/// What a run gives back, and how it ended.
+#[derive(Drop)]
+pub struct Dispatched<K: Sink, L: RowSource> {
+    pub sink: K,
+    pub rows: L,
+    pub ended: Result<(), LiveFault>,
+}
+
+/// Ends a run with a fault.
+pub(crate) fn stop<K: Sink, L: RowSource>(run: LiveRun<K, L>, fault: LiveFault) -> Dispatched<K, L>
+    ensures sink { result.sink ≡ run.sink }
+    ensures rows { result.rows ≡ run.rows }
+    ensures ended { result.ended ≡ Err fault }
+{
+    let LiveRun {
+        book,
+        sink,
+        rows,
+        line,
+        ..
+    } = run;
+    drop(book);
+    drop(line);
+    Dispatched {
+        sink,
+        rows,
+        ended: Err(fault),
+    }
+}
+
+/// Writes the last line.
+pub(crate) fn end<K: Sink, L: RowSource>(alloc: Global, run: LiveRun<K, L>) -> Dispatched<K, L>
+    ensures rows { result.rows ≡ run.rows }
+    ensures wrote { (answer : Result (Unit {0}) ReportFault) × (result.ended ≡ ended_by answer)
+        × WritesText (sink_seen K.written K.faults run.sink result.sink) (end_text (next_position run.book.first run.book.entries)) answer }
+{
+    let LiveRun {
+        book,
+        sink,
+        rows,
+        line,
+        ..
+    } = run;
+    drop(line);
+    let position = book.next_position();
+    drop(book);
+    let mut sink = sink;
+    match write_end(alloc, &mut sink, position) {
+        Ok(()) => Dispatched {
+            sink,
+            rows,
+            ended: Ok(()),
+        },
+        Err(fault) => Dispatched {
+            sink,
+            rows,
+            ended: Err(fault_of_text(fault)),
+        },
+    }
+}

@@ -1,0 +1,19 @@
+ghost use Rattle.std.specs.Prelude.{◌≡◌};
+
+use rider_limits::Settings;
+use road_network::Network;
+use row_tables::Drafter;
+use travel_times::Ways;
+use worker_gate::Gate;
+
+/// What the batches of a call share: the network, what tells its travel times, what drafts assignments, the settings,
+/// and the gate that hears of pieces of growth.
+#[derive(Drop)]
+pub struct LiveSetup<'a, W: Ways, D: Drafter, G: Gate> {
+    pub network: &'a Network,
+    pub ways: &'a W,
+    pub drafter: &'a D,
+    pub settings: &'a Settings,
+    pub gate: &'a G,
+    pub ghost same_roads: { W.roads ways.now ≡ network.now },
+}

@@ -1,0 +1,169 @@
+//! Rows, one by one, with the batches that they seal.
+ghost use Rattle.std.specs.Prelude.{◌≡◌, ℕ, List, ◌<◌, ◌≤◌, ◌^◌, [], map, MatchResult, IfOk, IfErr, Some};
+ghost use Rattle.std.specs.Result.{IsErrOf};
+ghost use Rattle.pool_io.specs.Faults.{Rose};
+ghost use Rattle.dispatch_engine.specs.Run.{IsReady};
+ghost use Rattle.dispatch_report.specs.Written.{Change, sink_seen};
+ghost use Rattle.rider_notices.specs.Seen.{notifier_seen};
+ghost use Rattle.rider_notices.specs.Told.{NotifierView};
+ghost use Rattle.script_rows.specs.Line.{IsBehind};
+ghost use Rattle.live_dispatch.specs.Live.{BeginsRows, RunsRows};
+ghost use Rattle.live_dispatch.specs.work.Rows.{last_of};
+ghost use Rattle.live_dispatch.specs.work.Standing.{Awaits, GivesNext, HasEnded, HaveCome, IsNext, Moment, Stands, moment};
+
+use crate::batch::run_batch;
+use crate::fault::{LiveFault, fault_of_line, fault_of_text};
+use crate::live_run::{Dispatched, LiveRun, end, stop};
+use crate::row::run_row;
+use crate::setup::LiveSetup;
+use live_rows::{LineFault, RowSource};
+use pool_io::Sink;
+use request_book::Book;
+use rider_notices::Notifier;
+use row_tables::Drafter;
+use script_rows::Line;
+use std::alloc::Global;
+use std::sync::Wait;
+use std::thread::Threads;
+use travel_times::Ways;
+use worker_gate::Gate;
+
+/// Runs rows until there is none, and writes the last line: each row's line is written before the next row is waited
+/// for, but for the rows that run beside an open batch, whose lines are written in the order of the journal. Where that
+/// ends well, what was written is the report behind its head of a run of the rounds of all rows.
+pub fn dispatch<K: Sink + Send + Drop, L: RowSource + Send + Drop, W: Ways, D: Drafter, G: Gate>(
+    rt: &(impl Threads + Wait + Sync),
+    alloc: Global,
+    book: Book,
+    sink: K,
+    rows: L,
+    setup: &LiveSetup<'_, W, D, G>,
+    notifiers: &mut Vec<Box<dyn Notifier>>,
+) -> Dispatched<K, L>
+    requires ready { IsReady setup.now.settings.now setup.now.network.now book }
+    requires empty { book.entries ≡ [] }
+    requires small { book.first < 2 ^ 64 }
+    requires first { L.last rows ≡ 0 }
+    ensures run { let sinks = sink_seen K.written K.faults sink result.sink in
+        let told : Change (List NotifierView) = (record {
+          before = map (λ n. notifier_seen (⟦<dyn Notifier as Notifier>⟧ n.vtable) n.value) notifiers.old.items;
+          after = map (λ n. notifier_seen (⟦<dyn Notifier as Notifier>⟧ n.vtable) n.value) notifiers.new.items;
+        }) in
+        MatchResult result.ended
+        (λ _. RunsRows setup.now.settings.now setup.now.network.now book (L.to_come rows) sinks told)
+        (λ _. BeginsRows setup.now.settings.now setup.now.network.now book (L.to_come rows) sinks told) }
+    ensures write_fault { IsErrOf result.ended LiveFault.WriteFault → Rose (K.faults sink) (K.faults result.sink) }
+    ensures read_fault { IsErrOf result.ended LiveFault.ReadFault → Rose (L.faults rows) (L.faults result.rows) }
+    ensures never_falls { K.faults sink ≤ K.faults result.sink }
+{
+    let _entries = book.entries();
+    let mut run = LiveRun {
+        book,
+        sink,
+        rows,
+        line: Vec::new(alloc),
+        round: None,
+        proof: setup.settings.proof,
+    };
+    let mut held = None;
+    for _ in 0..u64::MAX {
+        match run_next(rt, alloc, run, held, setup, notifiers) {
+            Ok((next, row)) => {
+                run = next;
+                held = row;
+            }
+            Err(dispatched) => return dispatched,
+        }
+    }
+    drop(held);
+    stop(run, LiveFault::OutOfMemory)
+}
+
+/// Runs the row that is held, or the next that comes, with the batch that it seals. It gives the row that waits then; at
+/// the end of the rows the run is ended.
+fn run_next<K: Sink + Send + Drop, L: RowSource + Send + Drop, W: Ways, D: Drafter, G: Gate>(
+    rt: &(impl Threads + Wait + Sync),
+    alloc: Global,
+    run: LiveRun<K, L>,
+    held: Option<Line>,
+    setup: &LiveSetup<'_, W, D, G>,
+    notifiers: &mut Vec<Box<dyn Notifier>>,
+) -> Result<(LiveRun<K, L>, Option<Line>), Dispatched<K, L>>
+    requires ready { IsReady setup.now.settings.now setup.now.network.now run.book }
+    requires awaits { Awaits (last_of run.round) (L.last run.rows) held × (run.proof ≡ setup.now.settings.now.proof) }
+    ensures goes_on { let before = map (λ n. notifier_seen (⟦<dyn Notifier as Notifier>⟧ n.vtable) n.value) notifiers.old.items in
+        let after = map (λ n. notifier_seen (⟦<dyn Notifier as Notifier>⟧ n.vtable) n.value) notifiers.new.items in
+        let was = moment run.book run.round (L.to_come run.rows) (L.faults run.rows) (K.written run.sink) (K.faults run.sink) before in
+        IfOk result (λ r. (start : Moment) → Stands setup.now.settings.now setup.now.network.now start was (HaveCome start was held)
+        → let now = moment r.0.book r.0.round (L.to_come r.0.rows) (L.faults r.0.rows) (K.written r.0.sink) (K.faults r.0.sink) after in
+        Stands setup.now.settings.now setup.now.network.now start now (HaveCome start now r.1)) }
+    ensures awaits { IfOk result (λ r. Awaits (last_of r.0.round) (L.last r.0.rows) r.1 × (r.0.proof ≡ setup.now.settings.now.proof)) }
+    ensures ended { let before = map (λ n. notifier_seen (⟦<dyn Notifier as Notifier>⟧ n.vtable) n.value) notifiers.old.items in
+        let after = map (λ n. notifier_seen (⟦<dyn Notifier as Notifier>⟧ n.vtable) n.value) notifiers.new.items in
+        let was = moment run.book run.round (L.to_come run.rows) (L.faults run.rows) (K.written run.sink) (K.faults run.sink) before in
+        IfErr result (λ d. (start : Moment) → Stands setup.now.settings.now setup.now.network.now start was (HaveCome start was held)
+        → HasEnded setup.now.settings.now setup.now.network.now start (L.faults d.rows) (record { written = K.written d.sink; faults = K.faults d.sink }) after d.ended) }
+{
+    let mut run = run;
+    match next_row(&mut run.rows, held) {
+        Ok(Some(row)) => run_one(rt, alloc, run, row, setup, notifiers),
+        Ok(None) => Err(end(alloc, run)),
+        Err(fault) => Err(stop(run, fault_of_line(fault))),
+    }
+}
+
+/// The row that is held, or the next that comes.
+fn next_row<L: RowSource>(rows: &mut L, held: Option<Line>) -> Result<Option<Line>, LineFault>
+    ensures row { IfOk result (GivesNext held (L.to_come rows.old) (L.to_come rows.new)) }
+    ensures behind { (last : ℕ) → Awaits last (L.last rows.old) held → IfOk result (IsNext last (L.last rows.new)) }
+    ensures fault { IsErrOf result LineFault.ReadFault → Rose (L.faults rows.old) (L.faults rows.new) }
+    ensures never_falls { L.faults rows.old ≤ L.faults rows.new }
+{
+    match held {
+        Some(row) => Ok(Some(row)),
+        None => rows.next(),
+    }
+}
+
+/// Runs a row with the batch that it seals.
+fn run_one<K: Sink + Send + Drop, L: RowSource + Send + Drop, W: Ways, D: Drafter, G: Gate>(
+    rt: &(impl Threads + Wait + Sync),
+    alloc: Global,
+    run: LiveRun<K, L>,
+    row: Line,
+    setup: &LiveSetup<'_, W, D, G>,
+    notifiers: &mut Vec<Box<dyn Notifier>>,
+) -> Result<(LiveRun<K, L>, Option<Line>), Dispatched<K, L>>
+    requires ready { IsReady setup.now.settings.now setup.now.network.now run.book }
+    requires behind { IsBehind (last_of run.round) row × (L.last run.rows ≡ row.round) × (run.proof ≡ setup.now.settings.now.proof) }
+    ensures goes_on { let before = map (λ n. notifier_seen (⟦<dyn Notifier as Notifier>⟧ n.vtable) n.value) notifiers.old.items in
+        let after = map (λ n. notifier_seen (⟦<dyn Notifier as Notifier>⟧ n.vtable) n.value) notifiers.new.items in
+        let was = moment run.book run.round (L.to_come run.rows) (L.faults run.rows) (K.written run.sink) (K.faults run.sink) before in
+        IfOk result (λ r. (start : Moment) → Stands setup.now.settings.now setup.now.network.now start was (HaveCome start was (Some row))
+        → let now = moment r.0.book r.0.round (L.to_come r.0.rows) (L.faults r.0.rows) (K.written r.0.sink) (K.faults r.0.sink) after in
+        Stands setup.now.settings.now setup.now.network.now start now (HaveCome start now r.1)) }
+    ensures awaits { IfOk result (λ r. Awaits (last_of r.0.round) (L.last r.0.rows) r.1 × (r.0.proof ≡ setup.now.settings.now.proof)) }
+    ensures ended { let before = map (λ n. notifier_seen (⟦<dyn Notifier as Notifier>⟧ n.vtable) n.value) notifiers.old.items in
+        let after = map (λ n. notifier_seen (⟦<dyn Notifier as Notifier>⟧ n.vtable) n.value) notifiers.new.items in
+        let was = moment run.book run.round (L.to_come run.rows) (L.faults run.rows) (K.written run.sink) (K.faults run.sink) before in
+        IfErr result (λ d. (start : Moment) → Stands setup.now.settings.now setup.now.network.now start was (HaveCome start was (Some row))
+        → HasEnded setup.now.settings.now setup.now.network.now start (L.faults d.rows) (record { written = K.written d.sink; faults = K.faults d.sink }) after d.ended) }
+{
+    let mut run = run;
+    let round = row.round;
+    match run_row(
+        &mut run.book,
+        &mut run.sink,
+        &mut run.line,
+        run.round,
+        run.proof,
+        row,
+    ) {
+        Ok(None) => {
+            run.round = Some(round);
+            Ok((run, None))
+        }
+        Ok(Some(snapshot)) => run_batch(rt, alloc, run, round, &snapshot, setup, notifiers),
+        Err(fault) => Err(stop(run, fault_of_text(fault))),
+    }
+}
