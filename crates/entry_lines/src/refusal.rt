@@ -1,15 +1,14 @@
 ghost use Rattle.std.specs.Prelude.{◌≡◌, ◌≢◌, ℕ, ◌≤◌, ◌<◌, ◌^◌, List, ◌++◌, MatchOption, codes, true};
 ghost use Rattle.dispatch_report.specs.Entry.{refusal_text, rider_status_text};
-ghost use Rattle.entry_lines.specs.Reply.{IsRefusal};
-ghost use Rattle.entry_lines.specs.work.Replies.{IsWordRefusal, IsNumberRefusal, IsEndedRefusal, IsNotPromised, IsNotThisBatch, IsAnyStatus};
+ghost use Rattle.entry_lines.specs.Reply.{IsRefusal, IsEnded};
+ghost use Rattle.entry_lines.specs.work.Replies.{IsWordRefusal, IsNumberRefusal, IsEndedRefusal, IsNotPromised, IsNotThisBatch};
 ghost use Rattle.report_lines.specs.Reading.{IsReadAs};
 
 use crate::ids::{ID_MOST, second, vehicle};
-use batch_snapshot::Promise;
 use report_lines::{is_words, read_numbered, words_first};
 use request_book::{BookRefusal, Status};
 
-/// A refusal; what its status has beside its word is 0.
+/// A refusal.
 pub(crate) fn read_refusal(text: &[u8]) -> Option<BookRefusal>
     ensures { IsReadAs refusal_text IsRefusal text.now result }
 {
@@ -96,22 +95,10 @@ fn read_ended(text: &[u8]) -> Option<BookRefusal>
     }
 }
 
-/// A status by its word, which tells no promise and no vehicle: these are 0.
+/// A status in which a rider has ended, by its word.
 fn read_status(word: &[u8]) -> Option<Status>
-    ensures { IsReadAs rider_status_text IsAnyStatus word.now result }
+    ensures { IsReadAs rider_status_text IsEnded word.now result }
 {
-    if is_words(word, b"waiting") {
-        return Some(Status::Waiting);
-    }
-    if is_words(word, b"promised") {
-        return Some(Status::Promised(Promise {
-            vehicle: vehicle(0),
-            pickup: 0,
-        }));
-    }
-    if is_words(word, b"aboard") {
-        return Some(Status::Aboard(vehicle(0)));
-    }
     if is_words(word, b"cancelled") {
         return Some(Status::Cancelled);
     }

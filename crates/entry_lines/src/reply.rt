@@ -20,7 +20,7 @@ pub(crate) fn is_spaced_reply(text: &[u8]) -> bool
     read_reply(after).is_some()
 }
 
-/// A reply. A line tells a status by its word alone, so what else a refusal's status has is 0.
+/// A reply.
 fn read_reply(text: &[u8]) -> Option<Reply>
     ensures { IsReadAs reply_text IsReply text.now result }
 {

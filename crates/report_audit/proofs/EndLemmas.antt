@@ -14,7 +14,7 @@ use Rattle.report_audit.specs.declared.stop.Stop.{Stop}
 use Rattle.report_audit.specs.declared.stop.Stop.TheVariants.{OutOfMemory, Line, Block}
 use Rattle.report_audit.specs.work.Ends.{IsEndText, EndStops, IsRestBehind, WhereEndStops}
 use Rattle.report_audit.specs.work.Steps.{HasNoNext}
-use Rattle.report_audit.proofs.NextLemmas.{no_next_between, not_one}
+use Rattle.report_audit.proofs.NextLemmas.{in_form, no_next_between, not_one}
 use Rattle.report_audit.proofs.TextLemmas.{done_one, end-is}
 
 -- a last line, and what follows it
@@ -48,7 +48,7 @@ end_match text line after x entries (Err stop) low has form is behind = end_behi
 
 pub end_other : (text line after : List ℕ) (x : NextLine) (entries : ℕ) → entries < 2 ^ 64 → IsFirstLine text line after → IsNextLine x line → (x ≡ DoneOf entries → ⊥) → EndStops text entries (Line (length text) wrong.Entry)
 end_other text line after x entries low has form other = record {
-  stops = WhereEndStops.before (λ settings roads. (refl, (line, after, has, (x, form), λ follow. other (one_kind x (DoneOf entries) line form (low, follow)))));
+  stops = WhereEndStops.before (λ settings roads before begins. (refl, (line, after, has, in_form before [] entries text line after x begins has form, λ follow. other (one_kind x (DoneOf entries) line form (low, follow)))));
   none = λ same.
       let both = cut_once line (numbered (codes "done ") entries) after [] has.one (done_one entries low) (sym has.whole ∙ same ∙ end-is entries) in
       other (one_kind x (DoneOf entries) line form (low, both.0));
@@ -56,7 +56,7 @@ end_other text line after x entries low has form other = record {
 
 pub end_gap : (text : List ℕ) (entries : ℕ) (stop : Stop) → entries < 2 ^ 64 → HasNoNext text stop → EndStops text entries stop
 end_gap text entries stop low gap = record {
-  stops = WhereEndStops.before (λ settings roads. no_next_between settings roads [] entries text stop gap);
+  stops = WhereEndStops.before (λ settings roads before begins. no_next_between settings roads before [] entries text stop gap);
   none = λ same. by stop gap same;
 }
   where

@@ -88,9 +88,9 @@ module _ (roads : Roads) (vehicles : List Vehicle) (rounds : List NumberedLanes)
     stopped : (stop : Stop) → WhereAllStops settings roads rounds (opening vehicles) behind stop → IsLeftOf text stop × HasFault roads vehicles rounds workers text (fault_of text stop)
     stopped stop (WhereAllStops.between before later made rest all has_read stops) =
         let head : List ℕ = head_text settings roads (length vehicles) in
-        both_at (Extent.between later (position_after_run 0 made)) (rounds_so_far settings roads vehicles before made) rest
+        both_at (Extent.between before later (position_after_run 0 made)) (rounds_so_far settings roads vehicles before made) rest
         (head_is ∙ ap (λ (t : List ℕ). head ++ t) has_read.printed ∙ sym (append_assoc head (rounds_text before made) rest))
-        (record { before = before; made = made; all = all; rounds_made = record { run = has_read.run; told = has_read.told }; position_is = refl; printed = refl }) stop stops
+        (record { made = made; all = all; rounds_made = record { run = has_read.run; told = has_read.told }; position_is = refl; printed = refl }) stop stops
     stopped stop (WhereAllStops.within before later round made j rest all has_read base first begins going stops) =
         let head : List ℕ = head_text settings roads (length vehicles) in
         let so_far : List ℕ = rounds_so_far settings roads vehicles before made in

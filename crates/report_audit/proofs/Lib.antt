@@ -1,3 +1,4 @@
+pub mod ReplyLemmas
 pub mod TextLemmas
 pub mod JournalLemmas
 pub mod LaneLemmas

@@ -8,7 +8,8 @@ use Rattle.dispatch_report.specs.Entry.{entry_line}
 use Rattle.dispatch_report.specs.Lines.{lines_text}
 use Rattle.dispatch_report.specs.Round.{entry_block}
 use Rattle.entry_lines.specs.Next.{IsNextLine}
-use Rattle.entry_lines.specs.declared.next.NextLine.TheVariants.{Entry as EntryOf}
+use Rattle.entry_lines.specs.declared.next.NextLine.{NextLine}
+use Rattle.entry_lines.specs.declared.next.NextLine.TheVariants.{Round as RoundOf, Done as DoneOf, Entry as EntryOf}
 use Rattle.entry_lines.proofs.lemmas.NextLemmas.{one_kind}
 use Rattle.lane_progress.specs.declared.stand.LaneStand.{LaneStand}
 use Rattle.lane_progress.specs.Stand.{stand_at, stand_after, HaveCome, IsNext, IsNextFrom}
@@ -30,7 +31,7 @@ use Rattle.rider_limits.specs.declared.settings.Settings.{Settings}
 use Rattle.road_network.specs.Roads.{Roads}
 use Rattle.script_rows.specs.Round.{NumberedLanes, lane_at}
 use Rattle.report_head.specs.Line.{IsFirstLine}
-use Rattle.report_audit.specs.Place.{Extent, MayComeNext, AreAtEnd, position_behind, state_behind}
+use Rattle.report_audit.specs.Place.{Extent, IsInForm, MayComeNext, AreAtEnd, position_behind, state_behind}
 use Rattle.report_audit.specs.work.Place.{with_entry}
 use Rattle.report_audit.specs.Types.{HasFittingBlock, AreTold}
 use Rattle.report_audit.specs.declared.stop.LineFault.{LineFault}
@@ -38,7 +39,7 @@ use Rattle.report_audit.specs.declared.stop.LineFault.TheVariants as wrong
 use Rattle.report_audit.specs.declared.stop.Stop.{Stop}
 use Rattle.report_audit.specs.declared.stop.Stop.TheVariants.{OutOfMemory, Line, Block}
 use Rattle.report_audit.specs.work.Rest.{IsRestOfRound, IsRestOfRounds, entries_text, with_more}
-use Rattle.report_audit.specs.work.Steps.{StopsAt, HasNoNext, IsBookOf}
+use Rattle.report_audit.specs.work.Steps.{BeginsWithEntry, MayBegin, StopsAt, HasNoNext, IsBookOf}
 use Rattle.report_audit.proofs.JournalLemmas.{reply-at, close-at}
 use Rattle.report_audit.proofs.LaneLemmas.{of_lane-append, begins_next, come_begins}
 use Rattle.report_audit.proofs.TextLemmas.{entries-more, entry_one, entries-none}
@@ -127,12 +128,40 @@ no_next_within settings roads round j text (Line left wrong.Form) gap = (gap.0, 
 no_next_within settings roads round j text (Line left wrong.Entry) gap = absurd gap
 no_next_within settings roads round j text (Block left refused) gap = absurd gap
 
-pub no_next_between : (settings : Settings) (roads : Roads) (later : List NumberedLanes) (p : ℕ) (text : List ℕ) (stop : Stop) → HasNoNext text stop → StopsAt settings roads (Extent.between later p) text stop
-no_next_between settings roads later p text OutOfMemory gap = absurd gap
-no_next_between settings roads later p text (Line left wrong.Cut) gap = gap
-no_next_between settings roads later p text (Line left wrong.Form) gap = (gap.0, (gap.1.0, gap.1.1, gap.1.2, λ f. gap.1.3 f.0 f.1))
-no_next_between settings roads later p text (Line left wrong.Entry) gap = absurd gap
-no_next_between settings roads later p text (Block left refused) gap = absurd gap
+-- between rounds a line in form is one between blocks, and where no entry stands first, each of these is in form
+no_form : (before later : List NumberedLanes) (p : ℕ) (line : List ℕ) → ((x : NextLine) → IsNextLine x line → ⊥) → IsInForm (Extent.between before later p) line → ⊥
+no_form [] later p line none f = none f.0 f.1
+no_form (r ∷ rs) later p line none f = none f.0 f.1
+
+pub in_form : (before later : List NumberedLanes) (p : ℕ) (text line after : List ℕ) (x : NextLine) → MayBegin before text → IsFirstLine text line after → IsNextLine x line → IsInForm (Extent.between before later p) line
+in_form (r ∷ rs) later p text line after x begins has is = (x, is)
+in_form [] later p text line after (EntryOf lane) begins has is = absurd (begins refl (lane, line, after, has, is))
+in_form [] later p text line after (RoundOf number) begins has is = (RoundOf number, is, tt)
+in_form [] later p text line after (DoneOf entries) begins has is = (DoneOf entries, is, tt)
+
+pub no_next_between : (settings : Settings) (roads : Roads) (before later : List NumberedLanes) (p : ℕ) (text : List ℕ) (stop : Stop) → HasNoNext text stop → StopsAt settings roads (Extent.between before later p) text stop
+no_next_between settings roads before later p text OutOfMemory gap = absurd gap
+no_next_between settings roads before later p text (Line left wrong.Cut) gap = gap
+no_next_between settings roads before later p text (Line left wrong.Form) gap = (gap.0, (gap.1.0, gap.1.1, gap.1.2, no_form before later p gap.1.0 gap.1.3))
+no_next_between settings roads before later p text (Line left wrong.Entry) gap = absurd gap
+no_next_between settings roads before later p text (Block left refused) gap = absurd gap
+
+-- a text that begins with no entry
+pub no_entry_gap : (text : List ℕ) (stop : Stop) → HasNoNext text stop → BeginsWithEntry text → ⊥
+no_entry_gap text OutOfMemory gap begins = absurd gap
+no_entry_gap text (Line left wrong.Cut) gap (lane, line, after, has, is) = not_one line after (subst (λ (t : List ℕ). is_one_line t ≡ true) has.whole gap.1)
+no_entry_gap text (Line left wrong.Form) gap (lane, line, after, has, is) =
+    let bad = gap.1 in
+    let same = cut_once bad.0 line bad.1 after bad.2.one has.one (sym bad.2.whole ∙ has.whole) in
+    bad.3 (EntryOf lane) (subst (λ (l : List ℕ). IsNextLine (EntryOf lane) l) (sym same.0) is)
+no_entry_gap text (Line left wrong.Entry) gap begins = absurd gap
+no_entry_gap text (Block left refused) gap begins = absurd gap
+
+-- the line that stands first is of the entry with which the text begins
+pub first_entry : (text line after : List ℕ) (x : NextLine) → IsFirstLine text line after → IsNextLine x line → BeginsWithEntry text → (lane : ℕ) × (x ≡ EntryOf lane)
+first_entry text line after x has form (lane, other, behind, first, is) =
+    let same = cut_once line other after behind has.one first.one (sym has.whole ∙ first.whole) in
+    (lane, one_kind x (EntryOf lane) line form (subst (λ (l : List ℕ). IsNextLine (EntryOf lane) l) (sym same.0) is))
 
 -- a book's state is the one behind its journal
 module _ (settings : Settings) (roads : Roads) (b : BookView) (of : IsBookOf settings roads b) where

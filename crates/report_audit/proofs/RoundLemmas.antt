@@ -39,7 +39,7 @@ use Rattle.report_audit.specs.work.Rounds.{IsRoundStart, HasRoundLine, IsNoRound
 use Rattle.report_audit.specs.work.Steps.{HasRead, IsBookOf, IsWithin, StopsAt, StopsBehind, StopsWithin}
 use Rattle.report_audit.proofs.JournalLemmas.{after-none, closes-none}
 use Rattle.report_audit.proofs.LaneLemmas.{come_begins, done_end, own-lane}
-use Rattle.report_audit.proofs.NextLemmas.{book_state, not_one}
+use Rattle.report_audit.proofs.NextLemmas.{book_state, in_form, not_one}
 use Rattle.report_audit.proofs.EntryLemmas.{not_at_end}
 use Rattle.report_audit.proofs.TextLemmas.{words_one, entries-append, entries-none, next-append, next-low, next-none, round-is}
 
@@ -264,7 +264,7 @@ module _ (settings : Settings) (roads : Roads) (round : NumberedLanes) (old : Bo
   -- a stop for want of memory
   pub round_stops_memory : (text : List ℕ) → round.number < 2 ^ 32 → RoundStops settings roads round old text OutOfMemory
   round_stops_memory text low = record {
-    stops = WhereRoundStops.before (record { low = low; stops = λ s r round_ later position number. tt });
+    stops = WhereRoundStops.before (record { low = low; stops = λ s r round_ before later position number begins. tt });
     none = λ other later rest. absurd (other refl);
   }
 
@@ -278,7 +278,7 @@ module _ (settings : Settings) (roads : Roads) (round : NumberedLanes) (old : Bo
   pub round_stops_before : (text : List ℕ) (stop : Stop) → IsNoRoundLine text round.number stop → RoundStops settings roads round old text stop
   round_stops_before text stop no_line = record {
     stops = WhereRoundStops.before no_line;
-    none = λ other later rest. by stop other later rest (no_line.stops settings roads round later old.first refl);
+    none = λ other later rest. by stop other later rest (no_line.stops settings roads round (round ∷ []) later old.first refl (λ none begins. cc));
   }
     where
       first_line : (later : List NumberedLanes) → IsRestOfRounds settings roads (round ∷ later) old.state old.first text → (after : List ℕ) × (text ≡ numbered (codes "round ") round.number ++ 10 ∷ after)
@@ -298,7 +298,7 @@ module _ (settings : Settings) (roads : Roads) (round : NumberedLanes) (old : Bo
               )
 
       by : (stop : Stop) → stop ≢ OutOfMemory → (later : List NumberedLanes) → IsRestOfRounds settings roads (round ∷ later) old.state old.first text
-          → StopsAt settings roads (Extent.between (round ∷ later) old.first) text stop → ⊥
+          → StopsAt settings roads (Extent.between (round ∷ []) (round ∷ later) old.first) text stop → ⊥
       by OutOfMemory other later rest stops = other refl
       by (Line left wrong.Cut) other later rest stops =
           let line = first_line later rest in
@@ -330,13 +330,13 @@ next_start settings roads b new of closed is =
 pub round_line_not : (text line after : List ℕ) (x : NextLine) (number : ℕ) → number < 2 ^ 32 → IsFirstLine text line after → IsNextLine x line → (x ≡ RoundOf number → ⊥) → IsNoRoundLine text number (Line (length text) wrong.Entry)
 round_line_not text line after x number low has form other = record {
   low = low;
-  stops = λ settings roads round later position number_is. (
+  stops = λ settings roads round before later position number_is begins. (
     refl,
     (
       line,
       after,
       has,
-      (x, form),
+      in_form before (round ∷ later) position text line after x begins has form,
       λ follow.
           other (one_kind x (RoundOf number) line form (low, follow ∙ ap (numbered (codes "round ")) number_is)),
     ),

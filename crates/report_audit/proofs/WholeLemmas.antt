@@ -1,9 +1,12 @@
 -- All rounds of a report.
-use Rattle.std.proofs.Common.{◌≡◌, ℕ, ◌+◌, ◌-◌, ◌<◌, ◌≤◌, ◌^◌, add-one, drop, get_or, min, take, true, List, [], ◌∷◌, ◌++◌, length, refl, sym, ap, ◌∙◌, subst, append_assoc, append-nil}
+use Rattle.std.proofs.Common.{◌≡◌, ℕ, ◌+◌, ◌-◌, ◌<◌, ◌≤◌, ◌^◌, add-one, drop, codes, get_or, min, take, true, List, [], ◌∷◌, ◌++◌, length, refl, sym, ap, ◌∙◌, subst, append_assoc, append-nil}
 use Rattle.std.proofs.Math.Seq.{take-suc}
 use Rattle.std.proofs.lemmas.List.{drop_all, drop_more, take_all}
 use Rattle.dispatch_engine.specs.Run.{IsRun, IsRoundRun, position_after_run}
 use Rattle.dispatch_report.specs.Round.{end_text, round_text}
+use Rattle.dispatch_report.specs.Words.{numbered}
+use Rattle.entry_lines.specs.declared.next.NextLine.TheVariants.{Entry as EntryOf}
+use Rattle.entry_lines.proofs.lemmas.NextLemmas.{no_entry_done, no_entry_round, one_kind}
 use Rattle.request_book.specs.Book.{BookView, next_position}
 use Rattle.request_book.specs.Replay.{state_after}
 use Rattle.request_book.specs.declared.journal.Journal.{Journal}
@@ -11,18 +14,19 @@ use Rattle.request_book.specs.declared.state.State.{State}
 use Rattle.rider_limits.specs.declared.settings.Settings.{Settings}
 use Rattle.road_network.specs.Roads.{Roads}
 use Rattle.script_rows.specs.Round.{NumberedLanes}
-use Rattle.report_audit.specs.Place.{Extent, state_after_rounds}
+use Rattle.report_audit.specs.Place.{Extent, IsNoEntry, state_after_rounds}
 use Rattle.report_audit.specs.Report.{batches_after, batches_in, rounds_text}
 use Rattle.report_audit.specs.Types.{AreTold, JournalsAreTold}
+use Rattle.report_audit.specs.declared.stop.LineFault.TheVariants as wrong
 use Rattle.report_audit.specs.declared.stop.Stop.{Stop}
-use Rattle.report_audit.specs.declared.stop.Stop.TheVariants.{OutOfMemory}
+use Rattle.report_audit.specs.declared.stop.Stop.TheVariants.{OutOfMemory, Line}
 use Rattle.report_audit.specs.work.Ends.{EndStops, IsEndText, WhereEndStops}
-use Rattle.report_audit.specs.work.Rest.{IsRestOfRounds}
+use Rattle.report_audit.specs.work.Rest.{IsRestOfRounds, entries_text}
 use Rattle.report_audit.specs.work.Rounds.{HasReadRound, IsRoundStart, RoundStops, WhereRoundStops}
-use Rattle.report_audit.specs.work.Steps.{StopsAt}
+use Rattle.report_audit.specs.work.Steps.{BeginsWithEntry, MayBegin, StopsAt}
 use Rattle.report_audit.specs.work.Whole.{AllStops, HasComeTo, HasReadAll, WhereAllStops}
 use Rattle.report_audit.proofs.RoundLemmas.{base_is, round_so_far}
-use Rattle.report_audit.proofs.TextLemmas.{next-none}
+use Rattle.report_audit.proofs.TextLemmas.{end-is, next-none, round-is}
 
 -- items up to the next one
 take_next : {X : Type 0} (xs : List X) (i : ℕ) (x : X) → i < length xs → x ≡ get_or xs i x → take i xs ++ x ∷ [] ≡ take (i + 1) xs
@@ -63,14 +67,18 @@ text_push settings roads s p (q ∷ qs) (k ∷ ks) r j run =
     ap (λ (t : List ℕ). round_text q.number true k ++ t) (text_push settings roads (state_after roads.nodes settings.wait s k.entries) (next_position p k.entries) qs ks r j run.3)
     ∙ sym (append_assoc (round_text q.number true k) (rounds_text qs ks) (round_text r.number true j))
 
+some_behind : (rounds : List NumberedLanes) (r : NumberedLanes) → rounds ++ r ∷ [] ≡ [] → ⊥
+some_behind [] r none = cc
+some_behind (q ∷ qs) r none = cc
+
 -- the next position of a book without entries is its first
 pub first_next : (settings : Settings) (roads : Roads) (b : BookView) → IsRoundStart settings roads b → next_position b.first b.entries ≡ b.first
 first_next settings roads b start = ap (next_position b.first) start.empty ∙ next-none b.first start.book.low
 
 module _ (settings : Settings) (roads : Roads) (s : State) (rounds : List NumberedLanes) (text : List ℕ) where
   -- before the first round
-  pub come_start : (b : BookView) → IsRoundStart settings roads b → b.state ≡ s → b.first ≡ 0 → HasComeTo settings roads s rounds text [] rounds text b 0
-  come_start b start state first = record {
+  pub come_start : (b : BookView) → IsRoundStart settings roads b → b.state ≡ s → b.first ≡ 0 → MayBegin [] text → HasComeTo settings roads s rounds text [] rounds text b 0
+  come_start b start state first begins = record {
     made = [];
     all = refl;
     has_read = record { run = tt; told = tt; printed = refl };
@@ -78,6 +86,7 @@ module _ (settings : Settings) (roads : Roads) (s : State) (rounds : List Number
     state = state;
     position = first;
     counted = refl;
+    begins = begins;
     only = λ whole. subst (λ (k : ℕ). IsRestOfRounds settings roads rounds b.state k text) (sym first) (subst (λ (t : State). IsRestOfRounds settings roads rounds t 0 text) (sym state) whole);
   }
 
@@ -103,6 +112,7 @@ module _ (settings : Settings) (roads : Roads) (s : State) (rounds : List Number
           state = read.state ∙ ap (λ (t : State). state_after roads.nodes settings.wait t j.entries) base ∙ sym (state_push settings roads s come.made j);
           position = read.position ∙ ap (λ (k : ℕ). next_position k j.entries) first ∙ sym (position_push 0 come.made j);
           counted = (λ i. min (come.counted i + read.counted i) (2 ^ 64 - 1)) ∙ sym (batches_push 0 come.made j);
+          begins = λ none. absurd (some_behind before r none);
           only = λ whole. read.only later (come.only whole);
         }
 
@@ -111,7 +121,7 @@ module _ (settings : Settings) (roads : Roads) (s : State) (rounds : List Number
     stops_in_round stop stops = record { stops = by stops.stops; none = λ other whole. stops.none other later (come.only whole) }
       where
         by : WhereRoundStops settings roads r b rest stop → WhereAllStops settings roads rounds s text stop
-        by (WhereRoundStops.before no_line) = WhereAllStops.between before (r ∷ later) come.made rest come.all come.has_read (no_line.stops settings roads r later (position_after_run 0 come.made) refl)
+        by (WhereRoundStops.before no_line) = WhereAllStops.between before (r ∷ later) come.made rest come.all come.has_read (no_line.stops settings roads r before later (position_after_run 0 come.made) refl come.begins)
         by (WhereRoundStops.behind after line inside) =
             let here : Journal = inside.here in
             let printed = round_so_far settings roads r b come.start here rest after inside.rest line inside.has_read in
@@ -163,7 +173,7 @@ module _ (settings : Settings) (roads : Roads) (s : State) (rounds : List Number
         by : WhereEndStops rest entries stop → WhereAllStops settings roads rounds s text stop
         by (WhereEndStops.before at_line) =
             WhereAllStops.between rounds [] come.made rest (sym (append-nil rounds)) come.has_read
-            (subst (λ (k : ℕ). StopsAt settings roads (Extent.between [] k) rest stop) at_end (at_line settings roads))
+            (subst (λ (k : ℕ). StopsAt settings roads (Extent.between rounds [] k) rest stop) at_end (at_line settings roads rounds come.begins))
         by (WhereEndStops.behind behind whole left) =
             WhereAllStops.behind come.made behind
             (record { run = come.has_read.run; told = come.has_read.told; printed = come.has_read.printed ∙ ap (λ (t : List ℕ). rounds_text rounds come.made ++ t) (whole ∙ ap (λ (k : ℕ). end_text k ++ behind) at_end) })
@@ -182,3 +192,26 @@ memory_at_start settings roads rounds s text = record {
   stops = WhereAllStops.between [] rounds [] text refl (record { run = tt; told = tt; printed = refl }) tt;
   none = λ other whole. absurd (other refl);
 }
+
+-- an entry before the first round
+pub entry_at_start : (settings : Settings) (roads : Roads) (rounds : List NumberedLanes) (s : State) (text : List ℕ) → BeginsWithEntry text → AllStops settings roads rounds s text (Line (length text) wrong.Form)
+entry_at_start settings roads rounds s text (lane, line, after, has, is) = record {
+  stops = WhereAllStops.between [] rounds [] text refl (record { run = tt; told = tt; printed = refl })
+      (refl, (line, after, has, λ f. subst IsNoEntry (one_kind f.0 (EntryOf lane) line f.1 is) f.2));
+  none = λ other whole. by rounds whole.made whole.run whole.printed;
+}
+  where
+    by : (rs : List NumberedLanes) (made : List Journal) → IsRun settings roads s 0 rs made → text ≡ rounds_text rs made ++ end_text (position_after_run 0 made) → ⊥
+    by [] [] run printed = no_entry_done 0 (10 ∷ []) line (10 ∷ after) lane is (sym (printed ∙ end-is 0) ∙ has.whole)
+    by [] (j ∷ js) run printed = absurd run
+    by (r ∷ rs) [] run printed = absurd run
+    by (r ∷ rs) (j ∷ js) run printed =
+        let entries : List ℕ = entries_text j.first j.entries in
+        let behind : List ℕ = rounds_text rs js ++ end_text (position_after_run (next_position 0 j.entries) js) in
+        let words : List ℕ = numbered (codes "round ") r.number in
+        let text_is : text ≡ words ++ 10 ∷ (entries ++ behind) =
+        printed
+        ∙ append_assoc (round_text r.number true j) (rounds_text rs js) (end_text (position_after_run (next_position 0 j.entries) js))
+        ∙ ap (λ (t : List ℕ). t ++ behind) (round-is r.number j)
+        ∙ append_assoc words (10 ∷ entries) behind in
+        no_entry_round r.number (10 ∷ (entries ++ behind)) line (10 ∷ after) lane is (sym text_is ∙ has.whole)

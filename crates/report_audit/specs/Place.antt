@@ -8,6 +8,7 @@ use Rattle.dispatch_report.specs.Round.{round_text, end_text}
 use Rattle.dispatch_report.specs.Words.{numbered}
 use Rattle.entry_lines.specs.Next.{IsEntry, IsNextLine}
 use Rattle.entry_lines.specs.declared.next.NextLine.{NextLine}
+use Rattle.entry_lines.specs.declared.next.NextLine.TheVariants.{Entry as EntryOf}
 use Rattle.request_book.specs.Book.{next_position, opening}
 use Rattle.request_book.specs.Replay.{state_after, RepliesAreSteps}
 use Rattle.request_book.specs.Step.{step}
@@ -54,8 +55,8 @@ pub record MayComeNext (settings : Settings) (roads : Roads) (round : NumberedLa
 
 -- how far a report is right
 pub data Extent : Type 0 where
-  -- up to a round that is to begin, or to the last line where none is left; the next entry has this position
-  between : List NumberedLanes → ℕ → Extent
+  -- behind these rounds and before those, or before the last line where none is left; the next entry has this position
+  between : List NumberedLanes → List NumberedLanes → ℕ → Extent
   -- within a round, up to these entries
   within : NumberedLanes → Journal → Extent
   -- up to the last line
@@ -63,14 +64,20 @@ pub data Extent : Type 0 where
 
 -- the line may stand next
 abbrev pub MayFollow : Settings → Roads → Extent → List ℕ → Type 0
-MayFollow settings roads (Extent.between [] position) line = line ≡ numbered (codes "done ") position
-MayFollow settings roads (Extent.between (r ∷ rs) position) line = line ≡ numbered (codes "round ") r.number
+MayFollow settings roads (Extent.between before [] position) line = line ≡ numbered (codes "done ") position
+MayFollow settings roads (Extent.between before (r ∷ rs) position) line = line ≡ numbered (codes "round ") r.number
 MayFollow settings roads (Extent.within round j) line = (e : Entry) × MayComeNext settings roads round j e × (line ≡ entry_line (position_behind j) e)
 MayFollow settings roads Extent.finished line = ⊥
 
--- the line has the form of one that may stand next
+-- no entry
+abbrev pub IsNoEntry : NextLine → Type 0
+IsNoEntry (EntryOf lane) = ⊥
+IsNoEntry _ = Unit {0}
+
+-- the line has the form of one that may stand next: behind the last line nothing may, and before the first round no entry
 abbrev pub IsInForm : Extent → List ℕ → Type 0
 IsInForm Extent.finished line = ⊥
+IsInForm (Extent.between [] later position) line = (x : NextLine) × IsNextLine x line × IsNoEntry x
 IsInForm _ line = (x : NextLine) × IsNextLine x line
 
 -- whole rounds of a run, and their journals
@@ -83,8 +90,7 @@ abbrev pub rounds_so_far : Settings → Roads → List Vehicle → List Numbered
 rounds_so_far settings roads vehicles rounds made = head_text settings roads (length vehicles) ++ rounds_text rounds made
 
 -- the text is right up to the end of a round
-pub record IsRightBetween (settings : Settings) (roads : Roads) (vehicles : List Vehicle) (rounds later : List NumberedLanes) (position : ℕ) (read : List ℕ) : Type 0 where
-  pub before : List NumberedLanes
+pub record IsRightBetween (settings : Settings) (roads : Roads) (vehicles : List Vehicle) (rounds before later : List NumberedLanes) (position : ℕ) (read : List ℕ) : Type 0 where
   pub made : List Journal
   pub all : rounds ≡ before ++ later
   pub rounds_made : HasRounds settings roads vehicles before made
@@ -112,6 +118,6 @@ pub record IsRightWhole (settings : Settings) (roads : Roads) (vehicles : List V
 
 -- a text is right up to its end, and this is the place
 abbrev pub IsRightUpTo : Settings → Roads → List Vehicle → List NumberedLanes → Extent → List ℕ → Type 0
-IsRightUpTo settings roads vehicles rounds (Extent.between later position) read = IsRightBetween settings roads vehicles rounds later position read
+IsRightUpTo settings roads vehicles rounds (Extent.between before later position) read = IsRightBetween settings roads vehicles rounds before later position read
 IsRightUpTo settings roads vehicles rounds (Extent.within round j) read = IsRightWithin settings roads vehicles rounds round j read
 IsRightUpTo settings roads vehicles rounds Extent.finished read = IsRightWhole settings roads vehicles rounds read

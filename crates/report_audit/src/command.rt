@@ -2,12 +2,14 @@
 ghost use Rattle.std.specs.Prelude.{◌≡◌, ◌≢◌, ◌↔◌, IfOk, IsTrue, MatchOption};
 ghost use Rattle.dispatch_engine.specs.Lane.{last_sealed};
 ghost use Rattle.dispatch_report.specs.Entry.{entry_line};
+ghost use Rattle.entry_lines.specs.Reply.{IsReply};
 ghost use Rattle.request_book.specs.Book.{IsApplied, next_position};
 ghost use Rattle.request_book.specs.Command.{IsNoClose};
 ghost use Rattle.request_book.specs.declared.reply.Reply.{Reply as OneReply};
 ghost use Rattle.shared_book.specs.lemmas.Locked.{snapshot_before};
 
 use crate::line::is_entry_line;
+use crate::numbers::fits_reply;
 use batch_snapshot::Snapshot;
 use pool_base::OutOfMemory;
 use request_book::{Book, Command, Entry, Reply};
@@ -46,10 +48,11 @@ pub(crate) fn answered(
     requires { IsNoClose command.now }
     ensures { IfOk result (λ told. (reply : OneReply) × IsApplied book.old lane command.entry.now reply book.new
         × MatchOption told (line.entry.now ≢ entry_line (next_position book.old.first book.old.entries) (record { lane = lane; command = command.entry.now; reply = reply }))
-        (λ r. (r ≡ reply) × (line.entry.now ≡ entry_line (next_position book.old.first book.old.entries) (record { lane = lane; command = command.entry.now; reply = reply })))) }
+        (λ r. (r ≡ reply) × IsReply r × (line.entry.now ≡ entry_line (next_position book.old.first book.old.entries) (record { lane = lane; command = command.entry.now; reply = reply })))) }
 {
     let position = book.next_position();
     let reply = book.apply(lane, command.copied())?;
+    fits_reply(&reply);
     if is_answer_line(alloc, line, position, lane, command, &reply)? {
         Ok(Some(reply))
     } else {

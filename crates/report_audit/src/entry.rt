@@ -8,7 +8,7 @@ ghost use Rattle.report_audit.specs.work.Steps.{EntryRead, IsEntryOf, IsWithin, 
 
 use crate::close::audit_close;
 use crate::command::{answered, put_up, sealed_by_command};
-use crate::numbers::{fits_command, fits_reply};
+use crate::numbers::fits_command;
 use crate::setup::Setup;
 use crate::stop::{Between, Stop, line_between, wrong_line};
 use batch_snapshot::Snapshot;
@@ -167,10 +167,7 @@ fn audit_command(
     let sealed = sealed_by_command(book, command)?;
     fits_command(command);
     match answered(alloc, book, lane, command, line)? {
-        Some(reply) => {
-            fits_reply(&reply);
-            Ok((reply, sealed))
-        }
+        Some(reply) => Ok((reply, sealed)),
         None => Err(wrong_line(left)),
     }
 }

@@ -2,7 +2,9 @@
 ghost use Rattle.entry_lines.specs.Command.{IsBatch, IsCommand, IsSecond};
 ghost use Rattle.entry_lines.specs.Reply.{IsReply, IsRefusal};
 ghost use Rattle.entry_lines.specs.lemmas.Replies.{OrNone};
+ghost use Rattle.report_audit.specs.work.Taking.{TellsEnd};
 ghost use Rattle.report_lines.specs.Ids.{IsId};
+ghost use Rattle.request_book.specs.declared.reply.Reply.TheVariants.{Refused as RefusedFor};
 
 use pool_base::{Second, VehicleId};
 use request_book::{BookRefusal, Command, Reply};
@@ -53,8 +55,9 @@ pub(crate) fn fits_command(command: &Command)
     }
 }
 
-/// Each number of a reply is within its type.
+/// The same of a reply, and a status that it tells is one in which a rider has ended.
 pub(crate) fn fits_reply(reply: &Reply)
+    requires { TellsEnd reply.now }
     ensures { IsReply reply.now }
 {
     match reply {
@@ -67,10 +70,12 @@ pub(crate) fn fits_reply(reply: &Reply)
 }
 
 fn fits_refusal(refusal: &BookRefusal)
+    requires { TellsEnd (RefusedFor refusal.now) }
     ensures { IsRefusal refusal.now }
 {
     match refusal {
         BookRefusal::IsAboard { vehicle } => fits_vehicle(*vehicle),
+        BookRefusal::Ended { .. } => {}
         BookRefusal::TimeBack { last } => fits_second(*last),
         BookRefusal::ClockBack { last } => fits_second(*last),
         BookRefusal::NotPromised { holder } => fits_holder(holder),

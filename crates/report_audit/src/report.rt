@@ -11,7 +11,7 @@ ghost use Rattle.report_audit.specs.work.Whole.{AllStops, HasReadAll};
 use crate::fault::{AuditFault, Audited};
 use crate::rounds::audit_rounds;
 use crate::setup::Setup;
-use crate::stop::{LineFault, Stop};
+use crate::stop::{LineFault, Stop, begins_with_entry};
 use batch_snapshot::Fleet;
 use block_audit::BlockRefusal;
 use report_head::{HeadFault, read_head};
@@ -73,6 +73,12 @@ fn audit_behind<G: Gate>(
     ensures { MatchResult result (HasReadAll settings.entry.now network.entry.now script.entry.now (opening fleet) text.entry.now)
         (AllStops settings.entry.now network.entry.now script.entry.now (opening fleet) text.entry.now) }
 {
+    if begins_with_entry(text) {
+        return Err(Stop::Line {
+            left: text.len(),
+            fault: LineFault::Form,
+        });
+    }
     let mut book = match Book::new(alloc, network, fleet, settings.wait) {
         Ok(book) => book,
         Err(_) => return Err(Stop::OutOfMemory),

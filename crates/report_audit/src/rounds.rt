@@ -1,6 +1,7 @@
 //! All rounds of a report, and its end.
-ghost use Rattle.std.specs.Prelude.{◌≡◌, MatchResult};
+ghost use Rattle.std.specs.Prelude.{◌≡◌, [], MatchResult};
 ghost use Rattle.report_audit.specs.work.Rounds.{IsRoundStart};
+ghost use Rattle.report_audit.specs.work.Steps.{MayBegin};
 ghost use Rattle.report_audit.specs.work.Whole.{HasReadAll, AllStops};
 
 use crate::end::audit_end;
@@ -26,6 +27,7 @@ pub(crate) fn audit_rounds<W: Ways, G: Gate>(
 ) -> Result<Audited, Stop>
     requires start { IsRoundStart setup.now.settings.now setup.now.network.now book.old }
     requires first { book.old.first ≡ 0 }
+    requires begins { MayBegin [] text.now }
     ensures { MatchResult result (HasReadAll setup.entry.now.settings.now setup.entry.now.network.now rounds.entry.now book.old.state text.entry.now)
         (AllStops setup.entry.now.settings.now setup.entry.now.network.now rounds.entry.now book.old.state text.entry.now) }
 {

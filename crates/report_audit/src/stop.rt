@@ -1,9 +1,9 @@
 //! Where an audit stops, by the length of the text that is left there.
-ghost use Rattle.std.specs.Prelude.{◌≡◌, MatchResult};
+ghost use Rattle.std.specs.Prelude.{◌≡◌, ℕ, true, MatchResult};
 ghost use Rattle.entry_lines.specs.Next.{IsNextLine};
 ghost use Rattle.report_head.specs.Line.{IsFirstLine};
 ghost use Rattle.report_audit.specs.declared.stop.Stop.TheVariants.{OutOfMemory as NoMemory};
-ghost use Rattle.report_audit.specs.work.Steps.{HasNoNext};
+ghost use Rattle.report_audit.specs.work.Steps.{BeginsWithEntry, HasNoNext};
 
 use block_audit::BlockRefusal;
 use entry_lines::{NextLine, read_next};
@@ -61,6 +61,27 @@ pub(crate) fn line_between(text: &[u8]) -> Result<Between<'_>, Stop>
             left,
             fault: LineFault::Form,
         }),
+    }
+}
+
+/// Whether a text begins with the line of an entry.
+pub(crate) fn begins_with_entry(text: &[u8]) -> bool
+    ensures right { result ≡ true → BeginsWithEntry text.now }
+    ensures whole { BeginsWithEntry text.now → result ≡ true }
+{
+    match line_between(text) {
+        Ok(between) => is_entry(between.next),
+        Err(_stop) => false,
+    }
+}
+
+fn is_entry(next: NextLine) -> bool
+    ensures right { result ≡ true → (lane : ℕ) × (next ≡ NextLine.Entry lane) }
+    ensures whole { (lane : ℕ) → next ≡ NextLine.Entry lane → result ≡ true }
+{
+    match next {
+        NextLine::Entry { .. } => true,
+        _ => false,
     }
 }
 

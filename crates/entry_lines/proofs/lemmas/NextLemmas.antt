@@ -1,5 +1,6 @@
 -- A line is of one kind.
-use Rattle.std.proofs.Common.{◌≡◌, ◌≢◌, ℕ, ◌≤◌, ◌<◌, ◌^◌, codes, get_or, List, [], ◌++◌, decimal, refl, sym, ap, ◌∙◌, append-nil, arith}
+use Rattle.std.proofs.Common.{◌≡◌, ◌≢◌, ℕ, ◌≤◌, ◌<◌, ◌^◌, codes, get_or, List, [], ◌++◌, decimal, refl, sym, ap, ◌∙◌, append-nil, append_assoc, false, ◌∷◌, arith}
+use Rattle.std.specs.Char.{is_ascii_digit}
 use Rattle.dispatch_report.specs.Words.{numbered}
 use Rattle.entry_lines.specs.Next.{IsNextLine}
 use Rattle.entry_lines.specs.declared.next.NextLine.{NextLine}
@@ -64,3 +65,17 @@ one_kind (Done m) (EntryOf lane) line ix iy = absurd (done_no_entry line m lane 
 one_kind (EntryOf lane) (Round n) line ix iy = absurd (round_no_entry line n lane iy.1 ix)
 one_kind (EntryOf lane) (Done n) line ix iy = absurd (done_no_entry line n lane iy.1 ix)
 one_kind (EntryOf lane) (EntryOf other) line ix iy = ap EntryOf (same_lane line lane other ix iy)
+
+-- no entry's line begins with words
+no_entry_behind : (c : ℕ) (cs line after : List ℕ) (lane : ℕ) → is_ascii_digit c ≡ false → IsNextLine (EntryOf lane) line → c ∷ cs ≡ line ++ after → ⊥
+no_entry_behind c cs line after lane other is e =
+    let b = entry_begins line lane is in
+    no_number c cs b.0 (b.1 ++ after) other (omega (arith, b.2)) (e ∙ ap (λ l. l ++ after) b.3 ∙ append_assoc (decimal b.0) b.1 after)
+
+pub no_entry_round : (n : ℕ) (rest line after : List ℕ) (lane : ℕ) → IsNextLine (EntryOf lane) line → numbered (codes "round ") n ++ rest ≡ line ++ after → ⊥
+unfolding numbered
+no_entry_round n rest line after lane is e = no_entry_behind 114 _ line after lane refl is e
+
+pub no_entry_done : (n : ℕ) (rest line after : List ℕ) (lane : ℕ) → IsNextLine (EntryOf lane) line → numbered (codes "done ") n ++ rest ≡ line ++ after → ⊥
+unfolding numbered
+no_entry_done n rest line after lane is e = no_entry_behind 100 _ line after lane refl is e

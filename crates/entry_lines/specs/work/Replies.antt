@@ -5,12 +5,8 @@ use Rattle.request_book.specs.declared.reply.BookRefusal.{BookRefusal}
 use Rattle.request_book.specs.declared.reply.BookRefusal.TheVariants.{DuplicateRider, UnknownNode, SamePlace, PoolFull, BookFull, UnknownRider, IsAboard, Ended, UnknownVehicle, TimeBack, NotPromised, VehicleFull, NotAboard, BatchOpen, ClockBack, NotThisBatch}
 use Rattle.request_book.specs.declared.reply.Reply.{Reply}
 use Rattle.request_book.specs.declared.reply.Reply.TheVariants.{Accepted, Cancelled, Placed, Picked, Dropped, Closed}
-use Rattle.request_book.specs.declared.rider.Status.{Status}
 
 -- Replies and refusals, by how they are read.
-
-abbrev pub IsAnyStatus : Status → Type 0
-IsAnyStatus status = Unit {0}
 
 abbrev pub IsWordRefusal : BookRefusal → Type 0
 IsWordRefusal DuplicateRider = Unit {0}
@@ -32,7 +28,7 @@ IsNumberRefusal (ClockBack last) = IsRefusal (ClockBack last)
 IsNumberRefusal _ = ⊥
 
 abbrev pub IsEndedRefusal : BookRefusal → Type 0
-IsEndedRefusal (Ended status) = Unit {0}
+IsEndedRefusal (Ended status) = IsRefusal (Ended status)
 IsEndedRefusal _ = ⊥
 
 abbrev pub IsNotPromised : BookRefusal → Type 0

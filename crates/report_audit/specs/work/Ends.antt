@@ -3,9 +3,10 @@ use Rattle.std.specs.Prelude.{◌≡◌, ◌≢◌, ℕ, List, [], ◌++◌}
 use Rattle.dispatch_report.specs.Round.{end_text}
 use Rattle.rider_limits.specs.declared.settings.Settings.{Settings}
 use Rattle.road_network.specs.Roads.{Roads}
+use Rattle.script_rows.specs.Round.{NumberedLanes}
 use Rattle.report_audit.specs.Place.{Extent}
 use Rattle.report_audit.specs.declared.stop.Stop.{Stop}
-use Rattle.report_audit.specs.work.Steps.{StopsAt}
+use Rattle.report_audit.specs.work.Steps.{MayBegin, StopsAt}
 
 -- the text is the last line, and nothing else
 abbrev pub IsEndText : List ℕ → ℕ → Type 0
@@ -18,7 +19,7 @@ pub record IsRestBehind (text : List ℕ) (stop : Stop) : Type 0 where
 
 -- the text begins with no last line, or something follows it
 pub data WhereEndStops (text : List ℕ) (entries : ℕ) (stop : Stop) : Type 0 where
-  before : ((settings : Settings) (roads : Roads) → StopsAt settings roads (Extent.between [] entries) text stop) → WhereEndStops text entries stop
+  before : ((settings : Settings) (roads : Roads) (rounds : List NumberedLanes) → MayBegin rounds text → StopsAt settings roads (Extent.between rounds [] entries) text stop) → WhereEndStops text entries stop
   behind : (rest : List ℕ) → text ≡ end_text entries ++ rest → IsRestBehind rest stop → WhereEndStops text entries stop
 
 pub record EndStops (text : List ℕ) (entries : ℕ) (stop : Stop) : Type 0 where

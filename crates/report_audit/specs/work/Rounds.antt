@@ -17,7 +17,7 @@ use Rattle.report_audit.specs.Types.{AreTold}
 use Rattle.report_audit.specs.declared.stop.Stop.{Stop}
 use Rattle.report_audit.specs.declared.stop.Stop.TheVariants.{OutOfMemory}
 use Rattle.report_audit.specs.work.Rest.{IsRestOfRounds}
-use Rattle.report_audit.specs.work.Steps.{HasRead, IsBookOf, IsWithin, StopsAt, StopsBehind}
+use Rattle.report_audit.specs.work.Steps.{HasRead, IsBookOf, IsWithin, MayBegin, StopsAt, StopsBehind}
 
 -- the book has no entries, and no batch of it waits for its close
 pub record IsRoundStart (settings : Settings) (roads : Roads) (b : BookView) : Type 0 where
@@ -33,7 +33,8 @@ pub record HasRoundLine (text : List ℕ) (number : ℕ) (after : List ℕ) : Ty
 -- the text doesn't begin with it
 pub record IsNoRoundLine (text : List ℕ) (number : ℕ) (stop : Stop) : Type 0 where
   pub low : number < 2 ^ 32
-  pub stops : (settings : Settings) (roads : Roads) (round : NumberedLanes) (later : List NumberedLanes) (position : ℕ) → round.number ≡ number → StopsAt settings roads (Extent.between (round ∷ later) position) text stop
+  pub stops : (settings : Settings) (roads : Roads) (round : NumberedLanes) (before later : List NumberedLanes) (position : ℕ) → round.number ≡ number → MayBegin before text
+      → StopsAt settings roads (Extent.between before (round ∷ later) position) text stop
 
 -- entries of a round were read up to here
 pub record EntriesSoFar (settings : Settings) (roads : Roads) (round : NumberedLanes) (old b : BookView) (lanes : List LaneStand) (open_batch : Option Batch) (text rest : List ℕ) : Type 0 where

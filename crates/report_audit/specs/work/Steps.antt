@@ -1,5 +1,5 @@
 -- The steps of an audit.
-use Rattle.std.specs.Prelude.{◌≡◌, ◌≢◌, ℕ, ◌<◌, ◌^◌, true, List, ◌++◌, length, Option, None, option_map}
+use Rattle.std.specs.Prelude.{◌≡◌, ◌≢◌, ℕ, ◌<◌, ◌^◌, true, List, [], ◌++◌, length, Option, None, option_map}
 use Rattle.batch_snapshot.specs.Batch.{Batch}
 use Rattle.block_audit.specs.declared.refusal.BlockRefusal.TheVariants as refusal
 use Rattle.dispatch_engine.specs.Run.{journal_of}
@@ -41,6 +41,14 @@ abbrev pub HasNoNext : List ℕ → Stop → Type 0
 HasNoNext text (Line left wrong.Cut) = (left ≡ length text) × (is_one_line text ≡ true)
 HasNoNext text (Line left wrong.Form) = (left ≡ length text) × ((l after : List ℕ) × IsFirstLine text l after × ((x : NextLine) → IsNextLine x l → ⊥))
 HasNoNext text _ = ⊥
+
+-- the text begins with the line of an entry
+abbrev pub BeginsWithEntry : List ℕ → Type 0
+BeginsWithEntry text = (lane : ℕ) × (line after : List ℕ) × IsFirstLine text line after × IsNextLine (EntryOf lane) line
+
+-- behind these rounds no line is out of form for being an entry: there is a round, or the text begins with none
+abbrev pub MayBegin : List NumberedLanes → List ℕ → Type 0
+MayBegin before text = before ≡ [] → BeginsWithEntry text → ⊥
 
 -- the book is that of these roads and settings
 pub record IsBookOf (settings : Settings) (roads : Roads) (b : BookView) : Type 0 where

@@ -16,7 +16,7 @@ use Rattle.report_audit.specs.declared.stop.Stop.{Stop}
 use Rattle.report_audit.specs.declared.stop.Stop.TheVariants.{OutOfMemory}
 use Rattle.report_audit.specs.work.Rest.{IsRestOfRounds}
 use Rattle.report_audit.specs.work.Rounds.{IsRoundStart}
-use Rattle.report_audit.specs.work.Steps.{StopsAt}
+use Rattle.report_audit.specs.work.Steps.{MayBegin, StopsAt}
 
 -- whole rounds of a run from a state, and their journals, which stand first in a text
 pub record HasReadRounds (settings : Settings) (roads : Roads) (s : State) (before : List NumberedLanes) (made : List Journal) (text rest : List ℕ) : Type 0 where
@@ -33,6 +33,7 @@ pub record HasComeTo (settings : Settings) (roads : Roads) (s : State) (rounds :
   pub state : b.state ≡ state_after_rounds settings roads s made
   pub position : b.first ≡ position_after_run 0 made
   pub counted : batches ≡ batches_after 0 made
+  pub begins : MayBegin before rest
   pub only : IsRestOfRounds settings roads rounds s 0 text → IsRestOfRounds settings roads later b.state b.first rest
 
 -- the text is that of a run of the rounds
@@ -45,7 +46,7 @@ pub record HasReadAll (settings : Settings) (roads : Roads) (rounds : List Numbe
 -- an audit stops behind whole rounds: before the next, within it, at the end, or behind it
 pub data WhereAllStops (settings : Settings) (roads : Roads) (rounds : List NumberedLanes) (s : State) (text : List ℕ) (stop : Stop) : Type 0 where
   between : (before later : List NumberedLanes) (made : List Journal) (rest : List ℕ) → rounds ≡ before ++ later → HasReadRounds settings roads s before made text rest
-      → StopsAt settings roads (Extent.between later (position_after_run 0 made)) rest stop → WhereAllStops settings roads rounds s text stop
+      → StopsAt settings roads (Extent.between before later (position_after_run 0 made)) rest stop → WhereAllStops settings roads rounds s text stop
   within : (before later : List NumberedLanes) (round : NumberedLanes) (made : List Journal) (j : Journal) (rest : List ℕ) → rounds ≡ before ++ round ∷ later
       → HasReadRounds settings roads s before made text (round_text round.number true j ++ rest)
       → j.base ≡ state_after_rounds settings roads s made → j.first ≡ position_after_run 0 made → BeginsRound settings roads round j → (AreAtEnd round j → ⊥)

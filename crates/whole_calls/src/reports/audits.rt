@@ -187,6 +187,41 @@ fn a_line_is_out_of_form(rt: HostRuntime) {
 }
 
 #[test]
+fn no_entry_comes_before_the_first_round(rt: HostRuntime) {
+    let alloc = rt.alloc();
+    assert!(rt;
+        has_fault(
+            &rt,
+            alloc,
+            &[HEAD, b"0 0 submit 1 2 4 0 accepted\n"],
+            AuditFault::Form { line: 5 }
+        )
+    );
+    assert!(rt; has_fault(&rt, alloc, &[HEAD, DONE], AuditFault::Entry { line: 5 }));
+}
+
+#[test]
+fn what_comes_behind_the_end(rt: HostRuntime) {
+    let alloc = rt.alloc();
+    assert!(rt;
+        has_fault(
+            &rt,
+            alloc,
+            &[HEAD, ENTRIES, BLOCK, DONE, b"\n"],
+            AuditFault::Form { line: 20 }
+        )
+    );
+    assert!(rt;
+        has_fault(
+            &rt,
+            alloc,
+            &[HEAD, ENTRIES, BLOCK, DONE, b"x"],
+            AuditFault::Cut { line: 20 }
+        )
+    );
+}
+
+#[test]
 fn a_line_is_wrong(rt: HostRuntime) {
     let alloc = rt.alloc();
     assert!(rt;

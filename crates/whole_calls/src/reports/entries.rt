@@ -60,4 +60,7 @@ fn out_of_form(rt: HostRuntime) {
     assert_eq!(rt; lane(b"0 0 cancel 1000000001 cancelled"), 1000);
     assert_eq!(rt; lane(b"0 0 seal 60 sealed"), 1000);
     assert_eq!(rt; lane(b"0 0 cancel 1 refused ended gone"), 1000);
+    assert_eq!(rt; lane(b"0 0 cancel 1 refused ended waiting"), 1000);
+    assert_eq!(rt; lane(b"0 0 cancel 1 refused ended promised"), 1000);
+    assert_eq!(rt; lane(b"0 0 cancel 1 refused ended aboard"), 1000);
 }

@@ -4,7 +4,7 @@ use Rattle.report_audit.proofs.WholeLemmas.{come_all, come_next, come_start, fir
 use Rattle.report_audit.proofs.rounds.audit_rounds.Goals as goal
 
 pub loop-round-init : goal.loop-round-init
-loop-round-init g c = come_start c.args.setup.now.settings.now c.args.setup.now.network.now c.args.book.now.state c.args.rounds.now c.args.text.now c.args.book.now c.requires.start refl c.requires.first
+loop-round-init g c = come_start c.args.setup.now.settings.now c.args.setup.now.network.now c.args.book.now.state c.args.rounds.now c.args.text.now c.args.book.now c.requires.start refl c.requires.first c.requires.begins
 
 pub returns-in-Err : goal.returns-in-Err
 returns-in-Err g c =
