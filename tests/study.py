@@ -17,7 +17,7 @@ import sys
 import time
 from collections import defaultdict
 
-from tools import TOOLS, Svg, find_python, refuses, run_tests, works
+from tools import PICTURES, TOOLS, TOP, Svg, find_python, refuses, run_tests, works
 
 CITY = """[city]
 seed = 5
@@ -39,6 +39,8 @@ vehicles = [3, 6]
 seats = [1, 4]
 demand = [50, 100]
 """
+STUDY = TOP / "examples" / "study"
+MEASURES = ("share", "mean_wait", "mean_delay", "aboard")
 COLUMNS = ("time=second", "from_lon=from_x", "from_lat=from_y", "to_lon=to_x", "to_lat=to_y", "persons=persons",
            "from=0", "to=600")
 WAITING = """#!/bin/sh
@@ -258,7 +260,7 @@ def test_grid_with_a_worker_killed(folder):
     assert 0 < sum(float(row["seconds"]) for row in rows) < 60, rows
     works("draw", folder / "out" / "cells.csv", "study", "demand=100", folder / "study.svg")
     svg = Svg(folder / "study.svg")
-    for measure in ("share", "mean_wait", "mean_delay", "aboard"):
+    for measure in MEASURES:
         assert [svg.lines(f"{measure}-{seats}") for seats in (1, 4)] == [1, 1], measure
     svg.has("1 seat", "4 seats", "wait at most 240 s", "vehicles")
     refuses("cells differ in demand: name one of 50, 100 by demand=", "draw", folder / "out" / "cells.csv", "study",
@@ -344,6 +346,22 @@ def test_zones_add_up(folder):
     assert sum(day["driven_seconds"] for day in zones) == int(three["driven_seconds"])
     waits = [wait for day in zones for wait in day["waits"]]
     assert three["mean_wait"] == f"{sum(waits) / len(waits):.2f}"
+
+
+def test_the_study_of_the_guide(_):
+    """Its table has the cells of STUDY.toml, all done by one program, and its picture has their lines."""
+    from studies.plan import SETTINGS, read_plan
+
+    with open(STUDY / "cells.csv", newline="") as file:
+        rows = list(csv.DictReader(file))
+    cells = read_plan(STUDY / "STUDY.toml").cells
+    assert [tuple(int(row[name]) for name in SETTINGS) for row in rows] == cells
+    assert {row["state"] for row in rows} == {"done"} and len({row["program"] for row in rows}) == 1
+    drawn = [cell for cell in cells if cell.zones == 1]
+    svg = Svg(PICTURES / "study.svg")
+    for seats in {cell.seats for cell in drawn}:
+        waits = {cell.wait for cell in drawn if cell.seats == seats}
+        assert [svg.lines(f"{measure}-{seats}") for measure in MEASURES] == [len(waits)] * 4, seats
 
 
 def test_studies_that_are_refused(folder):
