@@ -15,7 +15,7 @@ use Rattle.shared_book.specs.declared.locked.LockedReply.{LockedReply}
 use Rattle.live_desk.specs.Desk.{desk_call, desk_log, pass_of, DeskView}
 use Rattle.live_desk.specs.declared.desk.LaneCommand.{LaneCommand}
 use Rattle.live_batch.specs.Phase.{entry_command, commands_in, commands_of_pass, ClosesBatch, HasClosed, HasRunOpen, IsOpenRun}
-use Rattle.live_batch.specs.declared.read_on.Stop.{Stop}
+use Rattle.live_batch.specs.declared.read_on.Halt.{Halt}
 
 module _ (nodes : List ℕ) (wait : ℕ) where
   -- the calls of a pass, as entries of its lanes
@@ -38,7 +38,7 @@ pass-commands d before passes k p gains none is =
     let log : gains.since ≡ desk_log d = sym (gains.gained ∙ ap (λ l. l ++ gains.since) none) in
     ap (λ cs. map (λ c. c.1.call) cs) (is ∙ ap (calls_of k) log) ∙ commands-cut d.book.nodes d.book.wait k 0 d.book.base d.book.entries
 
-pub has-run-open : (settings : Settings) (roads : Roads) (b : Batch) (round : ℕ) (old new : Option (List Line)) (start after : DeskView) (closed : Bool) (end : Stop)
+pub has-run-open : (settings : Settings) (roads : Roads) (b : Batch) (round : ℕ) (old new : Option (List Line)) (start after : DeskView) (closed : Bool) (end : Halt)
     → desk_log start ≡ [] → IsOpenRun settings roads b round old new start after closed end → HasRunOpen settings roads b round old new start after closed end
 has-run-open settings roads b round old new start after closed end none run =
     let first = pass-commands after (desk_log start) (run.first ∷ run.second ∷ []) 0 run.first run.gains none (run.gains.cut 0 run.first (omega arith)) in

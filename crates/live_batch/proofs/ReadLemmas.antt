@@ -19,8 +19,8 @@ use Rattle.shared_book.specs.declared.locked.LockedReply.{LockedReply}
 use Rattle.seat_lock.specs.Values.{PassValue}
 use Rattle.seat_lock.specs.declared.logged.Entry.{Entry}
 use Rattle.script_rows.specs.declared.line.Line.{Line}
-use Rattle.live_batch.specs.declared.read_on.Stop.{Stop}
-use Rattle.live_batch.specs.declared.read_on.Stop.TheVariants as stop
+use Rattle.live_batch.specs.declared.read_on.Halt.{Halt}
+use Rattle.live_batch.specs.declared.read_on.Halt.TheVariants as stop
 use Rattle.live_rows.specs.Rows.{NoRows, TakesRows}
 use Rattle.live_batch.specs.Phase.{row_command, AllLines, StartsWith, GoesOn, HasReadOn, HasRun}
 
@@ -105,7 +105,7 @@ pub called_ok : {A E : Type 0} {P : A → Type 0} (r : Result A E) → is_err r 
 called_ok (Ok x) fine h = (x, h)
 called_ok (Err e) fine h = absurd (false≢true (sym fine))
 
-pub open-run : (settings : Settings) (roads : Roads) (b : Batch) (round : ℕ) (old new : Option (List Line)) (got after held start : DeskView) (closed : Bool) (end : Stop)
+pub open-run : (settings : Settings) (roads : Roads) (b : Batch) (round : ℕ) (old new : Option (List Line)) (got after held start : DeskView) (closed : Bool) (end : Halt)
     (first second : PassValue DeskView LaneCommand LockedReply)
     → got ≡ after → held ≡ start → after.opened ≡ start.now → IsDesk got → desk_root got ≡ desk_root held → GainsCalls (desk_log held) (desk_log got) (first ∷ second ∷ [])
     → (IsTrue closed → HasClosed settings roads b first) → (IsFalse closed → first.calls ≡ []) → HasReadOn round old new second end

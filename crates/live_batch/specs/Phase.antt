@@ -17,8 +17,8 @@ use Rattle.shared_book.specs.declared.locked.LockedReply.{LockedReply}
 use Rattle.live_desk.specs.declared.desk.LaneCommand.{LaneCommand}
 use Rattle.script_rows.specs.Line.{IsBehind}
 use Rattle.script_rows.specs.declared.line.Line.{Line}
-use Rattle.live_batch.specs.declared.read_on.Stop.{Stop}
-use Rattle.live_batch.specs.declared.read_on.Stop.TheVariants as stop
+use Rattle.live_batch.specs.declared.read_on.Halt.{Halt}
+use Rattle.live_batch.specs.declared.read_on.Halt.TheVariants as stop
 use Rattle.live_rows.specs.Rows.{TakesRows}
 
 -- a row's command with its lane
@@ -54,23 +54,23 @@ AllLines None run = ⊤
 AllLines (Some all) run = all ≡ run
 
 -- the rows run are those read, but for one that is held back; after a fault they begin those to come
-abbrev pub TakesRun : Stop → Option (List Line) → Option (List Line) → List Line → Type 0
+abbrev pub TakesRun : Halt → Option (List Line) → Option (List Line) → List Line → Type 0
 TakesRun (stop.Held line) old new run = TakesRows old new (run ++ line ∷ [])
 TakesRun stop.Ended old new run = AllLines old run
 TakesRun _ old new run = StartsWith old run
 
 -- a row is held back because it may not be run yet; it stands behind the round, and is the last that came
-abbrev pub IsHeldBack : ℕ → ℕ → Stop → Type 0
+abbrev pub IsHeldBack : ℕ → ℕ → Halt → Type 0
 IsHeldBack round last (stop.Held line) = (MayGoOn round line → ⊥) × IsBehind round line × (last ≡ line.round)
 IsHeldBack round last _ = ⊤
 
 -- the count of faults has not fallen, and where a read failed it rose
-abbrev pub FaultsFrom : Stop → ℕ → ℕ → Type 0
+abbrev pub FaultsFrom : Halt → ℕ → ℕ → Type 0
 FaultsFrom stop.ReadFault before now = Rose before now
 FaultsFrom _ before now = before ≤ now
 
 -- the rows read are those run, each called once and in order, and the one held back
-pub record HasReadOn {B : Type 0} (round : ℕ) (old new : Option (List Line)) (p : PassValue B LaneCommand LockedReply) (end : Stop) : Type 0 where
+pub record HasReadOn {B : Type 0} (round : ℕ) (old new : Option (List Line)) (p : PassValue B LaneCommand LockedReply) (end : Halt) : Type 0 where
   pub run : List Line
   pub going : All (GoesOn round) run
   pub called : commands_in p ≡ map row_command run
@@ -84,7 +84,7 @@ pub record HasRun {B : Type 0} (round : ℕ) (old now : Option (List Line)) (p :
   pub taken : TakesRows old now run
 
 -- what came of a book and a sink while a batch was open: what two passes called, in one history, which is written
-pub record IsOpenRun (settings : Settings) (roads : Roads) (b : Batch) (round : ℕ) (old new : Option (List Line)) (start after : DeskView) (closed : Bool) (end : Stop) : Type 0 where
+pub record IsOpenRun (settings : Settings) (roads : Roads) (b : Batch) (round : ℕ) (old new : Option (List Line)) (start after : DeskView) (closed : Bool) (end : Halt) : Type 0 where
   pub desk : IsDesk after
   pub root : desk_root after ≡ desk_root start
   pub opened : after.opened ≡ start.now
@@ -114,7 +114,7 @@ ClosesBatch settings roads b true commands =
 ClosesBatch settings roads b false commands = commands ≡ []
 
 -- rows of other lanes and of this round were run, those read but for one that is held back, each once and in order
-pub record RanRows (round : ℕ) (old new : Option (List Line)) (commands : List LaneCommand) (end : Stop) : Type 0 where
+pub record RanRows (round : ℕ) (old new : Option (List Line)) (commands : List LaneCommand) (end : Halt) : Type 0 where
   pub run : List Line
   pub going : All (GoesOn round) run
   pub called : commands ≡ map row_command run
@@ -122,7 +122,7 @@ pub record RanRows (round : ℕ) (old new : Option (List Line)) (commands : List
 
 -- what came of a book and a sink while a batch was open, in one history, which is written: lane 0 closed it, and the rows
 -- of other lanes were run
-pub record HasRunOpen (settings : Settings) (roads : Roads) (b : Batch) (round : ℕ) (old new : Option (List Line)) (start after : DeskView) (closed : Bool) (end : Stop) : Type 0 where
+pub record HasRunOpen (settings : Settings) (roads : Roads) (b : Batch) (round : ℕ) (old new : Option (List Line)) (start after : DeskView) (closed : Bool) (end : Halt) : Type 0 where
   pub desk : IsDesk after
   pub root : desk_root after ≡ desk_root start
   pub opened : after.opened ≡ start.now

@@ -6,5 +6,5 @@ mod open;
 mod read_on;
 mod run;
 
-pub use read_on::Stop;
+pub use read_on::Halt;
 pub use run::{Opened, Unopened, run_open};

@@ -7,7 +7,7 @@ ghost use Rattle.seat_lock.specs.Values.{AreAllPasses, GainsCalls, IsNew, IsPass
 ghost use Rattle.live_batch.specs.Phase.{FaultsFrom, HasClosed, HasReadOn, IsHeldBack};
 
 use crate::close::close_batch;
-use crate::read_on::{Stop, read_on};
+use crate::read_on::{Halt, read_on};
 use batch_snapshot::Snapshot;
 use live_desk::{Desk, Opening};
 use live_rows::RowSource;
@@ -27,7 +27,7 @@ use worker_gate::Gate;
 pub(crate) struct Reading<K: Sink, J: Opening, L> {
     pub(crate) pass: Pass<Desk<K, J>>,
     pub(crate) lines: L,
-    pub(crate) stop: Stop,
+    pub(crate) stop: Halt,
 }
 
 fn read_lines<K: Sink, J: Opening, L: RowSource>(

@@ -12,7 +12,7 @@ use std::sync::Wait;
 
 /// Why no more rows are read while a batch is open.
 #[derive(Drop)]
-pub enum Stop {
+pub enum Halt {
     /// This row waits for the close.
     Held(Line),
     /// There is no row more.
@@ -31,7 +31,7 @@ pub(crate) fn read_on<K: Sink, J: Opening, L: RowSource>(
     pass: &mut Pass<Desk<K, J>>,
     lines: &mut L,
     round: u32,
-) -> Stop
+) -> Halt
     requires own { IsPassOf lock.now pass.old }
     requires lane { (pass.old.lane ≡ 1) × (pass.old.calls ≡ []) }
     requires last { L.last lines.old ≡ round }
@@ -45,7 +45,7 @@ pub(crate) fn read_on<K: Sink, J: Opening, L: RowSource>(
         match lines.next() {
             Ok(Some(line)) => {
                 if line.lane == 0 || line.round != round {
-                    return Stop::Held(line);
+                    return Halt::Held(line);
                 }
                 let Line {
                     round: _,
@@ -56,13 +56,13 @@ pub(crate) fn read_on<K: Sink, J: Opening, L: RowSource>(
                     .with_turn(rt, alloc, pass, LaneCommand { lane, command })
                     .is_err()
                 {
-                    return Stop::OutOfMemory;
+                    return Halt::OutOfMemory;
                 }
             }
-            Ok(None) => return Stop::Ended,
-            Err(LineFault::ReadFault) => return Stop::ReadFault,
-            Err(LineFault::OutOfMemory) => return Stop::OutOfMemory,
+            Ok(None) => return Halt::Ended,
+            Err(LineFault::ReadFault) => return Halt::ReadFault,
+            Err(LineFault::OutOfMemory) => return Halt::OutOfMemory,
         }
     }
-    Stop::OutOfMemory
+    Halt::OutOfMemory
 }

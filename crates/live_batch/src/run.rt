@@ -5,7 +5,7 @@ ghost use Rattle.live_desk.specs.Desk.{desk_of};
 ghost use Rattle.live_batch.specs.Phase.{FaultsFrom, HasRunOpen, IsHeldBack, IsOpenRun, desk_after};
 
 use crate::open::{Reading, finish, two_of, work_both};
-use crate::read_on::Stop;
+use crate::read_on::Halt;
 use batch_snapshot::Snapshot;
 use dispatch_report::ReportFault;
 use live_desk::{Desk, Opening};
@@ -32,7 +32,7 @@ pub struct Opened<K, L> {
     pub lines: L,
     /// Whether the batch is closed.
     pub closed: bool,
-    pub stop: Stop,
+    pub stop: Halt,
     pub fault: Option<ReportFault>,
 }
 

@@ -8,8 +8,8 @@ use Rattle.dispatch_report.specs.Written.{SinkView, WritesText}
 use Rattle.dispatch_report.specs.declared.fault.ReportFault.{ReportFault}
 use Rattle.dispatch_report.specs.declared.fault.ReportFault.TheVariants as report
 use Rattle.live_batch.specs.Phase.{FaultsFrom}
-use Rattle.live_batch.specs.declared.read_on.Stop.{Stop}
-use Rattle.live_batch.specs.declared.read_on.Stop.TheVariants as stop
+use Rattle.live_batch.specs.declared.read_on.Halt.{Halt}
+use Rattle.live_batch.specs.declared.read_on.Halt.TheVariants as stop
 use Rattle.live_desk.specs.Desk.{IsWritten, entries_text}
 use Rattle.pool_io.specs.Faults.{Rose}
 use Rattle.request_book.specs.Book.{BookView, next_position}
@@ -37,7 +37,7 @@ if-err P Q (Err e) more p = more e p
 abbrev cut_book : BookView → BookView
 cut_book b = record { nodes = b.nodes; wait = b.wait; first = next_position b.first b.entries; base = b.state; entries = []; state = b.state; spare = 0 }
 
-faults-kept : (end : Stop) (row : Line) (before now : ℕ) → end ≡ stop.Held row → FaultsFrom end before now → before ≤ now
+faults-kept : (end : Halt) (row : Line) (before now : ℕ) → end ≡ stop.Held row → FaultsFrom end before now → before ≤ now
 faults-kept end row before now is from = subst (λ e. FaultsFrom e before now) is from
 
 module _ (settings : Settings) (roads : Roads) (start : Moment) where
@@ -125,7 +125,7 @@ module _ (settings : Settings) (roads : Roads) (start : Moment) where
       (λ e. absurd cc) (λ e. absurd cc) (omega (arith, opens.writes, falls))))
 
   -- behind an open batch
-  module _ (b : Batch) (round : ℕ) (book : BookView) (rows : Option (List Line)) (sink : SinkView) (notifiers : List NotifierView) (closed : Bool) (end : Stop) (fault : Option ReportFault) (reads : ℕ)
+  module _ (b : Batch) (round : ℕ) (book : BookView) (rows : Option (List Line)) (sink : SinkView) (notifiers : List NotifierView) (closed : Bool) (end : Halt) (fault : Option ReportFault) (reads : ℕ)
       (on : HasRunOn settings roads start b round book rows sink notifiers closed end fault reads) (after : List NotifierView) (cut : BookView) where
     start-reads : start.reads ≤ reads
     start-reads = (let were : start.reads ≤ on.opens.before.reads = on.opens.stands.reads in let a = on.opens.same.1 in let c = on.reads_were in omega (arith, were, a, c))

@@ -26,7 +26,7 @@ use Rattle.script_rows.specs.Script.{round_of}
 use Rattle.script_rows.specs.declared.line.Line.{Line}
 use Rattle.script_rows.specs.lemmas.Named.{rounds_of}
 use Rattle.shared_book.specs.Locked.{sealed_by}
-use Rattle.live_dispatch.specs.Live.{IsBegunRun, IsRoundBeginning, journals_notices, journals_text, state_behind}
+use Rattle.live_dispatch.specs.Live.{IsBegunRun, IsRoundBeginning, journals_notices, journals_text, state_after_all}
 use Rattle.live_dispatch.specs.work.Rows.{EndsIn, in_lane, start_text}
 use Rattle.live_dispatch.proofs.RowLemmas.{AreOf, RoundsGrow, lane-grows}
 
@@ -111,7 +111,7 @@ module _ (nodes : List ℕ) (wait : ℕ) where
   state-append s [] ys = refl
   state-append s (e ∷ es) ys = state-append (step nodes wait s e.command).0 es ys
 
-  state-push : (s : State) (js : List Journal) (j : Journal) → state_behind nodes wait s (js ++ j ∷ []) ≡ state_after nodes wait (state_behind nodes wait s js) j.entries
+  state-push : (s : State) (js : List Journal) (j : Journal) → state_after_all nodes wait s (js ++ j ∷ []) ≡ state_after nodes wait (state_after_all nodes wait s js) j.entries
   state-push s [] j = refl
   state-push s (k ∷ js) j = state-push (state_after nodes wait s k.entries) js j
 
@@ -135,7 +135,7 @@ module _ (settings : Settings) (roads : Roads) where
 
   -- the state and the position behind journals
   abbrev after : State → List Journal → State
-  after s js = state_behind roads.nodes settings.wait s js
+  after s js = state_after_all roads.nodes settings.wait s js
 
   -- one more round
   pub run-push : (s : State) (p : ℕ) (rs : List NumberedLanes) (js : List Journal) (r : NumberedLanes) (j : Journal) → IsRun settings roads s p rs js

@@ -16,8 +16,8 @@ use Rattle.dispatch_report.specs.Round.{entries_lines, entry_text}
 use Rattle.dispatch_report.specs.Written.{SinkView}
 use Rattle.dispatch_report.specs.declared.fault.ReportFault.{ReportFault}
 use Rattle.live_batch.specs.Phase.{AllLines, ClosesBatch, StartsWith, TakesRun, commands_of_pass, desk_after}
-use Rattle.live_batch.specs.declared.read_on.Stop.{Stop}
-use Rattle.live_batch.specs.declared.read_on.Stop.TheVariants as stop
+use Rattle.live_batch.specs.declared.read_on.Halt.{Halt}
+use Rattle.live_batch.specs.declared.read_on.Halt.TheVariants as stop
 use Rattle.live_desk.specs.Desk.{IsWritten, desk_of, desk_root, entries_text}
 use Rattle.live_desk.specs.declared.desk.DeskRoot.{DeskRoot}
 use Rattle.live_desk.specs.declared.desk.LaneCommand.{LaneCommand}
@@ -82,19 +82,19 @@ all-begin None rows are = tt
 all-begin (Some all) rows are = ([], are ∙ sym (append-nil rows))
 
 -- the rows behind a batch, by why no more came
-abbrev pub Behind : Stop → Option (List Line) → Option (List Line) → List Line → Type 0
+abbrev pub Behind : Halt → Option (List Line) → Option (List Line) → List Line → Type 0
 Behind (stop.Held row) old new lines = TakesRows old new (lines ++ row ∷ [])
 Behind stop.Ended old new lines = AreRows old lines
 Behind stop.ReadFault old new lines = BeginWithRows old lines
 Behind stop.OutOfMemory old new lines = BeginWithRows old lines
 
-come-behind : (end : Stop) (a b c : Option (List Line)) (xs ys : List Line) → TakesRows a b xs → TakesRun end b c ys → Behind end a c (xs ++ ys)
+come-behind : (end : Halt) (a b c : Option (List Line)) (xs ys : List Line) → TakesRows a b xs → TakesRun end b c ys → Behind end a c (xs ++ ys)
 come-behind (stop.Held row) a b c xs ys p q = subst (TakesRows a c) (sym (append_assoc xs ys (row ∷ []))) (takes-more a b c xs (ys ++ row ∷ []) p q)
 come-behind stop.Ended a b c xs ys p q = takes-last a b xs ys p q
 come-behind stop.ReadFault a b c xs ys p q = takes-start a b xs ys p q
 come-behind stop.OutOfMemory a b c xs ys p q = takes-start a b xs ys p q
 
-pub behind-begin : (end : Stop) (old new : Option (List Line)) (lines : List Line) → Behind end old new lines → BeginWithRows old lines
+pub behind-begin : (end : Halt) (old new : Option (List Line)) (lines : List Line) → Behind end old new lines → BeginWithRows old lines
 behind-begin (stop.Held row) old new lines behind = cut old new lines (row ∷ []) behind
   where
     cut : (old new : Option (List Line)) (xs ys : List Line) → TakesRows old new (xs ++ ys) → BeginWithRows old xs
@@ -246,7 +246,7 @@ module _ (settings : Settings) (roads : Roads) where
         (all-heard-nothing before.notifiers)
 
   -- a batch from its seal on
-  module _ (start : Moment) (b : Batch) (round : ℕ) (book : BookView) (rows : Option (List Line)) (sink : SinkView) (notifiers : List NotifierView) (closed : Bool) (end : Stop) (fault : Option ReportFault) (reads : ℕ)
+  module _ (start : Moment) (b : Batch) (round : ℕ) (book : BookView) (rows : Option (List Line)) (sink : SinkView) (notifiers : List NotifierView) (closed : Bool) (end : Halt) (fault : Option ReportFault) (reads : ℕ)
       (on : HasRunOn settings roads start b round book rows sink notifiers closed end fault reads) where
     abbrev before : Moment
     before = on.opens.before

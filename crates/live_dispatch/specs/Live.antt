@@ -36,9 +36,9 @@ abbrev pub rows_rounds : List Line → List NumberedLanes
 rows_rounds lines = map (round_of lines) (distinct (map (λ l. l.round) lines))
 
 -- the state behind journals
-abbrev pub state_behind : List ℕ → ℕ → State → List Journal → State
-state_behind nodes wait s [] = s
-state_behind nodes wait s (j ∷ js) = state_behind nodes wait (state_after nodes wait s j.entries) js
+abbrev pub state_after_all : List ℕ → ℕ → State → List Journal → State
+state_after_all nodes wait s [] = s
+state_after_all nodes wait s (j ∷ js) = state_after_all nodes wait (state_after nodes wait s j.entries) js
 
 -- the texts of rounds with their journals, one after the other
 abbrev pub journals_text : Bool → List NumberedLanes → List Journal → List ℕ
@@ -61,7 +61,7 @@ module _ (settings : Settings) (roads : Roads) where
     none : IsBegunRun s position [] []
     some : (rounds : List NumberedLanes) (journals : List Journal) (round : NumberedLanes) (journal : Journal)
         → IsRun settings roads s position rounds journals
-        → journal.base ≡ state_behind roads.nodes settings.wait s journals
+        → journal.base ≡ state_after_all roads.nodes settings.wait s journals
         → journal.first ≡ position_after_run position journals
         → IsRoundBeginning round journal
         → IsBegunRun s position (rounds ++ round ∷ []) (journals ++ journal ∷ [])

@@ -17,7 +17,7 @@ use crate::live_run::{Dispatched, LiveRun, end, stop};
 use crate::setup::LiveSetup;
 use batch_snapshot::Snapshot;
 use dispatch_report::ReportFault;
-use live_batch::{Opened, Stop, Unopened, run_open};
+use live_batch::{Halt, Opened, Unopened, run_open};
 use live_rows::RowSource;
 use pool_base::OutOfMemory;
 use pool_io::Sink;
@@ -154,10 +154,10 @@ fn after_batch<K: Sink + Send + Drop, L: RowSource + Send + Drop, W: Ways, D: Dr
                 proof: setup.settings.proof,
             };
             match stopped {
-                Stop::Held(row) => Ok((run, Some(row))),
-                Stop::Ended => Err(end(alloc, run)),
-                Stop::ReadFault => Err(stop(run, LiveFault::ReadFault)),
-                Stop::OutOfMemory => Err(stop(run, LiveFault::OutOfMemory)),
+                Halt::Held(row) => Ok((run, Some(row))),
+                Halt::Ended => Err(end(alloc, run)),
+                Halt::ReadFault => Err(stop(run, LiveFault::ReadFault)),
+                Halt::OutOfMemory => Err(stop(run, LiveFault::OutOfMemory)),
             }
         }
         Err(fault) => {

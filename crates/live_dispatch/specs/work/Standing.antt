@@ -9,7 +9,7 @@ use Rattle.dispatch_report.specs.Written.{Change, SinkView}
 use Rattle.dispatch_report.specs.declared.fault.ReportFault.{ReportFault}
 use Rattle.dispatch_report.specs.declared.fault.ReportFault.TheVariants as report
 use Rattle.live_batch.specs.Phase.{HasRunOpen, desk_after}
-use Rattle.live_batch.specs.declared.read_on.Stop.{Stop}
+use Rattle.live_batch.specs.declared.read_on.Halt.{Halt}
 use Rattle.live_desk.specs.Desk.{desk_of}
 use Rattle.live_rows.specs.Rows.{GivesRow, TakesRows}
 use Rattle.live_rows.specs.declared.lines.LineFault.{LineFault}
@@ -30,7 +30,7 @@ use Rattle.script_rows.specs.declared.line.Line.{Line}
 use Rattle.script_rows.specs.lemmas.Named.{rounds_of}
 use Rattle.shared_book.specs.Locked.{Fits}
 use Rattle.shared_book.specs.lemmas.Locked.{snapshot_before}
-use Rattle.live_dispatch.specs.Live.{BeginsRows, journals_notices, journals_text, RunsRows, state_behind}
+use Rattle.live_dispatch.specs.Live.{BeginsRows, journals_notices, journals_text, RunsRows, state_after_all}
 use Rattle.live_dispatch.specs.declared.fault.LiveFault.{LiveFault}
 use Rattle.live_dispatch.specs.declared.fault.LiveFault.TheVariants as live
 use Rattle.live_dispatch.specs.work.Rows.{EndsIn, last_of, start_text}
@@ -131,7 +131,7 @@ module _ (settings : Settings) (roads : Roads) where
     pub run : IsRun settings roads start.book.base start.book.first (rounds_of lines) journals
     pub text : Appends start.sink.written now.sink.written (journals_text settings.proof (rounds_of lines) journals)
     pub told : HaveHeard (journals_notices settings roads journals) start.notifiers now.notifiers
-    pub state : now.book.state ≡ state_behind roads.nodes settings.wait start.book.base journals
+    pub state : now.book.state ≡ state_after_all roads.nodes settings.wait start.book.base journals
     pub position : next_position now.book.first now.book.entries ≡ position_after_run start.book.first journals
     pub ready : IsReady settings roads now.book
     pub small : start.book.first < 2 ^ 64
@@ -149,7 +149,7 @@ module _ (settings : Settings) (roads : Roads) where
     pub same : (now.rows ≡ before.rows) × (now.reads ≡ before.reads) × (now.notifiers ≡ before.notifiers)
 
   -- and the batch was open, from a new journal on, while rows of other lanes were run
-  pub record HasRunOn (start : Moment) (b : Batch) (round : ℕ) (book : BookView) (rows : Option (List Line)) (sink : SinkView) (notifiers : List NotifierView) (closed : Bool) (stop : Stop) (fault : Option ReportFault) (reads : ℕ) : Type 0 where
+  pub record HasRunOn (start : Moment) (b : Batch) (round : ℕ) (book : BookView) (rows : Option (List Line)) (sink : SinkView) (notifiers : List NotifierView) (closed : Bool) (stop : Halt) (fault : Option ReportFault) (reads : ℕ) : Type 0 where
     pub row : Line
     pub number : row.round ≡ round
     pub sealed : Moment
