@@ -1,4 +1,4 @@
-use Rattle.std.proofs.Common.{◌≡◌, ℕ, true, ap, subst, sym, ◌∙◌}
+use Rattle.std.proofs.Common.{◌≡◌, ap, subst, sym, ◌∙◌}
 use Rattle.script_rows.specs.Round.{lane_at}
 use Rattle.dispatch_engine.specs.Lane.{HasRun}
 use Rattle.dispatch_engine.proofs.CrewLemmas.{lane-run, when-ok}
