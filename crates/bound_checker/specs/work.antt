@@ -1,1 +1,3 @@
+pub mod DeadEnd
+pub mod Leaf
 pub mod Visit

@@ -5,7 +5,7 @@ ghost use Rattle.bound_checker.specs.Fault.{IsTreeFault};
 
 use crate::fault::CheckFault;
 use crate::walk::Walk;
-use plan_rules::{Path, Tree, TripGraph};
+use plan_rules::{Tree, TripGraph};
 use std::alloc::Global;
 
 /// The value of a sound tree, in seconds: no lawful plan costs less. `CheckFault` names the first node
@@ -15,20 +15,18 @@ pub fn check(alloc: Global, graph: &TripGraph, tree: &Tree) -> Result<i128, Chec
     ensures bound { IfOk result (IsBound graph.now) }
     ensures fault { IfErr result (IsTreeFault graph.now tree.now) }
 {
-    let usable = vec![in alloc; true; graph.rows().len()]?;
-    let marks = vec![in alloc; false; graph.rider_count()]?;
+    let allowed = vec![in alloc; true; graph.rows().len()]?;
     let mut walk = Walk {
-        path: Path::new(alloc),
+        decisions: Vec::new(alloc),
         ended: false,
         least: None,
-        usable,
-        marks,
+        allowed,
     };
     for (place, node) in tree.nodes().iter().enumerate() {
         if walk.ended {
             return Err(CheckFault::Extra { node: place as u64 });
         }
-        match walk.visit(graph, node, place) {
+        match walk.visit(alloc, graph, node, place) {
             Ok(()) => {}
             Err(fault) => return Err(fault),
         }

@@ -1,11 +1,15 @@
 //! Judges a search tree that anyone made: whether it is sound, and what it shows.
 //!
 //! A yes gives the tree's value, and no lawful plan costs less; a no names the first node that is wrong.
-//! With the search it shares what `plan_rules` proves once: which places are dead ends, and what a leaf shows.
+//! With the search it shares the types alone: which rows may be chosen at a node, what a leaf shows and which
+//! places are dead ends it computes by loops of its own, as plain as the definitions.
 #![tactic(auto)]
 
 mod checker;
+mod dead_end;
+mod decisions;
 mod fault;
+mod leaf;
 mod walk;
 
 pub use checker::check;

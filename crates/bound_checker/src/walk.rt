@@ -1,6 +1,5 @@
 //! A walk through a tree, node by node.
 ghost use Rattle.std.specs.Prelude.{◌≡◌, ◌≢◌, ◌<◌, ◌≤◌, ◌+◌, ◌↔◌, ℕ, IsTrue, OnOk, IfErr, length, Option, ℤ, true, false, not};
-ghost use Rattle.plan_rules.specs.Sums.{lesser};
 ghost use Rattle.plan_rules.specs.Graph.{Graph};
 ghost use Rattle.plan_rules.specs.Multipliers.{usable_of};
 ghost use Rattle.plan_rules.specs.Tree.{CanBranch};
@@ -9,31 +8,40 @@ ghost use Rattle.plan_rules.specs.declared.node.Node.TheVariants.{Branch, Leaf, 
 ghost use Rattle.bound_checker.specs.lemmas.Visit.{coming_of};
 ghost use Rattle.bound_checker.specs.work.Visit.{IsVisit, IsNodeFault, IsReady};
 
+use crate::dead_end::is_dead_end;
+use crate::decisions::{enter, leave, mark_allowed};
 use crate::fault::CheckFault;
-use plan_rules::{Node, Path, TripGraph, is_dead_end, leaf_value, rounded_up};
+use crate::leaf::{leaf_value, lesser, seconds};
+use plan_rules::{Decision, Node, TripGraph};
+use std::alloc::Global;
 
-/// Where a walk stands, what it has seen, and its work space.
+/// Where a walk stands, what it has seen, and which rows may be chosen there.
 #[derive(Drop)]
 pub struct Walk {
-    pub path: Path,
+    pub decisions: Vec<Decision>,
     pub ended: bool,
     pub least: Option<i128>,
-    pub usable: Vec<bool>,
-    pub marks: Vec<bool>,
+    pub allowed: Vec<bool>,
 }
 
 impl Walk {
     /// Judges the node where the walk stands, and goes on from there.
-    pub fn visit(&mut self, graph: &TripGraph, node: &Node, place: usize) -> Result<(), CheckFault>
+    pub fn visit(
+        &mut self,
+        alloc: Global,
+        graph: &TripGraph,
+        node: &Node,
+        place: usize,
+    ) -> Result<(), CheckFault>
         requires ready { IsReady graph.now self.old }
         requires running { self.old.ended ≡ false }
         ensures ok { OnOk result (IsVisit graph.now node.now self.old self.new) }
-        ensures err { IfErr result (IsNodeFault (standing_of graph.now self.old.path).usable graph.now node.now place) }
+        ensures err { IfErr result (IsNodeFault (standing_of graph.now self.old.decisions.items).usable graph.now node.now place) }
     {
         match node {
             Node::Branch { vehicle, row } => self.visit_branch(graph, *vehicle, *row, place),
             Node::Leaf { multipliers } => self.visit_leaf(graph, multipliers.as_slice(), place),
-            Node::Dead => self.visit_dead(graph, place),
+            Node::Dead => self.visit_dead(alloc, graph, place),
         }
     }
 
@@ -47,13 +55,13 @@ impl Walk {
         requires ready { IsReady graph.now self.old }
         requires running { self.old.ended ≡ false }
         ensures ok { OnOk result (IsVisit graph.now (Branch vehicle row) self.old self.new) }
-        ensures err { IfErr result (IsNodeFault (standing_of graph.now self.old.path).usable graph.now (Branch vehicle row) place) }
+        ensures err { IfErr result (IsNodeFault (standing_of graph.now self.old.decisions.items).usable graph.now (Branch vehicle row) place) }
     {
-        self.path.mark_usable(graph, &mut self.usable);
-        if !can_branch(graph, &self.usable, vehicle as usize, row as usize) {
+        mark_allowed(graph, self.decisions.as_slice(), &mut self.allowed);
+        if !can_branch(graph, &self.allowed, vehicle as usize, row as usize) {
             return Err(CheckFault::BadBranch { node: place as u64 });
         }
-        self.path.enter(vehicle, row)?;
+        enter(&mut self.decisions, vehicle, row)?;
         Ok(())
     }
 
@@ -66,29 +74,37 @@ impl Walk {
         requires ready { IsReady graph.now self.old }
         requires running { self.old.ended ≡ false }
         ensures ok { OnOk result (IsVisit graph.now (Leaf multipliers.now) self.old self.new) }
-        ensures err { IfErr result (IsNodeFault (standing_of graph.now self.old.path).usable graph.now (Leaf multipliers.now) place) }
+        ensures err { IfErr result (IsNodeFault (standing_of graph.now self.old.decisions.items).usable graph.now (Leaf multipliers.now) place) }
     {
         if multipliers.len() != graph.rider_count() {
             return Err(CheckFault::BadLeaf { node: place as u64 });
         }
-        self.path.mark_usable(graph, &mut self.usable);
-        let value = rounded_up(leaf_value(graph, &self.usable, multipliers));
+        mark_allowed(graph, self.decisions.as_slice(), &mut self.allowed);
+        let value = seconds(leaf_value(graph, &self.allowed, multipliers));
         self.least = Some(lesser(self.least, value));
-        self.ended = !self.path.leave();
+        let more = leave(&mut self.decisions)?;
+        self.ended = !more;
         Ok(())
     }
 
-    fn visit_dead(&mut self, graph: &TripGraph, place: usize) -> Result<(), CheckFault>
+    fn visit_dead(
+        &mut self,
+        alloc: Global,
+        graph: &TripGraph,
+        place: usize,
+    ) -> Result<(), CheckFault>
         requires ready { IsReady graph.now self.old }
         requires running { self.old.ended ≡ false }
         ensures ok { OnOk result (IsVisit graph.now Dead self.old self.new) }
-        ensures err { IfErr result (IsNodeFault (standing_of graph.now self.old.path).usable graph.now Dead place) }
+        ensures err { IfErr result (IsNodeFault (standing_of graph.now self.old.decisions.items).usable graph.now Dead place) }
     {
-        self.path.mark_usable(graph, &mut self.usable);
-        if !is_dead_end(graph, &self.usable, &mut self.marks) {
+        mark_allowed(graph, self.decisions.as_slice(), &mut self.allowed);
+        let dead = is_dead_end(alloc, graph, &self.allowed)?;
+        if !dead {
             return Err(CheckFault::BadDead { node: place as u64 });
         }
-        self.ended = !self.path.leave();
+        let more = leave(&mut self.decisions)?;
+        self.ended = !more;
         Ok(())
     }
 }
@@ -113,13 +129,4 @@ fn can_branch(graph: &TripGraph, allowed: &[bool], vehicle: usize, row: usize) -
         }
     }
     false
-}
-
-fn lesser(least: Option<i128>, value: i128) -> i128
-    ensures { result ≡ lesser least value }
-{
-    match least {
-        None => value,
-        Some(other) => other.min(value),
-    }
 }

@@ -1,19 +1,18 @@
 -- A walk through a tree.
-use Rattle.std.proofs.Common.{◌≡◌, ◌⊎◌, ℕ, ◌+◌, ◌<◌, ◌≤◌, Bool, true, false, not, List, [], ◌∷◌, ◌++◌, length, get_or, take, slice_get, Option, Some, None, ℤ, MatchBool, Vec, Global, refl, sym, ap, ◌∙◌, subst, inl, inr, ⊎_elim, arith}
-use Rattle.std.specs.Vec.{with_items}
+use Rattle.std.proofs.Common.{◌≡◌, ℕ, ◌+◌, ◌<◌, Bool, true, false, not, List, [], ◌∷◌, ◌++◌, length, take, slice_get, Option, Some, ℤ, MatchBool, sym, ap, ◌∙◌, subst, ⊎_elim, arith}
 use Rattle.std.proofs.lemmas.Bool.{cases_eq}
-use Rattle.std.proofs.lemmas.List.{with_items_is, take_more, get_or_push, get_or_append_left, length_push}
+use Rattle.std.proofs.lemmas.List.{get_or_push, get_or_append_left, length_push}
 use Rattle.plan_rules.specs.Graph.{Graph, IsRowOf}
 use Rattle.plan_rules.specs.Multipliers.{Usable}
-use Rattle.plan_rules.specs.Tree.{every_row, Place, least_leaf, with_leaf}
-use Rattle.plan_rules.specs.Reading.{ReadsTo, places_from}
+use Rattle.plan_rules.specs.Tree.{every_row, least_leaf, with_leaf}
+use Rattle.plan_rules.specs.Reading.{ReadsTo}
 use Rattle.plan_rules.specs.lemmas.Tree.{places_read}
-use Rattle.plan_rules.specs.Path.{Standing, standing_of, root, decided, IsPathOf}
+use Rattle.plan_rules.specs.Path.{Standing, standing_of, decided, IsPathOf}
 use Rattle.plan_rules.specs.declared.node.Node.{Node}
 use Rattle.plan_rules.specs.declared.node.Node.TheVariants.{Branch, Leaf, Dead}
 use Rattle.plan_rules.specs.declared.path.Decision.{Decision}
 use Rattle.plan_rules.proofs.lemmas.PathLemmas.{standing_start, standing_push}
-use Rattle.plan_rules.proofs.lemmas.ReadLemmas.{reads_push, places_push, least_leaf_push}
+use Rattle.plan_rules.proofs.lemmas.ReadLemmas.{places_push, least_leaf_push}
 use Rattle.bound_checker.specs.declared.fault.CheckFault.{CheckFault}
 use Rattle.bound_checker.specs.declared.fault.CheckFault.TheVariants.{BadBranch, BadLeaf, BadDead, Unfinished, Extra, OutOfMemory}
 use Rattle.bound_checker.specs.Fault.{IsTreeFault, IsReached}

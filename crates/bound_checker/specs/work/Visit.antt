@@ -11,17 +11,16 @@ use Rattle.bound_checker.specs.declared.fault.CheckFault.{CheckFault}
 use Rattle.bound_checker.specs.declared.fault.CheckFault.TheVariants.{BadBranch, BadLeaf, BadDead, Unfinished, Extra, OutOfMemory}
 use Rattle.bound_checker.specs.lemmas.Visit.{coming_of}
 
--- the walk stands in the graph, and its work space has the right size
+-- the walk stands in the graph, and has a mark for each row
 pub record IsReady (g : Graph) (walk : Walk) : Type 0 where
-  pub path : IsPathOf g walk.path
-  pub usable : length walk.usable.items ≡ length g.rows
-  pub marks : length walk.marks.items ≡ g.riders
+  pub decisions : IsPathOf g walk.decisions.items
+  pub allowed : length walk.allowed.items ≡ length g.rows
 
 -- the node is sound, the walk goes on to what comes after it, and notes what a leaf shows
 pub record IsVisit (g : Graph) (node : Node) (old new : Walk) : Type 0 where
-  pub sound : IsSoundNode g (standing_of g old.path).usable node
-  pub coming : coming_of g new.ended new.path ≡ coming_after g (standing_of g old.path).usable node (standing_of g old.path).coming
-  pub least : new.least ≡ with_leaf g (standing_of g old.path).usable node old.least
+  pub sound : IsSoundNode g (standing_of g old.decisions.items).usable node
+  pub coming : coming_of g new.ended new.decisions.items ≡ coming_after g (standing_of g old.decisions.items).usable node (standing_of g old.decisions.items).coming
+  pub least : new.least ≡ with_leaf g (standing_of g old.decisions.items).usable node old.least
   pub ready : IsReady g new
 
 -- why the node is refused

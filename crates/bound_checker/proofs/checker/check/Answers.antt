@@ -1,14 +1,14 @@
-use Rattle.std.proofs.Common.{◌≡◌, ℕ, ◌+◌, ◌<◌, Bool, List, [], ◌∷◌, ◌++◌, Option, ℤ, Some, true, false, length, get_or, take, pos, refl, sym, ap, ◌∙◌, subst, arith, to_z, of_z, take_all}
+use Rattle.std.proofs.Common.{◌≡◌, ◌+◌, ◌<◌, Bool, List, [], ◌∷◌, ◌++◌, Option, ℤ, Some, length, get_or, take, pos, refl, sym, ap, ◌∙◌, subst, arith, to_z, of_z, take_all}
 use Rattle.std.specs.Prelude.{unwrap_or}
 use mir.Syntax.{w128}
 use Rattle.std.proofs.lemmas.Int.{to_z-of_z}
-use Rattle.std.proofs.lemmas.List.{take_more, get_or_read}
+use Rattle.std.proofs.lemmas.List.{take_more}
 use Rattle.std.proofs.lemmas.Option.{slice_get-get_or}
 use Rattle.plan_rules.specs.Multipliers.{Usable}
 use Rattle.plan_rules.specs.Path.{standing_of}
 use Rattle.plan_rules.specs.Plan.{IsBound}
 use Rattle.plan_rules.specs.Tree.{every_row, least_leaf, IsTreeOfValue}
-use Rattle.plan_rules.specs.Reading.{ReadsTo, coming_after}
+use Rattle.plan_rules.specs.Reading.{ReadsTo}
 use Rattle.plan_rules.specs.lemmas.Tree.{places_read, value_read, IsWholeTree}
 use Rattle.plan_rules.specs.declared.node.Node.{Node}
 use Rattle.plan_rules.proofs.lemmas.ReadLemmas.{reads_push}
@@ -20,12 +20,11 @@ use Rattle.bound_checker.proofs.checker.check.Goals as goal
 
 pub loop-place-init : goal.loop-place-init
 loop-place-init c = record {
-  reads = coming_start c.args.graph.now c.new.result c.new.ensures;
+  reads = coming_start c.args.graph.now c.new.result.items c.new.ensures.items;
   least = refl;
   ready = record {
-    path = path_none c.args.graph.now c.new.result c.new.ensures;
-    usable = omega (arith, c.in_ok-usable.ensures.len, c.in_ok-usable.usable.ok.0, ap length c.rows.ensures.value);
-    marks = omega (arith, c.in_ok-marks.ensures.len, c.in_ok-marks.marks.ok.0, c.rider_count.ensures.value);
+    decisions = path_none c.args.graph.now c.new.result.items c.new.ensures.items;
+    allowed = omega (arith, c.in_ok-allowed.ensures.len, c.in_ok-allowed.allowed.ok.0, ap length c.rows.ensures.value);
   };
 }
 
@@ -35,7 +34,7 @@ loop-place-preserved c =
     let nodes : List Node = c.args.tree.now in
     let i = c.loop-place.place in
     let node : Node = c.node-item.result in
-    let path = c.loop-place.walk.path in
+    let path = c.loop-place.walk.decisions.items in
     let u : Usable = (standing_of g path).usable in
     let later : List Usable = (standing_of g path).coming in
     let low : i < length nodes = omega (arith, ap length c.nodes-node-items.ensures) in
@@ -46,7 +45,7 @@ loop-place-preserved c =
     let new = c.visit.new.self in
     let pushed = reads_push g (take i nodes) node (every_row ∷ []) u later reads visit.sound in
     record {
-      reads = subst (λ (xs : List Node). ReadsTo g (every_row ∷ []) xs (coming_of g new.ended new.path)) (sym more)
+      reads = subst (λ (xs : List Node). ReadsTo g (every_row ∷ []) xs (coming_of g new.ended new.decisions.items)) (sym more)
           (subst (λ (us : List Usable). ReadsTo g (every_row ∷ []) (take i nodes ++ node ∷ []) us) (sym visit.coming) pushed);
       least = least_more g nodes i node u later c.loop-place.walk.least new.least more reads c.loop-place.invariant.least visit.least;
       ready = visit.ready;
@@ -58,7 +57,7 @@ returns-in-Err-clause-fault c =
     let nodes : List Node = c.args.tree.now in
     let i = c.loop-place.place in
     let node : Node = c.node-item.result in
-    let path = c.loop-place.walk.path in
+    let path = c.loop-place.walk.decisions.items in
     let u : Usable = (standing_of g path).usable in
     let later : List Usable = (standing_of g path).coming in
     let low : i < length nodes = omega (arith, ap length c.nodes-node-items.ensures) in
@@ -74,7 +73,7 @@ returns-clause-tree c =
     let whole : take i nodes ≡ nodes = take_all i nodes (omega (arith, ap length c.nodes-node-items.ensures)) in
     let back : to_z w128 (of_z w128 c.unwrap_or.result) ≡ c.unwrap_or.result = to_z-of_z w128 c.unwrap_or.result (record { sfits = c.unwrap_or.type_inv }) in
     let value : to_z w128 (of_z w128 c.unwrap_or.result) ≡ value_read g nodes = back ∙ c.unwrap_or.ensures ∙ ap (λ (o : Option ℤ). unwrap_or o (pos 0)) (c.loop-place.invariant.least ∙ ap (λ (xs : List Node). least_leaf g (places_read g xs)) whole) in
-    let ended : ReadsTo g (every_row ∷ []) (take i nodes) [] = subst (λ (b : Bool). ReadsTo g (every_row ∷ []) (take i nodes) (coming_of g b c.loop-place.walk.path)) c.if-not-walk.false c.loop-place.invariant.reads in
+    let ended : ReadsTo g (every_row ∷ []) (take i nodes) [] = subst (λ (b : Bool). ReadsTo g (every_row ∷ []) (take i nodes) (coming_of g b c.loop-place.walk.decisions.items)) c.if-not-walk.false c.loop-place.invariant.reads in
     let sound : IsWholeTree g nodes = subst (λ (xs : List Node). ReadsTo g (every_row ∷ []) xs []) whole ended in
     subst (IsTreeOfValue g nodes) (sym value) (tree_of_value g nodes sound)
 
@@ -86,6 +85,6 @@ returns-clause-bound c =
     let whole : take i nodes ≡ nodes = take_all i nodes (omega (arith, ap length c.nodes-node-items.ensures)) in
     let back : to_z w128 (of_z w128 c.unwrap_or.result) ≡ c.unwrap_or.result = to_z-of_z w128 c.unwrap_or.result (record { sfits = c.unwrap_or.type_inv }) in
     let value : to_z w128 (of_z w128 c.unwrap_or.result) ≡ value_read g nodes = back ∙ c.unwrap_or.ensures ∙ ap (λ (o : Option ℤ). unwrap_or o (pos 0)) (c.loop-place.invariant.least ∙ ap (λ (xs : List Node). least_leaf g (places_read g xs)) whole) in
-    let ended : ReadsTo g (every_row ∷ []) (take i nodes) [] = subst (λ (b : Bool). ReadsTo g (every_row ∷ []) (take i nodes) (coming_of g b c.loop-place.walk.path)) c.if-not-walk.false c.loop-place.invariant.reads in
+    let ended : ReadsTo g (every_row ∷ []) (take i nodes) [] = subst (λ (b : Bool). ReadsTo g (every_row ∷ []) (take i nodes) (coming_of g b c.loop-place.walk.decisions.items)) c.if-not-walk.false c.loop-place.invariant.reads in
     let sound : IsWholeTree g nodes = subst (λ (xs : List Node). ReadsTo g (every_row ∷ []) xs []) whole ended in
     subst (IsBound g) (sym value) (tree_value_bounds g nodes c.rows.ensures.good sound)

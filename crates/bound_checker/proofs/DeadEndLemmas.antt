@@ -1,0 +1,108 @@
+-- Sole rows of vehicles, and riders who stand in usable rows.
+use Rattle.std.proofs.Common.{◌≡◌, ◌↔◌, ℕ, ◌<◌, ◌≤◌, Bool, true, false, IsTrue, MatchBool, MatchOption, List, length, get_or, Option, Some, None, sym, ap, ◌∙◌, subst, inr, ⊎_elim, arith}
+use Rattle.std.proofs.lemmas.Bool.{false≢true, cases_eq, cases_lt, both_ways, ltb-true}
+use Rattle.std.proofs.lemmas.List.{get_or_past}
+use Rattle.plan_rules.specs.Graph.{Graph, riders_at, row_vehicle, has_rider, choice_at, must_be_served, times_served, IsGoodGraph}
+use Rattle.plan_rules.specs.Multipliers.{Usable}
+use Rattle.plan_rules.specs.Tree.{IsSoleRow, IsClash, IsStranded, IsDeadEnd}
+use Rattle.plan_rules.proofs.lemmas.GraphLemmas.{rider_below, in_choice, times_served_found}
+use Rattle.plan_rules.proofs.lemmas.PlanLemmas.{own_row, held_own}
+use Rattle.bound_checker.specs.work.DeadEnd.{AreSoleRows, ShareARider, IsApart, StandsInSome, StandsInNone, MarksStanding}
+
+pub when_true : (b : Bool) (A B : Type 0) → b ≡ true → MatchBool b A B → A
+when_true true A B e a = a
+when_true false A B e b = absurd (false≢true e)
+
+pub when_false : (b : Bool) (A B : Type 0) → b ≡ false → MatchBool b A B → B
+when_false true A B e a = absurd (false≢true (sym e))
+when_false false A B e b = b
+
+-- ---- sole rows
+
+none_is : (k : ℕ) → ◌≡◌ {A = Option ℕ} None (Some k) → ⊥
+none_is k e = cc
+
+some_is : (j k : ℕ) → Some j ≡ Some k → j ≡ k
+some_is j k e = cc
+
+pub below_end : (sole : List (Option ℕ)) (v k : ℕ) → choice_at sole v ≡ Some k → v < length sole
+below_end sole v k e =
+    ⊎_elim (λ (low : v < length sole). low) (λ (high : length sole ≤ v). absurd (none_is k (sym (get_or_past sole v None high) ∙ e))) (cases_lt v (length sole))
+
+sole_at : (g : Graph) (usable : Usable) (n : ℕ) (sole : List (Option ℕ)) (v k : ℕ) → AreSoleRows g usable n sole → choice_at sole v ≡ Some k → IsSoleRow g usable v k
+sole_at g usable n sole v k are e =
+    subst (λ (p : Option ℕ). MatchOption p ((j : ℕ) → IsSoleRow g usable v j → ⊥) (IsSoleRow g usable v)) e (are.each v (omega (arith, below_end sole v k e, are.sized)))
+
+sole_found : (g : Graph) (usable : Usable) (v k : ℕ) (o : Option ℕ) → MatchOption o ((j : ℕ) → IsSoleRow g usable v j → ⊥) (IsSoleRow g usable v) → IsSoleRow g usable v k → o ≡ Some k
+sole_found g usable v k None is sole = absurd (is k sole)
+sole_found g usable v k (Some j) is sole = ap Some (sole.sole j is.row)
+
+-- ---- clashes
+
+pub clash_of : (g : Graph) (usable : Usable) (n : ℕ) (sole : List (Option ℕ)) (v w : ℕ) → AreSoleRows g usable n sole → v < w → ShareARider g sole v w → IsClash g usable
+clash_of g usable n sole v w are below share = record {
+  first = v;
+  second = w;
+  first_row = share.one;
+  second_row = share.other;
+  rider = share.rider;
+  differ = λ (e : v ≡ w). omega (arith, below, e);
+  first_sole = sole_at g usable n sole v share.one are share.first;
+  second_sole = sole_at g usable n sole w share.other are share.second;
+  in_first = share.in_first;
+  in_second = share.in_second;
+}
+
+pub no_clash : (g : Graph) (usable : Usable) (sole : List (Option ℕ)) → IsGoodGraph g → AreSoleRows g usable g.vehicles sole → ((v w : ℕ) → v < w → ShareARider g sole v w → ⊥) → IsClash g usable → ⊥
+no_clash g usable sole good are apart c =
+    ⊎_elim
+    (λ (below : c.first < c.second). apart c.first c.second below (record { one = c.first_row; other = c.second_row; rider = c.rider; first = first; second = second; in_first = c.in_first; in_second = c.in_second }))
+    (λ (above : c.second ≤ c.first).
+    let below : c.second < c.first = strictly c.first c.second c.differ above in
+    apart c.second c.first below (record { one = c.second_row; other = c.first_row; rider = c.rider; first = second; second = first; in_first = c.in_second; in_second = c.in_first }))
+    (cases_lt c.first c.second)
+  where
+    low : (v k : ℕ) → IsSoleRow g usable v k → v < g.vehicles
+    low v k sole =
+        let below : row_vehicle g k < g.vehicles = (good.rows k sole.row.row.within).vehicle in
+        let own : row_vehicle g k ≡ v = sole.row.row.own in
+        omega arith
+
+    strictly : (v w : ℕ) → (v ≡ w → ⊥) → w ≤ v → w < v
+    strictly v w differ l = ⊎_elim (λ (same : v ≡ w). absurd (differ same)) (λ (other : v ≡ w → ⊥). omega arith) (cases_eq v w)
+
+    first : choice_at sole c.first ≡ Some c.first_row
+    first = sole_found g usable c.first c.first_row (choice_at sole c.first) (are.each c.first (low c.first c.first_row c.first_sole)) c.first_sole
+
+    second : choice_at sole c.second ≡ Some c.second_row
+    second = sole_found g usable c.second c.second_row (choice_at sole c.second) (are.each c.second (low c.second c.second_row c.second_sole)) c.second_sole
+
+pub none_second : (g : Graph) (sole : List (Option ℕ)) (v w : ℕ) → choice_at sole w ≡ None → ShareARider g sole v w → ⊥
+none_second g sole v w e share = none_is share.other (sym e ∙ share.second)
+
+pub apart_rows : (g : Graph) (sole : List (Option ℕ)) (v w j k : ℕ) → choice_at sole v ≡ Some j → choice_at sole w ≡ Some k → IsApart (riders_at g j) (riders_at g k) → ShareARider g sole v w → ⊥
+apart_rows g sole v w j k one other apart share =
+    apart share.rider
+    (subst (λ (q : ℕ). has_rider g q share.rider ≡ true) (some_is share.one j (sym share.first ∙ one)) share.in_first)
+    (subst (λ (q : ℕ). has_rider g q share.rider ≡ true) (some_is share.other k (sym share.second ∙ other)) share.in_second)
+
+-- ---- stranded riders
+
+-- a rider who must be served is one of the graph's
+must_below : (g : Graph) (r : ℕ) → IsGoodGraph g → must_be_served g r ≡ true → r < g.riders
+must_below g r good must =
+    let v = times_served_found g g.held g.vehicles r (ltb-true 0 (times_served g g.held g.vehicles r) must) in
+    let k = in_choice g (choice_at g.held (v.0)) r (v.2) in
+    let own = own_row g (v.0) (k.0) (choice_at g.held (v.0)) (held_own g (v.0) (choice_at g.held (v.0)) (good.holds (v.0) (v.1))) (k.1) in
+    rider_below g (k.0) r (good.rows (k.0) own.within) (k.2)
+
+pub not_stranded : (g : Graph) (usable : Usable) (marks : List Bool) → IsGoodGraph g → ((r : ℕ) → r < g.riders → must_be_served g r ≡ true → get_or marks r false ≡ true) → MarksStanding g usable (length g.rows) marks → IsStranded g usable → ⊥
+not_stranded g usable marks good all are s =
+    let low : s.rider < g.riders = must_below g s.rider good s.must in
+    let some : StandsInSome g usable (length g.rows) s.rider =
+    subst (λ (b : Bool). MatchBool b (StandsInSome g usable (length g.rows) s.rider) (StandsInNone g usable (length g.rows) s.rider)) (all s.rider low s.must) (are.each s.rider low) in
+    both_ways _ (s.nowhere (some.0) (some.1) (some.2)) (some.3)
+
+-- without a clash a dead end is one where a rider is stranded
+pub dead_where_stranded : (g : Graph) (usable : Usable) (b : Bool) → (IsClash g usable → ⊥) → IsTrue b ↔ IsStranded g usable → IsTrue b ↔ IsDeadEnd g usable
+dead_where_stranded g usable b none stranded = (λ e. inr (stranded.0 e), λ d. ⊎_elim (λ (c : IsClash g usable). absurd (none c)) (λ (s : IsStranded g usable). stranded.1 s) d)

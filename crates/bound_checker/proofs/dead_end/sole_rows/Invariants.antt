@@ -1,0 +1,6 @@
+use Rattle.plan_rules.specs.Multipliers.{usable_of}
+use Rattle.bound_checker.specs.work.DeadEnd.{AreSoleRows}
+use Rattle.bound_checker.proofs.dead_end.sole_rows.Given as goal
+
+abbrev pub invariant-loop-vehicle : goal.invariant-loop-vehicle
+invariant-loop-vehicle l = AreSoleRows l.graph (usable_of l.allowed) l.vehicle l.sole.items

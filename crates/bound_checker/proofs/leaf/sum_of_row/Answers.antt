@@ -1,0 +1,16 @@
+use Rattle.std.proofs.Common.{◌<◌, length, get_or, pos, arith, rules, SFits, to_z, w64}
+use mir.Syntax.{w128}
+use Rattle.std.proofs.lemmas.Int.{ints}
+use Rattle.plan_rules.specs.Multipliers.{multiplier_sum}
+use Rattle.plan_rules.proofs.lemmas.ValueLemmas.{sum_more}
+use Rattle.bound_checker.proofs.leaf.sum_of_row.Goals as goal
+
+pub loop-rider-preserved : goal.loop-rider-preserved
+loop-rider-preserved c =
+    let ms = c.args.multipliers.now in
+    let xs = c.args.riders.now in
+    let i = c.loop-rider.rider-index in
+    let fits : SFits w64 (get_or ms (get_or xs i 0) (pos 0)) = search rules in
+    let low : i < length xs = omega arith in
+    let more = sum_more ms xs i (to_z w128 c.loop-rider.sum-bits) (multiplier_sum ms xs) low c.loop-rider.invariant.value in
+    record { value = omega (arith, ints, more, fits); low = omega (arith, ints, fits); high = omega (arith, ints, fits) }
