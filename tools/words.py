@@ -12,6 +12,8 @@ PACKAGES = {
     "distributed": "python3-distributed",
 }
 INSTALL = "apt-get install sumo " + " ".join(PACKAGES.values())
+DESK_PACKAGES = {"fastapi": "python3-fastapi", "uvicorn": "python3-uvicorn"}
+DESK_INSTALL = "apt-get install " + " ".join(DESK_PACKAGES.values()) + " libjs-leaflet"
 DEBIAN_PYTHON = "/usr/bin/python3"
 RESTARTED = "RIDEPOOL_TOOLS_RESTARTED"
 
@@ -29,7 +31,7 @@ def missing_modules(modules):
     return [module for module in modules if importlib.util.find_spec(module) is None]
 
 
-def need(*modules):
+def need(*modules, install=INSTALL):
     """Makes sure that these modules can be imported.
 
     Debian's packages belong to Debian's own Python. Where another Python was called and lacks a module,
@@ -41,7 +43,7 @@ def need(*modules):
     if os.path.exists(DEBIAN_PYTHON) and not os.environ.get(RESTARTED):
         os.environ[RESTARTED] = "1"
         os.execv(DEBIAN_PYTHON, [DEBIAN_PYTHON, *sys.argv])
-    raise Fault(f"{sys.executable} has no {' and no '.join(missing)}: {INSTALL}")
+    raise Fault(f"{sys.executable} has no {' and no '.join(missing)}: {install}")
 
 
 def split_words(arguments, keys, usage):

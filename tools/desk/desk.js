@@ -1,0 +1,423 @@
+// The desk's page: follows the stream of events, shows map and lists, sends commands.
+
+import { DeskMap, isAhead, isOpen, waitStep } from "./map.js";
+import { KeyedList, makeTabs } from "./lists.js";
+
+const LOST_AFTER = 8000, SHOWN_BATCHES = 20, SHOWN_OVER = 100, KEPT_OVER = 200;
+const byId = id => document.getElementById(id);
+const rides = new Map(), vehicles = new Map();
+let batches = [], network = null, map = null, chosen = null, panel = "rides", dirty = false;
+let clock = { second: 0, speed: 0, at: 0 }, health = { status: "connecting", why: "" }, heard = 0, solvingSince = null;
+let delivered = 0, over = [];
+
+// Seconds of the book now.
+function now() {
+  return clock.second + (performance.now() - clock.at) / 1000 * clock.speed;
+}
+
+// How long something takes, as minutes:seconds or hours:minutes:seconds.
+function span(seconds) {
+  return seconds < 3600 ? moment(seconds).slice(2).replace(/^0(?=.:)/, "") : moment(seconds);
+}
+
+// A second of the book as hours:minutes:seconds.
+function moment(second) {
+  const whole = Math.max(0, Math.floor(second)), two = it => String(it % 60).padStart(2, "0");
+  return `${Math.floor(whole / 3600)}:${two(Math.floor(whole / 60))}:${two(whole)}`;
+}
+
+function persons(count) {
+  return count === 1 ? "1 person" : `${count} persons`;
+}
+
+// --- events ---------------------------------------------------------------------------------------------------
+
+function takeHealth(value) {
+  health = value;
+  clock = { second: value.second, speed: value.status === "ready" || value.status === "starting" ? value.speed : 0, at: performance.now() };
+  takeOpen(value.open_batch, value.solving_seconds || 0);
+}
+
+function takeOpen(batch, seconds = 0) {
+  if (batch !== null && solvingSince === null) solvingSince = performance.now() - seconds * 1000;
+  if (batch === null) solvingSince = null;
+  health.open_batch = batch;
+}
+
+function takeRide(ride) {
+  const before = rides.get(ride.ride);
+  if (ride.state === "delivered" && (!before || before.state !== "delivered")) delivered++;
+  rides.set(ride.ride, ride);
+  if (isOpen(ride) || (before && !isOpen(before))) return;
+  over.push(ride.ride);
+  if (over.length > KEPT_OVER) rides.delete(over.shift());
+}
+
+function takeVehicle(vehicle) {
+  vehicles.set(vehicle.vehicle, vehicle);
+  map.placeVehicle(vehicle);
+}
+
+const events = {
+  state(value) {
+    rides.clear();
+    vehicles.clear();
+    over = [];
+    takeHealth(value);
+    value.rides.forEach(takeRide);
+    delivered = value.delivered;
+    value.vehicles.forEach(takeVehicle);
+    batches = value.last_batches.slice().reverse();
+    drawBatches();
+  },
+  reply(value) {
+    value.rides.forEach(takeRide);
+    value.vehicles.forEach(takeVehicle);
+    takeOpen(value.open_batch);
+  },
+  plan(value) {
+    value.rides.forEach(takeRide);
+    value.vehicles.forEach(takeVehicle);
+    batches = [value.batch, ...batches].slice(0, SHOWN_BATCHES);
+    takeOpen(null);
+    drawBatches();
+  },
+  places(value) {
+    for (const [number, ...place] of value) {
+      const vehicle = vehicles.get(number);
+      if (!vehicle) continue;
+      vehicle.place = place;
+      map.placeVehicle(vehicle);
+    }
+  },
+  status: takeHealth,
+  clock: takeHealth,
+};
+
+function listen() {
+  const source = new EventSource("events");
+  for (const [kind, take] of Object.entries(events)) {
+    source.addEventListener(kind, event => {
+      heard = performance.now();
+      take(JSON.parse(event.data));
+      change();
+    });
+  }
+  source.onerror = () => {
+    heard = -Infinity;
+    if (source.readyState === EventSource.CLOSED) {
+      source.close();
+      setTimeout(listen, 2000);
+    }
+    drawBar();
+  };
+}
+
+// --- drawing --------------------------------------------------------------------------------------------------
+
+function change() {
+  if (dirty) return;
+  dirty = true;
+  setTimeout(() => {
+    dirty = false;
+    draw();
+  }, 200);
+}
+
+function draw() {
+  drawBar();
+  drawList();
+  drawChosen();
+  map.change();
+}
+
+function barState() {
+  if (performance.now() - heard > LOST_AFTER) return ["lost", "Connection lost. Trying again"];
+  if (health.status === "ended") return ["ended", `The dispatcher has ended: ${health.why}`];
+  if (health.status === "starting") return ["starting", "The dispatcher is starting again"];
+  if (health.open_batch !== null) {
+    return ["solving", `Solving plan ${health.open_batch}`, `${((performance.now() - solvingSince) / 1000).toFixed(1)} s`];
+  }
+  const last = batches[0];
+  return ["ready", last ? `Ready, plan ${last.batch}` : "Ready"];
+}
+
+function drawBar() {
+  const [state, text, seconds = ""] = barState(), bar = byId("bar");
+  if (bar.className !== state) bar.className = state;
+  write("status-text", text);
+  write("status-seconds", seconds);
+  write("clock", moment(now()) + (clock.speed > 1 ? ` ×${clock.speed}` : ""));
+  const counts = { waiting: 0, promised: 0, aboard: 0 };
+  let out = 0;
+  for (const ride of rides.values()) {
+    if (ride.state in counts) counts[ride.state]++;
+    if (ride.left_out && isAhead(ride)) out++;
+  }
+  for (const [name, count] of Object.entries(counts)) write("count-" + name, count);
+  write("count-delivered", delivered);
+  write("count-left-out", out);
+  byId("seal").disabled = byId("ask-button").disabled = state === "lost" || state === "ended" || state === "starting";
+}
+
+function write(id, text) {
+  const element = byId(id);
+  if (element.textContent !== String(text)) element.textContent = text;
+}
+
+const MARKS = { waiting: "◆", promised: "◆", aboard: "●", delivered: "✓", cancelled: "–", expired: "✕" };
+const RANKS = { waiting: 1, promised: 2, aboard: 3, delivered: 4, cancelled: 4, expired: 4 };
+
+function rideWords(ride) {
+  const waits = isAhead(ride), place = `${ride.from} → ${ride.to}`;
+  const state = waits && ride.left_out ? "left out" : ride.state;
+  const when = ride.state === "promised" ? `in ${span(ride.pickup_second - now())}`
+    : ride.state === "waiting" ? `waits ${span(now() - ride.time)}`
+    : ride.state === "aboard" && ride.drop_off_second !== null ? `out in ${span(ride.drop_off_second - now())}` : "";
+  const who = ride.vehicle === null || !isOpen(ride) ? "" : (waits ? " to " : " ") + ride.vehicle;
+  return {
+    over: !isOpen(ride), mark: waits && ride.left_out ? "✕" : MARKS[ride.state], number: String(ride.ride),
+    markClass: waits ? "w" + waitStep(now() - ride.time) : ride.state, what: `${state}${who}, ${place}`, when,
+  };
+}
+
+function vehicleWords(vehicle) {
+  const next = vehicle.stops[0];
+  const what = next ? `${next.kind === "pick" ? "picks up" : "drops off"} ${next.ride} at ${next.node}`
+    : vehicle.move !== null ? `drives toward ${vehicle.move}` : `stands at ${vehicle.node}`;
+  const left = next && next.second !== null ? next.second - now() : 0;
+  return {
+    over: !next, mark: vehicle.persons ? "●" : "○", markClass: "car-mark", number: String(vehicle.vehicle),
+    what: `${vehicle.persons} of ${vehicle.max_capacity}, ${what}`,
+    when: !next || next.second === null ? "" : left < -60 ? `${span(-left)} late` : left < 0 ? "due now" : `in ${span(left)}`,
+  };
+}
+
+const lists = {
+  rides: new KeyedList(document.querySelector("#rides .list"), "ride", rideWords, select),
+  vehicles: new KeyedList(document.querySelector("#vehicles .list"), "vehicle", vehicleWords, select),
+};
+
+function drawList() {
+  if (panel === "rides") {
+    const all = [...rides.values()], over = all.filter(it => !isOpen(it)).sort((a, b) => b.ride - a.ride);
+    const open = all.filter(isOpen).sort((a, b) => (b.left_out && isAhead(b)) - (a.left_out && isAhead(a)) || RANKS[a.state] - RANKS[b.state] || a.time - b.time || a.ride - b.ride);
+    lists.rides.show([...open, ...over.slice(0, SHOWN_OVER)].map(it => [it.ride, it]));
+  } else if (panel === "vehicles") {
+    lists.vehicles.show([...vehicles.values()].sort((a, b) => a.vehicle - b.vehicle).map(it => [it.vehicle, it]));
+  }
+}
+
+function drawBatches() {
+  const rows = batches.map(batch => {
+    const cells = batch.overflow ? [batch.batch, "too many pairs: nothing planned", "", "", "", "", ""]
+      : [batch.batch, batch.served, batch.left_out.length, batch.mean_wait === null ? "–" : span(batch.mean_wait),
+        batch.worst_wait === null ? "–" : span(batch.worst_wait), batch.gap, batch.seconds === undefined ? "–" : `${batch.seconds.toFixed(2)} s`];
+    const row = document.createElement("tr");
+    for (const cell of cells) row.append(Object.assign(document.createElement("td"), { textContent: cell }));
+    return row;
+  });
+  const table = document.querySelector("#batches table");
+  table.classList.toggle("some", rows.length > 0);
+  table.tBodies[0].replaceChildren(...rows);
+}
+
+// --- what is chosen -------------------------------------------------------------------------------------------
+
+function select(kind, number) {
+  chosen = kind ? { kind, number } : null;
+  map.choose(kind, number);
+  lists.rides.choose(kind === "ride" ? number : null);
+  lists.vehicles.choose(kind === "vehicle" ? number : null);
+  const ride = kind === "ride" && rides.get(number), vehicle = kind === "vehicle" && vehicles.get(number);
+  if (ride && isOpen(ride)) map.follow(map.at.get(ride.from));
+  if (vehicle) map.follow(vehicle.place ? vehicle.place.slice(0, 2) : map.at.get(vehicle.node));
+  byId("chosen").dataset.key = "";
+  drawChosen();
+}
+
+function make(tag, text, ...children) {
+  const element = document.createElement(tag);
+  if (text) element.textContent = text;
+  element.append(...children);
+  return element;
+}
+
+function button(text, action) {
+  const element = make("button", text);
+  element.type = "button";
+  element.addEventListener("click", action);
+  return element;
+}
+
+function drawChosen() {
+  const box = byId("chosen"), item = chosen && (chosen.kind === "ride" ? rides : vehicles).get(chosen.number);
+  box.hidden = !item;
+  if (!item) return;
+  const key = JSON.stringify([chosen, { ...item, place: null }, Math.floor(now() / Math.max(1, clock.speed))]);
+  if (box.dataset.key === key) return;
+  const had = box.contains(document.activeElement) && document.activeElement.textContent;
+  box.dataset.key = key;
+  box.replaceChildren(...(chosen.kind === "ride" ? rideParts(item) : vehicleParts(item)));
+  if (had) [...box.querySelectorAll("button")].find(it => it.textContent === had)?.focus();
+}
+
+function heading(text) {
+  return make("header", "", make("h2", text), button("Close", () => select(null, null)));
+}
+
+function rideParts(ride) {
+  const parts = [heading(`Rider ${ride.ride}: ${ride.left_out && isAhead(ride) ? "left out of the last plan" : ride.state}`)];
+  parts.push(make("p", `${persons(ride.persons)} from ${ride.from} to ${ride.to}, asked at ${moment(ride.time)}.`));
+  if (ride.state === "promised") parts.push(make("p", `Vehicle ${ride.vehicle} comes in ${span(ride.pickup_second - now())}.`));
+  if (ride.state === "aboard") parts.push(make("p", `Aboard vehicle ${ride.vehicle} since ${moment(ride.pickup_second)}.`));
+  if (isOpen(ride) && ride.drop_off_second !== null) parts.push(make("p", `Arrival in ${span(ride.drop_off_second - now())}.`));
+  const buttons = make("div");
+  buttons.className = "buttons";
+  if (isOpen(ride) && ride.vehicle !== null) buttons.append(button(`Show vehicle ${ride.vehicle}`, () => select("vehicle", ride.vehicle)));
+  if (isAhead(ride)) buttons.append(button("Cancel this ride", () => send("DELETE", `rides/${ride.ride}`, null, () => `Ride ${ride.ride} is cancelled.`)));
+  return buttons.childElementCount ? [...parts, buttons] : parts;
+}
+
+function vehicleParts(vehicle) {
+  const parts = [heading(`Vehicle ${vehicle.vehicle}: ${vehicle.persons} of ${vehicle.max_capacity} seats taken`)];
+  parts.push(make("p", `Last seen at node ${vehicle.node}, free from ${moment(vehicle.second)}.`));
+  const list = make("ol");
+  for (const stop of vehicle.stops) {
+    const when = stop.second === null ? "no plan has the second" : stop.second < now() ? "due now" : `in ${span(stop.second - now())}`;
+    list.append(make("li", `${stop.kind === "pick" ? "▲ pick up" : "▼ drop off"} rider ${stop.ride} at node ${stop.node}, ${when}`));
+  }
+  if (vehicle.stops.length) parts.push(list);
+  else parts.push(make("p", vehicle.move === null ? "No stops ahead." : `Drives toward node ${vehicle.move}, where a rider was left out.`));
+  const next = vehicle.stops[0];
+  if (next && !network.drivers) {
+    const call = next.kind === "pick" ? "pickup" : "dropoff", done = next.kind === "pick" ? "got in" : "got out";
+    const buttons = make("div", "", button(`Rider ${next.ride} ${done}`, () =>
+      send("POST", `vehicles/${vehicle.vehicle}/${call}`, { ride: next.ride }, () => `Rider ${next.ride} ${done}.`)));
+    buttons.className = "buttons";
+    parts.push(buttons);
+  }
+  return parts;
+}
+
+// --- commands -------------------------------------------------------------------------------------------------
+
+function say(text, bad = false) {
+  byId("message").textContent = text;
+  byId("message").classList.toggle("bad", bad);
+}
+
+async function send(method, path, body, done) {
+  const headers = {}, token = byId("token").value.trim();
+  if (body) headers["content-type"] = "application/json";
+  if (token) headers.authorization = "Bearer " + token;
+  try {
+    const response = await fetch(path, { method, headers, body: body ? JSON.stringify(body) : undefined });
+    const answer = await response.json();
+    if (response.ok) say(done(answer));
+    else say(response.status === 401 ? "The token is missing or wrong." : `Not taken: ${answer.text}.`, true);
+    return response.ok ? answer : null;
+  } catch {
+    say("The desk can't be reached. Nothing is known of the command.", true);
+    return null;
+  }
+}
+
+async function ask(event) {
+  event.preventDefault();
+  const from = Number(byId("from").value), to = Number(byId("to").value);
+  const unknown = [from, to].find(node => !map.at.has(node));
+  if (unknown !== undefined) return say(`There is no node ${unknown} on the map.`, true);
+  if (from === to) return say("The ride begins and ends at the same node.", true);
+  const body = { from, to, persons: Number(byId("persons").value) };
+  const answer = await send("POST", "rides", body, it => `Rider ${it.ride} waits for the next plan.`);
+  if (!answer) return;
+  byId("from").value = byId("to").value = "";
+  showEnds();
+  pick(false);
+  showPanel("rides");
+  select("ride", answer.ride);
+}
+
+function pick(on) {
+  byId("pick").setAttribute("aria-pressed", String(on));
+  map.pick(on);
+  byId("aim").hidden = !on;
+  byId("map-hint").hidden = !on;
+  if (on) hint();
+}
+
+function hint() {
+  const what = byId("from").value ? "Where to?" : "Where from?";
+  byId("map-hint").textContent = `${what} Click a corner, or arrow keys and Enter`;
+}
+
+function picked(node) {
+  const from = byId("from"), to = byId("to");
+  if (!from.value || to.value) {
+    from.value = node;
+    to.value = "";
+    hint();
+  } else {
+    to.value = node;
+    pick(false);
+    byId("ask-button").focus({ preventScroll: true });
+  }
+  showEnds();
+}
+
+function showEnds() {
+  map.showEnds(Number(byId("from").value), Number(byId("to").value));
+}
+
+function startPicking() {
+  if (byId("from").value && byId("to").value) byId("from").value = byId("to").value = "";
+  const on = byId("pick").getAttribute("aria-pressed") !== "true";
+  pick(on);
+  showEnds();
+  if (on) byId("map").focus({ preventScroll: true });
+}
+
+function key(event) {
+  if (event.key === "Escape") {
+    pick(false);
+    select(null, null);
+  }
+  if (event.target.matches("input, select, textarea") || event.ctrlKey || event.metaKey || event.altKey) return;
+  const name = { 1: "rides", 2: "vehicles", 3: "batches" }[event.key];
+  if (name) showPanel(name);
+  if (event.key === "m") startPicking();
+}
+
+const showPanel = makeTabs(document.querySelector("[role=tablist]"), name => {
+  panel = name;
+  if (map) drawList();
+});
+
+async function begin() {
+  try {
+    network = await (await fetch("network")).json();
+  } catch {
+    byId("bar").className = "lost";
+    write("status-text", "Connection lost. Trying again");
+    setTimeout(begin, 2000);
+    return;
+  }
+  map = new DeskMap(network, { onNode: picked, onSelect: select });
+  Object.assign(map, { vehicles, rides, now });
+  byId("token-field").hidden = !network.needs_token;
+  byId("token").value = sessionStorage.getItem("token") || "";
+  byId("token").addEventListener("change", () => sessionStorage.setItem("token", byId("token").value.trim()));
+  byId("ask").addEventListener("submit", ask);
+  byId("pick").addEventListener("click", startPicking);
+  byId("from").addEventListener("input", showEnds);
+  byId("to").addEventListener("input", showEnds);
+  byId("seal").addEventListener("click", () => send("POST", "seal", null, it => `Plan ${it.batch} is being made.`));
+  document.addEventListener("keydown", key);
+  heard = performance.now();
+  listen();
+  setInterval(draw, 1000);
+  setInterval(drawBar, 200);
+}
+
+begin();

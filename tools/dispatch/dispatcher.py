@@ -1,0 +1,392 @@
+"""The desk's middle: sends rows to `ridepool live`, keeps the day on disk, tells listeners what changed."""
+
+import asyncio
+import json
+import sys
+import time
+from collections import deque
+
+from dispatch import replay
+from dispatch.live import Live
+from dispatch.rows import entrys_row, lane_of, row_of
+from dispatch.state import ENDED, State
+from words import Fault
+
+MOST_WAITING_ROWS = 10_000
+MOST_RESTARTS = 3
+REPLAYS = 3
+LISTENER_ROOM = 2_000
+
+
+class Unavailable(Exception):
+    """Why no command can be taken at this moment."""
+
+
+class Refused(Exception):
+    """A row that `live` didn't take, with its text. The desk sends none of this kind."""
+
+
+class Waiting:
+    """A row that was sent and isn't answered yet."""
+
+    def __init__(self, number, command, fields):
+        self.number, self.command, self.fields = number, command, fields
+        self.answer = asyncio.get_running_loop().create_future()
+
+    def fail(self, fault):
+        """Tells who waits that there is no answer."""
+        if not self.answer.done():
+            self.answer.set_exception(fault)
+
+
+class Clock:
+    """Seconds of the book. They pass `speed` times as fast as real ones, and never go back."""
+
+    def __init__(self, began, speed):
+        self.began, self.speed = began, speed
+        self.least = (time.time() - began) * speed
+        self.mark = time.monotonic()
+
+    def exact(self):
+        """The second with its fraction."""
+        return max(0.0, self.least + (time.monotonic() - self.mark) * self.speed)
+
+    def now(self):
+        """The whole second."""
+        return int(self.exact())
+
+
+class Dispatcher:
+    """A running day. `status` is starting, ready or ended, with a text why."""
+
+    def __init__(self, program, words, folder, fleet, clock):
+        self.program, self.words, self.folder, self.fleet, self.clock = program, words, folder, fleet, clock
+        self.status, self.why = "starting", "the dispatcher is starting"
+        self.restarts, self.listeners, self.places = 0, set(), {}
+        self.before_seal, self.sealing = [], asyncio.Lock()
+        self.to_sync, self.syncing, self.stopping = deque(), None, False
+        self.live, self.told = None, asyncio.Condition()
+        self.clear()
+
+    def clear(self):
+        """What a new `live` begins with."""
+        self.state = State(self.fleet())
+        self.waiting = {lane: deque() for lane in range(16)}
+        self.sent, self.ran, self.numbers = 0, 0, {}
+        self.solving_since, self.solved_in = None, {}
+        self.next_ride, self.lines = 1, None
+
+    # Beginning, going on and ending
+
+    async def begin(self):
+        """Starts `live` and gives it the day so far. Gives the Difference where it answers otherwise.
+
+        Where a difference may come of a batch that closed sooner or later than before, it is tried again.
+        """
+        kept = self.folder.kept_lines()
+        for left in reversed(range(REPLAYS if replay.has_rows_among_batches(kept) else 1)):
+            await self.replay(kept)
+            found = replay.difference(kept, self.lines)
+            if found is None or left == 0:
+                return found
+            await self.live.kill()
+
+    async def replay(self, kept):
+        """Starts `live` and sends it the rows of a transcript."""
+        self.clear()
+        self.lines, self.status = [], "starting"
+        self.why = f"the dispatcher is starting; the day so far has {len(kept)} lines"
+        self.live = Live(self.program, self.words, self.on_lines, self.on_refused, self.on_end)
+        await self.live.start()
+        for rows, batch in replay.pieces(kept):
+            self.live.send(rows)
+            self.sent += rows.count("\n")
+            await self.until(lambda: self.status == "ended" or self.has_run(batch))
+        await self.until(lambda: self.status == "ended" or len(self.lines) >= 4)
+        if self.status == "ended":
+            raise Unavailable(self.why)
+
+    def has_run(self, batch):
+        """Whether all rows so far are answered, and the block of this batch is in."""
+        return self.ran == self.sent and (batch is None or batch in self.state.batches)
+
+    async def until(self, holds):
+        """Waits until something holds; it is tried at each piece of the transcript."""
+        async with self.told:
+            await self.told.wait_for(holds)
+
+    def go_on(self, replaced=False):
+        """Takes the lines of the replay as the day's, and is ready for commands."""
+        self.folder.keep(self.lines, replaced)
+        self.lines = None
+        self.next_ride = max(self.state.rides, default=0) + 1
+        self.set_status("ready", "")
+        self.publish("state", self.snapshot())
+
+    def set_status(self, status, why):
+        """Tells a new status."""
+        self.status, self.why = status, why
+        self.publish("status", self.health())
+
+    async def end(self):
+        """Ends the input of `live`, so that the transcript is a whole report, and keeps its last lines."""
+        self.stopping = True
+        self.set_status("ended", "the desk was closed")
+        if self.live is not None:
+            await self.live.finish()
+        if self.syncing is not None:
+            await asyncio.wait([self.syncing])
+        self.folder.close()
+
+    # Commands
+
+    async def command(self, command, *fields, party=1):
+        """Sends a command. Gives its entry of the transcript once that is on disk."""
+        if self.status != "ready":
+            raise Unavailable(self.why)
+        if len(self.numbers) >= MOST_WAITING_ROWS:
+            raise Unavailable("too many commands wait for their answer")
+        lane = lane_of(command, fields)
+        self.sent += 1
+        waiting = Waiting(self.sent, command, fields)
+        self.numbers[self.sent] = waiting
+        self.waiting[lane].append(waiting)
+        self.live.send(row_of(lane, command, fields, party))
+        return await waiting.answer
+
+    def new_ride(self):
+        """A rider's number that nobody has."""
+        while self.next_ride in self.state.rides:
+            self.next_ride += 1
+        self.next_ride += 1
+        return self.next_ride - 1
+
+    async def seal(self):
+        """Seals a batch now. Gives the entry; None where the last batch is still open, for then no row may follow."""
+        async with self.sealing:
+            if self.state.sealing is not None:
+                return None
+            second = max(self.clock.now(), self.last_seal())
+            for prepare in self.before_seal:
+                await prepare(second)
+            return await self.command("seal", second)
+
+    def last_seal(self):
+        """The second of the last batch."""
+        last = max(self.state.batches, default=None)
+        return 0 if last is None else self.state.batches[last]["second"]
+
+    async def keep_sealing(self, every):
+        """Seals a batch every so many seconds; one that is still open then is waited for."""
+        while True:
+            pause = every - self.clock.exact() % every
+            await asyncio.sleep(pause / self.clock.speed)
+            try:
+                if await self.seal() is None:
+                    await self.until(lambda: self.state.sealing is None or self.status != "ready")
+                    await self.seal()
+            except (Unavailable, Refused):
+                continue
+
+    # What `live` says
+
+    def on_lines(self, lines):
+        """Takes whole lines of the transcript: answers the rows, keeps the lines, tells the listeners."""
+        rows, answers, events = [], [], []
+        for line in lines:
+            change = self.state.line(line)
+            if change is None:
+                continue
+            if change.entry is not None and change.entry.command != "close":
+                self.ran += 1
+                rows.append(entrys_row(change.entry))
+                self.answered(change.entry, answers)
+            self.note_time(change)
+            events.append(change)
+        if self.lines is not None:
+            self.lines += lines
+        else:
+            self.folder.append("".join(rows), "".join(line + "\n" for line in lines))
+            self.release_after_sync(answers, events)
+        asyncio.ensure_future(self.notify())
+
+    def release_after_sync(self, answers, events):
+        """Answers and events that wait for the disk."""
+        for waiting, _ in answers:
+            self.numbers.pop(waiting.number, None)
+        self.to_sync.append((answers, events))
+        if self.syncing is None:
+            self.syncing = asyncio.ensure_future(self.sync())
+
+    def answered(self, entry, answers):
+        """Finds the row that an entry answers. While the day so far is given to `live`, nobody waits."""
+        if self.lines is not None:
+            return
+        waiting = self.waiting[entry.lane].popleft()
+        if (waiting.command, waiting.fields) != (entry.command, entry.fields):
+            raise ValueError("live answered another row than was sent")
+        answers.append((waiting, entry))
+
+    def note_time(self, change):
+        """Takes the time from a seal to its block."""
+        if change.batch is not None:
+            seconds = time.monotonic() - self.solving_since
+            self.state.batches[change.batch.number]["seconds"] = round(seconds, 3)
+            self.solving_since = None
+        elif change.entry.command == "seal" and self.state.sealing is not None:
+            self.solving_since = time.monotonic()
+
+    async def notify(self):
+        """Wakes who waits for the transcript."""
+        async with self.told:
+            self.told.notify_all()
+
+    async def sync(self):
+        """Waits for the disk, then answers; what came meanwhile shares the next wait."""
+        while self.to_sync:
+            pieces, self.to_sync = self.to_sync, deque()
+            try:
+                await asyncio.get_running_loop().run_in_executor(None, self.folder.sync)
+            except OSError as fault:
+                self.not_on_disk([*pieces, *self.to_sync], fault)
+                break
+            for answers, events in pieces:
+                for waiting, entry in answers:
+                    if not waiting.answer.done():
+                        waiting.answer.set_result(entry)
+                for change in events:
+                    self.publish_change(change)
+        self.syncing = None
+
+    def not_on_disk(self, pieces, fault):
+        """Where the disk fails, `live` is ended, and nobody is told an answer that may be lost."""
+        self.to_sync.clear()
+        self.live.told = str(fault)
+        self.live.child.kill()
+        for answers, _ in pieces:
+            for waiting, _ in answers:
+                waiting.fail(Unavailable(f"the day can't be kept: {fault}"))
+
+    def on_refused(self, number, text):
+        """A row that `live` refused. It is in no transcript."""
+        waiting = self.numbers.pop(number, None)
+        if waiting is not None:
+            for lane in self.waiting.values():
+                if waiting in lane:
+                    lane.remove(waiting)
+            waiting.fail(Refused(text))
+
+    def on_end(self, text):
+        """`live` has ended: nobody who waits is answered any more, and it is started again."""
+        for waiting in self.numbers.values():
+            waiting.fail(Unavailable("the dispatcher ended before it answered; look before you ask again"))
+        self.numbers.clear()
+        was_ready = self.status == "ready"
+        self.set_status("ended", text)
+        asyncio.ensure_future(self.notify())
+        if was_ready and not self.stopping:
+            asyncio.ensure_future(self.start_again())
+
+    async def start_again(self):
+        """Starts `live` again from the folder, three times in all."""
+        print(f"desk: {self.why}", file=sys.stderr)
+        if self.syncing is not None:
+            await asyncio.wait([self.syncing])
+        if self.restarts == MOST_RESTARTS:
+            return self.set_status("ended", f"{self.why}; it was started again {MOST_RESTARTS} times already")
+        self.restarts += 1
+        try:
+            found = await self.begin()
+            if found is None:
+                self.go_on()
+        except (Unavailable, OSError, Fault) as fault:
+            await self.live.kill()
+            return self.set_status("ended", str(fault))
+        if found is not None:
+            await self.live.kill()
+            return self.set_status("ended", f"the replies differ at {found}; start the desk again to decide")
+        print("desk: ridepool live goes on from the folder", file=sys.stderr)
+
+    # Listeners
+
+    def listen(self):
+        """A queue of events, each a text of the stream. A listener who is far behind is let go."""
+        queue = asyncio.Queue(LISTENER_ROOM)
+        self.listeners.add(queue)
+        queue.put_nowait(event_text("state", self.snapshot()))
+        return queue
+
+    def release_listeners(self):
+        """Ends all streams of events."""
+        for queue in list(self.listeners):
+            self.release(queue)
+
+    def release(self, queue):
+        """Ends one stream of events."""
+        self.listeners.discard(queue)
+        while not queue.empty():
+            queue.get_nowait()
+        queue.put_nowait(None)
+
+    def publish(self, kind, value):
+        """Tells all listeners."""
+        text = event_text(kind, value) if self.listeners else None
+        for queue in list(self.listeners):
+            if queue.full():
+                self.release(queue)
+            else:
+                queue.put_nowait(text)
+
+    def publish_change(self, change):
+        """Tells what a line changed."""
+        if not self.listeners:
+            return
+        rides = [self.state.rides[it].view() for it in sorted(change.rides)]
+        vehicles = [self.vehicle_view(it) for it in sorted(change.vehicles)]
+        if change.batch is not None:
+            batch = self.state.batches[change.batch.number]
+            self.publish("plan", {"batch": batch, "rides": rides, "vehicles": vehicles})
+        else:
+            it = change.entry
+            self.publish("reply", {"position": it.position, "command": it.command, "fields": it.fields,
+                                   "reply": it.reply, "rides": rides, "vehicles": vehicles,
+                                   "open_batch": self.open_batch()})
+
+    def vehicle_view(self, number):
+        """A vehicle with the place where it was last seen, if somebody told it."""
+        return {**self.state.vehicle_view(number), "place": self.places.get(number)}
+
+    def show(self, places):
+        """Takes where vehicles are on the map, and the node that each comes to next. Nothing of it is kept."""
+        self.places.update(places)
+        self.publish("places", [[number, *place] for number, place in places.items()])
+
+    def open_batch(self):
+        """The batch that is being solved, if so."""
+        return None if self.state.sealing is None else self.state.sealing[0]
+
+    def health(self):
+        """Whether commands are taken, and the second of the book."""
+        solving = None if self.solving_since is None else round(time.monotonic() - self.solving_since, 1)
+        return {"status": self.status, "why": self.why, "second": self.clock.now(), "speed": self.clock.speed,
+                "open_batch": self.open_batch(), "solving_seconds": solving, "restarts": self.restarts,
+                "batches": len(self.state.batches), "rides": len(self.state.rides)}
+
+    def clock_event(self):
+        """An event that only tells the second."""
+        return event_text("clock", self.health())
+
+    def snapshot(self):
+        """All that a page shows: rides that aren't over and the last that are, vehicles, the last batches."""
+        state = self.state
+        ahead = [it for it in state.rides.values() if it.state not in ENDED]
+        over = [it for it in list(state.rides.values())[-200:] if it.state in ENDED]
+        batches = [state.batches[it] for it in sorted(state.batches)[-20:]]
+        delivered = sum(it.state == "delivered" for it in state.rides.values())
+        return {**self.health(), "delivered": delivered, "rides": [it.view() for it in over + ahead],
+                "vehicles": [self.vehicle_view(it) for it in sorted(state.vehicles)], "last_batches": batches}
+
+
+def event_text(kind, value):
+    """An event of the stream."""
+    return f"event: {kind}\ndata: {json.dumps(value, separators=(',', ':'))}\n\n"

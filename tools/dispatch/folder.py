@@ -1,0 +1,117 @@
+"""The folder of a day: the inputs, the words, the accepted rows and the transcript. It outlives the desk at any moment."""
+
+import contextlib
+import fcntl
+import json
+import os
+import pathlib
+import shutil
+
+from dispatch.rows import HEADER, rows_of
+from words import Fault
+
+INPUTS = ("network", "fleet", "nodes")
+DESCRIPTION, ROWS, TRANSCRIPT = "day.json", "rows.csv", "transcript"
+
+
+def write_whole(path, text):
+    """Writes a file that is there whole or not at all, whenever the machine stops."""
+    part = path.with_name(path.name + ".part")
+    with open(part, "w", encoding="utf-8") as file:
+        file.write(text)
+        file.flush()
+        os.fsync(file.fileno())
+    os.replace(part, path)
+    sync_folder(path.parent)
+
+
+def sync_folder(path):
+    """Makes the names in a folder last."""
+    handle = os.open(path, os.O_RDONLY)
+    try:
+        os.fsync(handle)
+    finally:
+        os.close(handle)
+
+
+class Folder:
+    """A day's folder, held by one desk at a time. `description` has the words and the second's beginning."""
+
+    def __init__(self, path):
+        self.path = pathlib.Path(path)
+        self.path.mkdir(parents=True, exist_ok=True)
+        self.lock = open(self.path / "lock", "w", encoding="ascii")
+        try:
+            fcntl.flock(self.lock, fcntl.LOCK_EX | fcntl.LOCK_NB)
+        except BlockingIOError:
+            raise Fault(f"{path}: another desk keeps this day") from None
+        self.rows = self.transcript = None
+        self.description = self.described()
+
+    def described(self):
+        """What the folder says of its day, or None where the day begins now."""
+        path = self.path / DESCRIPTION
+        if not path.exists():
+            if (self.path / TRANSCRIPT).exists():
+                raise Fault(f"{path}: the file is missing, so the day can't go on")
+            return None
+        try:
+            return json.loads(path.read_text(encoding="utf-8"))
+        except ValueError:
+            raise Fault(f"{path}: not the description of a day") from None
+
+    def begin(self, inputs, description):
+        """Begins a day: copies of its inputs, then its description."""
+        for name in INPUTS:
+            shutil.copyfile(inputs[name], self.path / f"{name}.csv")
+        write_whole(self.path / DESCRIPTION, json.dumps(description, indent=1) + "\n")
+        self.description = description
+
+    def forget_unbegun(self):
+        """Takes the description away again where no transcript stands: the day may begin with other words."""
+        if not (self.path / TRANSCRIPT).exists():
+            (self.path / DESCRIPTION).unlink()
+
+    def input(self, name):
+        """The day's own copy of an input."""
+        return self.path / f"{name}.csv"
+
+    def kept_lines(self):
+        """The whole lines of the transcript so far, without the line `done N` of an ended one."""
+        path = self.path / TRANSCRIPT
+        if not path.exists():
+            return []
+        lines = path.read_text(encoding="ascii", errors="replace").split("\n")[:-1]
+        return lines[:-1] if lines and lines[-1].startswith("done ") else lines
+
+    def keep(self, lines, replaced=False):
+        """Begins the files anew with the lines of a transcript. A replaced transcript stays beside them."""
+        self.close()
+        path = self.path / TRANSCRIPT
+        if replaced:
+            count = len(list(self.path.glob(f"{TRANSCRIPT}.*"))) + 1
+            shutil.copyfile(path, self.path / f"{TRANSCRIPT}.{count}")
+        write_whole(path, "".join(line + "\n" for line in lines))
+        write_whole(self.path / ROWS, HEADER + "\n" + rows_of(lines))
+        self.rows = open(self.path / ROWS, "a", encoding="ascii")
+        self.transcript = open(path, "a", encoding="ascii")
+
+    def append(self, rows, lines):
+        """Hands rows and lines to the system; `sync` makes them last."""
+        self.rows.write(rows)
+        self.rows.flush()
+        self.transcript.write(lines)
+        self.transcript.flush()
+
+    def sync(self):
+        """Waits until all that was appended is on disk."""
+        os.fdatasync(self.rows.fileno())
+        os.fdatasync(self.transcript.fileno())
+
+    def close(self):
+        """Closes the files of rows and transcript. What could not be written was told when it was appended."""
+        for file in (self.rows, self.transcript):
+            if file is not None:
+                with contextlib.suppress(OSError):
+                    file.close()
+        self.rows = self.transcript = None

@@ -1,0 +1,78 @@
+"""Where nodes lie on the map, which is nearest to a place, and shortest ways between them."""
+
+import heapq
+import math
+
+METRES_OF_A_DEGREE = 111_320.0
+
+
+class Places:
+    """The nodes of a network on the map: in degrees where all of them have longitude and latitude, else in metres."""
+
+    def __init__(self, nodes, far):
+        self.degrees = all(it.lon is not None and it.lat is not None for it in nodes)
+        self.at = {it.node: (it.lat, it.lon) if self.degrees else (it.y, it.x) for it in nodes}
+        self.far = far
+        middle = sum(lat for lat, _ in self.at.values()) / len(self.at)
+        self.scale = self.scales(middle) if self.degrees else (1.0, 1.0)
+        self.cells = {}
+        for node, place in self.at.items():
+            self.cells.setdefault(self.cell(place), []).append(node)
+
+    def keep(self, nodes):
+        """Forgets all nodes but these."""
+        self.at = {node: place for node, place in self.at.items() if node in nodes}
+        self.cells = {cell: [it for it in inside if it in nodes] for cell, inside in self.cells.items()}
+
+    def scales(self, lat):
+        """Metres of a degree of latitude and of longitude."""
+        return METRES_OF_A_DEGREE, METRES_OF_A_DEGREE * max(0.01, math.cos(math.radians(lat)))
+
+    def metres(self, place, other):
+        """The distance of two places, good enough for a town."""
+        return math.hypot((place[0] - other[0]) * self.scale[0], (place[1] - other[1]) * self.scale[1])
+
+    def cell(self, place):
+        """The square of the map with sides of `far` metres in which a place lies."""
+        return (math.floor(place[0] * self.scale[0] / self.far), math.floor(place[1] * self.scale[1] / self.far))
+
+    def nearest(self, place):
+        """The node nearest to a place; None where none is within `far` metres."""
+        row, column = self.cell(place)
+        near = [node for i in (-1, 0, 1) for j in (-1, 0, 1) for node in self.cells.get((row + i, column + j), ())]
+        distances = [(self.metres(place, self.at[node]), node) for node in near]
+        distance, node = min(distances, default=(math.inf, None))
+        return node if distance <= self.far else None
+
+
+class Roads:
+    """The streets of a network, each with its least seconds."""
+
+    def __init__(self, rows):
+        self.out = {}
+        for start, end, seconds in rows:
+            ends = self.out.setdefault(start, {})
+            ends[end] = min(seconds, ends.get(end, seconds))
+            self.out.setdefault(end, {})
+
+    def way(self, start, goal):
+        """The nodes of a shortest way by Dijkstra's search, both ends included; None where there is none."""
+        least, before, queue = {start: 0}, {}, [(0, start)]
+        while queue:
+            seconds, node = heapq.heappop(queue)
+            if node == goal:
+                return self.walked(before, start, goal)
+            if seconds > least[node]:
+                continue
+            for end, more in self.out[node].items():
+                if seconds + more < least.get(end, math.inf):
+                    least[end], before[end] = seconds + more, node
+                    heapq.heappush(queue, (seconds + more, end))
+        return None
+
+    def walked(self, before, start, goal):
+        """The way that a search found."""
+        way = [goal]
+        while way[-1] != start:
+            way.append(before[way[-1]])
+        return way[::-1]
