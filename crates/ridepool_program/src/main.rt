@@ -43,12 +43,12 @@ prints the report with all that is entered of them, and how the riders were serv
 `audit` reads a report that `run` printed with proof=1, by whatever machine, and says whether it is
 the report of a run of that script: every reply, both graphs, the plan, the tree that shows the bound.
 
-For `run`, `drive` and `audit`:
+For `run`, `live`, `drive` and `audit`:
   network=FILE   streets: from,to,seconds
   fleet=FILE     vehicles: vehicle,seats,node,second
-  script=FILE    commands: round,lane,command,a,b,c,d and, for parties, e
+  script=FILE    commands: round,lane,command,a,b,c,d and, for parties, e (`live`: standard input)
 
-For `run` and `drive`:
+For `run`, `live` and `drive`:
   notices=FILE   where to write what riders are told: a line for each rider of each batch (none)
   proof=0|1      print the tree that shows the bound (0)
 
@@ -62,7 +62,7 @@ For `load`:
   riders=N       requests of each batch, 1 to 1000 (150)
   rounds=N       batches, 1 to 100 (4)
 
-For `run`, `drive` and `load`:
+For `run`, `live`, `drive` and `load`:
   wait=S         longest wait for the pickup, 0 to 7200 seconds (120)
   delay=S        longest delay of the arrival, 0 to 7200 seconds (180)
   trip=N         most riders of a trip, 1 to 6 (4)
