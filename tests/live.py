@@ -17,6 +17,7 @@ import tempfile
 import time
 from pathlib import Path
 
+from faults import Plan, Shim
 from inputs import Run
 from judge import Wrong, judge, judge_beginning
 from refusals import Refusal, judge_script
@@ -380,6 +381,27 @@ def killed_between_rows(program, folder):
             raise Failed(f"the judge refuses the beginning: {wrong}")
 
 
+def failing_calls(program, folder):
+    """Each read of the script and each write of the report fails once: status 7 or 8, and what stands begins the report."""
+    street(folder)
+    shim = Shim(program)
+    if shim.why:
+        print(f"skipped: failing reads and writes of live, since {shim.why}", flush=True)
+        return
+    (folder / "script.csv").write_text("\n".join([HEADERS[0], *ONE_BY_ONE, ""]))
+    words = ["live", "network=network.csv", "fleet=fleet.csv", "script=script.csv"]
+    most = {"script": 5, "output": 7}
+    plan = Plan(most)
+    whole = shim.run(folder, words, plan)
+    need(whole.returncode == 0, f"status {whole.returncode}, {whole.stderr!r}")
+    for kind, status, line in [("script", 7, "script: read failed"), ("output", 8, "report: write failed")]:
+        for call in range(1, plan.calls[kind] + 1):
+            ran = shim.run(folder, words, Plan(most, {kind: call}))
+            told = ran.returncode, ran.stderr.decode()
+            need(told == (status, f"ridepool: {line}\n"), f"{told} where call {call} on {kind} fails")
+            need(whole.stdout.startswith(ran.stdout) and whole.stdout != ran.stdout, f"another beginning where call {call} on {kind} fails")
+
+
 def main(program, rows=5000, seed=1, seconds=Client.patience):
     Client.patience = float(seconds)
     parts = [
@@ -393,6 +415,7 @@ def main(program, rows=5000, seed=1, seconds=Client.patience):
         rows_while_a_batch_is_solved,
         lambda program, folder: drawn_commands(program, folder, int(rows), int(seed)),
         killed_between_rows,
+        failing_calls,
     ]
     failed = 0
     for part in parts:
