@@ -286,7 +286,7 @@ def rows_while_a_batch_is_solved(program, folder):
     for row in during:
         client.ask(row, 20)
     client.send("0,0,cancel,1,,,\n1,4,cancel,2,,,\n")
-    client.wait_for(lambda line: line.endswith(" closed"), 120)
+    client.wait_for(lambda line: line.endswith(" closed"), 60 * client.patience)
     lines = client.lines()
     close = next(place for place, line in enumerate(lines) if line.endswith(" closed"))
     before = sum(line.split(" ")[2:3] == ["cancel"] for line in lines[:close])
