@@ -15,6 +15,7 @@ FORMATS = TOP / "docs" / "reference" / "FORMATS.md"
 # Which sections of FORMATS.md the manual page has, and what they are called there.
 SECTIONS = {
     "The three files": "INPUT FILES",
+    "Live": "LIVE",
     "The report": "REPORT",
     "A driven day": "A DRIVEN DAY",
     "Notices": "NOTICES",

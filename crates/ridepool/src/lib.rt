@@ -10,6 +10,7 @@
 mod auditing;
 mod inputs;
 mod line_notifier;
+mod live;
 mod reading;
 mod run;
 mod setup;
@@ -18,7 +19,8 @@ mod text;
 mod writing;
 
 pub use line_notifier::LineNotifier;
+pub use live::{LiveEnd, live, words_of_run};
 pub use pool_base::Which;
 pub use run::ridepool;
 pub use status::RunStatus;
-pub use text::fault_text;
+pub use text::{fault_text, refusal_text};

@@ -5,6 +5,7 @@ ghost use Rattle.ridepool.specs.Text.{at_place, longer_than, too_long_text, word
 use crate::reading::most_bytes;
 use crate::status::RunStatus;
 use fleet_state::FleetFault;
+use live_rows::RowRefusal;
 use pool_base::{OutOfMemory, Which, put_bytes, put_number};
 use pool_io::{Input, RowFault};
 use report_audit::AuditFault;
@@ -22,6 +23,39 @@ pub fn fault_text(alloc: Global, status: &RunStatus) -> Result<Vec<u8>, OutOfMem
     let mut text = Vec::new(alloc);
     put_status(&mut text, status)?;
     Ok(text)
+}
+
+/// The line that tells why a row is refused, without the program's name and without its end.
+pub fn refusal_text(alloc: Global, row: u64, refusal: &RowRefusal) -> Result<Vec<u8>, OutOfMemory> {
+    let mut text = Vec::new(alloc);
+    put_bytes(&mut text, b"script: ")?;
+    put_refusal(&mut text, row, refusal)?;
+    Ok(text)
+}
+
+fn put_refusal(text: &mut Vec<u8>, row: u64, refusal: &RowRefusal) -> Result<(), OutOfMemory> {
+    match refusal {
+        RowRefusal::TooLong => {
+            put_at(text, b"row ", row)?;
+            put_bytes(text, b" is too long")
+        }
+        RowRefusal::UnequalLength => put_row_fault(text, RowFault::UnequalLength { row }),
+        RowRefusal::Own(fault) => put_script_fault(text, at_row(*fault, row)),
+    }
+}
+
+fn at_row(fault: ScriptFault, row: u64) -> ScriptFault {
+    match fault {
+        ScriptFault::Number { column, .. } => ScriptFault::Number { row, column },
+        ScriptFault::LaneRange { .. } => ScriptFault::LaneRange { row },
+        ScriptFault::RoundBack { .. } => ScriptFault::RoundBack { row },
+        ScriptFault::UnknownCommand { .. } => ScriptFault::UnknownCommand { row },
+        ScriptFault::Party { .. } => ScriptFault::Party { row },
+        ScriptFault::ExtraField { .. } => ScriptFault::ExtraField { row },
+        ScriptFault::SealLane { .. } => ScriptFault::SealLane { row },
+        ScriptFault::TooManyRows => ScriptFault::TooManyRows,
+        ScriptFault::OutOfMemory => ScriptFault::OutOfMemory,
+    }
 }
 
 fn put_status(text: &mut Vec<u8>, status: &RunStatus) -> Result<(), OutOfMemory>

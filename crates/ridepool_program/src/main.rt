@@ -7,12 +7,16 @@
 mod notices;
 
 use crate::notices::{OpeningSink, SharedFile, is_taken};
+use live_rows::{RefusalListener, RowRefusal};
 use pool_base::OutOfMemory;
-use pool_io::{StdSink, StdSource};
-use ridepool::{LineNotifier, RunStatus, fault_text, ridepool};
+use pool_io::{Source, StdSink, StdSource};
+use ridepool::{
+    LineNotifier, LiveEnd, RunStatus, fault_text, live, refusal_text, ridepool, words_of_run,
+};
 use rider_limits::{read_words, value_of};
 use rider_notices::Notifier;
 use run_progress::WatchedSink;
+use std::alloc::Global;
 use std::fs::File;
 use std::io::{IsTerminal, Stderr, Write};
 use std::process::ExitCode;
@@ -23,24 +27,28 @@ use worker_gate::FreeGate;
 
 const HELP: &str = "\
 usage: ridepool run network=FILE fleet=FILE script=FILE [KEY=VALUE ..]
+       ridepool live network=FILE fleet=FILE [script=FILE] [KEY=VALUE ..]
        ridepool drive network=FILE fleet=FILE script=FILE [KEY=VALUE ..]
        ridepool load [KEY=VALUE ..]
        ridepool audit network=FILE fleet=FILE script=FILE report=FILE [workers=N]
 
 `run` reads a road network, a fleet and a script of commands as CSV, runs the script, and prints its
 report. Where an input is refused, one line on standard error names the file, the row and the column.
+`live` does the same while the script is written: rows come on standard input, or from `script=FILE`,
+which may be a fifo, and each is answered before the next is waited for. A row that is refused is told
+on standard error and skipped.
 `drive` reads a day, a script of requests and seals alone, lets the vehicles follow their plans, and
 prints the report with all that is entered of them, and how the riders were served.
 `load` makes these three from a seed, runs them the same way, and prints one line for each batch.
 `audit` reads a report that `run` printed with proof=1, by whatever machine, and says whether it is
 the report of a run of that script: every reply, both graphs, the plan, the tree that shows the bound.
 
-For `run`, `drive` and `audit`:
+For `run`, `live`, `drive` and `audit`:
   network=FILE   streets: from,to,seconds
   fleet=FILE     vehicles: vehicle,seats,node,second
-  script=FILE    commands: round,lane,command,a,b,c,d and, for parties, e
+  script=FILE    commands: round,lane,command,a,b,c,d and, for parties, e (`live`: standard input)
 
-For `run` and `drive`:
+For `run`, `live` and `drive`:
   notices=FILE   where to write what riders are told: a line for each rider of each batch (none)
   proof=0|1      print the tree that shows the bound (0)
 
@@ -54,7 +62,7 @@ For `load`:
   riders=N       requests of each batch, 1 to 1000 (150)
   rounds=N       batches, 1 to 100 (4)
 
-For `run`, `drive` and `load`:
+For `run`, `live`, `drive` and `load`:
   wait=S         longest wait for the pickup, 0 to 7200 seconds (120)
   delay=S        longest delay of the arrival, 0 to 7200 seconds (180)
   trip=N         most riders of a trip, 1 to 6 (4)
@@ -89,7 +97,10 @@ fn main(rt: HostRuntime) -> ExitCode {
     };
     let status = match page_of(&words) {
         Some(page) => print_page(&rt, page),
-        None => run(&rt, &rt, &words),
+        None => match words.first().map(|word| word.as_str()) {
+            Some("live") => run_live(&rt, &rt, &words),
+            _ => run(&rt, &rt, &words),
+        },
     };
     report(&rt, &status)
 }
@@ -123,7 +134,7 @@ fn page_of(words: &[String]) -> Option<&'static str> {
     match first.as_str() {
         "--help" | "-h" => Some(HELP),
         "--version" => Some(VERSION),
-        "run" | "drive" | "load" | "audit" => {
+        "run" | "live" | "drive" | "load" | "audit" => {
             let second = words.get(1)?;
             match second.as_str() {
                 "--help" | "-h" => Some(HELP),
@@ -185,6 +196,92 @@ fn run(rt: &HostRuntime, threads: &(impl Threads + Wait + Sync), words: &[String
         print_line(rt, b"notices: write failed");
     }
     status
+}
+
+/// Runs rows as they come, from standard input or from the file that the words name. Faulty words touch no file.
+fn run_live(
+    rt: &HostRuntime,
+    threads: &(impl Threads + Wait + Sync),
+    words: &[String],
+) -> RunStatus {
+    let Ok(whole) = words_of_run(rt.alloc(), words) else {
+        return RunStatus::OutOfMemory;
+    };
+    let named: &[String] = if read_words(&whole).is_ok() {
+        words
+    } else {
+        &[]
+    };
+    match value_of(named, "script") {
+        Some(_) => live_from(rt, threads, words, named, source_of(rt, named, "script")),
+        None => live_from(rt, threads, words, named, StdSource::over(rt.stdin())),
+    }
+}
+
+/// Runs the rows of this source.
+fn live_from<S: Source + Send + Drop>(
+    rt: &HostRuntime,
+    threads: &(impl Threads + Wait + Sync),
+    words: &[String],
+    named: &[String],
+    script: S,
+) -> RunStatus {
+    let path = notices_path(rt, named);
+    let mut notifiers: Vec<Box<dyn Notifier>> = Vec::new(rt.alloc());
+    if let Some(path) = path {
+        let notifier = LineNotifier::over(rt.alloc(), File::create(rt, path).ok());
+        let Ok(boxed) = Box::new(rt.alloc(), notifier) else {
+            return RunStatus::OutOfMemory;
+        };
+        if notifiers.push(boxed).is_err() {
+            return RunStatus::OutOfMemory;
+        }
+    }
+    let given = notifiers.len();
+    let mut network = source_of(rt, named, "network");
+    let mut fleet = source_of(rt, named, "fleet");
+    let LiveEnd {
+        script,
+        out,
+        status,
+    } = live(
+        threads,
+        rt.alloc(),
+        words,
+        &mut network,
+        &mut fleet,
+        script,
+        StdSink::over(rt.stdout()),
+        &mut notifiers,
+        &FreeGate,
+        RefusedRows {
+            alloc: rt.alloc(),
+            error: rt.stderr(),
+        },
+    );
+    drop(script);
+    drop(out);
+    if notifiers.len() < given && path.is_some() {
+        print_line(rt, b"notices: write failed");
+    }
+    status
+}
+
+/// Tells each refused row on standard error.
+#[derive(Drop)]
+struct RefusedRows<E> {
+    alloc: Global,
+    error: E,
+}
+
+impl<E: Write> RefusalListener for RefusedRows<E> {
+    fn refused(&mut self, row: u64, refusal: &RowRefusal) {
+        if let Ok(text) = refusal_text(self.alloc, row, refusal) {
+            let _ = self.error.write_all(b"ridepool: ");
+            let _ = self.error.write_all(&text);
+            let _ = self.error.write_all(b"\n");
+        }
+    }
 }
 
 /// Standard error, where it is a terminal.
