@@ -1,10 +1,11 @@
 ghost use Rattle.std.specs.Prelude.{◌≡◌, ◌++◌, IfOk, OnOk, codes};
 ghost use Rattle.dispatch_report.specs.Words.{numbered};
-ghost use Rattle.ridepool.specs.Text.{at_place, longer_than, too_long_text, word_text, row_text, network_text, fleet_text, script_text, day_text, audit_text, input_text, status_text};
+ghost use Rattle.ridepool.specs.Text.{at_place, longer_than, too_long_text, word_text, row_text, network_text, fleet_text, script_text, refused_row_text, at_row, day_text, audit_text, input_text, status_text};
 
 use crate::reading::most_bytes;
 use crate::status::RunStatus;
 use fleet_state::FleetFault;
+use live_rows::RowRefusal;
 use pool_base::{OutOfMemory, Which, put_bytes, put_number};
 use pool_io::{Input, RowFault};
 use report_audit::AuditFault;
@@ -22,6 +23,46 @@ pub fn fault_text(alloc: Global, status: &RunStatus) -> Result<Vec<u8>, OutOfMem
     let mut text = Vec::new(alloc);
     put_status(&mut text, status)?;
     Ok(text)
+}
+
+/// The line that tells why a row that came alone is refused, without the program's name and without its end.
+pub fn refusal_text(alloc: Global, row: u64, refusal: &RowRefusal) -> Result<Vec<u8>, OutOfMemory>
+    ensures { IfOk result (λ text. text.items ≡ codes "script: " ++ refused_row_text row refusal.now) }
+{
+    let mut text = Vec::new(alloc);
+    put_bytes(&mut text, b"script: ")?;
+    put_refusal(&mut text, row, refusal)?;
+    Ok(text)
+}
+
+fn put_refusal(text: &mut Vec<u8>, row: u64, refusal: &RowRefusal) -> Result<(), OutOfMemory>
+    ensures { OnOk result (text.new.items ≡ text.old.items ++ refused_row_text row refusal.now) }
+{
+    match refusal {
+        RowRefusal::TooLong => {
+            put_at(text, b"row ", row)?;
+            put_bytes(text, b" is too long")
+        }
+        RowRefusal::UnequalLength => put_row_fault(text, RowFault::UnequalLength { row }),
+        RowRefusal::Own(fault) => put_script_fault(text, at_row(*fault, row)),
+    }
+}
+
+// The same fault of another row.
+fn at_row(fault: ScriptFault, row: u64) -> ScriptFault
+    ensures { result ≡ at_row row fault }
+{
+    match fault {
+        ScriptFault::Number { column, .. } => ScriptFault::Number { row, column },
+        ScriptFault::LaneRange { .. } => ScriptFault::LaneRange { row },
+        ScriptFault::RoundBack { .. } => ScriptFault::RoundBack { row },
+        ScriptFault::UnknownCommand { .. } => ScriptFault::UnknownCommand { row },
+        ScriptFault::Party { .. } => ScriptFault::Party { row },
+        ScriptFault::ExtraField { .. } => ScriptFault::ExtraField { row },
+        ScriptFault::SealLane { .. } => ScriptFault::SealLane { row },
+        ScriptFault::TooManyRows => ScriptFault::TooManyRows,
+        ScriptFault::OutOfMemory => ScriptFault::OutOfMemory,
+    }
 }
 
 fn put_status(text: &mut Vec<u8>, status: &RunStatus) -> Result<(), OutOfMemory>
