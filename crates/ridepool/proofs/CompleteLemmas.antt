@@ -30,17 +30,17 @@ of_told : (o : Option (List ℕ)) (bytes : List ℕ) (P : List ℕ → Type 0) �
 of_told o bytes P told h = (let Q : Option (List ℕ) → Type 0 = λ x. IfSome x P in subst Q told h)
 
 -- what holds of the bytes that were read of a source holds of those that it tells
-read_of : {w : Which} (s : Change SourceView) (text : List ℕ) (P : List ℕ → Type 0) → Tells w s text → Reads w s P → P text
+pub read_of : {w : Which} (s : Change SourceView) (text : List ℕ) (P : List ℕ → Type 0) → Tells w s text → Reads w s P → P text
 read_of s text P tells r = subst P (of_told s.before.left text (λ left. r.bytes ≡ left) tells.told r.told) r.holds
 
 -- no source that tells few bytes is too long
-not_long : (w : Which) (s : Change SourceView) (text : List ℕ) → Tells w s text → IsSourceTooLong w s → ⊥
+pub not_long : (w : Which) (s : Change SourceView) (text : List ℕ) → Tells w s text → IsSourceTooLong w s → ⊥
 not_long w s text tells why = omega (arith, tells.short, of_told s.before.left text (λ left. most_bytes w < length left) tells.told why.told)
 
-ok_is_no_err : {A E : Type 0} (r : Result A E) (x : A) (e : E) → r ≡ Ok x → r ≡ Err e → ⊥
+pub ok_is_no_err : {A E : Type 0} (r : Result A E) (x : A) (e : E) → r ≡ Ok x → r ≡ Err e → ⊥
 ok_is_no_err r x e well wrong = cc (well, wrong)
 
-same_value : {A E : Type 0} (r : Result A E) (x y : A) → r ≡ Ok x → r ≡ Ok y → x ≡ y
+pub same_value : {A E : Type 0} (r : Result A E) (x y : A) → r ≡ Ok x → r ≡ Ok y → x ≡ y
 same_value r x y p q = cc (p, q)
 
 -- each source of a run with no fault tells some bytes
@@ -82,7 +82,7 @@ audit_alike Run n same reads = absurd reads
 audit_alike Drive n same reads = absurd reads
 audit_alike (Load shape) n same reads = absurd reads
 
-none_is_no_some : {A : Type 0} (o : Option A) (x : A) → o ≡ None → o ≡ Some x → ⊥
+pub none_is_no_some : {A : Type 0} (o : Option A) (x : A) → o ≡ None → o ≡ Some x → ⊥
 none_is_no_some o x none some = cc (none, some)
 
 -- words are good for one command

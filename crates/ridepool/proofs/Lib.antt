@@ -4,3 +4,4 @@ pub mod WriteLemmas
 pub mod CompleteLemmas
 pub mod InputLemmas
 pub mod AuditLemmas
+pub mod LiveLemmas

@@ -1,11 +1,11 @@
 -- Texts of rounds, one after the other, and what stands where the last isn't whole.
-use Rattle.std.proofs.Common.{◌≡◌, ℕ, ◌+◌, ◌-◌, ◌^◌, ◌<◌, ◌≤◌, List, [], ◌∷◌, ◌++◌, length, take, drop, get_or, Option, Result, Ok, Err, MatchResult, refl, sym, subst, ap, ◌∙◌, append_assoc, append-nil, add-one, arith, inl, inr}
-use Rattle.std.specs.Io.KnownBytes.{Appends, Keeps}
+use Rattle.std.proofs.Common.{◌≡◌, ℕ, ◌+◌, ◌-◌, ◌^◌, ◌<◌, ◌≤◌, List, [], ◌∷◌, ◌++◌, length, take, drop, get_or, Option, Result, Ok, Err, MatchResult, refl, sym, subst, ap, ◌∙◌, append_assoc, append-nil, add-one, arith}
+use Rattle.std.specs.Io.KnownBytes.{Appends}
 use Rattle.std.specs.List.{All, flat_map}
 use Rattle.std.proofs.KnownBytes.{Appends-nil, Appends-trans, Appends-kept}
 use Rattle.std.proofs.lemmas.Grind.{flat_map-append}
 use Rattle.std.proofs.lemmas.List.Elements.{All-cons}
-use Rattle.std.proofs.lemmas.List.{take-append-drop, length-append, length-drop, map-append}
+use Rattle.std.proofs.lemmas.List.{take-append-drop, length-append, map-append}
 use Rattle.std.proofs.Math.Seq.{take-suc, take-length}
 use Rattle.batch_snapshot.specs.Kept.{IsFleet}
 use Rattle.pool_io.specs.Sink.{AppendsPart}
@@ -48,7 +48,7 @@ use Rattle.rider_notices.proofs.lemmas.HeardLemmas.{all-heard-nothing, all-heard
 use Rattle.ridepool.specs.Report.{AreAll, AreFirst, AppendsWithPart, IsCutShort, IsDayEnd, IsEnd, IsPart, IsReport, IsReportCut, IsReportPart, IsReportWhole, IsWhole, Runs, added_text, first_text, head_of, journals_of, rounds_notices}
 use Rattle.ridepool.specs.work.Writing.{BeginsRounds, EndsRounds, NextJournal, HasPut, PutsRound, IsUnput, StopsIn, RunsAll, RunsFirst, RunsFrom, WritesRound, IsReportFault, IsTextFault, IsRoundFault, IsWritingFault, day_counts, day_ending, late_status, made_of, status_of, rounds_text}
 use Rattle.ridepool.specs.declared.status.RunStatus.{RunStatus}
-use Rattle.ridepool.specs.declared.status.RunStatus.TheVariants.{WriteFault, OutOfMemory, TooLate}
+use Rattle.ridepool.specs.declared.status.RunStatus.TheVariants.{WriteFault, OutOfMemory}
 
 -- positions of runs
 pub position_after_run-more : (position : ℕ) (js : List Journal) (j : Journal) → position_after_run position (js ++ j ∷ []) ≡ next_position (position_after_run position js) j.entries

@@ -4,6 +4,7 @@ pub mod Inputs
 pub mod Report
 pub mod Audit
 pub mod Explained
+pub mod Live
 pub mod Status
 pub mod Text
 pub mod work

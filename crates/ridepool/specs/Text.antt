@@ -3,6 +3,8 @@ use Rattle.std.specs.Prelude.{ℕ, List, [], ◌++◌, codes}
 use Rattle.dispatch_report.specs.Words.{numbered}
 use Rattle.fleet_state.specs.declared.fault.FleetFault.{FleetFault}
 use Rattle.fleet_state.specs.declared.fault.FleetFault.TheVariants as fleet
+use Rattle.live_rows.specs.declared.judge.RowRefusal.{RowRefusal}
+use Rattle.live_rows.specs.declared.judge.RowRefusal.TheVariants as refusal
 use Rattle.pool_base.specs.Which.{file_name}
 use Rattle.pool_base.specs.declared.which.Which.{Which}
 use Rattle.pool_io.specs.declared.input.Input.{Input}
@@ -77,6 +79,24 @@ script_text (script.ExtraField r) = numbered (codes "field not empty at row ") r
 script_text (script.SealLane r) = numbered (codes "seal outside lane 0 at row ") r
 script_text (script.Party r) = numbered (codes "bad party at row ") r
 script_text script.OutOfMemory = codes "out of memory"
+
+-- the same fault of another row
+abbrev pub at_row : ℕ → ScriptFault → ScriptFault
+at_row n (script.Number r c) = script.Number n c
+at_row n (script.LaneRange r) = script.LaneRange n
+at_row n (script.RoundBack r) = script.RoundBack n
+at_row n (script.UnknownCommand r) = script.UnknownCommand n
+at_row n (script.ExtraField r) = script.ExtraField n
+at_row n (script.SealLane r) = script.SealLane n
+at_row n (script.Party r) = script.Party n
+at_row n script.TooManyRows = script.TooManyRows
+at_row n script.OutOfMemory = script.OutOfMemory
+
+-- why a row that came alone is refused, by its number
+abbrev pub refused_row_text : ℕ → RowRefusal → List ℕ
+refused_row_text n refusal.TooLong = numbered (codes "row ") n ++ codes " is too long"
+refused_row_text n refusal.UnequalLength = row_text (row.UnequalLength n)
+refused_row_text n (refusal.Own fault) = script_text (at_row n fault)
 
 -- why a script is no day
 abbrev pub day_text : DayFault → List ℕ

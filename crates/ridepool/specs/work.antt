@@ -4,3 +4,4 @@ pub mod Writing
 pub mod Auditing
 pub mod Ended
 pub mod NoticeText
+pub mod Live

@@ -10,17 +10,19 @@
 mod auditing;
 mod inputs;
 mod line_notifier;
-mod live;
+mod live_call;
 mod reading;
 mod run;
 mod setup;
 mod status;
 mod text;
+mod words;
 mod writing;
 
 pub use line_notifier::LineNotifier;
-pub use live::{LiveEnd, live, words_of_run};
+pub use live_call::{LiveEnd, live};
 pub use pool_base::Which;
 pub use run::ridepool;
 pub use status::RunStatus;
 pub use text::{fault_text, refusal_text};
+pub use words::words_of_run;

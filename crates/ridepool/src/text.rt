@@ -1,6 +1,6 @@
 ghost use Rattle.std.specs.Prelude.{◌≡◌, ◌++◌, IfOk, OnOk, codes};
 ghost use Rattle.dispatch_report.specs.Words.{numbered};
-ghost use Rattle.ridepool.specs.Text.{at_place, longer_than, too_long_text, word_text, row_text, network_text, fleet_text, script_text, day_text, audit_text, input_text, status_text};
+ghost use Rattle.ridepool.specs.Text.{at_place, longer_than, too_long_text, word_text, row_text, network_text, fleet_text, script_text, refused_row_text, at_row, day_text, audit_text, input_text, status_text};
 
 use crate::reading::most_bytes;
 use crate::status::RunStatus;
@@ -25,15 +25,19 @@ pub fn fault_text(alloc: Global, status: &RunStatus) -> Result<Vec<u8>, OutOfMem
     Ok(text)
 }
 
-/// The line that tells why a row is refused, without the program's name and without its end.
-pub fn refusal_text(alloc: Global, row: u64, refusal: &RowRefusal) -> Result<Vec<u8>, OutOfMemory> {
+/// The line that tells why a row that came alone is refused, without the program's name and without its end.
+pub fn refusal_text(alloc: Global, row: u64, refusal: &RowRefusal) -> Result<Vec<u8>, OutOfMemory>
+    ensures { IfOk result (λ text. text.items ≡ codes "script: " ++ refused_row_text row refusal.now) }
+{
     let mut text = Vec::new(alloc);
     put_bytes(&mut text, b"script: ")?;
     put_refusal(&mut text, row, refusal)?;
     Ok(text)
 }
 
-fn put_refusal(text: &mut Vec<u8>, row: u64, refusal: &RowRefusal) -> Result<(), OutOfMemory> {
+fn put_refusal(text: &mut Vec<u8>, row: u64, refusal: &RowRefusal) -> Result<(), OutOfMemory>
+    ensures { OnOk result (text.new.items ≡ text.old.items ++ refused_row_text row refusal.now) }
+{
     match refusal {
         RowRefusal::TooLong => {
             put_at(text, b"row ", row)?;
@@ -44,7 +48,10 @@ fn put_refusal(text: &mut Vec<u8>, row: u64, refusal: &RowRefusal) -> Result<(),
     }
 }
 
-fn at_row(fault: ScriptFault, row: u64) -> ScriptFault {
+// The same fault of another row.
+fn at_row(fault: ScriptFault, row: u64) -> ScriptFault
+    ensures { result ≡ at_row row fault }
+{
     match fault {
         ScriptFault::Number { column, .. } => ScriptFault::Number { row, column },
         ScriptFault::LaneRange { .. } => ScriptFault::LaneRange { row },

@@ -1,0 +1,247 @@
+-- A call of `live`, from its steps.
+use Rattle.std.proofs.Common.{◌≡◌, ℕ, ◌≤◌, List, Option, Some, None, Result, Ok, Err, MatchResult, refl, sym, ap, subst, inl, inr, arith}
+use Rattle.std.specs.Prelude.{◌⊎◌}
+use Rattle.std.specs.Io.KnownBytes.{Appends}
+use Rattle.std.specs.Result.{IsErrOf}
+use Rattle.dispatch_engine.specs.Run.{IsReady}
+use Rattle.dispatch_report.specs.Head.{head_text}
+use Rattle.dispatch_report.specs.Written.{Change, SinkView, WritesText}
+use Rattle.dispatch_report.specs.declared.fault.ReportFault.{ReportFault}
+use Rattle.dispatch_report.specs.declared.fault.ReportFault.TheVariants as report
+use Rattle.live_dispatch.specs.Live.{BeginsRows, RunsRows}
+use Rattle.live_dispatch.specs.declared.fault.LiveFault.{LiveFault}
+use Rattle.live_dispatch.specs.declared.fault.LiveFault.TheVariants as live
+use Rattle.live_rows.specs.Rows.{rows_to_come}
+use Rattle.live_rows.specs.Lines.{lines_in}
+use Rattle.live_rows.specs.Start.{live_rows, HasOtherStart, HasStarted}
+use Rattle.live_rows.specs.declared.start.StartFault.{StartFault}
+use Rattle.live_rows.specs.declared.start.StartFault.TheVariants as start
+use Rattle.pool_base.specs.declared.which.Which.TheVariants as file
+use Rattle.pool_io.specs.Faults.{Rose}
+use Rattle.pool_io.specs.declared.input.Input.TheVariants.{Rows, Own}
+use Rattle.pool_io.specs.declared.records.RowFault.TheVariants as row
+use Rattle.request_book.specs.Book.{BookView}
+use Rattle.rider_limits.specs.Words.{fault_of}
+use Rattle.rider_limits.specs.declared.settings.Settings.{Settings}
+use Rattle.rider_notices.specs.Told.{NotifierView}
+use Rattle.road_network.specs.Roads.{Roads}
+use Rattle.script_rows.specs.declared.line.Line.{Line}
+use Rattle.script_rows.specs.declared.version.ScriptVersion.{ScriptVersion}
+use Rattle.ridepool.specs.Explained.{AreGood}
+use Rattle.ridepool.specs.Inputs.{Reads}
+use Rattle.ridepool.specs.Live.{AnswersLive, AreRowsOf, BeginsLive, EndsBehind, EndsLive, ExplainsLive, HasHead, IsFaultlessLive, IsLiveStop, IsSilentCall, LiveCall, LiveInputs, LiveSeen, StopsLive, live_head, opened_book, words_of_run}
+use Rattle.ridepool.specs.Reading.{network_in, vehicles_in}
+use Rattle.ridepool.specs.Seen.{IsUntouched}
+use Rattle.ridepool.proofs.CompleteLemmas.{none_is_no_some, not_long, ok_is_no_err, read_of, same_value}
+use Rattle.ridepool.specs.declared.status.RunStatus.{RunStatus}
+use Rattle.ridepool.specs.declared.status.RunStatus.TheVariants.{Done, Words, Network, Fleet, Script, TooLong, ReadFault, WriteFault, OutOfMemory, Day, TooLate, Report}
+use Rattle.ridepool.specs.work.Live.{RefusesWords, status_of_end, status_of_start}
+use Rattle.ridepool.specs.work.Reading.{IsUnread, StopsAt}
+use Rattle.ridepool.specs.work.Writing.{status_of}
+
+-- a script with a header has rows
+rows-of : (version : ScriptVersion) (script next : Option (List ℕ)) → HasStarted script next version → AreRowsOf script (rows_to_come version 0 next)
+rows-of version None next is = tt
+rows-of version (Some text) None is = absurd is
+rows-of version (Some text) (Some rest) is = is
+
+-- the book is ready for its first row
+pub ready-live : (i : LiveInputs) (book : BookView) → book ≡ opened_book i → IsReady i.settings i.roads book
+ready-live i book is = record { nodes = ap (λ b. b.nodes) is; wait = ap (λ b. b.wait) is; closed = ap (λ b. b.state.sealed) is }
+
+-- a call that stops at its header
+pub start-stops : (i : LiveInputs) (seen : LiveSeen) (fault : StartFault) (status : RunStatus) → status ≡ status_of_start fault → IsSilentCall seen
+    → ((fields : ℕ) → fault ≡ start.Header fields → HasOtherStart seen.script fields) → (fault ≡ start.ReadFault → Rose seen.reads.before seen.reads.after)
+    → EndsLive i seen status
+start-stops i seen (start.Header fields) status is silent other rose = subst (EndsLive i seen) (sym is) (other fields refl, silent)
+start-stops i seen start.ReadFault status is silent other rose = subst (EndsLive i seen) (sym is) (inl silent, rose refl)
+start-stops i seen start.OutOfMemory status is silent other rose = subst (EndsLive i seen) (sym is) (inl silent)
+
+-- a call whose head isn't written whole
+pub head-stops : (i : LiveInputs) (seen : LiveSeen) (version : ScriptVersion) (next : Option (List ℕ)) (count : ℕ) (fault : ReportFault) (status : RunStatus) → status ≡ status_of fault
+    → HasStarted seen.script next version → head_text i.settings i.roads count ≡ live_head i → IsUntouched seen.notifiers
+    → WritesText seen.out (head_text i.settings i.roads count) (Err fault) → EndsLive i seen status
+head-stops i seen version next count report.WriteFault status is started head untold wrote =
+    let w : WritesText seen.out (live_head i) (Err report.WriteFault) = subst (λ t. WritesText seen.out t (Err report.WriteFault)) head wrote in
+    subst (EndsLive i seen) (sym is) (inl (rows_to_come version 0 next, rows-of version seen.script next started, w.bytes, untold), w.fault refl)
+head-stops i seen version next count report.OutOfMemory status is started head untold wrote =
+    let w : WritesText seen.out (live_head i) (Err report.OutOfMemory) = subst (λ t. WritesText seen.out t (Err report.OutOfMemory)) head wrote in
+    subst (EndsLive i seen) (sym is) (inr (inl (rows_to_come version 0 next, rows-of version seen.script next started, w.bytes, untold)))
+
+-- a call whose rows were begun
+module _ (i : LiveInputs) (seen : LiveSeen) (version : ScriptVersion) (next : Option (List ℕ)) (book : BookView) (behind : SinkView) (reads : ℕ) where
+  abbrev Rest : Change SinkView
+  Rest = record { before = behind; after = seen.out.after }
+
+  head : {P : Option (List Line) → Change SinkView → Type 0} → HasStarted seen.script next version → Appends seen.out.before.written behind.written (live_head i)
+      → P (rows_to_come version 0 next) Rest → HasHead i seen P
+  head started wrote holds = record { rows = rows_to_come version 0 next; of_script = rows-of version seen.script next started; behind = behind; head = wrote; holds = holds }
+
+  begun : book ≡ opened_book i → HasStarted seen.script next version → Appends seen.out.before.written behind.written (live_head i)
+      → BeginsRows i.settings i.roads book (rows_to_come version 0 next) Rest seen.notifiers → BeginsLive i seen
+  begun is started wrote begins = inr (head started wrote (subst (λ (b : BookView). BeginsRows i.settings i.roads b (rows_to_come version 0 next) Rest seen.notifiers) is begins))
+
+  pub rows-end : (ended : Result (Unit {0}) LiveFault) (status : RunStatus) → status ≡ status_of_end ended → book ≡ opened_book i → HasStarted seen.script next version
+      → Appends seen.out.before.written behind.written (live_head i) → seen.out.before.faults ≤ behind.faults → seen.reads.before ≤ reads
+      → MatchResult ended (λ _. RunsRows i.settings i.roads book (rows_to_come version 0 next) Rest seen.notifiers)
+      (λ _. BeginsRows i.settings i.roads book (rows_to_come version 0 next) Rest seen.notifiers)
+      → (IsErrOf ended live.WriteFault → Rose behind.faults seen.out.after.faults) → (IsErrOf ended live.ReadFault → Rose reads seen.reads.after)
+      → EndsLive i seen status
+  rows-end (Ok done) status named is started wrote falls reads_fall runs write_fault read_fault =
+      subst (EndsLive i seen) (sym named) (head started wrote (subst (λ (b : BookView). RunsRows i.settings i.roads b (rows_to_come version 0 next) Rest seen.notifiers) is runs))
+  rows-end (Err live.ReadFault) status named is started wrote falls reads_fall begins write_fault read_fault =
+      subst (EndsLive i seen) (sym named) (inr (begun is started wrote begins), omega (arith, reads_fall, read_fault refl))
+  rows-end (Err live.WriteFault) status named is started wrote falls reads_fall begins write_fault read_fault =
+      subst (EndsLive i seen) (sym named) (begun is started wrote begins, omega (arith, falls, write_fault refl))
+  rows-end (Err live.OutOfMemory) status named is started wrote falls reads_fall begins write_fault read_fault =
+      subst (EndsLive i seen) (sym named) (inr (begun is started wrote begins))
+
+-- why a call ended before its rows
+module _ (call : LiveCall) (silent : IsSilentCall call.rest) where
+  pub words-stop : (status : RunStatus) → IsUntouched call.network → IsUntouched call.fleet → RefusesWords (words_of_run call.words) status → ExplainsLive call status
+  words-stop (Words fault) network fleet why = (why, network, fleet, silent)
+  words-stop OutOfMemory network fleet why = inl silent
+  words-stop Done network fleet why = absurd why
+  words-stop (Network fault) network fleet why = absurd why
+  words-stop (Fleet fault) network fleet why = absurd why
+  words-stop (Script fault) network fleet why = absurd why
+  words-stop (TooLong w) network fleet why = absurd why
+  words-stop (ReadFault w) network fleet why = absurd why
+  words-stop WriteFault network fleet why = absurd why
+  words-stop (Day fault) network fleet why = absurd why
+  words-stop (TooLate round made) network fleet why = absurd why
+  words-stop (Report fault) network fleet why = absurd why
+
+  network-unread : (settings : Settings) (status : RunStatus) → AreGood (words_of_run call.words) settings → IsUntouched call.fleet → IsUnread call.network file.Network status → ExplainsLive call status
+  network-unread settings _ good fleet (IsUnread.long why) = inl (good.faultless, (why, fleet), silent)
+  network-unread settings _ good fleet (IsUnread.failed within rose) = inl (good.faultless, (within, rose, fleet), silent)
+  network-unread settings _ good fleet (IsUnread.memory within) = inl silent
+
+  pub network-stops : (settings : Settings) (status : RunStatus) → AreGood (words_of_run call.words) settings → IsUntouched call.fleet
+      → StopsAt call.network file.Network Network network_in status → ExplainsLive call status
+  network-stops settings _ good fleet (StopsAt.unread status why) = network-unread settings status good fleet why
+  network-stops settings _ good fleet (StopsAt.refused fault reads hides) = inl (good.faultless, (reads, fleet), silent)
+
+  fleet-unread : (settings : Settings) (roads : Roads) (status : RunStatus) → AreGood (words_of_run call.words) settings → Reads file.Network call.network (λ bytes. network_in bytes ≡ Ok roads)
+      → IsUnread call.fleet file.Fleet status → ExplainsLive call status
+  fleet-unread settings roads _ good network (IsUnread.long why) = inl (good.faultless, (roads, network, why), silent)
+  fleet-unread settings roads _ good network (IsUnread.failed within rose) = inl (good.faultless, (roads, network, (within, rose)), silent)
+  fleet-unread settings roads _ good network (IsUnread.memory within) = inl silent
+
+  pub fleet-stops : (settings : Settings) (roads : Roads) (status : RunStatus) → AreGood (words_of_run call.words) settings → Reads file.Network call.network (λ bytes. network_in bytes ≡ Ok roads)
+      → StopsAt call.fleet file.Fleet Fleet (vehicles_in roads.nodes) status → ExplainsLive call status
+  fleet-stops settings roads _ good network (StopsAt.unread status why) = fleet-unread settings roads status good network why
+  fleet-stops settings roads _ good network (StopsAt.refused fault reads hides) = inl (good.faultless, (roads, network, reads), silent)
+
+-- a call that ended behind its inputs
+pub ends-behind : (call : LiveCall) (status : RunStatus) → EndsBehind call status → ExplainsLive call status
+ends-behind call (Words fault) ends = absurd ends.2
+ends-behind call OutOfMemory ends = inr ends
+ends-behind call Done ends = inr ends
+ends-behind call (Network fault) ends = inr ends
+ends-behind call (Fleet fault) ends = inr ends
+ends-behind call (Script fault) ends = inr ends
+ends-behind call (TooLong w) ends = inr ends
+ends-behind call (ReadFault w) ends = inr ends
+ends-behind call WriteFault ends = inr ends
+ends-behind call (Day fault) ends = inr ends
+ends-behind call (TooLate round made) ends = inr ends
+ends-behind call (Report fault) ends = inr ends
+
+-- where nothing is wrong, a call is done or out of memory
+no-stop : (call : LiveCall) (status : RunStatus) → IsFaultlessLive call → IsLiveStop call.network call.fleet status → ⊥
+no-stop call (Network fault) f why =
+    ok_is_no_err (network_in f.network_text) f.inputs.roads fault f.roads (read_of call.network f.network_text (λ b. network_in b ≡ Err fault) f.network why.0)
+no-stop call (TooLong file.Network) f why = not_long file.Network call.network f.network_text f.network why.0
+no-stop call (ReadFault file.Network) f why = f.network.faultless why.1
+no-stop call (Fleet fault) f why =
+    let same : why.0 ≡ f.inputs.roads = same_value (network_in f.network_text) why.0 f.inputs.roads (read_of call.network f.network_text (λ b. network_in b ≡ Ok why.0) f.network why.1) f.roads in
+    let refused = read_of call.fleet f.fleet_text (λ b. vehicles_in why.0.nodes b ≡ Err fault) f.fleet why.2 in
+    let P : Roads → Type 0 = λ r. vehicles_in r.nodes f.fleet_text ≡ Err fault in
+    ok_is_no_err (vehicles_in f.inputs.roads.nodes f.fleet_text) f.vehicles.vehicles fault f.vehicles.read (subst P same refused)
+no-stop call (TooLong file.Fleet) f why = not_long file.Fleet call.fleet f.fleet_text f.fleet why.2
+no-stop call (ReadFault file.Fleet) f why = f.fleet.faultless why.2.1
+no-stop call (TooLong file.Script) f why = why
+no-stop call (TooLong file.Report) f why = why
+no-stop call (ReadFault file.Script) f why = why
+no-stop call (ReadFault file.Report) f why = why
+no-stop call Done f why = why
+no-stop call (Words fault) f why = why
+no-stop call (Script fault) f why = why
+no-stop call WriteFault f why = why
+no-stop call OutOfMemory f why = why
+no-stop call (Day fault) f why = why
+no-stop call (TooLate round made) f why = why
+no-stop call (Report fault) f why = why
+
+has-header : (script : Option (List ℕ)) (text : List ℕ) (rows : List Line) (fields : ℕ) → script ≡ Some text → live_rows (lines_in text) ≡ Ok rows → HasOtherStart script fields → ⊥
+has-header script text rows fields told header other =
+    let P : Option (List ℕ) → Type 0 = λ s. HasOtherStart s fields in ok_is_no_err (live_rows (lines_in text)) rows fields header (subst P told other)
+
+no-end : (call : LiveCall) (i : LiveInputs) (status : RunStatus) → IsFaultlessLive call → (Rose call.rest.out.before.faults call.rest.out.after.faults → ⊥) → EndsLive i call.rest status
+    → (status ≡ Done) ⊎ (status ≡ OutOfMemory)
+no-end call i Done f writes ends = inl refl
+no-end call i OutOfMemory f writes ends = inr refl
+no-end call i WriteFault f writes ends = absurd (writes ends.1)
+no-end call i (ReadFault file.Script) f writes ends = absurd (f.faultless ends.1)
+no-end call i (ReadFault file.Network) f writes ends = absurd ends
+no-end call i (ReadFault file.Fleet) f writes ends = absurd ends
+no-end call i (ReadFault file.Report) f writes ends = absurd ends
+no-end call i (Script (Rows (row.Header fields))) f writes ends = absurd (has-header call.rest.script f.text f.rows fields f.told f.header ends.0)
+no-end call i (Script (Rows (row.UnequalLength n))) f writes ends = absurd ends
+no-end call i (Script (Rows row.OutOfMemory)) f writes ends = absurd ends
+no-end call i (Script (Own fault)) f writes ends = absurd ends
+no-end call i (Words fault) f writes ends = absurd ends
+no-end call i (Network fault) f writes ends = absurd ends
+no-end call i (Fleet fault) f writes ends = absurd ends
+no-end call i (TooLong w) f writes ends = absurd ends
+no-end call i (Day fault) f writes ends = absurd ends
+no-end call i (TooLate round made) f writes ends = absurd ends
+no-end call i (Report fault) f writes ends = absurd ends
+
+stop-or-end : (call : LiveCall) (status : RunStatus) → IsFaultlessLive call → (Rose call.rest.out.before.faults call.rest.out.after.faults → ⊥) → StopsLive call status ⊎ EndsBehind call status
+    → (status ≡ Done) ⊎ (status ≡ OutOfMemory)
+stop-or-end call status f writes (inl stop) = absurd (no-stop call status f stop.1)
+stop-or-end call status f writes (inr ends) = no-end call ends.0 status f writes ends.2
+
+complete-live : (call : LiveCall) (status : RunStatus) → IsFaultlessLive call → (Rose call.rest.out.before.faults call.rest.out.after.faults → ⊥) → ExplainsLive call status
+    → (status ≡ Done) ⊎ (status ≡ OutOfMemory)
+complete-live call (Words fault) f writes why = absurd (none_is_no_some (fault_of (words_of_run call.words)) fault f.words.faultless why.0)
+complete-live call OutOfMemory f writes why = inr refl
+complete-live call Done f writes why = inl refl
+complete-live call (Network fault) f writes why = stop-or-end call (Network fault) f writes why
+complete-live call (Fleet fault) f writes why = stop-or-end call (Fleet fault) f writes why
+complete-live call (Script fault) f writes why = stop-or-end call (Script fault) f writes why
+complete-live call (TooLong w) f writes why = stop-or-end call (TooLong w) f writes why
+complete-live call (ReadFault w) f writes why = stop-or-end call (ReadFault w) f writes why
+complete-live call WriteFault f writes why = stop-or-end call WriteFault f writes why
+complete-live call (Day fault) f writes why = stop-or-end call (Day fault) f writes why
+complete-live call (TooLate round made) f writes why = stop-or-end call (TooLate round made) f writes why
+complete-live call (Report fault) f writes why = stop-or-end call (Report fault) f writes why
+
+pub answers-live : (call : LiveCall) (status : RunStatus) → ExplainsLive call status → AnswersLive call status
+answers-live call status why = record { explained = why; complete = λ f writes. complete-live call status f writes why }
+
+-- the same, of the values that the calls name
+pub rows-ended : (i : LiveInputs) (script left next came : Option (List ℕ)) (version known : ScriptVersion) (last : ℕ) (book : BookView) (before behind after : SinkView) (r0 r1 r2 r3 : ℕ) (n m : List NotifierView)
+    (ended : Result (Unit {0}) LiveFault) (status : RunStatus) → status ≡ status_of_end ended → book ≡ opened_book i → HasStarted left next version → left ≡ script
+    → came ≡ next → known ≡ version → last ≡ 0 → Appends before.written behind.written (live_head i) → before.faults ≤ behind.faults → r0 ≤ r1
+    → MatchResult ended (λ _. RunsRows i.settings i.roads book (rows_to_come known last came) (record { before = behind; after = after }) (record { before = n; after = m }))
+    (λ _. BeginsRows i.settings i.roads book (rows_to_come known last came) (record { before = behind; after = after }) (record { before = n; after = m }))
+    → (IsErrOf ended live.WriteFault → Rose behind.faults after.faults) → (IsErrOf ended live.ReadFault → Rose r2 r3) → r2 ≡ r1
+    → EndsLive i (record { script = script; reads = record { before = r0; after = r3 }; out = record { before = before; after = after }; notifiers = record { before = n; after = m } }) status
+rows-ended i script left next came version known last book before behind after r0 r1 r2 r3 n m ended status named is started told came_is known_is last_is wrote falls reads_fall runs write_fault read_fault same =
+    let seen : LiveSeen = record { script = script; reads = record { before = r0; after = r3 }; out = record { before = before; after = after }; notifiers = record { before = n; after = m } } in
+    let rows : rows_to_come known last came ≡ rows_to_come version 0 next = (λ k. rows_to_come (known_is k) (last_is k) (came_is k)) in
+    let P : Option (List Line) → Type 0 = λ r. MatchResult ended (λ _. RunsRows i.settings i.roads book r (record { before = behind; after = after }) (record { before = n; after = m }))
+    (λ _. BeginsRows i.settings i.roads book r (record { before = behind; after = after }) (record { before = n; after = m })) in
+    rows-end i seen version next book behind r2 ended status named is (subst (λ (o : Option (List ℕ)). HasStarted o next version) told started) wrote falls (omega (arith, reads_fall, same)) (subst P rows runs) write_fault read_fault
+
+pub stopped-as : (i : LiveInputs) (left script : Option (List ℕ)) (a b r0 r1 : ℕ) (out : Change SinkView) (n : List NotifierView) (status : RunStatus) → left ≡ script → a ≡ r0 → b ≡ r1
+    → EndsLive i (record { script = left; reads = record { before = a; after = b }; out = out; notifiers = record { before = n; after = n } }) status
+    → EndsLive i (record { script = script; reads = record { before = r0; after = r1 }; out = out; notifiers = record { before = n; after = n } }) status
+stopped-as i left script a b r0 r1 out n status p q r ends =
+    let P : LiveSeen → Type 0 = λ seen. EndsLive i seen status in
+    let same : (record { script = left; reads = record { before = a; after = b }; out = out; notifiers = record { before = n; after = n } }) ≡ (record { script = script; reads = record { before = r0; after = r1 }; out = out; notifiers = record { before = n; after = n } }) =
+    (λ k. record { script = p k; reads = record { before = q k; after = r k }; out = out; notifiers = record { before = n; after = n } }) in
+    subst P same ends

@@ -1,0 +1,14 @@
+use Rattle.std.proofs.Common.{refl}
+use Rattle.ridepool.proofs.LiveLemmas.{answers-live, ends-behind}
+use Rattle.ridepool.proofs.live_call.live.Goals as goal
+
+pub live_in-ended-requires-clause-named : goal.live_in-ended-requires-clause-named
+live_in-ended-requires-clause-named g c κs within = c.in-Ok.ensures.named
+
+pub returns-in-Ok : goal.returns-in-Ok
+returns-in-Ok g c =
+    answers-live _ _
+    (ends-behind _ _ (record { settings = c.in-Ok.settings; roads = c.in-Ok.network; vehicles = c.in-Ok.fleet }, c.in-Ok.ensures.got _, c.live_in-ended.ensures))
+
+pub returns-in-Err : goal.returns-in-Err
+returns-in-Err g c = answers-live _ _ (c.in-Err.ensures.got _ (record { out = refl; notifiers = refl }))

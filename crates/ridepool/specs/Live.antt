@@ -1,0 +1,163 @@
+-- A call of `live`: what is seen of it, how it ends, and what stands then.
+use Rattle.std.specs.Prelude.{◌≡◌, ℕ, List, [], ◌∷◌, ◌++◌, Option, Some, None, Ok, Err, codes, is_none, length, if◌then◌else◌, ◌⊎◌}
+use Rattle.std.specs.Io.KnownBytes.{Appends}
+use Rattle.batch_snapshot.specs.declared.vehicle.Vehicle.{Vehicle}
+use Rattle.dispatch_report.specs.Head.{head_text}
+use Rattle.dispatch_report.specs.Written.{Change, SinkView}
+use Rattle.live_dispatch.specs.Live.{BeginsRows, RunsRows}
+use Rattle.live_rows.specs.Lines.{lines_in}
+use Rattle.live_rows.specs.Start.{live_rows, HasOtherStart}
+use Rattle.pool_base.specs.declared.which.Which.TheVariants as file
+use Rattle.pool_io.specs.Faults.{Rose}
+use Rattle.pool_io.specs.Sink.{AppendsPart}
+use Rattle.pool_io.specs.declared.input.Input.TheVariants.{Rows}
+use Rattle.pool_io.specs.declared.records.RowFault.TheVariants as row
+use Rattle.request_book.specs.Book.{BookView, opening}
+use Rattle.rider_limits.specs.Words.{fault_of, text_given}
+use Rattle.rider_limits.specs.declared.settings.Settings.{Settings}
+use Rattle.rider_notices.specs.Told.{NotifierView}
+use Rattle.road_network.specs.Roads.{Roads}
+use Rattle.script_rows.specs.declared.line.Line.{Line}
+use Rattle.ridepool.specs.Explained.{AreGood, Tells}
+use Rattle.ridepool.specs.Inputs.{IsSourceTooLong, IsWithin, Reads}
+use Rattle.ridepool.specs.Reading.{network_in, vehicles_in, IsFleetIn}
+use Rattle.ridepool.specs.Seen.{IsUntouched, SourceView}
+use Rattle.ridepool.specs.declared.status.RunStatus.{RunStatus}
+use Rattle.ridepool.specs.declared.status.RunStatus.TheVariants.{Done, Words, Network, Fleet, Script, TooLong, ReadFault, WriteFault, OutOfMemory}
+
+-- the words of `run` for which those of a call of `live` stand: its options, and a name for the script where they give none
+abbrev pub words_of_run : List (List ℕ) → List (List ℕ)
+words_of_run [] = []
+words_of_run (word ∷ options) =
+    codes "run" ∷ options ++ (if is_none (text_given (codes "script") options) then codes "script=-" ∷ [] else [])
+
+-- what a call works on before its rows come
+pub record LiveInputs : Type 0 where
+  pub settings : Settings
+  pub roads : Roads
+  pub vehicles : List Vehicle
+
+-- the book of a call before its first row
+abbrev pub opened_book : LiveInputs → BookView
+opened_book i = record { nodes = i.roads.nodes; wait = i.settings.wait; first = 0; base = opening i.vehicles; entries = []; state = opening i.vehicles; spare = 0 }
+
+-- the head of a call's report
+abbrev pub live_head : LiveInputs → List ℕ
+live_head i = head_text i.settings i.roads (length i.vehicles)
+
+-- a call, once its network and fleet are read: the bytes of its script, where they are told, how many reads of them have
+-- failed, the sink of its report, and the notifiers of its riders
+pub record LiveSeen : Type 0 where
+  pub script : Option (List ℕ)
+  pub reads : Change ℕ
+  pub out : Change SinkView
+  pub notifiers : Change (List NotifierView)
+
+-- nothing is written and nobody was told anything
+pub record IsSilentCall (seen : LiveSeen) : Type 0 where
+  pub out : IsUntouched seen.out
+  pub notifiers : IsUntouched seen.notifiers
+
+-- these are the accepted rows of a script with a header, where its bytes are told
+abbrev pub AreRowsOf : Option (List ℕ) → Option (List Line) → Type 0
+AreRowsOf None rows = Unit {0}
+AreRowsOf (Some text) None = ⊥
+AreRowsOf (Some text) (Some rows) = live_rows (lines_in text) ≡ Ok rows
+
+-- the script has a header, the head of the report is written, and this holds of the rows and of what is written then
+pub record HasHead (i : LiveInputs) (seen : LiveSeen) (Holds : Option (List Line) → Change SinkView → Type 0) : Type 0 where
+  pub rows : Option (List Line)
+  pub of_script : AreRowsOf seen.script rows
+  pub behind : SinkView
+  pub head : Appends seen.out.before.written behind.written (live_head i)
+  pub holds : Holds rows (record { before = behind; after = seen.out.after })
+
+-- all rows were run, and are written with the last line, and their notices were told
+abbrev pub RunsLive : LiveInputs → LiveSeen → Type 0
+RunsLive i seen = HasHead i seen (λ rows sink. RunsRows i.settings i.roads (opened_book i) rows sink seen.notifiers)
+
+-- the script has a header, and a beginning of the head stands that isn't the whole
+abbrev pub CutsHead : LiveInputs → LiveSeen → Type 0
+CutsHead i seen =
+    (rows : Option (List Line)) × AreRowsOf seen.script rows × AppendsPart seen.out.before.written seen.out.after.written (live_head i) × IsUntouched seen.notifiers
+
+-- some first rows were run, the last round maybe in part; what is written begins their report and isn't the whole; and
+-- the notices of some first entries were told
+abbrev pub BeginsLive : LiveInputs → LiveSeen → Type 0
+BeginsLive i seen = CutsHead i seen ⊎ HasHead i seen (λ rows sink. BeginsRows i.settings i.roads (opened_book i) rows sink seen.notifiers)
+
+-- why a call whose network and fleet pass ended as it did, what is written, and who was told what
+abbrev pub EndsLive : LiveInputs → LiveSeen → RunStatus → Type 0
+EndsLive i seen Done = RunsLive i seen
+EndsLive i seen (Script (Rows (row.Header fields))) = HasOtherStart seen.script fields × IsSilentCall seen
+EndsLive i seen (ReadFault file.Script) = (IsSilentCall seen ⊎ BeginsLive i seen) × Rose seen.reads.before seen.reads.after
+EndsLive i seen WriteFault = BeginsLive i seen × Rose seen.out.before.faults seen.out.after.faults
+EndsLive i seen OutOfMemory = IsSilentCall seen ⊎ BeginsLive i seen
+EndsLive i seen _ = ⊥
+
+-- a call with its words and the sources of its network and fleet
+pub record LiveCall : Type 0 where
+  pub words : List (List ℕ)
+  pub network : Change SourceView
+  pub fleet : Change SourceView
+  pub rest : LiveSeen
+
+-- the words are good, and network and fleet were read as these inputs
+pub record AreLiveInputs (call : LiveCall) (i : LiveInputs) : Type 0 where
+  pub words : AreGood (words_of_run call.words) i.settings
+  pub network : Reads file.Network call.network (λ bytes. network_in bytes ≡ Ok i.roads)
+  pub fleet : Reads file.Fleet call.fleet (λ bytes. IsFleetIn i.roads.nodes bytes i.vehicles)
+
+-- the network was read to its end and passes, and this holds of its nodes
+abbrev pub ReadsNetwork : Change SourceView → (List ℕ → Type 0) → Type 0
+ReadsNetwork network Holds = (roads : Roads) × Reads file.Network network (λ bytes. network_in bytes ≡ Ok roads) × Holds roads.nodes
+
+-- why network or fleet stopped a call: it is refused, or longer than may be, or a read failed; the one behind is untouched
+abbrev pub IsLiveStop : Change SourceView → Change SourceView → RunStatus → Type 0
+IsLiveStop network fleet (Network fault) = Reads file.Network network (λ bytes. network_in bytes ≡ Err fault) × IsUntouched fleet
+IsLiveStop network fleet (TooLong file.Network) = IsSourceTooLong file.Network network × IsUntouched fleet
+IsLiveStop network fleet (ReadFault file.Network) = IsWithin file.Network network × Rose network.before.faults network.after.faults × IsUntouched fleet
+IsLiveStop network fleet (Fleet fault) = ReadsNetwork network (λ nodes. Reads file.Fleet fleet (λ bytes. vehicles_in nodes bytes ≡ Err fault))
+IsLiveStop network fleet (TooLong file.Fleet) = ReadsNetwork network (λ nodes. IsSourceTooLong file.Fleet fleet)
+IsLiveStop network fleet (ReadFault file.Fleet) = ReadsNetwork network (λ nodes. IsWithin file.Fleet fleet × Rose fleet.before.faults fleet.after.faults)
+IsLiveStop network fleet _ = ⊥
+
+-- the words are good, and network or fleet stopped the call
+abbrev pub StopsLive : LiveCall → RunStatus → Type 0
+StopsLive call status = (fault_of (words_of_run call.words) ≡ None) × IsLiveStop call.network call.fleet status × IsSilentCall call.rest
+
+-- the inputs pass, and the call ended behind them
+abbrev pub EndsBehind : LiveCall → RunStatus → Type 0
+EndsBehind call status = (i : LiveInputs) × AreLiveInputs call i × EndsLive i call.rest status
+
+-- why a call ended as it did, what is written, and who was told what
+abbrev pub ExplainsLive : LiveCall → RunStatus → Type 0
+ExplainsLive call (Words fault) =
+    (fault_of (words_of_run call.words) ≡ Some fault) × IsUntouched call.network × IsUntouched call.fleet × IsSilentCall call.rest
+ExplainsLive call OutOfMemory = IsSilentCall call.rest ⊎ EndsBehind call OutOfMemory
+ExplainsLive call status = StopsLive call status ⊎ EndsBehind call status
+
+-- the words are good, the sources of network and fleet tell texts that give inputs, the script tells its bytes and has a
+-- header, and no read fails
+pub record IsFaultlessLive (call : LiveCall) : Type 0 where
+  pub inputs : LiveInputs
+  pub words : AreGood (words_of_run call.words) inputs.settings
+  pub network_text : List ℕ
+  pub network : Tells file.Network call.network network_text
+  pub roads : network_in network_text ≡ Ok inputs.roads
+  pub fleet_text : List ℕ
+  pub fleet : Tells file.Fleet call.fleet fleet_text
+  pub vehicles : IsFleetIn inputs.roads.nodes fleet_text inputs.vehicles
+  pub text : List ℕ
+  pub told : call.rest.script ≡ Some text
+  pub rows : List Line
+  pub header : live_rows (lines_in text) ≡ Ok rows
+  pub faultless : Rose call.rest.reads.before call.rest.reads.after → ⊥
+
+-- what a call's answer says
+pub record AnswersLive (call : LiveCall) (status : RunStatus) : Type 0 where
+  -- its cause, and what is written
+  pub explained : ExplainsLive call status
+  -- where nothing is wrong with words, network, fleet and header, and no write fails, all is done or there is no memory,
+  -- whatever the rows
+  pub complete : IsFaultlessLive call → (Rose call.rest.out.before.faults call.rest.out.after.faults → ⊥) → (status ≡ Done) ⊎ (status ≡ OutOfMemory)

@@ -1,0 +1,31 @@
+-- The steps of a call of `live`.
+use Rattle.std.specs.Prelude.{◌≡◌, List, ℕ, Some, Result, Ok, Err}
+use Rattle.live_dispatch.specs.declared.fault.LiveFault.{LiveFault}
+use Rattle.live_dispatch.specs.declared.fault.LiveFault.TheVariants as live
+use Rattle.live_rows.specs.declared.start.StartFault.{StartFault}
+use Rattle.live_rows.specs.declared.start.StartFault.TheVariants as start
+use Rattle.pool_base.specs.declared.which.Which.TheVariants as file
+use Rattle.pool_io.specs.declared.input.Input.TheVariants.{Rows}
+use Rattle.pool_io.specs.declared.records.RowFault.TheVariants as row
+use Rattle.rider_limits.specs.Words.{fault_of}
+use Rattle.ridepool.specs.declared.status.RunStatus.{RunStatus}
+use Rattle.ridepool.specs.declared.status.RunStatus.TheVariants.{Done, Words, Script, ReadFault, WriteFault, OutOfMemory}
+
+-- the words are refused, or there was no memory for them
+abbrev pub RefusesWords : List (List ℕ) → RunStatus → Type 0
+RefusesWords words (Words fault) = fault_of words ≡ Some fault
+RefusesWords words OutOfMemory = Unit {0}
+RefusesWords words _ = ⊥
+
+-- the answer to a script without a header
+abbrev pub status_of_start : StartFault → RunStatus
+status_of_start (start.Header fields) = Script (Rows (row.Header fields))
+status_of_start start.ReadFault = ReadFault file.Script
+status_of_start start.OutOfMemory = OutOfMemory
+
+-- the answer to the end of the rows
+abbrev pub status_of_end : Result (Unit {0}) LiveFault → RunStatus
+status_of_end (Ok done) = Done
+status_of_end (Err live.ReadFault) = ReadFault file.Script
+status_of_end (Err live.WriteFault) = WriteFault
+status_of_end (Err live.OutOfMemory) = OutOfMemory

@@ -1,0 +1,333 @@
+//! A script that is written while it is run: one call beside the others.
+ghost use Rattle.std.specs.Prelude.{◌≡◌, ◌≤◌, List, map, All, MatchResult, IfOk, IfErr};
+ghost use Rattle.std.specs.Io.KnownBytes.{Appends};
+ghost use Rattle.std.specs.String.{string_bytes};
+ghost use Rattle.dispatch_report.specs.Written.{sink_seen};
+ghost use Rattle.live_rows.specs.Start.{HasStarted};
+ghost use Rattle.request_book.specs.Consistent.{IsNode};
+ghost use Rattle.rider_notices.specs.Seen.{notifier_seen};
+ghost use Rattle.rider_notices.specs.Told.{NotifierView};
+ghost use Rattle.ridepool.specs.Live.{AnswersLive, AreLiveInputs, EndsLive, ExplainsLive, IsSilentCall, LiveCall, LiveInputs, LiveSeen, live_head, opened_book};
+ghost use Rattle.ridepool.specs.Seen.{source_seen};
+ghost use Rattle.ridepool.specs.work.Live.{status_of_end, status_of_start};
+ghost use Rattle.ridepool.specs.work.Writing.{status_of};
+
+use crate::reading::{fleet_from, network_from};
+use crate::status::RunStatus;
+use crate::words::live_settings;
+use batch_snapshot::Fleet;
+use dispatch_report::{ReportFault, write_head};
+use hub_labels::{LabelWays, Labels};
+use live_dispatch::{Dispatched, LiveFault, LiveSetup, dispatch};
+use live_rows::{LineStream, LiveRows, RefusalListener, StartFault, read_start};
+use plan_drafts::RelaxationDrafter;
+use pool_base::Which;
+use pool_io::{Input, RowFault, Sink, Source};
+use request_book::Book;
+use rider_limits::{Settings, TimesWay};
+use rider_notices::Notifier;
+use road_network::Network;
+use row_tables::Drafter;
+use script_rows::ScriptVersion;
+use std::alloc::Global;
+use std::sync::Wait;
+use std::thread::Threads;
+use travel_times::{NetworkWays, Ways};
+use worker_gate::Gate;
+
+/// What a call gives back, and how it ended.
+#[derive(Drop)]
+pub struct LiveEnd<S: Source, K: Sink> {
+    pub script: S,
+    pub out: K,
+    pub status: RunStatus,
+}
+
+/// Runs a script while it is written: each row is judged, run and answered before the next is waited for.
+///
+/// The words are those of `run` behind another command, and need name no script. Words, network and fleet are judged as by
+/// `run`, and then the header; only then the head is written. A row that is refused is told to the listener and skipped.
+/// While a batch is open it is solved, and rows of its round in other lanes are run beside; a row of lane 0 or of a later
+/// round waits for the close. At the end of the rows an open batch is closed, and the last line is written. Notices of a
+/// batch are told once the rows that ran beside it are.
+///
+/// `Done` says that the report of a run of the accepted rows is written, and that each notifier that is left was told
+/// exactly the notices of that run. `Script` comes only for the header, and `ReadFault` of the script only where its count
+/// of faults rose; `WriteFault` only where the sink's count rose. After these two and `OutOfMemory` a beginning of such a
+/// report stands that isn't the whole.
+pub fn live<
+    N: Source,
+    F: Source,
+    S: Source + Send + Drop,
+    K: Sink + Send + Drop,
+    G: Gate,
+    L: RefusalListener + Send + Drop,
+>(
+    rt: &(impl Threads + Wait + Sync),
+    alloc: Global,
+    words: &[String],
+    network: &mut N,
+    fleet: &mut F,
+    script: S,
+    out: K,
+    notifiers: &mut Vec<Box<dyn Notifier>>,
+    gate: &G,
+    listener: L,
+) -> LiveEnd<S, K>
+    ensures { AnswersLive (record {
+      words = map string_bytes words.now;
+      network = source_seen N.left N.taken N.faults network.old network.new;
+      fleet = source_seen F.left F.taken F.faults fleet.old fleet.new;
+      rest = record {
+        script = S.left script;
+        reads = record { before = S.faults script; after = S.faults result.script };
+        out = sink_seen K.written K.faults out result.out;
+        notifiers = record {
+          before = map (λ n. notifier_seen (⟦<dyn Notifier as Notifier>⟧ n.vtable) n.value) notifiers.old.items;
+          after = map (λ n. notifier_seen (⟦<dyn Notifier as Notifier>⟧ n.vtable) n.value) notifiers.new.items;
+        };
+      };
+    }) result.status }
+{
+    match live_inputs(alloc, words, network, fleet) {
+        Ok((settings, network, fleet)) => {
+            let ended = live_in(
+                rt, alloc, out, &settings, &network, fleet, script, notifiers, gate, listener,
+            );
+            drop(network);
+            ended
+        }
+        Err(status) => {
+            drop(listener);
+            LiveEnd {
+                script,
+                out,
+                status,
+            }
+        }
+    }
+}
+
+fn live_inputs<N: Source, F: Source>(
+    alloc: Global,
+    words: &[String],
+    network: &mut N,
+    fleet: &mut F,
+) -> Result<(Settings, Network, Fleet), RunStatus>
+    ensures got { (rest : LiveSeen) → let call : LiveCall = (record {
+      words = map string_bytes words.now;
+      network = source_seen N.left N.taken N.faults network.old network.new;
+      fleet = source_seen F.left F.taken F.faults fleet.old fleet.new;
+      rest = rest;
+    }) in MatchResult result
+        (λ got. AreLiveInputs call (record { settings = got.0; roads = got.1; vehicles = got.2 }))
+        (λ status. IsSilentCall rest → ExplainsLive call status) }
+    ensures named { IfOk result (λ got. All (λ vehicle. IsNode got.1.nodes vehicle.node) got.2) }
+{
+    let settings = match live_settings(alloc, words) {
+        Ok(settings) => settings,
+        Err(status) => return Err(status),
+    };
+    let network = match network_from(alloc, network) {
+        Ok(network) => network,
+        Err(status) => return Err(status),
+    };
+    match fleet_from(alloc, fleet, &network) {
+        Ok(fleet) => Ok((settings, network, fleet)),
+        Err(status) => {
+            drop(network);
+            Err(status)
+        }
+    }
+}
+
+/// Runs the rows of a script, with travel times by the way that the settings name.
+fn live_in<
+    S: Source + Send + Drop,
+    K: Sink + Send + Drop,
+    G: Gate,
+    L: RefusalListener + Send + Drop,
+>(
+    rt: &(impl Threads + Wait + Sync),
+    alloc: Global,
+    out: K,
+    settings: &Settings,
+    network: &Network,
+    fleet: Fleet,
+    script: S,
+    notifiers: &mut Vec<Box<dyn Notifier>>,
+    gate: &G,
+    listener: L,
+) -> LiveEnd<S, K>
+    requires named { All (λ vehicle. IsNode network.now.nodes vehicle.node) fleet }
+    ensures { EndsLive (record { settings = settings.now; roads = network.now; vehicles = fleet }) (record {
+      script = S.left script;
+      reads = record { before = S.faults script; after = S.faults result.script };
+      out = sink_seen K.written K.faults out result.out;
+      notifiers = record {
+        before = map (λ n. notifier_seen (⟦<dyn Notifier as Notifier>⟧ n.vtable) n.value) notifiers.old.items;
+        after = map (λ n. notifier_seen (⟦<dyn Notifier as Notifier>⟧ n.vtable) n.value) notifiers.new.items;
+      };
+    }) result.status }
+{
+    match settings.times {
+        TimesWay::Rows => {
+            let ways = NetworkWays { network };
+            let setup = LiveSetup {
+                network,
+                ways: &ways,
+                drafter: &RelaxationDrafter,
+                settings,
+                gate,
+            };
+            live_by(rt, alloc, out, fleet, script, &setup, notifiers, listener)
+        }
+        TimesWay::Labels => {
+            let Ok(labels) = Labels::build(alloc, network) else {
+                drop(fleet);
+                drop(listener);
+                return LiveEnd {
+                    script,
+                    out,
+                    status: RunStatus::OutOfMemory,
+                };
+            };
+            let ways = LabelWays::of(network, labels);
+            let setup = LiveSetup {
+                network,
+                ways: &ways,
+                drafter: &RelaxationDrafter,
+                settings,
+                gate,
+            };
+            live_by(rt, alloc, out, fleet, script, &setup, notifiers, listener)
+        }
+    }
+}
+
+/// The same, with what its batches share together.
+fn live_by<
+    S: Source + Send + Drop,
+    K: Sink + Send + Drop,
+    W: Ways,
+    D: Drafter,
+    G: Gate,
+    L: RefusalListener + Send + Drop,
+>(
+    rt: &(impl Threads + Wait + Sync),
+    alloc: Global,
+    out: K,
+    fleet: Fleet,
+    script: S,
+    setup: &LiveSetup<'_, W, D, G>,
+    notifiers: &mut Vec<Box<dyn Notifier>>,
+    listener: L,
+) -> LiveEnd<S, K>
+    requires named { All (λ vehicle. IsNode setup.now.network.now.nodes vehicle.node) fleet }
+    ensures { EndsLive (record { settings = setup.now.settings.now; roads = setup.now.network.now; vehicles = fleet }) (record {
+      script = S.left script;
+      reads = record { before = S.faults script; after = S.faults result.script };
+      out = sink_seen K.written K.faults out result.out;
+      notifiers = record {
+        before = map (λ n. notifier_seen (⟦<dyn Notifier as Notifier>⟧ n.vtable) n.value) notifiers.old.items;
+        after = map (λ n. notifier_seen (⟦<dyn Notifier as Notifier>⟧ n.vtable) n.value) notifiers.new.items;
+      };
+    }) result.status }
+{
+    let mut out = out;
+    let mut lines = LineStream::over(script);
+    match start_live(alloc, &mut out, fleet, &mut lines, setup) {
+        Ok((book, version)) => {
+            let rows = LiveRows::behind(alloc, lines, version, listener);
+            let Dispatched { sink, rows, ended } = dispatch(
+                rt, alloc, book, out, rows, setup, notifiers,
+            );
+            LiveEnd {
+                script: rows.into_source(),
+                out: sink,
+                status: end_status(ended),
+            }
+        }
+        Err(status) => {
+            drop(listener);
+            LiveEnd {
+                script: lines.into_source(),
+                out,
+                status,
+            }
+        }
+    }
+}
+
+/// Reads the header, and writes the head.
+fn start_live<S: Source, K: Sink, W: Ways, D: Drafter, G: Gate>(
+    alloc: Global,
+    out: &mut K,
+    fleet: Fleet,
+    lines: &mut LineStream<S>,
+    setup: &LiveSetup<'_, W, D, G>,
+) -> Result<(Book, ScriptVersion), RunStatus>
+    requires named { All (λ vehicle. IsNode setup.now.network.now.nodes vehicle.node) fleet }
+    ensures started { let i : LiveInputs = record { settings = setup.now.settings.now; roads = setup.now.network.now; vehicles = fleet } in
+        IfOk result (λ r. (r.0 ≡ opened_book i) × HasStarted lines.old.to_come lines.new.to_come r.1
+        × Appends (K.written out.old) (K.written out.new) (live_head i)) }
+    ensures stopped { let i : LiveInputs = record { settings = setup.now.settings.now; roads = setup.now.network.now; vehicles = fleet } in
+        (told : List NotifierView) → IfErr result (EndsLive i (record {
+          script = lines.old.to_come;
+          reads = record { before = lines.old.faults; after = lines.new.faults };
+          out = sink_seen K.written K.faults out.old out.new;
+          notifiers = record { before = told; after = told };
+        })) }
+    ensures never_falls { (K.faults out.old ≤ K.faults out.new) × (lines.old.faults ≤ lines.new.faults) }
+{
+    let vehicles = fleet.vehicles().len();
+    let version = match read_start(alloc, lines) {
+        Ok(version) => version,
+        Err(fault) => {
+            drop(fleet);
+            return Err(start_status(fault));
+        }
+    };
+    let Ok(book) = Book::new(alloc, setup.network, fleet, setup.settings.wait) else {
+        return Err(RunStatus::OutOfMemory);
+    };
+    match write_head(alloc, out, setup.settings, setup.network, vehicles) {
+        Ok(()) => Ok((book, version)),
+        Err(fault) => {
+            drop(book);
+            Err(head_status(fault))
+        }
+    }
+}
+
+fn start_status(fault: StartFault) -> RunStatus
+    ensures { result ≡ status_of_start fault }
+{
+    match fault {
+        StartFault::Header { fields } => RunStatus::Script(Input::Rows(RowFault::Header {
+            fields,
+        })),
+        StartFault::ReadFault => RunStatus::ReadFault(Which::Script),
+        StartFault::OutOfMemory => RunStatus::OutOfMemory,
+    }
+}
+
+fn head_status(fault: ReportFault) -> RunStatus
+    ensures { result ≡ status_of fault }
+{
+    match fault {
+        ReportFault::WriteFault => RunStatus::WriteFault,
+        ReportFault::OutOfMemory => RunStatus::OutOfMemory,
+    }
+}
+
+fn end_status(ended: Result<(), LiveFault>) -> RunStatus
+    ensures { result ≡ status_of_end ended }
+{
+    match ended {
+        Ok(()) => RunStatus::Done,
+        Err(LiveFault::ReadFault) => RunStatus::ReadFault(Which::Script),
+        Err(LiveFault::WriteFault) => RunStatus::WriteFault,
+        Err(LiveFault::OutOfMemory) => RunStatus::OutOfMemory,
+    }
+}
