@@ -179,7 +179,7 @@ fn main() {
     }
     let graph = TripGraph::new(Global, vehicles, riders, penalty as u32, rows, held).expect("a good graph");
     let start = std::time::Instant::now();
-    let found = assignment_search::search(Global, &graph, budget, &plan_drafts::RelaxationDrafter).expect("memory");
+    let found = assignment_search::search_by(Global, &graph, budget, &plan_drafts::RelaxationDrafter).expect("memory");
     let took = start.elapsed().as_micros();
     let nodes = found.tree.nodes().len();
     println!("rows {count} bound {} cost {} nodes {nodes} microseconds {took}", found.bound, found.cost);

@@ -1,7 +1,7 @@
 //! Rows that a decision forbids.
 use linear_relaxation::Relaxation;
 use pool_base::OutOfMemory;
-use row_tables::RowTable;
+use row_tables::{Decision, RowTable};
 use std::alloc::Global;
 
 /// The rows that are forbidden at hand, in order.
@@ -31,7 +31,7 @@ impl Bans {
     }
 
     /// Forbids a row.
-    pub fn forbid(&mut self, relaxation: &mut Relaxation, row: usize) -> Result<(), OutOfMemory> {
+    fn forbid(&mut self, relaxation: &mut Relaxation, row: usize) -> Result<(), OutOfMemory> {
         if relaxation.forbid(row) {
             self.rows.push(row.min(u32::MAX as usize) as u32)?;
         }
@@ -57,6 +57,20 @@ impl Bans {
         Ok(())
     }
 
+    /// Forbids what a decision does.
+    pub fn decide(
+        &mut self,
+        table: &RowTable,
+        relaxation: &mut Relaxation,
+        decision: Decision,
+    ) -> Result<(), OutOfMemory> {
+        if decision.is_taken {
+            self.take(table, relaxation, decision.row)
+        } else {
+            self.forbid(relaxation, decision.row)
+        }
+    }
+
     fn forbid_all_with(
         &mut self,
         table: &RowTable,
@@ -70,6 +84,15 @@ impl Bans {
             }
         }
         Ok(())
+    }
+}
+
+/// A row taken or forbidden below this node.
+pub fn decision(parent: usize, row: usize, is_taken: bool) -> Decision {
+    Decision {
+        parent,
+        row,
+        is_taken,
     }
 }
 

@@ -1,21 +1,14 @@
 //! On which row a node is branched: strong branching (Applegate, Bixby, Chvatal and Cook, 1995).
 //!
-//! Of the rows that the relaxation chooses most nearly by half each is tried: the relaxation is solved with
-//! the row taken and with the row forbidden, over the rows at hand, and the greatest product of the two
-//! rises wins.
-use crate::bans::{Bans, has_choice};
-use linear_relaxation::{Relaxation, Saved};
+//! Of the rows that the relaxation chooses most nearly by half some are tried: the dual simplex takes some columns in
+//! with the row taken and with the row forbidden, over the rows at hand, and the greatest product of the two rises
+//! wins.
+use crate::bans::{Bans, decision, has_choice};
+use linear_relaxation::{Ended, Relaxation, Saved};
 use pool_base::OutOfMemory;
-use row_tables::fixed_point::item;
-use row_tables::{RowTable, Share};
+use row_tables::fixed_point::{ONE, item};
+use row_tables::{Decision, RowTable, Share};
 use std::alloc::Global;
-
-/// One, and less and more of a row than counts as chosen in part, in units of 2^-32.
-const ONE: i64 = 1 << 32;
-
-const LEAST_PART: i64 = ONE / 100;
-
-const MOST_PART: i64 = ONE / 100 * 99;
 
 /// What each rider of a row counts toward being tried.
 const A_RIDER: i64 = ONE / 100 * 3;
@@ -25,6 +18,8 @@ const A_RIDER: i64 = ONE / 100 * 3;
 pub struct Effort {
     /// How many rows are tried at most.
     pub candidates: usize,
+    /// After so many trials in a row without a better score no more are made.
+    pub idle: usize,
     /// How many columns come in for one trial at most.
     pub pivots: u64,
     /// Once so many columns came in the first row is taken without a trial.
@@ -58,46 +53,31 @@ impl Branching {
         effort: Effort,
         limit: i64,
     ) -> Result<Option<usize>, OutOfMemory> {
+        let rest = relaxation
+            .in_prices(limit)
+            .saturating_sub(relaxation.cost(table));
+        let most = rest.saturating_add(rest / 5);
         self.rank(table, shares)?;
-        let tries = relaxation.pivots() < effort.most_pivots;
-        self.ranks
-            .truncate(if tries { effort.candidates } else { 1 });
+        self.ranks.truncate(effort.candidates);
         if self.ranks.is_empty() {
             return Ok(any_open_row(table, relaxation));
         }
-        if self.ranks.len() == 1 {
-            return Ok(Some(self.row(0)));
-        }
-        relaxation.save(&mut self.saved)?;
-        let before = relaxation.cost(table);
-        let most = relaxation.in_prices(limit).saturating_sub(before);
         let mut best = 0;
-        let mut most_score = -1;
-        for place in 0..self.ranks.len() {
-            let row = self.row(place);
-            let first = self.rise(table, relaxation, bans, row, true, effort, before)?;
-            let second = self.rise(table, relaxation, bans, row, false, effort, before)?;
-            let score = score_of(first, most).wrapping_mul(score_of(second, most));
-            if score > most_score {
-                most_score = score;
-                best = place;
-            }
+        if self.ranks.len() > 1 && relaxation.pivots() < effort.most_pivots {
+            relaxation.save(&mut self.saved)?;
+            best = self.try_rows(table, relaxation, bans, effort, most)?;
         }
         Ok(Some(self.row(best)))
     }
 
-    /// Ranks the rows that are chosen in part, those nearest to one half first.
+    /// Ranks these rows, those that are chosen most nearly by half first.
     fn rank(&mut self, table: &RowTable, shares: &[Share]) -> Result<(), OutOfMemory> {
         self.ranks.clear();
         for share in shares {
-            if LEAST_PART < share.part && share.part < MOST_PART {
-                let distance = share.part.wrapping_sub(ONE / 2).saturating_abs();
-                let riders = table.riders_of(share.row as usize).len().min(6) as i64;
-                let above = ONE
-                    .wrapping_add(distance)
-                    .wrapping_sub(A_RIDER.wrapping_mul(riders));
-                self.ranks.push((above, share.row))?;
-            }
+            let distance = share.part.wrapping_sub(ONE / 2).saturating_abs();
+            let riders = table.riders_of(share.row as usize).len().min(6) as i64;
+            let rank = distance.wrapping_sub(A_RIDER.wrapping_mul(riders));
+            self.ranks.push((rank, share.row))?;
         }
         self.ranks.sort()?;
         Ok(())
@@ -107,34 +87,85 @@ impl Branching {
         item(&self.ranks, place, (0, 0)).1 as usize
     }
 
-    /// How much the cost rises with the row taken or forbidden.
-    fn rise(
+    /// Tries one row after the other, until some in a row are no better. The place of the best one.
+    fn try_rows(
+        &mut self,
+        table: &RowTable,
+        relaxation: &mut Relaxation,
+        bans: &mut Bans,
+        effort: Effort,
+        most: i64,
+    ) -> Result<usize, OutOfMemory> {
+        let mut best: usize = 0;
+        let mut most_score = -1;
+        for place in 0..self.ranks.len() {
+            if place.saturating_sub(best) >= effort.idle {
+                break;
+            }
+            let row = self.row(place);
+            let score = self.score(table, relaxation, bans, row, effort.pivots, most)?;
+            if score > most_score {
+                most_score = score;
+                best = place;
+            }
+        }
+        Ok(best)
+    }
+
+    /// The product of the rises with the row taken and with the row forbidden.
+    fn score(
         &mut self,
         table: &RowTable,
         relaxation: &mut Relaxation,
         bans: &mut Bans,
         row: usize,
-        is_taken: bool,
-        effort: Effort,
-        before: i64,
+        pivots: u64,
+        most: i64,
+    ) -> Result<i128, OutOfMemory> {
+        let taken = self.rise(
+            table,
+            relaxation,
+            bans,
+            decision(0, row, true),
+            pivots,
+            most,
+        )?;
+        let left = self.rise(
+            table,
+            relaxation,
+            bans,
+            decision(0, row, false),
+            pivots,
+            most,
+        )?;
+        Ok(score_of(taken, most).wrapping_mul(score_of(left, most)))
+    }
+
+    /// How much the cost rises at least with this decision, up to the most.
+    fn rise(
+        &mut self,
+        table: &RowTable,
+        relaxation: &mut Relaxation,
+        bans: &mut Bans,
+        decision: Decision,
+        pivots: u64,
+        most: i64,
     ) -> Result<i64, OutOfMemory> {
         let count = bans.len();
-        if is_taken {
-            bans.take(table, relaxation, row)?;
-        } else {
-            bans.forbid(relaxation, row)?;
-        }
-        relaxation.pivot_on(table, effort.pivots)?;
-        let rise = relaxation.cost(table).saturating_sub(before);
+        bans.decide(table, relaxation, decision)?;
+        let (ended, rise) = relaxation.pivot_dual(table, pivots, most)?;
         bans.go_back(relaxation, count);
         relaxation.go_back(&self.saved)?;
-        Ok(rise)
+        if ended == Ended::Failed {
+            Ok(most)
+        } else {
+            Ok(rise)
+        }
     }
 }
 
 /// A rise as far as it counts: at least half a second, and little more than what closes the node.
 fn score_of(rise: i64, most: i64) -> i128 {
-    let most = most.saturating_add(most / 5);
     i128::from(rise.min(most).max(ONE / 2))
 }
 

@@ -14,6 +14,7 @@ mod whole;
 
 pub use branching::Effort;
 pub use diving::dive;
-pub use part::solve_part;
+pub use part::{relax, solve_part};
 pub use ranks::by_falling_part;
 pub use tree::{DraftTree, Growth, seconds_of};
+pub use whole::plan_cost;

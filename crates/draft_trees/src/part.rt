@@ -11,6 +11,7 @@ use std::alloc::Global;
 /// How much a branch is tried for.
 const EFFORT: Effort = Effort {
     candidates: 6,
+    idle: 8,
     pivots: 100,
     most_pivots: u64::MAX,
 };
@@ -34,7 +35,8 @@ pub fn solve_part(
         return Vec::from_slice(alloc, start).map_err(OutOfMemory::from);
     };
     let mut relaxation = Relaxation::new(alloc, part, start)?;
-    relax(part, multipliers, &mut relaxation)?;
+    relaxation.fill_pool_whole(part)?;
+    relax(part, &mut relaxation, multipliers, MOST_ROWS)?;
     let mut tree = DraftTree::new(alloc, part, &mut relaxation, start, cost)?;
     if seconds_of(relaxation.value()) < cost {
         grow(alloc, part, &mut relaxation, &mut tree, most_nodes)?;
@@ -42,17 +44,18 @@ pub fn solve_part(
     Ok(tree.draft.plan)
 }
 
-/// Solves the relaxation over all rows, at first with little to pay for a rider who is left out.
-fn relax(
-    part: &RowTable,
-    multipliers: &[i64],
+/// Solves the relaxation, at first over its pool with little to pay for a rider who is left out, from these
+/// multipliers in 1/1024 second on. A pass puts up to so many rows of a vehicle into the pool.
+pub fn relax(
+    table: &RowTable,
     relaxation: &mut Relaxation,
+    multipliers: &[i64],
+    most_rows: usize,
 ) -> Result<(), OutOfMemory> {
-    relaxation.fill_pool_whole(part)?;
-    relaxation.set_boxed_costs(part, multipliers, BOX);
-    relaxation.pivot_on(part, u64::MAX)?;
-    relaxation.set_true_costs(part);
-    relaxation.solve(part, i64::MAX, MOST_ROWS, u32::MAX)
+    relaxation.set_boxed_costs(table, multipliers, BOX);
+    relaxation.pivot_on(table, u64::MAX)?;
+    relaxation.set_true_costs(table);
+    relaxation.solve(table, i64::MAX, most_rows, u32::MAX)
 }
 
 /// Offers the tree a plan of a dive, and grows it.

@@ -1,10 +1,11 @@
 //! A tree of decisions, best bound first, without proofs: what comes out is a plan, and for each node a row
 //! to branch on and multipliers, which are judged where they are used.
-use crate::bans::Bans;
+use crate::bans::{Bans, decision};
 use crate::branching::{Branching, Effort};
 use crate::whole::{plan_cost, whole_plan};
 use linear_relaxation::Relaxation;
 use pool_base::OutOfMemory;
+use row_tables::lists::short;
 use row_tables::{Decision, Draft, DraftNode, RowTable, Share};
 use std::alloc::Global;
 use std::collections::BinaryHeap;
@@ -81,11 +82,10 @@ impl DraftTree {
 
     /// Puts in a node, which is open.
     fn put(&mut self, node: DraftNode, standing: Standing) -> Result<(), OutOfMemory> {
-        let number = self.standings.len().min(u32::MAX as usize) as u32;
-        self.open.push((standing.value.wrapping_neg(), number))?;
+        let number = self.standings.len();
         self.draft.nodes.push(node)?;
         self.standings.push(standing)?;
-        Ok(())
+        self.open(number)
     }
 
     /// Grows the tree until the bound meets the cost, or there is no room, or it isn't worth it.
@@ -96,28 +96,42 @@ impl DraftTree {
         relaxation: &mut Relaxation,
         growth: Growth,
     ) -> Result<(), OutOfMemory> {
+        relaxation.hold(true);
         let first = self.draft.bound;
-        let mut is_probed = false;
+        let mut is_probed = self.standings.len() >= growth.probe;
         for _ in 0..growth.budget {
             let Some(number) = self.next_open() else {
                 self.draft.bound = self.draft.cost;
                 break;
             };
+            let is_probe = !is_probed && self.standings.len() >= growth.probe;
+            is_probed = is_probed || is_probe;
             if self.draft.bound >= self.draft.cost
                 || self.standings.len().saturating_add(2) > growth.budget
+                || (is_probe && !self.is_growing(first))
             {
+                self.open(number)?;
                 break;
-            }
-            if !is_probed && self.standings.len() >= growth.probe {
-                is_probed = true;
-                let closed = self.draft.bound.saturating_sub(first);
-                if closed.saturating_mul(3) < self.draft.cost.saturating_sub(first) {
-                    break;
-                }
             }
             self.part(alloc, table, relaxation, number, growth.effort)?;
         }
         self.bans.go_back(relaxation, 0);
+        relaxation.hold(false);
+        Ok(())
+    }
+
+    /// Whether a third of the gap is closed that there was at this bound.
+    fn is_growing(&self, first: i64) -> bool {
+        let closed = self.draft.bound.saturating_sub(first);
+        closed.saturating_mul(3) >= self.draft.cost.saturating_sub(first)
+    }
+
+    /// Puts a node among the open ones.
+    fn open(&mut self, number: usize) -> Result<(), OutOfMemory> {
+        if number < self.standings.len() {
+            let value = self.standings[number].value;
+            self.open.push((value.wrapping_neg(), short(number)))?;
+        }
         Ok(())
     }
 
@@ -152,18 +166,8 @@ impl DraftTree {
         )?;
         if let Some(row) = chosen {
             self.note_branch(number, row);
-            let taken = Decision {
-                parent: number,
-                row,
-                is_taken: true,
-            };
-            self.add(alloc, table, relaxation, taken)?;
-            let left = Decision {
-                parent: number,
-                row,
-                is_taken: false,
-            };
-            self.add(alloc, table, relaxation, left)?;
+            self.add(alloc, table, relaxation, decision(number, row, true))?;
+            self.add(alloc, table, relaxation, decision(number, row, false))?;
         }
         Ok(())
     }
@@ -199,6 +203,17 @@ impl DraftTree {
         Ok(())
     }
 
+    /// Goes to the basis of a node, and forbids what a decision below it does.
+    fn stand_below(
+        &mut self,
+        table: &RowTable,
+        relaxation: &mut Relaxation,
+        decision: Decision,
+    ) -> Result<(), OutOfMemory> {
+        self.stand_at(table, relaxation, decision.parent)?;
+        self.bans.decide(table, relaxation, decision)
+    }
+
     fn forbid_above(
         &mut self,
         table: &RowTable,
@@ -211,11 +226,7 @@ impl DraftTree {
             match self.draft.decision(number) {
                 None => return Ok(()),
                 Some(decision) => {
-                    if decision.is_taken {
-                        self.bans.take(table, relaxation, decision.row)?;
-                    } else {
-                        self.bans.forbid(relaxation, decision.row)?;
-                    }
+                    self.bans.decide(table, relaxation, decision)?;
                     number = decision.parent;
                 }
             }
@@ -231,19 +242,19 @@ impl DraftTree {
         relaxation: &mut Relaxation,
         decision: Decision,
     ) -> Result<(), OutOfMemory> {
-        self.stand_at(table, relaxation, decision.parent)?;
-        if decision.is_taken {
-            self.bans.take(table, relaxation, decision.row)?;
-        } else {
-            self.bans.forbid(relaxation, decision.row)?;
-        }
+        self.stand_below(table, relaxation, decision)?;
         let most = self
             .draft
             .cost
             .saturating_sub(1)
             .saturating_mul(1024)
             .saturating_add(1);
-        relaxation.solve(table, most, MOST_ROWS, u32::MAX)?;
+        if !relaxation.solve_dual(table, most, MOST_ROWS)? {
+            relaxation.hold(false);
+            self.stand_below(table, relaxation, decision)?;
+            relaxation.solve(table, most, MOST_ROWS, u32::MAX)?;
+            relaxation.hold(true);
+        }
         let standing = standing_of(alloc, table, relaxation)?;
         let is_plan = standing.shares.is_empty() && standing.value < most;
         let multipliers = relaxation.multipliers(alloc, table.rider_count())?;
@@ -305,11 +316,6 @@ impl DraftTree {
             }
         }
         Ok(())
-    }
-
-    /// How many nodes the tree has.
-    pub fn node_count(&self) -> usize {
-        self.standings.len()
     }
 }
 

@@ -6,4 +6,4 @@
 
 mod relaxation;
 
-pub use relaxation::{Relaxation, Saved, first_multipliers};
+pub use relaxation::{Ended, Relaxation, Saved, first_multipliers};

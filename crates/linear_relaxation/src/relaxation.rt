@@ -8,6 +8,7 @@ ghost use Rattle.std.specs.Prelude.{◌≡◌, IfOk, length};
 
 mod basis;
 mod climb;
+mod dual;
 mod elimination;
 mod factors;
 mod pivots;
@@ -18,7 +19,9 @@ mod sparse;
 use crate::relaxation::basis::Basis;
 use crate::relaxation::elimination::reset;
 use crate::relaxation::pool::{Candidate, Pool};
+use crate::relaxation::sparse::Sparse;
 pub use climb::first_multipliers;
+pub use dual::Ended;
 use pool_base::OutOfMemory;
 use row_tables::fixed_point::{ONE, at, copy, item, set_at, times};
 use row_tables::lists::short;
@@ -34,10 +37,14 @@ const MOST_COST: i64 = 10_000_000;
 /// How many passes over all rows a solution takes at most.
 const MOST_PASSES: u32 = 1000;
 
-/// A basis and its factors, to come back to.
+/// How many columns for each condition the dual simplex takes in at most for a solution.
+const MOST_DUAL_PIVOTS: u64 = 20;
+
+/// A basis with its factors and prices, to come back to.
 #[derive(Drop)]
 pub struct Saved {
     basis: Basis,
+    prices: Vec<i64>,
 }
 
 impl Saved {
@@ -45,6 +52,7 @@ impl Saved {
     pub fn new(alloc: Global) -> Self {
         Saved {
             basis: Basis::new(alloc),
+            prices: Vec::new(alloc),
         }
     }
 }
@@ -58,6 +66,8 @@ pub struct Relaxation {
     basis: Basis,
     pool: Pool,
     is_forbidden: Vec<bool>,
+    /// Whether forbidden rows are held at 0, at their own cost, in place of costing so much that they leave.
+    is_held: bool,
     /// What each row costs, in the units of prices.
     row_costs: Vec<i64>,
     /// What it costs to leave out each rider, in the units of prices.
@@ -70,6 +80,9 @@ pub struct Relaxation {
     /// What each place costs, and how much of it is chosen.
     costs: Vec<i64>,
     parts: Vec<i64>,
+    /// A row of the basis's inverse over the conditions, and its products with the columns of the pool's places.
+    row: Sparse,
+    products: Sparse,
     candidates: Vec<Candidate>,
     /// In how many turns the candidates are still good.
     turns: u32,
@@ -96,6 +109,7 @@ impl Relaxation {
             basis: Basis::new(alloc),
             pool: Pool::new(alloc),
             is_forbidden: Vec::new(alloc),
+            is_held: false,
             row_costs: Vec::new(alloc),
             left_costs: Vec::new(alloc),
             prices: Vec::new(alloc),
@@ -103,6 +117,8 @@ impl Relaxation {
             old_prices: Vec::new(alloc),
             costs: Vec::new(alloc),
             parts: Vec::new(alloc),
+            row: Sparse::new(alloc),
+            products: Sparse::new(alloc),
             candidates: Vec::new(alloc),
             turns: 0,
             pivots: 0,
@@ -143,6 +159,7 @@ impl Relaxation {
         reset(&mut self.prices, count, 0)?;
         reset(&mut self.old_prices, count, 0)?;
         reset(&mut self.costs, count, 0)?;
+        self.row.make_space(count)?;
         reset(&mut self.parts, count, 0)
     }
 
@@ -187,6 +204,22 @@ impl Relaxation {
             }
         }
         Ok(())
+    }
+
+    /// The same from a solution where fewer rows were forbidden, by the dual simplex. False where that fails.
+    pub fn solve_dual(
+        &mut self,
+        table: &RowTable,
+        most_value: i64,
+        most_rows: usize,
+    ) -> Result<bool, OutOfMemory> {
+        let most = MOST_DUAL_PIVOTS.saturating_mul(self.basis.len() as u64);
+        let (ended, _) = self.pivot_dual(table, most, i64::MAX)?;
+        if ended != Ended::Solved {
+            return Ok(false);
+        }
+        self.solve(table, most_value, most_rows, u32::MAX)?;
+        Ok(true)
     }
 
     /// Puts the rows of least reduced cost of each vehicle under these multipliers into the pool.
@@ -270,7 +303,12 @@ impl Relaxation {
         item(&self.is_forbidden, row, false)
     }
 
-    /// Forbids a row: it stays in the basis, at a cost at which it leaves. Whether it wasn't forbidden.
+    /// Has forbidden rows held at 0, or else cost so much that they leave.
+    pub fn hold(&mut self, is_held: bool) {
+        self.is_held = is_held;
+    }
+
+    /// Forbids a row, which may stay in the basis. Whether it wasn't forbidden.
     pub fn forbid(&mut self, row: usize) -> bool {
         let is_new = !item(&self.is_forbidden, row, true);
         set_at(&mut self.is_forbidden, row, true);
@@ -302,11 +340,14 @@ impl Relaxation {
 
     /// Writes the basis there.
     pub fn save(&self, saved: &mut Saved) -> Result<(), OutOfMemory> {
+        saved.prices.clear();
+        saved.prices.extend_from_slice(&self.prices)?;
         saved.basis.copy_from(&self.basis)
     }
 
     /// Goes back to the basis that was written there.
     pub fn go_back(&mut self, saved: &Saved) -> Result<(), OutOfMemory> {
+        copy(&saved.prices, &mut self.prices);
         self.basis.copy_from(&saved.basis)
     }
 

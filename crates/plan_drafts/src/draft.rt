@@ -1,13 +1,16 @@
 //! A draft: the relaxation of all rows, plans made from it, and a tree where they leave a gap.
 use crate::plans::Plans;
-use draft_trees::{DraftTree, Effort, Growth, by_falling_part, dive, seconds_of};
+use draft_trees::{DraftTree, Effort, Growth, by_falling_part, dive, relax, seconds_of};
 use linear_relaxation::{Relaxation, first_multipliers};
 use pool_base::OutOfMemory;
 use row_tables::{Draft, Drafter, Draws, RowTable, Share};
 use std::alloc::Global;
 
-/// Beyond so many rows the first multipliers take more turns.
+/// Beyond so many rows the first multipliers take more turns, unless a vehicle or rider has this many on average:
+/// then a turn is dear, and few are enough.
 const MANY_ROWS: usize = 20_000;
+
+const MANY_A_CONDITION: usize = 140;
 
 const TURNS: u32 = 60;
 
@@ -16,19 +19,38 @@ const MORE_TURNS: u32 = 200;
 /// How many rows of a vehicle a pass puts into the pool.
 const MOST_ROWS: usize = 20;
 
-/// How far above its multiplier it costs to leave out a rider at first, in seconds.
-const BOX: i64 = 5;
+/// How nodes are tried in most graphs.
+const EFFORT: Effort = Effort {
+    candidates: 12,
+    idle: 8,
+    pivots: 30,
+    most_pivots: u64::MAX,
+};
+
+/// In graphs of few vehicles and riders, up to this many, a trial is cheap.
+const FEW_CONDITIONS: usize = 350;
+
+const STRONG_EFFORT: Effort = Effort {
+    candidates: 60,
+    idle: 60,
+    pivots: 600,
+    most_pivots: u64::MAX,
+};
 
 /// Beyond so many vehicles and riders a trial is dear.
 const MANY_CONDITIONS: usize = 800;
 
-/// How many columns come in before the first tree tries no more.
-const QUICK_PIVOTS: u64 = 60_000;
+const LIGHT_EFFORT: Effort = Effort {
+    candidates: 3,
+    idle: 3,
+    pivots: 30,
+    most_pivots: u64::MAX,
+};
 
-/// How many columns come in before the second tree tries no more, times vehicles and riders.
-const MOST_WORK: u64 = 120_000_000;
+/// How many columns come in before a tree tries no more rows, times vehicles and riders.
+const MOST_WORK: u64 = 60_000_000;
 
-/// With so many nodes the first tree ends unless a third of the gap is closed.
+/// With so many nodes a tree waits for better plans unless a third of the gap is closed.
 const PROBE: usize = 40;
 
 /// After so many neighbourhoods in a row without a gain a plan is left, and how far each is searched.
@@ -40,7 +62,10 @@ const STEPS: u32 = 500;
 
 const MORE_STEPS: u32 = 2000;
 
-/// After so many rounds in a row that saved nothing no more are made, where annealing doesn't help.
+/// How many rounds are made where annealing helps: what one comes to is luck, so none is left out.
+const WARM_ROUNDS: u32 = 6;
+
+/// Elsewhere none are made after so many in a row that saved nothing.
 const MOST_IDLE_ROUNDS: u32 = 3;
 
 /// How many moves an annealing has.
@@ -98,14 +123,14 @@ fn make_draft(
 ) -> Result<Draft, OutOfMemory> {
     let mut drafting = Drafting::new(alloc, table, held)?;
     drafting.make_plans(table)?;
-    let mut tree = drafting.quick_tree(table, budget)?;
+    drafting.go_back(table)?;
+    let mut tree = drafting.plant(table)?;
+    drafting.grow(table, budget, &mut tree)?;
     if drafting.is_open() {
         drafting.make_more_plans(table)?;
-        if drafting.is_open() && drafting.is_worth_trials(table) {
-            let other = drafting.strong_tree(table, budget)?;
-            if other.draft.bound >= tree.draft.bound {
-                tree = other;
-            }
+        if drafting.is_open() && !drafting.is_near(2000) {
+            drafting.go_back(table)?;
+            drafting.grow(table, budget, &mut tree)?;
         }
     }
     let mut draft = tree.draft;
@@ -139,17 +164,16 @@ impl Drafting {
 
     /// Solves the relaxation, at first with little to pay for a rider who is left out.
     fn relax(&mut self, table: &RowTable) -> Result<(), OutOfMemory> {
-        let turns = if table.row_count() > MANY_ROWS {
+        let rows = table.row_count();
+        let is_dear = rows > condition_count(table).saturating_mul(MANY_A_CONDITION);
+        let turns = if rows > MANY_ROWS && !is_dear {
             MORE_TURNS
         } else {
             TURNS
         };
         let first = first_multipliers(self.alloc, table, turns)?;
         self.relaxation.fill_pool(table, &first, MOST_ROWS)?;
-        self.relaxation.set_boxed_costs(table, &first, BOX);
-        self.relaxation.pivot_on(table, u64::MAX)?;
-        self.relaxation.set_true_costs(table);
-        self.relaxation.solve(table, i64::MAX, MOST_ROWS, u32::MAX)?;
+        relax(table, &mut self.relaxation, &first, MOST_ROWS)?;
         self.note_solution(table)
     }
 
@@ -179,12 +203,6 @@ impl Drafting {
     /// Whether the gap is so wide that a rider more might be served.
     fn is_wide(&self, table: &RowTable) -> bool {
         self.cost.saturating_sub(self.bound) >= table.penalty() / 4
-    }
-
-    /// Whether a tree whose branches are tried for longer is worth its time: not where the gap is very small,
-    /// nor small in a large graph, where it closes a hundredth of it in most of the time.
-    fn is_worth_trials(&self, table: &RowTable) -> bool {
-        !self.is_near(2000) && (self.is_wide(table) || !is_large(table))
     }
 
     /// Keeps the plan at hand where it is the best so far.
@@ -236,54 +254,34 @@ impl Drafting {
         }
     }
 
-    fn quick_tree(&mut self, table: &RowTable, budget: usize) -> Result<DraftTree, OutOfMemory> {
-        let is_large = is_large(table);
-        let effort = Effort {
-            candidates: if is_large { 6 } else { 12 },
-            pivots: if is_large { 60 } else { 300 },
-            most_pivots: self.relaxation.pivots().saturating_add(QUICK_PIVOTS),
-        };
-        self.tree(
-            table,
-            Growth {
-                budget,
-                effort,
-                probe: PROBE,
-            },
-        )
-    }
-
-    fn strong_tree(&mut self, table: &RowTable, budget: usize) -> Result<DraftTree, OutOfMemory> {
-        let is_large = is_large(table);
-        let conditions = table.vehicle_count().saturating_add(table.rider_count());
-        let most = MOST_WORK.checked_div(conditions as u64).unwrap_or(0);
-        let effort = Effort {
-            candidates: if is_large { 3 } else { 60 },
-            pivots: if is_large { 60 } else { 600 },
-            most_pivots: self.relaxation.pivots().saturating_add(most),
-        };
-        self.tree(
-            table,
-            Growth {
-                budget,
-                effort,
-                probe: usize::MAX,
-            },
-        )
-    }
-
-    /// A tree from the first solution.
-    fn tree(&mut self, table: &RowTable, growth: Growth) -> Result<DraftTree, OutOfMemory> {
-        self.go_back(table)?;
-        let mut tree = DraftTree::new(
+    /// A tree of one node, where the first solution stands.
+    fn plant(&mut self, table: &RowTable) -> Result<DraftTree, OutOfMemory> {
+        DraftTree::new(
             self.alloc,
             table,
             &mut self.relaxation,
             &self.plan,
             self.cost,
-        )?;
-        self.grow(table, growth, &mut tree)?;
-        Ok(tree)
+        )
+    }
+
+    /// How a tree grows.
+    fn growth(&self, table: &RowTable, budget: usize) -> Growth {
+        let conditions = condition_count(table);
+        let most = MOST_WORK.checked_div(conditions as u64).unwrap_or(0);
+        let mut effort = if conditions <= FEW_CONDITIONS {
+            STRONG_EFFORT
+        } else if is_large(table) {
+            LIGHT_EFFORT
+        } else {
+            EFFORT
+        };
+        effort.most_pivots = self.relaxation.pivots().saturating_add(most);
+        Growth {
+            budget,
+            effort,
+            probe: PROBE,
+        }
     }
 
     /// Goes back to the first solution, without the rows whose reduced cost exceeds the gap.
@@ -296,14 +294,17 @@ impl Drafting {
         Ok(())
     }
 
-    /// Grows a tree, and takes its bound and plan where they are better.
+    /// Grows a tree with the best plan so far, and takes its bound and plan where they are better.
     fn grow(
         &mut self,
         table: &RowTable,
-        growth: Growth,
+        budget: usize,
         tree: &mut DraftTree,
     ) -> Result<(), OutOfMemory> {
         if self.is_open() {
+            let plan = Vec::from_slice(self.alloc, &self.plan)?;
+            tree.offer(self.alloc, table, plan)?;
+            let growth = self.growth(table, budget);
             tree.grow(self.alloc, table, &mut self.relaxation, growth)?;
         }
         self.bound = self.bound.max(tree.draft.bound);
@@ -320,7 +321,9 @@ impl Drafting {
         let is_wide = self.is_wide(table);
         let rounds = if self.is_near(2000) {
             2
-        } else if is_wide || is_large(table) {
+        } else if is_wide {
+            WARM_ROUNDS
+        } else if is_large(table) {
             4
         } else {
             8
@@ -329,7 +332,7 @@ impl Drafting {
         optima.push(Vec::from_slice(self.alloc, &self.plan)?)?;
         let mut idle: u32 = 0;
         for round in 0..rounds {
-            if !self.is_open() || idle >= MOST_IDLE_ROUNDS {
+            if !self.is_open() || (!is_wide && idle >= MOST_IDLE_ROUNDS) {
                 return Ok(());
             }
             let before = self.cost;
@@ -374,7 +377,7 @@ impl Drafting {
         optima: &mut Vec<Vec<Option<u32>>>,
     ) -> Result<(), OutOfMemory> {
         self.plans.adopt(table, &self.plan)?;
-        self.plans.anneal(table, round, MOVES)?;
+        self.plans.anneal(table, u64::from(round), MOVES)?;
         self.plans.better(table, self.bound, MORE_IDLE, MORE_STEPS)?;
         self.keep()?;
         self.note(optima)
@@ -404,6 +407,10 @@ impl Drafting {
     }
 }
 
+fn condition_count(table: &RowTable) -> usize {
+    table.vehicle_count().saturating_add(table.rider_count())
+}
+
 fn is_large(table: &RowTable) -> bool {
-    table.vehicle_count().saturating_add(table.rider_count()) > MANY_CONDITIONS
+    condition_count(table) > MANY_CONDITIONS
 }

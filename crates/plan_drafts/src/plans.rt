@@ -7,6 +7,7 @@
 mod merge;
 
 use crate::plans::merge::{Wanted, solve};
+use draft_trees::plan_cost;
 use plan_moves::{Annealing, Neighbourhood, Present, Regrets, round};
 use pool_base::OutOfMemory;
 use row_tables::fixed_point::{item, set_at};
@@ -27,6 +28,9 @@ const PROGRAM_VEHICLES: usize = 20;
 const PROGRAM_REGRET: i64 = 100 * 1024;
 
 const PROGRAM_NODES: u32 = 20;
+
+/// What a plan that isn't lawful counts as, in seconds.
+const UNLAWFUL: i64 = i64::MAX / 4096;
 
 /// A plan under way, with what is needed to change it.
 #[derive(Drop)]
@@ -67,7 +71,7 @@ impl Plans {
     fn begin(&mut self, table: &RowTable) -> Result<(), OutOfMemory> {
         self.multipliers = vec![in self.alloc; 0; table.rider_count()]?;
         self.chosen = vec![in self.alloc; None; table.vehicle_count()]?;
-        self.cost = cost_of(self.alloc, table, &self.chosen)?;
+        self.count(table)?;
         self.list(table)
     }
 
@@ -102,7 +106,7 @@ impl Plans {
     /// Takes this plan as the present one.
     pub fn adopt(&mut self, table: &RowTable, chosen: &[Option<u32>]) -> Result<(), OutOfMemory> {
         self.chosen = Vec::from_slice(self.alloc, chosen)?;
-        self.cost = cost_of(self.alloc, table, chosen)?;
+        self.count(table)?;
         if self.present.adopt(&self.regrets, chosen) {
             Ok(())
         } else {
@@ -134,27 +138,16 @@ impl Plans {
         self.keep(table)
     }
 
-    /// Makes so many moves of an annealing from the present plan, and takes the best plan that it finds.
-    pub fn anneal(&mut self, table: &RowTable, round: u32, moves: u64) -> Result<(), OutOfMemory> {
+    /// Makes so many moves of an annealing from the present plan, others in each round, and takes the best plan that
+    /// it finds, or its last one where none is better than the present one.
+    pub fn anneal(&mut self, table: &RowTable, round: u64, moves: u64) -> Result<(), OutOfMemory> {
         let mut annealing = match self.annealing.take() {
             Some(annealing) => annealing,
             None => Annealing::new(self.alloc, table)?,
         };
-        let outcome = self.run(&mut annealing, table, round, moves);
+        annealing.run(table, &self.regrets, &self.chosen, round, moves)?;
+        self.adopt(table, annealing.found())?;
         self.annealing = Some(annealing);
-        outcome
-    }
-
-    fn run(
-        &mut self,
-        annealing: &mut Annealing,
-        table: &RowTable,
-        round: u32,
-        moves: u64,
-    ) -> Result<(), OutOfMemory> {
-        if annealing.run(table, &self.regrets, &self.chosen, round, moves)? {
-            self.adopt(table, annealing.best())?;
-        }
         Ok(())
     }
 
@@ -269,27 +262,12 @@ impl Plans {
     /// Writes the rows of the present plan, and what it costs.
     fn keep(&mut self, table: &RowTable) -> Result<(), OutOfMemory> {
         self.present.write(&self.regrets, &mut self.chosen);
-        self.cost = cost_of(self.alloc, table, &self.chosen)?;
+        self.count(table)
+    }
+
+    fn count(&mut self, table: &RowTable) -> Result<(), OutOfMemory> {
+        let cost = plan_cost(self.alloc, table, &self.chosen)?;
+        self.cost = cost.unwrap_or(UNLAWFUL);
         Ok(())
     }
-}
-
-/// What the rows cost, in seconds, with the riders whom they leave out.
-fn cost_of(alloc: Global, table: &RowTable, chosen: &[Option<u32>]) -> Result<i64, OutOfMemory> {
-    let mut is_left = vec![in alloc; true; table.rider_count()]?;
-    let mut cost: i64 = 0;
-    for row in chosen {
-        if let Some(row) = *row {
-            cost = cost.saturating_add(table.cost(row as usize));
-            for rider in table.riders_of(row as usize) {
-                set_at(&mut is_left, *rider as usize, false);
-            }
-        }
-    }
-    for rider in 0..table.rider_count() {
-        if item(&is_left, rider, false) {
-            cost = cost.saturating_add(table.cost_left(rider));
-        }
-    }
-    Ok(cost)
 }

@@ -5,7 +5,7 @@
 //! cheapest, and the vehicles that lost riders fill up. A move that isn't taken is undone by its log.
 
 use crate::beside::Beside;
-use crate::cooling::{Chances, Cooling};
+use crate::cooling::{Chances, temperature};
 use crate::groups::{Groups, NONE};
 use crate::regrets::Regrets;
 use pool_base::OutOfMemory;
@@ -18,13 +18,13 @@ use std::alloc::Global;
 const MOVES_EACH: u64 = 1024;
 
 /// How many moves there are at most for each row of the table.
-const MOVES_A_ROW: u64 = 600;
+const MOVES_A_ROW: u64 = 150;
 
 /// How many riders a row has at most.
 const MOST_RIDERS: usize = 6;
 
-/// Of how many rows of each vehicle moves take one, round after round.
-const WIDTHS: [usize; 3] = [40, 200, 80];
+/// Of how many rows of each vehicle moves take one.
+const WIDTH: usize = 40;
 
 /// A vehicle and the row that it had before a step.
 #[derive(Clone, Copy)]
@@ -51,7 +51,7 @@ pub struct Annealing {
     /// What the plan costs above the one at the start, and the least that there was.
     above: i64,
     least: i64,
-    best: Vec<Option<u32>>,
+    found: Vec<Option<u32>>,
 }
 
 impl Annealing {
@@ -62,7 +62,7 @@ impl Annealing {
         let mut annealing = Annealing {
             beside,
             chances,
-            draws: Draws::new(999),
+            draws: Draws::new(0),
             proposals: Groups::new(alloc),
             rows: Vec::new(alloc),
             servers: Vec::new(alloc),
@@ -72,7 +72,7 @@ impl Annealing {
             short: Vec::new(alloc),
             above: 0,
             least: 0,
-            best: Vec::new(alloc),
+            found: Vec::new(alloc),
         };
         annealing.make_space(alloc, table)?;
         Ok(annealing)
@@ -81,47 +81,49 @@ impl Annealing {
     fn make_space(&mut self, alloc: Global, table: &RowTable) -> Result<(), OutOfMemory> {
         self.rows = vec![in alloc; NONE; table.vehicle_count()]?;
         self.servers = vec![in alloc; NONE; table.rider_count()]?;
-        self.best = vec![in alloc; None; table.vehicle_count()]?;
+        self.found = vec![in alloc; None; table.vehicle_count()]?;
         Ok(())
     }
 
-    /// Makes so many moves from this plan, fewer where there are few rows. Whether it found a better one.
+    /// Makes so many moves from this plan, fewer where there are few rows. Each round draws others.
     pub fn run(
         &mut self,
         table: &RowTable,
         regrets: &Regrets,
         chosen: &[Option<u32>],
-        round: u32,
+        round: u64,
         moves: u64,
-    ) -> Result<bool, OutOfMemory> {
-        self.propose(regrets, round)?;
+    ) -> Result<(), OutOfMemory> {
+        self.draws = Draws::new(round);
+        self.propose(regrets)?;
         self.start(table, chosen);
-        let cooling = Cooling::of_round(round);
         let most = (table.row_count() as u64).saturating_mul(MOVES_A_ROW);
         let stages = moves.min(most) / MOVES_EACH;
         for stage in 0..stages {
-            let temperature = cooling.temperature(stage, stages);
+            let temperature = temperature(round, stage, stages);
             for _ in 0..MOVES_EACH {
                 self.attempt(table, temperature)?;
             }
         }
-        Ok(self.least < 0)
+        if self.least >= 0 {
+            self.note();
+        }
+        Ok(())
     }
 
-    /// The best plan that there was.
-    pub fn best(&self) -> &[Option<u32>] {
-        &self.best
+    /// The best plan that there was, or the last one where none was better than the first.
+    pub fn found(&self) -> &[Option<u32>] {
+        &self.found
     }
 
     /// Lists for each rider the rows of least regret of each vehicle.
-    fn propose(&mut self, regrets: &Regrets, round: u32) -> Result<(), OutOfMemory> {
-        let width = item(&WIDTHS, (round % 3) as usize, 0);
+    fn propose(&mut self, regrets: &Regrets) -> Result<(), OutOfMemory> {
         self.proposals.clear();
         for rider in 0..regrets.rider_count() {
             for place in regrets.with(rider) {
                 let place = *place as usize;
                 let (first, _) = regrets.places_of(regrets.vehicle(place));
-                if place.saturating_sub(first) < width {
+                if place.saturating_sub(first) < WIDTH {
                     self.proposals.push(regrets.row(place))?;
                 }
             }
@@ -136,7 +138,6 @@ impl Annealing {
         self.rows.as_mut_slice().fill(NONE);
         self.servers.as_mut_slice().fill(NONE);
         for (vehicle, row) in chosen.iter().enumerate() {
-            set_at(&mut self.best, vehicle, *row);
             if let Some(row) = *row {
                 set_at(&mut self.rows, vehicle, row);
                 self.serve(table, row, short(vehicle));
@@ -325,10 +326,15 @@ impl Annealing {
         self.above = self.above.saturating_add(self.change);
         if self.above < self.least {
             self.least = self.above;
-            for (vehicle, row) in self.rows.iter().enumerate() {
-                let row = if *row == NONE { None } else { Some(*row) };
-                set_at(&mut self.best, vehicle, row);
-            }
+            self.note();
+        }
+    }
+
+    /// Notes the plan at hand.
+    fn note(&mut self) {
+        for (vehicle, row) in self.rows.iter().enumerate() {
+            let row = if *row == NONE { None } else { Some(*row) };
+            set_at(&mut self.found, vehicle, row);
         }
     }
 

@@ -11,40 +11,19 @@ const CHANCES: usize = 4096;
 /// The bits after the point of a logarithm under way.
 const FRACTION: u32 = 40;
 
-/// From the warmest to the coldest: seconds at the start, and how often they halve, in 1/65536.
-#[derive(Clone, Copy)]
-pub struct Cooling {
-    start: i64,
-    halvings: u64,
-}
+/// The temperature at the start, in seconds, of even and of odd rounds, and at the end. Neighbourhoods do the rest.
+const MILD: i64 = 300;
 
-/// From 300 seconds to 20.
-const MILD: Cooling = Cooling {
-    start: 300,
-    halvings: 256_044,
-};
+const WARM: i64 = 600;
 
-/// From 1,000 seconds to 30.
-const HOT: Cooling = Cooling {
-    start: 1000,
-    halvings: 331_540,
-};
+const COOL: i64 = 150;
 
-impl Cooling {
-    /// Mild and hot rounds take turns.
-    pub fn of_round(round: u32) -> Self {
-        if round % 2 == 0 { MILD } else { HOT }
-    }
-
-    /// The temperature after so many of all stages, in 1/1024 second: it halves in even steps.
-    pub fn temperature(self, stage: u64, stages: u64) -> i64 {
-        let share = self.halvings.saturating_mul(stage);
-        let halved = share.checked_div(stages).unwrap_or(0);
-        let whole = (halved >> 16).min(40) as u32;
-        let rest = (halved & 65_535) as i64;
-        let warm = self.start.saturating_mul(1024) >> whole;
-        warm.saturating_sub(warm.saturating_mul(rest) >> 17)
-    }
+/// The temperature of a round after so many of all stages, in 1/1024 second.
+pub fn temperature(round: u64, stage: u64, stages: u64) -> i64 {
+    let first = if round % 2 == 0 { MILD } else { WARM };
+    let part = (stage << 16).checked_div(stages).unwrap_or(0).min(1 << 16) as i64;
+    let cooled = first.saturating_sub(COOL).saturating_mul(part) >> 6;
+    first.saturating_mul(1024).saturating_sub(cooled)
 }
 
 /// For each chance its negative logarithm, in 1/1024.

@@ -16,7 +16,10 @@ use std::alloc::Global;
 const MOST_EXCHANGES: usize = 64;
 
 /// A number of the entering column may be divided by from here on.
-const LEAST_PIVOT: i64 = ONE / 1000;
+pub const LEAST_PIVOT: i64 = ONE / 1000;
+
+/// A level is wrong that lies this far from where it may be.
+const LEAST_WRONG: i64 = ONE / 100_000;
 
 /// What the riders' capacities are drawn from.
 const SEED: u64 = 77;
@@ -226,9 +229,7 @@ impl Basis {
             self.numbers.set(number, at(&self.capacities, condition));
         }
         self.factors.solve(&mut self.numbers, &mut self.entering);
-        for (level, found) in self.levels.iter_mut().zip(self.entering.numbers()) {
-            *level = (*found).max(0);
-        }
+        copy(self.entering.numbers(), &mut self.levels);
     }
 
     /// Computes how much of each column is taken where each condition has one.
@@ -251,19 +252,19 @@ impl Basis {
         self.numbers.clear();
     }
 
-    /// Changes the prices so that the column that came in at this place, which cost this less the old ones,
-    /// costs as much as the new ones.
-    pub fn change_prices(&mut self, place: usize, cost: i64, prices: &mut [i64]) {
+    /// Writes the inverse's row of a place over the conditions.
+    pub fn find_row(&mut self, place: usize, row: &mut Sparse) {
+        row.clear();
         self.costs.set(place, ONE);
         self.factors.price(&mut self.costs, &mut self.numbers);
         let mut from = 0;
-        for _ in 0..prices.len() {
+        for _ in 0..row.len() {
             let Some(number) = self.numbers.next(from) else {
                 return;
             };
-            let change = self.numbers.take(number);
+            let value = self.numbers.take(number);
             if let Some(pivot) = self.factors.pivot(number) {
-                add_at(prices, pivot.condition as usize, times(change, cost));
+                row.set(pivot.condition as usize, value);
             }
             from = number;
         }
@@ -298,8 +299,9 @@ impl Basis {
                 break;
             };
             let value = self.entering.at(place);
-            if value > LEAST_PIVOT && !is_quotient_above(at(&self.levels, place), value, least) {
-                let ratio = quotient(at(&self.levels, place), value);
+            let level = at(&self.levels, place).max(0);
+            if value > LEAST_PIVOT && !is_quotient_above(level, value, least) {
+                let ratio = quotient(level, value);
                 if best.is_none() || ratio < least || (ratio == least && value > divisor) {
                     best = Some((place, ratio));
                     least = ratio;
@@ -309,6 +311,45 @@ impl Basis {
             from = place.wrapping_add(1);
         }
         best
+    }
+
+    /// The place of a forbidden column at which the column that was found is greatest.
+    pub fn forbidden_place(&self, is_forbidden: &[bool]) -> Option<usize> {
+        let mut best = None;
+        let mut most = LEAST_PIVOT;
+        let mut from = 0;
+        for _ in 0..self.entering.len() {
+            let Some(place) = self.entering.next(from) else {
+                break;
+            };
+            let size = self.entering.at(place).saturating_abs();
+            if size > most && item(is_forbidden, self.column(place), false) {
+                most = size;
+                best = Some(place);
+            }
+            from = place.wrapping_add(1);
+        }
+        best
+    }
+
+    /// The place whose level is farthest from where it may be: below 0, or not 0 where its column is forbidden.
+    pub fn wrong_place(&self, is_forbidden: &[bool]) -> Option<usize> {
+        let mut best = None;
+        let mut most = LEAST_WRONG;
+        for place in 0..self.levels.len() {
+            let level = self.level(place);
+            let is_wrong = level < 0 || item(is_forbidden, self.column(place), false);
+            if level.saturating_abs() > most && is_wrong {
+                most = level.saturating_abs();
+                best = Some(place);
+            }
+        }
+        best
+    }
+
+    /// The number of the column that was found at a place.
+    pub fn entering_at(&self, place: usize) -> i64 {
+        self.entering.at(place)
     }
 
     /// Puts the column that was found into this place. False where the factors should be made anew.
@@ -340,8 +381,7 @@ impl Basis {
                 return;
             };
             let taken = times(self.entering.at(place), level);
-            let rest = at(&self.levels, place).wrapping_sub(taken).max(0);
-            set_at(&mut self.levels, place, rest);
+            add_at(&mut self.levels, place, taken.wrapping_neg());
             from = place.wrapping_add(1);
         }
     }

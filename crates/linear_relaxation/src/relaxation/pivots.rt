@@ -3,7 +3,7 @@ use crate::relaxation::pool::{Candidate, offer};
 use crate::relaxation::{MOST_COST, Relaxation};
 use pool_base::OutOfMemory;
 use row_tables::RowTable;
-use row_tables::fixed_point::{at, copy, item, set_at};
+use row_tables::fixed_point::{add_at, at, copy, item, set_at, times};
 use row_tables::lists::short;
 
 /// How many candidates a look at the columns keeps, and for how many turns they are used.
@@ -98,7 +98,7 @@ impl Relaxation {
         let rows = table.row_count();
         if column >= rows {
             at(&self.left_costs, column - rows)
-        } else if item(&self.is_forbidden, column, false) {
+        } else if !self.is_held && item(&self.is_forbidden, column, false) {
             FORBIDDEN
         } else {
             at(&self.row_costs, column)
@@ -222,7 +222,7 @@ impl Relaxation {
         let column = candidate.column as usize;
         self.basis.find_column(table, column);
         self.pivots = self.pivots.saturating_add(1);
-        let is_good = match self.basis.leaving_place() {
+        let is_good = match self.leaving_place() {
             None => {
                 self.candidates.clear();
                 self.basis.factor(table)?;
@@ -230,8 +230,8 @@ impl Relaxation {
             }
             Some((place, level)) => {
                 if self.basis.exchange(place, column, level)? {
-                    self.basis
-                        .change_prices(place, candidate.cost, &mut self.prices);
+                    self.basis.find_row(place, &mut self.row);
+                    self.change_prices(candidate.cost);
                     return Ok(Entry::Repriced);
                 }
                 self.basis.factor(table)?
@@ -242,6 +242,30 @@ impl Relaxation {
             Ok(Entry::Factored)
         } else {
             Ok(Entry::Failed)
+        }
+    }
+
+    /// The place that a column that comes in takes, and how much of it comes in. Rows that are held at 0 leave
+    /// first.
+    fn leaving_place(&self) -> Option<(usize, i64)> {
+        if self.is_held {
+            if let Some(place) = self.basis.forbidden_place(&self.is_forbidden) {
+                return Some((place, 0));
+            }
+        }
+        self.basis.leaving_place()
+    }
+
+    /// Changes the prices by the row that was found times this.
+    pub fn change_prices(&mut self, factor: i64) {
+        let mut from = 0;
+        for _ in 0..self.prices.len() {
+            let Some(condition) = self.row.next(from) else {
+                return;
+            };
+            let change = times(self.row.at(condition), factor);
+            add_at(&mut self.prices, condition, change);
+            from = condition.wrapping_add(1);
         }
     }
 }

@@ -23,6 +23,9 @@ pub struct Pool {
     /// of which a pool has few rows.
     costs: Vec<i64>,
     conditions: Lists,
+    /// For each condition the places of the rows with it, where they are listed.
+    places: Lists,
+    is_listed: bool,
     is_in: Vec<bool>,
     /// Where the next look at the rows starts.
     cursor: usize,
@@ -35,6 +38,8 @@ impl Pool {
             rows: Vec::new(alloc),
             costs: Vec::new(alloc),
             conditions: Lists::new(alloc),
+            places: Lists::new(alloc),
+            is_listed: false,
             is_in: Vec::new(alloc),
             cursor: 0,
         }
@@ -63,6 +68,7 @@ impl Pool {
     }
 
     fn push(&mut self, table: &RowTable, row: usize, cost: i64) -> Result<(), OutOfMemory> {
+        self.is_listed = false;
         self.rows.push(short(row))?;
         self.costs.push(cost)?;
         self.conditions.push(table.vehicle(row))?;
@@ -99,6 +105,21 @@ impl Pool {
         rest
     }
 
+    /// Lists the places of each condition, below this many, where that isn't done.
+    pub fn list_places(&mut self, conditions: usize) -> Result<(), OutOfMemory> {
+        if !self.is_listed {
+            self.places.transpose(&self.conditions, conditions)?;
+            self.is_listed = true;
+        }
+        Ok(())
+    }
+
+    /// The places of the rows with a condition, as they were listed last.
+    #[inline]
+    pub fn places_with(&self, condition: usize) -> &[u32] {
+        self.places.list(condition)
+    }
+
     /// Keeps the rows of the basis and those whose reduced cost lies at most so much above their vehicle's
     /// least one.
     pub fn keep(
@@ -130,6 +151,7 @@ impl Pool {
         self.rows.truncate(count);
         self.costs.truncate(count);
         self.cursor = 0;
+        self.is_listed = false;
         self.list_conditions(table)
     }
 

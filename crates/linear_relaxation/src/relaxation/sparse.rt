@@ -31,6 +31,14 @@ impl Sparse {
         reset(&mut self.marks, count / WORD + 1, 0)
     }
 
+    /// Has at least so many places, where all numbers are 0.
+    pub fn make_space_for(&mut self, count: usize) -> Result<(), OutOfMemory> {
+        if self.numbers.len() < count {
+            self.make_space(count)?;
+        }
+        Ok(())
+    }
+
     pub fn len(&self) -> usize {
         self.numbers.len()
     }
@@ -77,6 +85,18 @@ impl Sparse {
             self.marks[word] &= !(1 << (place % WORD));
         }
         number
+    }
+
+    /// Adds a number at each of these places.
+    #[inline]
+    pub fn add_all(&mut self, places: &[u32], more: i64) {
+        for place in places {
+            let place = *place as usize;
+            if place < self.numbers.len() {
+                self.numbers[place] = self.numbers[place].wrapping_add(more);
+                self.mark(place);
+            }
+        }
     }
 
     /// Takes the products of these entries with a factor from the numbers at their places.

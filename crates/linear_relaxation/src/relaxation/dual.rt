@@ -1,0 +1,180 @@
+//! The dual simplex over the pool (Lemke, 1954): from a solution to one where more rows are forbidden.
+use crate::relaxation::Relaxation;
+use crate::relaxation::basis::LEAST_PIVOT;
+use pool_base::OutOfMemory;
+use row_tables::RowTable;
+use row_tables::fixed_point::{at, item, quotient, times};
+
+/// How pivots ended.
+#[derive(Clone, Copy, PartialEq, Eq)]
+pub enum Ended {
+    /// No level is wrong any more: the solution over the pool is the best.
+    Solved,
+    /// It costs as much more as was asked for, or so many columns came in.
+    Stopped,
+    /// There is no solution, or none that these numbers reach.
+    Failed,
+}
+
+/// A column that may come in: its reduced cost, and how much of the leaving level one of it takes.
+#[derive(Clone, Copy)]
+struct Entering {
+    column: usize,
+    cost: i64,
+    value: i64,
+}
+
+impl Entering {
+    /// Whether the prices use it up before another: for less, or for as much at a greater number to divide by.
+    fn is_before(self, other: Entering) -> bool {
+        let cost = i128::from(self.cost).wrapping_mul(i128::from(other.value));
+        let others = i128::from(other.cost).wrapping_mul(i128::from(self.value));
+        cost < others || (cost == others && self.value > other.value)
+    }
+}
+
+impl Relaxation {
+    /// Takes columns in until no level is wrong, or so many came in, or the cost rose by this. How much it
+    /// rose. Forbidden rows are to be held at 0, and prices to be those of the basis where it has factors.
+    pub fn pivot_dual(
+        &mut self,
+        table: &RowTable,
+        most: u64,
+        limit: i64,
+    ) -> Result<(Ended, i64), OutOfMemory> {
+        self.prepare_dual(table)?;
+        let mut rise: i64 = 0;
+        for _ in 0..most {
+            let Some(place) = self.basis.wrong_place(&self.is_forbidden) else {
+                return Ok((Ended::Solved, rise));
+            };
+            match self.exchange_at(table, place)? {
+                None => return Ok((Ended::Failed, rise)),
+                Some(more) => rise = rise.saturating_add(more),
+            }
+            if rise >= limit {
+                break;
+            }
+        }
+        Ok((Ended::Stopped, rise))
+    }
+
+    fn prepare_dual(&mut self, table: &RowTable) -> Result<(), OutOfMemory> {
+        if !self.basis.is_factored() {
+            self.basis.factor(table)?;
+            self.reprice(table);
+        }
+        self.pool.list_places(self.prices.len())?;
+        self.products.make_space_for(self.pool.len())
+    }
+
+    /// Has the level at a place leave for the column that prices use up first. How much the cost rises, `None`
+    /// where no column may come in.
+    fn exchange_at(&mut self, table: &RowTable, place: usize) -> Result<Option<i64>, OutOfMemory> {
+        self.basis.find_row(place, &mut self.row);
+        let level = self.basis.level(place);
+        let Some(entering) = self.entering_for(table, level > 0) else {
+            return Ok(None);
+        };
+        self.basis.find_column(table, entering.column);
+        let value = self.basis.entering_at(place);
+        if value.saturating_abs() < LEAST_PIVOT || (value > 0) != (level > 0) {
+            return self.factor_anew(table);
+        }
+        let step = quotient(entering.cost, value);
+        self.change_prices(step);
+        self.pivots = self.pivots.saturating_add(1);
+        let part = quotient(level, value);
+        if !self.basis.exchange(place, entering.column, part)? {
+            if !self.basis.factor(table)? {
+                return Ok(None);
+            }
+            self.reprice(table);
+        }
+        Ok(Some(times(step, level)))
+    }
+
+    /// Makes the factors anew, where that can help: the cost stays. `None` where it can't.
+    fn factor_anew(&mut self, table: &RowTable) -> Result<Option<i64>, OutOfMemory> {
+        if self.basis.is_exchanged() && self.basis.factor(table)? {
+            self.reprice(table);
+            Ok(Some(0))
+        } else {
+            Ok(None)
+        }
+    }
+
+    /// The column whose reduced cost is used up first as the prices change with the row that was found, where
+    /// the leaving level is too high or too low.
+    fn entering_for(&mut self, table: &RowTable, is_high: bool) -> Option<Entering> {
+        let best = self.rider_for(table, is_high);
+        self.find_products(is_high);
+        let mut best = best;
+        let mut from = 0;
+        for _ in 0..self.products.len() {
+            let Some(place) = self.products.next(from) else {
+                return best;
+            };
+            let value = self.products.take(place);
+            let row = self.pool.row(place);
+            if value > LEAST_PIVOT && !item(&self.is_forbidden, row, true) && !self.basis.has(row) {
+                let found = Entering {
+                    column: row,
+                    cost: self.pool.reduced_cost(place, &self.prices).max(0),
+                    value,
+                };
+                best = first_of(best, found);
+            }
+            from = place.wrapping_add(1);
+        }
+        best
+    }
+
+    /// The first among the riders who are left out.
+    fn rider_for(&self, table: &RowTable, is_high: bool) -> Option<Entering> {
+        let mut best = None;
+        for rider in 0..table.rider_count() {
+            let condition = table.vehicle_count().saturating_add(rider);
+            let value = signed(self.row.at(condition), is_high);
+            let column = table.row_count().saturating_add(rider);
+            if value > LEAST_PIVOT && !self.basis.has(column) {
+                let price = at(&self.prices, condition);
+                let cost = at(&self.left_costs, rider).saturating_sub(price).max(0);
+                let found = Entering {
+                    column,
+                    cost,
+                    value,
+                };
+                best = first_of(best, found);
+            }
+        }
+        best
+    }
+
+    /// Adds the row that was found up over the conditions of each place of the pool.
+    fn find_products(&mut self, is_high: bool) {
+        let mut from = 0;
+        for _ in 0..self.row.len() {
+            let Some(condition) = self.row.next(from) else {
+                return;
+            };
+            let value = signed(self.row.at(condition), is_high);
+            self.products
+                .add_all(self.pool.places_with(condition), value);
+            from = condition.wrapping_add(1);
+        }
+    }
+}
+
+/// The one of these that prices use up first.
+fn first_of(best: Option<Entering>, found: Entering) -> Option<Entering> {
+    match best {
+        Some(other) if !found.is_before(other) => best,
+        _ => Some(found),
+    }
+}
+
+/// A number, or its negative where the leaving level is too low.
+fn signed(value: i64, is_high: bool) -> i64 {
+    if is_high { value } else { value.wrapping_neg() }
+}
