@@ -13,12 +13,12 @@ use Rattle.request_book.specs.Consistent.{IsNode}
 use Rattle.request_book.specs.State.{find_rider}
 use Rattle.request_book.specs.Step.{step}
 use Rattle.request_book.specs.declared.command.Command.{Command}
-use Rattle.request_book.specs.declared.command.Command.TheVariants.{Pickup, Dropoff, Close}
+use Rattle.request_book.specs.declared.command.Command.TheVariants.{Report, Pickup, Dropoff, Close}
 use Rattle.request_book.specs.declared.journal.Entry.{Entry}
 use Rattle.request_book.specs.declared.outcome.Answer.{Answer}
 use Rattle.request_book.specs.declared.outcome.Answer.TheVariants as answer
 use Rattle.request_book.specs.declared.reply.Reply.{Reply}
-use Rattle.request_book.specs.declared.reply.Reply.TheVariants.{Picked, Dropped, Closed}
+use Rattle.request_book.specs.declared.reply.Reply.TheVariants.{Placed, Picked, Dropped, Closed}
 use Rattle.request_book.specs.declared.rider.BookRider.{BookRider}
 use Rattle.request_book.specs.declared.rider.Status.TheVariants.{Promised}
 use Rattle.request_book.specs.declared.state.State.{State}
@@ -78,10 +78,11 @@ pub record StateKeeps (s : State) (entries : List Entry) : Type 0 where
       → All (λ e. IsPickedBy rider promise.pickup e.command) entries
 
 module _ (settings : Settings) (roads : Roads) where
-  -- what an entry keeps in the state in which it comes: each pickup is answered `picked`, and comes within the wait;
-  -- each drop-off is answered `dropped`, and comes within the delay; each close is answered `closed`, and no vehicle is
-  -- late and no promise lapses in its batch
+  -- what an entry keeps in the state in which it comes: each report is answered `placed`; each pickup is answered
+  -- `picked`, and comes within the wait; each drop-off is answered `dropped`, and comes within the delay; each close is
+  -- answered `closed`, and no vehicle is late and no promise lapses in its batch
   abbrev pub EntryKeeps : State → Command → Reply → Type 0
+  EntryKeeps s (Report vehicle node second) reply = reply ≡ Placed
   EntryKeeps s (Pickup vehicle rider second) reply = (reply ≡ Picked) × IsPickedInWait settings.wait s.riders rider second
   EntryKeeps s (Dropoff vehicle rider second) reply = (reply ≡ Dropped) × IsDroppedInDelay roads settings.delay s.riders rider second
   EntryKeeps s (Close batch outcome) reply = (reply ≡ Closed) × IsClosedInTime settings roads s outcome.answer

@@ -95,4 +95,4 @@ module _ (settings : Settings) (roads : Roads) where
   pub report_one : (s : State) (v at second vehicle node time free : ℕ) (stops : List PlannedStop) → IsDayState roads s → IsDone settings roads s (Report v at second) Placed vehicle node time free stops
       → OneKeeps settings roads s (Report v at second) (step roads.nodes settings.wait s (Report v at second)).1
   report_one s v at second vehicle node time free stops day done =
-      from_done s done.t (Report v at second) Placed done.is tt day.consistent.seats (λ rider limit bound. tt) done.bounds
+      from_done s done.t (Report v at second) Placed done.is refl day.consistent.seats (λ rider limit bound. tt) done.bounds
