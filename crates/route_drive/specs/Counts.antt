@@ -20,18 +20,21 @@ use Rattle.route_drive.specs.Entering.{second_of}
 abbrev pub entries_of : List DayRound → List Entry
 entries_of made = flat_map (λ r. r.journal.entries) made
 
--- the entries that are answered `picked`, and those that are answered `dropped`
+-- a reply is `picked`
 abbrev pub is_picked : Reply → Bool
 is_picked Picked = true
 is_picked reply = false
 
+-- a reply is `dropped`
 abbrev pub is_dropped : Reply → Bool
 is_dropped Dropped = true
 is_dropped reply = false
 
+-- the entries that are answered `picked`
 abbrev pub picked_among : List Entry → List Entry
 picked_among entries = filter (λ e. is_picked e.reply) entries
 
+-- the entries that are answered `dropped`
 abbrev pub dropped_among : List Entry → List Entry
 dropped_among entries = filter (λ e. is_dropped e.reply) entries
 

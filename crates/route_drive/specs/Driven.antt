@@ -36,11 +36,12 @@ pub record IsPrecededBy (before : List Command) (round driven : NumberedLanes) :
   pub first : lane_at driven 0 ≡ before ++ lane_at round 0
   pub others : (lane : ℕ) → lane ≢ 0 → lane_at driven lane ≡ lane_at round lane
 
--- the plan with which a close ended its batch
+-- the plan of an answer, if it has one
 abbrev pub planned_in : Answer → Option Planned
 planned_in answer.Overflow = None
 planned_in (answer.Planned planned) = Some planned
 
+-- the plan with which a close ended its batch, if it did with one
 abbrev pub plan_of : Command → Reply → Option Planned
 plan_of (Close batch outcome) Closed = planned_in outcome.answer
 plan_of command reply = None

@@ -14,10 +14,11 @@ use Rattle.route_drive.specs.declared.course.Standing.{Standing}
 use Rattle.route_drive.specs.declared.walk.WalkStep.{WalkStep}
 use Rattle.route_drive.specs.Walk.{IsShortestWalk}
 
--- the stops whose second has come, and those whose hasn't
+-- the stops whose second has come
 abbrev pub due : ℕ → List PlannedStop → List PlannedStop
 due now stops = filter (λ stop. nat_le stop.second now) stops
 
+-- the stops whose second hasn't come
 abbrev pub to_come : ℕ → List PlannedStop → List PlannedStop
 to_come now stops = filter (λ stop. nat_lt now stop.second) stops
 
@@ -80,10 +81,11 @@ second_of (Pickup vehicle rider time) = time
 second_of (Dropoff vehicle rider time) = time
 second_of _ = 0
 
--- a command has a second of at most 1,000,000,000, or one above
+-- a command has a second of at most 1,000,000,000
 abbrev pub IsInTime : Command → Type 0
 IsInTime command = second_of command ≤ longest
 
+-- a command has a second above 1,000,000,000
 abbrev pub IsTooLate : Command → Type 0
 IsTooLate command = longest < second_of command
 
