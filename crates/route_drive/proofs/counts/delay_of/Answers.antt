@@ -7,13 +7,13 @@ use Rattle.route_drive.proofs.EntryLemmas.{all_found, found_delay, delay_none}
 use Rattle.route_drive.proofs.counts.delay_of.Goals as goal
 
 pub seconds_between-requires-clause-from : goal.seconds_between-requires-clause-from
-seconds_between-requires-clause-from c κs within =
+seconds_between-requires-clause-from c =
     let named = all_found (λ (r : BookRider). IsNode c.args.network.now.nodes r.origin × IsNode c.args.network.now.nodes r.destination) (λ (r : BookRider). r.id == c.visit_of-id.result.0)
     c.args.riders.now c.in-Some.rider.now c.requires.named c.in-Some.ensures.some in
     named.0
 
 pub seconds_between-requires-clause-to : goal.seconds_between-requires-clause-to
-seconds_between-requires-clause-to c κs within =
+seconds_between-requires-clause-to c =
     let named = all_found (λ (r : BookRider). IsNode c.args.network.now.nodes r.origin × IsNode c.args.network.now.nodes r.destination) (λ (r : BookRider). r.id == c.visit_of-id.result.0)
     c.args.riders.now c.in-Some.rider.now c.requires.named c.in-Some.ensures.some in
     named.1
