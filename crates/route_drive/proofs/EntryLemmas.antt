@@ -5,7 +5,7 @@ use Rattle.std.specs.Option.{option_map_or}
 use Rattle.std.proofs.lemmas.Bool.{cases_Bool, cond-true, cond-false, eqb-true}
 use Rattle.std.proofs.lemmas.List.{take_more, get_or_default}
 use Rattle.std.proofs.lemmas.List.Folds.{Any-from_list_any}
-use Rattle.std.proofs.lemmas.List.Elements.{filter-append, All-nil, All-cons, All-head, All-tail}
+use Rattle.std.proofs.lemmas.List.Elements.{filter-append, All-head, All-tail}
 use Rattle.request_book.specs.Consistent.{IsNode}
 use Rattle.request_book.specs.Keyed.{look_up}
 use Rattle.request_book.specs.State.{find_rider}
@@ -15,9 +15,6 @@ use Rattle.request_book.specs.declared.reply.Reply.TheVariants.{Accepted, Cancel
 use Rattle.request_book.specs.declared.rider.BookRider.{BookRider}
 use Rattle.road_network.specs.Roads.{Roads, index_in}
 use Rattle.road_network.specs.Walk.{IsTimeBetween}
-use Rattle.pool_base.specs.Times.{travel_time}
-use Rattle.pool_base.specs.declared.times.Times.{Times}
-use Rattle.travel_times.specs.Table.{AreTravelTimes}
 use Rattle.route_drive.specs.declared.counts.Counts.{Counts}
 use Rattle.route_drive.specs.declared.day_run.DayRound.{DayRound}
 use Rattle.stop_orders.specs.Settled.{greatest}
@@ -127,21 +124,11 @@ module _ (roads : Roads) (riders : List BookRider) where
       subst (λ (es : List Entry). HasCounts roads riders es after) (sym parts) (adds (entries_of (take k made)) has)
 
 -- a node that is found is among the nodes
-node_known : (nodes : List ℕ) (node : ℕ) → IsNode nodes node → Contains nodes node
+pub node_known : (nodes : List ℕ) (node : ℕ) → IsNode nodes node → Contains nodes node
 node_known nodes node found =
     let any = Any-from_list_any (λ n. eqb n node) nodes found in
     let same : any.1 ≡ node = eqb-true any.1 node any.4 in
     (any.0, any.2, get_or_default nodes any.0 node any.1 any.2 ∙ any.3 ∙ same)
-
-pub two_known : (nodes : List ℕ) (from to : ℕ) → IsNode nodes from → IsNode nodes to → All (λ (node : ℕ). Contains nodes node) (from ∷ to ∷ [])
-two_known nodes from to a b =
-    let known = λ (node : ℕ). Contains nodes node in
-    All-cons known from (to ∷ []) (node_known nodes from a) (All-cons known to [] (node_known nodes to b) (All-nil known))
-
--- the travel time between two nodes is that of a table of theirs
-pub two_times : (roads : Roads) (from to seconds : ℕ) (times : Times) → AreTravelTimes roads.arcs (map (index_in roads.nodes) (from ∷ to ∷ [])) times → seconds ≡ travel_time times 0 1
-    → IsTimeBetween roads.arcs (index_in roads.nodes from) (index_in roads.nodes to) seconds
-two_times roads from to seconds times are is = rw is (are.cells 0 1 (omega arith) (omega arith))
 
 -- what holds of all holds of what is found
 pub all_found : {X : Type 0} (P : X → Type 0) (p : X → Bool) (xs : List X) (x : X) → All P xs → find p xs ≡ Some x → P x

@@ -1,4 +1,5 @@
 pub mod RestLemmas
+pub mod NearLemmas
 pub mod TreeLemmas
 pub mod DayLemmas
 pub mod EnterLemmas

@@ -1,5 +1,5 @@
 -- Searches for shortest walks.
-use Rattle.std.specs.Prelude.{IfNone, IsSome}
+use Rattle.std.specs.Prelude.{IfNone, IfOk, IsSome, MatchOption, Result, Ok, Err}
 use Rattle.std.proofs.Common.{◌≡◌, ℕ, zero, suc, Option, None, Some, rules, nat_lt, ◌+◌, ◌*◌, ◌<◌, ◌≤◌, ◌⊎◌, Bool, true, false, cond, not, List, [], ◌∷◌, ◌++◌, length, get_or, slice_index, set, replicate, map, reverse, count_by, All, refl, sym, ap, ◌∙◌, inl, inr, subst, arith, length-append}
 use Rattle.std.specs.List.{position, position_or_len}
 use Rattle.std.proofs.lemmas.Bool.{cases_Bool, cases_eq, cases_lt, true≢false}
@@ -11,12 +11,14 @@ use Rattle.std.proofs.Math.Seq.{get_or-append_seam}
 use Rattle.pool_base.specs.TravelTime.{never}
 use Rattle.road_network.specs.declared.arc.Arc.{Arc}
 use Rattle.road_network.specs.declared.hop.Hop.{Hop}
-use Rattle.road_network.specs.Roads.{Roads, IsArcAmong, IsNetwork, hop_of, leaving}
-use Rattle.road_network.specs.Walk.{IsWalk, walk_seconds, HasNoWalk, IsTimeBetween}
+use Rattle.road_network.specs.Roads.{Roads, index_in, IsArcAmong, IsNetwork, hop_of, leaving}
+use Rattle.road_network.specs.Walk.{IsWalk, walk_seconds, HasNoWalk}
 use Rattle.travel_times.proofs.lemmas.WalkLemmas.{IsWalk-append, walk_seconds-append, short_walk}
 use Rattle.travel_times.proofs.lemmas.SearchLemmas.{arc_of_hop, hop_of_arc, hops_among}
 use Rattle.route_drive.specs.declared.tree.Found.{Found}
 use Rattle.route_drive.specs.declared.walk.WalkStep.{WalkStep}
+use Rattle.route_drive.specs.Walk.{IsShortestWalk}
+use Rattle.route_drive.specs.work.Near.{AreTimesUpTo}
 use Rattle.route_drive.specs.work.Tree.{no_found, found_at, is_seen, IsTight, IsTree, AreHopsOpened, IsOpened, Grows, IsGrowing, IsFullTree, IsWalkBack}
 
 -- one more is marked and found
@@ -84,11 +86,11 @@ default (x ∷ xs) zero d e h = refl
 default (x ∷ xs) (suc i) d e h = default xs i d e (omega arith)
 
 -- one more hop of a node is opened
-pub AreHopsOpened-more : (hops : List Hop) (i here : ℕ) (times : List ℕ) (seen seen' : List Bool) (e : Hop) → AreHopsOpened hops i here times seen
+pub AreHopsOpened-more : (hops : List Hop) (i here : ℕ) (times : List ℕ) (most : ℕ) (seen seen' : List Bool) (e : Hop) → AreHopsOpened hops i here times most seen
     → ((node : ℕ) → is_seen seen node ≡ true → is_seen seen' node ≡ true) → i < length hops
-    → (slice_index times (get_or hops i e).to < never → here + (get_or hops i e).seconds ≡ slice_index times (get_or hops i e).to → is_seen seen' (get_or hops i e).to ≡ true)
-    → AreHopsOpened hops (i + 1) here times seen'
-AreHopsOpened-more hops i here times seen seen' e before still within own k d lt h near tight = elim (cases_eq k i) [
+    → (slice_index times (get_or hops i e).to ≤ most → here + (get_or hops i e).seconds ≡ slice_index times (get_or hops i e).to → is_seen seen' (get_or hops i e).to ≡ true)
+    → AreHopsOpened hops (i + 1) here times most seen'
+AreHopsOpened-more hops i here times most seen seen' e before still within own k d lt h near tight = elim (cases_eq k i) [
   | inl is ↦
       let at : get_or hops k d ≡ get_or hops i e = ap (λ j. get_or hops j d) is ∙ default hops i d e within in
       rw at (own (rw at at near) (rw at at tight))
@@ -100,8 +102,8 @@ pub hop_among : (roads : Roads) (hops : List Hop) (node i : ℕ) (d : Hop) → I
 hop_among roads hops node i d kept are within = (rw (← are) at (hops_among roads.arcs (length roads.nodes) node kept.arcs) i d within).0
 
 -- all hops of a node are its arcs
-pub IsOpened-all : (arcs : List Arc) (times : List ℕ) (seen : List Bool) (node : ℕ) → AreHopsOpened (map hop_of (leaving node arcs)) (length (map hop_of (leaving node arcs))) (slice_index times node) times seen → IsOpened arcs times seen node
-IsOpened-all arcs times seen node all arc among from near tight =
+pub IsOpened-all : (arcs : List Arc) (times : List ℕ) (most : ℕ) (seen : List Bool) (node : ℕ) → AreHopsOpened (map hop_of (leaving node arcs)) (length (map hop_of (leaving node arcs))) (slice_index times node) times most seen → IsOpened arcs times most seen node
+IsOpened-all arcs times most seen node all arc among from near tight =
     let hop = hop_of_arc arcs node arc among from in
     let d : Hop = hop_of arc in
     let at : get_or (map hop_of (leaving node arcs)) hop.0 d ≡ hop_of arc = hop.2 d in
@@ -130,9 +132,9 @@ IsTight-hop arcs times hops node k d are within tight =
     (subst P (sym are) (IsTight-own arcs times node k d)) within tight
 
 -- one more of the found is opened
-pub IsGrowing-more : (arcs : List Arc) (times : List ℕ) (start next : ℕ) (seen seen' : List Bool) (found found' : List Found) → next < length found → IsGrowing arcs times start next seen found
-    → IsTree arcs times seen' found' → Grows seen seen' found found' → IsOpened arcs times seen' (found_at found next).node → IsGrowing arcs times start (next + 1) seen' found'
-IsGrowing-more arcs times start next seen seen' found found' inside growing tree grows opened = record {
+pub IsGrowing-more : (arcs : List Arc) (times : List ℕ) (start most next : ℕ) (seen seen' : List Bool) (found found' : List Found) → next < length found → IsGrowing arcs times start most next seen found
+    → IsTree arcs times seen' found' → Grows seen seen' found found' → IsOpened arcs times most seen' (found_at found next).node → IsGrowing arcs times start most (next + 1) seen' found'
+IsGrowing-more arcs times start most next seen seen' found found' inside growing tree grows opened = record {
   tree = tree;
   first = ap (λ (f : Found). f.node) (grows.kept 0 growing.tree.some) ∙ growing.first;
   opened = λ k lt h.
@@ -156,9 +158,9 @@ nowhere n node = elim (cases_lt node n) [
 ]
 
 -- the search begins
-pub IsGrowing-start : (arcs : List Arc) (times : List ℕ) (start n : ℕ) → length times ≡ n → start < n → slice_index times start < never
-    → IsGrowing arcs times start 0 (set (replicate n false) start true) ([] ++ (record { node = start; by = 0 }) ∷ [])
-IsGrowing-start arcs times start n size within near =
+pub IsGrowing-start : (arcs : List Arc) (times : List ℕ) (start most n : ℕ) → length times ≡ n → start < n → slice_index times start < never
+    → IsGrowing arcs times start most 0 (set (replicate n false) start true) ([] ++ (record { node = start; by = 0 }) ∷ [])
+IsGrowing-start arcs times start most n size within near =
     let marks : length (replicate n false) ≡ n = length-replicate n false in
     let at : is_seen (set (replicate n false) start true) start ≡ true = get_or-set_same (replicate n false) start true false (omega arith) in
     let none : count_by not (replicate n false) ≡ n * 1 = sum_by-replicate (λ (b : Bool). cond (not b) 1 0) n false in
@@ -184,64 +186,83 @@ IsGrowing-start arcs times start n size within near =
       opened = λ k lt h. absurd (omega arith);
     }
 
--- the times from a start
-module _ (arcs : List Arc) (n start : ℕ) (times : List ℕ) (among : All (IsArcAmong n) arcs) (few : n ≤ 100000) (inside : start < n) (timed : (goal : ℕ) → goal < n → IsTimeBetween arcs start goal (slice_index times goal)) where
-  -- a node of which a walk leads on is no nearer by it
-  no_nearer : (via goal : ℕ) (walk : List Arc) → via < n → goal < n → slice_index times via < never → IsWalk arcs via walk goal → slice_index times goal ≤ slice_index times via + walk_seconds walk
-  no_nearer via goal walk hv hg near walks = elim (timed via hv) [
-    | inl to ↦ elim (timed goal hg) [
-      | inl on ↦
-          let whole = IsWalk-append arcs to.walk walk start via goal to.walks walks in
-          let sum = walk_seconds-append to.walk walk in
-          let takes = to.takes in
-          let least = on.least (to.walk ++ walk) whole in
-          omega (arith, sum, takes, least)
-      | inr none ↦ absurd (none.0 (to.walk ++ walk) (IsWalk-append arcs to.walk walk start via goal to.walks walks))
-    ]
-    | inr none ↦ let far = none.1 in absurd (omega arith)
+-- the times from a start as far as a goal
+module _ (arcs : List Arc) (n start goal : ℕ) (times : List ℕ) (among : All (IsArcAmong n) arcs) (few : n ≤ 100000) (inside : start < n) (within : goal < n) (timed : AreTimesUpTo arcs n start goal times) where
+  -- a node that is no further than the goal is no nearer by way of another one
+  no_nearer : (via node : ℕ) (walk : List Arc) → via < n → node < n → slice_index times goal < never → IsWalk arcs via walk node → slice_index times via + walk_seconds walk ≤ slice_index times goal
+      → slice_index times node ≤ slice_index times via + walk_seconds walk
+  no_nearer via node walk hv hn near walks most = elim (timed.near via hv (omega arith)) [
+    | inl to ↦
+        let whole = IsWalk-append arcs to.walk walk start via node to.walks walks in
+        let sum = walk_seconds-append to.walk walk in
+        let takes = to.takes in
+        elim (cases_lt (slice_index times goal) (slice_index times node)) [
+          | inl beyond ↦ let longer = timed.far node hn beyond (to.walk ++ walk) whole in absurd (omega (arith, sum, takes, longer))
+          | inr there ↦ elim (timed.near node hn there) [
+            | inl on ↦ let least = on.least (to.walk ++ walk) whole in omega (arith, sum, takes, least)
+            | inr none ↦ absurd (none.0 (to.walk ++ walk) whole)
+          ]
+        ]
+    | inr none ↦ let far = none.1 in absurd (omega (arith, far))
   ]
 
   -- no node that is reached has the greatest number as its time
-  pub no_walk : (goal : ℕ) → goal < n → slice_index times goal ≡ never → HasNoWalk arcs start goal
-  no_walk goal hg far = elim (timed goal hg) [
+  pub no_walk : slice_index times goal ≡ never → HasNoWalk arcs start goal
+  no_walk far = elim (timed.near goal within (omega arith)) [
     | inl to ↦ let short = short_walk arcs to.walk n start goal among few inside to.walks in let least = to.least short.0 short.1 in let most = short.3 in absurd (omega (arith, least, most))
     | inr none ↦ none.0
   ]
 
   pub start_is_near : slice_index times start ≡ 0
-  start_is_near = elim (timed start inside) [
-    | inl to ↦ let least : slice_index times start ≤ 0 = to.least [] refl in omega arith
-    | inr none ↦ absurd (none.0 [] refl)
+  start_is_near = elim (cases_lt (slice_index times goal) (slice_index times start)) [
+    | inl beyond ↦ let longer : slice_index times goal < 0 = timed.far start inside beyond [] refl in absurd (omega arith)
+    | inr there ↦ elim (timed.near start inside there) [
+      | inl to ↦ let least : slice_index times start ≤ 0 = to.least [] refl in omega arith
+      | inr none ↦ absurd (none.0 [] refl)
+    ]
   ]
 
-  module _ (seen : List Bool) (found : List Found) (size : length times ≡ n) (full : IsFullTree arcs times start seen found) where
-    -- what a shortest walk comes to from a marked node is marked
-    follow : (walk : List Arc) (node goal : ℕ) → node < n → goal < n → slice_index times goal < never → IsWalk arcs node walk goal → slice_index times node + walk_seconds walk ≡ slice_index times goal
+  -- a walk on which the times rise to the goal's is a shortest one
+  pub is_least : (walk : List Arc) → slice_index times start + walk_seconds walk ≡ slice_index times goal
+      → (other : List Arc) → IsWalk arcs start other goal → walk_seconds walk ≤ walk_seconds other
+  is_least walk takes other walks = elim (timed.near goal within (omega arith)) [
+    | inl to ↦ let least = to.least other walks in let zero_at = start_is_near in omega (arith, least, takes, zero_at)
+    | inr none ↦ absurd (none.0 other walks)
+  ]
+
+  module _ (seen : List Bool) (found : List Found) (full : IsFullTree arcs times start (slice_index times goal) seen found) where
+    -- what a shortest walk to the goal comes to from a marked node is marked
+    follow : (walk : List Arc) (node : ℕ) → node < n → slice_index times goal < never → IsWalk arcs node walk goal → slice_index times node + walk_seconds walk ≡ slice_index times goal
         → is_seen seen node ≡ true → is_seen seen goal ≡ true
-    follow [] node goal hn hg near walks takes marked = subst (λ (g : ℕ). is_seen seen g ≡ true) walks marked
-    follow (arc ∷ rest) node goal hn hg near walks takes marked =
+    follow [] node hn near walks takes marked = subst (λ (g : ℕ). is_seen seen g ≡ true) walks marked
+    follow (arc ∷ rest) node hn near walks takes marked =
         let split : walk_seconds (arc ∷ rest) ≡ arc.seconds + walk_seconds rest = sum_by-cons (λ (a : Arc). a.seconds) arc rest in
         let ends : arc.to < n = (All-contains (IsArcAmong n) arcs arc among walks.0).1 in
-        let here : slice_index times node < never = omega arith in
         let one : walk_seconds (arc ∷ []) ≡ arc.seconds + 0 = sum_by-cons (λ (a : Arc). a.seconds) arc [] in
-        let hop : slice_index times arc.to ≤ slice_index times node + walk_seconds (arc ∷ []) = no_nearer node arc.to (arc ∷ []) hn ends here (walks.0, walks.1, refl) in
-        let next : slice_index times arc.to < never = omega (arith, one, split, hop) in
-        let onward : slice_index times goal ≤ slice_index times arc.to + walk_seconds rest = no_nearer arc.to goal rest ends hg next walks.2 in
+        let hop : slice_index times arc.to ≤ slice_index times node + walk_seconds (arc ∷ []) = no_nearer node arc.to (arc ∷ []) hn ends near (walks.0, walks.1, refl) (omega (arith, one, split, takes)) in
+        let onward : slice_index times goal ≤ slice_index times arc.to + walk_seconds rest = no_nearer arc.to goal rest ends within near walks.2 (omega (arith, one, split, hop, takes)) in
         let number = full.tree.marked node marked in
         let leaves : arc.from ≡ (found_at found number.0).node = walks.1 ∙ sym number.2 in
-        let rises : slice_index times (found_at found number.0).node + arc.seconds ≡ slice_index times arc.to = rw number.2 (omega (arith, one, split, hop, onward)) in
-        let seen_next = full.opened number.0 number.1 number.1 arc walks.0 leaves next rises in
-        follow rest arc.to goal ends hg near walks.2 (omega (arith, one, split, hop, onward)) seen_next
+        let rises : slice_index times (found_at found number.0).node + arc.seconds ≡ slice_index times arc.to = rw number.2 (omega (arith, one, split, hop, onward, takes)) in
+        let seen_next = full.opened number.0 number.1 number.1 arc walks.0 leaves (omega (arith, one, split, hop, takes)) rises in
+        follow rest arc.to ends near walks.2 (omega (arith, one, split, hop, onward, takes)) seen_next
 
-    -- all to which a walk leads is found
-    pub is_found : (goal : ℕ) → goal < n → slice_index times goal < never → (k : ℕ) × (k < length found) × ((found_at found k).node ≡ goal)
-    is_found goal hg near = elim (timed goal hg) [
+    -- the goal is found
+    pub is_found : slice_index times goal < never → is_seen seen goal ≡ true
+    is_found near = elim (timed.near goal within (omega arith)) [
       | inl to ↦
           let zero_at = start_is_near in
           let first : is_seen seen start ≡ true = rw (← full.first) full.tree.first_marked in
-          full.tree.marked goal (follow to.walk start goal inside hg near to.walks (let t = to.takes in omega (arith, zero_at, t)) first)
+          follow to.walk start inside near to.walks (let t = to.takes in omega (arith, zero_at, t)) first
       | inr none ↦ let far = none.1 in absurd (omega arith)
     ]
+
+  -- a time that isn't the greatest number is below it
+  pub near_unless_never : (slice_index times goal ≡ never → ⊥) → slice_index times goal < never
+  near_unless_never ne = elim (timed.near goal within (omega arith)) [
+    | inl to ↦ let short = short_walk arcs to.walk n start goal among few inside to.walks in let least = to.least short.0 short.1 in let most = short.3 in omega (arith, least, most)
+    | inr none ↦ absurd (ne none.1)
+  ]
 
 pub IsWalkBack-more : (roads : Roads) (times : List ℕ) (from via to : ℕ) (steps : List WalkStep) → IsTight roads.arcs times from via → IsWalkBack roads times via to steps
     → IsWalkBack roads times from to ((record { node = slice_index roads.nodes from; seconds = slice_index times from }) ∷ steps)
@@ -257,16 +278,24 @@ IsWalkBack-more roads times from via to steps tight back =
       told = ap (λ ss. (record { node = slice_index roads.nodes from; seconds = slice_index times from }) ∷ ss) (rw (tight.ends, tight.rises) back.told);
     }
 
+-- what is told of a walk between two indexes, told of the nodes' names
+pub walk_told : (roads : Roads) (from to start goal : ℕ) (times : List ℕ) → All (IsArcAmong (length roads.nodes)) roads.arcs → length roads.nodes ≤ 100000 → index_in roads.nodes from ≡ start → index_in roads.nodes to ≡ goal
+    → start < length roads.nodes → goal < length roads.nodes → AreTimesUpTo roads.arcs (length roads.nodes) start goal times
+    → {V E : Type 0} (items : V → List WalkStep) (answer : Result (Option V) E) → IfOk answer (λ walk. MatchOption walk (HasNoWalk roads.arcs start goal) (λ steps. IsWalkBack roads times start goal (items steps)))
+    → IfOk answer (λ walk. MatchOption walk (HasNoWalk roads.arcs (index_in roads.nodes from) (index_in roads.nodes to)) (λ steps. IsShortestWalk roads from to (items steps)))
+walk_told roads from to start goal times among few is_start is_goal inside within timed items (Err fault) told = tt
+walk_told roads from to start goal times among few is_start is_goal inside within timed items (Ok None) told = rw (is_start, is_goal) told
+walk_told roads from to start goal times among few is_start is_goal inside within timed items (Ok (Some steps)) back =
+    let zero_at = start_is_near roads.arcs (length roads.nodes) start goal times among few inside within timed in
+    record {
+      walk = back.walk;
+      walks = rw (is_start, is_goal) back.walks;
+      least = rw (is_start, is_goal) (is_least roads.arcs (length roads.nodes) start goal times among few inside within timed back.walk back.takes);
+      told = rw is_start (rw zero_at at back.told);
+    }
+
 pub reverse-push : (steps : List WalkStep) (step : WalkStep) → reverse (steps ++ step ∷ []) ≡ step ∷ reverse steps
 reverse-push steps step = reverse-append steps (step ∷ [])
-
--- a time that isn't the greatest number is below it
-pub near_unless_never : (arcs : List Arc) (n start : ℕ) (times : List ℕ) (among : All (IsArcAmong n) arcs) (few : n ≤ 100000) (inside : start < n)
-    → ((goal : ℕ) → goal < n → IsTimeBetween arcs start goal (slice_index times goal)) → (goal : ℕ) → goal < n → (slice_index times goal ≡ never → ⊥) → slice_index times goal < never
-near_unless_never arcs n start times among few inside timed goal hg ne = elim (timed goal hg) [
-  | inl to ↦ let short = short_walk arcs to.walk n start goal among few inside to.walks in let least = to.least short.0 short.1 in let most = short.3 in omega (arith, least, most)
-  | inr none ↦ absurd (ne none.1)
-]
 
 -- what can't be nothing is something
 pub some_unless : (o : Option ℕ) (P : Type 0) → IfNone o P → (P → ⊥) → IsSome o

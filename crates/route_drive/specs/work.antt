@@ -1,3 +1,4 @@
+pub mod Near
 pub mod Tree
 pub mod Rounds
 pub mod Drive

@@ -8,12 +8,11 @@ ghost use Rattle.route_drive.specs.Entering.{second_of};
 ghost use Rattle.route_drive.specs.work.Counting.{AddsCounts, AddsEntry};
 
 use crate::day_run::DayRound;
+use crate::search::Search;
 use pool_base::{NodeId, OutOfMemory, RiderId, Second, Times};
 use request_book::{Book, BookRider, Command, Entry, Reply};
 use road_network::Network;
 use std::alloc::Global;
-use std::thread::Threads;
-use travel_times::Ways;
 
 /// How many were picked up and dropped, the worst wait and the worst delay, in seconds.
 #[derive(Clone, Copy)]
@@ -25,36 +24,31 @@ pub struct Counts {
 }
 
 /// The counts of the rounds that led to a book over this network.
-pub(crate) fn counts_of<W: Ways>(
-    rt: &(impl Threads + Sync),
+pub(crate) fn counts_of(
     alloc: Global,
     book: &Book,
     rounds: &[DayRound],
     network: &Network,
-    ways: &W,
 ) -> Result<Counts, OutOfMemory>
     requires nodes { book.now.nodes ≡ network.now.nodes }
-    requires ways { W.roads ways.now ≡ network.now }
     ensures { IfOk result (λ counts. AreCounts network.now book.now.state.riders (entries_of rounds.now) counts.picked counts.dropped counts.worst_wait counts.worst_delay) }
 {
     let _named = book.entries();
+    let mut search = Search::new(alloc)?;
     match book.state() {
-        Ok(state) => count_rounds(rt, alloc, state.riders.as_slice(), rounds, network, ways),
+        Ok(state) => count_rounds(&mut search, state.riders.as_slice(), rounds, network),
         Err(_) => Err(OutOfMemory),
     }
 }
 
 /// The counts of rounds, where these are the riders.
-fn count_rounds<W: Ways>(
-    rt: &(impl Threads + Sync),
-    alloc: Global,
+fn count_rounds(
+    search: &mut Search,
     riders: &[BookRider],
     rounds: &[DayRound],
     network: &Network,
-    ways: &W,
 ) -> Result<Counts, OutOfMemory>
     requires named { All (λ r. IsNode network.now.nodes r.origin × IsNode network.now.nodes r.destination) riders.now }
-    requires ways { W.roads ways.now ≡ network.now }
     ensures { IfOk result (λ counts. AreCounts network.now riders.now (entries_of rounds.now) counts.picked counts.dropped counts.worst_wait counts.worst_delay) }
 {
     let mut counts = Counts {
@@ -65,7 +59,7 @@ fn count_rounds<W: Ways>(
     };
     for round in rounds {
         let entries = round.journal.entries.as_slice();
-        match count_entries(rt, alloc, counts, riders, entries, network, ways) {
+        match count_entries(search, counts, riders, entries, network) {
             Ok(next) => counts = next,
             Err(_) => return Err(OutOfMemory),
         }
@@ -74,22 +68,19 @@ fn count_rounds<W: Ways>(
 }
 
 /// The counts with entries that follow.
-fn count_entries<W: Ways>(
-    rt: &(impl Threads + Sync),
-    alloc: Global,
+fn count_entries(
+    search: &mut Search,
     before: Counts,
     riders: &[BookRider],
     entries: &[Entry],
     network: &Network,
-    ways: &W,
 ) -> Result<Counts, OutOfMemory>
     requires named { All (λ r. IsNode network.now.nodes r.origin × IsNode network.now.nodes r.destination) riders.now }
-    requires ways { W.roads ways.now ≡ network.now }
     ensures { IfOk result (AddsCounts network.now riders.now entries.now before) }
 {
     let mut counts = before;
     for entry in entries {
-        match count_entry(rt, alloc, counts, riders, entry, network, ways) {
+        match count_entry(search, counts, riders, entry, network) {
             Ok(next) => counts = next,
             Err(_) => return Err(OutOfMemory),
         }
@@ -98,17 +89,14 @@ fn count_entries<W: Ways>(
 }
 
 /// The counts with an entry that follows.
-fn count_entry<W: Ways>(
-    rt: &(impl Threads + Sync),
-    alloc: Global,
+fn count_entry(
+    search: &mut Search,
     counts: Counts,
     riders: &[BookRider],
     entry: &Entry,
     network: &Network,
-    ways: &W,
 ) -> Result<Counts, OutOfMemory>
     requires named { All (λ r. IsNode network.now.nodes r.origin × IsNode network.now.nodes r.destination) riders.now }
-    requires ways { W.roads ways.now ≡ network.now }
     ensures { IfOk result (AddsEntry network.now riders.now entry.now counts) }
 {
     match entry.reply {
@@ -118,7 +106,7 @@ fn count_entry<W: Ways>(
             ..counts
         }),
         Reply::Dropped => {
-            let delay = delay_of(rt, alloc, riders, entry, network, ways)?;
+            let delay = delay_of(search, riders, entry, network)?;
             Ok(Counts {
                 dropped: counts.dropped.saturating_add(1),
                 worst_delay: counts.worst_delay.max(delay),
@@ -167,16 +155,13 @@ fn wait_of(riders: &[BookRider], entry: &Entry) -> u64
 }
 
 /// How long after the ideal second a rider was dropped.
-fn delay_of<W: Ways>(
-    rt: &(impl Threads + Sync),
-    alloc: Global,
+fn delay_of(
+    search: &mut Search,
     riders: &[BookRider],
     entry: &Entry,
     network: &Network,
-    ways: &W,
 ) -> Result<u64, OutOfMemory>
     requires named { All (λ r. IsNode network.now.nodes r.origin × IsNode network.now.nodes r.destination) riders.now }
-    requires ways { W.roads ways.now ≡ network.now }
     ensures { IfOk result (IsDelayOf network.now riders.now entry.now) }
 {
     let (id, second) = visit_of(&entry.command);
@@ -184,7 +169,7 @@ fn delay_of<W: Ways>(
         Some(rider) => {
             let from = rider.origin;
             let to = rider.destination;
-            let seconds = seconds_between(rt, alloc, from, to, network, ways)?;
+            let seconds = seconds_between(search, from, to, network)?;
             let ideal = ideal_of(rider.time, seconds);
             Ok((second.get() as u64).saturating_sub(ideal))
         }
@@ -205,19 +190,18 @@ fn ideal_of(time: Second, seconds: u32) -> u64
 }
 
 /// The travel time between two nodes.
-fn seconds_between<W: Ways>(
-    rt: &(impl Threads + Sync),
-    alloc: Global,
+fn seconds_between(
+    search: &mut Search,
     from: NodeId,
     to: NodeId,
     network: &Network,
-    ways: &W,
 ) -> Result<u32, OutOfMemory>
     requires from { IsNode network.now.nodes from }
     requires to { IsNode network.now.nodes to }
-    requires ways { W.roads ways.now ≡ network.now }
     ensures { IfOk result (IsTimeBetween network.now.arcs (index_in network.now.nodes from) (index_in network.now.nodes to)) }
 {
-    let times = ways.table(rt, alloc, &[from, to])?;
-    Ok(times.seconds(0, 1))
+    let start = network.index_of(from).unwrap();
+    let goal = network.index_of(to).unwrap();
+    search.run(network, start, goal)?;
+    Ok(search.seconds[goal])
 }

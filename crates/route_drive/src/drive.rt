@@ -71,7 +71,7 @@ pub(crate) fn driven_day<W: Ways, D: Drafter, G: Gate>(
         Err(fault) => return Err(fault),
     };
     match drive_end(rt, alloc, drive, rounds, &setup) {
-        Ok(end) => counted(rt, alloc, end, &setup),
+        Ok(end) => counted(alloc, end, network),
         Err(fault) => Err(fault),
     }
 }
@@ -419,18 +419,13 @@ fn run_last<W: Ways, D: Drafter, G: Gate>(
 }
 
 /// A day that was driven to its end, with what is counted of it.
-fn counted<W: Ways, D: Drafter, G: Gate>(
-    rt: &(impl Threads + Wait + Sync),
-    alloc: Global,
-    end: Drive,
-    setup: &Setup<'_, W, D, G>,
-) -> Result<DayRun, DriveFault>
-    requires nodes { end.book.nodes ≡ setup.now.network.now.nodes }
+fn counted(alloc: Global, end: Drive, network: &Network) -> Result<DayRun, DriveFault>
+    requires nodes { end.book.nodes ≡ network.now.nodes }
     ensures rounds { IfOk result (λ run. run.rounds ≡ end.made.items) }
-    ensures counts { IfOk result (λ run. AreCounts setup.now.network.now end.book.state.riders (entries_of end.made.items) run.picked run.dropped run.worst_wait run.worst_delay) }
+    ensures counts { IfOk result (λ run. AreCounts network.now end.book.state.riders (entries_of end.made.items) run.picked run.dropped run.worst_wait run.worst_delay) }
     ensures late { IfErr result (λ fault. fault ≡ NoMemory) }
 {
-    match counts_of(rt, alloc, &end.book, &end.made, setup.network, setup.ways) {
+    match counts_of(alloc, &end.book, &end.made, network) {
         Ok(counts) => Ok(day_run(end, counts)),
         Err(_) => {
             drop(end);

@@ -13,7 +13,8 @@ ghost use Rattle.route_drive.specs.work.Rounds.{Adds, EntersLate};
 ghost use Rattle.script_rows.specs.Round.{MayStand};
 
 use crate::course::{Course, Place, Standing};
-use crate::walk::{WalkStep, shortest_walk};
+use crate::search::Search;
+use crate::walk::{WalkStep, shortest_walk_with};
 use batch_snapshot::Vehicle;
 use pool_base::{NodeId, OutOfMemory, Second, VehicleId};
 use request_book::{Command, PlannedStop};
@@ -69,7 +70,7 @@ fn next_goal(now: Second, course: &Course) -> Option<NodeId>
 
 /// A shortest walk, where both are nodes of the network.
 fn walk_between(
-    alloc: Global,
+    search: &mut Search,
     network: &Network,
     from: NodeId,
     to: NodeId,
@@ -79,7 +80,7 @@ fn walk_between(
         (λ steps. IsShortestWalk network.now from to steps.items)) }
 {
     if network.has_node(from) && network.has_node(to) {
-        shortest_walk(alloc, network, from, to)
+        shortest_walk_with(search, network, from, to)
     } else {
         Ok(None)
     }
@@ -112,7 +113,7 @@ fn first_step(now: u64, left: u64, steps: &[WalkStep]) -> Option<WalkStep>
 
 /// Where a vehicle is reported.
 fn reported(
-    alloc: Global,
+    search: &mut Search,
     network: &Network,
     now: Second,
     at: Standing,
@@ -134,7 +135,7 @@ fn reported(
     let Some(to) = goal else {
         return Ok(rest);
     };
-    let Some(steps) = walk_between(alloc, network, at.node, to)? else {
+    let Some(steps) = walk_between(search, network, at.node, to)? else {
         return Ok(rest);
     };
     Ok(on_walk(now, at, to, &steps))
@@ -219,7 +220,7 @@ pub(crate) fn command_of(vehicle: VehicleId, stop: &PlannedStop, time: Second) -
 
 /// Enters what is due of a vehicle, and where it is then.
 fn enter_vehicle(
-    alloc: Global,
+    search: &mut Search,
     round: &mut Round,
     network: &Network,
     dwell: u16,
@@ -234,7 +235,7 @@ fn enter_vehicle(
 {
     let at = standing(dwell, now, vehicle, course.stops.as_slice());
     let goal = next_goal(now, course);
-    let Ok(there) = reported(alloc, network, now, at, goal) else {
+    let Ok(there) = reported(search, network, now, at, goal) else {
         return Err(Stopped::OutOfMemory);
     };
     let Some(time) = Second::new(there.second) else {
@@ -290,10 +291,13 @@ pub(crate) fn enter_all(
     ensures entered { OnOk result ((entered : List Command) × AreEntered network.now dwell now vehicles.now courses.now entered × All IsInTime entered × Adds 0 entered round.old round.new) }
     ensures late { result ≡ Err Late → EntersTooLate network.now dwell now vehicles.now courses.now }
 {
+    let Ok(mut search) = Search::new(alloc) else {
+        return Err(Stopped::OutOfMemory);
+    };
     for k in 0..vehicles.len() {
         let vehicle = &vehicles[k];
         let course = &courses[k];
-        match enter_vehicle(alloc, round, network, dwell, now, vehicle, course) {
+        match enter_vehicle(&mut search, round, network, dwell, now, vehicle, course) {
             Ok(()) => {}
             Err(stopped) => return Err(stopped),
         }

@@ -14,6 +14,7 @@ pub mod laws;
 mod plan;
 mod promised;
 mod rounds;
+mod search;
 mod setup;
 mod tree;
 mod walk;

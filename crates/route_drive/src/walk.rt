@@ -2,13 +2,14 @@ ghost use Rattle.std.specs.Prelude.{◌≡◌, ◌<◌, Contains, IfOk, MatchOpt
 ghost use Rattle.road_network.specs.Roads.{index_in};
 ghost use Rattle.road_network.specs.Walk.{HasNoWalk};
 ghost use Rattle.route_drive.specs.Walk.{IsShortestWalk};
+ghost use Rattle.route_drive.specs.work.Near.{AreTimesUpTo};
 ghost use Rattle.route_drive.specs.work.Tree.{IsTree, IsWalkBack, found_at};
 
+use crate::search::Search;
 use crate::tree::{Tree, shortest_tree};
 use pool_base::{NodeId, OutOfMemory, Times};
 use road_network::Network;
 use std::alloc::Global;
-use travel_times::times_from;
 
 /// A node that a walk comes to, and the seconds since its start.
 #[derive(Clone, Copy)]
@@ -20,10 +21,27 @@ pub struct WalkStep {
 /// The nodes of a shortest walk between two nodes, both included, each with the seconds since its start; `None`
 /// exactly where there is no walk.
 ///
-/// The times come from the search that makes the tables of a batch; a breadth-first search along the arcs on
-/// which the time rises by the arc's seconds then finds the walk.
+/// The times come from a search that goes no further than the goal; a breadth-first search along the arcs on which
+/// the time rises by the arc's seconds then finds the walk.
 pub fn shortest_walk(
     alloc: Global,
+    network: &Network,
+    from: NodeId,
+    to: NodeId,
+) -> Result<Option<Vec<WalkStep>>, OutOfMemory>
+    requires from { Contains network.now.nodes from }
+    requires to { Contains network.now.nodes to }
+    ensures { IfOk result (λ walk. MatchOption walk
+        (HasNoWalk network.now.arcs (index_in network.now.nodes from) (index_in network.now.nodes to))
+        (λ steps. IsShortestWalk network.now from to steps.items)) }
+{
+    let mut search = Search::new(alloc)?;
+    shortest_walk_with(&mut search, network, from, to)
+}
+
+/// `shortest_walk` in the room of earlier searches.
+pub(crate) fn shortest_walk_with(
+    search: &mut Search,
     network: &Network,
     from: NodeId,
     to: NodeId,
@@ -37,13 +55,32 @@ pub fn shortest_walk(
     let _kept = network.node_count();
     let start = network.index_of(from).unwrap();
     let goal = network.index_of(to).unwrap();
-    let times = times_from(alloc, network, start)?;
-    if times[goal] == Times::NEVER {
+    search.run(network, start, goal)?;
+    walk_by(search.alloc, network, &search.seconds, start, goal)
+}
+
+/// A shortest walk between two nodes by their indexes, where these are the times as far as the goal.
+fn walk_by(
+    alloc: Global,
+    network: &Network,
+    times: &[u32],
+    start: usize,
+    goal: usize,
+) -> Result<Option<Vec<WalkStep>>, OutOfMemory>
+    requires start { start < length network.now.nodes }
+    requires goal { goal < length network.now.nodes }
+    requires size { length times.now ≡ length network.now.nodes }
+    requires times { AreTimesUpTo network.now.arcs (length network.now.nodes) start goal times.now }
+    ensures { IfOk result (λ walk. MatchOption walk (HasNoWalk network.now.arcs start goal) (λ steps. IsWalkBack network.now times.now start goal steps.items)) }
+{
+    let _kept = network.node_count();
+    let time = times[goal];
+    if time == Times::NEVER {
         return Ok(None);
     }
-    let tree = shortest_tree(alloc, network, &times, start)?;
+    let tree = shortest_tree(alloc, network, times, start, goal)?;
     let number = tree.number_of(goal).unwrap();
-    let steps = steps_to(alloc, network, &times, &tree, number)?;
+    let steps = steps_to(alloc, network, times, &tree, number)?;
     Ok(Some(steps))
 }
 

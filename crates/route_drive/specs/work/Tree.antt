@@ -41,14 +41,14 @@ pub record IsTree (arcs : List Arc) (times : List ℕ) (seen : List Bool) (found
   pub first_marked : is_seen seen (found_at found 0).node ≡ true
   pub count : length found + count_by not seen ≡ length times
 
--- the first hops of a node are opened: those that are tight lead to marked nodes
-abbrev pub AreHopsOpened : List Hop → ℕ → ℕ → List ℕ → List Bool → Type 0
-AreHopsOpened hops count here times seen = (k : ℕ) (d : Hop) → k < count → k < length hops → slice_index times (slice_index_or hops k d).to < never
+-- the first hops of a node are opened: those that are tight lead to marked nodes, as far as times are at most this
+abbrev pub AreHopsOpened : List Hop → ℕ → ℕ → List ℕ → ℕ → List Bool → Type 0
+AreHopsOpened hops count here times most seen = (k : ℕ) (d : Hop) → k < count → k < length hops → slice_index times (slice_index_or hops k d).to ≤ most
     → here + (slice_index_or hops k d).seconds ≡ slice_index times (slice_index_or hops k d).to → is_seen seen (slice_index_or hops k d).to ≡ true
 
--- a node is opened: its tight arcs lead to marked nodes
-abbrev pub IsOpened : List Arc → List ℕ → List Bool → ℕ → Type 0
-IsOpened arcs times seen node = (arc : Arc) → Contains arcs arc → arc.from ≡ node → slice_index times arc.to < never
+-- a node is opened: its tight arcs lead to marked nodes, as far as times are at most this
+abbrev pub IsOpened : List Arc → List ℕ → ℕ → List Bool → ℕ → Type 0
+IsOpened arcs times most seen node = (arc : Arc) → Contains arcs arc → arc.from ≡ node → slice_index times arc.to ≤ most
     → slice_index times node + arc.seconds ≡ slice_index times arc.to → is_seen seen arc.to ≡ true
 
 -- nothing that was found or marked is lost
@@ -58,14 +58,14 @@ pub record Grows (seen seen' : List Bool) (found found' : List Found) : Type 0 w
   pub still : (node : ℕ) → is_seen seen node ≡ true → is_seen seen' node ≡ true
 
 -- a search at work: so many of the found are opened
-pub record IsGrowing (arcs : List Arc) (times : List ℕ) (start count : ℕ) (seen : List Bool) (found : List Found) : Type 0 where
+pub record IsGrowing (arcs : List Arc) (times : List ℕ) (start most count : ℕ) (seen : List Bool) (found : List Found) : Type 0 where
   pub tree : IsTree arcs times seen found
   pub first : (found_at found 0).node ≡ start
-  pub opened : (k : ℕ) → k < count → k < length found → IsOpened arcs times seen (found_at found k).node
+  pub opened : (k : ℕ) → k < count → k < length found → IsOpened arcs times most seen (found_at found k).node
 
 -- a search that is over: all that was found is opened
-abbrev pub IsFullTree : List Arc → List ℕ → ℕ → List Bool → List Found → Type 0
-IsFullTree arcs times start seen found = IsGrowing arcs times start (length found) seen found
+abbrev pub IsFullTree : List Arc → List ℕ → ℕ → ℕ → List Bool → List Found → Type 0
+IsFullTree arcs times start most seen found = IsGrowing arcs times start most (length found) seen found
 
 -- steps of a walk to a node from another, on which the times rise by the arcs' seconds
 pub record IsWalkBack (roads : Roads) (times : List ℕ) (from to : ℕ) (steps : List WalkStep) : Type 0 where

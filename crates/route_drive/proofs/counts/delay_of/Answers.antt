@@ -7,19 +7,19 @@ use Rattle.route_drive.proofs.EntryLemmas.{all_found, found_delay, delay_none}
 use Rattle.route_drive.proofs.counts.delay_of.Goals as goal
 
 pub seconds_between-requires-clause-from : goal.seconds_between-requires-clause-from
-seconds_between-requires-clause-from g c κs within =
+seconds_between-requires-clause-from c =
     let named = all_found (λ (r : BookRider). IsNode c.args.network.now.nodes r.origin × IsNode c.args.network.now.nodes r.destination) (λ (r : BookRider). r.id == c.visit_of-id.result.0)
     c.args.riders.now c.in-Some.rider.now c.requires.named c.in-Some.ensures.some in
     named.0
 
 pub seconds_between-requires-clause-to : goal.seconds_between-requires-clause-to
-seconds_between-requires-clause-to g c κs within =
+seconds_between-requires-clause-to c =
     let named = all_found (λ (r : BookRider). IsNode c.args.network.now.nodes r.origin × IsNode c.args.network.now.nodes r.destination) (λ (r : BookRider). r.id == c.visit_of-id.result.0)
     c.args.riders.now c.in-Some.rider.now c.requires.named c.in-Some.ensures.some in
     named.1
 
 pub returns-in_ok-seconds-in-Some : goal.returns-in_ok-seconds-in-Some
-returns-in_ok-seconds-in-Some g c =
+returns-in_ok-seconds-in-Some c =
     let second = c.get.ensures.value in
     let ideal = c.ideal_of-ideal.ensures in
     let less : c.saturating_sub.result ≡ c.get.result - c.ideal_of-ideal.result = c.saturating_sub.ensures in
@@ -28,4 +28,4 @@ returns-in_ok-seconds-in-Some g c =
     c.visit_of-id.ensures.rider c.visit_of-id.ensures.second c.in-Some.ensures.some c.in_ok-seconds-in-Some.ensures is
 
 pub returns-in-None : goal.returns-in-None
-returns-in-None g c = delay_none c.args.network.now c.args.riders.now c.args.entry.now c.visit_of-id.result.0 0 refl c.visit_of-id.ensures.rider c.in-None.ensures.none
+returns-in-None c = delay_none c.args.network.now c.args.riders.now c.args.entry.now c.visit_of-id.result.0 0 refl c.visit_of-id.ensures.rider c.in-None.ensures.none

@@ -14,7 +14,7 @@ returns-in-Err-clause-late c = λ is.
 pub loop-k-preserved : goal.loop-k-preserved
 loop-k-preserved c =
     let within : c.loop-k.k < length c.args.vehicles.now = omega arith in
-    let own = c.in-Ok.ensures.entered in (
+    let own = c.in-Ok-enter_vehicle.ensures.entered in (
       c.loop-k.invariant.0 ++ own.0,
       AreEntered-more c.args.network.now c.args.dwell c.args.now c.args.vehicles.now c.args.courses.now c.loop-k.k c.loop-k.invariant.0 own.0 c.index-vehicles-k.result c.index-courses-k.result c.requires.same within
           c.index-vehicles-k.is c.index-courses-k.is c.loop-k.invariant.1 own.1,

@@ -5,7 +5,7 @@ use Rattle.road_network.specs.Roads.{hop_of, leaving}
 use Rattle.route_drive.specs.declared.tree.Found.{Found}
 use Rattle.route_drive.specs.work.Tree.{no_found, found_at, is_seen, AreHopsOpened}
 use Rattle.route_drive.proofs.TreeLemmas.{IsTree-mark, Grows-mark, Grows-none, AreHopsOpened-more, IsOpened-all, IsTight-hop, hop_among}
-use Rattle.route_drive.proofs.tree.open.Goals.{then-there-lt-NEVER+then-here-hop+then-not-index+in_ok-mark, else-there-lt-NEVER, else-there-lt-NEVER-via-then-there-lt-NEVER+then-here-hop+else-not-index, else-there-lt-NEVER-via-then-there-lt-NEVER+else-here-hop, else-there-lt-NEVER-via-else-there-lt-NEVER}
+use Rattle.route_drive.proofs.tree.open.Goals.{then-there-most+then-here-hop+then-not-index+in_ok-mark, else-there-most, else-there-most-via-then-there-most+then-here-hop+else-not-index, else-there-most-via-then-there-most+else-here-hop, else-there-most-via-else-there-most}
 use Rattle.route_drive.proofs.tree.open.Goals as goal
 
 pub offset_bounds-times-hop : goal.offset_bounds-times-hop
@@ -59,32 +59,32 @@ loop-hop-preserved c =
     let next : c.args.next < length c.loop-hop.tree.found.items = (let l = inv.grows.longer in let n = c.requires.next in omega (arith, l, n)) in
     let read : c.index.result.now ≡ found_at c.args.tree.now.found.items c.args.next = get_or_read c.args.tree.now.found.items c.args.next c.index.result.now c.requires.next c.index.ensures no_found in
     let node_is : (found_at c.loop-hop.tree.found.items c.args.next).node ≡ c.index.result.now.node = ap (λ (f : Found). f.node) (inv.grows.kept c.args.next c.requires.next ∙ sym read) in
-    elim c.if-there-lt-NEVER.branch [
-      | then-there-lt-NEVER+then-here-hop+then-not-index+in_ok-mark w ↦
+    elim c.if-there-most.branch [
+      | then-there-most+then-here-hop+then-not-index+in_ok-mark w ↦
           let dark : w.index-then-here-hop.result.now ≡ false = search rules in
           let unseen : is_seen c.loop-hop.tree.seen.items to ≡ false = sym (get_or_read seen to w.index-then-here-hop.result.now in_seen w.index-then-here-hop.ensures false) ∙ dark in
           let tight = IsTight-hop roads.arcs times hops c.index.result.now.node i d c.arcs_from-hop-items.ensures inside w.if-here-hop.true in
           record {
             tree = rw (w.tree-is, w.in_ok-mark.ensures.seen, w.in_ok-mark.ensures.found)
-                (IsTree-mark roads.arcs times seen found c.args.next to inv.tree next (rw node_is tight) in_times w.if-there-lt-NEVER.true unseen);
+                (IsTree-mark roads.arcs times seen found c.args.next to inv.tree next (rw node_is tight) in_times (let near = w.if-there-most.true in let most = c.requires.most in omega (arith, near, most)) unseen);
             grows = rw (w.tree-is, w.in_ok-mark.ensures.seen, w.in_ok-mark.ensures.found)
                 (Grows-mark roads.arcs times seen found c.args.next to c.args.tree.now.seen.items c.args.tree.now.found.items in_seen inv.grows);
             opened = rw (w.tree-is, w.in_ok-mark.ensures.seen)
-                (AreHopsOpened-more hops i (slice_index times c.index.result.now.node) times seen (set seen to true) d inv.opened
+                (AreHopsOpened-more hops i (slice_index times c.index.result.now.node) times c.args.most seen (set seen to true) d inv.opened
                 (Grows-mark roads.arcs times seen found c.args.next to seen found in_seen (Grows-none seen found)).still inside
                 (λ near rises. get_or-set_same seen to true false in_seen));
           }
-      | else-there-lt-NEVER w ↦ record {
+      | else-there-most w ↦ record {
         tree = rw w.tree-is inv.tree;
         grows = rw w.tree-is inv.grows;
         opened = rw w.tree-is
-            (AreHopsOpened-more hops i (slice_index times c.index.result.now.node) times seen seen d inv.opened (λ n h. h) inside
-            (λ near rises. elim w.else-there-lt-NEVER.branch [
-              | else-there-lt-NEVER-via-then-there-lt-NEVER+then-here-hop+else-not-index v ↦
+            (AreHopsOpened-more hops i (slice_index times c.index.result.now.node) times c.args.most seen seen d inv.opened (λ n h. h) inside
+            (λ near rises. elim w.else-there-most.branch [
+              | else-there-most-via-then-there-most+then-here-hop+else-not-index v ↦
                   let light : v.index-then-here-hop.result.now ≡ true = search rules in
                   sym (get_or_read seen to v.index-then-here-hop.result.now in_seen v.index-then-here-hop.ensures false) ∙ light
-              | else-there-lt-NEVER-via-then-there-lt-NEVER+else-here-hop v ↦ absurd (let no = v.if-here-hop.false in omega (arith, no, rises))
-              | else-there-lt-NEVER-via-else-there-lt-NEVER v ↦ absurd (let no = v.if-there-lt-NEVER.false in omega (arith, no, near))
+              | else-there-most-via-then-there-most+else-here-hop v ↦ absurd (let no = v.if-here-hop.false in omega (arith, no, rises))
+              | else-there-most-via-else-there-most v ↦ absurd (let no = v.if-there-most.false in omega (arith, no, near))
             ]));
       }
     ]
@@ -97,6 +97,6 @@ returns-clause-opened c =
     let inv = c.loop-hop.invariant in
     let read : c.index.result.now ≡ found_at c.args.tree.now.found.items c.args.next = get_or_read c.args.tree.now.found.items c.args.next c.index.result.now c.requires.next c.index.ensures no_found in
     let all : length c.arcs_from-hop-items.result.now ≤ c.loop-hop.hop-index = omega arith in
-    let opened : AreHopsOpened (map hop_of (leaving c.index.result.now.node roads.arcs)) (length (map hop_of (leaving c.index.result.now.node roads.arcs))) (slice_index times c.index.result.now.node) times seen =
+    let opened : AreHopsOpened (map hop_of (leaving c.index.result.now.node roads.arcs)) (length (map hop_of (leaving c.index.result.now.node roads.arcs))) (slice_index times c.index.result.now.node) times c.args.most seen =
     rw (← c.arcs_from-hop-items.ensures) (λ k d lt h near rises. inv.opened k d (omega arith) h near rises) in
-    rw (← read) (IsOpened-all roads.arcs times seen c.index.result.now.node opened)
+    rw (← read) (IsOpened-all roads.arcs times c.args.most seen c.index.result.now.node opened)

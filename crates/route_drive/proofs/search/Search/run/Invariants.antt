@@ -1,0 +1,10 @@
+use Rattle.std.proofs.Common.{length}
+use Rattle.road_network.specs.Roads.{IsNetwork}
+use Rattle.travel_times.specs.lemmas.Search.{IsSearching, work_left}
+use Rattle.route_drive.proofs.search.Search.run.Given as goal
+
+abbrev pub invariant-loop-node : goal.invariant-loop-node
+invariant-loop-node l = IsSearching l.network.arcs (length l.network.nodes) l.start l.self.seconds.items l.self.waiting.items × IsNetwork l.network
+
+abbrev pub decreases-loop-node : goal.decreases-loop-node
+decreases-loop-node l = work_left l.self.seconds.items l.self.waiting.items
