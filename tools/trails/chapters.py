@@ -25,7 +25,7 @@ CHAPTERS = (
     ("Days", "What vehicles do that follow their plans.", "route_drive"),
     ("Notices", "What riders are told.", "rider_notices"),
     ("Audits", "How a report is read back, and what is wrong with one.",
-     "lane_progress", "report_lines", "report_head", "entry_lines", "block_outcome", "block_audit", "report_audit"),
+     "lane_progress", "report_lines", "block_audit", "report_audit"),
     ("Made workloads", "What is made of a seed.", "load_maker", "made_inputs"),
     ("Live sessions", "What is read, answered and written while requests come in.",
      "live_rows", "live_desk", "live_batch", "live_dispatch"),

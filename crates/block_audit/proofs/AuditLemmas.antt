@@ -1,125 +1,197 @@
 -- A block as which one outcome is judged, and good outcomes that print it.
-use Rattle.std.proofs.Common.{◌≡◌, ◌≢◌, ◌↔◌, ℕ, true, List, [], ◌++◌, length, map, inl, inr, refl, sym, ap, ◌∙◌, subst, arith}
+use Rattle.std.proofs.Common.{◌≡◌, ◌≢◌, ◌↔◌, ℕ, ◌<◌, ◌≤◌, min, true, List, [], ◌++◌, length, map, ⊎_elim, refl, sym, ap, ◌∙◌, subst, arith}
 use Rattle.std.specs.List.{All}
+use Rattle.std.proofs.lemmas.Bool.{cases_lt}
 use Rattle.std.proofs.lemmas.List.{length-map}
 use Rattle.batch_snapshot.specs.Batch.{Batch}
 use Rattle.batch_snapshot.specs.Kept.{IsKept}
-use Rattle.batch_solver.specs.Outcome.{IsGoodOutcome}
-use Rattle.block_outcome.specs.Told.{TellsOutcome}
+use Rattle.batch_solver.specs.Outcome.{IsGoodAnswer, IsGoodOutcome}
 use Rattle.dispatch_report.specs.Block.{block_lines}
 use Rattle.dispatch_report.specs.Lines.{lines_text}
+use Rattle.outcome_check.specs.Posed.{AreLimitsOf}
 use Rattle.outcome_check.specs.Verdict.{Meets, AnswersAt, IsVerdictOf, point_place}
 use Rattle.outcome_check.specs.declared.verdict.Point.{Point}
 use Rattle.outcome_check.specs.declared.verdict.Point.TheVariants as point
 use Rattle.outcome_check.specs.declared.verdict.Verdict.{Verdict}
 use Rattle.outcome_check.specs.declared.verdict.Verdict.TheVariants.{Good, Fails}
-use Rattle.plan_rules.specs.Tree.{SearchTree}
-use Rattle.plan_rules.specs.lemmas.Tree.{preorder}
-use Rattle.plan_rules.proofs.lemmas.SearchTreeLemmas.{nodes_are}
-use Rattle.plan_rules.specs.Tree.SearchTree.{Parted, Bounded, Closed}
+use Rattle.outcome_check.proofs.lemmas.GoodLemmas.{posed_of, good_graphs, good_holds}
+use Rattle.pool_base.specs.Times.{travel_time}
 use Rattle.report_lines.specs.Block.{IsBlock, BlockFails}
 use Rattle.report_lines.specs.BlockLine.{block_line_text, IsBlockLine}
 use Rattle.report_lines.specs.Outcome.{lines_of}
 use Rattle.report_lines.specs.declared.block.BlockFault.{BlockFault}
-use Rattle.report_lines.specs.declared.block.BlockFault.TheVariants.{OutOfMemory as MemoryFault}
+use Rattle.report_lines.specs.declared.block.BlockFault.TheVariants as fault
 use Rattle.report_lines.specs.declared.block_line.BlockLine.{BlockLine}
-use Rattle.report_lines.proofs.lemmas.OneBlock.{block_of_one, block_no_fault}
+use Rattle.report_lines.proofs.lemmas.OneBlock.{block_of_one, block_no_fault, one_fault}
 use Rattle.report_lines.proofs.lemmas.OutcomeLemmas.{outcome_block, outcome_texts}
 use Rattle.request_book.specs.declared.outcome.Answer.{Answer}
-use Rattle.request_book.specs.declared.outcome.Answer.TheVariants.{Planned as Plan}
+use Rattle.request_book.specs.declared.outcome.Answer.TheVariants.{Overflow as TooMany, Planned as Plan}
 use Rattle.request_book.specs.declared.outcome.Outcome.{Outcome}
 use Rattle.rider_limits.specs.declared.settings.Settings.{Settings}
 use Rattle.road_network.specs.Roads.{Roads}
-use Rattle.block_audit.specs.Block.{BeginsWithGood, MeetsAs, FailsFirst}
+use Rattle.block_audit.specs.Block.{BeginsWithGood, BeginsWithWrong, MeetsAs, FailsFirst, Refuses}
+use Rattle.block_audit.specs.Judged.{judged_outcome, CanBeTold}
+use Rattle.block_audit.specs.Told.{Told, told_by}
 use Rattle.block_audit.specs.work.Block.{refusal_for}
-use Rattle.block_audit.specs.Judged.{IsJudgedAs}
+use Rattle.block_audit.specs.work.Judged.{HoldUpTo, IsRight, verdict_place}
 use Rattle.block_audit.specs.declared.refusal.BlockRefusal.{BlockRefusal}
-use Rattle.block_audit.specs.declared.refusal.BlockRefusal.TheVariants.{OutOfMemory as NoMemory}
-use Rattle.block_audit.proofs.BareLemmas.{HasNoTree, judged_bare}
+use Rattle.block_audit.specs.declared.refusal.BlockRefusal.TheVariants.{OutOfMemory, Cut, Form, Wrong}
 use Rattle.block_audit.proofs.NumberedLemmas.{vehicle_ids, few_ids, outcome_numbered, outcome_trips}
-use Rattle.block_audit.proofs.OneOutcome.{one_outcome}
+use Rattle.block_audit.proofs.OutcomeLemmas.{IsToldAs, judged_few, lines_are, outcome_is_told}
 
--- a tree has a node
-no_nodes : (tree : SearchTree) → [] ≡ preorder tree → ⊥
-no_nodes (Parted v k first second) e = cc
-no_nodes (Bounded ms) e = cc
-no_nodes Closed e = cc
+pub low_place : (q : Point) → point_place q < 9
+low_place point.Answer = omega arith
+low_place point.Graphs = omega arith
+low_place point.Late = omega arith
+low_place point.Trips = omega arith
+low_place point.Plan = omega arith
+low_place point.Bound = omega arith
+low_place point.Tree = omega arith
+low_place point.Best = omega arith
+low_place point.Moves = omega arith
 
--- no tree has no value
-pub no_value : (settings : Settings) (roads : Roads) (batch : Batch) (answer : Answer) → HasNoTree answer → AnswersAt settings roads batch answer point.Bound → ⊥
-no_value settings roads batch answer has answers = valued (subst (λ (a : Answer). AnswersAt settings roads batch a point.Bound) has.is answers)
+-- two lists of points, one beside the other
+pub hold_both : (P Q : Point → Type 0) (m n : ℕ) → HoldUpTo P m → HoldUpTo Q n → HoldUpTo (λ q. P q × Q q) (min m n)
+hold_both P Q m n hp hq = record {
+  before = λ q less. (hp.before q (omega (arith, less)), hq.before q (omega (arith, less)));
+  there = λ less. ⊎_elim
+      (λ (first : m < n). let p = hp.there (omega (arith, less, first)) in let at = p.1 in (p.0, omega (arith, at, first), λ both. p.2 both.0))
+      (λ (second : n ≤ m). let p = hq.there (omega (arith, less, second)) in let at = p.1 in (p.0, omega (arith, at, second), λ both. p.2 both.1))
+      (cases_lt m n);
+}
+
+pub verdict_holds : (P : Point → Type 0) (verdict : Verdict) → IsVerdictOf P verdict → HoldUpTo P (verdict_place verdict)
+verdict_holds P Good all = record { before = λ q less. all q; there = λ less. absurd (omega arith) }
+verdict_holds P (Fails p) first = record { before = first.0; there = λ less. (p, refl, first.1) }
+
+pub is_good : (verdict : Verdict) → 9 ≤ verdict_place verdict → verdict ≡ Good
+is_good Good high = refl
+is_good (Fails p) high = let low = low_place p in absurd (omega (arith, low, high))
+
+-- all points hold of a good outcome
+pub good_meets : (settings : Settings) (roads : Roads) (batch : Batch) (outcome : Outcome) → IsGoodOutcome settings roads batch outcome → (q : Point) → Meets settings roads batch outcome q
+good_meets settings roads batch outcome good q = (good.expired, answers outcome.answer good.answer)
   where
-    valued : AnswersAt settings roads batch (Plan has.plan) point.Bound → ⊥
-    valued (p, posed, value) = no_nodes value.tree.0 (sym has.no_tree ∙ nodes_are _ _ _ value.tree.1)
+    limits : AreLimitsOf settings roads batch good.points (travel_time good.times) good.settled
+    limits = record { nodes = good.nodes; times = good.times; table = good.table; told = refl; limits = good.limits }
 
--- the outcome as which the block is judged is the only good one whose block stands there
-pub record IsItself (batch : Batch) (told : ℕ) (outcome other : Outcome) (rest behind : List ℕ) : Type 0 where
-  pub number : told ≡ batch.number
-  pub same : other ≡ outcome
-  pub after : behind ≡ rest
+    answers : (a : Answer) → IsGoodAnswer settings good.points (travel_time good.times) good.settled a → AnswersAt settings roads batch a q
+    answers TooMany more = record { points = good.points; tau = travel_time good.times; settled = good.settled; limits = limits; more = more }
+    answers (Plan planned) is = (
+      posed_of settings good.points (travel_time good.times) good.settled planned is,
+      record { limits = limits; graphs = good_graphs settings good.points (travel_time good.times) good.settled planned is },
+      good_holds settings good.points (travel_time good.times) good.settled planned is q,
+    )
 
-module _ (settings : Settings) (roads : Roads) (batch : Batch) (kept : IsKept batch) (text : List ℕ) (lines : List BlockLine) (rest : List ℕ) (block : IsBlock text lines rest) (told : ℕ) (outcome : Outcome) (judged : IsJudgedAs (vehicle_ids batch) lines told outcome) where
-  pub good_is_judged : (other : Outcome) (behind : List ℕ) → BeginsWithGood settings roads batch text other behind → IsItself batch told outcome other rest behind
-  good_is_judged other behind good =
-      let printed : IsBlock text (lines_of batch.number other) behind =
-      subst (λ (t : List ℕ). IsBlock t (lines_of batch.number other) behind) (sym good.whole) (outcome_block batch.number other behind good.fits)
-      in
-      let same = block_of_one text lines (lines_of batch.number other) rest behind block printed in
-      known same.0 same.1 judged
-    where
-      known : lines ≡ lines_of batch.number other → rest ≡ behind → IsJudgedAs (vehicle_ids batch) lines told outcome → IsItself batch told outcome other rest behind
-      known e r (inl tells) =
-          let one = one_outcome (vehicle_ids batch) (few_ids batch kept) told batch.number outcome other tells.numbered (outcome_numbered settings roads batch other kept good.good) (sym tells.whole ∙ e) in
-          record { number = one.0; same = sym one.1; after = sym r }
-      known e r (inr (none, tells)) = absurd (none batch.number other (outcome_trips settings roads batch other good.good) e)
-
-  -- where it has a point that fails, there is none
-  pub verdict_no_good : (p : Point) (verdict : Verdict) → verdict ≡ Fails p → (verdict ≡ Good) ↔ IsGoodOutcome settings roads batch outcome → (other : Outcome) (behind : List ℕ) → BeginsWithGood settings roads batch text other behind → ⊥
-  verdict_no_good p verdict fails exact other behind good =
-      let itself = good_is_judged other behind good in
-      let is : Good ≡ Fails p = sym (exact.1 (subst (λ (o : Outcome). IsGoodOutcome settings roads batch o) itself.same good.good)) ∙ fails in
-      cc
-
-  -- where all points hold of it, the lines tell it
-  pub good_is_told : IsVerdictOf (Meets settings roads batch outcome) Good → TellsOutcome (vehicle_ids batch) lines told outcome
-  good_is_told all = told_by judged
-    where
-      told_by : IsJudgedAs (vehicle_ids batch) lines told outcome → TellsOutcome (vehicle_ids batch) lines told outcome
-      told_by (inl tells) = tells
-      told_by (inr (none, tells)) =
-          absurd (no_value settings roads batch outcome.answer
-          (judged_bare (vehicle_ids batch) lines told outcome (few_ids batch kept) block.begins.order block.ended none tells)
-          (all point.Bound).1)
-
-  -- and it is a good outcome whose block stands there
-  pub begins_good : told ≡ batch.number → IsGoodOutcome settings roads batch outcome → TellsOutcome (vehicle_ids batch) lines told outcome → BeginsWithGood settings roads batch text outcome rest
-  begins_good number good tells =
-      let is : lines ≡ lines_of batch.number outcome = tells.whole ∙ ap (λ (n : ℕ). lines_of n outcome) number in
-      record {
-        whole = block.begins.whole ∙ ap (λ (ls : List BlockLine). lines_text (map block_line_text ls) ++ rest) is ∙ ap (λ (ls : List (List ℕ)). lines_text ls ++ rest) (outcome_texts batch.number outcome);
-        fits = subst (λ (ls : List BlockLine). All IsBlockLine ls) is block.begins.lawful;
-        good = good;
-      }
-
-  pub line_count : told ≡ batch.number → TellsOutcome (vehicle_ids batch) lines told outcome → length lines ≡ length (block_lines true batch.number outcome)
-  line_count number tells =
-      let is : lines ≡ lines_of batch.number outcome = tells.whole ∙ ap (λ (n : ℕ). lines_of n outcome) number in
-      ap (λ (ls : List BlockLine). length ls) is ∙ sym (length-map (lines_of batch.number outcome) block_line_text) ∙ ap (λ (ls : List (List ℕ)). length ls) (outcome_texts batch.number outcome)
-
--- a text that begins with no block in form begins with none of a good outcome
-pub fault_no_good : (settings : Settings) (roads : Roads) (batch : Batch) (text : List ℕ) (fault : BlockFault) (refusal : BlockRefusal) → BlockFails text fault → refusal ≡ refusal_for fault → refusal ≢ NoMemory
-    → (other : Outcome) (behind : List ℕ) → BeginsWithGood settings roads batch text other behind → ⊥
-fault_no_good settings roads batch text fault refusal fails is some other behind good =
-    let printed : IsBlock text (lines_of batch.number other) behind =
-    subst (λ (t : List ℕ). IsBlock t (lines_of batch.number other) behind) (sym good.whole) (outcome_block batch.number other behind good.fits)
-    in
-    block_no_fault text (lines_of batch.number other) behind printed fault (λ (e : fault ≡ MemoryFault). some (is ∙ ap refusal_for e)) fails
-
--- the first point that fails of an outcome that tells the batch's number
-pub fails_first : (settings : Settings) (roads : Roads) (batch : Batch) (told : ℕ) (outcome : Outcome) (p : Point) (place : ℕ) → told ≡ batch.number → place ≡ point_place p → IsVerdictOf (Meets settings roads batch outcome) (Fails p) → FailsFirst (MeetsAs settings roads batch told outcome) place
-fails_first settings roads batch told outcome p place number at first =
-    record { point = p; at = sym at; first = (λ q less. (number, first.0 q less), λ holds. first.1 holds.1) }
+-- the first point that fails
+pub fails_first : (settings : Settings) (roads : Roads) (batch : Batch) (t : Told) (place : ℕ) → t.batch ≡ batch.number → place < 9 → HoldUpTo (IsRight settings roads batch t) place → FailsFirst (MeetsAs settings roads batch t) place
+fails_first settings roads batch t place number less holds =
+    let p = holds.there less in
+    let at = p.1 in
+    record {
+      point = p.0;
+      at = at;
+      first = (λ q before. let is = holds.before q (omega (arith, at, before)) in (number, is.0, is.1), λ is. p.2 (is.1, is.2));
+    }
 
 -- another number than the batch's fails at once
-pub fails_at_once : (settings : Settings) (roads : Roads) (batch : Batch) (told : ℕ) (outcome : Outcome) → told ≢ batch.number → FailsFirst (MeetsAs settings roads batch told outcome) 0
-fails_at_once settings roads batch told outcome other = record { point = point.Answer; at = refl; first = (λ q less. absurd (omega arith), λ holds. other holds.0) }
+pub fails_at_once : (settings : Settings) (roads : Roads) (batch : Batch) (t : Told) → t.batch ≢ batch.number → FailsFirst (MeetsAs settings roads batch t) 0
+fails_at_once settings roads batch t other = record { point = point.Answer; at = refl; first = (λ q less. absurd (omega arith), λ holds. other holds.0) }
+
+-- the outcome as which the block is judged is the only good one whose block stands there
+pub record IsItself (settings : Settings) (roads : Roads) (batch : Batch) (t : Told) (other : Outcome) (rest behind : List ℕ) : Type 0 where
+  pub same : other ≡ judged_outcome (vehicle_ids batch) t
+  pub after : behind ≡ rest
+  pub meets : (q : Point) → MeetsAs settings roads batch t q
+
+module _ (settings : Settings) (roads : Roads) (batch : Batch) (kept : IsKept batch) (text : List ℕ) (lines : List BlockLine) (rest : List ℕ) (block : IsBlock text lines rest) where
+  pub good_is_judged : (other : Outcome) (behind : List ℕ) → BeginsWithGood settings roads batch text other behind → IsItself settings roads batch (told_by lines) other rest behind
+  good_is_judged other behind good =
+      let printed : IsBlock text (lines_of batch.number other) behind =
+      subst (λ (t : List ℕ). IsBlock t (lines_of batch.number other) behind) (sym good.whole) (outcome_block batch.number other behind good.fits.lines)
+      in
+      let same = block_of_one text lines (lines_of batch.number other) rest behind block printed in
+      let told : IsToldAs (vehicle_ids batch) batch.number other (told_by lines) =
+      subst (λ (ls : List BlockLine). IsToldAs (vehicle_ids batch) batch.number other (told_by ls)) (sym same.0)
+      (outcome_is_told (vehicle_ids batch) batch.number other good.fits.stops (outcome_trips settings roads batch other good.good) (outcome_numbered settings roads batch other kept good.good))
+      in
+      record {
+        same = sym told.same;
+        after = sym same.1;
+        meets = λ q. (told.number, subst (λ (o : Outcome). Meets settings roads batch o q) (sym told.same) (good_meets settings roads batch other good.good q), told.can q);
+      }
+
+  -- where a point fails, there is none
+  pub fails_no_good : (place : ℕ) → FailsFirst (MeetsAs settings roads batch (told_by lines)) place → (other : Outcome) (behind : List ℕ) → BeginsWithGood settings roads batch text other behind → ⊥
+  fails_no_good place fails other behind good = fails.first.1 ((good_is_judged other behind good).meets fails.point)
+
+  module _ (number : (told_by lines).batch ≡ batch.number) (can : (q : Point) → CanBeTold q (told_by lines)) where
+    printed_is : lines ≡ lines_of batch.number (judged_outcome (vehicle_ids batch) (told_by lines))
+    printed_is = lines_are (vehicle_ids batch) lines block.begins.order block.ended can ∙ ap (λ (n : ℕ). lines_of n (judged_outcome (vehicle_ids batch) (told_by lines))) number
+
+    -- where all points hold, it is a good outcome whose block stands there
+    pub begins_good : IsGoodOutcome settings roads batch (judged_outcome (vehicle_ids batch) (told_by lines)) → BeginsWithGood settings roads batch text (judged_outcome (vehicle_ids batch) (told_by lines)) rest
+    begins_good good =
+        let outcome : Outcome = judged_outcome (vehicle_ids batch) (told_by lines) in
+        record {
+          whole = block.begins.whole ∙ ap (λ (ls : List BlockLine). lines_text (map block_line_text ls) ++ rest) printed_is ∙ ap (λ (ls : List (List ℕ)). lines_text ls ++ rest) (outcome_texts batch.number outcome);
+          fits = record { lines = subst (λ (ls : List BlockLine). All IsBlockLine ls) printed_is block.begins.lawful; stops = (judged_few (vehicle_ids batch) (told_by lines)).0 };
+          good = good;
+        }
+
+    pub line_count : length lines ≡ length (block_lines true batch.number (judged_outcome (vehicle_ids batch) (told_by lines)))
+    line_count =
+        let outcome : Outcome = judged_outcome (vehicle_ids batch) (told_by lines) in
+        ap (λ (ls : List BlockLine). length ls) printed_is ∙ sym (length-map (lines_of batch.number outcome) block_line_text) ∙ ap (λ (ls : List (List ℕ)). length ls) (outcome_texts batch.number outcome)
+
+-- a text that begins with no block in form begins with none of a good outcome
+pub fault_no_good : (settings : Settings) (roads : Roads) (batch : Batch) (text : List ℕ) (found : BlockFault) (refusal : BlockRefusal) → BlockFails text found → refusal ≡ refusal_for found → refusal ≢ OutOfMemory
+    → (other : Outcome) (behind : List ℕ) → BeginsWithGood settings roads batch text other behind → ⊥
+fault_no_good settings roads batch text found refusal fails is some other behind good =
+    let printed : IsBlock text (lines_of batch.number other) behind =
+    subst (λ (t : List ℕ). IsBlock t (lines_of batch.number other) behind) (sym good.whole) (outcome_block batch.number other behind good.fits.lines)
+    in
+    block_no_fault text (lines_of batch.number other) behind printed found (λ (e : found ≡ fault.OutOfMemory). some (is ∙ ap refusal_for e)) fails
+
+-- a text that begins with a good block isn't refused
+pub good_not_refused : (settings : Settings) (roads : Roads) (batch : Batch) → IsKept batch → (text : List ℕ) (outcome : Outcome) (rest : List ℕ) → BeginsWithGood settings roads batch text outcome rest
+    → (refusal : BlockRefusal) → refusal ≢ OutOfMemory → Refuses settings roads batch text refusal → ⊥
+good_not_refused settings roads batch kept text outcome rest good OutOfMemory some is = some refl
+good_not_refused settings roads batch kept text outcome rest good (Cut n) some is = fault_no_good settings roads batch text (fault.Cut n) (Cut n) is refl some outcome rest good
+good_not_refused settings roads batch kept text outcome rest good (Form n) some is = fault_no_good settings roads batch text (fault.Form n) (Form n) is refl some outcome rest good
+good_not_refused settings roads batch kept text outcome rest good (Wrong place) some wrong =
+    fails_no_good settings roads batch kept text wrong.lines wrong.rest wrong.block place wrong.fails outcome rest good
+
+-- of points the first that fails is one
+one_first : (P : Point → Type 0) (p q : ℕ) → FailsFirst P p → FailsFirst P q → p ≡ q
+one_first P p q a b = ⊎_elim
+    (λ (less : p < q). absurd (before p q a b less))
+    (λ (above : q ≤ p). ⊎_elim (λ (more : q < p). absurd (before q p b a more)) (λ (below : p ≤ q). let e : p ≡ q = omega (arith, above, below) in e) (cases_lt q p))
+    (cases_lt p q)
+  where
+    before : (n m : ℕ) → FailsFirst P n → FailsFirst P m → n < m → ⊥
+    before n m x y less = let i = x.at in let j = y.at in x.first.1 (y.first.0 x.point (omega (arith, i, j, less)))
+
+one_wrong : (settings : Settings) (roads : Roads) (batch : Batch) (text : List ℕ) (n m : ℕ) → BeginsWithWrong settings roads batch text n → BeginsWithWrong settings roads batch text m → n ≡ m
+one_wrong settings roads batch text n m one two =
+    let e = (block_of_one text one.lines two.lines one.rest two.rest one.block two.block).0 in
+    one_first (MeetsAs settings roads batch (told_by two.lines)) n m (subst (λ (ls : List BlockLine). FailsFirst (MeetsAs settings roads batch (told_by ls)) n) e one.fails) two.fails
+
+-- a text is refused for one cause
+fault_and_wrong : (settings : Settings) (roads : Roads) (batch : Batch) (text : List ℕ) (f : BlockFault) (place : ℕ) → f ≢ fault.OutOfMemory → BlockFails text f → BeginsWithWrong settings roads batch text place → ⊥
+fault_and_wrong settings roads batch text f place some fails wrong = block_no_fault text wrong.lines wrong.rest wrong.block f some fails
+
+pub one_refusal : (settings : Settings) (roads : Roads) (batch : Batch) (text : List ℕ) (r s : BlockRefusal) → r ≢ OutOfMemory → s ≢ OutOfMemory → Refuses settings roads batch text r → Refuses settings roads batch text s → r ≡ s
+one_refusal settings roads batch text OutOfMemory s some other a b = absurd (some refl)
+one_refusal settings roads batch text (Cut n) OutOfMemory some other a b = absurd (other refl)
+one_refusal settings roads batch text (Form n) OutOfMemory some other a b = absurd (other refl)
+one_refusal settings roads batch text (Wrong n) OutOfMemory some other a b = absurd (other refl)
+one_refusal settings roads batch text (Cut n) (Cut m) some other a b = let e = one_fault text (fault.Cut n) (fault.Cut m) (λ h. cc) (λ h. cc) a b in cc
+one_refusal settings roads batch text (Form n) (Form m) some other a b = let e = one_fault text (fault.Form n) (fault.Form m) (λ h. cc) (λ h. cc) a b in cc
+one_refusal settings roads batch text (Cut n) (Form m) some other a b = let e = one_fault text (fault.Cut n) (fault.Form m) (λ h. cc) (λ h. cc) a b in absurd (cc)
+one_refusal settings roads batch text (Form n) (Cut m) some other a b = let e = one_fault text (fault.Form n) (fault.Cut m) (λ h. cc) (λ h. cc) a b in absurd (cc)
+one_refusal settings roads batch text (Cut n) (Wrong m) some other a b = absurd (fault_and_wrong settings roads batch text (fault.Cut n) m (λ h. cc) a b)
+one_refusal settings roads batch text (Form n) (Wrong m) some other a b = absurd (fault_and_wrong settings roads batch text (fault.Form n) m (λ h. cc) a b)
+one_refusal settings roads batch text (Wrong n) (Cut m) some other a b = absurd (fault_and_wrong settings roads batch text (fault.Cut m) n (λ h. cc) b a)
+one_refusal settings roads batch text (Wrong n) (Form m) some other a b = absurd (fault_and_wrong settings roads batch text (fault.Form m) n (λ h. cc) b a)
+one_refusal settings roads batch text (Wrong n) (Wrong m) some other a b = ap Wrong (one_wrong settings roads batch text n m a b)

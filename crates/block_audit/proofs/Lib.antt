@@ -1,7 +1,7 @@
 pub mod ShapeLemmas
-pub mod OneOutcome
-pub mod BareLemmas
+pub mod ToldLemmas
 pub mod NumberedLemmas
+pub mod OutcomeLemmas
 pub mod AuditLemmas
 pub mod LawLemmas
-pub mod RefusalLemmas
+pub mod TellingLemmas

@@ -1,16 +1,18 @@
 -- A good outcome's branches tell vehicles by their numbers among the batch's, and its rows are trips.
-use Rattle.std.proofs.Common.{◌≡◌, ℕ, zero, suc, ◌+◌, ◌<◌, ◌≤◌, List, [], ◌++◌, All, length, get_or, map, slice_get, unwrap_or, option_map, Some, Option, inl, ⊎_elim, sym, ap, ◌∙◌, subst, arith}
+use Rattle.std.proofs.Common.{◌≡◌, ◌==◌, ℕ, zero, suc, ◌+◌, ◌<◌, ◌≤◌, ne_eqb, eq-eqb, List, [], ◌++◌, All, length, get_or, map, slice_get, unwrap_or, option_map, Some, Option, ⊎_elim, sym, ap, ◌∙◌, subst, arith}
+use Rattle.std.specs.List.{position_or_len}
 use Rattle.std.specs.List.Sorted.{IsStrictlyIncreasing}
 use Rattle.std.proofs.lemmas.Bool.{cases_lt}
 use Rattle.std.proofs.lemmas.List.{get_or-map, length-map}
+use Rattle.std.proofs.lemmas.List.Sums.{position_or_len_is}
 use Rattle.std.proofs.lemmas.List.Elements.{All-append, All-cons, All-map, All-from_get_or}
-use Rattle.std.proofs.lemmas.Option.{slice_get-get_or, slice_get-map, get_or_from_slice_get}
+use Rattle.std.proofs.lemmas.Option.{slice_get-get_or, slice_get-map}
 use Rattle.batch_snapshot.specs.Batch.{Batch}
 use Rattle.batch_snapshot.specs.Kept.{IsKept}
 use Rattle.batch_snapshot.specs.declared.vehicle.Vehicle.{Vehicle}
 use Rattle.batch_solver.specs.Outcome.{IsGoodPlan, IsGoodAnswer, IsGoodOutcome}
 use Rattle.batch_solver.specs.Told.{vehicle_id, rider_id, row_line}
-use Rattle.block_outcome.specs.Told.{IsNumberOf, IsNumbered, AreNumbered, HasTrips}
+use Rattle.block_audit.specs.Judged.{HasTrips, number_among}
 use Rattle.plan_rules.specs.Graph.{Graph, IsGoodGraph, IsRowOf, row_at, row_vehicle, no_row}
 use Rattle.plan_rules.specs.Multipliers.{Usable}
 use Rattle.plan_rules.specs.Tree.{SearchTree, IsSoundTree, every_row, only_row, without_row}
@@ -30,6 +32,16 @@ use Rattle.request_book.specs.declared.outcome.RowLine.{RowLine}
 use Rattle.rider_limits.specs.declared.settings.Settings.{Settings}
 use Rattle.road_network.specs.Roads.{Roads}
 use Rattle.stop_orders.specs.declared.settled.Settled.{Settled}
+
+-- a branch names a row of the vehicle whose number it has in the order of these ids
+abbrev pub IsNumbered : List ℕ → List RowLine → Node → Type 0
+IsNumbered ids rows (Branch vehicle row) = number_among ids (unwrap_or (option_map (λ r. r.vehicle) (slice_get rows row)) 0) ≡ vehicle
+IsNumbered ids rows (Leaf multipliers) = Unit {0}
+IsNumbered ids rows Dead = Unit {0}
+
+abbrev pub AreNumbered : List ℕ → Answer → Type 0
+AreNumbered ids Overflow = Unit {0}
+AreNumbered ids (Plan plan) = All (IsNumbered ids plan.rows) plan.tree
 
 -- in a rising list an earlier number is less
 rises : (xs : List ℕ) → IsStrictlyIncreasing xs → (i j : ℕ) → i < j → j < length xs → get_or xs i 0 < get_or xs j 0
@@ -59,20 +71,19 @@ module _ (settings : Settings) (points : List ℕ) (tau : ℕ → ℕ → ℕ) (
       let low : v < length batch.vehicles = omega (arith, n, h) in
       get_or-map (λ (x : Vehicle). x.id) batch.vehicles v no_vehicle 0 low ∙ sym (is.placed v (get_or batch.vehicles v no_vehicle) (slice_get-get_or batch.vehicles v no_vehicle low)).id
 
-  number_of : (v : ℕ) → v < length settled.vehicles → IsNumberOf (vehicle_ids batch) (vehicle_id settled v) v
+  number_of : (v : ℕ) → v < length settled.vehicles → number_among (vehicle_ids batch) (vehicle_id settled v) ≡ v
   number_of v h =
       let ids : List ℕ = vehicle_ids batch in
       let n = is.vehicle_count in
       let m = length-map batch.vehicles (λ (x : Vehicle). x.id) in
+      let most = few_ids batch kept in
       let low : v < length ids = omega (arith, n, m, h) in
-      record {
-        first = λ k less e.
-            let there : get_or ids k 0 ≡ vehicle_id settled v = get_or_from_slice_get ids k (vehicle_id settled v) 0 e in
-            let here = told_id v h in
-            let below = rises ids kept.vehicles_rise k v less low in
-            absurd (omega (arith, there, here, below));
-        stands = inl (slice_get-get_or ids v 0 low ∙ ap Some (told_id v h));
-      }
+      let here = told_id v h in
+      let first : position_or_len (λ other. other == vehicle_id settled v) ids ≡ v =
+      position_or_len_is (λ (other : ℕ). other == vehicle_id settled v) ids v 0 (omega (arith, low))
+      (λ k less. let below = rises ids kept.vehicles_rise k v less low in ne_eqb (get_or ids k 0) (vehicle_id settled v) (λ e. absurd (omega (arith, e, here, below))))
+      (λ within. eq-eqb (get_or ids v 0) (vehicle_id settled v) here) in
+      omega (arith, first, low, most)
 
   module _ (graph : Graph) (good : IsGoodGraph graph) (count : graph.vehicles ≡ length settled.vehicles) (rows : List RowLine) (told : rows ≡ map (row_line settled) graph.rows) where
     id_at : (k : ℕ) → k < length graph.rows → unwrap_or (option_map (λ (r : RowLine). r.vehicle) (slice_get rows k)) 0 ≡ vehicle_id settled (row_vehicle graph k)
@@ -88,7 +99,7 @@ module _ (settings : Settings) (points : List ℕ) (tau : ℕ → ℕ → ℕ) (
         let own = row.own in
         let low : v < length settled.vehicles = omega (arith, inside, own, count) in
         let id = id_at k row.within ∙ ap (λ (w : ℕ). vehicle_id settled w) own in
-        subst (λ (i : ℕ). IsNumberOf (vehicle_ids batch) i v) (sym id) (number_of v low)
+        ap (λ (i : ℕ). number_among (vehicle_ids batch) i) id ∙ number_of v low
 
     tree_numbered : (tree : SearchTree) (usable : Usable) → IsSoundTree graph usable tree → All (IsNumbered (vehicle_ids batch) rows) (preorder tree)
     tree_numbered (Parted v k first second) usable sound =

@@ -1,26 +1,38 @@
 -- A block in form has its parts one behind the other.
-use Rattle.std.proofs.Common.{◌≡◌, ℕ, zero, suc, ◌+◌, ◌==◌, ◌<◌, ◌≤◌, ℤ, Bool, true, ◌&&◌, nat_le, List, [], ◌∷◌, ◌++◌, map, ◌⊎◌, inl, inr, ⊎_elim, refl, ap, subst, arith}
+use Rattle.std.proofs.Common.{◌≡◌, ℕ, zero, suc, ◌+◌, ◌==◌, ◌<◌, ◌≤◌, ℤ, Bool, true, ◌&&◌, nat_le, List, [], ◌∷◌, ◌++◌, map, ◌⊎◌, inl, inr, ⊎_elim, refl, ap, ◌∙◌, subst, arith}
+use Rattle.std.specs.List.{All}
 use Rattle.std.proofs.lemmas.Bool.{and_parts, leb-true, eqb-true, cases_lt}
+use Rattle.std.proofs.lemmas.List.Elements.{All-cons}
 use Rattle.report_lines.specs.Order.{is_between, follow_on, last_place}
+use Rattle.report_lines.specs.declared.late.LateText.{LateText}
+use Rattle.report_lines.specs.declared.row.RowText.{RowText}
+use Rattle.report_lines.specs.declared.trip.TripText.{TripText}
+use Rattle.request_book.specs.declared.outcome.MoveLine.{MoveLine}
 use Rattle.report_lines.specs.declared.block_line.BlockLine.{BlockLine}
 use Rattle.report_lines.specs.declared.block_line.BlockLine.TheVariants.{Batch, Expired, Overflow, Lapsed, Late, Alone, Shared, Row, Trip, Out, Move, Cost, Bound, Nodes, Branch, Leaf, Dead, End}
-use Rattle.block_audit.specs.Judged.{bare}
 
 -- items of one kind stand first, and of the lines behind them this holds
-pub record Section {X : Type 0} (K : X → BlockLine) (Behind : List BlockLine → Type 0) (lines : List BlockLine) : Type 0 where
+record Section {X : Type 0} (K : X → BlockLine) (Behind : List BlockLine → Type 0) (lines : List BlockLine) : Type 0 where
   pub items : List X
   pub rest : List BlockLine
   pub whole : lines ≡ map K items ++ rest
   pub behind : Behind rest
 
+-- a line of a tree
+abbrev pub IsNodeLine : BlockLine → Type 0
+IsNodeLine (Branch branch) = Unit {0}
+IsNodeLine (Leaf multipliers) = Unit {0}
+IsNodeLine Dead = Unit {0}
+IsNodeLine _ = ⊥
+
 -- a tree's lines, and the end
-pub record IsTreeToEnd (lines : List BlockLine) : Type 0 where
+record IsTreeToEnd (lines : List BlockLine) : Type 0 where
   pub tree : List BlockLine
   pub whole : lines ≡ tree ++ End ∷ []
-  pub gone : bare tree ≡ []
+  pub drawn : All IsNodeLine tree
 
 -- the numbers of a plan, a tree's lines, and the end
-pub record IsCounted (lines : List BlockLine) : Type 0 where
+record IsCounted (lines : List BlockLine) : Type 0 where
   pub cost : ℕ
   pub bound : ℤ
   pub nodes : ℕ
@@ -28,38 +40,38 @@ pub record IsCounted (lines : List BlockLine) : Type 0 where
   pub whole : lines ≡ Cost cost ∷ Bound bound ∷ Nodes nodes ∷ rest
   pub drawn : IsTreeToEnd rest
 
-abbrev pub Moves : List BlockLine → Type 0
+abbrev Moves : List BlockLine → Type 0
 Moves = Section Move IsCounted
 
-abbrev pub Outs : List BlockLine → Type 0
+abbrev Outs : List BlockLine → Type 0
 Outs = Section Out Moves
 
-abbrev pub Trips : List BlockLine → Type 0
+abbrev Trips : List BlockLine → Type 0
 Trips = Section Trip Outs
 
-abbrev pub Rows : List BlockLine → Type 0
+abbrev Rows : List BlockLine → Type 0
 Rows = Section Row Trips
 
-abbrev pub Pairs : List BlockLine → Type 0
+abbrev Pairs : List BlockLine → Type 0
 Pairs = Section Shared Rows
 
-abbrev pub Alones : List BlockLine → Type 0
+abbrev Alones : List BlockLine → Type 0
 Alones = Section Alone Pairs
 
-abbrev pub Lates : List BlockLine → Type 0
+abbrev Lates : List BlockLine → Type 0
 Lates = Section Late Alones
 
-abbrev pub Lapses : List BlockLine → Type 0
+abbrev Lapses : List BlockLine → Type 0
 Lapses = Section Lapsed Lates
 
-abbrev pub Answers : List BlockLine → Type 0
+abbrev Answers : List BlockLine → Type 0
 Answers lines = (lines ≡ Overflow ∷ End ∷ []) ⊎ Lapses lines
 
-abbrev pub Expires : List BlockLine → Type 0
+abbrev Expires : List BlockLine → Type 0
 Expires = Section Expired Answers
 
 -- a block: its number, and what is behind it
-pub record IsWhole (lines : List BlockLine) : Type 0 where
+record IsWhole (lines : List BlockLine) : Type 0 where
   pub batch : ℕ
   pub rest : List BlockLine
   pub whole : lines ≡ Batch batch ∷ rest
@@ -129,14 +141,14 @@ tree_to_end : (p : ℕ) (l : List BlockLine) → 13 ≤ p → p ≤ 14 → follo
 tree_to_end p [] low high f e = absurd (omega arith)
 tree_to_end p (Branch branch ∷ l) low high f e =
     let t = tree_to_end 14 l (omega arith) (omega arith) (within 13 14 p (follow_on 14 l) f).more e in
-    record { tree = Branch branch ∷ t.tree; whole = ap (λ r. Branch branch ∷ r) t.whole; gone = t.gone }
+    record { tree = Branch branch ∷ t.tree; whole = ap (λ r. Branch branch ∷ r) t.whole; drawn = All-cons IsNodeLine (Branch branch) t.tree tt t.drawn }
 tree_to_end p (Leaf multipliers ∷ l) low high f e =
     let t = tree_to_end 14 l (omega arith) (omega arith) (within 13 14 p (follow_on 14 l) f).more e in
-    record { tree = Leaf multipliers ∷ t.tree; whole = ap (λ r. Leaf multipliers ∷ r) t.whole; gone = t.gone }
+    record { tree = Leaf multipliers ∷ t.tree; whole = ap (λ r. Leaf multipliers ∷ r) t.whole; drawn = All-cons IsNodeLine (Leaf multipliers) t.tree tt t.drawn }
 tree_to_end p (Dead ∷ l) low high f e =
     let t = tree_to_end 14 l (omega arith) (omega arith) (within 13 14 p (follow_on 14 l) f).more e in
-    record { tree = Dead ∷ t.tree; whole = ap (λ r. Dead ∷ r) t.whole; gone = t.gone }
-tree_to_end p (End ∷ l) low high f e = record { tree = []; whole = ap (λ r. End ∷ r) (after_end l (within 13 15 p (follow_on 16 l) f).more); gone = refl }
+    record { tree = Dead ∷ t.tree; whole = ap (λ r. Dead ∷ r) t.whole; drawn = All-cons IsNodeLine Dead t.tree tt t.drawn }
+tree_to_end p (End ∷ l) low high f e = record { tree = []; whole = ap (λ r. End ∷ r) (after_end l (within 13 15 p (follow_on 16 l) f).more); drawn = λ k d within. absurd (omega arith) }
 tree_to_end p (Batch n ∷ l) low high f e = let h = same 0 p (follow_on 1 l) f in absurd (omega (arith, h, low))
 tree_to_end p (Expired rider ∷ l) low high f e = let h = (within 1 2 p (follow_on 2 l) f).high_end in absurd (omega (arith, h, low))
 tree_to_end p (Overflow ∷ l) low high f e = let h = (within 1 2 p (follow_on 15 l) f).high_end in absurd (omega (arith, h, low))
@@ -213,7 +225,88 @@ shape p k (Leaf multipliers ∷ l) sum low f e = let h = (within 13 14 p (follow
 shape p k (Dead ∷ l) sum low f e = let h = (within 13 14 p (follow_on 14 l) f).low_end in absurd (omega (arith, h, sum))
 shape p k (End ∷ l) sum low f e = let h = (within 13 15 p (follow_on 16 l) f).low_end in absurd (omega (arith, h, sum))
 
-pub whole_block : (lines : List BlockLine) → follow_on 0 lines ≡ true → last_place 0 lines ≡ 16 → IsWhole lines
+whole_block : (lines : List BlockLine) → follow_on 0 lines ≡ true → last_place 0 lines ≡ 16 → IsWhole lines
 whole_block [] f e = absurd (omega arith)
 whole_block (Batch n ∷ l) f e = record { batch = n; rest = l; whole = refl; expires = shape 1 9 l (omega arith) (omega arith) f e }
 whole_block (x ∷ l) f e = absurd (cc)
+
+-- what stands between the expired riders and the end of a plan's lines
+pub record Parts : Type 0 where
+  pub lapsed : List ℕ
+  pub late : List LateText
+  pub rv : List (ℕ × ℕ)
+  pub rr : List (ℕ × ℕ)
+  pub rows : List RowText
+  pub chosen : List TripText
+  pub left : List ℕ
+  pub moves : List MoveLine
+  pub cost : ℕ
+  pub bound : ℤ
+  pub nodes : ℕ
+  pub tree : List BlockLine
+
+abbrev pub nest : Parts → List BlockLine
+nest p =
+    map Lapsed p.lapsed ++ (map Late p.late ++ (map Alone p.rv ++ (map Shared p.rr ++ (map Row p.rows ++ (map Trip p.chosen ++ (map Out p.left ++ (map Move p.moves
+    ++ (Cost p.cost ∷ Bound p.bound ∷ Nodes p.nodes ∷ (p.tree ++ End ∷ [])))))))))
+
+-- the lines of a block: its number, the expired riders, and an overflow or a plan
+abbrev pub overflow_block : ℕ → List ℕ → List BlockLine
+overflow_block batch expired = Batch batch ∷ (map Expired expired ++ Overflow ∷ End ∷ [])
+
+abbrev pub plan_block : ℕ → List ℕ → Parts → List BlockLine
+plan_block batch expired p = Batch batch ∷ (map Expired expired ++ nest p)
+
+pub data HasShape (lines : List BlockLine) : Type 0 where
+  overflows : (batch : ℕ) (expired : List ℕ) → lines ≡ overflow_block batch expired → HasShape lines
+  plans : (batch : ℕ) (expired : List ℕ) (p : Parts) → All IsNodeLine p.tree → lines ≡ plan_block batch expired p → HasShape lines
+
+parts_in : (lines : List BlockLine) → Lapses lines → (p : Parts) × All IsNodeLine p.tree × (lines ≡ nest p)
+parts_in lines a =
+    let b = a.behind in
+    let c = b.behind in
+    let d = c.behind in
+    let r = d.behind in
+    let f = r.behind in
+    let g = f.behind in
+    let h = g.behind in
+    let n = h.behind in
+    let p : Parts = record {
+      lapsed = a.items;
+      late = b.items;
+      rv = c.items;
+      rr = d.items;
+      rows = r.items;
+      chosen = f.items;
+      left = g.items;
+      moves = h.items;
+      cost = n.cost;
+      bound = n.bound;
+      nodes = n.nodes;
+      tree = n.drawn.tree;
+    } in (
+      p,
+      n.drawn.drawn,
+      a.whole ∙ ap (λ l. map Lapsed a.items ++ l)
+          (b.whole ∙ ap (λ l. map Late b.items ++ l)
+          (c.whole ∙ ap (λ l. map Alone c.items ++ l)
+          (d.whole ∙ ap (λ l. map Shared d.items ++ l)
+          (r.whole ∙ ap (λ l. map Row r.items ++ l)
+          (f.whole ∙ ap (λ l. map Trip f.items ++ l)
+          (g.whole ∙ ap (λ l. map Out g.items ++ l)
+          (h.whole ∙ ap (λ l. map Move h.items ++ l)
+          (n.whole ∙ ap (λ l. Cost n.cost ∷ Bound n.bound ∷ Nodes n.nodes ∷ l) n.drawn.whole)))))))),
+    )
+
+-- each block in form has this shape
+pub has_shape : (lines : List BlockLine) → follow_on 0 lines ≡ true → last_place 0 lines ≡ 16 → HasShape lines
+has_shape lines f e =
+    let w = whole_block lines f e in
+    let x = w.expires in
+    let front : lines ≡ Batch w.batch ∷ (map Expired x.items ++ x.rest) = w.whole ∙ ap (λ l. Batch w.batch ∷ l) x.whole in
+    ⊎_elim
+    (λ (over : x.rest ≡ Overflow ∷ End ∷ []). HasShape.overflows w.batch x.items (front ∙ ap (λ l. Batch w.batch ∷ (map Expired x.items ++ l)) over))
+    (λ (lapses : Lapses x.rest).
+    let p = parts_in x.rest lapses in
+    HasShape.plans w.batch x.items p.0 p.1 (front ∙ ap (λ l. Batch w.batch ∷ (map Expired x.items ++ l)) p.2))
+    x.behind

@@ -13,7 +13,8 @@ use Rattle.request_book.specs.declared.outcome.Outcome.{Outcome}
 use Rattle.rider_limits.specs.declared.settings.Settings.{Settings}
 use Rattle.road_network.specs.Roads.{Roads}
 use Rattle.block_audit.specs.Fits.{FitsTypes}
-use Rattle.block_audit.specs.Judged.{IsJudgedAs}
+use Rattle.block_audit.specs.Judged.{judged_outcome, CanBeTold}
+use Rattle.block_audit.specs.Told.{Told, told_by}
 use Rattle.block_audit.specs.declared.refusal.BlockRefusal.{BlockRefusal}
 use Rattle.block_audit.specs.declared.refusal.BlockRefusal.TheVariants.{OutOfMemory, Cut, Form, Wrong}
 
@@ -25,9 +26,9 @@ pub record BeginsWithGood (settings : Settings) (roads : Roads) (batch : Batch) 
   pub fits : FitsTypes batch.number outcome
   pub good : IsGoodOutcome settings roads batch outcome
 
--- the number that is told is the batch's, and the point holds of the outcome
-abbrev pub MeetsAs : Settings → Roads → Batch → ℕ → Outcome → Point → Type 0
-MeetsAs settings roads batch told outcome q = (told ≡ batch.number) × Meets settings roads batch outcome q
+-- the number that is told is the batch's, the point holds of the outcome as which the lines are judged, and it can be told
+abbrev pub MeetsAs : Settings → Roads → Batch → Told → Point → Type 0
+MeetsAs settings roads batch told q = (told.batch ≡ batch.number) × Meets settings roads batch (judged_outcome (map (λ v. v.id) batch.vehicles) told) q × CanBeTold q told
 
 -- the point of this place is the first that fails
 pub record FailsFirst (Holds' : Point → Type 0) (place : ℕ) : Type 0 where
@@ -35,15 +36,12 @@ pub record FailsFirst (Holds' : Point → Type 0) (place : ℕ) : Type 0 where
   pub at : point_place point ≡ place
   pub first : IsVerdictOf Holds' (Fails point)
 
--- the text begins with a block, and this is the first point that fails of the outcome as which its lines are judged
+-- the text begins with a block, and this is the first point that fails of what its lines tell
 pub record BeginsWithWrong (settings : Settings) (roads : Roads) (batch : Batch) (text : List ℕ) (place : ℕ) : Type 0 where
   pub lines : List BlockLine
   pub rest : List ℕ
-  pub told : ℕ
-  pub outcome : Outcome
   pub block : IsBlock text lines rest
-  pub judged : IsJudgedAs (map (λ v. v.id) batch.vehicles) lines told outcome
-  pub fails : FailsFirst (MeetsAs settings roads batch told outcome) place
+  pub fails : FailsFirst (MeetsAs settings roads batch (told_by lines)) place
 
 -- why a text begins with no block of a good outcome
 abbrev pub Refuses : Settings → Roads → Batch → List ℕ → BlockRefusal → Type 0

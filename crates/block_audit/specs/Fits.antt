@@ -1,10 +1,19 @@
 -- Which outcomes a block can tell.
-use Rattle.std.specs.Prelude.{ℕ}
+use Rattle.std.specs.Prelude.{ℕ, ◌≤◌, length, IfSome}
 use Rattle.std.specs.List.{All}
 use Rattle.report_lines.specs.BlockLine.{IsBlockLine}
 use Rattle.report_lines.specs.Outcome.{lines_of}
+use Rattle.request_book.specs.declared.outcome.Answer.{Answer}
+use Rattle.request_book.specs.declared.outcome.Answer.TheVariants.{Overflow, Planned as Plan}
 use Rattle.request_book.specs.declared.outcome.Outcome.{Outcome}
 
--- each number of the outcome's lines is within its type
-abbrev pub FitsTypes : ℕ → Outcome → Type 0
-FitsTypes batch outcome = All IsBlockLine (lines_of batch outcome)
+-- no late vehicle and no chosen trip has more stops than there can be
+abbrev pub HasFewStops : Answer → Type 0
+HasFewStops Overflow = Unit {0}
+HasFewStops (Plan plan) =
+    All (λ late. IfSome late.stops (λ stops. length stops.items ≤ 10)) plan.late × All (λ trip. length trip.stops.items ≤ 22) plan.chosen
+
+-- each number of the outcome's lines is within its type, and each list of stops
+pub record FitsTypes (batch : ℕ) (outcome : Outcome) : Type 0 where
+  pub lines : All IsBlockLine (lines_of batch outcome)
+  pub stops : HasFewStops outcome.answer

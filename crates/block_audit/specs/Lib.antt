@@ -1,4 +1,5 @@
 pub mod Fits
+pub mod Told
 pub mod Judged
 pub mod Block
 pub mod work

@@ -1,1 +1,4 @@
+-- What only the bodies of this crate need.
 pub mod Block
+pub mod Judged
+pub mod Told

@@ -1,15 +1,22 @@
 //! The audit of a block.
-ghost use Rattle.std.specs.Prelude.{◌≡◌, ◌≢◌, ℕ, true, All, Contains, IfOk, IfErr, List, length};
+ghost use Rattle.std.specs.Prelude.{◌≡◌, ◌≢◌, ℕ, ◌≤◌, true, All, Contains, IfOk, IfErr, List, length, map, min};
 ghost use Rattle.batch_snapshot.specs.Points.{named_nodes};
 ghost use Rattle.dispatch_report.specs.Block.{block_lines};
 ghost use Rattle.request_book.specs.declared.outcome.Outcome.{Outcome as OneOutcome};
+ghost use Rattle.batch_solver.specs.Outcome.{IsGoodOutcome};
 ghost use Rattle.block_audit.specs.Block.{BeginsWithGood, Refuses};
+ghost use Rattle.block_audit.specs.Judged.{judged_outcome};
+ghost use Rattle.block_audit.specs.work.Judged.{HoldUpTo, IsRight};
+ghost use Rattle.block_audit.specs.work.Told.{told_in};
 ghost use Rattle.block_audit.specs.declared.refusal.BlockRefusal.TheVariants.{OutOfMemory as NoMemory};
 
-use crate::judged::{ids_of, outcome_judged};
-use crate::refusal::{BlockRefusal, number_of, refusal_of};
+use crate::judged::{ids_of, outcome_of};
+use crate::refusal::{BlockRefusal, place_of, refusal_of};
+use crate::telling::untold_place;
+use crate::told::{BlockTold, told_by};
 use batch_snapshot::Snapshot;
-use outcome_check::{Verdict, judge};
+use outcome_check::judge;
+use pool_base::OutOfMemory;
 use report_lines::read_block;
 use request_book::Outcome;
 use rider_limits::Settings;
@@ -33,9 +40,9 @@ pub struct AuditedBlock<'a> {
 ///
 /// `Cut` and `Form` come where the text begins with no block in form, `Wrong` where it does and the block isn't a good
 /// outcome's: point 0 where the batch's number, the riders whose wait ended, or whether there are too many rows is told
-/// wrongly, and points 1 to 8 as `outcome_check` has them. Where the lines tell no outcome, since the number in `nodes`
-/// isn't that of the tree's lines, a `branch` names no row of its vehicle, or a row has more than six riders, they are
-/// judged as with no tree, and such a row as nobody's at a cost of 2^64 - 1.
+/// wrongly, and points 1 to 8 as `outcome_check` has them. Lines may tell what no outcome can: a row of more than six
+/// riders fails point 1, a late vehicle with more than ten stops point 2, a chosen trip with more than 22 stops point 3,
+/// and point 5 fails where the number in `nodes` isn't that of the tree's lines or a `branch` names no row of its vehicle.
 pub fn audit_block<'a, W: Ways, G: Gate>(
     rt: &(impl Threads + Sync),
     alloc: Global,
@@ -61,19 +68,58 @@ pub fn audit_block<'a, W: Ways, G: Gate>(
         Err(fault) => return Err(refusal_of(fault)),
     };
     let count = lines.len() as u64;
-    let ids = ids_of(alloc, snapshot.vehicles.as_slice())?;
-    let (batch, outcome) = outcome_judged(alloc, lines, &ids)?;
-    if batch != snapshot.batch {
+    let told = told_by(alloc, lines)?;
+    if told.batch != snapshot.batch {
         return Err(BlockRefusal::Wrong { point: 0 });
     }
-    match judge(rt, alloc, snapshot, network, ways, settings, &outcome, gate)? {
-        Verdict::Good => Ok(AuditedBlock {
-            outcome,
-            rest,
-            lines: count,
-        }),
-        Verdict::Fails(point) => Err(BlockRefusal::Wrong {
-            point: number_of(point),
-        }),
+    let (outcome, place) = judged(rt, alloc, told, snapshot, network, ways, settings, gate)?;
+    if place < 9 {
+        return Err(BlockRefusal::Wrong { point: place });
     }
+    Ok(AuditedBlock {
+        outcome,
+        rest,
+        lines: count,
+    })
+}
+
+/// The outcome as which what is told is judged, and the place of the first point that fails; 9 where none does.
+fn judged<W: Ways, G: Gate>(
+    rt: &(impl Threads + Sync),
+    alloc: Global,
+    told: BlockTold,
+    snapshot: &Snapshot,
+    network: &Network,
+    ways: &W,
+    settings: &Settings,
+    gate: &G,
+) -> Result<(Outcome, u8), OutOfMemory>
+    requires nodes { All (λ node. Contains network.now.nodes node) (named_nodes snapshot.now) }
+    requires ways { W.roads ways.now ≡ network.now }
+    ensures outcome { IfOk result (λ r. r.0 ≡ judged_outcome (map (λ v. v.id) snapshot.entry.now.vehicles) (told_in told)) }
+    ensures points { IfOk result (λ r. HoldUpTo (IsRight settings.entry.now network.entry.now snapshot.entry.now (told_in told)) r.1) }
+    ensures good { IfOk result (λ r. 9 ≤ r.1 → IsGoodOutcome settings.entry.now network.entry.now snapshot.entry.now r.0) }
+{
+    let untold = untold_place(&told);
+    let ids = match ids_of(alloc, snapshot.vehicles.as_slice()) {
+        Ok(ids) => ids,
+        Err(fault) => {
+            drop(told);
+            return Err(fault);
+        }
+    };
+    let outcome = outcome_of(alloc, told, &ids)?;
+    match judge(rt, alloc, snapshot, network, ways, settings, &outcome, gate) {
+        Ok(verdict) => Ok((outcome, least(untold, place_of(verdict)))),
+        Err(fault) => {
+            drop(outcome);
+            Err(fault)
+        }
+    }
+}
+
+fn least(one: u8, other: u8) -> u8
+    ensures { result ≡ min one other }
+{
+    if one < other { one } else { other }
 }

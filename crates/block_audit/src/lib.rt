@@ -5,14 +5,15 @@
 #![tactic(auto)]
 
 mod audit;
-mod bare;
 mod judged;
 mod laws;
 mod refusal;
+mod telling;
+mod told;
 
 pub use audit::{AuditedBlock, audit_block};
 pub use laws::{
-    a_good_block_is_not_refused, a_text_is_refused_in_one_way, long_rows_fail_by_the_graphs,
-    untold_lines_fail_by_the_bound,
+    a_good_block_is_not_refused, a_text_is_refused_in_one_way, long_orders_fail_by_the_late,
+    long_rows_fail_by_the_graphs, long_trips_fail_by_the_trips, untold_lines_fail_by_the_bound,
 };
 pub use refusal::BlockRefusal;

@@ -1,9 +1,9 @@
 ghost use Rattle.std.specs.Prelude.{◌≡◌};
 ghost use Rattle.block_audit.specs.declared.refusal.BlockRefusal.TheVariants.{OutOfMemory as NoMemory};
 ghost use Rattle.block_audit.specs.work.Block.{refusal_for};
-ghost use Rattle.outcome_check.specs.Verdict.{point_place};
+ghost use Rattle.block_audit.specs.work.Judged.{verdict_place};
 
-use outcome_check::Point;
+use outcome_check::{Point, Verdict};
 use pool_base::OutOfMemory;
 use report_lines::BlockFault;
 
@@ -38,19 +38,20 @@ pub(crate) fn refusal_of(fault: BlockFault) -> BlockRefusal
     }
 }
 
-/// The place of a point among the others.
-pub(crate) fn number_of(point: Point) -> u8
-    ensures { result ≡ point_place point }
+/// The place of the point that fails; 9 where none does.
+pub(crate) fn place_of(verdict: Verdict) -> u8
+    ensures { result ≡ verdict_place verdict }
 {
-    match point {
-        Point::Answer => 0,
-        Point::Graphs => 1,
-        Point::Late => 2,
-        Point::Trips => 3,
-        Point::Plan => 4,
-        Point::Bound => 5,
-        Point::Tree => 6,
-        Point::Best => 7,
-        Point::Moves => 8,
+    match verdict {
+        Verdict::Good => 9,
+        Verdict::Fails(Point::Answer) => 0,
+        Verdict::Fails(Point::Graphs) => 1,
+        Verdict::Fails(Point::Late) => 2,
+        Verdict::Fails(Point::Trips) => 3,
+        Verdict::Fails(Point::Plan) => 4,
+        Verdict::Fails(Point::Bound) => 5,
+        Verdict::Fails(Point::Tree) => 6,
+        Verdict::Fails(Point::Best) => 7,
+        Verdict::Fails(Point::Moves) => 8,
     }
 }

@@ -12,10 +12,10 @@ use Rattle.dispatch_report.specs.Block.{block_lines}
 use Rattle.dispatch_report.specs.Entry.{entry_line}
 use Rattle.dispatch_report.specs.Lines.{lines_text}
 use Rattle.dispatch_report.specs.Round.{entry_block}
-use Rattle.entry_lines.specs.Next.{IsEntry, IsNextLine}
-use Rattle.entry_lines.specs.declared.next.NextLine.{NextLine}
-use Rattle.entry_lines.specs.declared.next.NextLine.TheVariants.{Entry as EntryOf}
-use Rattle.entry_lines.proofs.lemmas.NextLemmas.{one_kind}
+use Rattle.report_lines.specs.Next.{IsEntry, IsNextLine}
+use Rattle.report_lines.specs.declared.next.NextLine.{NextLine}
+use Rattle.report_lines.specs.declared.next.NextLine.TheVariants.{Entry as EntryOf}
+use Rattle.report_lines.proofs.lemmas.NextLemmas.{one_kind}
 use Rattle.lane_progress.specs.declared.stand.LaneStand.{LaneStand}
 use Rattle.lane_progress.specs.Stand.{stand_at, stand_after, HaveCome, AreDone, IsNext, IsNextFrom}
 use Rattle.lane_progress.proofs.lemmas.LaneLemmas.{come_more}
@@ -34,7 +34,7 @@ use Rattle.request_book.proofs.lemmas.BookLemmas.{replies-push}
 use Rattle.rider_limits.specs.declared.settings.Settings.{Settings}
 use Rattle.road_network.specs.Roads.{Roads}
 use Rattle.script_rows.specs.Round.{NumberedLanes, MayStand, lane_at}
-use Rattle.report_head.specs.Line.{IsFirstLine}
+use Rattle.report_lines.specs.Line.{IsFirstLine}
 use Rattle.report_audit.specs.Place.{Extent, BeginsRound, MayComeNext, AreAtEnd, position_behind, state_behind}
 use Rattle.report_audit.specs.work.Place.{with_entry}
 use Rattle.report_audit.specs.Types.{HasFittingBlock, IsTold}

@@ -5,11 +5,11 @@ use Rattle.block_audit.specs.declared.refusal.BlockRefusal.TheVariants as block
 use Rattle.dispatch_engine.specs.Run.{IsRun, position_after_run}
 use Rattle.dispatch_report.specs.Head.{head_text}
 use Rattle.dispatch_report.specs.Round.{end_text, round_text}
-use Rattle.report_head.specs.Head.{BeginsWithHead}
-use Rattle.report_head.specs.Settings.{AreOf}
-use Rattle.report_head.specs.Fault.{HeadFails}
-use Rattle.report_head.specs.declared.fault.HeadFault.{HeadFault}
-use Rattle.report_head.specs.declared.fault.HeadFault.TheVariants as head
+use Rattle.report_lines.specs.Head.{BeginsWithHead}
+use Rattle.report_lines.specs.Settings.{AreOf}
+use Rattle.report_lines.specs.HeadFault.{HeadFails}
+use Rattle.report_lines.specs.declared.head_fault.HeadFault.{HeadFault}
+use Rattle.report_lines.specs.declared.head_fault.HeadFault.TheVariants as head
 use Rattle.request_book.specs.Book.{opening}
 use Rattle.rider_limits.specs.declared.settings.Settings.{Settings}
 use Rattle.road_network.specs.Roads.{Roads}

@@ -8,10 +8,10 @@ use Rattle.dispatch_engine.specs.Lane.{of_lane, ClosesAreGood, IsLaneRun, IsLane
 use Rattle.dispatch_engine.specs.Run.{IsRoundRun, IsRun, journal_of, position_after_run}
 use Rattle.dispatch_report.specs.Round.{end_text, round_text}
 use Rattle.dispatch_report.specs.Words.{numbered}
-use Rattle.entry_lines.specs.Next.{IsNextLine}
-use Rattle.entry_lines.specs.declared.next.NextLine.{NextLine}
-use Rattle.entry_lines.specs.declared.next.NextLine.TheVariants.{Round as RoundOf}
-use Rattle.entry_lines.proofs.lemmas.NextLemmas.{one_kind}
+use Rattle.report_lines.specs.Next.{IsNextLine}
+use Rattle.report_lines.specs.declared.next.NextLine.{NextLine}
+use Rattle.report_lines.specs.declared.next.NextLine.TheVariants.{Round as RoundOf}
+use Rattle.report_lines.proofs.lemmas.NextLemmas.{one_kind}
 use Rattle.lane_progress.specs.declared.stand.LaneStand.{LaneStand}
 use Rattle.lane_progress.specs.Stand.{at_start, stand_at, HaveCome, AreDone}
 use Rattle.report_lines.specs.Cut.{is_one_line}
@@ -27,7 +27,7 @@ use Rattle.rider_limits.specs.declared.settings.Settings.{Settings}
 use Rattle.road_network.specs.Roads.{Roads}
 use Rattle.script_rows.specs.Round.{NumberedLanes, IsRound, lane_at}
 use Rattle.shared_book.specs.Locked.{sealed_by}
-use Rattle.report_head.specs.Line.{IsFirstLine}
+use Rattle.report_lines.specs.Line.{IsFirstLine}
 use Rattle.report_audit.specs.Place.{Extent, AreAtEnd, position_behind, state_behind}
 use Rattle.report_audit.specs.Report.{closes, rounds_text}
 use Rattle.report_audit.specs.Types.{AreTold, JournalsAreTold}

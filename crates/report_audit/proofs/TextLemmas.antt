@@ -6,9 +6,9 @@ use Rattle.dispatch_report.specs.Entry.{command_text, entry_line, refusal_text, 
 use Rattle.dispatch_report.specs.Lines.{lines_text}
 use Rattle.dispatch_report.specs.Round.{entries_lines, entry_block, round_text, end_text}
 use Rattle.dispatch_report.specs.Words.{numbered, spaced}
-use Rattle.entry_lines.specs.Command.{IsCommand}
-use Rattle.entry_lines.specs.Next.{IsEntry}
-use Rattle.entry_lines.specs.Reply.{IsReply, IsRefusal}
+use Rattle.report_lines.specs.Command.{IsCommand}
+use Rattle.report_lines.specs.Next.{IsEntry}
+use Rattle.report_lines.specs.Reply.{IsReply, IsRefusal}
 use Rattle.pool_io.specs.Faults.{one_more}
 use Rattle.report_lines.specs.Cut.{is_one_line}
 use Rattle.report_lines.specs.Ids.{IsId}

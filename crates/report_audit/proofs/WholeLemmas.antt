@@ -5,8 +5,8 @@ use Rattle.std.proofs.lemmas.List.{drop_all, drop_more, take_all}
 use Rattle.dispatch_engine.specs.Run.{IsRun, IsRoundRun, position_after_run}
 use Rattle.dispatch_report.specs.Round.{end_text, round_text}
 use Rattle.dispatch_report.specs.Words.{numbered}
-use Rattle.entry_lines.specs.declared.next.NextLine.TheVariants.{Entry as EntryOf}
-use Rattle.entry_lines.proofs.lemmas.NextLemmas.{no_entry_done, no_entry_round, one_kind}
+use Rattle.report_lines.specs.declared.next.NextLine.TheVariants.{Entry as EntryOf}
+use Rattle.report_lines.proofs.lemmas.NextLemmas.{no_entry_done, no_entry_round, one_kind}
 use Rattle.request_book.specs.Book.{BookView, next_position}
 use Rattle.request_book.specs.Replay.{state_after}
 use Rattle.request_book.specs.declared.journal.Journal.{Journal}

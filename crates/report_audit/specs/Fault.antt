@@ -6,11 +6,11 @@ use Rattle.block_audit.specs.Block.{Refuses}
 use Rattle.block_audit.specs.declared.refusal.BlockRefusal.{BlockRefusal}
 use Rattle.block_audit.specs.declared.refusal.BlockRefusal.TheVariants as block
 use Rattle.dispatch_report.specs.Entry.{entry_line}
-use Rattle.report_head.specs.Fault.{HeadFails}
-use Rattle.report_head.specs.Line.{IsFirstLine}
-use Rattle.report_head.specs.Settings.{AreOf}
-use Rattle.report_head.specs.declared.fault.HeadFault.{HeadFault}
-use Rattle.report_head.specs.declared.fault.HeadFault.TheVariants as head
+use Rattle.report_lines.specs.HeadFault.{HeadFails}
+use Rattle.report_lines.specs.Line.{IsFirstLine}
+use Rattle.report_lines.specs.Settings.{AreOf}
+use Rattle.report_lines.specs.declared.head_fault.HeadFault.{HeadFault}
+use Rattle.report_lines.specs.declared.head_fault.HeadFault.TheVariants as head
 use Rattle.report_lines.specs.Cut.{is_one_line}
 use Rattle.request_book.specs.declared.journal.Entry.{Entry}
 use Rattle.request_book.specs.declared.journal.Journal.{Journal}

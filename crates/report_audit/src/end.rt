@@ -3,8 +3,7 @@ ghost use Rattle.std.specs.Prelude.{◌≡◌, ◌↔◌, [], IsTrue, MatchResul
 ghost use Rattle.report_audit.specs.work.Ends.{IsEndText, EndStops, IsRestBehind};
 
 use crate::stop::{LineFault, Stop, line_between, wrong_line};
-use entry_lines::NextLine;
-use report_lines::line_first;
+use report_lines::{NextLine, line_first};
 
 /// That the text is the last line of a report with so many entries, and nothing else.
 pub(crate) fn audit_end(text: &[u8], entries: u64) -> Result<(), Stop>

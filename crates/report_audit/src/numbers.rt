@@ -1,7 +1,7 @@
 //! That the numbers of commands and replies are within their types.
-ghost use Rattle.entry_lines.specs.Command.{IsBatch, IsCommand, IsSecond};
-ghost use Rattle.entry_lines.specs.Reply.{IsReply, IsRefusal};
-ghost use Rattle.entry_lines.specs.lemmas.Replies.{OrNone};
+ghost use Rattle.report_lines.specs.Command.{IsBatch, IsCommand, IsSecond};
+ghost use Rattle.report_lines.specs.Reply.{IsReply, IsRefusal};
+ghost use Rattle.report_lines.specs.lemmas.Replies.{OrNone};
 ghost use Rattle.report_audit.specs.work.Taking.{TellsEnd};
 ghost use Rattle.report_lines.specs.Ids.{IsId};
 ghost use Rattle.request_book.specs.declared.reply.Reply.TheVariants.{Refused as RefusedFor};

@@ -14,7 +14,7 @@ use crate::setup::Setup;
 use crate::stop::{LineFault, Stop, begins_with_entry};
 use batch_snapshot::Fleet;
 use block_audit::BlockRefusal;
-use report_head::{HeadFault, read_head};
+use report_lines::{HeadFault, read_head};
 use request_book::Book;
 use rider_limits::Settings;
 use road_network::Network;

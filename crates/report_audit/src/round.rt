@@ -7,8 +7,8 @@ ghost use Rattle.report_audit.specs.work.Rounds.{IsRoundStart, HasRoundLine, IsN
 use crate::entry::audit_entry;
 use crate::setup::Setup;
 use crate::stop::{Stop, line_between, wrong_line};
-use entry_lines::NextLine;
 use lane_progress::Progress;
+use report_lines::NextLine;
 use request_book::{Book, Command, Entry, Reply};
 use script_rows::Round;
 use std::alloc::Global;

@@ -1,14 +1,13 @@
 //! Where an audit stops, by the length of the text that is left there.
 ghost use Rattle.std.specs.Prelude.{◌≡◌, ℕ, true, MatchResult};
-ghost use Rattle.entry_lines.specs.Next.{IsNextLine};
-ghost use Rattle.report_head.specs.Line.{IsFirstLine};
+ghost use Rattle.report_lines.specs.Next.{IsNextLine};
+ghost use Rattle.report_lines.specs.Line.{IsFirstLine};
 ghost use Rattle.report_audit.specs.declared.stop.Stop.TheVariants.{OutOfMemory as NoMemory};
 ghost use Rattle.report_audit.specs.work.Steps.{BeginsWithEntry, HasNoNext};
 
 use block_audit::BlockRefusal;
-use entry_lines::{NextLine, read_next};
 use pool_base::OutOfMemory;
-use report_lines::line_first;
+use report_lines::{NextLine, line_first, read_next};
 
 /// What is wrong with a line.
 #[derive(Clone, Copy)]

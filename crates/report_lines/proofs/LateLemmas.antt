@@ -1,32 +1,30 @@
 -- A late vehicle's order.
 use Rattle.std.proofs.Common.{◌≡◌, ◌≢◌, ℕ, ◌≤◌, true, codes, List, Option, None, Some, refl, arith}
-use Rattle.arrayvec.specs.ArrayVec.{ArrayVec}
+use Rattle.std.specs.List.{flat_map, All}
 use Rattle.dispatch_report.specs.Block.{stop_text}
 use Rattle.dispatch_report.specs.Words.{numbered, spaced}
 use Rattle.report_lines.specs.Reading.{BeginsWith, BeginsWithNone, ends_number}
-use Rattle.report_lines.specs.work.Stops.{stops_text}
-use Rattle.report_lines.specs.Stops.{AreStops}
-use Rattle.report_lines.specs.work.Stops.{IsStop}
+use Rattle.report_lines.specs.Stops.{FitsStop}
 use Rattle.report_lines.specs.work.Late.{order_text, IsOrder}
 use Rattle.report_lines.proofs.ListLemmas.{many_end}
 use Rattle.report_lines.proofs.lemmas.ReadingLemmas.{head_none, tail_none, numbered_once}
 use Rattle.report_lines.proofs.StopLemmas.{stop_apart}
 use Rattle.request_book.specs.declared.outcome.PlannedStop.{PlannedStop}
 
-pub order_no_delay : (text : List ℕ) → text ≢ codes " none" → BeginsWithNone spaced (λ n. n ≤ 18446744073709551615) text → (order : ℕ × Option (ArrayVec PlannedStop)) → IsOrder order → text ≢ order_text order
+pub order_no_delay : (text : List ℕ) → text ≢ codes " none" → BeginsWithNone spaced (λ n. n ≤ 18446744073709551615) text → (order : ℕ × Option (List PlannedStop)) → IsOrder order → text ≢ order_text order
 order_no_delay text other none (delay, None) is e = other e
 order_no_delay text other none (delay, Some stops) is e =
     let within : delay ≤ 18446744073709551615 = omega (arith, is.0) in
-    head_none spaced (λ n. n ≤ 18446744073709551615) stops_text text none delay stops within (many_end stop_text IsStop stop_apart stops.items) e
+    head_none spaced (λ n. n ≤ 18446744073709551615) (flat_map stop_text) text none delay stops within (many_end stop_text FitsStop stop_apart stops) e
 
-pub order_no_stops : (text : List ℕ) → text ≢ codes " none" → (given : ℕ) (after : List ℕ) → BeginsWith spaced (λ n. n ≤ 18446744073709551615) text given after → ((stops : ArrayVec PlannedStop) → AreStops 10 stops → after ≢ stops_text stops) → (order : ℕ × Option (ArrayVec PlannedStop)) → IsOrder order → text ≢ order_text order
+pub order_no_stops : (text : List ℕ) → text ≢ codes " none" → (given : ℕ) (after : List ℕ) → BeginsWith spaced (λ n. n ≤ 18446744073709551615) text given after → ((stops : List PlannedStop) → All FitsStop stops → after ≢ flat_map stop_text stops) → (order : ℕ × Option (List PlannedStop)) → IsOrder order → text ≢ order_text order
 order_no_stops text other given after b none (delay, None) is e = other e
 order_no_stops text other given after b none (delay, Some stops) is e =
     let within : delay ≤ 18446744073709551615 = omega (arith, is.0) in
-    tail_none spaced (λ n. n ≤ 18446744073709551615) stops_text text (numbered_once _ 18446744073709551615 (omega arith)) given after b delay stops within
-    (many_end stop_text IsStop stop_apart stops.items) (none stops is.1) e
+    tail_none spaced (λ n. n ≤ 18446744073709551615) (flat_map stop_text) text (numbered_once _ 18446744073709551615 (omega arith)) given after b delay stops within
+    (many_end stop_text FitsStop stop_apart stops) (none stops is.1) e
 
-pub order_ends : (order : ℕ × Option (ArrayVec PlannedStop)) → ends_number (order_text order) ≡ true
+pub order_ends : (order : ℕ × Option (List PlannedStop)) → ends_number (order_text order) ≡ true
 unfolding numbered
 order_ends (delay, None) = refl
 order_ends (delay, Some stops) = refl

@@ -5,3 +5,11 @@ pub mod LateLemmas
 pub mod SignedLemmas
 pub mod BlockLemmas
 pub mod OneLine
+pub mod LineLemmas
+pub mod SettingsLemmas
+pub mod FormLemmas
+pub mod WholeHead
+pub mod ToldLemmas
+pub mod CommandLemmas
+pub mod EntryLemmas
+pub mod ReplyLemmas

@@ -7,8 +7,7 @@ use Rattle.std.specs.List.{list_all}
 use Rattle.std.proofs.lemmas.Bool.{and_parts}
 use Rattle.std.proofs.lemmas.Fmt.{decimal_is_IsNumeral_wide}
 use Rattle.std.proofs.lemmas.List.{append_cancel_left}
-use Rattle.arrayvec.specs.ArrayVec.{ArrayVec}
-use Rattle.dispatch_report.specs.Block.{stop_text, late_line, pair_line, trip_line, move_text}
+use Rattle.dispatch_report.specs.Block.{stop_text, pair_line, move_text}
 use Rattle.dispatch_report.specs.Words.{numbered, signed, spaced}
 use Rattle.report_lines.specs.BlockLine.{block_line_text, IsBlockLine}
 use Rattle.report_lines.specs.Ids.{IsId, AreIds}
@@ -17,10 +16,8 @@ use Rattle.report_lines.specs.Moves.{IsMove, IsBranch}
 use Rattle.report_lines.specs.Reading.{BeginsWith, ends_number}
 use Rattle.report_lines.specs.Row.{row_line_text, IsRowLine}
 use Rattle.report_lines.specs.Signed.{IsWide, IsLong}
-use Rattle.report_lines.specs.work.Stops.{stops_text}
-use Rattle.report_lines.specs.Stops.{AreStops}
-use Rattle.report_lines.specs.work.Stops.{IsStop}
-use Rattle.report_lines.specs.Trips.{IsTripLine, IsLateLine}
+use Rattle.report_lines.specs.Stops.{FitsStop}
+use Rattle.report_lines.specs.Trips.{trip_text, IsTripLine, late_text, IsLateLine}
 use Rattle.report_lines.specs.Both.{both_texts, BothAre}
 use Rattle.report_lines.specs.work.Late.{order_text, IsOrder}
 use Rattle.report_lines.proofs.LateLemmas.{order_ends}
@@ -29,8 +26,8 @@ use Rattle.report_lines.proofs.lemmas.NumeralLemmas.{decimal_digits}
 use Rattle.report_lines.proofs.lemmas.ReadingLemmas.{EndsOnce, StandsApart, numbered_once, pair_once, spaced_apart, spaced_ends}
 use Rattle.report_lines.proofs.SignedLemmas.{signed_words_once, signed_apart, signed_some, long_once}
 use Rattle.report_lines.proofs.StopLemmas.{stop_once, stop_apart, stop_some}
-use Rattle.request_book.specs.declared.outcome.ChosenTrip.{ChosenTrip}
-use Rattle.request_book.specs.declared.outcome.LateVehicle.{LateVehicle}
+use Rattle.report_lines.specs.declared.trip.TripText.{TripText}
+use Rattle.report_lines.specs.declared.late.LateText.{LateText}
 use Rattle.request_book.specs.declared.outcome.MoveLine.{MoveLine}
 use Rattle.request_book.specs.declared.outcome.PlannedStop.{PlannedStop}
 use Rattle.report_lines.specs.declared.row.RowText.{RowText}
@@ -115,26 +112,23 @@ row_of_one a b ia ib e =
     let h : List ℕ → RowText = λ rs. record { vehicle = b.vehicle; cost = b.cost; riders = rs } in
     ap f (ap (λ p. p.0) same.0) ∙ ap g (ap (λ p. p.1) same.0) ∙ ap h same.1
 
-items_same : (a b : ArrayVec PlannedStop) → a.items ≡ b.items → a ≡ b
-items_same a b e = let f : List PlannedStop → ArrayVec PlannedStop = λ xs. record { items = xs } in ap f e
+stops_of_one : TextIsOfOne (flat_map stop_text) (All FitsStop)
+stops_of_one = many_of_one stop_text FitsStop stop_apart stop_once stop_some
 
-stops_of_one : (most : ℕ) → TextIsOfOne stops_text (AreStops most)
-stops_of_one most a b ia ib e = items_same a b (many_of_one stop_text IsStop stop_apart stop_once stop_some a.items b.items ia.0 ib.0 e)
+stops_end : (stops : List PlannedStop) → ends_number (flat_map stop_text stops) ≡ true
+stops_end stops = many_end stop_text FitsStop stop_apart stops
 
-stops_end : (stops : ArrayVec PlannedStop) → ends_number (stops_text stops) ≡ true
-stops_end stops = many_end stop_text IsStop stop_apart stops.items
-
-trip_of_one : TextIsOfOne trip_line IsTripLine
+trip_of_one : TextIsOfOne trip_text IsTripLine
 trip_of_one a b ia ib e =
     let wa : a.cost ≤ 2 ^ 64 = omega (arith, ia.1) in
     let wb : b.cost ≤ 2 ^ 64 = omega (arith, ib.1) in
     let same =
-    parts_of_one (both_texts (numbered (codes "trip ")) spaced) (BothAre IsId (λ n. n ≤ 2 ^ 64)) stops_text (AreStops 22) (head_once (codes "trip ")) (stops_of_one 22) stops_end
+    parts_of_one (both_texts (numbered (codes "trip ")) spaced) (BothAre IsId (λ n. n ≤ 2 ^ 64)) (flat_map stop_text) (All FitsStop) (head_once (codes "trip ")) stops_of_one stops_end
     (a.vehicle, a.cost) (b.vehicle, b.cost) a.stops b.stops (ia.0, wa) (ib.0, wb) ia.2 ib.2 e
     in
-    let f : ℕ → ChosenTrip = λ v. record { vehicle = v; cost = a.cost; stops = a.stops } in
-    let g : ℕ → ChosenTrip = λ k. record { vehicle = b.vehicle; cost = k; stops = a.stops } in
-    let h : ArrayVec PlannedStop → ChosenTrip = λ s. record { vehicle = b.vehicle; cost = b.cost; stops = s } in
+    let f : ℕ → TripText = λ v. record { vehicle = v; cost = a.cost; stops = a.stops } in
+    let g : ℕ → TripText = λ k. record { vehicle = b.vehicle; cost = k; stops = a.stops } in
+    let h : List PlannedStop → TripText = λ s. record { vehicle = b.vehicle; cost = b.cost; stops = s } in
     ap f (ap (λ p. p.0) same.0) ∙ ap g (ap (λ p. p.1) same.0) ∙ ap h same.1
 
 move_of_one : TextIsOfOne move_text IsMove
@@ -175,22 +169,22 @@ order_of_one : TextIsOfOne order_text IsOrder
 order_of_one (da, None) (db, None) ia ib e =
     let same : da ≡ db = ia ∙ sym ib in
     ap (λ d. (d, None)) same
-order_of_one (da, None) (db, Some b) ia ib e = absurd (none_is_no_delay db (stops_text b) (omega (arith, ib.0)) e)
-order_of_one (da, Some a) (db, None) ia ib e = absurd (none_is_no_delay da (stops_text a) (omega (arith, ia.0)) (sym e))
+order_of_one (da, None) (db, Some b) ia ib e = absurd (none_is_no_delay db (flat_map stop_text b) (omega (arith, ib.0)) e)
+order_of_one (da, Some a) (db, None) ia ib e = absurd (none_is_no_delay da (flat_map stop_text a) (omega (arith, ia.0)) (sym e))
 order_of_one (da, Some a) (db, Some b) ia ib e =
     let wa : da ≤ 2 ^ 64 = omega (arith, ia.0) in
     let wb : db ≤ 2 ^ 64 = omega (arith, ib.0) in
-    let same = parts_of_one spaced (λ n. n ≤ 2 ^ 64) stops_text (AreStops 10) (numbered_once _ (2 ^ 64) (omega arith)) (stops_of_one 10) stops_end da db a b wa wb ia.1 ib.1 e in
+    let same = parts_of_one spaced (λ n. n ≤ 2 ^ 64) (flat_map stop_text) (All FitsStop) (numbered_once _ (2 ^ 64) (omega arith)) stops_of_one stops_end da db a b wa wb ia.1 ib.1 e in
     ap (λ d. (d, Some a)) same.0 ∙ ap (λ s. (db, Some s)) same.1
 
-late_of_one : TextIsOfOne late_line IsLateLine
+late_of_one : TextIsOfOne late_text IsLateLine
 late_of_one a b ia ib e =
     let same =
     parts_of_one (numbered (codes "late ")) IsId order_text IsOrder (numbered_once (codes "late ") 1000000000 (omega arith)) order_of_one order_ends
     a.vehicle b.vehicle (a.delay, a.stops) (b.delay, b.stops) ia.0 ib.0 ia.1 ib.1 e
     in
-    let f : ℕ → LateVehicle = λ v. record { vehicle = v; delay = a.delay; stops = a.stops } in
-    let g : ℕ × Option (ArrayVec PlannedStop) → LateVehicle = λ o. record { vehicle = b.vehicle; delay = o.0; stops = o.1 } in
+    let f : ℕ → LateText = λ v. record { vehicle = v; delay = a.delay; stops = a.stops } in
+    let g : ℕ × Option (List PlannedStop) → LateText = λ o. record { vehicle = b.vehicle; delay = o.0; stops = o.1 } in
     ap f same.0 ∙ ap g same.1
 
 leaf_of_one : TextIsOfOne leaf_text (All IsLong)
@@ -260,7 +254,7 @@ is_lapsed : (x : ℕ) (y : BlockLine) → bytes_of y ≡ bytes_of (Lapsed x) →
 is_lapsed x (Lapsed z) e = (z, refl)
 is_lapsed x _ e = absurd (omega arith)
 
-is_late : (x : LateVehicle) (y : BlockLine) → bytes_of y ≡ bytes_of (Late x) → (z : LateVehicle) × (y ≡ Late z)
+is_late : (x : LateText) (y : BlockLine) → bytes_of y ≡ bytes_of (Late x) → (z : LateText) × (y ≡ Late z)
 is_late x (Late z) e = (z, refl)
 is_late x _ e = absurd (omega arith)
 
@@ -276,7 +270,7 @@ is_row : (x : RowText) (y : BlockLine) → bytes_of y ≡ bytes_of (Row x) → (
 is_row x (Row z) e = (z, refl)
 is_row x _ e = absurd (omega arith)
 
-is_trip : (x : ChosenTrip) (y : BlockLine) → bytes_of y ≡ bytes_of (Trip x) → (z : ChosenTrip) × (y ≡ Trip z)
+is_trip : (x : TripText) (y : BlockLine) → bytes_of y ≡ bytes_of (Trip x) → (z : TripText) × (y ≡ Trip z)
 is_trip x (Trip z) e = (z, refl)
 is_trip x _ e = absurd (omega arith)
 
@@ -331,11 +325,11 @@ block_line_of_one (Batch x) y ix iy e = kind_of_one Batch (numbered (codes "batc
 block_line_of_one (Expired x) y ix iy e = kind_of_one Expired (numbered (codes "expired ")) (IsId) (numbered_id (codes "expired ")) (λ m h. h) (λ m. refl) x y ix iy e (is_expired x y (bytes_same (Expired x) y e))
 block_line_of_one Overflow y ix iy e = sym (is_overflow y (bytes_same Overflow y e))
 block_line_of_one (Lapsed x) y ix iy e = kind_of_one Lapsed (numbered (codes "lapsed ")) (IsId) (numbered_id (codes "lapsed ")) (λ m h. h) (λ m. refl) x y ix iy e (is_lapsed x y (bytes_same (Lapsed x) y e))
-block_line_of_one (Late x) y ix iy e = kind_of_one Late (late_line) (IsLateLine) (late_of_one) (λ m h. h) (λ m. refl) x y ix iy e (is_late x y (bytes_same (Late x) y e))
+block_line_of_one (Late x) y ix iy e = kind_of_one Late (late_text) (IsLateLine) (late_of_one) (λ m h. h) (λ m. refl) x y ix iy e (is_late x y (bytes_same (Late x) y e))
 block_line_of_one (Alone x) y ix iy e = kind_of_one Alone (pair_line (codes "rv ")) (AreIds) (ids_of_one (codes "rv ")) (λ m h. h) (λ m. refl) x y ix iy e (is_alone x y (bytes_same (Alone x) y e))
 block_line_of_one (Shared x) y ix iy e = kind_of_one Shared (pair_line (codes "rr ")) (AreIds) (ids_of_one (codes "rr ")) (λ m h. h) (λ m. refl) x y ix iy e (is_shared x y (bytes_same (Shared x) y e))
 block_line_of_one (Row x) y ix iy e = kind_of_one Row (row_line_text) (IsRowLine) (row_of_one) (λ m h. h) (λ m. refl) x y ix iy e (is_row x y (bytes_same (Row x) y e))
-block_line_of_one (Trip x) y ix iy e = kind_of_one Trip (trip_line) (IsTripLine) (trip_of_one) (λ m h. h) (λ m. refl) x y ix iy e (is_trip x y (bytes_same (Trip x) y e))
+block_line_of_one (Trip x) y ix iy e = kind_of_one Trip (trip_text) (IsTripLine) (trip_of_one) (λ m h. h) (λ m. refl) x y ix iy e (is_trip x y (bytes_same (Trip x) y e))
 block_line_of_one (Out x) y ix iy e = kind_of_one Out (numbered (codes "out ")) (IsId) (numbered_id (codes "out ")) (λ m h. h) (λ m. refl) x y ix iy e (is_out x y (bytes_same (Out x) y e))
 block_line_of_one (Move x) y ix iy e = kind_of_one Move (move_text) (IsMove) (move_of_one) (λ m h. h) (λ m. refl) x y ix iy e (is_move x y (bytes_same (Move x) y e))
 block_line_of_one (Cost x) y ix iy e = kind_of_one Cost (numbered (codes "cost ")) (λ n. n < 2 ^ 64) (numbered_below (codes "cost ")) (λ m h. h) (λ m. refl) x y ix iy e (is_cost x y (bytes_same (Cost x) y e))

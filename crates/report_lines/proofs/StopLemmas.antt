@@ -1,12 +1,13 @@
 -- Stops, one behind the other.
-use Rattle.std.proofs.Common.{◌≡◌, ◌≢◌, ℕ, ◌≤◌, ◌<◌, Bool, true, false, length, get_or, codes, List, [], ◌∷◌, ◌++◌, refl, sym, ap, ◌∙◌, subst, length-append, nat_eq, eq-eqb, arith}
+use Rattle.std.proofs.Common.{◌≡◌, ◌≢◌, ℕ, ◌≤◌, ◌<◌, Bool, true, false, length, get_or, codes, List, [], ◌∷◌, ◌++◌, refl, sym, ap, ◌∙◌, arith}
 use Rattle.dispatch_report.specs.Block.{stop_text}
 use Rattle.dispatch_report.specs.Words.{numbered}
 use Rattle.report_lines.specs.Ids.{IsId}
 use Rattle.report_lines.specs.Reading.{BeginsWith, BeginsWithNone, ends_number}
 use Rattle.report_lines.specs.Both.{both_texts, BothAre}
-use Rattle.report_lines.specs.work.Stops.{visit_text, IsVisit, IsStop}
-use Rattle.report_lines.proofs.ListLemmas.{ReadSoFar, IsNeverEmpty, so_far_more}
+use Rattle.report_lines.specs.Stops.{FitsStop}
+use Rattle.report_lines.specs.work.Stops.{visit_text, IsVisit}
+use Rattle.report_lines.proofs.ListLemmas.{IsNeverEmpty}
 use Rattle.report_lines.proofs.lemmas.ReadingLemmas.{EndsOnce, StandsApart, both_none_first, both_none_second, both_some, both_once, numbered_once}
 use Rattle.request_book.specs.declared.outcome.PlannedStop.{PlannedStop}
 
@@ -52,13 +53,13 @@ AreParts = BothAre IsPlaced (λ n. n ≤ 18446744073709551615)
 abbrev parts_of : PlannedStop → ((Bool × ℕ) × ℕ) × ℕ
 parts_of stop = (((stop.pick, stop.rider), stop.node), stop.second)
 
-stop_begins : (text : List ℕ) (stop : PlannedStop) (rest : List ℕ) → BeginsWith stop_text IsStop text stop rest → BeginsWith parts_text AreParts text (parts_of stop) rest
+stop_begins : (text : List ℕ) (stop : PlannedStop) (rest : List ℕ) → BeginsWith stop_text FitsStop text stop rest → BeginsWith parts_text AreParts text (parts_of stop) rest
 stop_begins text stop rest b =
     let is = b.lawful in
     let late : stop.second ≤ 18446744073709551615 = omega (arith, is.2) in
     record { whole = b.whole; lawful = ((is.0, is.1), late); ends = b.ends }
 
-stop_none : (text : List ℕ) → BeginsWithNone parts_text AreParts text → BeginsWithNone stop_text IsStop text
+stop_none : (text : List ℕ) → BeginsWithNone parts_text AreParts text → BeginsWithNone stop_text FitsStop text
 stop_none text none stop rest b = none (parts_of stop) rest (stop_begins text stop rest b)
 
 placed_once : EndsOnce place_text IsPlaced
@@ -69,7 +70,7 @@ parts_once =
     both_once place_text IsPlaced (numbered (codes ":")) (λ n. n ≤ 18446744073709551615) colon_apart placed_once
     (numbered_once (codes ":") 18446744073709551615 (omega arith))
 
-pub stop_once : EndsOnce stop_text IsStop
+pub stop_once : EndsOnce stop_text FitsStop
 stop_once text x y r s bx by =
     let same = parts_once text (parts_of x) (parts_of y) r s (stop_begins text x r bx) (stop_begins text y s by) in
     (stop_is x y (ap (λ p. p.0.0.0) same.0) (ap (λ p. p.0.0.1) same.0) (ap (λ p. p.0.1) same.0) (ap (λ p. p.1) same.0), same.1)
@@ -99,39 +100,20 @@ stop_some stop = by stop.pick
     by false = omega arith
 
 -- where a stop's parts are missing
-pub stop_no_visit : (text : List ℕ) → BeginsWithNone visit_text IsVisit text → BeginsWithNone stop_text IsStop text
+pub stop_no_visit : (text : List ℕ) → BeginsWithNone visit_text IsVisit text → BeginsWithNone stop_text FitsStop text
 stop_no_visit text none =
     stop_none text
     (both_none_first place_text IsPlaced (numbered (codes ":")) (λ n. n ≤ 18446744073709551615) colon_apart text
     (both_none_first visit_text IsVisit (numbered (codes "@")) IsId at_apart text none))
 
-pub stop_no_place : (text : List ℕ) (visit : Bool × ℕ) (after : List ℕ) → BeginsWith visit_text IsVisit text visit after → BeginsWithNone (numbered (codes "@")) IsId after → BeginsWithNone stop_text IsStop text
+pub stop_no_place : (text : List ℕ) (visit : Bool × ℕ) (after : List ℕ) → BeginsWith visit_text IsVisit text visit after → BeginsWithNone (numbered (codes "@")) IsId after → BeginsWithNone stop_text FitsStop text
 stop_no_place text visit after b none =
     stop_none text
     (both_none_first place_text IsPlaced (numbered (codes ":")) (λ n. n ≤ 18446744073709551615) colon_apart text
     (both_none_second visit_text IsVisit (numbered (codes "@")) IsId at_apart text visit after visit_once b none))
 
-pub stop_no_second : (text : List ℕ) (visit : Bool × ℕ) (after : List ℕ) (place : ℕ) (last : List ℕ) → BeginsWith visit_text IsVisit text visit after → BeginsWith (numbered (codes "@")) IsId after place last → BeginsWithNone (numbered (codes ":")) (λ n. n ≤ 18446744073709551615) last → BeginsWithNone stop_text IsStop text
+pub stop_no_second : (text : List ℕ) (visit : Bool × ℕ) (after : List ℕ) (place : ℕ) (last : List ℕ) → BeginsWith visit_text IsVisit text visit after → BeginsWith (numbered (codes "@")) IsId after place last → BeginsWithNone (numbered (codes ":")) (λ n. n ≤ 18446744073709551615) last → BeginsWithNone stop_text FitsStop text
 stop_no_second text visit after place last b p none =
     stop_none text
     (both_none_second place_text IsPlaced (numbered (codes ":")) (λ n. n ≤ 18446744073709551615) colon_apart text (visit, place) last placed_once
     (both_some visit_text IsVisit (numbered (codes "@")) IsId at_apart text visit after place last b p) none)
-
--- stops read so far, into a list of at most so many
-pub record StopsSoFar (most : ℕ) (text : List ℕ) (stops : List PlannedStop) (rest : List ℕ) : Type 0 where
-  pub so_far : ReadSoFar stop_text IsStop text stops rest
-  pub room : length stops ≤ most
-
-pub stops_more : (most : ℕ) (text : List ℕ) (stops : List PlannedStop) (rest : List ℕ) (stop : PlannedStop) (after : List ℕ) (new : List PlannedStop) → StopsSoFar most text stops rest → BeginsWith stop_text IsStop rest stop after → length stops < most → new ≡ stops ++ stop ∷ [] → StopsSoFar most text new after
-stops_more most text stops rest stop after new so b room is =
-    subst (λ (xs : List PlannedStop). StopsSoFar most text xs after) (sym is)
-    (record {
-      so_far = so_far_more stop_text IsStop stop_apart stop_once stop_some text stops rest stop after so.so_far b;
-      room = omega (arith, length-append stops (stop ∷ []));
-    })
-
--- a list that isn't full has room
-pub has_room : (n most : ℕ) → n ≤ most → nat_eq n most ≡ false → n < most
-has_room n most within other =
-    let unequal : n ≢ most = λ e. let same : nat_eq n most ≡ true = eq-eqb n most e in cc in
-    omega arith

@@ -3,3 +3,4 @@ pub mod OutcomeLemmas
 pub mod ReadingLemmas
 pub mod NumeralLemmas
 pub mod HeadLemmas
+pub mod NextLemmas

@@ -1,14 +1,14 @@
 -- The lines of a batch's block, one by one.
 use Rattle.std.specs.Prelude.{ℕ, ◌<◌, ◌^◌, List, codes}
 use Rattle.std.specs.List.{All}
-use Rattle.dispatch_report.specs.Block.{late_line, pair_line, trip_line, move_text}
+use Rattle.dispatch_report.specs.Block.{pair_line, move_text}
 use Rattle.dispatch_report.specs.Words.{numbered, signed}
 use Rattle.report_lines.specs.Ids.{IsId, AreIds}
 use Rattle.report_lines.specs.Leaf.{leaf_text}
 use Rattle.report_lines.specs.Moves.{IsMove, IsBranch}
 use Rattle.report_lines.specs.Row.{row_line_text, IsRowLine}
 use Rattle.report_lines.specs.Signed.{IsWide, IsLong}
-use Rattle.report_lines.specs.Trips.{IsTripLine, IsLateLine}
+use Rattle.report_lines.specs.Trips.{trip_text, IsTripLine, late_text, IsLateLine}
 use Rattle.report_lines.specs.declared.block_line.BlockLine.{BlockLine}
 use Rattle.report_lines.specs.declared.block_line.BlockLine.TheVariants.{Batch, Expired, Overflow, Lapsed, Late, Alone, Shared, Row, Trip, Out, Move, Cost, Bound, Nodes, Branch, Leaf, Dead, End}
 
@@ -18,11 +18,11 @@ block_line_text (Batch n) = numbered (codes "batch ") n
 block_line_text (Expired rider) = numbered (codes "expired ") rider
 block_line_text Overflow = codes "overflow"
 block_line_text (Lapsed rider) = numbered (codes "lapsed ") rider
-block_line_text (Late late) = late_line late
+block_line_text (Late late) = late_text late
 block_line_text (Alone pair) = pair_line (codes "rv ") pair
 block_line_text (Shared pair) = pair_line (codes "rr ") pair
 block_line_text (Row row) = row_line_text row
-block_line_text (Trip trip) = trip_line trip
+block_line_text (Trip trip) = trip_text trip
 block_line_text (Out rider) = numbered (codes "out ") rider
 block_line_text (Move m) = move_text m
 block_line_text (Cost n) = numbered (codes "cost ") n

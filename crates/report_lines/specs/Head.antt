@@ -1,35 +1,12 @@
--- The first lines of a report, by their numbers.
-use Rattle.std.specs.Prelude.{ℕ, ◌==◌, ◌<◌, ◌≤◌, ◌^◌, List, [], ◌++◌, codes, if◌then◌else◌}
-use Rattle.dispatch_report.specs.Words.{numbered}
-use Rattle.report_lines.specs.declared.head.SettingsText.{SettingsText}
+-- A text that begins with the head of a report.
+use Rattle.std.specs.Prelude.{◌≡◌, ℕ, List, ◌++◌}
+use Rattle.dispatch_report.specs.Head.{head_text}
+use Rattle.report_lines.specs.Settings.{AreOf}
+use Rattle.rider_limits.specs.declared.settings.Settings.{Settings}
+use Rattle.road_network.specs.Roads.{Roads}
 
--- a number below 2^32
-abbrev pub IsShortNumber : ℕ → Type 0
-IsShortNumber n = n ≤ 4294967295
-
--- the line of the settings; the dwell only where there is one
-abbrev pub settings_text : SettingsText → List ℕ
-settings_text s =
-    (numbered (codes "settings wait=") s.wait ++ numbered (codes " delay=") s.delay ++ numbered (codes " trip=") s.trip)
-    ++ (numbered (codes " penalty=") s.penalty ++ numbered (codes " budget=") s.budget ++ numbered (codes " pairs=") s.pairs)
-    ++ numbered (codes " proof=") s.proof
-    ++ (if s.dwell == 0 then [] else numbered (codes " dwell=") s.dwell)
-
--- each number is below 2^32
-pub record AreSettings (s : SettingsText) : Type 0 where
-  pub wait : IsShortNumber s.wait
-  pub delay : IsShortNumber s.delay
-  pub trip : IsShortNumber s.trip
-  pub penalty : IsShortNumber s.penalty
-  pub budget : IsShortNumber s.budget
-  pub pairs : IsShortNumber s.pairs
-  pub proof : IsShortNumber s.proof
-  pub dwell : IsShortNumber s.dwell
-
--- the line of the network: how many nodes and arcs it has
-abbrev pub sizes_text : ℕ × ℕ → List ℕ
-sizes_text sizes = numbered (codes "network nodes=") sizes.0 ++ numbered (codes " arcs=") sizes.1
-
--- the numbers of nodes and arcs are within 64 bits
-abbrev pub AreSizes : ℕ × ℕ → Type 0
-AreSizes sizes = (sizes.0 < 2 ^ 64) × (sizes.1 < 2 ^ 64)
+-- the text is the head of a report of this network and so many vehicles, with these settings and so many workers, and
+-- this follows
+pub record BeginsWithHead (workers : ℕ) (roads : Roads) (vehicles : ℕ) (text : List ℕ) (s : Settings) (rest : List ℕ) : Type 0 where
+  pub whole : text ≡ head_text s roads vehicles ++ rest
+  pub settings : AreOf workers s

@@ -1,5 +1,6 @@
 pub mod Reading
 pub mod Cut
+pub mod Line
 pub mod Both
 pub mod Ids
 pub mod Signed
@@ -12,6 +13,12 @@ pub mod BlockLine
 pub mod Order
 pub mod Block
 pub mod Outcome
+pub mod HeadLines
+pub mod Settings
 pub mod Head
+pub mod HeadFault
+pub mod Command
+pub mod Reply
+pub mod Next
 pub mod lemmas
 pub mod work

@@ -4,6 +4,8 @@ use Rattle.plan_rules.specs.declared.node.Node.{Node}
 use Rattle.plan_rules.specs.declared.node.Node.TheVariants.{Branch as Branches, Leaf as Ends, Dead as Closed}
 use Rattle.request_book.specs.declared.outcome.Answer.{Answer}
 use Rattle.request_book.specs.declared.outcome.Answer.TheVariants.{Overflow as TooMany, Planned as Plan}
+use Rattle.request_book.specs.declared.outcome.ChosenTrip.{ChosenTrip}
+use Rattle.request_book.specs.declared.outcome.LateVehicle.{LateVehicle}
 use Rattle.request_book.specs.declared.outcome.Outcome.{Outcome}
 use Rattle.request_book.specs.declared.outcome.RowLine.{RowLine}
 use Rattle.report_lines.specs.declared.block_line.BlockLine.{BlockLine}
@@ -12,6 +14,14 @@ use Rattle.report_lines.specs.declared.block_line.BlockLine.TheVariants.{Batch, 
 -- the line of a vehicle-trip pair
 abbrev pub row_as_line : RowLine → BlockLine
 row_as_line row = Row (record { vehicle = row.vehicle; cost = row.cost; riders = row.riders.items })
+
+-- the line of a chosen trip
+abbrev pub trip_as_line : ChosenTrip → BlockLine
+trip_as_line trip = Trip (record { vehicle = trip.vehicle; cost = trip.cost; stops = trip.stops.items })
+
+-- the line of a late vehicle
+abbrev pub late_as_line : LateVehicle → BlockLine
+late_as_line late = Late (record { vehicle = late.vehicle; delay = late.delay; stops = option_map (λ s. s.items) late.stops })
 
 -- the line of a tree's node: a branch tells the vehicle of its row
 abbrev pub tree_line : List RowLine → Node → BlockLine
@@ -23,8 +33,8 @@ tree_line rows Closed = Dead
 abbrev pub lines_of_answer : Answer → List BlockLine
 lines_of_answer TooMany = Overflow ∷ []
 lines_of_answer (Plan plan) =
-    (map Lapsed plan.lapsed ++ map Late plan.late ++ map Alone plan.rv ++ map Shared plan.rr ++ map row_as_line plan.rows)
-    ++ (map Trip plan.chosen ++ map Out plan.left ++ map Move plan.moves)
+    (map Lapsed plan.lapsed ++ map late_as_line plan.late ++ map Alone plan.rv ++ map Shared plan.rr ++ map row_as_line plan.rows)
+    ++ (map trip_as_line plan.chosen ++ map Out plan.left ++ map Move plan.moves)
     ++ ((Cost plan.cost ∷ []) ++ (Bound plan.bound ∷ []) ++ (Nodes (length plan.tree) ∷ []))
     ++ map (tree_line plan.rows) plan.tree
 

@@ -2,4 +2,8 @@
 pub mod Stops
 pub mod Late
 pub mod LineKinds
-pub mod Head
+pub mod HeadLines
+pub mod Settings
+pub mod Told
+pub mod Replies
+pub mod Commands

@@ -1,19 +1,19 @@
 ghost use Rattle.std.specs.Prelude.{◌≡◌, ◌≢◌, ℕ, ◌≤◌, ◌<◌, List, ◌++◌, MatchOption, IfOk, codes};
 ghost use Rattle.report_lines.specs.Reading.{IsReadAs};
 ghost use Rattle.report_lines.specs.BlockLine.{block_line_text, IsBlockLine};
-ghost use Rattle.report_lines.specs.work.LineKinds.{IsWordLine, IsCountLine, IsRiderLine, IsGraphLine, IsPlanLine};
+ghost use Rattle.report_lines.specs.work.LineKinds.{IsWordLine, IsCountLine, IsRiderLine, IsGraphLine, IsListLine, IsPlanLine};
 
-use crate::late::read_late;
+use crate::late::{LateText, read_late};
 use crate::leaf::read_leaf;
 use crate::moves::{read_branch, read_move};
 use crate::pairs::{read_rider, read_rr, read_rv};
 use crate::row::{RowText, read_row};
 use crate::signed::read_signed;
-use crate::trip::read_trip;
+use crate::trip::{TripText, read_trip};
 use crate::words::{is_words, read_numbered};
 use plan_rules::Multipliers;
 use pool_base::{OutOfMemory, RiderId, VehicleId};
-use request_book::{ChosenTrip, LateVehicle, MoveLine};
+use request_book::MoveLine;
 use std::alloc::Global;
 
 /// A line of a batch's block, by what it says.
@@ -27,13 +27,13 @@ pub enum BlockLine {
     Overflow,
     /// A rider whose promise couldn't be kept.
     Lapsed(RiderId),
-    Late(LateVehicle),
+    Late(LateText),
     /// A vehicle and a rider who can ride alone with it.
     Alone((VehicleId, RiderId)),
     /// Two riders who can share a vehicle.
     Shared((RiderId, RiderId)),
     Row(RowText),
-    Trip(ChosenTrip),
+    Trip(TripText),
     /// A rider in no chosen trip.
     Out(RiderId),
     Move(MoveLine),
@@ -67,8 +67,21 @@ pub fn read_block_line(alloc: Global, line: &[u8]) -> Result<Option<BlockLine>, 
     if let Some(found) = read_plan_line(line) {
         return Ok(Some(found));
     }
+    read_list_line(alloc, line)
+}
+
+/// A line that goes on with riders, stops or multipliers.
+fn read_list_line(alloc: Global, line: &[u8]) -> Result<Option<BlockLine>, OutOfMemory>
+    ensures { IfOk result (λ found. IsReadAs block_line_text IsListLine line.now found) }
+{
+    if let Some(late) = read_late(alloc, line)? {
+        return Ok(Some(BlockLine::Late(late)));
+    }
     if let Some(row) = read_row(alloc, line)? {
         return Ok(Some(BlockLine::Row(row)));
+    }
+    if let Some(trip) = read_trip(alloc, line)? {
+        return Ok(Some(BlockLine::Trip(trip)));
     }
     match read_leaf(alloc, line)? {
         Some(leaf) => Ok(Some(BlockLine::Leaf(leaf))),
@@ -134,22 +147,16 @@ fn read_graph_line(line: &[u8]) -> Option<BlockLine>
     if let Some(alone) = read_rv(line) {
         return Some(BlockLine::Alone(alone));
     }
-    if let Some(shared) = read_rr(line) {
-        return Some(BlockLine::Shared(shared));
-    }
-    match read_late(line) {
-        Some(late) => Some(BlockLine::Late(late)),
+    match read_rr(line) {
+        Some(shared) => Some(BlockLine::Shared(shared)),
         None => None,
     }
 }
 
-/// A line that says what vehicles do, or where a tree branches.
+/// A line that says where an idle vehicle goes, or where a tree branches.
 fn read_plan_line(line: &[u8]) -> Option<BlockLine>
     ensures { IsReadAs block_line_text IsPlanLine line.now result }
 {
-    if let Some(trip) = read_trip(line) {
-        return Some(BlockLine::Trip(trip));
-    }
     if let Some(move_line) = read_move(line) {
         return Some(BlockLine::Move(move_line));
     }

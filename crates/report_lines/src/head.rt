@@ -1,110 +1,44 @@
-ghost use Rattle.std.specs.Prelude.{◌≡◌, ◌≢◌, ℕ, ◌≤◌, ◌<◌, ◌^◌, List, ◌++◌, MatchOption, codes};
-ghost use Rattle.report_lines.specs.Head.{settings_text, AreSettings, sizes_text, AreSizes, IsShortNumber};
-ghost use Rattle.report_lines.specs.Reading.{BeginsWith, BeginsWithNone, IsReadAs};
-ghost use Rattle.report_lines.specs.lemmas.Head.{dwell_text};
-ghost use Rattle.report_lines.specs.work.Head.{limits_text, costs_text, AreThree};
+ghost use Rattle.std.specs.Prelude.{◌≡◌, ℕ, ◌≤◌, List, IfOk, IfErr};
+ghost use Rattle.report_lines.specs.HeadFault.{HeadFails, sizes_of};
+ghost use Rattle.report_lines.specs.Head.{BeginsWithHead};
+ghost use Rattle.report_lines.specs.HeadLines.{AreSizes};
+ghost use Rattle.rider_limits.specs.declared.settings.Settings.{Settings};
 
-use crate::words::{numbered_first, read_numbered};
+use crate::head_fault::HeadFault;
+use crate::head_parts::{fleet_behind, name_behind, settings_first, sizes_behind};
+use crate::settings::settings_of;
+use rider_limits::Settings;
+use road_network::Network;
 
-/// The numbers of a report's line of settings, whether they are in their ranges or not.
-#[derive(Clone, Copy)]
-pub struct SettingsText {
-    pub wait: u64,
-    pub delay: u64,
-    pub trip: u64,
-    pub penalty: u64,
-    pub budget: u64,
-    pub pairs: u64,
-    pub proof: u64,
-    /// 0 where none is told.
-    pub dwell: u64,
+/// The settings of a run that the head of its report tells, and what follows the head. A head tells neither the number
+/// of workers, which is the caller's, nor how a batch comes by its travel times, which is by searches.
+///
+/// The lines are judged in their order, and the first fault is given.
+pub fn read_head<'a>(
+    text: &'a [u8],
+    workers: u8,
+    network: &Network,
+    vehicles: u64,
+) -> Result<(Settings, &'a [u8]), HeadFault>
+    requires some { 1 ≤ workers }
+    requires few { workers ≤ 64 }
+    ensures read { IfOk result (λ r. BeginsWithHead workers network.now vehicles text.now r.0 r.1.now) }
+    ensures only { IfOk result (λ r. (s : Settings) (rest : List ℕ) → BeginsWithHead workers network.now vehicles text.now s rest → (s ≡ r.0) × (rest ≡ r.1.now)) }
+    ensures none { IfErr result (λ _. (s : Settings) (rest : List ℕ) → BeginsWithHead workers network.now vehicles text.now s rest → ⊥) }
+    ensures fault { IfErr result (λ fault. HeadFails network.now vehicles text.now fault) }
+{
+    let (nodes, arcs) = sizes_of(network);
+    let after_name = name_behind(text)?;
+    let (told, after_settings) = settings_first(after_name)?;
+    let after_sizes = sizes_behind(after_settings, nodes, arcs)?;
+    let rest = fleet_behind(after_sizes, vehicles)?;
+    Ok((settings_of(&told, workers), rest))
 }
 
-/// The settings of a line, each a number below 2^32.
-pub fn read_settings(line: &[u8]) -> Option<SettingsText>
-    ensures { IsReadAs settings_text AreSettings line.now result }
+/// How many nodes and arcs a network has.
+fn sizes_of(network: &Network) -> (u64, u64)
+    ensures sizes { result ≡ sizes_of network.now }
+    ensures few { AreSizes (sizes_of network.now) }
 {
-    let Some((limits, after_limits)) = limits_first(line) else {
-        return None;
-    };
-    let Some((costs, after_costs)) = costs_first(after_limits) else {
-        return None;
-    };
-    let Some((proof, rest)) = numbered_first(after_costs, b" proof=", MOST) else {
-        return None;
-    };
-    let Some(dwell) = read_dwell(rest) else {
-        return None;
-    };
-    Some(SettingsText {
-        wait: limits.0.0,
-        delay: limits.0.1,
-        trip: limits.1,
-        penalty: costs.0.0,
-        budget: costs.0.1,
-        pairs: costs.1,
-        proof,
-        dwell,
-    })
-}
-
-/// The numbers of nodes and arcs that the line of the network tells.
-pub fn read_sizes(line: &[u8]) -> Option<(u64, u64)>
-    ensures { IsReadAs sizes_text AreSizes line.now result }
-{
-    let Some((nodes, after)) = numbered_first(line, b"network nodes=", u64::MAX) else {
-        return None;
-    };
-    match read_numbered(after, b" arcs=", u64::MAX) {
-        Some(arcs) => Some((nodes, arcs)),
-        None => None,
-    }
-}
-
-/// The greatest number of a line of settings.
-const MOST: u64 = u32::MAX as u64;
-
-/// The time limits and the most riders of a trip.
-fn limits_first(text: &[u8]) -> Option<(((u64, u64), u64), &[u8])>
-    ensures { MatchOption result (BeginsWithNone limits_text AreThree text.now) (λ r. BeginsWith limits_text AreThree text.now r.0 r.1.now) }
-{
-    let Some((wait, after_wait)) = numbered_first(text, b"settings wait=", MOST) else {
-        return None;
-    };
-    let Some((delay, after_delay)) = numbered_first(after_wait, b" delay=", MOST) else {
-        return None;
-    };
-    let Some((trip, rest)) = numbered_first(after_delay, b" trip=", MOST) else {
-        return None;
-    };
-    Some((((wait, delay), trip), rest))
-}
-
-/// The penalty and the limits of the search.
-fn costs_first(text: &[u8]) -> Option<(((u64, u64), u64), &[u8])>
-    ensures { MatchOption result (BeginsWithNone costs_text AreThree text.now) (λ r. BeginsWith costs_text AreThree text.now r.0 r.1.now) }
-{
-    let Some((penalty, after_penalty)) = numbered_first(text, b" penalty=", MOST) else {
-        return None;
-    };
-    let Some((budget, after_budget)) = numbered_first(after_penalty, b" budget=", MOST) else {
-        return None;
-    };
-    let Some((pairs, rest)) = numbered_first(after_budget, b" pairs=", MOST) else {
-        return None;
-    };
-    Some((((penalty, budget), pairs), rest))
-}
-
-/// The dwell, where one is told.
-fn read_dwell(text: &[u8]) -> Option<u64>
-    ensures { IsReadAs dwell_text IsShortNumber text.now result }
-{
-    if text.is_empty() {
-        return Some(0);
-    }
-    match read_numbered(text, b" dwell=", MOST) {
-        Some(0) => None,
-        told => told,
-    }
+    (network.node_count() as u64, network.arc_count() as u64)
 }

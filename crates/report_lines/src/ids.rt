@@ -1,8 +1,8 @@
 ghost use Rattle.std.specs.Prelude.{◌≡◌, ◌≤◌};
 
-use pool_base::{NodeId, RiderId, VehicleId};
+use pool_base::{NodeId, RiderId, Second, VehicleId};
 
-/// The greatest number that is an id.
+/// The greatest number that is an id or a second.
 pub(crate) const ID_MOST: u64 = 1_000_000_000;
 
 pub(crate) fn rider(n: u64) -> RiderId
@@ -24,4 +24,11 @@ pub(crate) fn node(n: u64) -> NodeId
     ensures { result ≡ n }
 {
     NodeId::new(n).unwrap_or_default()
+}
+
+pub(crate) fn second(n: u64) -> Second
+    requires { n ≤ 1000000000 }
+    ensures { result ≡ n }
+{
+    Second::new(n).unwrap_or_default()
 }

@@ -7,7 +7,9 @@ ghost use Rattle.report_lines.specs.Block.{IsBlock, BlockFails};
 ghost use Rattle.report_lines.specs.declared.block.BlockFault.{BlockFault};
 ghost use Rattle.report_lines.specs.declared.block.BlockFault.TheVariants.{OutOfMemory as NoMemory};
 ghost use Rattle.report_lines.specs.BlockLine.{block_line_text, IsBlockLine};
+ghost use Rattle.report_lines.specs.Next.{IsNextLine};
 ghost use Rattle.report_lines.specs.Outcome.{lines_of};
+ghost use Rattle.report_lines.specs.declared.next.NextLine.{NextLine};
 ghost use Rattle.request_book.specs.declared.outcome.Outcome.{Outcome};
 ghost use Rattle.report_lines.specs.declared.block_line.BlockLine.{BlockLine};
 
@@ -36,4 +38,9 @@ pub fn a_block_has_no_fault()
 /// A text fails in one way.
 pub fn a_text_has_one_fault()
     ensures { (text : List ℕ) (fault other : BlockFault) → fault ≢ NoMemory → other ≢ NoMemory → BlockFails text fault → BlockFails text other → fault ≡ other }
+{}
+
+/// A line between blocks is of one kind, and says one number of it: entries of the same line have the same lane.
+pub fn a_line_is_of_one_kind()
+    ensures { (x y : NextLine) (line : List ℕ) → IsNextLine x line → IsNextLine y line → x ≡ y }
 {}

@@ -1,40 +1,40 @@
-ghost use Rattle.std.specs.Prelude.{◌≡◌, ◌≢◌, ℕ, ◌≤◌, ◌<◌, ◌^◌, List, ◌++◌, length, MatchOption, codes, true, false};
+ghost use Rattle.std.specs.Prelude.{◌≡◌, ◌≢◌, ℕ, ◌≤◌, ◌<◌, ◌^◌, List, ◌++◌, MatchOption, IfOk, codes, true, false};
 ghost use Rattle.std.specs.List.{flat_map, All};
 ghost use Rattle.dispatch_report.specs.Block.{stop_text};
 ghost use Rattle.dispatch_report.specs.Words.{numbered, spaced};
 ghost use Rattle.report_lines.specs.Ids.{IsId};
-ghost use Rattle.report_lines.specs.work.Stops.{stops_text};
-ghost use Rattle.report_lines.specs.Stops.{AreStops};
 ghost use Rattle.report_lines.specs.Reading.{BeginsWith, BeginsWithNone, IsReadAs};
-ghost use Rattle.report_lines.specs.work.Stops.{visit_text, IsVisit, IsStop};
+ghost use Rattle.report_lines.specs.Stops.{FitsStop};
+ghost use Rattle.report_lines.specs.work.Stops.{visit_text, IsVisit};
 
 use crate::ids::{ID_MOST, node, rider};
 use crate::words::numbered_first;
-use arrayvec::ArrayVec;
+use pool_base::{OutOfMemory, Sequence};
 use request_book::PlannedStop;
+use std::alloc::Global;
 
-/// The stops that a text tells to its end, each behind a space, at most `N`.
-pub(crate) fn stops_to_end<const N: usize>(text: &[u8]) -> Option<ArrayVec<PlannedStop, N>>
-    ensures { IsReadAs stops_text (AreStops N) text.now result }
+/// The stops that a text tells to its end, each behind a space.
+pub(crate) fn stops_to_end(
+    alloc: Global,
+    text: &[u8],
+) -> Result<Option<Sequence<PlannedStop>>, OutOfMemory>
+    ensures { IfOk result (λ stops. IsReadAs (flat_map stop_text) (All FitsStop) text.now stops) }
 {
-    let mut stops = ArrayVec::new();
+    let mut stops = Vec::new(alloc);
     let mut rest = text;
     while !rest.is_empty() {
         let Some((stop, after)) = stop_first(rest) else {
-            return None;
+            return Ok(None);
         };
-        if stops.is_full() {
-            return None;
-        }
-        stops.push(stop);
+        stops.push(stop)?;
         rest = after;
     }
-    Some(stops)
+    Ok(Some(Sequence::of(stops)))
 }
 
 /// The stop with which a text begins, behind a space.
 fn stop_first(text: &[u8]) -> Option<(PlannedStop, &[u8])>
-    ensures { MatchOption result (BeginsWithNone stop_text IsStop text.now) (λ r. BeginsWith stop_text IsStop text.now r.0 r.1.now) }
+    ensures { MatchOption result (BeginsWithNone stop_text FitsStop text.now) (λ r. BeginsWith stop_text FitsStop text.now r.0 r.1.now) }
 {
     let Some(((pick, at), after)) = visit_first(text) else {
         return None;

@@ -2,8 +2,8 @@
 use Rattle.std.specs.Prelude.{ℕ, ◌≤◌, ◌+◌, ◌-◌, ◌^◌, List, length, min, take, ◌==◌, count_by}
 use Rattle.block_audit.specs.declared.refusal.BlockRefusal.{BlockRefusal}
 use Rattle.block_audit.specs.declared.refusal.BlockRefusal.TheVariants as block
-use Rattle.report_head.specs.declared.fault.HeadFault.{HeadFault}
-use Rattle.report_head.specs.declared.fault.HeadFault.TheVariants as head
+use Rattle.report_lines.specs.declared.head_fault.HeadFault.{HeadFault}
+use Rattle.report_lines.specs.declared.head_fault.HeadFault.TheVariants as head
 use Rattle.report_audit.specs.declared.fault.AuditFault.{AuditFault}
 use Rattle.report_audit.specs.declared.fault.AuditFault.TheVariants as fault
 use Rattle.report_audit.specs.declared.stop.LineFault.{LineFault}

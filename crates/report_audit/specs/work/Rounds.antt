@@ -10,7 +10,7 @@ use Rattle.request_book.specs.declared.journal.Journal.{Journal}
 use Rattle.rider_limits.specs.declared.settings.Settings.{Settings}
 use Rattle.road_network.specs.Roads.{Roads}
 use Rattle.script_rows.specs.Round.{NumberedLanes}
-use Rattle.report_head.specs.Line.{IsFirstLine}
+use Rattle.report_lines.specs.Line.{IsFirstLine}
 use Rattle.report_audit.specs.Place.{Extent, position_behind, state_behind}
 use Rattle.report_audit.specs.Report.{closes}
 use Rattle.report_audit.specs.Types.{AreTold}

@@ -3,9 +3,9 @@ use Rattle.std.specs.Prelude.{◌≡◌, ◌≢◌, ℕ, ◌<◌, ◌^◌, true,
 use Rattle.batch_snapshot.specs.Batch.{Batch}
 use Rattle.block_audit.specs.declared.refusal.BlockRefusal.TheVariants as refusal
 use Rattle.dispatch_engine.specs.Run.{journal_of}
-use Rattle.entry_lines.specs.Next.{IsNextLine}
-use Rattle.entry_lines.specs.declared.next.NextLine.{NextLine}
-use Rattle.entry_lines.specs.declared.next.NextLine.TheVariants.{Entry as EntryOf}
+use Rattle.report_lines.specs.Next.{IsNextLine}
+use Rattle.report_lines.specs.declared.next.NextLine.{NextLine}
+use Rattle.report_lines.specs.declared.next.NextLine.TheVariants.{Entry as EntryOf}
 use Rattle.lane_progress.specs.Stand.{HaveCome, stand_at}
 use Rattle.lane_progress.specs.declared.stand.LaneStand.{LaneStand}
 use Rattle.report_lines.specs.Cut.{is_one_line}
@@ -15,7 +15,7 @@ use Rattle.request_book.specs.declared.journal.Journal.{Journal}
 use Rattle.rider_limits.specs.declared.settings.Settings.{Settings}
 use Rattle.road_network.specs.Roads.{Roads}
 use Rattle.script_rows.specs.Round.{IsRound, NumberedLanes}
-use Rattle.report_head.specs.Line.{IsFirstLine}
+use Rattle.report_lines.specs.Line.{IsFirstLine}
 use Rattle.report_audit.specs.Fault.{IsCut, IsOutOfForm, IsWrongLine, IsWrongBatch}
 use Rattle.report_audit.specs.Place.{Extent, BeginsRound, AreAtEnd, position_behind}
 use Rattle.report_audit.specs.declared.stop.LineFault.{LineFault}

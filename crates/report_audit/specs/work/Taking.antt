@@ -2,8 +2,8 @@
 use Rattle.std.specs.Prelude.{◌≡◌, ◌≢◌, ℕ, List, Option}
 use Rattle.batch_snapshot.specs.Batch.{Batch}
 use Rattle.dispatch_report.specs.Entry.{entry_line}
-use Rattle.entry_lines.specs.Command.{IsCommand}
-use Rattle.entry_lines.specs.Reply.{IsEnded, IsReply}
+use Rattle.report_lines.specs.Command.{IsCommand}
+use Rattle.report_lines.specs.Reply.{IsEnded, IsReply}
 use Rattle.lane_progress.specs.Stand.{IsNext, stand_at}
 use Rattle.lane_progress.specs.declared.stand.LaneStand.{LaneStand}
 use Rattle.request_book.specs.Book.{BookView, IsApplied, next_position}

@@ -1,12 +1,12 @@
 -- The line of the settings.
 use Rattle.std.proofs.Common.{◌≡◌, ◌≢◌, ℕ, zero, suc, ◌≤◌, ◌==◌, Bool, true, false, if◌then◌else◌, nat_eq, get_or, length, codes, List, [], refl, sym, ap, ◌∙◌, append-nil, ne_eqb, arith}
 use Rattle.dispatch_report.specs.Words.{numbered}
-use Rattle.report_lines.specs.Head.{IsShortNumber, settings_text, AreSettings}
+use Rattle.report_lines.specs.HeadLines.{IsShortNumber, settings_text, AreSettings}
 use Rattle.report_lines.specs.Reading.{BeginsWith, BeginsWithNone, ends_number}
-use Rattle.report_lines.specs.declared.head.SettingsText.{SettingsText}
+use Rattle.report_lines.specs.declared.head_lines.SettingsText.{SettingsText}
 use Rattle.report_lines.specs.Both.{both_texts, BothAre}
-use Rattle.report_lines.specs.lemmas.Head.{dwell_text}
-use Rattle.report_lines.specs.work.Head.{limits_text, costs_text, AreThree}
+use Rattle.report_lines.specs.lemmas.HeadLines.{dwell_text}
+use Rattle.report_lines.specs.work.HeadLines.{limits_text, costs_text, AreThree}
 use Rattle.report_lines.proofs.lemmas.ReadingLemmas.{EndsOnce, StandsApart, both_none_first, both_none_second, both_some, both_once, numbered_once, head_none, tail_none}
 
 short_once : (words : List ℕ) → EndsOnce (numbered words) IsShortNumber

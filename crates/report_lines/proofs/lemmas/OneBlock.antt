@@ -5,7 +5,6 @@ use Rattle.std.specs.List.{All, list_all, flat_map}
 use Rattle.std.proofs.lemmas.Bool.{and_parts, and_from}
 use Rattle.std.proofs.lemmas.List.Elements.{All-head, All-tail}
 use Rattle.std.proofs.lemmas.List.Folds.{list_all-append}
-use Rattle.arrayvec.specs.ArrayVec.{ArrayVec}
 use Rattle.dispatch_report.specs.Block.{stop_text, pair_line}
 use Rattle.dispatch_report.specs.Lines.{lines_text}
 use Rattle.dispatch_report.specs.Words.{numbered, signed, spaced}
@@ -17,10 +16,9 @@ use Rattle.report_lines.specs.Cut.{is_one_line}
 use Rattle.report_lines.specs.Ids.{IsId, AreIds}
 use Rattle.report_lines.specs.Order.{kind_place, may_follow_at, follow_on, last_place}
 use Rattle.report_lines.specs.Signed.{IsWide, IsLong}
-use Rattle.report_lines.specs.work.Stops.{stops_text}
-use Rattle.report_lines.specs.Stops.{AreStops}
+use Rattle.report_lines.specs.Stops.{FitsStop}
 use Rattle.report_lines.specs.work.Late.{order_text, IsOrder}
-use Rattle.report_lines.specs.work.Stops.{visit_text, IsStop}
+use Rattle.report_lines.specs.work.Stops.{visit_text}
 use Rattle.report_lines.proofs.lemmas.NumeralLemmas.{decimal_digits}
 use Rattle.report_lines.proofs.OneLine.{block_line_of_one}
 use Rattle.report_lines.proofs.SignedLemmas.{long_is_wide}
@@ -97,7 +95,7 @@ many_one_line t Is one (x ∷ xs) is = append_one_line (t x) (flat_map t xs) (on
 id_line : (words : List ℕ) (n : ℕ) → is_one_line words ≡ true → IsId n → is_one_line (numbered words n) ≡ true
 id_line words n iw is = let small : n ≤ 1000000000 = is in numbered_one_line words n iw (omega arith)
 
-stop_one_line : (stop : PlannedStop) → IsStop stop → is_one_line (stop_text stop) ≡ true
+stop_one_line : (stop : PlannedStop) → FitsStop stop → is_one_line (stop_text stop) ≡ true
 stop_one_line stop is =
     let second : stop.second < 2 ^ 64 = is.2 in
     append_one_line (visit_text (stop.pick, stop.rider) ++ numbered (codes "@") stop.node) (numbered (codes ":") stop.second)
@@ -108,14 +106,14 @@ stop_one_line stop is =
     visit_line true rider id = id_line (codes " pick:") rider refl id
     visit_line false rider id = id_line (codes " drop:") rider refl id
 
-stops_one_line : (most : ℕ) (stops : ArrayVec PlannedStop) → AreStops most stops → is_one_line (stops_text stops) ≡ true
-stops_one_line most stops is = many_one_line stop_text IsStop stop_one_line stops.items is.0
+stops_one_line : (stops : List PlannedStop) → All FitsStop stops → is_one_line (flat_map stop_text stops) ≡ true
+stops_one_line stops is = many_one_line stop_text FitsStop stop_one_line stops is
 
-order_one_line : (order : ℕ × Option (ArrayVec PlannedStop)) → IsOrder order → is_one_line (order_text order) ≡ true
+order_one_line : (order : ℕ × Option (List PlannedStop)) → IsOrder order → is_one_line (order_text order) ≡ true
 order_one_line (delay, None) is = refl
 order_one_line (delay, Some stops) is =
     let small : delay < 2 ^ 64 = is.0 in
-    append_one_line (spaced delay) (stops_text stops) (numbered_one_line (codes " ") delay refl (omega arith)) (stops_one_line 10 stops is.1)
+    append_one_line (spaced delay) (flat_map stop_text stops) (numbered_one_line (codes " ") delay refl (omega arith)) (stops_one_line stops is.1)
 
 two_line : (words : List ℕ) (a b : ℕ) → is_one_line words ≡ true → a < 2 ^ 128 → b < 2 ^ 128 → is_one_line (numbered words a ++ spaced b) ≡ true
 two_line words a b iw sa sb = append_one_line (numbered words a) (spaced b) (numbered_one_line words a iw sa) (numbered_one_line (codes " ") b refl sb)
@@ -148,8 +146,8 @@ block_line_one_line (Row row) is =
 block_line_one_line (Trip trip) is =
     let id : trip.vehicle ≤ 1000000000 = is.0 in
     let cost : trip.cost < 2 ^ 64 = is.1 in
-    append_one_line (numbered (codes "trip ") trip.vehicle ++ spaced trip.cost) (stops_text trip.stops)
-    (two_line (codes "trip ") trip.vehicle trip.cost refl (omega arith) (omega arith)) (stops_one_line 22 trip.stops is.2)
+    append_one_line (numbered (codes "trip ") trip.vehicle ++ spaced trip.cost) (flat_map stop_text trip.stops)
+    (two_line (codes "trip ") trip.vehicle trip.cost refl (omega arith) (omega arith)) (stops_one_line trip.stops is.2)
 block_line_one_line (Out rider) is = id_line (codes "out ") rider refl is
 block_line_one_line (Move m) is =
     let vehicle : m.vehicle ≤ 1000000000 = is.0 in

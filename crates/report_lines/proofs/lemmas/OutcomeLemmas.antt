@@ -1,24 +1,27 @@
 -- An outcome's lines are a block.
-use Rattle.std.proofs.Common.{◌≡◌, ℕ, ◌≤◌, true, ℤ, List, [], ◌∷◌, ◌++◌, length, map, codes, nat_le, refl, sym, ap, ◌∙◌, subst, arith}
-use Rattle.std.specs.List.{All}
+use Rattle.std.proofs.Common.{◌≡◌, ℕ, ◌≤◌, true, ℤ, List, [], ◌∷◌, ◌++◌, length, map, codes, nat_le, option_map, Option, None, Some, refl, sym, ap, ◌∙◌, subst, arith}
+use Rattle.std.specs.List.{All, flat_map}
 use Rattle.std.proofs.lemmas.Bool.{and_from, and_parts, le-leb}
 use Rattle.std.proofs.lemmas.List.{map-append}
-use Rattle.dispatch_report.specs.Block.{block_lines, answer_lines, node_line, late_line, pair_line, pair_text, trip_line, move_text}
+use Rattle.dispatch_report.specs.Block.{block_lines, answer_lines, node_line, stop_text, late_line, pair_line, pair_text, trip_line, move_text}
 use Rattle.dispatch_report.specs.Lines.{lines_text}
-use Rattle.dispatch_report.specs.Words.{numbered}
+use Rattle.dispatch_report.specs.Words.{numbered, spaced}
 use Rattle.plan_rules.specs.declared.node.Node.{Node}
 use Rattle.plan_rules.specs.declared.node.Node.TheVariants.{Branch as Branches, Leaf as Ends, Dead as Closed}
 use Rattle.request_book.specs.declared.outcome.Answer.{Answer}
 use Rattle.request_book.specs.declared.outcome.Answer.TheVariants.{Overflow as TooMany, Planned as Plan}
+use Rattle.arrayvec.specs.ArrayVec.{ArrayVec}
+use Rattle.request_book.specs.declared.outcome.LateVehicle.{LateVehicle}
+use Rattle.request_book.specs.declared.outcome.PlannedStop.{PlannedStop}
 use Rattle.request_book.specs.declared.outcome.Outcome.{Outcome}
 use Rattle.request_book.specs.declared.outcome.Planned.{Planned}
 use Rattle.request_book.specs.declared.outcome.RowLine.{RowLine}
 use Rattle.report_lines.specs.Block.{IsBlock}
 use Rattle.report_lines.specs.BlockLine.{block_line_text, IsBlockLine}
 use Rattle.report_lines.specs.Order.{kind_place, is_between, may_follow_at, follow_on, last_place}
-use Rattle.report_lines.specs.Outcome.{row_as_line, tree_line, lines_of_answer, lines_of}
+use Rattle.report_lines.specs.Outcome.{row_as_line, trip_as_line, late_as_line, tree_line, lines_of_answer, lines_of}
 use Rattle.report_lines.specs.declared.block_line.BlockLine.{BlockLine}
-use Rattle.report_lines.specs.declared.block_line.BlockLine.TheVariants.{Batch, Expired, Lapsed, Late, Alone, Shared, Trip, Out, Move, Cost, Bound, Nodes, End}
+use Rattle.report_lines.specs.declared.block_line.BlockLine.TheVariants.{Batch, Expired, Lapsed, Alone, Shared, Out, Move, Cost, Bound, Nodes, End}
 
 -- texts of lines
 kind_texts : {X : Type 0} (K : X → BlockLine) (t : X → List ℕ) → ((x : X) → block_line_text (K x) ≡ t x) → (xs : List X) → map block_line_text (map K xs) ≡ map t xs
@@ -28,6 +31,15 @@ kind_texts K t text (x ∷ xs) = ap (λ l. l ∷ map block_line_text (map K xs))
 join_texts : (xs ys : List BlockLine) (ls ms : List (List ℕ)) → map block_line_text xs ≡ ls → map block_line_text ys ≡ ms → map block_line_text (xs ++ ys) ≡ ls ++ ms
 join_texts xs ys ls ms ex ey =
     map-append block_line_text xs ys ∙ ap (λ l. l ++ map block_line_text ys) ex ∙ ap (λ m. ls ++ m) ey
+
+late_same : (late : LateVehicle) → block_line_text (late_as_line late) ≡ late_line late
+late_same late = by late.stops
+  where
+    by : (o : Option (ArrayVec PlannedStop))
+        → numbered (codes "late ") late.vehicle ++ elim (option_map (λ s. s.items) o) [ None ↦ codes " none" | Some stops ↦ spaced late.delay ++ flat_map stop_text stops ]
+        ≡ numbered (codes "late ") late.vehicle ++ elim o [ None ↦ codes " none" | Some stops ↦ spaced late.delay ++ flat_map stop_text stops.items ]
+    by None = refl
+    by (Some stops) = refl
 
 node_text : (rows : List RowLine) (node : Node) → block_line_text (tree_line rows node) ≡ node_line rows node
 node_text rows (Branches vehicle row) = refl
@@ -42,12 +54,12 @@ answer_texts (Plan plan) =
     (join_texts _ _ _ _
     (join_texts _ _ _ _ (join_texts _ _ _ _ (join_texts _ _ _ _ (join_texts _ _ _ _
     (kind_texts Lapsed (numbered (codes "lapsed ")) (λ x. refl) plan.lapsed)
-    (kind_texts Late late_line (λ x. refl) plan.late))
+    (kind_texts late_as_line late_line late_same plan.late))
     (kind_texts Alone (pair_line (codes "rv ")) (λ x. refl) plan.rv))
     (kind_texts Shared (pair_line (codes "rr ")) (λ x. refl) plan.rr))
     (kind_texts row_as_line pair_text (λ x. refl) plan.rows))
     (join_texts _ _ _ _ (join_texts _ _ _ _
-    (kind_texts Trip trip_line (λ x. refl) plan.chosen)
+    (kind_texts trip_as_line trip_line (λ x. refl) plan.chosen)
     (kind_texts Out (numbered (codes "out ")) (λ x. refl) plan.left))
     (kind_texts Move move_text (λ x. refl) plan.moves)))
     refl)
@@ -119,20 +131,20 @@ then_kind K place p before high some le at may r xs =
     run_join p before (map K xs) 1 high 1 place r (λ q l h. kind_run K 1 place some at may xs q l (let a : q ≤ high = h in omega arith))
 
 -- the lists of a plan up to the rows
-graph_run : (p : ℕ) → 1 ≤ p → p ≤ 2 → (plan : Planned) → Run p (map Lapsed plan.lapsed ++ map Late plan.late ++ map Alone plan.rv ++ map Shared plan.rr ++ map row_as_line plan.rows) 1 7
+graph_run : (p : ℕ) → 1 ≤ p → p ≤ 2 → (plan : Planned) → Run p (map Lapsed plan.lapsed ++ map late_as_line plan.late ++ map Alone plan.rv ++ map Shared plan.rr ++ map row_as_line plan.rows) 1 7
 graph_run p l h plan =
     then_kind row_as_line 7 p _ 6 (omega arith) (omega arith) (λ x. refl) (λ q x. between 1 7 q)
     (then_kind Shared 6 p _ 5 (omega arith) (omega arith) (λ x. refl) (λ q x. between 1 6 q)
     (then_kind Alone 5 p _ 4 (omega arith) (omega arith) (λ x. refl) (λ q x. between 1 5 q)
-    (then_kind Late 4 p _ 3 (omega arith) (omega arith) (λ x. refl) (λ q x. between 1 4 q)
+    (then_kind late_as_line 4 p _ 3 (omega arith) (omega arith) (λ x. refl) (λ q x. between 1 4 q)
     (kind_run Lapsed 1 3 (omega arith) (λ x. refl) (λ q x. between 1 3 q) plan.lapsed p l (omega arith))
     plan.late) plan.rv) plan.rr) plan.rows
 
-choice_run : (p : ℕ) → 1 ≤ p → p ≤ 7 → (plan : Planned) → Run p (map Trip plan.chosen ++ map Out plan.left ++ map Move plan.moves) 1 10
+choice_run : (p : ℕ) → 1 ≤ p → p ≤ 7 → (plan : Planned) → Run p (map trip_as_line plan.chosen ++ map Out plan.left ++ map Move plan.moves) 1 10
 choice_run p l h plan =
     then_kind Move 10 p _ 9 (omega arith) (omega arith) (λ x. refl) (λ q x. between 1 10 q)
     (then_kind Out 9 p _ 8 (omega arith) (omega arith) (λ x. refl) (λ q x. between 1 9 q)
-    (kind_run Trip 1 8 (omega arith) (λ x. refl) (λ q x. between 1 8 q) plan.chosen p l (omega arith))
+    (kind_run trip_as_line 1 8 (omega arith) (λ x. refl) (λ q x. between 1 8 q) plan.chosen p l (omega arith))
     plan.left) plan.moves
 
 counts_run : (p : ℕ) → 1 ≤ p → p ≤ 10 → (cost nodes : ℕ) (bound : ℤ) → Run p ((Cost cost ∷ []) ++ (Bound bound ∷ []) ++ (Nodes nodes ∷ [])) 13 13

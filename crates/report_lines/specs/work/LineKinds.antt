@@ -1,7 +1,7 @@
 -- The lines of a block, by how they are read.
 use Rattle.report_lines.specs.BlockLine.{IsBlockLine, block_line_text}
 use Rattle.report_lines.specs.declared.block_line.BlockLine.{BlockLine}
-use Rattle.report_lines.specs.declared.block_line.BlockLine.TheVariants.{Batch, Expired, Overflow, Lapsed, Late, Alone, Shared, Trip, Out, Move, Cost, Bound, Nodes, Branch, Dead, End}
+use Rattle.report_lines.specs.declared.block_line.BlockLine.TheVariants.{Batch, Expired, Overflow, Lapsed, Late, Alone, Shared, Row, Trip, Out, Move, Cost, Bound, Nodes, Branch, Leaf, Dead, End}
 use Rattle.std.specs.Prelude.{◌≡◌, ◌≢◌, ℕ, true, List}
 use Rattle.report_lines.specs.Order.{may_follow_at}
 
@@ -31,11 +31,16 @@ IsRiderLine _ = ⊥
 abbrev pub IsGraphLine : BlockLine → Type 0
 IsGraphLine (Alone pair) = IsBlockLine (Alone pair)
 IsGraphLine (Shared pair) = IsBlockLine (Shared pair)
-IsGraphLine (Late late) = IsBlockLine (Late late)
 IsGraphLine _ = ⊥
 
+abbrev pub IsListLine : BlockLine → Type 0
+IsListLine (Late late) = IsBlockLine (Late late)
+IsListLine (Row row) = IsBlockLine (Row row)
+IsListLine (Trip trip) = IsBlockLine (Trip trip)
+IsListLine (Leaf multipliers) = IsBlockLine (Leaf multipliers)
+IsListLine _ = ⊥
+
 abbrev pub IsPlanLine : BlockLine → Type 0
-IsPlanLine (Trip trip) = IsBlockLine (Trip trip)
 IsPlanLine (Move m) = IsBlockLine (Move m)
 IsPlanLine (Branch branch) = IsBlockLine (Branch branch)
 IsPlanLine _ = ⊥

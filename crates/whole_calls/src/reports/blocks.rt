@@ -38,6 +38,14 @@ const OTHER_NODES: &[u8] =
 const SEVEN_RIDERS: &[u8] =
     b"batch 1\nrv 1 1\nrow 1 0\nrow 1 60 1 2 3 4 5 6 7\ntrip 1 60 pick:1@2:60 drop:1@4:180\ncost 60\nbound 60\nnodes 1\nleaf 61440\nend\n";
 
+// A trip of 24 stops.
+const MANY_STOPS: &[u8] =
+    b"batch 1\nrv 1 1\nrow 1 0\nrow 1 60 1\ntrip 1 60 pick:1@2:60 drop:1@4:180 pick:1@2:60 drop:1@4:180 pick:1@2:60 drop:1@4:180 pick:1@2:60 drop:1@4:180 pick:1@2:60 drop:1@4:180 pick:1@2:60 drop:1@4:180 pick:1@2:60 drop:1@4:180 pick:1@2:60 drop:1@4:180 pick:1@2:60 drop:1@4:180 pick:1@2:60 drop:1@4:180 pick:1@2:60 drop:1@4:180 pick:1@2:60 drop:1@4:180\ncost 60\nbound 60\nnodes 1\nleaf 61440\nend\n";
+
+// A vehicle that isn't late, with eleven stops.
+const LATE_STOPS: &[u8] =
+    b"batch 1\nlate 1 60 drop:1@4:180 drop:1@4:180 drop:1@4:180 drop:1@4:180 drop:1@4:180 drop:1@4:180 drop:1@4:180 drop:1@4:180 drop:1@4:180 drop:1@4:180 drop:1@4:180\nrv 1 1\nrow 1 0\nrow 1 60 1\ntrip 1 60 pick:1@2:60 drop:1@4:180\ncost 60\nbound 60\nnodes 1\nleaf 61440\nend\n";
+
 const NO_END: &[u8] =
     b"batch 1\nrv 1 1\nrow 1 0\nrow 1 60 1\ntrip 1 60 pick:1@2:60 drop:1@4:180\ncost 60\nbound 60\nnodes 1\nleaf 61440\n";
 
@@ -182,6 +190,8 @@ fn the_first_point_that_fails_is_named(rt: HostRuntime) {
     assert_eq!(rt; audited(&rt, rt.alloc(), OTHER_NUMBER), wrong(0));
     assert_eq!(rt; audited(&rt, rt.alloc(), ROW_MISSING), wrong(1));
     assert_eq!(rt; audited(&rt, rt.alloc(), SEVEN_RIDERS), wrong(1));
+    assert_eq!(rt; audited(&rt, rt.alloc(), LATE_STOPS), wrong(2));
+    assert_eq!(rt; audited(&rt, rt.alloc(), MANY_STOPS), wrong(3));
     assert_eq!(rt; audited(&rt, rt.alloc(), OTHER_COST), wrong(4));
     assert_eq!(rt; audited(&rt, rt.alloc(), OTHER_NODES), wrong(5));
 }

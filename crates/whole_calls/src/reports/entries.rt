@@ -1,5 +1,5 @@
 //! Lines between blocks, of each kind, and lines that are out of form.
-use entry_lines::{NextLine, read_next};
+use report_lines::{NextLine, read_next};
 
 // The lane of an entry's line; 1000 where the line is none.
 fn lane(line: &[u8]) -> u16 {

@@ -1,6 +1,6 @@
 //! The head of a report of a network of two nodes, with two vehicles, and texts that begin with none.
 use pool_io::rows;
-use report_head::{HeadFault, read_head};
+use report_lines::{HeadFault, read_head};
 use rider_limits::{Mode, TimesWay};
 use road_network::{Network, read_network};
 use std::alloc::Global;

@@ -1,11 +1,15 @@
-use Rattle.std.proofs.Common.{◌≡◌, ◌≢◌, ℕ, List, map, sym, ap, ◌∙◌, subst}
+use Rattle.std.proofs.Common.{◌≡◌, ◌≢◌, ◌≤◌, ◌<◌, true, length, sym, ap, ◌∙◌, subst, arith}
 use Rattle.batch_snapshot.specs.Batch.{Batch}
 use Rattle.batch_snapshot.specs.Kept.{IsKept}
-use Rattle.batch_snapshot.specs.declared.vehicle.Vehicle.{Vehicle}
-use Rattle.outcome_check.specs.Verdict.{Meets, IsVerdictOf}
-use Rattle.outcome_check.specs.declared.verdict.Verdict.{Verdict}
-use Rattle.block_audit.specs.Judged.{IsJudgedAs}
-use Rattle.block_audit.proofs.AuditLemmas.{good_is_judged, good_is_told, begins_good, line_count, fault_no_good, verdict_no_good, fails_first, fails_at_once}
+use Rattle.batch_solver.specs.Outcome.{IsGoodOutcome}
+use Rattle.dispatch_report.specs.Block.{block_lines}
+use Rattle.outcome_check.specs.declared.verdict.Point.{Point}
+use Rattle.request_book.specs.declared.outcome.Outcome.{Outcome}
+use Rattle.block_audit.specs.Block.{BeginsWithGood, MeetsAs, FailsFirst}
+use Rattle.block_audit.specs.Judged.{CanBeTold, judged_outcome}
+use Rattle.block_audit.specs.Told.{Told, told_by}
+use Rattle.block_audit.specs.work.Judged.{HoldUpTo, IsRight}
+use Rattle.block_audit.proofs.AuditLemmas.{begins_good, fails_at_once, fails_first, fails_no_good, fault_no_good, good_is_judged, line_count, low_place}
 use Rattle.block_audit.proofs.NumberedLemmas.{vehicle_ids}
 use Rattle.block_audit.proofs.audit.audit_block.Goals as goal
 
@@ -14,80 +18,80 @@ returns-in-Err-clause-none g c =
     λ some other behind good.
     fault_no_good c.args.settings.now c.args.network.now c.args.snapshot.now c.args.text.now c.in-Err.fault c.refusal_of.result c.in-Err.ensures c.refusal_of.ensures some other behind good
 
-pub returns-then-batch-snapshot-clause-none : goal.returns-then-batch-snapshot-clause-none
-returns-then-batch-snapshot-clause-none g c =
+pub returns-then-told-snapshot-clause-none : goal.returns-then-told-snapshot-clause-none
+returns-then-told-snapshot-clause-none g c =
     let kept : IsKept c.args.snapshot.now = subst (λ (b : Batch). IsKept b) c.snapshot.view_is c.snapshot.invariant in
-    let ids : c.deref.result.now ≡ vehicle_ids c.args.snapshot.now = c.deref.ensures.value ∙ c.in_ok-ids.ensures ∙ ap (λ (vs : List Vehicle). map (λ v. v.id) vs) c.as_slice.ensures ∙ ap (λ (b : Batch). vehicle_ids b) c.snapshot.view_is in
-    let judged : IsJudgedAs (vehicle_ids c.args.snapshot.now) c.in-Ok.block.0 c.in_ok-batch.batch c.in_ok-batch.outcome = subst (λ (xs : List ℕ). IsJudgedAs xs c.in-Ok.block.0 c.in_ok-batch.batch c.in_ok-batch.outcome) ids c.in_ok-batch.ensures in
-    let other : c.in_ok-batch.batch ≢ c.args.snapshot.now.number = λ h. c.if-batch-snapshot.true (h ∙ sym (ap (λ (b : Batch). b.number) c.snapshot.view_is)) in
-    λ some outcome behind good. other (good_is_judged c.args.settings.now c.args.network.now c.args.snapshot.now kept c.args.text.now c.in-Ok.block.0 c.in-Ok.block.1.now c.in-Ok.ensures c.in_ok-batch.batch c.in_ok-batch.outcome judged outcome behind good).number
-
-pub returns-then-batch-snapshot-clause-fault : goal.returns-then-batch-snapshot-clause-fault
-returns-then-batch-snapshot-clause-fault g c =
-    let kept : IsKept c.args.snapshot.now = subst (λ (b : Batch). IsKept b) c.snapshot.view_is c.snapshot.invariant in
-    let ids : c.deref.result.now ≡ vehicle_ids c.args.snapshot.now = c.deref.ensures.value ∙ c.in_ok-ids.ensures ∙ ap (λ (vs : List Vehicle). map (λ v. v.id) vs) c.as_slice.ensures ∙ ap (λ (b : Batch). vehicle_ids b) c.snapshot.view_is in
-    let judged : IsJudgedAs (vehicle_ids c.args.snapshot.now) c.in-Ok.block.0 c.in_ok-batch.batch c.in_ok-batch.outcome = subst (λ (xs : List ℕ). IsJudgedAs xs c.in-Ok.block.0 c.in_ok-batch.batch c.in_ok-batch.outcome) ids c.in_ok-batch.ensures in
-    let other : c.in_ok-batch.batch ≢ c.args.snapshot.now.number = λ h. c.if-batch-snapshot.true (h ∙ sym (ap (λ (b : Batch). b.number) c.snapshot.view_is)) in
-    record {
-      lines = c.in-Ok.block.0;
-      rest = c.in-Ok.block.1.now;
-      told = c.in_ok-batch.batch;
-      outcome = c.in_ok-batch.outcome;
-      block = c.in-Ok.ensures;
-      judged = judged;
-      fails = fails_at_once c.args.settings.now c.args.network.now c.args.snapshot.now c.in_ok-batch.batch c.in_ok-batch.outcome other;
-    }
-
-pub returns-in-Good-clause-good : goal.returns-in-Good-clause-good
-returns-in-Good-clause-good g c =
-    let kept : IsKept c.args.snapshot.now = subst (λ (b : Batch). IsKept b) c.snapshot.view_is c.snapshot.invariant in
-    let ids : c.deref.result.now ≡ vehicle_ids c.args.snapshot.now = c.deref.ensures.value ∙ c.in_ok-ids.ensures ∙ ap (λ (vs : List Vehicle). map (λ v. v.id) vs) c.as_slice.ensures ∙ ap (λ (b : Batch). vehicle_ids b) c.snapshot.view_is in
-    let judged : IsJudgedAs (vehicle_ids c.args.snapshot.now) c.in-Ok.block.0 c.in_ok-batch.batch c.in_ok-batch.outcome = subst (λ (xs : List ℕ). IsJudgedAs xs c.in-Ok.block.0 c.in_ok-batch.batch c.in_ok-batch.outcome) ids c.in_ok-batch.ensures in
-    let number : c.in_ok-batch.batch ≡ c.args.snapshot.now.number = c.if-batch-snapshot.false ∙ ap (λ (b : Batch). b.number) c.snapshot.view_is in
-    let all = subst (λ (v : Verdict). IsVerdictOf (Meets c.args.settings.now c.args.network.now c.args.snapshot.now c.in_ok-batch.outcome) v) c.in-Good.is c.in_ok-judge.ensures.points in
-    let tells = good_is_told c.args.settings.now c.args.network.now c.args.snapshot.now kept c.args.text.now c.in-Ok.block.0 c.in-Ok.block.1.now c.in-Ok.ensures c.in_ok-batch.batch c.in_ok-batch.outcome judged all in
-    begins_good c.args.settings.now c.args.network.now c.args.snapshot.now kept c.args.text.now c.in-Ok.block.0 c.in-Ok.block.1.now c.in-Ok.ensures c.in_ok-batch.batch c.in_ok-batch.outcome judged number (c.in_ok-judge.ensures.good.0 c.in-Good.is) tells
-
-pub returns-in-Good-clause-lines : goal.returns-in-Good-clause-lines
-returns-in-Good-clause-lines g c =
-    let kept : IsKept c.args.snapshot.now = subst (λ (b : Batch). IsKept b) c.snapshot.view_is c.snapshot.invariant in
-    let ids : c.deref.result.now ≡ vehicle_ids c.args.snapshot.now = c.deref.ensures.value ∙ c.in_ok-ids.ensures ∙ ap (λ (vs : List Vehicle). map (λ v. v.id) vs) c.as_slice.ensures ∙ ap (λ (b : Batch). vehicle_ids b) c.snapshot.view_is in
-    let judged : IsJudgedAs (vehicle_ids c.args.snapshot.now) c.in-Ok.block.0 c.in_ok-batch.batch c.in_ok-batch.outcome = subst (λ (xs : List ℕ). IsJudgedAs xs c.in-Ok.block.0 c.in_ok-batch.batch c.in_ok-batch.outcome) ids c.in_ok-batch.ensures in
-    let number : c.in_ok-batch.batch ≡ c.args.snapshot.now.number = c.if-batch-snapshot.false ∙ ap (λ (b : Batch). b.number) c.snapshot.view_is in
-    let all = subst (λ (v : Verdict). IsVerdictOf (Meets c.args.settings.now c.args.network.now c.args.snapshot.now c.in_ok-batch.outcome) v) c.in-Good.is c.in_ok-judge.ensures.points in
-    let tells = good_is_told c.args.settings.now c.args.network.now c.args.snapshot.now kept c.args.text.now c.in-Ok.block.0 c.in-Ok.block.1.now c.in-Ok.ensures c.in_ok-batch.batch c.in_ok-batch.outcome judged all in
-    c.len-count.ensures ∙ line_count c.args.settings.now c.args.network.now c.args.snapshot.now kept c.args.text.now c.in-Ok.block.0 c.in-Ok.block.1.now c.in-Ok.ensures c.in_ok-batch.batch c.in_ok-batch.outcome judged number tells
-
-pub returns-in-Good-clause-only : goal.returns-in-Good-clause-only
-returns-in-Good-clause-only g c =
-    let kept : IsKept c.args.snapshot.now = subst (λ (b : Batch). IsKept b) c.snapshot.view_is c.snapshot.invariant in
-    let ids : c.deref.result.now ≡ vehicle_ids c.args.snapshot.now = c.deref.ensures.value ∙ c.in_ok-ids.ensures ∙ ap (λ (vs : List Vehicle). map (λ v. v.id) vs) c.as_slice.ensures ∙ ap (λ (b : Batch). vehicle_ids b) c.snapshot.view_is in
-    let judged : IsJudgedAs (vehicle_ids c.args.snapshot.now) c.in-Ok.block.0 c.in_ok-batch.batch c.in_ok-batch.outcome = subst (λ (xs : List ℕ). IsJudgedAs xs c.in-Ok.block.0 c.in_ok-batch.batch c.in_ok-batch.outcome) ids c.in_ok-batch.ensures in
-    λ outcome behind good.
-    let itself = good_is_judged c.args.settings.now c.args.network.now c.args.snapshot.now kept c.args.text.now c.in-Ok.block.0 c.in-Ok.block.1.now c.in-Ok.ensures c.in_ok-batch.batch c.in_ok-batch.outcome judged outcome behind good in
-    (itself.same, itself.after)
-
-pub returns-clause-none : goal.returns-clause-none
-returns-clause-none g c =
-    let kept : IsKept c.args.snapshot.now = subst (λ (b : Batch). IsKept b) c.snapshot.view_is c.snapshot.invariant in
-    let ids : c.deref.result.now ≡ vehicle_ids c.args.snapshot.now = c.deref.ensures.value ∙ c.in_ok-ids.ensures ∙ ap (λ (vs : List Vehicle). map (λ v. v.id) vs) c.as_slice.ensures ∙ ap (λ (b : Batch). vehicle_ids b) c.snapshot.view_is in
-    let judged : IsJudgedAs (vehicle_ids c.args.snapshot.now) c.in-Ok.block.0 c.in_ok-batch.batch c.in_ok-batch.outcome = subst (λ (xs : List ℕ). IsJudgedAs xs c.in-Ok.block.0 c.in_ok-batch.batch c.in_ok-batch.outcome) ids c.in_ok-batch.ensures in
+    let other : (told_by c.in-Ok.block.0).batch ≢ c.args.snapshot.now.number =
+    λ h. c.if-told-snapshot.true (ap (λ (t : Told). t.batch) c.in_ok-told.ensures ∙ h ∙ sym (ap (λ (b : Batch). b.number) c.snapshot.view_is)) in
     λ some outcome behind good.
-    verdict_no_good c.args.settings.now c.args.network.now c.args.snapshot.now kept c.args.text.now c.in-Ok.block.0 c.in-Ok.block.1.now c.in-Ok.ensures c.in_ok-batch.batch c.in_ok-batch.outcome judged c.in-Fails.point c.in_ok-judge.field-0 c.in-Fails.is c.in_ok-judge.ensures.good outcome behind good
+    fails_no_good c.args.settings.now c.args.network.now c.args.snapshot.now kept c.args.text.now c.in-Ok.block.0 c.in-Ok.block.1.now c.in-Ok.ensures 0
+    (fails_at_once c.args.settings.now c.args.network.now c.args.snapshot.now (told_by c.in-Ok.block.0) other) outcome behind good
 
-pub returns-clause-fault : goal.returns-clause-fault
-returns-clause-fault g c =
-    let kept : IsKept c.args.snapshot.now = subst (λ (b : Batch). IsKept b) c.snapshot.view_is c.snapshot.invariant in
-    let ids : c.deref.result.now ≡ vehicle_ids c.args.snapshot.now = c.deref.ensures.value ∙ c.in_ok-ids.ensures ∙ ap (λ (vs : List Vehicle). map (λ v. v.id) vs) c.as_slice.ensures ∙ ap (λ (b : Batch). vehicle_ids b) c.snapshot.view_is in
-    let judged : IsJudgedAs (vehicle_ids c.args.snapshot.now) c.in-Ok.block.0 c.in_ok-batch.batch c.in_ok-batch.outcome = subst (λ (xs : List ℕ). IsJudgedAs xs c.in-Ok.block.0 c.in_ok-batch.batch c.in_ok-batch.outcome) ids c.in_ok-batch.ensures in
-    let number : c.in_ok-batch.batch ≡ c.args.snapshot.now.number = c.if-batch-snapshot.false ∙ ap (λ (b : Batch). b.number) c.snapshot.view_is in
-    let first = subst (λ (v : Verdict). IsVerdictOf (Meets c.args.settings.now c.args.network.now c.args.snapshot.now c.in_ok-batch.outcome) v) c.in-Fails.is c.in_ok-judge.ensures.points in
+pub returns-then-told-snapshot-clause-fault : goal.returns-then-told-snapshot-clause-fault
+returns-then-told-snapshot-clause-fault g c =
+    let other : (told_by c.in-Ok.block.0).batch ≢ c.args.snapshot.now.number =
+    λ h. c.if-told-snapshot.true (ap (λ (t : Told). t.batch) c.in_ok-told.ensures ∙ h ∙ sym (ap (λ (b : Batch). b.number) c.snapshot.view_is)) in
     record {
       lines = c.in-Ok.block.0;
       rest = c.in-Ok.block.1.now;
-      told = c.in_ok-batch.batch;
-      outcome = c.in_ok-batch.outcome;
       block = c.in-Ok.ensures;
-      judged = judged;
-      fails = fails_first c.args.settings.now c.args.network.now c.args.snapshot.now c.in_ok-batch.batch c.in_ok-batch.outcome c.in-Fails.point c.number_of.result number c.number_of.ensures first;
+      fails = fails_at_once c.args.settings.now c.args.network.now c.args.snapshot.now (told_by c.in-Ok.block.0) other;
     }
+
+pub returns-then-place-lt9-clause-none : goal.returns-then-place-lt9-clause-none
+returns-then-place-lt9-clause-none g c =
+    let kept : IsKept c.args.snapshot.now = subst (λ (b : Batch). IsKept b) c.snapshot.view_is c.snapshot.invariant in
+    let number : (told_by c.in-Ok.block.0).batch ≡ c.args.snapshot.now.number =
+    sym (ap (λ (t : Told). t.batch) c.in_ok-told.ensures) ∙ c.if-told-snapshot.false ∙ ap (λ (b : Batch). b.number) c.snapshot.view_is in
+    let points = subst (λ (t : Told). HoldUpTo (IsRight c.args.settings.now c.args.network.now c.args.snapshot.now t) c.in_ok-outcome.place) c.in_ok-told.ensures c.in_ok-outcome.ensures.points in
+    λ some outcome behind good.
+    fails_no_good c.args.settings.now c.args.network.now c.args.snapshot.now kept c.args.text.now c.in-Ok.block.0 c.in-Ok.block.1.now c.in-Ok.ensures c.in_ok-outcome.place
+    (fails_first c.args.settings.now c.args.network.now c.args.snapshot.now (told_by c.in-Ok.block.0) c.in_ok-outcome.place number c.if-place-lt9.true points) outcome behind good
+
+pub returns-then-place-lt9-clause-fault : goal.returns-then-place-lt9-clause-fault
+returns-then-place-lt9-clause-fault g c =
+    let number : (told_by c.in-Ok.block.0).batch ≡ c.args.snapshot.now.number =
+    sym (ap (λ (t : Told). t.batch) c.in_ok-told.ensures) ∙ c.if-told-snapshot.false ∙ ap (λ (b : Batch). b.number) c.snapshot.view_is in
+    let points = subst (λ (t : Told). HoldUpTo (IsRight c.args.settings.now c.args.network.now c.args.snapshot.now t) c.in_ok-outcome.place) c.in_ok-told.ensures c.in_ok-outcome.ensures.points in
+    record {
+      lines = c.in-Ok.block.0;
+      rest = c.in-Ok.block.1.now;
+      block = c.in-Ok.ensures;
+      fails = fails_first c.args.settings.now c.args.network.now c.args.snapshot.now (told_by c.in-Ok.block.0) c.in_ok-outcome.place number c.if-place-lt9.true points;
+    }
+
+pub returns-clause-good : goal.returns-clause-good
+returns-clause-good g c =
+    let kept : IsKept c.args.snapshot.now = subst (λ (b : Batch). IsKept b) c.snapshot.view_is c.snapshot.invariant in
+    let number : (told_by c.in-Ok.block.0).batch ≡ c.args.snapshot.now.number =
+    sym (ap (λ (t : Told). t.batch) c.in_ok-told.ensures) ∙ c.if-told-snapshot.false ∙ ap (λ (b : Batch). b.number) c.snapshot.view_is in
+    let points = subst (λ (t : Told). HoldUpTo (IsRight c.args.settings.now c.args.network.now c.args.snapshot.now t) c.in_ok-outcome.place) c.in_ok-told.ensures c.in_ok-outcome.ensures.points in
+    let is : c.in_ok-outcome.outcome ≡ judged_outcome (vehicle_ids c.args.snapshot.now) (told_by c.in-Ok.block.0) =
+    c.in_ok-outcome.ensures.outcome ∙ ap (λ (t : Told). judged_outcome (vehicle_ids c.args.snapshot.now) t) c.in_ok-told.ensures in
+    let can : (q : Point) → CanBeTold q (told_by c.in-Ok.block.0) = λ q. (points.before q (let low = low_place q in omega (arith, low, c.if-place-lt9.false))).1 in
+    let good = c.in_ok-outcome.ensures.good (omega (arith, c.if-place-lt9.false)) in
+    subst (λ (o : Outcome). BeginsWithGood c.args.settings.now c.args.network.now c.args.snapshot.now c.args.text.now o c.in-Ok.block.1.now) (sym is)
+    (begins_good c.args.settings.now c.args.network.now c.args.snapshot.now kept c.args.text.now c.in-Ok.block.0 c.in-Ok.block.1.now c.in-Ok.ensures number can
+    (subst (λ (o : Outcome). IsGoodOutcome c.args.settings.now c.args.network.now c.args.snapshot.now o) is good))
+
+pub returns-clause-only : goal.returns-clause-only
+returns-clause-only g c =
+    let kept : IsKept c.args.snapshot.now = subst (λ (b : Batch). IsKept b) c.snapshot.view_is c.snapshot.invariant in
+    let is : c.in_ok-outcome.outcome ≡ judged_outcome (vehicle_ids c.args.snapshot.now) (told_by c.in-Ok.block.0) =
+    c.in_ok-outcome.ensures.outcome ∙ ap (λ (t : Told). judged_outcome (vehicle_ids c.args.snapshot.now) t) c.in_ok-told.ensures in
+    λ outcome behind good.
+    let itself = good_is_judged c.args.settings.now c.args.network.now c.args.snapshot.now kept c.args.text.now c.in-Ok.block.0 c.in-Ok.block.1.now c.in-Ok.ensures outcome behind good in
+    (itself.same ∙ sym is, itself.after)
+
+pub returns-clause-lines : goal.returns-clause-lines
+returns-clause-lines g c =
+    let kept : IsKept c.args.snapshot.now = subst (λ (b : Batch). IsKept b) c.snapshot.view_is c.snapshot.invariant in
+    let number : (told_by c.in-Ok.block.0).batch ≡ c.args.snapshot.now.number =
+    sym (ap (λ (t : Told). t.batch) c.in_ok-told.ensures) ∙ c.if-told-snapshot.false ∙ ap (λ (b : Batch). b.number) c.snapshot.view_is in
+    let points = subst (λ (t : Told). HoldUpTo (IsRight c.args.settings.now c.args.network.now c.args.snapshot.now t) c.in_ok-outcome.place) c.in_ok-told.ensures c.in_ok-outcome.ensures.points in
+    let is : c.in_ok-outcome.outcome ≡ judged_outcome (vehicle_ids c.args.snapshot.now) (told_by c.in-Ok.block.0) =
+    c.in_ok-outcome.ensures.outcome ∙ ap (λ (t : Told). judged_outcome (vehicle_ids c.args.snapshot.now) t) c.in_ok-told.ensures in
+    let can : (q : Point) → CanBeTold q (told_by c.in-Ok.block.0) = λ q. (points.before q (let low = low_place q in omega (arith, low, c.if-place-lt9.false))).1 in
+    c.len-count.ensures
+    ∙ line_count c.args.settings.now c.args.network.now c.args.snapshot.now kept c.args.text.now c.in-Ok.block.0 c.in-Ok.block.1.now c.in-Ok.ensures number can
+    ∙ ap (λ (o : Outcome). length (block_lines true c.args.snapshot.now.number o)) (sym is)

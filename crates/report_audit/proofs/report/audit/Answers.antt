@@ -1,7 +1,7 @@
 use Rattle.std.proofs.Common.{◌≡◌, ℕ, List, length, sym, subst, ◌∙◌}
 use Rattle.batch_snapshot.specs.declared.vehicle.Vehicle.{Vehicle}
-use Rattle.report_head.specs.Fault.{HeadFails}
-use Rattle.report_head.specs.Head.{BeginsWithHead}
+use Rattle.report_lines.specs.HeadFault.{HeadFails}
+use Rattle.report_lines.specs.Head.{BeginsWithHead}
 use Rattle.rider_limits.specs.declared.settings.Settings.{Settings}
 use Rattle.report_audit.specs.Fault.{HasFault}
 use Rattle.report_audit.specs.declared.fault.AuditFault.{AuditFault}

@@ -10,8 +10,9 @@ pub returns-in_default : goal.returns-in_default
 returns-in_default c late is e =
     head_none (numbered (codes "late ")) IsId order_text c.args.line.now c.in_default.ensures late.vehicle (late.delay, late.stops) is.0 (order_ends (late.delay, late.stops)) e
 
-pub returns-in_default-read_order : goal.returns-in_default-read_order
-returns-in_default-read_order c late is e =
+pub returns-in_default-2 : goal.returns-in_default-2
+returns-in_default-2 c late is e =
+    let none = rw c.in_default-2.is at c.in_ok-delay.ensures in
     tail_none (numbered (codes "late ")) IsId order_text c.args.line.now (numbered_once (codes "late ") 1000000000 (omega arith))
     c.in-Some.id c.in-Some.after.now c.in-Some.ensures late.vehicle (late.delay, late.stops) is.0 (order_ends (late.delay, late.stops))
-    (c.in_default-read_order.ensures (late.delay, late.stops) is.1) e
+    (none (late.delay, late.stops) is.1) e

@@ -5,6 +5,7 @@ pub returns-in_default : goal.returns-in_default
 returns-in_default c =
     order_no_delay c.args.text.now (λ e. let whole = c.is_words.ensures.whole e in cc) c.in_default.ensures
 
-pub returns-in-None : goal.returns-in-None
-returns-in-None c =
-    order_no_stops c.args.text.now (λ e. let whole = c.is_words.ensures.whole e in cc) c.in-Some.delay c.in-Some.after.now c.in-Some.ensures c.in-None.ensures
+pub returns-in_default-2 : goal.returns-in_default-2
+returns-in_default-2 c =
+    let none = rw c.in_default-2.is at c.in_ok-stops.ensures in
+    order_no_stops c.args.text.now (λ e. let whole = c.is_words.ensures.whole e in cc) c.in-Some.delay c.in-Some.after.now c.in-Some.ensures none

@@ -1,20 +1,31 @@
-use Rattle.std.proofs.Common.{sym, ◌∙◌}
+use Rattle.std.proofs.Common.{◌≡◌, List, refl, sym, ◌∙◌, subst}
+use Rattle.std.specs.List.{flat_map, All}
 use Rattle.dispatch_report.specs.Block.{stop_text}
-use Rattle.report_lines.specs.work.Stops.{IsStop}
-use Rattle.report_lines.proofs.ListLemmas.{so_far_stuck, shorter_after}
-use Rattle.report_lines.proofs.StopLemmas.{stop_apart, stop_once, stop_some, stops_more, has_room}
+use Rattle.report_lines.specs.Stops.{FitsStop}
+use Rattle.report_lines.proofs.StopLemmas.{stop_apart, stop_once, stop_some}
+use Rattle.request_book.specs.declared.outcome.PlannedStop.{PlannedStop}
+use Rattle.report_lines.proofs.ListLemmas.{ReadSoFar, so_far_none, so_far_done, so_far_stuck, shorter_after, so_far_given}
 use Rattle.report_lines.proofs.stops.stops_to_end.Goals as goal
 
+pub loop-rest-init : goal.loop-rest-init
+loop-rest-init c =
+    subst (λ (xs : List PlannedStop). ReadSoFar stop_text FitsStop c.args.text.now xs c.args.text.now) (sym c.new-stops.ensures.items) (so_far_none stop_text FitsStop c.args.text.now)
+
 pub returns-in_default : goal.returns-in_default
-returns-in_default g c stops are =
-    so_far_stuck stop_text IsStop stop_apart c.args.text.now c.loop-rest.stops.items c.loop-rest.rest.now c.loop-rest.invariant.so_far
-    (sym c.is_empty.ensures ∙ c.loop-rest-test.true) c.in_default.ensures stops.items are.0
+returns-in_default c =
+    so_far_stuck stop_text FitsStop stop_apart c.args.text.now c.loop-rest.stops.items c.loop-rest.rest.now c.loop-rest.invariant
+    (sym c.is_empty.ensures ∙ c.loop-rest-test.true) c.in_default.ensures
 
 pub loop-rest-smaller : goal.loop-rest-smaller
-loop-rest-smaller g c =
-    shorter_after stop_text IsStop stop_apart stop_once stop_some c.loop-rest.rest.now c.in-Some.stop c.in-Some.after.now c.in-Some.ensures
+loop-rest-smaller c =
+    shorter_after stop_text FitsStop stop_apart stop_once stop_some c.loop-rest.rest.now c.in-Some.stop c.in-Some.after.now c.in-Some.ensures
 
 pub loop-rest-preserved : goal.loop-rest-preserved
-loop-rest-preserved g c =
-    stops_more g.row.N c.args.text.now c.loop-rest.stops.items c.loop-rest.rest.now c.in-Some.stop c.in-Some.after.now c.push.new.self.items
-    c.loop-rest.invariant c.in-Some.ensures (has_room _ g.row.N c.loop-rest.invariant.room (sym c.is_full.ensures.value ∙ c.if-is_full.false)) c.push.ensures.items
+loop-rest-preserved c =
+    so_far_given stop_text FitsStop stop_apart stop_once stop_some c.args.text.now c.loop-rest.stops.items c.loop-rest.rest.now c.in-Some.stop c.in-Some.after.now c.push.new.self.items c.in-Some.stop
+    c.loop-rest.invariant c.in-Some.ensures c.in_ok-push.ensures.items refl
+
+pub returns : goal.returns
+returns c =
+    subst (λ (xs : List PlannedStop). All FitsStop xs × (c.args.text.now ≡ flat_map stop_text xs)) (sym c.of.ensures)
+    (c.loop-rest.invariant.lawful, so_far_done stop_text FitsStop c.args.text.now c.loop-rest.stops.items c.loop-rest.rest.now c.loop-rest.invariant (sym c.is_empty.ensures ∙ c.loop-rest-test.false))

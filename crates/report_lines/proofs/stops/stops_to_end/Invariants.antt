@@ -1,9 +1,11 @@
 use Rattle.std.proofs.Common.{length}
-use Rattle.report_lines.proofs.StopLemmas.{StopsSoFar}
+use Rattle.dispatch_report.specs.Block.{stop_text}
+use Rattle.report_lines.specs.Stops.{FitsStop}
+use Rattle.report_lines.proofs.ListLemmas.{ReadSoFar}
 use Rattle.report_lines.proofs.stops.stops_to_end.Given as goal
 
 abbrev pub invariant-loop-rest : goal.invariant-loop-rest
-invariant-loop-rest g l = StopsSoFar g.row.N l.fn.text l.stops.items l.rest
+invariant-loop-rest l = ReadSoFar stop_text FitsStop l.fn.text l.stops.items l.rest
 
 abbrev pub decreases-loop-rest : goal.decreases-loop-rest
-decreases-loop-rest g l = length l.rest
+decreases-loop-rest l = length l.rest

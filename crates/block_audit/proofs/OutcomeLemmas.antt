@@ -1,0 +1,302 @@
+-- An outcome is judged as itself, and lines that can be told are those of the outcome as which they are judged.
+use Rattle.std.proofs.Common.{◌≡◌, ℕ, ◌<◌, ◌≤◌, ◌+◌, Bool, true, false, cond, nat_le, IfSome, List, [], ◌∷◌, ◌++◌, length, get_or, map, slice_get, unwrap_or, option_map, Option, Some, None, append_assoc, refl, sym, ap, ◌∙◌, subst, arith}
+use Rattle.std.specs.List.{All}
+use Rattle.std.proofs.lemmas.Bool.{cond-true, cond_both, le-leb, leb-true}
+use Rattle.std.proofs.lemmas.List.{length-map}
+use Rattle.std.proofs.lemmas.List.Elements.{All-cons, All-head, All-tail, All-map}
+use Rattle.std.proofs.lemmas.Option.{slice_get-map}
+use Rattle.arrayvec.specs.ArrayVec.{ArrayVec}
+use Rattle.outcome_check.specs.declared.verdict.Point.{Point}
+use Rattle.outcome_check.specs.declared.verdict.Point.TheVariants as point
+use Rattle.plan_rules.specs.declared.node.Node.{Node}
+use Rattle.plan_rules.specs.declared.node.Node.TheVariants as node
+use Rattle.report_lines.specs.Order.{follow_on, last_place}
+use Rattle.report_lines.specs.Outcome.{row_as_line, trip_as_line, late_as_line, tree_line, lines_of_answer, lines_of}
+use Rattle.report_lines.specs.declared.block_line.BlockLine.{BlockLine}
+use Rattle.report_lines.specs.declared.block_line.BlockLine.TheVariants.{Batch, Expired, Lapsed, Late, Alone, Shared, Row, Trip, Out, Move, Cost, Bound, Nodes, Branch, Leaf, Dead, End}
+use Rattle.report_lines.specs.declared.late.LateText.{LateText}
+use Rattle.report_lines.specs.declared.row.RowText.{RowText}
+use Rattle.report_lines.specs.declared.trip.TripText.{TripText}
+use Rattle.request_book.specs.declared.outcome.Answer.{Answer}
+use Rattle.request_book.specs.declared.outcome.Answer.TheVariants.{Overflow as TooMany, Planned as Plan}
+use Rattle.request_book.specs.declared.outcome.ChosenTrip.{ChosenTrip}
+use Rattle.request_book.specs.declared.outcome.LateVehicle.{LateVehicle}
+use Rattle.request_book.specs.declared.outcome.Outcome.{Outcome}
+use Rattle.request_book.specs.declared.outcome.Planned.{Planned}
+use Rattle.request_book.specs.declared.outcome.PlannedStop.{PlannedStop}
+use Rattle.request_book.specs.declared.outcome.RowLine.{RowLine}
+use Rattle.block_audit.specs.Fits.{HasFewStops}
+use Rattle.block_audit.specs.Judged.{at_most, stops_of, row_of, trip_of, late_of, node_of, number_among, judged_plan, judged_outcome, NamesRow, CanBeTold, HasTrips}
+use Rattle.block_audit.specs.Told.{Told, told_by}
+use Rattle.block_audit.proofs.NumberedLemmas.{AreNumbered, IsNumbered}
+use Rattle.block_audit.proofs.ShapeLemmas.{HasShape, IsNodeLine, Parts, has_shape, nest, overflow_block, plan_block}
+use Rattle.block_audit.proofs.ToldLemmas.{overflow_told, plan_told, overflow_is_told, plan_is_told}
+
+-- what lines tell of the parts of a plan
+abbrev row_text : RowLine → RowText
+row_text row = record { vehicle = row.vehicle; cost = row.cost; riders = row.riders.items }
+
+abbrev trip_text : ChosenTrip → TripText
+trip_text trip = record { vehicle = trip.vehicle; cost = trip.cost; stops = trip.stops.items }
+
+abbrev late_text : LateVehicle → LateText
+late_text late = record { vehicle = late.vehicle; delay = late.delay; stops = option_map (λ s. s.items) late.stops }
+
+abbrev parts_of : Planned → Parts
+parts_of plan = record {
+  lapsed = plan.lapsed;
+  late = map late_text plan.late;
+  rv = plan.rv;
+  rr = plan.rr;
+  rows = map row_text plan.rows;
+  chosen = map trip_text plan.chosen;
+  left = plan.left;
+  moves = plan.moves;
+  cost = plan.cost;
+  bound = plan.bound;
+  nodes = length plan.tree;
+  tree = map (tree_line plan.rows) plan.tree;
+}
+
+tree_drawn : (rows : List RowLine) (tree : List Node) → All IsNodeLine (map (tree_line rows) tree)
+tree_drawn rows [] = λ k d within. absurd (omega arith)
+tree_drawn rows (n ∷ tree) = All-cons IsNodeLine (tree_line rows n) (map (tree_line rows) tree) (by n) (tree_drawn rows tree)
+  where
+    by : (n : Node) → IsNodeLine (tree_line rows n)
+    by (node.Branch v r) = tt
+    by (node.Leaf ms) = tt
+    by node.Dead = tt
+
+fused : {X Y : Type 0} (K : Y → BlockLine) (g : X → Y) (xs : List X) → map (λ x. K (g x)) xs ≡ map K (map g xs)
+fused K g [] = refl
+fused K g (x ∷ xs) = ap (λ l. K (g x) ∷ l) (fused K g xs)
+
+parted : {X : Type 0} (xs ys s : List X) (all : List X) → all ≡ (xs ++ ys) ++ s → all ≡ xs ++ (ys ++ s)
+parted xs ys s all e = e ∙ append_assoc xs ys s
+
+plan_nested : (plan : Planned) → lines_of_answer (Plan plan) ++ End ∷ [] ≡ nest (parts_of plan)
+plan_nested plan =
+    let all : List BlockLine = lines_of_answer (Plan plan) ++ End ∷ [] in
+    let a : List BlockLine = map Lapsed plan.lapsed in
+    let b : List BlockLine = map late_as_line plan.late in
+    let c : List BlockLine = map Alone plan.rv in
+    let d : List BlockLine = map Shared plan.rr in
+    let r : List BlockLine = map row_as_line plan.rows in
+    let f : List BlockLine = map trip_as_line plan.chosen in
+    let g : List BlockLine = map Out plan.left in
+    let h : List BlockLine = map Move plan.moves in
+    let n : List BlockLine = Cost plan.cost ∷ Bound plan.bound ∷ Nodes (length plan.tree) ∷ [] in
+    let t : List BlockLine = map (tree_line plan.rows) plan.tree in
+    let s : List BlockLine = n ++ (t ++ End ∷ []) in
+    let sh : List BlockLine = h ++ s in
+    let sg : List BlockLine = g ++ sh in
+    let sf : List BlockLine = f ++ sg in
+    let sr : List BlockLine = r ++ sf in
+    let sd : List BlockLine = d ++ sr in
+    let sc : List BlockLine = c ++ sd in
+    let whole : all ≡ (a ++ b ++ c ++ d ++ r) ++ ((f ++ g ++ h) ++ s) =
+    parted (a ++ b ++ c ++ d ++ r) (f ++ g ++ h) s all (parted ((a ++ b ++ c ++ d ++ r) ++ (f ++ g ++ h)) n (t ++ End ∷ []) all (parted (((a ++ b ++ c ++ d ++ r) ++ (f ++ g ++ h)) ++ n) t (End ∷ []) all refl)) in
+    let choice : (f ++ g ++ h) ++ s ≡ sf = parted f g sh ((f ++ g ++ h) ++ s) (parted (f ++ g) h s ((f ++ g ++ h) ++ s) refl) in
+    let graphs : all ≡ (a ++ b ++ c ++ d ++ r) ++ sf = whole ∙ ap (λ l. (a ++ b ++ c ++ d ++ r) ++ l) choice in
+    let late = fused Late late_text plan.late in
+    let rows = fused Row row_text plan.rows in
+    let chosen = fused Trip trip_text plan.chosen in
+    parted a b sc all (parted (a ++ b) c sd all (parted (a ++ b ++ c) d sr all (parted (a ++ b ++ c ++ d) r sf all graphs)))
+    ∙ (λ i. a ++ (late i ++ (c ++ (d ++ (rows i ++ (chosen i ++ sg))))))
+
+outcome_nested : (batch : ℕ) (outcome : Outcome) → lines_of batch outcome ≡ Batch batch ∷ (map Expired outcome.expired ++ (lines_of_answer outcome.answer ++ End ∷ []))
+outcome_nested batch outcome =
+    let x : List BlockLine = map Expired outcome.expired in
+    let a : List BlockLine = lines_of_answer outcome.answer in
+    parted (Batch batch ∷ []) x (a ++ End ∷ []) (lines_of batch outcome) (parted ((Batch batch ∷ []) ++ x) a (End ∷ []) (lines_of batch outcome) refl)
+
+overflow_lines : (batch : ℕ) (expired : List ℕ) → lines_of batch (record { expired = expired; answer = TooMany }) ≡ overflow_block batch expired
+overflow_lines batch expired = outcome_nested batch (record { expired = expired; answer = TooMany })
+
+plan_lines : (batch : ℕ) (expired : List ℕ) (plan : Planned) → lines_of batch (record { expired = expired; answer = Plan plan }) ≡ plan_block batch expired (parts_of plan)
+plan_lines batch expired plan = outcome_nested batch (record { expired = expired; answer = Plan plan }) ∙ ap (λ l. Batch batch ∷ (map Expired expired ++ l)) (plan_nested plan)
+
+-- lists of few items are kept
+kept : {X : Type 0} (most : ℕ) (xs : List X) → length xs ≤ most → at_most most xs ≡ xs
+kept most xs few = cond-true (nat_le (length xs) most) xs [] (le-leb (length xs) most few)
+
+few : {X : Type 0} (most : ℕ) (xs : List X) → length (at_most most xs) ≤ most
+few most xs = cond_both (nat_le (length xs) most) xs [] (λ ys. length ys ≤ most) (λ low. leb-true (length xs) most low) (λ high. omega arith)
+
+back : {X Y : Type 0} (f : X → Y) (g : Y → X) (P : X → Type 0) → ((x : X) → P x → g (f x) ≡ x) → (xs : List X) → All P xs → map g (map f xs) ≡ xs
+back f g P same [] all = refl
+back f g P same (x ∷ xs) all = ap (λ z. z ∷ map g (map f xs)) (same x (All-head P x xs all)) ∙ ap (λ zs. x ∷ zs) (back f g P same xs (All-tail P x xs all))
+
+-- rows, trips and late vehicles, there and back
+row_back : (row : RowText) → length row.riders ≤ 6 → row_text (row_of row) ≡ row
+row_back row low = ap (λ l. record { vehicle = row.vehicle; cost = row.cost; riders = l }) (kept 6 row.riders low)
+
+row_again : (row : RowLine) → length row.riders.items ≤ 6 → row_of (row_text row) ≡ row
+row_again row low = ap (λ l. record { vehicle = row.vehicle; riders = record { items = l }; cost = row.cost }) (kept 6 row.riders.items low)
+
+trip_back : (trip : TripText) → length trip.stops ≤ 22 → trip_text (trip_of trip) ≡ trip
+trip_back trip low = ap (λ l. record { vehicle = trip.vehicle; cost = trip.cost; stops = l }) (kept 22 trip.stops low)
+
+trip_again : (trip : ChosenTrip) → length trip.stops.items ≤ 22 → trip_of (trip_text trip) ≡ trip
+trip_again trip low = ap (λ l. record { vehicle = trip.vehicle; cost = trip.cost; stops = record { items = l } }) (kept 22 trip.stops.items low)
+
+late_back : (late : LateText) → IfSome late.stops (λ stops. length stops ≤ 10) → late_text (late_of late) ≡ late
+late_back late low = ap (λ o. record { vehicle = late.vehicle; delay = late.delay; stops = o }) (by late.stops low)
+  where
+    by : (o : Option (List PlannedStop)) → IfSome o (λ stops. length stops ≤ 10) → option_map (λ (s : ArrayVec PlannedStop). s.items) (option_map (stops_of 10) o) ≡ o
+    by None low = refl
+    by (Some stops) low = ap Some (kept 10 stops low)
+
+late_again : (late : LateVehicle) → IfSome late.stops (λ stops. length stops.items ≤ 10) → late_of (late_text late) ≡ late
+late_again late low = ap (λ o. record { vehicle = late.vehicle; delay = late.delay; stops = o }) (by late.stops low)
+  where
+    by : (o : Option (ArrayVec PlannedStop)) → IfSome o (λ stops. length stops.items ≤ 10) → option_map (stops_of 10) (option_map (λ (s : ArrayVec PlannedStop). s.items) o) ≡ o
+    by None low = refl
+    by (Some stops) low = ap (λ l. Some (record { items = l })) (kept 10 stops.items low)
+
+-- the vehicle of a row
+abbrev id_in : List RowLine → ℕ → ℕ
+id_in rows row = unwrap_or (option_map (λ r. r.vehicle) (slice_get rows row)) 0
+
+abbrev id_told : List RowText → ℕ → ℕ
+id_told rows row = unwrap_or (option_map (λ r. r.vehicle) (slice_get rows row)) 0
+
+id_of_row : (rows : List RowText) (row : ℕ) → id_in (map row_of rows) row ≡ id_told rows row
+id_of_row rows row = ap (λ o. unwrap_or (option_map (λ (r : RowLine). r.vehicle) o) 0) (slice_get-map row_of rows row) ∙ by (slice_get rows row)
+  where
+    by : (o : Option RowText) → unwrap_or (option_map (λ (r : RowLine). r.vehicle) (option_map row_of o)) 0 ≡ unwrap_or (option_map (λ (r : RowText). r.vehicle) o) 0
+    by None = refl
+    by (Some r) = refl
+
+id_of_text : (rows : List RowLine) (row : ℕ) → id_told (map row_text rows) row ≡ id_in rows row
+id_of_text rows row = ap (λ o. unwrap_or (option_map (λ (r : RowText). r.vehicle) o) 0) (slice_get-map row_text rows row) ∙ by (slice_get rows row)
+  where
+    by : (o : Option RowLine) → unwrap_or (option_map (λ (r : RowText). r.vehicle) (option_map row_text o)) 0 ≡ unwrap_or (option_map (λ (r : RowLine). r.vehicle) o) 0
+    by None = refl
+    by (Some r) = refl
+
+-- trees, there and back
+tree_back : (ids : List ℕ) (rows : List RowText) (tree : List BlockLine) → All IsNodeLine tree → All (NamesRow rows) tree → map (tree_line (map row_of rows)) (map (node_of ids) tree) ≡ tree
+tree_back ids rows [] drawn named = refl
+tree_back ids rows (line ∷ lines) drawn named =
+    ap (λ z. z ∷ map (tree_line (map row_of rows)) (map (node_of ids) lines)) (by line (All-head IsNodeLine line lines drawn) (All-head (NamesRow rows) line lines named))
+    ∙ ap (λ zs. line ∷ zs) (tree_back ids rows lines (All-tail IsNodeLine line lines drawn) (All-tail (NamesRow rows) line lines named))
+  where
+    by : (line : BlockLine) → IsNodeLine line → NamesRow rows line → tree_line (map row_of rows) (node_of ids line) ≡ line
+    by (Branch branch) is names = ap (λ v. Branch (v, branch.1)) (id_of_row rows branch.1 ∙ names)
+    by (Leaf multipliers) is names = refl
+    by Dead is names = refl
+    by _ is names = absurd is
+
+tree_again : (ids : List ℕ) (rows : List RowLine) (tree : List Node) → All (IsNumbered ids rows) tree → map (node_of ids) (map (tree_line rows) tree) ≡ tree
+tree_again ids rows tree numbered = back (tree_line rows) (node_of ids) (IsNumbered ids rows) by tree numbered
+  where
+    by : (n : Node) → IsNumbered ids rows n → node_of ids (tree_line rows n) ≡ n
+    by (node.Branch v r) is = ap (λ w. node.Branch w r) is
+    by (node.Leaf ms) is = refl
+    by node.Dead is = refl
+
+tree_named : (rows : List RowLine) (tree : List Node) → All (NamesRow (map row_text rows)) (map (tree_line rows) tree)
+tree_named rows [] = λ k d within. absurd (omega arith)
+tree_named rows (n ∷ tree) = All-cons (NamesRow (map row_text rows)) (tree_line rows n) (map (tree_line rows) tree) (by n) (tree_named rows tree)
+  where
+    by : (n : Node) → NamesRow (map row_text rows) (tree_line rows n)
+    by (node.Branch v r) = id_of_text rows r
+    by (node.Leaf ms) = tt
+    by node.Dead = tt
+
+-- lines that can be told are those of the outcome as which they are judged
+pub lines_are : (ids : List ℕ) (lines : List BlockLine) → follow_on 0 lines ≡ true → last_place 0 lines ≡ 16 → ((q : Point) → CanBeTold q (told_by lines))
+    → lines ≡ lines_of (told_by lines).batch (judged_outcome ids (told_by lines))
+lines_are ids lines f e can = by (has_shape lines f e)
+  where
+    by : HasShape lines → lines ≡ lines_of (told_by lines).batch (judged_outcome ids (told_by lines))
+    by (HasShape.overflows batch expired is) =
+        let t : told_by lines ≡ overflow_told batch expired = ap told_by is ∙ overflow_is_told batch expired in
+        is ∙ sym (overflow_lines batch expired) ∙ ap (λ (u : Told). lines_of u.batch (judged_outcome ids u)) (sym t)
+    by (HasShape.plans batch expired p drawn is) =
+        let t : told_by lines ≡ plan_told batch expired p = ap told_by is ∙ plan_is_told batch expired p drawn in
+        let told : (q : Point) → CanBeTold q (plan_told batch expired p) = λ q. subst (λ (u : Told). CanBeTold q u) t (can q) in
+        let late = back late_of late_text (λ late. IfSome late.stops (λ stops. length stops ≤ 10)) late_back p.late (told point.Late) in
+        let rows = back row_of row_text (λ row. length row.riders ≤ 6) row_back p.rows (told point.Graphs) in
+        let chosen = back trip_of trip_text (λ trip. length trip.stops ≤ 22) trip_back p.chosen (told point.Trips) in
+        let nodes : length (map (node_of ids) p.tree) ≡ p.nodes = length-map p.tree (node_of ids) ∙ sym (told point.Bound).0 in
+        let tree = tree_back ids p.rows p.tree drawn (told point.Bound).1 in
+        let same : parts_of (judged_plan ids (plan_told batch expired p)) ≡ p =
+        (λ i. record { lapsed = p.lapsed; late = late i; rv = p.rv; rr = p.rr; rows = rows i; chosen = chosen i; left = p.left; moves = p.moves; cost = p.cost; bound = p.bound; nodes = nodes i; tree = tree i }) in
+        is ∙ ap (plan_block batch expired) (sym same) ∙ sym (plan_lines batch expired (judged_plan ids (plan_told batch expired p))) ∙ ap (λ (u : Told). lines_of u.batch (judged_outcome ids u)) (sym t)
+
+-- no list of the outcome as which lines are judged is longer than there can be
+pub judged_few : (ids : List ℕ) (t : Told) → HasFewStops (judged_outcome ids t).answer × HasTrips (judged_outcome ids t).answer
+judged_few ids t = by t.overflow
+  where
+    late_few : (late : LateText) → IfSome (late_of late).stops (λ stops. length stops.items ≤ 10)
+    late_few late = at late.stops
+      where
+        at : (o : Option (List PlannedStop)) → IfSome (option_map (stops_of 10) o) (λ stops. length stops.items ≤ 10)
+        at None = tt
+        at (Some stops) = few 10 stops
+
+    by : (b : Bool) → HasFewStops (cond b TooMany (Plan (judged_plan ids t))) × HasTrips (cond b TooMany (Plan (judged_plan ids t)))
+    by true = (tt, tt)
+    by false = (
+      (
+        All-map (λ late. IfSome late.stops (λ stops. length stops.items ≤ 10)) late_of t.late (λ k d within. late_few (get_or t.late k d)),
+        All-map (λ trip. length trip.stops.items ≤ 22) trip_of t.chosen (λ k d within. few 22 (get_or t.chosen k d).stops),
+      ),
+      All-map (λ row. length row.riders.items ≤ 6) row_of t.rows (λ k d within. few 6 (get_or t.rows k d).riders),
+    )
+
+-- an outcome whose lists are no longer than there can be is judged as itself
+pub record IsToldAs (ids : List ℕ) (batch : ℕ) (outcome : Outcome) (t : Told) : Type 0 where
+  pub number : t.batch ≡ batch
+  pub same : judged_outcome ids t ≡ outcome
+  pub can : (q : Point) → CanBeTold q t
+
+abbrev answered_by : List ℕ → Answer → Outcome
+answered_by expired answer = record { expired = expired; answer = answer }
+
+late_told : (late : LateVehicle) → IfSome late.stops (λ stops. length stops.items ≤ 10) → IfSome (late_text late).stops (λ stops. length stops ≤ 10)
+late_told late low = at late.stops low
+  where
+    at : (o : Option (ArrayVec PlannedStop)) → IfSome o (λ stops. length stops.items ≤ 10) → IfSome (option_map (λ (s : ArrayVec PlannedStop). s.items) o) (λ stops. length stops ≤ 10)
+    at None low = tt
+    at (Some s) low = low
+
+none_told : (batch : ℕ) (expired : List ℕ) (q : Point) → CanBeTold q (overflow_told batch expired)
+none_told batch expired point.Graphs = λ k d within. absurd (omega arith)
+none_told batch expired point.Late = λ k d within. absurd (omega arith)
+none_told batch expired point.Trips = λ k d within. absurd (omega arith)
+none_told batch expired point.Bound = (refl, λ k d within. absurd (omega arith))
+none_told batch expired q = tt
+
+module _ (batch : ℕ) (expired : List ℕ) (plan : Planned) (stops : HasFewStops (Plan plan)) (trips : HasTrips (Plan plan)) where
+  all_told : (q : Point) → CanBeTold q (plan_told batch expired (parts_of plan))
+  all_told point.Graphs = All-map (λ row. length row.riders ≤ 6) row_text plan.rows trips
+  all_told point.Late = All-map (λ late. IfSome late.stops (λ stops. length stops ≤ 10)) late_text plan.late (λ k d within. late_told (get_or plan.late k d) (stops.0 k d within))
+  all_told point.Trips = All-map (λ trip. length trip.stops ≤ 22) trip_text plan.chosen stops.1
+  all_told point.Bound = (sym (length-map plan.tree (tree_line plan.rows)), tree_named plan.rows plan.tree)
+  all_told q = tt
+
+  plan_again : (ids : List ℕ) → AreNumbered ids (Plan plan) → judged_plan ids (plan_told batch expired (parts_of plan)) ≡ plan
+  plan_again ids numbered =
+      let late = back late_text late_of (λ late. IfSome late.stops (λ stops. length stops.items ≤ 10)) late_again plan.late stops.0 in
+      let rows = back row_text row_of (λ row. length row.riders.items ≤ 6) row_again plan.rows trips in
+      let chosen = back trip_text trip_of (λ trip. length trip.stops.items ≤ 22) trip_again plan.chosen stops.1 in
+      let tree = tree_again ids plan.rows plan.tree numbered in
+      (λ i. record { lapsed = plan.lapsed; late = late i; rv = plan.rv; rr = plan.rr; rows = rows i; chosen = chosen i; left = plan.left; moves = plan.moves; cost = plan.cost; bound = plan.bound; tree = tree i })
+
+pub outcome_is_told : (ids : List ℕ) (batch : ℕ) (outcome : Outcome) → HasFewStops outcome.answer → HasTrips outcome.answer → AreNumbered ids outcome.answer → IsToldAs ids batch outcome (told_by (lines_of batch outcome))
+outcome_is_told ids batch outcome stops trips numbered = by outcome.answer stops trips numbered
+  where
+    by : (answer : Answer) → HasFewStops answer → HasTrips answer → AreNumbered ids answer → IsToldAs ids batch (answered_by outcome.expired answer) (told_by (lines_of batch (answered_by outcome.expired answer)))
+    by TooMany stops trips numbered =
+        let t : overflow_told batch outcome.expired ≡ told_by (lines_of batch (answered_by outcome.expired TooMany)) =
+        sym (ap told_by (overflow_lines batch outcome.expired) ∙ overflow_is_told batch outcome.expired) in
+        subst (λ (u : Told). IsToldAs ids batch (answered_by outcome.expired TooMany) u) t (record { number = refl; same = refl; can = none_told batch outcome.expired })
+    by (Plan plan) stops trips numbered =
+        let t : plan_told batch outcome.expired (parts_of plan) ≡ told_by (lines_of batch (answered_by outcome.expired (Plan plan))) =
+        sym (ap told_by (plan_lines batch outcome.expired plan) ∙ plan_is_told batch outcome.expired (parts_of plan) (tree_drawn plan.rows plan.tree)) in
+        let same : answered_by outcome.expired (Plan (judged_plan ids (plan_told batch outcome.expired (parts_of plan)))) ≡ answered_by outcome.expired (Plan plan) =
+        ap (λ (x : Planned). answered_by outcome.expired (Plan x)) (plan_again batch outcome.expired plan stops trips ids numbered) in
+        subst (λ (u : Told). IsToldAs ids batch (answered_by outcome.expired (Plan plan)) u) t (record { number = refl; same = same; can = all_told batch outcome.expired plan stops trips })

@@ -1,0 +1,151 @@
+-- What the lines of a block tell is what it is made of.
+use Rattle.std.proofs.Common.{◌≡◌, ℕ, ◌<◌, ◌≤◌, true, false, List, [], ◌∷◌, ◌++◌, map, append_assoc, append-nil, refl, sym, ap, ◌∙◌, arith}
+use Rattle.std.specs.Prelude.{fold}
+use Rattle.std.specs.List.{All}
+use Rattle.std.proofs.lemmas.List.Elements.{All-cons, All-head, All-tail}
+use Rattle.report_lines.specs.declared.block_line.BlockLine.{BlockLine}
+use Rattle.report_lines.specs.declared.block_line.BlockLine.TheVariants.{Batch, Expired, Overflow, Lapsed, Late, Alone, Shared, Row, Trip, Out, Move, Cost, Bound, Nodes, Branch, Leaf, Dead, End}
+use Rattle.report_lines.specs.declared.late.LateText.{LateText}
+use Rattle.report_lines.specs.declared.row.RowText.{RowText}
+use Rattle.report_lines.specs.declared.trip.TripText.{TripText}
+use Rattle.block_audit.specs.Told.{Told, nothing_told, told_by, with_line}
+use Rattle.block_audit.proofs.ShapeLemmas.{IsNodeLine, Parts, nest, overflow_block, plan_block}
+
+-- the lines of a list add its items
+module _ {X : Type 0} (K : X → BlockLine) (of : Told → List X) (put : Told → List X → Told)
+    (whole : (t : Told) → put t (of t) ≡ t) (more : (t : Told) (x : X) → with_line t (K x) ≡ put t (of t ++ x ∷ []))
+    (kept : (t : Told) (xs : List X) → of (put t xs) ≡ xs) (again : (t : Told) (xs ys : List X) → put (put t xs) ys ≡ put t ys) where
+  list_told : (t : Told) (xs : List X) (rest : List BlockLine) → fold with_line t (map K xs ++ rest) ≡ fold with_line (put t (of t ++ xs)) rest
+  list_told t [] rest = ap (λ u. fold with_line u rest) (sym (ap (put t) (append-nil (of t)) ∙ whole t))
+  list_told t (x ∷ xs) rest =
+      let l : List X = of t ++ x ∷ [] in
+      ap (λ u. fold with_line u (map K xs ++ rest)) (more t x)
+      ∙ list_told (put t l) xs rest
+      ∙ ap (λ zs. fold with_line (put (put t l) (zs ++ xs)) rest) (kept t l)
+      ∙ ap (λ u. fold with_line u rest) (again t l (l ++ xs) ∙ ap (put t) (append_assoc (of t) (x ∷ []) xs))
+
+-- a tree's lines add themselves
+tree_told : (t : Told) (tree rest : List BlockLine) → All IsNodeLine tree → fold with_line t (tree ++ rest) ≡ fold with_line (record t { tree = t.tree ++ tree }) rest
+tree_told t [] rest drawn = ap (λ l. fold with_line (record t { tree = l }) rest) (sym (append-nil t.tree))
+tree_told t (line ∷ lines) rest drawn =
+    ap (λ u. fold with_line u (lines ++ rest)) (more line (All-head IsNodeLine line lines drawn))
+    ∙ tree_told (record t { tree = t.tree ++ line ∷ [] }) lines rest (All-tail IsNodeLine line lines drawn)
+    ∙ ap (λ l. fold with_line (record t { tree = l }) rest) (append_assoc t.tree (line ∷ []) lines)
+  where
+    more : (line : BlockLine) → IsNodeLine line → with_line t line ≡ record t { tree = t.tree ++ line ∷ [] }
+    more (Branch branch) is = refl
+    more (Leaf multipliers) is = refl
+    more Dead is = refl
+    more _ is = absurd is
+
+-- what the lines of an overflow tell, and those of a plan
+abbrev pub overflow_told : ℕ → List ℕ → Told
+overflow_told batch expired = record nothing_told { batch = batch; expired = expired; overflow = true }
+
+abbrev pub plan_told : ℕ → List ℕ → Parts → Told
+plan_told batch expired p = record {
+  batch = batch;
+  expired = expired;
+  overflow = false;
+  lapsed = p.lapsed;
+  late = p.late;
+  rv = p.rv;
+  rr = p.rr;
+  rows = p.rows;
+  chosen = p.chosen;
+  left = p.left;
+  moves = p.moves;
+  cost = p.cost;
+  bound = p.bound;
+  nodes = p.nodes;
+  tree = p.tree;
+}
+
+expired_first : (batch : ℕ) (expired : List ℕ) (rest : List BlockLine)
+    → told_by (Batch batch ∷ (map Expired expired ++ rest)) ≡ fold with_line (record nothing_told { batch = batch; expired = expired }) rest
+expired_first batch expired rest =
+    list_told Expired (λ t. t.expired) (λ t l. record t { expired = l }) (λ t. refl) (λ t x. refl) (λ t l. refl) (λ t l m. refl) (record nothing_told { batch = batch }) expired rest
+
+pub overflow_is_told : (batch : ℕ) (expired : List ℕ) → told_by (overflow_block batch expired) ≡ overflow_told batch expired
+overflow_is_told batch expired = expired_first batch expired (Overflow ∷ End ∷ [])
+
+pub plan_is_told : (batch : ℕ) (expired : List ℕ) (p : Parts) → All IsNodeLine p.tree → told_by (plan_block batch expired p) ≡ plan_told batch expired p
+plan_is_told batch expired p drawn =
+    let from_counts : List BlockLine = Cost p.cost ∷ Bound p.bound ∷ Nodes p.nodes ∷ (p.tree ++ End ∷ []) in
+    let from_moves : List BlockLine = map Move p.moves ++ from_counts in
+    let from_left : List BlockLine = map Out p.left ++ from_moves in
+    let from_chosen : List BlockLine = map Trip p.chosen ++ from_left in
+    let from_rows : List BlockLine = map Row p.rows ++ from_chosen in
+    let from_rr : List BlockLine = map Shared p.rr ++ from_rows in
+    let from_rv : List BlockLine = map Alone p.rv ++ from_rr in
+    let from_late : List BlockLine = map Late p.late ++ from_rv in
+    let a : Told = record nothing_told { batch = batch; expired = expired } in
+    let b : Told = record a { lapsed = p.lapsed } in
+    let c : Told = record b { late = p.late } in
+    let d : Told = record c { rv = p.rv } in
+    let e : Told = record d { rr = p.rr } in
+    let f : Told = record e { rows = p.rows } in
+    let g : Told = record f { chosen = p.chosen } in
+    let h : Told = record g { left = p.left } in
+    let i : Told = record h { moves = p.moves } in
+    let j : Told = record i { cost = p.cost; bound = p.bound; nodes = p.nodes } in
+    expired_first batch expired (nest p)
+    ∙ list_told Lapsed (λ t. t.lapsed) (λ t l. record t { lapsed = l }) (λ t. refl) (λ t x. refl) (λ t l. refl) (λ t l m. refl) a p.lapsed from_late
+    ∙ list_told Late (λ t. t.late) (λ t l. record t { late = l }) (λ t. refl) (λ t x. refl) (λ t l. refl) (λ t l m. refl) b p.late from_rv
+    ∙ list_told Alone (λ t. t.rv) (λ t l. record t { rv = l }) (λ t. refl) (λ t x. refl) (λ t l. refl) (λ t l m. refl) c p.rv from_rr
+    ∙ list_told Shared (λ t. t.rr) (λ t l. record t { rr = l }) (λ t. refl) (λ t x. refl) (λ t l. refl) (λ t l m. refl) d p.rr from_rows
+    ∙ list_told Row (λ t. t.rows) (λ t l. record t { rows = l }) (λ t. refl) (λ t x. refl) (λ t l. refl) (λ t l m. refl) e p.rows from_chosen
+    ∙ list_told Trip (λ t. t.chosen) (λ t l. record t { chosen = l }) (λ t. refl) (λ t x. refl) (λ t l. refl) (λ t l m. refl) f p.chosen from_left
+    ∙ list_told Out (λ t. t.left) (λ t l. record t { left = l }) (λ t. refl) (λ t x. refl) (λ t l. refl) (λ t l m. refl) g p.left from_moves
+    ∙ list_told Move (λ t. t.moves) (λ t l. record t { moves = l }) (λ t. refl) (λ t x. refl) (λ t l. refl) (λ t l m. refl) h p.moves from_counts
+    ∙ tree_told j p.tree (End ∷ []) drawn
+
+-- what holds of a list that lines tell, holds of each of these lines
+module _ {X : Type 0} (of : Told → List X) (P : X → Type 0) (Q : BlockLine → Type 0) (step : (t : Told) (line : BlockLine) → All P (of (with_line t line)) → All P (of t) × Q line) where
+  of_lines : (t : Told) (lines : List BlockLine) → All P (of (fold with_line t lines)) → All P (of t) × All Q lines
+  of_lines t [] all = (all, λ k d within. absurd (omega arith))
+  of_lines t (line ∷ lines) all =
+      let rest = of_lines (with_line t line) lines all in
+      let here = step t line rest.0 in
+      (here.0, All-cons Q line lines here.1 rest.1)
+
+-- the last of a list, and those before it
+last_of : {X : Type 0} (P : X → Type 0) (xs : List X) (x : X) → All P (xs ++ x ∷ []) → All P xs × P x
+last_of P [] x all = (λ k d within. absurd (omega arith), All-head P x [] all)
+last_of P (y ∷ ys) x all =
+    let rest = last_of P ys x (All-tail P y (ys ++ x ∷ []) all) in
+    (All-cons P y ys (All-head P y (ys ++ x ∷ []) all) rest.0, rest.1)
+
+-- of rows, chosen trips and late vehicles
+abbrev pub OfRow : (RowText → Type 0) → BlockLine → Type 0
+OfRow P (Row row) = P row
+OfRow P _ = Unit {0}
+
+abbrev pub OfTrip : (TripText → Type 0) → BlockLine → Type 0
+OfTrip P (Trip trip) = P trip
+OfTrip P _ = Unit {0}
+
+abbrev pub OfLate : (LateText → Type 0) → BlockLine → Type 0
+OfLate P (Late late) = P late
+OfLate P _ = Unit {0}
+
+pub all_rows : (P : RowText → Type 0) (lines : List BlockLine) → All P (told_by lines).rows → All (OfRow P) lines
+all_rows P lines all = (of_lines (λ t. t.rows) P (OfRow P) step nothing_told lines all).1
+  where
+    step : (t : Told) (line : BlockLine) → All P (with_line t line).rows → All P t.rows × OfRow P line
+    step t (Row row) all = last_of P t.rows row all
+    step t line all = (all, tt)
+
+pub all_trips : (P : TripText → Type 0) (lines : List BlockLine) → All P (told_by lines).chosen → All (OfTrip P) lines
+all_trips P lines all = (of_lines (λ t. t.chosen) P (OfTrip P) step nothing_told lines all).1
+  where
+    step : (t : Told) (line : BlockLine) → All P (with_line t line).chosen → All P t.chosen × OfTrip P line
+    step t (Trip trip) all = last_of P t.chosen trip all
+    step t line all = (all, tt)
+
+pub all_lates : (P : LateText → Type 0) (lines : List BlockLine) → All P (told_by lines).late → All (OfLate P) lines
+all_lates P lines all = (of_lines (λ t. t.late) P (OfLate P) step nothing_told lines all).1
+  where
+    step : (t : Told) (line : BlockLine) → All P (with_line t line).late → All P t.late × OfLate P line
+    step t (Late late) all = last_of P t.late late all
+    step t line all = (all, tt)

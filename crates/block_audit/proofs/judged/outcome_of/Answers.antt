@@ -1,0 +1,7 @@
+use Rattle.block_audit.proofs.judged.outcome_of.Goals as goal
+
+pub returns-then-told : goal.returns-then-told
+returns-then-told c = c.overflow.ensures c.args.ids.now
+
+pub returns-in-Ok : goal.returns-in-Ok
+returns-in-Ok c = c.planned.ensures c.args.ids.now c.in-Ok.ensures.late c.in-Ok.ensures.rows c.in-Ok.ensures.chosen c.in-Ok.ensures.tree

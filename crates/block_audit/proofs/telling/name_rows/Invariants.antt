@@ -1,0 +1,7 @@
+use Rattle.std.proofs.Common.{◌≤◌, length, take}
+use Rattle.block_audit.specs.Judged.{NamesRow}
+use Rattle.std.specs.List.{All}
+use Rattle.block_audit.proofs.telling.name_rows.Given as goal
+
+abbrev pub invariant-loop-line : goal.invariant-loop-line
+invariant-loop-line l = All (NamesRow l.rows) (take l.line-index l.lines)

@@ -1,0 +1,71 @@
+-- What the lines of a block tell, list by list.
+use Rattle.std.specs.Prelude.{ℕ, ℤ, pos, Bool, true, false, List, [], ◌∷◌, ◌++◌, fold}
+use Rattle.report_lines.specs.declared.block_line.BlockLine.{BlockLine}
+use Rattle.report_lines.specs.declared.block_line.BlockLine.TheVariants.{Batch, Expired, Overflow, Lapsed, Late, Alone, Shared, Row, Trip, Out, Move, Cost, Bound, Nodes, Branch, Leaf, Dead, End}
+use Rattle.report_lines.specs.declared.late.LateText.{LateText}
+use Rattle.report_lines.specs.declared.row.RowText.{RowText}
+use Rattle.report_lines.specs.declared.trip.TripText.{TripText}
+use Rattle.request_book.specs.declared.outcome.MoveLine.{MoveLine}
+
+-- the numbers and the lists of a block, these as long as they are printed; a tree by its lines
+pub record Told : Type 0 where
+  pub batch : ℕ
+  pub expired : List ℕ
+  pub overflow : Bool
+  pub lapsed : List ℕ
+  pub late : List LateText
+  pub rv : List (ℕ × ℕ)
+  pub rr : List (ℕ × ℕ)
+  pub rows : List RowText
+  pub chosen : List TripText
+  pub left : List ℕ
+  pub moves : List MoveLine
+  pub cost : ℕ
+  pub bound : ℤ
+  pub nodes : ℕ
+  pub tree : List BlockLine
+
+-- nothing yet
+abbrev pub nothing_told : Told
+nothing_told = record {
+  batch = 0;
+  expired = [];
+  overflow = false;
+  lapsed = [];
+  late = [];
+  rv = [];
+  rr = [];
+  rows = [];
+  chosen = [];
+  left = [];
+  moves = [];
+  cost = 0;
+  bound = pos 0;
+  nodes = 0;
+  tree = [];
+}
+
+-- what one more line adds
+abbrev pub with_line : Told → BlockLine → Told
+with_line t (Batch n) = record t { batch = n }
+with_line t (Expired rider) = record t { expired = t.expired ++ rider ∷ [] }
+with_line t Overflow = record t { overflow = true }
+with_line t (Lapsed rider) = record t { lapsed = t.lapsed ++ rider ∷ [] }
+with_line t (Late late) = record t { late = t.late ++ late ∷ [] }
+with_line t (Alone pair) = record t { rv = t.rv ++ pair ∷ [] }
+with_line t (Shared pair) = record t { rr = t.rr ++ pair ∷ [] }
+with_line t (Row row) = record t { rows = t.rows ++ row ∷ [] }
+with_line t (Trip trip) = record t { chosen = t.chosen ++ trip ∷ [] }
+with_line t (Out rider) = record t { left = t.left ++ rider ∷ [] }
+with_line t (Move m) = record t { moves = t.moves ++ m ∷ [] }
+with_line t (Cost n) = record t { cost = n }
+with_line t (Bound z) = record t { bound = z }
+with_line t (Nodes n) = record t { nodes = n }
+with_line t (Branch branch) = record t { tree = t.tree ++ Branch branch ∷ [] }
+with_line t (Leaf multipliers) = record t { tree = t.tree ++ Leaf multipliers ∷ [] }
+with_line t Dead = record t { tree = t.tree ++ Dead ∷ [] }
+with_line t End = t
+
+-- what lines tell
+abbrev pub told_by : List BlockLine → Told
+told_by lines = fold with_line nothing_told lines

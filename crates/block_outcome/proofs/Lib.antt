@@ -1,4 +1,0 @@
-pub mod PartLemmas
-pub mod ExactLemmas
-pub mod PlanLemmas
-pub mod AnswerLemmas

@@ -1,4 +1,0 @@
-pub mod LineLemmas
-pub mod SettingsLemmas
-pub mod FormLemmas
-pub mod HeadLemmas

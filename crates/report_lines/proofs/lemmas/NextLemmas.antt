@@ -1,0 +1,81 @@
+-- A line is of one kind.
+use Rattle.std.proofs.Common.{◌≡◌, ◌≢◌, ℕ, ◌≤◌, ◌<◌, ◌^◌, codes, get_or, List, [], ◌++◌, decimal, refl, sym, ap, ◌∙◌, append-nil, append_assoc, false, ◌∷◌, arith}
+use Rattle.std.specs.Char.{is_ascii_digit}
+use Rattle.dispatch_report.specs.Words.{numbered}
+use Rattle.report_lines.specs.Next.{IsNextLine}
+use Rattle.report_lines.specs.declared.next.NextLine.{NextLine}
+use Rattle.report_lines.specs.declared.next.NextLine.TheVariants.{Round, Done, Entry as EntryOf}
+use Rattle.report_lines.proofs.EntryLemmas.{same_lane, entry_begins}
+use Rattle.report_lines.proofs.ToldLemmas.{no_number}
+use Rattle.report_lines.specs.Reading.{BeginsWith}
+use Rattle.report_lines.proofs.lemmas.ReadingLemmas.{numbered_once}
+
+pub no_line : (line : List ℕ) → ((n : ℕ) → n ≤ 4294967295 → line ≢ numbered (codes "round ") n) → ((n : ℕ) → n ≤ 18446744073709551615 → line ≢ numbered (codes "done ") n) → ((lane : ℕ) → IsNextLine (EntryOf lane) line → ⊥) → (x : NextLine) → IsNextLine x line → ⊥
+no_line line round done entry (Round n) is =
+    let most : n ≤ 4294967295 = omega (arith, is.0) in
+    round n most is.1
+no_line line round done entry (Done n) is =
+    let most : n ≤ 18446744073709551615 = omega (arith, is.0) in
+    done n most is.1
+no_line line round done entry (EntryOf lane) is = entry lane is
+
+-- the number behind words is one
+same_number : (words line : List ℕ) (m n : ℕ) → m < 2 ^ 64 → n < 2 ^ 64 → line ≡ numbered words m → line ≡ numbered words n → m ≡ n
+same_number words line m n wm wn em en =
+    let most : m ≤ 2 ^ 64 = omega arith in
+    let most_too : n ≤ 2 ^ 64 = omega arith in
+    let here : BeginsWith (numbered words) (λ k. k ≤ 2 ^ 64) line m [] = record { whole = em ∙ sym (append-nil (numbered words m)); lawful = most; ends = refl } in
+    let there : BeginsWith (numbered words) (λ k. k ≤ 2 ^ 64) line n [] = record { whole = en ∙ sym (append-nil (numbered words n)); lawful = most_too; ends = refl } in
+    (numbered_once words (2 ^ 64) (omega arith) line m n [] [] here there).0
+
+-- lines of different kinds
+round_is_no_done : (m n : ℕ) → numbered (codes "round ") m ≡ numbered (codes "done ") n → ⊥
+unfolding numbered
+round_is_no_done m n e =
+    let first : List ℕ → ℕ = λ xs. get_or xs 0 0 in
+    let head : ◌≡◌ {A = ℕ} 114 100 = ap first e in
+    omega arith
+
+round_is_no_entry : (m n : ℕ) (rest : List ℕ) → n < 2 ^ 128 → numbered (codes "round ") m ≡ decimal n ++ rest → ⊥
+unfolding numbered
+round_is_no_entry m n rest small e = no_number 114 (codes "ound " ++ decimal m) n rest refl small e
+
+done_is_no_entry : (m n : ℕ) (rest : List ℕ) → n < 2 ^ 128 → numbered (codes "done ") m ≡ decimal n ++ rest → ⊥
+unfolding numbered
+done_is_no_entry m n rest small e = no_number 100 (codes "one " ++ decimal m) n rest refl small e
+
+module _ (line : List ℕ) where
+  round_no_entry : (m lane : ℕ) → line ≡ numbered (codes "round ") m → IsNextLine (EntryOf lane) line → ⊥
+  round_no_entry m lane e is =
+      let x = entry_begins line lane is in
+      round_is_no_entry m x.0 x.1 (omega (arith, x.2)) (sym e ∙ x.3)
+
+  done_no_entry : (m lane : ℕ) → line ≡ numbered (codes "done ") m → IsNextLine (EntryOf lane) line → ⊥
+  done_no_entry m lane e is =
+      let x = entry_begins line lane is in
+      done_is_no_entry m x.0 x.1 (omega (arith, x.2)) (sym e ∙ x.3)
+
+pub one_kind : (x y : NextLine) (line : List ℕ) → IsNextLine x line → IsNextLine y line → x ≡ y
+one_kind (Round m) (Round n) line ix iy = ap Round (same_number (codes "round ") line m n (omega (arith, ix.0)) (omega (arith, iy.0)) ix.1 iy.1)
+one_kind (Round m) (Done n) line ix iy = absurd (round_is_no_done m n (sym ix.1 ∙ iy.1))
+one_kind (Round m) (EntryOf lane) line ix iy = absurd (round_no_entry line m lane ix.1 iy)
+one_kind (Done m) (Round n) line ix iy = absurd (round_is_no_done n m (sym iy.1 ∙ ix.1))
+one_kind (Done m) (Done n) line ix iy = ap Done (same_number (codes "done ") line m n ix.0 iy.0 ix.1 iy.1)
+one_kind (Done m) (EntryOf lane) line ix iy = absurd (done_no_entry line m lane ix.1 iy)
+one_kind (EntryOf lane) (Round n) line ix iy = absurd (round_no_entry line n lane iy.1 ix)
+one_kind (EntryOf lane) (Done n) line ix iy = absurd (done_no_entry line n lane iy.1 ix)
+one_kind (EntryOf lane) (EntryOf other) line ix iy = ap EntryOf (same_lane line lane other ix iy)
+
+-- no entry's line begins with words
+no_entry_behind : (c : ℕ) (cs line after : List ℕ) (lane : ℕ) → is_ascii_digit c ≡ false → IsNextLine (EntryOf lane) line → c ∷ cs ≡ line ++ after → ⊥
+no_entry_behind c cs line after lane other is e =
+    let b = entry_begins line lane is in
+    no_number c cs b.0 (b.1 ++ after) other (omega (arith, b.2)) (e ∙ ap (λ l. l ++ after) b.3 ∙ append_assoc (decimal b.0) b.1 after)
+
+pub no_entry_round : (n : ℕ) (rest line after : List ℕ) (lane : ℕ) → IsNextLine (EntryOf lane) line → numbered (codes "round ") n ++ rest ≡ line ++ after → ⊥
+unfolding numbered
+no_entry_round n rest line after lane is e = no_entry_behind 114 _ line after lane refl is e
+
+pub no_entry_done : (n : ℕ) (rest line after : List ℕ) (lane : ℕ) → IsNextLine (EntryOf lane) line → numbered (codes "done ") n ++ rest ≡ line ++ after → ⊥
+unfolding numbered
+no_entry_done n rest line after lane is e = no_entry_behind 100 _ line after lane refl is e
