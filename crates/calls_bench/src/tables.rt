@@ -9,10 +9,10 @@ use pool_base::{NodeId, OutOfMemory, Times, read_number_up_to};
 use pool_io::{StdSource, read_all, rows};
 use road_network::{Network, read_network};
 use std::alloc::Global;
+use std::env;
 use std::fs::File;
 use std::thread::{Threads, available_parallelism};
 use std::time::Instant;
-use std::env;
 use travel_times::{NetworkWays, Ways, are_known};
 
 /// A file is no longer than this many bytes.
