@@ -30,15 +30,19 @@ fn numbers_are_read_back(rt: HostRuntime) {
 fn ids_and_stops_are_read_back(rt: HostRuntime) {
     assert!(rt; read_rr(b"rr 1 1000000000").is_some());
     assert!(rt; read_rr(b"rr 1 1000000001").is_none());
-    assert_eq!(rt; stops_of(b"trip 1 60 pick:1@2:60 drop:1@4:180"), Some(2));
-    assert_eq!(rt; stops_of(b"trip 1 0"), Some(0));
-    assert_eq!(rt; stops_of(b"trip 1 60 pick:1@2"), None);
+    assert_eq!(rt;
+        stops_of(rt.alloc(), b"trip 1 60 pick:1@2:60 drop:1@4:180"),
+        Some(2)
+    );
+    assert_eq!(rt; stops_of(rt.alloc(), b"trip 1 0"), Some(0));
+    assert_eq!(rt; stops_of(rt.alloc(), b"trip 1 60 pick:1@2"), None);
 }
 
-fn stops_of(line: &[u8]) -> Option<usize> {
-    match read_trip(line) {
-        Some(trip) => Some(trip.stops.len()),
-        None => None,
+fn stops_of(alloc: Global, line: &[u8]) -> Option<usize> {
+    match read_trip(alloc, line) {
+        Ok(Some(trip)) => Some(trip.stops.len()),
+        Ok(None) => None,
+        Err(_) => None,
     }
 }
 

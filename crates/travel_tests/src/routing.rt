@@ -5,7 +5,7 @@ ghost use Rattle.stop_orders.specs.Task.{IsTask};
 
 use arrayvec::ArrayVec;
 use pool_base::{OutOfMemory, Party, Steps, Times};
-use small_routing::{Workspace, are_apart, least_delay, least_delay_unlimited, least_delay_with};
+use small_routing::{Workspace, least_delay, least_delay_unlimited, least_delay_with};
 use std::alloc::Global;
 use std::marker::Brand;
 use std::process::Abort;
@@ -103,31 +103,6 @@ fn passengers_aboard(rt: HostRuntime) -> Result<(), Fail> {
     assert!(rt; is_valid(&stuck, times.len()));
     assert!(rt; stuck.riders.is_empty());
     assert!(rt; least_delay_unlimited(rt.alloc(), &stuck, &times)?.is_none());
-    Ok(())
-}
-
-/// Whether two riders are apart for a vehicle at place 2, whom no limit keeps from riding alone.
-fn apart(rt: &impl Abort, times: &Times, one: Leg, other: Leg) -> bool {
-    let mut task = vehicle(2, 0, 0, 4);
-    task.riders.push(one);
-    let mut both = vehicle(2, 0, 0, 4);
-    both.riders.push(one);
-    both.riders.push(other);
-    assert!(rt; is_valid(&both, times.len()));
-    are_apart(&task, &other, times)
-}
-
-#[test]
-fn riders_apart(rt: HostRuntime) -> Result<(), Fail> {
-    let times = line(rt.alloc())?;
-    // Each is 120 seconds from the vehicle, and 240 from the other.
-    let one = leg(0, 1, 359, 180, 1000);
-    assert!(rt; apart(&rt, &times, one, leg(4, 3, 359, 180, 1000)));
-    assert!(rt; !apart(&rt, &times, one, leg(4, 3, 360, 180, 1000)));
-    assert!(rt; !apart(&rt, &times, leg(4, 3, 360, 180, 1000), one));
-    // Who is picked up in time has to be dropped off in time, too.
-    assert!(rt; apart(&rt, &times, one, leg(4, 3, 360, 180, 419)));
-    assert!(rt; !apart(&rt, &times, one, leg(4, 3, 360, 180, 420)));
     Ok(())
 }
 
