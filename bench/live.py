@@ -9,6 +9,7 @@ open and while one is solved; and the most memory that a long run took. SIZE is 
 
 import os
 import random
+import select
 import subprocess
 import sys
 import tempfile
@@ -51,12 +52,18 @@ def through_a_pipe(program, folder, rows):
 
 
 def answer_seconds(client, rows):
-    """Seconds from each row to its answer, in order."""
-    times = []
+    """Seconds from each row to its answer's line, in order. The lines are counted and not read, so that little of the
+    time is the client's own."""
+    times, output = [], client.call.stdout.fileno()
     for row in rows:
         start = time.monotonic()
-        client.ask(row.rstrip("\n"), 60)
+        client.send(row.rstrip("\n") + "\n")
+        came = b""
+        while not came.endswith(b"\n"):
+            select.select([output], [], [])
+            came = os.read(output, 1 << 16)
         times.append(time.monotonic() - start)
+        client.out += came
     return sorted(times)
 
 
@@ -70,6 +77,7 @@ def while_idle(program, folder, count):
     street(folder)
     client = Client(program, folder)
     client.send(HEADERS[0] + "\n")
+    client.ask("0,0,cancel,1,,,", 60)
     shown("while no batch is open", answer_seconds(client, reports(count)))
     client.end()
 
