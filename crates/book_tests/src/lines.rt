@@ -64,6 +64,11 @@ fn a_block_is_read_to_its_end(rt: HostRuntime) {
     );
 }
 
+#[test]
+fn answers_with_memory(rt: HostRuntime) {
+    assert_eq!(rt; read_of(rt.alloc(), BLOCK), Told::Whole(10, 7));
+}
+
 // How many lines were read, and how many bytes follow them.
 #[derive(Clone, Copy, Debug, PartialEq, Eq)]
 enum Told {

@@ -98,7 +98,8 @@ fn giving(
     Ok(close(alloc, batch, planned(alloc, chosen)))
 }
 
-fn command(alloc: Global, ask: Ask) -> Result<Command, AllocError> {
+/// What is asked, as a command.
+pub fn command(alloc: Global, ask: Ask) -> Result<Command, AllocError> {
     match ask {
         Ask::Submit(rider, origin, destination, time) => {
             Ok(submit(rider, origin, destination, time))

@@ -36,6 +36,28 @@ fn moves_over(alloc: Global, times: &Times, pairs: &[(usize, usize)], total: u64
     }
 }
 
+/// Whether nobody moves where no vehicle is idle and nobody is left.
+fn nobody_moves(alloc: Global) -> bool {
+    match Times::checked(0, Vec::new(alloc)) {
+        Ok(times) => match rebalance(alloc, &[], &[], &times) {
+            Ok(moves) => moves.pairs.is_empty() && moves.total == 0,
+            Err(_) => false,
+        },
+        Err(_) => false,
+    }
+}
+
+#[test]
+fn nobody_is_left(rt: HostRuntime) {
+    assert!(rt; nobody_moves(rt.alloc()));
+}
+
+/// The call that takes memory.
+#[test]
+fn answers_with_memory(rt: HostRuntime) {
+    assert!(rt; moves(rt.alloc(), &CROSSED, &[(0, 1), (1, 0)], 4));
+}
+
 #[test]
 fn nearest_first_is_not_best(rt: HostRuntime) {
     assert!(rt; moves(rt.alloc(), &CROSSED, &[(0, 1), (1, 0)], 4));

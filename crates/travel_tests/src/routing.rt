@@ -11,7 +11,7 @@ use std::marker::Brand;
 use std::process::Abort;
 use std::sync::ledger::{Blank, Ledger};
 use std::test::Fail;
-use stop_orders::{Leg, Route, Stop, Task, is_valid};
+use stop_orders::{Leg, Route, Stop, Task, is_valid, least_over_all_orders};
 
 /// Places 0 to 4 on a line, 60 seconds apart, and place 5 at place 0, from which there is no way back.
 fn line(alloc: Global) -> Result<Times, Fail> {
@@ -54,6 +54,9 @@ fn leg(
 /// The least delay of the widest task, from a program of its own.
 const WIDEST: u64 = 54_000;
 
+/// How many of the numbered tasks some order serves, from a program of its own.
+const SERVED: u64 = 129;
+
 /// The least delay of a task that is valid, in the room of earlier searches.
 fn least(
     rt: &impl Abort,
@@ -87,6 +90,11 @@ fn passengers_aboard(rt: HostRuntime) -> Result<(), Fail> {
     let route = least(&rt, &mut workspace, &nobody, &times)?.ok_or("the empty order")?;
     assert_eq!(rt; route.delay, 0);
     assert!(rt; route.stops.is_empty());
+    assert!(rt; is_valid(&nobody, times.len()));
+    assert!(rt; nobody.riders.is_empty());
+    let route = least_delay_unlimited(rt.alloc(), &nobody, &times)?.ok_or("the empty order")?;
+    assert_eq!(rt; route.delay, 0);
+    assert!(rt; route.stops.is_empty());
     // She should be there at second 240 and may come at 340, but the vehicle leaves at 200.
     let mut late = vehicle(0, 200, 0, 4);
     let _passenger = late.aboard.try_push(leg(0, 4, 0, 240, 340));
@@ -103,6 +111,62 @@ fn passengers_aboard(rt: HostRuntime) -> Result<(), Fail> {
     assert!(rt; is_valid(&stuck, times.len()));
     assert!(rt; stuck.riders.is_empty());
     assert!(rt; least_delay_unlimited(rt.alloc(), &stuck, &times)?.is_none());
+    Ok(())
+}
+
+/// A leg between places of the line, with limits that a number makes wide or narrow.
+fn numbered_leg(number: u64, latest_dropoff: u64) -> Leg {
+    let ideal = (number % 7).saturating_mul(60);
+    leg(
+        (number % 5) as usize,
+        (number / 5 % 6) as usize,
+        (number % 4).saturating_mul(60).saturating_add(60),
+        ideal,
+        latest_dropoff.saturating_add(ideal),
+    )
+}
+
+/// Two riders and two passengers, who are in place 0 with the vehicle.
+fn numbered_task(number: u64) -> Task {
+    let dwell: u16 = if number % 2 == 0 { 30 } else { 0 };
+    let seats: u8 = if number % 2 == 0 { 2 } else { 3 };
+    let mut task = vehicle(0, 0, dwell, seats);
+    let limit = (number % 3).saturating_mul(120);
+    let _waits = task.riders.try_push(numbered_leg(number, limit));
+    let _waits = task.riders.try_push(numbered_leg(number / 30, limit));
+    let _aboard = task.aboard.try_push(numbered_leg(number / 2, 600));
+    let _aboard = task.aboard.try_push(numbered_leg(number / 60, 600));
+    task
+}
+
+/// Whether the least delay is that over all orders that are tried one by one, and whether some order serves.
+fn is_least_of_all(
+    rt: &impl Abort,
+    workspace: &mut Workspace,
+    task: &Task,
+    times: &Times,
+) -> Result<(bool, bool), OutOfMemory> {
+    assert!(rt; is_valid(task, times.len()));
+    let all = least_over_all_orders(task, times);
+    match (least(rt, workspace, task, times)?, all) {
+        (Some(found), Some(all)) => Ok((found.delay == all.delay, true)),
+        (None, None) => Ok((true, false)),
+        _ => Ok((false, false)),
+    }
+}
+
+#[test]
+fn least_of_all_orders(rt: HostRuntime) -> Result<(), Fail> {
+    let times = line(rt.alloc())?;
+    let mut workspace = Workspace::new(rt.alloc());
+    let mut served = 0u64;
+    for number in 0..900 {
+        let task = numbered_task(number);
+        let (is_least, is_served) = is_least_of_all(&rt, &mut workspace, &task, &times)?;
+        assert!(rt; is_least);
+        served = served.saturating_add(u64::from(is_served));
+    }
+    assert_eq!(rt; served, SERVED);
     Ok(())
 }
 

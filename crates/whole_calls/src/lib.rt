@@ -8,6 +8,12 @@
 #[cfg(test)]
 mod batches;
 #[cfg(test)]
+mod calls;
+#[cfg(test)]
+mod gating;
+#[cfg(test)]
 mod reports;
+#[cfg(test)]
+mod telling;
 #[cfg(test)]
 mod tests;

@@ -12,7 +12,7 @@ use std::test::Fail;
 use std::thread::Threads;
 use worker_gate::FreeGate;
 
-const NETWORK: &[u8] =
+pub const NETWORK: &[u8] =
     b"from,to,seconds\n1,2,60\n2,1,60\n2,3,60\n3,2,60\n3,4,60\n4,3,60\n4,5,60\n5,4,60\n";
 
 const FLEET: &[u8] = b"vehicle,seats,node,second\n";
@@ -34,7 +34,7 @@ round 0\n\
 3 0 submit 3 2 2 0 refused same-place\n\
 done 4\n";
 
-const RUN: &str = "run network=n fleet=f script=s";
+pub const RUN: &str = "run network=n fleet=f script=s";
 
 const DRIVE: &str = "drive network=n fleet=f script=s";
 
@@ -200,7 +200,11 @@ fn status_of(
 }
 
 // The line of a fault, and a bar before what was written.
-fn line_before(alloc: Global, status: &RunStatus, written: &[u8]) -> Result<Vec<u8>, AllocError> {
+pub fn line_before(
+    alloc: Global,
+    status: &RunStatus,
+    written: &[u8],
+) -> Result<Vec<u8>, AllocError> {
     let mut text = line_of(alloc, status)?;
     text.push(b'|')?;
     text.extend_from_slice(written)?;
@@ -214,7 +218,7 @@ fn line_of(alloc: Global, status: &RunStatus) -> Result<Vec<u8>, AllocError> {
     }
 }
 
-fn words(alloc: Global, text: &str) -> Result<Vec<String>, AllocError> {
+pub fn words(alloc: Global, text: &str) -> Result<Vec<String>, AllocError> {
     let mut words = Vec::new(alloc);
     for word in text.split_whitespace() {
         words.push(String::from_str(alloc, word)?)?;
@@ -222,7 +226,7 @@ fn words(alloc: Global, text: &str) -> Result<Vec<String>, AllocError> {
     Ok(words)
 }
 
-fn source(
+pub fn source(
     alloc: Global,
     text: &[u8],
     most: usize,

@@ -87,6 +87,15 @@ const DAY: &[u8] =
 
 const LATE_FLEET: &[u8] = b"vehicle,seats,node,second\n1,4,1,1000000000\n";
 
+// The rider is picked up at second 999,999,910, and dropped behind second 1,000,000,000. Before the seal of round 7 the
+// vehicle is on its way to the drop-off.
+const LATE_WALK: &[u8] =
+    b"round,lane,command,a,b,c,d\n0,0,submit,1,2,4,999999850\n1,0,seal,999999850,,,\n7,0,seal,999999980,,,\n";
+
+// Here it still dwells at the pickup.
+const LATE_DWELL: &[u8] =
+    b"round,lane,command,a,b,c,d\n0,0,submit,1,2,4,999999850\n1,0,seal,999999850,,,\n7,0,seal,999999950,,,\n";
+
 const LATE_DAY: &[u8] =
     b"round,lane,command,a,b,c,d\n0,0,submit,1,2,4,1000000000\n1,0,seal,1000000000,,,\n";
 
@@ -216,13 +225,27 @@ fn a_vehicle_dwells_before_it_goes_on(rt: HostRuntime) -> Result<(), Fail> {
     Ok(())
 }
 
-#[test]
-fn a_day_ends_where_it_is_too_late(rt: HostRuntime) -> Result<(), Fail> {
-    let late = match driven(&rt, rt.alloc(), LATE_FLEET, LATE_DAY, &settings(200_000, 0)) {
+// The same of this fleet, day and dwell.
+fn too_late_of(
+    rt: &(impl Threads + Wait + Sync),
+    alloc: Global,
+    fleet: &[u8],
+    day: &[u8],
+    settings: &Settings,
+) -> Option<(u32, usize)> {
+    match driven(rt, alloc, fleet, day, settings) {
         Some(driven) => too_late(&driven),
         None => None,
-    };
-    assert!(rt; late == Some((2, 2)));
+    }
+}
+
+#[test]
+fn a_day_ends_where_it_is_too_late(rt: HostRuntime) -> Result<(), Fail> {
+    let limits = settings(200_000, 0);
+    assert!(rt; too_late_of(&rt, rt.alloc(), LATE_FLEET, LATE_DAY, &limits) == Some((2, 2)));
+    assert!(rt; too_late_of(&rt, rt.alloc(), FOUR_SEATS, LATE_WALK, &limits) == Some((7, 2)));
+    let limits = settings(200_000, 120);
+    assert!(rt; too_late_of(&rt, rt.alloc(), FOUR_SEATS, LATE_DWELL, &limits) == Some((7, 2)));
     Ok(())
 }
 

@@ -48,13 +48,24 @@ pub fn settings(pairs: u32, dwell: u16) -> Settings
     requires pairs_most { pairs ≤ 2000000 }
     requires dwell { dwell ≤ 600 }
 {
+    settings_with(pairs, dwell, 200)
+}
+
+/// The same with a search tree of so many nodes at most.
+pub fn settings_with(pairs: u32, dwell: u16, budget: u32) -> Settings
+    requires pairs_least { 1 ≤ pairs }
+    requires pairs_most { pairs ≤ 2000000 }
+    requires dwell { dwell ≤ 600 }
+    requires budget_least { 1 ≤ budget }
+    requires budget_most { budget ≤ 50000 }
+{
     Settings {
         mode: Mode::Run,
         wait: 120,
         delay: 180,
         trip: 4,
         penalty: 10_000,
-        budget: 200,
+        budget,
         pairs,
         workers: 4,
         proof: false,

@@ -1,0 +1,143 @@
+//! What a gate sees of whole runs: lanes that are answered during growth, and pieces of growth.
+use crate::calls::shown;
+use rider_notices::Notifier;
+use std::alloc::{AllocError, Global};
+use std::sync::Wait;
+use std::sync::atomic::{AtomicU64, Ordering};
+use std::test::Fail;
+use std::thread;
+use std::thread::Threads;
+use worker_gate::Gate;
+
+const FOUR_SEATS: &[u8] = b"vehicle,seats,node,second\n1,4,1,0\n";
+
+const TWO_SEATS: &[u8] = b"vehicle,seats,node,second\n1,2,1,0\n";
+
+// Lane 0 seals, and lane 1 asks twice.
+const SEAL_AND_ASK: &[u8] =
+    b"round,lane,command,a,b,c,d\n0,0,seal,0,,,\n0,1,submit,1,2,4,0\n0,1,submit,2,3,5,0\n";
+
+// Two riders who can share the vehicle, and two seals.
+const THREE_ROUNDS: &[u8] =
+    b"round,lane,command,a,b,c,d\n0,0,submit,1,2,4,0\n0,0,submit,2,3,5,0\n1,0,seal,0,,,\n2,0,seal,0,,,\n";
+
+// For how many turns a gate holds at most.
+const TURNS: u32 = 1_000_000_000;
+
+// Holds until a count is so high. Where its turns run out it says so.
+fn hold(count: &AtomicU64, least: u64, ran_out: &AtomicU64) {
+    for _ in 0..TURNS {
+        if count.load(Ordering::SeqCst) >= least {
+            return;
+        }
+        thread::yield_now();
+    }
+    ran_out.store(1, Ordering::SeqCst);
+}
+
+// Holds lane 1's first answer until piece 0 was begun, and piece 0 until lane 1's second answer.
+#[derive(Drop)]
+struct DuringGrowth {
+    begun: AtomicU64,
+    answers: AtomicU64,
+    ran_out: AtomicU64,
+}
+
+impl Gate for DuringGrowth {
+    fn enter(&self, piece: u32) {
+        if piece == 0 {
+            self.begun.fetch_add(1, Ordering::SeqCst);
+            hold(&self.answers, 2, &self.ran_out);
+        }
+    }
+
+    fn answered(&self, lane: u8) {
+        if lane == 1 && self.answers.fetch_add(1, Ordering::SeqCst) == 0 {
+            hold(&self.begun, 1, &self.ran_out);
+        }
+    }
+}
+
+// Counts how often piece 0 is begun.
+#[derive(Drop)]
+struct FirstPieces {
+    begun: AtomicU64,
+}
+
+impl Gate for FirstPieces {
+    fn enter(&self, piece: u32) {
+        if piece == 0 {
+            self.begun.fetch_add(1, Ordering::SeqCst);
+        }
+    }
+
+    fn answered(&self, _lane: u8) {}
+}
+
+// The text from the first place of a part on.
+fn from_part<'a>(text: &'a [u8], part: &[u8]) -> Option<&'a [u8]> {
+    for at in 0..text.len() {
+        if text[at..].starts_with(part) {
+            return Some(&text[at..]);
+        }
+    }
+    None
+}
+
+// Whether a run ended well, and wrote these parts one behind the other.
+fn has_in_order(text: &[u8], parts: &[&[u8]]) -> bool {
+    let mut rest = text;
+    for part in parts {
+        match from_part(rest, part) {
+            Some(found) => rest = found,
+            None => return false,
+        }
+    }
+    text.starts_with(b"|")
+}
+
+fn shown_to<G: Gate>(
+    rt: &(impl Threads + Wait + Sync),
+    alloc: Global,
+    fleet: &[u8],
+    script: &[u8],
+    gate: &G,
+) -> Result<Vec<u8>, AllocError> {
+    let mut nobody: Vec<Box<dyn Notifier>> = Vec::new(alloc);
+    shown(rt, alloc, fleet, script, &mut nobody, gate)
+}
+
+#[test]
+fn a_lane_is_answered_during_growth(rt: HostRuntime) -> Result<(), Fail> {
+    let gate = DuringGrowth {
+        begun: AtomicU64::new(0),
+        answers: AtomicU64::new(0),
+        ran_out: AtomicU64::new(0),
+    };
+    let text = shown_to(&rt, rt.alloc(), FOUR_SEATS, SEAL_AND_ASK, &gate)?;
+    assert!(rt;
+        has_in_order(
+            &text,
+            &[
+                b" 1 submit 1 2 4 0 accepted\n",
+                b" 1 submit 2 3 5 0 accepted\n",
+                b" 0 close 1 closed\n",
+                b"\ndone 4\n",
+            ]
+        )
+    );
+    assert_eq!(rt; gate.ran_out.load(Ordering::SeqCst), 0);
+    Ok(())
+}
+
+// In each of the two batches the trips of one rider, of two and of three are a run of their own.
+#[test]
+fn each_size_is_grown_in_runs_of_its_own(rt: HostRuntime) -> Result<(), Fail> {
+    let gate = FirstPieces {
+        begun: AtomicU64::new(0),
+    };
+    let text = shown_to(&rt, rt.alloc(), TWO_SEATS, THREE_ROUNDS, &gate)?;
+    assert!(rt; has_in_order(&text, &[b"\nround 2\n", b"\ndone 6\n"]));
+    assert_eq!(rt; gate.begun.load(Ordering::SeqCst), 6);
+    Ok(())
+}
