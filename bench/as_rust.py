@@ -1,7 +1,7 @@
 """Turns the crates of the assignment search into a Rust program, to measure a change before it is proved.
 
     bench/as_rust.py FOLDER && cargo build --release --offline --manifest-path FOLDER/Cargo.toml
-    FOLDER/target/release/search GRAPH [BUDGET]
+    FOLDER/target/release/search GRAPH [BUDGET [WORKERS]]
 
 Contracts, ghost items and tests are left out; what the crates use of Rattle's library and of others (vectors whose calls
 answer with an error, allocators, drawn numbers) is written here in Rust. The program reads a graph as search.py writes them
@@ -14,7 +14,7 @@ import re
 import sys
 
 TOP = os.path.join(os.path.dirname(os.path.abspath(__file__)), "..", "crates")
-CRATES = ["plan_rules", "row_tables", "linear_relaxation", "dual_bound", "draft_trees", "plan_moves", "plan_drafts", "assignment_search"]
+CRATES = ["plan_rules", "row_tables", "linear_relaxation", "dual_bound", "plan_drafts", "assignment_search"]
 SHIMS = ["pool_base", "arrayvec", "rand_xoshiro"]
 
 POOL_BASE = """
@@ -77,6 +77,21 @@ pub mod shim {
         type IntoIter = std::vec::IntoIter<T>;
         fn into_iter(self) -> Self::IntoIter { self.0.into_iter() }
     }
+    pub trait Threads {}
+    pub struct Machine;
+    impl Threads for Machine {}
+    pub mod thread {
+        use super::Threads;
+        pub fn for_each_mut<R: Threads, T: Send, F: Fn(usize, &mut T) + Sync>(_: &R, items: &mut [T], threads: usize, f: &F) {
+            let size = items.len().div_ceil(threads).max(1);
+            std::thread::scope(|scope| {
+                for (number, part) in items.chunks_mut(size).enumerate() {
+                    scope.spawn(move || part.iter_mut().enumerate().for_each(|(place, item)| f(number * size + place, item)));
+                }
+            });
+        }
+    }
+
     #[inline]
     pub fn filled<T: Clone>(item: T, count: usize) -> Result<Vec<T>, OutOfMemory> { Ok(Vec(vec![item; count])) }
 
@@ -87,6 +102,7 @@ pub mod shim {
         pub fn push(&mut self, item: T) -> Done { self.0.push(item); Ok(()) }
         pub fn pop(&mut self) -> Option<T> { self.0.pop() }
         pub fn peek(&self) -> Option<&T> { self.0.peek() }
+        pub fn len(&self) -> usize { self.0.len() }
     }
 }
 """
@@ -151,12 +167,13 @@ impl Rng for Xoshiro256PlusPlus {
 MAIN = """
 use arrayvec::ArrayVec;
 use plan_rules::{TripGraph, TripRow};
-use pool_base::shim::{Global, Vec};
+use pool_base::shim::{Global, Machine, Vec};
 
 fn main() {
     let words: std::vec::Vec<String> = std::env::args().collect();
     let bytes = std::fs::read(&words[1]).expect("a graph");
     let budget = words.get(2).map_or(200, |word| word.parse().expect("a budget"));
+    let workers = words.get(3).map_or(1, |word| word.parse().expect("a number of workers"));
     let number = |at: usize, width: usize| {
         (0..width).rev().fold(0usize, |sum, place| sum * 256 + bytes[at + place] as usize)
     };
@@ -179,7 +196,7 @@ fn main() {
     }
     let graph = TripGraph::new(Global, vehicles, riders, penalty as u32, rows, held).expect("a good graph");
     let start = std::time::Instant::now();
-    let found = assignment_search::search_by(Global, &graph, budget, &plan_drafts::RelaxationDrafter).expect("memory");
+    let found = assignment_search::search_by(&Machine, Global, &graph, budget, workers, &plan_drafts::RelaxationDrafter).expect("memory");
     let took = start.elapsed().as_micros();
     let nodes = found.tree.nodes().len();
     println!("rows {count} bound {} cost {} nodes {nodes} microseconds {took}", found.bound, found.cost);
@@ -212,7 +229,7 @@ def as_rust(text):
     text = re.sub(r"#!?\[tactic\([^)]*\)\]|#\[error[^\]]*\]|#\[from\]", "", text)
     text = re.sub(r"#\[cfg\(test\)\]\s*mod \w+;", "", text)
     text = re.sub(r"#\[derive\(([^)]*)\)\]", derived, text)
-    text = re.sub(r"use (std::alloc|std::collections|std::marker|pool_base)::[^;]*;", "", text)
+    text = re.sub(r"use (std::alloc|std::collections|std::marker|std::thread|pool_base)(::[^;]*)?;", "", text)
     text = re.sub(r"vec!\[in (?:self\.)?alloc; ([^;\]]*); ((?:[^\[\]]|\[[^\]]*\])*?)\]", r"filled(\1, \2)", text)
     lines = text.split("\n")
     place = next(k for k, line in enumerate(lines) if line.strip() and not line.startswith("//!"))

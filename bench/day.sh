@@ -26,6 +26,7 @@ drive() { # SEED SIDE VEHICLES RIDERS BATCHES KEY=VALUE ..
   rm -r "$folder"
 }
 
+drive 7 40 200 25 200 wait=240 delay=360
 drive 7 40 500 250 20
 drive 7 40 500 250 20 wait=300 delay=600
 drive 7 40 500 250 20 dwell=30

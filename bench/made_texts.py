@@ -1,9 +1,8 @@
 """Makes the three texts of a made workload, independently of the crate load_maker.
 
-Usage: made_texts.py SEED SIDE VEHICLES RIDERS ROUNDS network|fleet|script|digest
+Usage: made_texts.py SEED SIDE VEHICLES RIDERS ROUNDS network|fleet|script
 
-The first three print that text. `digest` prints the length and the FNV-1a 64-bit digest of each text,
-which a test of load_maker compares with those of its own texts.
+tests/drawn.py holds what `load` says to the report of these texts.
 """
 
 import sys
@@ -64,21 +63,10 @@ def texts(seed, side, vehicles, riders, rounds):
     return ["".join(line + "\n" for line in lines).encode() for lines in (network, fleet, script)]
 
 
-def digest(data):
-    value = 0xCBF29CE484222325
-    for byte in data:
-        value = ((value ^ byte) * 0x100000001B3) & MASK
-    return value
-
-
 def main():
     *numbers, what = sys.argv[1:]
     made = texts(*map(int, numbers))
-    if what == "digest":
-        for data in made:
-            print(len(data), digest(data))
-    else:
-        sys.stdout.buffer.write(made[("network", "fleet", "script").index(what)])
+    sys.stdout.buffer.write(made[("network", "fleet", "script").index(what)])
 
 
 if __name__ == "__main__":

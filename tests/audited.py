@@ -5,13 +5,14 @@
 A change takes one byte, one number or one line: it is altered, left out, put in twice, or changes places with the next, or
 the text is cut. A changed report is refused exactly where the judge of these tests refuses it (other multipliers may show
 the same bound, and another setting need not matter), and the refusal names the changed line, or the first of the batch's
-block in which it stands, with a point that lines of its kind decide. The last line is `N passed, M failed`, by reports and
-by changes.
+block in which it stands, with a point that lines of its kind decide. Of a small report each line of a table is put in place
+of its own, and the fault that is named is the table's. The last line is `N passed, M failed`, by reports and by changes.
 """
 
 import os
 import random
 import re
+import shutil
 import subprocess
 import sys
 import tempfile
@@ -21,7 +22,7 @@ from pathlib import Path
 from drawn import inputs_of, output_of, write_inputs
 from inputs import Run
 from judge import Wrong, judge
-from run import CASES, prepare, text_in
+from run import CASES, STREET, prepare, text_in
 
 DRAWN = 60  # runs that are drawn, of which some are days or made workloads, and then aren't audited
 LARGEST = 60_000  # bytes of a report in which changes are made
@@ -37,6 +38,48 @@ POINTS = {
     **dict.fromkeys(("bound", "nodes", "branch", "leaf", "dead"), {5, 6}),
     "move": {8},
 }
+
+# A report of one request, and lines that stand in place of one of its own, with the fault that is named.
+SMALL = """ridepool report 1
+settings wait=120 delay=180 trip=4 penalty=10000 budget=200 pairs=200000 proof=1
+network nodes=5 arcs=8
+fleet vehicles=1
+round 0
+0 0 submit 1 2 4 0 accepted
+done 1
+"""
+SETTINGS = SMALL.split("\n")[1]
+HEADS = {
+    "bad form at line 1": ["ridepool report 2", "ridepool report 1 "],
+    "bad form at line 2": [f"{SETTINGS} dwell=0", SETTINGS.replace("120", "0120"), SETTINGS.replace(" trip=4", "")],
+    "wrong head at line 2": [SETTINGS.replace(*it) for it in (("120", "7201"), ("proof=1", "proof=0"), ("trip=4", "trip=7"), ("budget=200", "budget=0"))],
+    "bad form at line 3": ["network nodes=5  arcs=8", "network nodes=05 arcs=8"],
+    "wrong head at line 3": ["network nodes=5 arcs=9", "network nodes=4 arcs=8"],
+    "bad form at line 4": ["fleet vehicles=1 "],
+    "wrong head at line 4": ["fleet vehicles=2"],
+}
+OTHER_ENTRIES = [  # of form, and not the one that has to come
+    *("1 0 submit 1 2 4 0 accepted", "0 1 submit 1 2 4 0 accepted", "0 0 submit 2 2 4 0 accepted", "0 0 submit 1 2 4 0 6 accepted"),
+    *("0 255 cancel 7 cancelled", "0 2 report 4 5 0 placed", "0 2 pickup 4 1 90 picked", "0 2 dropoff 4 1 120 dropped"),
+    *("0 3 seal 1000000000 sealed 1", "0 3 close 18446744073709551615 closed", "0 9 cancel 1 refused unknown-rider"),
+    *("0 9 cancel 1 refused is-aboard 4", "0 9 cancel 1 refused ended delivered", "0 9 pickup 4 1 9 refused not-promised 5"),
+    *("0 9 pickup 4 1 9 refused not-promised none", "0 9 pickup 4 1 9 refused time-back 10", "0 9 seal 9 refused batch-open 1"),
+    *("0 9 close 9 refused not-this-batch 8", "0 0 submit 1 2 4 0 refused pool-full", "round 4294967295", "done 0"),
+]
+NO_ENTRIES = [
+    *("00 0 submit 1 2 3 60 accepted", "0 256 submit 1 2 3 60 accepted", "0 0 submit 1 2 3 60 1 accepted", "0 0 submit 1 2 3 60 7 accepted"),
+    *("0 0 submit 1 2 3 accepted", "0 0 submit 1 2 3 60  accepted", "0 0 submit 1 2 3 60 accept", "0 0 cancel 1000000001 cancelled"),
+    *("0 0 seal 60 sealed", "0 0 cancel 1 refused ended gone", "0 0 cancel 1 refused ended waiting", "0 0 cancel 1 refused ended promised"),
+    *("0 0 cancel 1 refused ended aboard", "round 4294967296", "round 01", "done 0 ", "", "batch 1", "end"),
+]
+
+
+def lines_of_table():
+    """Each line of the table, with the number of its own and the fault."""
+    for fault, lines in HEADS.items():
+        yield from ((int(fault[-1]), line, fault) for line in lines)
+    yield from ((6, line, "wrong entry at line 6") for line in OTHER_ENTRIES)
+    yield from ((6, line, "bad form at line 6") for line in NO_ENTRIES)
 
 
 class Printed:
@@ -166,6 +209,24 @@ def drawn_change(draw, printed):
             return way.__name__.replace("_", " "), first, "".join(f"{line}\n" for line in lines)
 
 
+def refuse_line(small, at, line, fault):
+    """With this line in place of its own the small report is refused so."""
+    lines = SMALL.split("\n")
+    lines[at - 1] = line
+    ran = small.verdict("\n".join(lines), f"{at}-{line.replace('/', '')}")
+    if (ran.returncode, ran.stdout, ran.stderr) != (13, "", f"ridepool: report: {fault}\n"):
+        raise Wrong(f"{line!r} in place of line {at}: {ran.returncode}, {ran.stdout!r}, {ran.stderr!r} in place of {fault!r}")
+
+
+def small_report(program, room):
+    """The small report, as the program prints it."""
+    folder = room / "small"
+    folder.mkdir()
+    shutil.copytree(STREET, folder, dirs_exist_ok=True)
+    (folder / "script.csv").write_text("round,lane,command,a,b,c,d\n0,0,submit,1,2,4,0\n")
+    return Printed("a small report", program, ["run", *(f"{name}={name}.csv" for name in FILES)], folder)
+
+
 def of_cases(room):
     for case in sorted(CASES.iterdir()):
         words = text_in(case, "words").split("\n")[:-1]
@@ -203,11 +264,15 @@ def main():
     with tempfile.TemporaryDirectory() as room, ThreadPoolExecutor(len(os.sched_getaffinity(0))) as pool:
         given = [*of_cases(Path(room)), *of_draws(Path(room))]
         printed = [*pool.map(lambda it: Printed(it[0], program, *it[1:]), given)]
-        passed += pool.map(lambda it: tries(it.name, it.confirm), printed)
-        small = [it for it in printed if len(it.text) <= LARGEST]
-        drawn = [(number, it, drawn_change(draw, it)) for number, it in enumerate(draw.choices(small, k=changes))]
+        small, table = small_report(program, Path(room)), [*lines_of_table()]
+        if small.text != SMALL:
+            raise Wrong(f"the small report is {small.text!r}")
+        passed += pool.map(lambda it: tries(it.name, it.confirm), [small, *printed])
+        passed += pool.map(lambda it: tries("a small report", refuse_line, small, *it), table)
+        changed = [it for it in printed if len(it.text) <= LARGEST]
+        drawn = [(number, it, drawn_change(draw, it)) for number, it in enumerate(draw.choices(changed, k=changes))]
         passed += pool.map(lambda it: tries(it[1].name, it[1].refuse, it[2], it[0]), drawn)
-    print(f"{len(printed)} reports were audited, and {changes} changed ones")
+    print(f"{len(printed) + 1} reports were audited, {len(table)} with a line of the table, and {changes} changed ones")
     print(f"{sum(passed)} passed, {len(passed) - sum(passed)} failed")
     return not all(passed)
 

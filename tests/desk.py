@@ -329,7 +329,8 @@ def unknown_ones_are_404_and_bad_values_422():
                 ("/rides", {**good, "pickup_lat": 1, "pickup_lon": 1}), ("/rides", {"pickup_lat": 1, "to": 4}),
                 ("/rides", {**good, "from": True}), ("/rides", {**good, "ride": "1,2\n0,0,seal"}),
                 ("/vehicles/1/position", {}), ("/vehicles/1/position", {"node": "1"}), ("/vehicles/1/pickup", {}),
-                ("/vehicles/1/position", {"lat": 91e9, "lon": 1}), ("/vehicles/x/pickup", {"ride": 1})):
+                ("/vehicles/1/position", {"lat": 91e9, "lon": 1}), ("/vehicles/x/pickup", {"ride": 1}),
+                ("/rides", {**good, "time": 100_000}), ("/vehicles/1/position", {"node": 1, "second": 100_000})):
             status, answer = it.call("POST", path, body)
             assert status == 422 and answer["text"], (path, body, status, answer)
         for raw in ("{", "[" * 60_000, '{"from": ' + "9" * 10_000 + "}", b"\xff"):
@@ -396,8 +397,15 @@ def faults_of_the_words_are_said_in_a_line():
     fails("No such file", f"network={LINE}/none.csv", f"fleet={LINE}/fleet.csv", f"nodes={LINE}/nodes.csv")
     with folder_for_days() as folder:
         fails("words: bad value", *inputs(LINE), "wait=8000", folder=folder)
+        fails("No such file", *inputs(LINE)[:2], "fleet=none", folder=folder)
         with desk(*inputs(LINE), "wait=7200", folder=folder) as it:
             assert it.gives("GET", "/rides") == []
+    with folder_for_days() as folder:
+        folder.mkdir()
+        (folder / "fleet.csv").write_text("of another")
+        fails("the file is there already", *inputs(LINE), folder=folder)
+        assert (folder / "fleet.csv").read_text() == "of another"
+        assert {it.name for it in folder.iterdir()} == {"fleet.csv", "lock"}
     with socket.socket() as taken:
         taken.bind(("127.0.0.1", 0))
         taken.listen()
@@ -488,6 +496,44 @@ def one_client(it, number):
         else:
             it.gives("GET", f"/vehicles/{1 + number % 10}/stops")
     return asked
+
+
+@test
+def a_number_of_a_clients_own_stops_no_other_client():
+    with folder_for_days() as folder:
+        with desk(*inputs(LINE), folder=folder) as it:
+            it.gives("POST", "/rides", {"from": 2, "to": 4, "ride": 1_000_000_000})
+            it.gives("POST", "/rides", {"from": 2, "to": 4, "ride": 1})
+            assert it.gives("POST", "/rides", {"from": 2, "to": 4})["ride"] == 2
+            it.end(signal.SIGKILL)
+        with desk(folder=folder) as it:
+            assert it.gives("POST", "/rides", {"from": 2, "to": 4})["ride"] == 3
+
+
+@test
+def a_caller_who_leaves_in_the_middle_asks_for_nothing():
+    with desk(*inputs(LINE)) as it, socket.create_connection(("127.0.0.1", it.port)) as caller:
+        caller.sendall(b"POST /rides HTTP/1.1\r\nhost: 127.0.0.1:%d\r\ncontent-type: application/json\r\n"
+                       b'content-length: 30\r\n\r\n{"from": 2, "to": 4}' % it.port)
+        caller.shutdown(socket.SHUT_WR)
+        assert not caller.recv(100)
+        assert it.gives("GET", "/rides") == []
+
+
+@test
+def a_hundred_listeners_at_most():
+    with desk(*inputs(LINE)) as it, contextlib.ExitStack() as open_ones:
+        def listen():
+            caller = open_ones.enter_context(socket.create_connection(("127.0.0.1", it.port), timeout=PATIENCE))
+            caller.sendall(b"GET /events HTTP/1.1\r\nhost: 127.0.0.1:%d\r\n\r\n" % it.port)
+            return caller
+
+        callers = [listen() for _ in range(130)]
+        found = sorted(int(caller.recv(13).split(b" ")[1]) for caller in callers)
+        assert found == [200] * 100 + [503] * 30, found
+        for caller in callers:
+            caller.close()
+        until(lambda: b" 200 " in listen().recv(13), "a place for another listener")
 
 
 @test
@@ -594,6 +640,9 @@ def a_day_goes_on_with_its_own_inputs_and_settings():
             file.write("1 4 submit 2 2 4 0 acce")
         with desk(folder=folder) as it:
             assert it.gives("POST", "/rides", {"from": 1, "to": 2})["ride"] == 2
+        for text in ("{", "[]", "{}", '{"settings": [], "every": 0, "speed": "1", "began": 0}'):
+            (folder / "day.json").write_text(text)
+            fails("not the description of a day", folder=folder)
 
 
 @test
@@ -848,6 +897,10 @@ def a_simulations_taxis_are_dispatched():
         wait, worst = map(int, re.search(r"wait (\d+) s, at most (\d+) s", lines[0]).groups())
         assert 0 < wait <= worst <= 700, lines[0]
         confirmed(place)
+        fleet = (place / "fleet.csv").read_text()
+        again = subprocess.run(call, capture_output=True, text=True)
+        assert again.returncode == 2 and "a file is there already" in again.stderr, again
+        assert (place / "fleet.csv").read_text() == fleet
 
 
 def confirmed(place):

@@ -222,16 +222,47 @@ def stale_pages(program):
 
 
 def stale_callers():
-    """The caller that a crate's README.md quotes also stands in its first comment.
+    """The caller that a crate's README.md quotes also stands in its first comment, maybe on other lines.
 
     An attribute `#[test]` doesn't: `rt ci` would look for the crate's tests.
     """
     wrong = []
+
+    def squeezed(text):
+        return re.sub(r",(?=\s*[)\]}])", "", re.sub(r"\n//!", "\n", text)).replace(" ", "").replace("\n", "")
+
     for path in sorted((TOP / "crates").glob("*/README.md")):
         caller = next((code for kind, _, _, code in QUOTED.findall(path.read_text()) if kind == "code"), "")
-        wanted = "".join(f"//! {row}".rstrip() + "\n" for row in caller.splitlines() if row != "#[test]")
-        if wanted not in (path.parent / "src" / "lib.rt").read_text():
+        wanted = "".join(f"{row}\n" for row in caller.splitlines() if row != "#[test]")
+        if squeezed(wanted) not in squeezed((path.parent / "src" / "lib.rt").read_text()):
             wrong.append(f"{path.parent.name}: the caller in src/lib.rt isn't that of README.md")
+    return wrong
+
+
+def ensured(crate, name):
+    """The names of the clauses that functions of this name ensure in a crate."""
+    texts = [path.read_text() for path in crate.glob("src/**/*.rt")]
+    heads = [head for text in texts for head in re.findall(rf"\bfn {name}\b(?:(?!\bfn \w).)*", text, re.S)]
+    return None if not heads else {clause for head in heads for clause in re.findall(r"ensures (\w+) \{", head)}
+
+
+def stale_first_comments():
+    """Each library's first comment shows a caller, and names functions and clauses that there are."""
+    wrong = []
+    for crate in libraries():
+        comment = "".join(re.findall(r"^//! ?(.*\n)", (crate / "src" / "lib.rt").read_text(), re.M))
+        _, found, main = comment.partition("Main clauses: ")
+        if not found or comment.count("```") != 2:
+            wrong.append(f"{crate.name}: the first comment lacks a caller or its main clauses")
+        for part in re.split(r"[;.]\s", main):
+            name, *clauses = re.findall(r"`(?:\w+::)?(\w+)`", part) or [""]
+            if not re.match(r"\s*`[\w:]+`(:|$)", part):
+                continue
+            there = ensured(crate, name)
+            if there is None:
+                wrong.append(f"{crate.name}: the first comment names `{name}`, and there is no such function")
+            elif set(clauses) - there:
+                wrong.append(f"{crate.name}: `{name}` ensures no {', '.join(sorted(set(clauses) - there))}")
     return wrong
 
 
@@ -260,10 +291,15 @@ def undocumented(crate):
     return wrong
 
 
-def undocumented_items():
+def libraries():
+    """The folders of the crates that others use."""
     tested = {"input_tests", "travel_tests", "book_tests", "drawn_plans", "whole_calls"}
     crates = (path.parent.parent for path in sorted((TOP / "crates").glob("*/src/lib.rt")))
-    return [it for crate in crates if crate.name not in tested for it in undocumented(crate)]
+    return [crate for crate in crates if crate.name not in tested]
+
+
+def undocumented_items():
+    return [it for crate in libraries() for it in undocumented(crate)]
 
 
 def other_version(program):
@@ -285,7 +321,7 @@ def main():
         wrong.append(["no document has a command"])
     looks = [look_at_quotes(path, is_written) for path in documents() if QUOTED.search(path.read_text())]
     looks += [broken_links(path) for path in documents()]
-    looks += [long_sentences(TOP / "README.md"), crate_orders(is_written), stale_pages(program), other_version(program), undocumented_items(), stale_callers()]
+    looks += [long_sentences(TOP / "README.md"), crate_orders(is_written), stale_pages(program), other_version(program), undocumented_items(), stale_callers(), stale_first_comments()]
     wrong += [it for it in looks if it]
     print("\n".join(line for it in wrong for line in it))
     print(f"{passed + len(looks) - len(wrong)} passed, {len(wrong)} failed")

@@ -4,8 +4,9 @@
     drawn.py inputs SEED FOLDER         writes a seed's files and words into a folder
 
 Most seeds draw a script of some rounds; of ten, one draws a crowd, two a driven day, and one a made workload: the report of
-its three texts is judged, and the summary that `load` prints, on another number of workers, has to say the same. Too few kinds of lines
-in many runs count as a failure, too. The last line is `N passed, M failed`.
+its three texts is judged, and the summary that `load` prints, on another number of workers, has to say the same. So it has
+of two workloads that are too large to judge. Too few kinds of lines in many runs count as a failure, too. The last line is
+`N passed, M failed`.
 """
 
 import collections
@@ -27,15 +28,16 @@ from made_texts import texts
 SHOWN = "expired overflow lapsed late rv rr row trip out move cost bound nodes day leaf branch dead".split()
 WANTED = SHOWN[:-2]  # whether a tree branches is the search's affair
 ENOUGH = 250  # so many runs have to show each wanted line
+LARGE = [[1_000_000_000, 20, 100, 150, 2], [1, 100, 40, 30, 3]]  # seed, side, vehicles, riders, rounds
 
 
 class MadeWorkload:
     """A made workload that is drawn by a seed: the words of `load`, and of `run` on the three texts."""
 
-    def __init__(self, seed):
+    def __init__(self, seed, shape=None):
         rng = random.Random(seed)
         names = "seed side vehicles riders rounds".split()
-        shape = [rng.randint(0, 10**9), rng.randint(2, 4), rng.randint(1, 3), rng.randint(1, 3), rng.randint(1, 2)]
+        shape = shape or [rng.randint(0, 10**9), rng.randint(2, 4), rng.randint(1, 3), rng.randint(1, 3), rng.randint(1, 2)]
         made = texts(*shape)
         files = "network fleet script".split()
         more = rng.choice([[], ["wait=60"], ["trip=2", "penalty=100"], ["dwell=10", "budget=1"]])
@@ -83,6 +85,24 @@ def summary_of(words, report):
     return "\n".join([*lines, report.rstrip("\n").split("\n")[-1]]) + "\n"
 
 
+def compare_summaries(program, drawn, report, folder):
+    """`load` says of the made workload what the report of its texts does."""
+    summary, expected = output_of(program, drawn.load_words, folder), summary_of(drawn.load_words, report)
+    if summary != expected:
+        raise Wrong(f"the summary should be\n{expected}and is\n{summary}")
+
+
+def try_large(program, shape):
+    """Why the program's summary of a workload isn't that of the report of its texts, or None."""
+    drawn = MadeWorkload(shape[0], shape)
+    with tempfile.TemporaryDirectory() as folder:
+        write_inputs(drawn, Path(folder))
+        try:
+            compare_summaries(program, drawn, output_of(program, drawn.words, folder), folder)
+        except (Wrong, subprocess.TimeoutExpired) as wrong:
+            return str(wrong)
+
+
 def try_seed(program, seed):
     """Why the program is wrong on the inputs of the seed, or None, and which lines its report has."""
     drawn = inputs_of(seed)
@@ -95,9 +115,7 @@ def try_seed(program, seed):
             seen.update(line.split(" ")[0] for line in report.split("\n"))
             judge(Run(folder, drawn.words), report)
             if isinstance(drawn, MadeWorkload):
-                summary, expected = output_of(program, drawn.load_words, folder), summary_of(drawn.load_words, report)
-                if summary != expected:
-                    raise Wrong(f"the summary should be\n{expected}and is\n{summary}")
+                compare_summaries(program, drawn, report, folder)
         except (Wrong, subprocess.TimeoutExpired) as wrong:
             return str(wrong), seen
         return None, seen
@@ -116,7 +134,9 @@ def main():
     seeds = range(first, first + runs)
     with multiprocessing.Pool(len(os.sched_getaffinity(0))) as pool:
         answers = pool.starmap(try_seed, [(program, seed) for seed in seeds], chunksize=4)
-    failed, seen = 0, collections.Counter()
+        large = [why for why in pool.starmap(try_large, [(program, shape) for shape in LARGE]) if why]
+    failed, seen = len(large), collections.Counter()
+    print("".join(f"a large workload: {why}\n" for why in large), end="")
     for seed, (why, words) in zip(seeds, answers):
         seen.update(words)
         if why:
@@ -127,7 +147,7 @@ def main():
     if unseen:
         failed += 1
         print(f"no drawn run shows {', '.join(unseen)}")
-    print(f"{runs - failed} passed, {failed} failed")
+    print(f"{runs + len(LARGE) - failed} passed, {failed} failed")
     return failed != 0
 
 

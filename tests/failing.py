@@ -479,11 +479,23 @@ def progress_of(summary):
     return shown
 
 
-def on_terminal(program, words, both):
+def progress_of_report(report):
+    """The lines that are shown as this report is written, the head and then a round at a time."""
+    shown, closed, last = ["round 1, batches closed: 0"], 0, ""
+    for number, text in enumerate(re.split(r"^round ", report, flags=re.M)[1:], 2):
+        for block in re.findall(r"^batch \d+\n(.*?)^end$", text, re.M | re.S):
+            closed += 1
+            rows, costs = len(re.findall(r"^row ", block, re.M)), re.findall(r"^(?:cost|bound) (-?\d+)$", block, re.M)
+            last = ", last: overflow" if not costs else f", last: {rows} rows, gap {int(costs[0]) - int(costs[1])}"
+        shown.append(f"round {number}, batches closed: {closed}{last}")
+    return shown
+
+
+def on_terminal(program, folder, words, both):
     """What a run writes to standard output, and what stands on the terminal that standard error is, and maybe output too."""
     mine, its = pty.openpty()
     output = {"stdout": its} if both else {"stdout": subprocess.PIPE}
-    with subprocess.Popen([program, *words], stderr=its, **output) as going:
+    with subprocess.Popen([program, *words], cwd=folder, stderr=its, **output) as going:
         os.close(its)
         screen = []
         try:
@@ -499,30 +511,37 @@ def on_terminal(program, words, both):
 def progress(part, program):
     def shows(words, is_expected):
         def run(folder):
+            for name, text in RIDDEN.items():
+                (folder / f"{name}.csv").write_text(text)
             quiet = start(program, folder, words)
             if quiet.returncode or quiet.stderr:
                 raise Wrong(f"without a terminal {quiet.stderr!r} is shown")
             summary = quiet.stdout.decode()
-            written, screen = on_terminal(program, words, False)
+            written, screen = on_terminal(program, folder, words, False)
             if written != summary:
                 raise Wrong(f"beside a terminal {written!r} is written")
             is_expected(summary, screen)
-            _, screen = on_terminal(program, words, True)
+            _, screen = on_terminal(program, folder, words, True)
             if re.sub(PROGRESS + re.escape(CLEAR), "", screen) != summary:
                 raise Wrong(f"on one terminal with the output stands {screen!r}")
 
         return run
 
-    def of_load(summary, screen):
-        expected = "".join(line + CLEAR for line in progress_of(summary))
-        if screen != expected:
-            raise Wrong(f"on the terminal stands {screen!r}, and {expected!r} should")
+    def of_lines(lines_of):
+        def is_shown(text, screen):
+            expected = "".join(line + CLEAR for line in lines_of(text))
+            if screen != expected:
+                raise Wrong(f"on the terminal stands {screen!r}, and {expected!r} should")
+
+        return is_shown
 
     def of_page(page, screen):
         if screen:
             raise Wrong(f"on the terminal stands {screen!r}")
 
-    tries = [("a workload", LOAD, of_load), ("with an overflow", [*LOAD, "pairs=20"], of_load), ("help", ["--help"], of_page)]
+    of_load, of_report = of_lines(progress_of), of_lines(progress_of_report)
+    tries = [("a workload", LOAD, of_load), ("one with an overflow", [*LOAD, "pairs=20"], of_load), ("help", ["--help"], of_page)]
+    tries += [("a report", WORDS, of_report), ("one with an overflow", [*WORDS, "pairs=3"], of_report)]
     part.try_all((name, shows(words, check)) for name, words, check in tries)
 
 

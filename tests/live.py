@@ -26,6 +26,7 @@ TESTS = Path(__file__).resolve().parent
 STREET = TESTS / "street"
 HEADERS = "round,lane,command,a,b,c,d", "round,lane,command,a,b,c,d,e"
 HEAD = 4  # lines before the first round
+MEMORY_CALLS = 60  # requests of memory that fail, one in each call
 
 
 class Failed(Exception):
@@ -87,6 +88,12 @@ class Client:
         self.begun = 0
         return self.lines()[place]
 
+    def wait_for_end(self, batch):
+        """Waits for the last line of the block of this batch."""
+        self.begun = self.wait_for(lambda line: line == f"batch {batch}")
+        self.wait_for(lambda line: line == "end")
+        self.begun = 0
+
     def end(self, patience=600):
         """Closes the client's end, and gives the status, all that was written and what was said of refused rows."""
         self.call.stdin.close()
@@ -145,6 +152,17 @@ def one_row_at_a_time(program, folder):
     status, report, errors = client.end()
     need((status, errors) == (0, ""), f"status {status}, {errors!r}")
     judged(program, folder, ONE_BY_ONE, report, "proof=1")
+
+
+# two batches, each with notices
+NOTICED = [
+    "0,0,submit,1,2,4,0",
+    "0,0,submit,2,3,5,0",
+    "0,0,seal,10,,,",
+    "1,0,report,1,1,20,",
+    "1,3,submit,3,4,1,20",
+    "2,0,seal,30,,,",
+]
 
 
 def cut_anywhere(program, folder):
@@ -238,6 +256,39 @@ def end_with_an_open_batch(program, folder):
     judged(program, folder, rows, report)
 
 
+def notices_right_behind(program, folder):
+    """The notices of a batch are there in time behind its block, though no other row is sent."""
+    street(folder)
+    told, expected = folder / "told", folder / "expected"
+    client = Client(program, folder, f"notices={told}")
+    need(not told.exists(), "the file of notices is there before the header")
+    client.send(HEADERS[0] + "\n")
+    sent = []
+    for row in NOTICED:
+        client.ask(row)
+        sent.append(row)
+        if row.split(",")[2] == "seal":
+            client.wait_for_end(sum(row.split(",")[2] == "seal" for row in sent))
+            wanted = notices_of_run(program, folder, sent, expected)
+            need(wanted, "the batch has no notices")
+            end = time.monotonic() + client.patience
+            while told.read_text() != wanted and time.monotonic() < end:
+                time.sleep(0.01)
+            need(told.read_text() == wanted, f"{told.read_text()!r} in place of {wanted!r}")
+    status, report, errors = client.end()
+    need((status, errors) == (0, ""), f"status {status}, {errors!r}")
+    need(told.read_text() == notices_of_run(program, folder, NOTICED, expected), "other notices at the end")
+
+
+def notices_of_run(program, folder, rows, path):
+    """The notices that `run` writes of these rows, in lane 0 or not touching its batches."""
+    (folder / "rows.csv").write_text("\n".join([HEADERS[0], *rows, ""]))
+    named = ["network=network.csv", "fleet=fleet.csv", "script=rows.csv", f"notices={path}"]
+    ran = subprocess.run([program, "run", *named], cwd=folder, capture_output=True, text=True)
+    need(ran.returncode == 0, f"run: {ran.stderr}")
+    return path.read_text()
+
+
 def words_and_files(program, folder):
     """Words, network and fleet are judged as by `run`, and a fifo serves as the script."""
     street(folder)
@@ -245,8 +296,17 @@ def words_and_files(program, folder):
     need((none.returncode, none.stdout, none.stderr) == (2, "", "ridepool: words: missing fleet\n"), f"{none}")
     bad = subprocess.run([program, "live", "network=x", "fleet=y", "wait=z"], capture_output=True, text=True, input="")
     need((bad.returncode, bad.stderr) == (2, "ridepool: words: bad value at word 4\n"), f"{bad}")
-    lost = subprocess.run([program, "live", "network=/none", "fleet=/none"], capture_output=True, text=True, input="")
+    lost = subprocess.run([program, "live", "network=/none", "fleet=/none", f"notices={folder}/none"], capture_output=True, text=True, input="")
     need((lost.returncode, lost.stderr) == (7, "ridepool: network: read failed\n"), f"{lost}")
+    need(not (folder / "none").exists(), "a file of notices is made though nothing is written")
+    rows = HEADERS[0] + "\n0,0,report,1,1,3,\n"
+    (folder / "own").write_text(rows)
+    files = [f"network={folder}/network.csv", f"fleet={folder}/fleet.csv", f"notices={folder}/own"]
+    with open(folder / "own", "rb") as source:
+        own = subprocess.run([program, "live", *files], stdin=source, capture_output=True, text=True)
+    said = "ridepool: notices: the file is an input or standard output: not written\n"
+    need((own.returncode, own.stdout[-7:], own.stderr) == (0, "done 1\n", said), f"{own}")
+    need((folder / "own").read_text() == rows, "the file at standard input isn't as it was")
     os.mkfifo(folder / "rows")
     client = Client(program, folder, script=folder / "rows")
     with open(folder / "rows", "wb", buffering=0) as rows:
@@ -382,24 +442,40 @@ def killed_between_rows(program, folder):
 
 
 def failing_calls(program, folder):
-    """Each read of the script and each write of the report fails once: status 7 or 8, and what stands begins the report."""
+    """Each read of the script and each write of the report fails once, and each of some requests of memory: status 7, 8 or
+    9. What stands begins the report, and the notices are those of the blocks that stand whole."""
     street(folder)
     shim = Shim(program)
     if shim.why:
         print(f"skipped: failing reads and writes of live, since {shim.why}", flush=True)
         return
-    (folder / "script.csv").write_text("\n".join([HEADERS[0], *ONE_BY_ONE, ""]))
-    words = ["live", "network=network.csv", "fleet=fleet.csv", "script=script.csv"]
+    told = folder / "told"
+    (folder / "script.csv").write_text("\n".join([HEADERS[0], *NOTICED, ""]))
+    words = ["live", "network=network.csv", "fleet=fleet.csv", "script=script.csv", "notices=told"]
     most = {"script": 5, "output": 7}
     plan = Plan(most)
     whole = shim.run(folder, words, plan)
+    notices = told.read_text()
     need(whole.returncode == 0, f"status {whole.returncode}, {whole.stderr!r}")
-    for kind, status, line in [("script", 7, "script: read failed"), ("output", 8, "report: write failed")]:
-        for call in range(1, plan.calls[kind] + 1):
+    need("batch 1 " in notices and "batch 2 " in notices, f"other notices: {notices!r}")
+    step = max(1, plan.calls["memory"] // MEMORY_CALLS)
+    for kind, status, line, calls in [
+        ("script", 7, "script: read failed", range(1, plan.calls["script"] + 1)),
+        ("output", 8, "report: write failed", range(1, plan.calls["output"] + 1)),
+        ("memory", 9, "out of memory", range(1, plan.calls["memory"] + 1, step)),
+    ]:
+        for call in calls:
+            told.unlink(missing_ok=True)
             ran = shim.run(folder, words, Plan(most, {kind: call}))
-            told = ran.returncode, ran.stderr.decode()
-            need(told == (status, f"ridepool: {line}\n"), f"{told} where call {call} on {kind} fails")
+            said = ran.returncode, ran.stderr.decode()
+            need(said == (status, f"ridepool: {line}\n") or kind == "memory" and said[0] in (0, 9), f"{said} where call {call} on {kind} fails")
+            if said[0] == 0:
+                continue
             need(whole.stdout.startswith(ran.stdout) and whole.stdout != ran.stdout, f"another beginning where call {call} on {kind} fails")
+            blocks = ran.stdout.decode().split("\n")[:-1].count("end")
+            wanted = "".join(line for line in notices.splitlines(True) if int(line.split(" ")[1]) <= blocks)
+            had = told.read_text() if told.exists() else ""
+            need(had == wanted, f"{had!r} was told behind {blocks} blocks where call {call} on {kind} fails")
 
 
 def main(program, rows=5000, seed=1, seconds=Client.patience):
@@ -411,6 +487,7 @@ def main(program, rows=5000, seed=1, seconds=Client.patience):
         wrong_headers,
         second_version,
         end_with_an_open_batch,
+        notices_right_behind,
         words_and_files,
         rows_while_a_batch_is_solved,
         lambda program, folder: drawn_commands(program, folder, int(rows), int(seed)),

@@ -96,12 +96,12 @@ def out_of_range(words, got):
 
 
 def judged_as_summary(folder, case, words, got):
-    """What `load` prints: the first batch's riders and pairs are determined, and its cost, where that is its bound; and the
-    numbers of each batch are within their ranges."""
+    """What `load` prints: the first batch's riders and pairs are determined, and its cost and bound, where these are one; and
+    the numbers of each batch are within their ranges."""
     wanted = text_in(case, "stdout")
     costs = [re.findall(r"cost (\d+) bound (-?\d+)$", text, re.M) for text in (wanted, got)]
-    first = [cost for batches in costs for cost, bound in batches[:1] if cost == bound]
-    other = [f"the first batch costs {first[1]}, and it can be {first[0]}"] if len({*first}) > 1 else []
+    first, can_be = costs[1][:1], [(cost, bound) for cost, bound in costs[0][:1] if cost == bound]
+    other = [f"the first batch's cost and bound are {first}, and can be {can_be}"] if can_be and first != can_be else []
     return difference("what is determined", fixed_summary(wanted), fixed_summary(got)) + out_of_range(words, got) + other
 
 

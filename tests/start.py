@@ -151,8 +151,8 @@ def demand_installed(copy, prefix, home):
         raise Wrong(f"the installed program: status {ran.returncode}, {ran.stderr}")
     ran = subprocess.run([prefix / "bin/ridepool-uninstall"], capture_output=True, text=True, cwd="/")
     left = sorted(str(path) for path in home.rglob("*"))
-    if ran.returncode != 0 or ran.stderr or left:
-        raise Wrong(f"uninstall: status {ran.returncode}, {ran.stderr}; left are {left}")
+    if (ran.returncode, ran.stdout, ran.stderr, left) != (0, f"ridepool is gone from {prefix}\n", "", []):
+        raise Wrong(f"uninstall: status {ran.returncode}, {ran.stdout}{ran.stderr}; left are {left}")
 
 
 def installed(copy):
@@ -163,8 +163,8 @@ def installed(copy):
         raise Wrong("install: nothing is said of PATH")
     demand_installed(copy, home / ".local", home)
     for _ in range(2):
-        install(copy, ["it's a/\"place\""], home)
-    demand_installed(copy, home / "it's a" / '"place"', home)
+        install(copy, ["it's a/\"place $(false)"], home)
+    demand_installed(copy, home / "it's a" / '"place $(false)', home)
 
 
 def manual(copy):

@@ -495,6 +495,17 @@ def test_driven_days_run_again(folder):
         assert audit.stdout.startswith("audit ok entries "), (at.name, audit)
 
 
+def test_a_town_day_by_each_number_of_workers(folder):
+    """A driven day of six vehicles prints the same bytes for each number of workers, by rows and by labels."""
+    program = pathlib.Path(sys.argv[1]).resolve()
+    inputs = [f"{name}={TOWN / name}.csv" for name in ("network", "fleet", "script")]
+    ways = [[f"workers={n}", f"times={times}"] for n in (1, 2, 4, 64) for times in ("rows", "labels")]
+    reports = {
+        subprocess.run([program, "drive", *inputs, *way], capture_output=True, check=True).stdout for way in ways
+    }
+    assert len(reports) == 1 and b"\nday picked 74 " in reports.pop()
+
+
 def test_made_city(folder):
     """The made city has the size of Manhattan, mostly one-way streets, and every node reaches every other."""
     from collections import Counter

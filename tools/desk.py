@@ -242,7 +242,7 @@ async def run_desk(dispatcher, app, listener, clients):
     """Serves the page and the calls."""
     import uvicorn
 
-    config = uvicorn.Config(app, log_level="warning", access_log=False, lifespan="off", timeout_keep_alive=30,
+    config = uvicorn.Config(app, log_level="error", access_log=False, lifespan="off", timeout_keep_alive=30,
                             limit_concurrency=1000)
     server = uvicorn.Server(config)
     tasks = [asyncio.ensure_future(it) for it in clients]

@@ -326,6 +326,8 @@ def dispatch_day(arguments):
     plain, values = split_words(arguments, WORDS, USAGE)
     if len(plain) != 1 or not {"network", "nodes"} <= set(values):
         raise Fault(USAGE)
+    if pathlib.Path(values.get("fleet", "")).is_file():
+        raise Fault(f"{values['fleet']}: a file is there already; fleet= names the one that the taxis are written to")
     need("sumolib", "traci", *(["pulp"] if number(values, "own", 0, 1, 0) else []),
          install="apt-get install sumo sumo-tools, and for own=1 python3-pulp coinor-cbc")
     os.environ["SUMO_HOME"] = SUMO_HOME

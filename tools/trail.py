@@ -3,6 +3,8 @@
 
     tools/trail.py            the figures, and each fault; status 1 where there is one
     tools/trail.py --list     one line for each definition and type on the way: depth, lines, place
+    tools/trail.py --from COMMAND
+                              what the clause of `run`, `drive`, `load`, `audit` or `live` rests on, by chapters, and its figures
     tools/trail.py --write    writes the lists of docs/proof/DEFINITIONS.md anew
     tools/trail.py --stood COMMIT
                               how many of the definitions on the headline's way at a commit stand, by name and in a crate
@@ -42,6 +44,7 @@ TOP = Path(__file__).resolve().parent.parent
 CRATES = TOP / "crates"
 BOOK = TOP / "docs" / "proof" / "DEFINITIONS.md"
 HEADLINE = ("ridepool", "ridepool")
+COMMANDS = {"run": "AnswersRun", "drive": "AnswersDrive", "load": "AnswersLoad", "audit": "AnswersAudit", "live": "AnswersLive"}
 BEGIN, END = "<!-- {}: begin -->", "<!-- {}: end -->"
 
 
@@ -57,6 +60,10 @@ class Trail:
         self.headline = self.walk(self.roots[HEADLINE])
         self.every = self.walk([piece for named in self.roots.values() for piece in named])
         self.beside = [piece for piece in self.every if piece not in self.headline]
+
+    def of_command(self, command):
+        """The way from the clause of a command."""
+        return self.walk([piece for piece in self.every if piece.name == COMMANDS[command]])
 
     def uses(self, piece):
         """What a definition or a type names."""
@@ -220,6 +227,13 @@ def say_what_stood(commit):
     print(f"trail: at {commit} {len(then)} definitions, {lines_of(then)} lines; of these stand {len(now)}, in {lines_of(now)} lines")
 
 
+def say_command(trail, command):
+    """What the clause of a command rests on."""
+    way = trail.of_command(command)
+    print(list_of(trail, way, True).strip())
+    print(f"\ntrail: from the clause of {command} {figures(way)}")
+
+
 def say_figures(crates):
     """How large the crates are."""
     kinds = {"code": "src/**/*.rt", "definitions": "specs/**/*.antt", "proofs": "proofs/**/*.antt"}
@@ -237,12 +251,16 @@ def main():
         with crates_at(commit[0]) if commit else contextlib.nullcontext(CRATES) as crates:
             return say_figures(crates)
     trail = Trail(CRATES)
+    if "--from" in sys.argv:
+        return say_command(trail, sys.argv[sys.argv.index("--from") + 1])
     if "--list" in sys.argv:
         for piece, depth in {**trail.every, **trail.headline}.items():
             mark = "headline" if piece in trail.headline else "beside"
             print(f"{mark:8} {depth:3} {len(piece.lines):3}  {piece.place()} {piece.name}")
         return 0
     print(f"trail: from the headline {figures(trail.headline)}")
+    for command in COMMANDS:
+        print(f"trail: from the clause of {command} {figures(trail.of_command(command))}")
     print(f"trail: from all public clauses {figures(trail.every)}")
     print(f"trail: {len(trail.kept)} types keep what contracts see by definitions of specs/work: "
           f"{', '.join(sorted(name for _, name in trail.kept))}")

@@ -15,7 +15,7 @@ from words import Fault
 MOST_WAITING_ROWS = 10_000
 MOST_RESTARTS = 3
 REPLAYS = 3
-LISTENER_ROOM = 2_000
+MOST_LISTENERS, LISTENER_ROOM = 100, 2_000
 
 
 class Unavailable(Exception):
@@ -119,7 +119,6 @@ class Dispatcher:
         """Takes the lines of the replay as the day's, and is ready for commands."""
         self.folder.keep(self.lines, replaced)
         self.lines = None
-        self.next_ride = max(self.state.rides, default=0) + 1
         self.set_status("ready", "")
         self.publish("state", self.snapshot())
 
@@ -155,7 +154,7 @@ class Dispatcher:
         return await waiting.answer
 
     def new_ride(self):
-        """A rider's number that nobody has."""
+        """The least number that no ride has and that was not given out before."""
         while self.next_ride in self.state.rides:
             self.next_ride += 1
         self.next_ride += 1
@@ -311,6 +310,8 @@ class Dispatcher:
 
     def listen(self):
         """A queue of events, each a text of the stream. A listener who is far behind is let go."""
+        if len(self.listeners) >= MOST_LISTENERS:
+            raise Unavailable(f"{MOST_LISTENERS} listeners are connected already")
         queue = asyncio.Queue(LISTENER_ROOM)
         self.listeners.add(queue)
         queue.put_nowait(event_text("state", self.snapshot()))

@@ -12,6 +12,7 @@ from words import Fault
 
 INPUTS = ("network", "fleet", "nodes")
 DESCRIPTION, ROWS, TRANSCRIPT = "day.json", "rows.csv", "transcript"
+KINDS = {"settings": list, "speed": int, "every": int, "began": (int, float)}
 
 
 def write_whole(path, text):
@@ -46,6 +47,7 @@ class Folder:
         except BlockingIOError:
             raise Fault(f"{path}: another desk keeps this day") from None
         self.rows = self.transcript = None
+        self.begun = []  # the files that began the day, where it begins now
         self.description = self.described()
 
     def described(self):
@@ -56,21 +58,34 @@ class Folder:
                 raise Fault(f"{path}: the file is missing, so the day can't go on")
             return None
         try:
-            return json.loads(path.read_text(encoding="utf-8"))
-        except ValueError:
-            raise Fault(f"{path}: not the description of a day") from None
+            found = json.loads(path.read_text(encoding="utf-8"))
+            if all(isinstance(found[key], kind) for key, kind in KINDS.items()):
+                return found
+        except (ValueError, TypeError, KeyError):
+            pass
+        raise Fault(f"{path}: not the description of a day")
 
     def begin(self, inputs, description):
-        """Begins a day: copies of its inputs, then its description."""
-        for name in INPUTS:
-            shutil.copyfile(inputs[name], self.path / f"{name}.csv")
-        write_whole(self.path / DESCRIPTION, json.dumps(description, indent=1) + "\n")
+        """Begins a day: copies of its inputs, then its description. A file that is there already isn't overwritten."""
+        copies = {self.input(name): inputs[name] for name in INPUTS}
+        for path in (*copies, self.path / ROWS):
+            if path.exists():
+                raise Fault(f"{path}: the file is there already; a day begins in a folder of its own")
+        self.begun = [*copies, self.path / DESCRIPTION]
+        try:
+            for path, given in copies.items():
+                shutil.copyfile(given, path)
+            write_whole(self.path / DESCRIPTION, json.dumps(description, indent=1) + "\n")
+        except OSError:
+            self.forget_unbegun()
+            raise
         self.description = description
 
     def forget_unbegun(self):
-        """Takes the description away again where no transcript stands: the day may begin with other words."""
+        """Takes away what began the day, where no transcript stands: it may begin with other words."""
         if not (self.path / TRANSCRIPT).exists():
-            (self.path / DESCRIPTION).unlink()
+            for path in self.begun:
+                path.unlink(missing_ok=True)
 
     def input(self, name):
         """The day's own copy of an input."""

@@ -79,10 +79,12 @@ class Guard:
 
 
 async def whole_body(receive):
-    """The body of a call; None where it is too large."""
+    """The body of a call; None where it is too large, or where the caller left before it was whole."""
     body, more = b"", True
     while more:
         message = await receive()
+        if message["type"] == "http.disconnect":
+            return None
         body, more = body + message.get("body", b""), message.get("more_body", False)
         if len(body) > MOST_BYTES:
             return None

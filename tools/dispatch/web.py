@@ -8,6 +8,7 @@ from fastapi import FastAPI, HTTPException, Query, Request
 from fastapi.exceptions import RequestValidationError
 from fastapi.responses import FileResponse, JSONResponse, StreamingResponse
 from pydantic import BaseModel, Extra, StrictInt, confloat, conint
+from starlette.background import BackgroundTask
 from starlette.exceptions import HTTPException as AnyHTTPException
 
 from dispatch.dispatcher import Refused, Unavailable
@@ -19,8 +20,8 @@ FILES = {
     **{name: (PAGE, name) for name in ("desk.css", "desk.js", "map.js", "lists.js", "ways.js", "calls.js", "icon.svg")},
     "leaflet.js": (LEAFLET, "leaflet.js"), "leaflet.css": (LEAFLET, "leaflet.css"),
 }
-MOST_LISTENERS = 100
 QUIET_SECONDS = 3
+MOST_AHEAD = 86_400
 UNKNOWN = ("unknown-rider", "unknown-vehicle")
 TEXTS = {
     "duplicate-rider": "a ride with this number is there already",
@@ -140,8 +141,11 @@ class Desk:
         return node
 
     def second(self, given):
-        """The second of a command: the given one, or now."""
-        return self.dispatcher.clock.now() if given is None else given
+        """The second of a command: the given one, or now. Where it is more than a day ahead, that is 422."""
+        now = self.dispatcher.clock.now()
+        if given is not None and given > now + MOST_AHEAD:
+            raise HTTPException(422, f"second {given} is more than a day from now, second {now}")
+        return now if given is None else given
 
     async def command(self, command, *fields, party=1, made=200):
         """Sends a command and answers with the book's reply: 404 for unknown ones, 409 for its other refusals."""
@@ -176,25 +180,20 @@ class Desk:
         view["travel_time"] = ride.dropoff - ride.pickup if known else None
         return view
 
-    async def events(self, request):
+    async def events(self, request, queue):
         """The stream of events. Something comes every three seconds, so that a lost connection is seen."""
-        dispatcher = self.dispatcher
-        queue = dispatcher.listen()
-        try:
-            while not await request.is_disconnected():
-                try:
-                    text = await asyncio.wait_for(queue.get(), QUIET_SECONDS)
-                except asyncio.TimeoutError:
-                    queue.put_nowait(dispatcher.clock_event())
-                    continue
-                texts = [text]
-                while not queue.empty():
-                    texts.append(queue.get_nowait())
-                yield "".join(it for it in texts if it is not None)
-                if None in texts:
-                    return
-        finally:
-            dispatcher.listeners.discard(queue)
+        while not await request.is_disconnected():
+            try:
+                text = await asyncio.wait_for(queue.get(), QUIET_SECONDS)
+            except asyncio.TimeoutError:
+                queue.put_nowait(self.dispatcher.clock_event())
+                continue
+            texts = [text]
+            while not queue.empty():
+                texts.append(queue.get_nowait())
+            yield "".join(it for it in texts if it is not None)
+            if None in texts:
+                return
 
 
 def answers(example, status=200):
@@ -220,6 +219,15 @@ def make_app(desk):
     return app
 
 
+def problem_of(fault):
+    """A fault of a value: its field, which is empty for the whole body, and what is wrong with it."""
+    if fault["type"] == "value_error.jsondecode":
+        return {"field": "", "text": f"not JSON: {fault['msg']}"}
+    if fault["type"] == "type_error.dict":
+        return {"field": "", "text": "a JSON object with content-type: application/json is needed"}
+    return {"field": ".".join(map(str, fault["loc"][1:])), "text": fault["msg"]}
+
+
 def add_faults(app):
     """Faults in one shape: a `text` that a person understands."""
     @app.exception_handler(AnyHTTPException)
@@ -229,7 +237,7 @@ def add_faults(app):
 
     @app.exception_handler(RequestValidationError)
     async def bad_value(request: Request, fault: RequestValidationError):
-        problems = [{"field": ".".join(map(str, it["loc"][1:])), "text": it["msg"]} for it in fault.errors()]
+        problems = [problem_of(it) for it in fault.errors()]
         text = "; ".join(f"{it['field'] or 'body'}: {it['text']}" for it in problems)
         return answered(422, {"text": text, "problems": problems})
 
@@ -361,10 +369,10 @@ def add_desk(app, desk):
     @app.get("/events", tags=["desk"])
     async def events(request: Request):
         """Server-sent events: first `state`, then `reply`, `plan`, `places`, `status` and `clock` as they come."""
-        if len(desk.dispatcher.listeners) >= MOST_LISTENERS:
-            raise Unavailable(f"{MOST_LISTENERS} listeners are connected already")
-        return StreamingResponse(desk.events(request), media_type="text/event-stream",
-                                 headers={"cache-control": "no-store", "x-accel-buffering": "no"})
+        queue = desk.dispatcher.listen()
+        return StreamingResponse(desk.events(request, queue), media_type="text/event-stream",
+                                 headers={"cache-control": "no-store", "x-accel-buffering": "no"},
+                                 background=BackgroundTask(desk.dispatcher.listeners.discard, queue))
 
 
 def add_files(app):

@@ -20,13 +20,13 @@ use crate::guide::Guide;
 use crate::lookups::Lookups;
 use crate::lowest_leaf::bound_at;
 use crate::open_leaves::OpenLeaves;
-use crate::plain_draft::NoDrafter;
 use crate::root::root_leaf;
 use crate::step::{Outcome, next};
 use plan_rules::{Node, Plan, Tree, TripGraph, cost_of};
 use pool_base::OutOfMemory;
 use row_tables::Drafter;
 use std::alloc::Global;
+use std::thread::Threads;
 
 /// A lawful plan and a bound on every lawful plan's cost, with a tree of at most `budget` nodes that shows it.
 ///
@@ -45,15 +45,17 @@ pub fn search(alloc: Global, graph: &TripGraph, budget: u32) -> Result<Found, Ou
     ensures limited { IfOk result (λ found. found.bound <ℤ pos found.cost → budget < length found.tree + 2) }
     ensures closed { IfOk result (λ found. 2 * choice_count graph.now every_row ≤ budget → found.bound ≡ pos found.cost) }
 {
-    search_by(alloc, graph, budget, &NoDrafter)
+    run(alloc, graph, budget, Guide::plain(alloc, graph)?)
 }
 
 /// The same, begun with the draft of this drafter. All that the search takes of a draft it judges. Where the
-/// drafter fails, a plain draft takes its place.
-pub fn search_by<D: Drafter>(
+/// drafter fails, a plain draft takes its place. The drafter is given so many workers.
+pub fn search_by<R: Threads + Sync, D: Drafter>(
+    rt: &R,
     alloc: Global,
     graph: &TripGraph,
     budget: u32,
+    workers: u8,
     drafter: &D,
 ) -> Result<Found, OutOfMemory>
     requires { 1 ≤ budget }
@@ -68,20 +70,16 @@ pub fn search_by<D: Drafter>(
     ensures limited { IfOk result (λ found. found.bound <ℤ pos found.cost → budget < length found.tree + 2) }
     ensures closed { IfOk result (λ found. 2 * choice_count graph.now every_row ≤ budget → found.bound ≡ pos found.cost) }
 {
-    run(alloc, graph, budget, drafter)
+    let guide = Guide::by(rt, alloc, graph, budget as usize, workers, drafter)?;
+    run(alloc, graph, budget, guide)
 }
 
-fn run<D: Drafter>(
-    alloc: Global,
-    graph: &TripGraph,
-    budget: u32,
-    drafter: &D,
-) -> Result<Found, OutOfMemory>
+fn run(alloc: Global, graph: &TripGraph, budget: u32, guide: Guide) -> Result<Found, OutOfMemory>
     requires { 1 ≤ budget }
     ensures { IfOk result (IsSearchAnswer graph.now budget) }
 {
     let plan = first_plan(alloc, graph)?;
-    let mut guide = Guide::new(alloc, graph, budget as usize, drafter)?;
+    let mut guide = guide;
     let lookups = Lookups::new(alloc, graph, guide.table())?;
     let root = root_leaf(alloc, graph, &lookups, &guide)?;
     branch(alloc, graph, budget, &lookups, &mut guide, plan, root)

@@ -7,6 +7,7 @@ use plan_rules::{Plan, TripGraph, cost_of, is_lawful};
 use pool_base::OutOfMemory;
 use row_tables::{Draft, Drafter, RowTable};
 use std::alloc::Global;
+use std::thread::Threads;
 
 /// Multipliers for the two ends of a branch, or no multiplier at all.
 #[derive(Drop)]
@@ -25,18 +26,32 @@ pub struct Guide {
 }
 
 impl Guide {
-    /// A draft with at most so many nodes, or a plain one where the drafter fails, and a tree of one node.
-    pub fn new<D: Drafter>(
+    /// A plain draft.
+    pub fn plain(alloc: Global, graph: &TripGraph) -> Result<Self, OutOfMemory> {
+        let table = RowTable::of_graph(alloc, graph)?;
+        let draft = plain_draft(alloc, graph)?;
+        Guide::new(alloc, table, draft)
+    }
+
+    /// A draft with at most so many nodes, or a plain one where the drafter fails.
+    pub fn by<R: Threads + Sync, D: Drafter>(
+        rt: &R,
         alloc: Global,
         graph: &TripGraph,
         budget: usize,
+        workers: u8,
         drafter: &D,
     ) -> Result<Self, OutOfMemory> {
         let table = RowTable::of_graph(alloc, graph)?;
-        let draft = match drafter.draft(alloc, &table, graph.held(), budget) {
+        let draft = match drafter.draft(rt, alloc, &table, graph.held(), budget, workers) {
             Ok(draft) => draft,
             Err(OutOfMemory) => plain_draft(alloc, graph)?,
         };
+        Guide::new(alloc, table, draft)
+    }
+
+    /// A draft and a tree of one node.
+    fn new(alloc: Global, table: RowTable, draft: Draft) -> Result<Self, OutOfMemory> {
         let mut numbers = Vec::new(alloc);
         numbers.push(Some(0))?;
         Ok(Guide {

@@ -8,8 +8,8 @@
 //! ```
 //! /// What a search with this budget says: its bound, its cost, how many nodes it has, and what the checker
 //! /// says of its tree.
-//! fn told(alloc: Global, graph: &TripGraph, budget: u32) -> Option<(i128, u64, usize, i128)> {
-//!     let found = search_by(alloc, graph, budget.max(1), &RelaxationDrafter).ok()?;
+//! fn told<R: Threads + Sync>(rt: &R, alloc: Global, graph: &TripGraph, budget: u32) -> Option<(i128, u64, usize, i128)> {
+//!     let found = search_by(rt, alloc, graph, budget.max(1), 4, &RelaxationDrafter).ok()?;
 //!     let checked = check(alloc, graph, &found.tree).ok()?;
 //!     Some((found.bound, found.cost, found.tree.nodes().len(), checked))
 //! }

@@ -2,7 +2,7 @@
 use dual_bound::ascend;
 use plan_rules::TripGraph;
 use pool_base::OutOfMemory;
-use row_tables::{Draft, DraftNode, Drafter, RowTable};
+use row_tables::{Draft, DraftNode};
 use std::alloc::Global;
 
 /// How many turns the ascent takes at most. A turn looks at each row once.
@@ -24,20 +24,4 @@ pub(crate) fn plain_draft(alloc: Global, graph: &TripGraph) -> Result<Draft, Out
         bound: 0,
         nodes,
     })
-}
-
-/// A drafter that has no draft: the search makes a plain one then.
-#[derive(Drop)]
-pub(crate) struct NoDrafter;
-
-impl Drafter for NoDrafter {
-    fn draft(
-        &self,
-        _alloc: Global,
-        _table: &RowTable,
-        _held: &[Option<u32>],
-        _budget: usize,
-    ) -> Result<Draft, OutOfMemory> {
-        Err(OutOfMemory)
-    }
 }

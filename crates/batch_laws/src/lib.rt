@@ -3,6 +3,20 @@
 //! A snapshot names one list of nodes, a network has one table of travel times between them, the limits of
 //! a batch settle in one way, and each of its graphs is one list; it has a trip graph or more rows than are
 //! allowed, and never both. So whoever solves or judges a batch speaks of the same numbers.
+//!
+//! A caller is a proof. One of `outcome_check`, shortened, takes a law's lemma to show that
+//! two graphs of a batch are one:
+//!
+//! ```
+//! -- what holds with some graphs of these limits holds with others
+//! of_graphs q with =
+//!     let same_graph : with.graph ≡ graph =
+//!         one_trip_graph settings tau settled with.graph graph with.graphs.trips graphs.trips in
+//!     subst (λ (x : Graph). Holds settings (posed_with x) planned q) same_graph with.holds
+//! ```
+//!
+//! Main clauses: `a_batch_settles_in_one_way`; `a_batch_has_one_graph_of_each_kind`: `vehicles`, `riders`,
+//! `trips`; `a_batch_has_rows_or_too_many`.
 #![tactic(auto)]
 
 mod laws;

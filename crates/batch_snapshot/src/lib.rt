@@ -3,6 +3,20 @@
 //! A snapshot keeps its lists by rising id, its sizes within the limits, and each rider in one place
 //! only. `Points` are the distinct nodes that a snapshot names, by rising name; the layers above work
 //! with their places in that list.
+//!
+//! A caller, from the tests of `input_tests`:
+//!
+//! ```
+//! /// Whether a copy tells the same, and each node that is named stands once.
+//! fn copied(alloc: Global, snapshot: &Snapshot) -> Result<(bool, bool), OutOfMemory> {
+//!     let copy = snapshot.copy(alloc)?;
+//!     let points = snapshot.points(alloc)?;
+//!     let once = points.nodes() == [node(7), node(9)].as_slice();
+//!     Ok((copy.same(snapshot), once))
+//! }
+//! ```
+//!
+//! Main clauses: `Snapshot::points`: `points`, `most`; `Snapshot::copy`: `copy`, `kept`.
 #![tactic(auto)]
 
 mod fleet;

@@ -3,6 +3,23 @@
 //! The outcome lists exactly the vehicle-trip pairs that some order of stops serves, each at its least delay;
 //! its plan is lawful, and no lawful plan costs less than its bound. It is an overflow exactly where there
 //! are more pairs than the settings allow.
+//!
+//! A caller, shortened from the lanes of `dispatch_engine`, which seal a batch and close it:
+//!
+//! ```
+//! let SealReceipt { receipt: _, snapshot } = book.seal(rt, alloc, pass, now)?;
+//! let Some(snapshot) = snapshot else {
+//!     return Ok(());
+//! };
+//! let outcome = solve_batch(rt, alloc, &snapshot, network, ways, drafter, settings, gate)?;
+//! let close = Command::Close {
+//!     batch: snapshot.batch,
+//!     outcome,
+//! };
+//! take(rt, alloc, book, pass, close, gate)
+//! ```
+//!
+//! Main clauses: of `solve_batch` its one clause, `IsGoodOutcome`.
 #![tactic(auto)]
 
 mod late;

@@ -38,7 +38,7 @@ use worker_gate::Gate;
 /// nodes, limits, the graphs, an assignment with its bound, and moves of idle vehicles.
 ///
 /// `ways` tells the travel times of this network. The graph is grown by `settings.workers` workers, and the
-/// gate hears of each piece of that. The search follows what the drafter drafts, and judges it. The answer is an
+/// gate hears of each piece of that. The search follows what the drafter drafts by as many, and judges it. The answer is an
 /// overflow exactly where the trip graph has more rows than `settings.pairs`. It fails only for want of memory.
 pub fn solve_batch<W: Ways, D: Drafter, G: Gate>(
     rt: &(impl Threads + Sync),
@@ -86,6 +86,7 @@ fn answer_of<D: Drafter, G: Gate>(
         GraphAnswer::Overflow => Ok(Answer::Overflow),
         GraphAnswer::Graph { graph, rv, rr } => {
             let planned = planned_of(
+                rt,
                 alloc,
                 settings,
                 points,
@@ -103,6 +104,7 @@ fn answer_of<D: Drafter, G: Gate>(
 
 /// A plan of the trip graph, with all that it rests on.
 fn planned_of<D: Drafter>(
+    rt: &(impl Threads + Sync),
     alloc: Global,
     settings: &Settings,
     points: &Points,
@@ -120,7 +122,7 @@ fn planned_of<D: Drafter>(
     requires rr { IsRrGraph (travel_time times.now) settled.now rr.now }
     ensures { IfOk result (IsGoodPlan settings.now points.now (travel_time times.now) settled.entry.now) }
 {
-    let found = bounded_plan(alloc, graph, settings.budget, drafter)?;
+    let found = bounded_plan(rt, alloc, graph, settings.budget, settings.workers, drafter)?;
     let bound = bound_of(&found);
     let mut planned = unlisted(alloc, found.cost, bound, found.tree);
     let chosen = found.plan.chosen();
@@ -213,9 +215,11 @@ fn put<T: Drop>(list: &mut Sequence<T>, items: Vec<T>)
 
 /// A plan of the graph, and a bound below which no lawful plan costs.
 fn bounded_plan<D: Drafter>(
+    rt: &(impl Threads + Sync),
     alloc: Global,
     graph: &TripGraph,
     budget: u32,
+    workers: u8,
     drafter: &D,
 ) -> Result<Found, OutOfMemory>
     requires budget { 1 ≤ budget }
@@ -224,7 +228,7 @@ fn bounded_plan<D: Drafter>(
     ensures bound { IfOk result (λ found. IsBound graph.now found.bound) }
 {
     tree_value_is_a_bound();
-    search_by(alloc, graph, budget, drafter)
+    search_by(rt, alloc, graph, budget, workers, drafter)
 }
 
 /// The bound. It is a call, so that a caller knows that it is within its type's range.

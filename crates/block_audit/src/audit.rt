@@ -93,7 +93,7 @@ fn judged<W: Ways, G: Gate>(
     ways: &W,
     settings: &Settings,
     gate: &G,
-) -> Result<(Outcome, u8), OutOfMemory>
+) -> Result<(Outcome, u64), OutOfMemory>
     requires nodes { All (λ node. Contains network.now.nodes node) (named_nodes snapshot.now) }
     requires ways { W.roads ways.now ≡ network.now }
     ensures outcome { IfOk result (λ r. r.0 ≡ judged_outcome (map (λ v. v.id) snapshot.entry.now.vehicles) (told_in told)) }
@@ -118,7 +118,7 @@ fn judged<W: Ways, G: Gate>(
     }
 }
 
-fn least(one: u8, other: u8) -> u8
+fn least(one: u64, other: u64) -> u64
     ensures { result ≡ min one other }
 {
     if one < other { one } else { other }

@@ -2,6 +2,20 @@
 //!
 //! A text begins with the block of at most one good outcome of a batch, whoever printed it. It is found where there is
 //! one; else it is said what is wrong: where the text is cut or a line out of form, or the first point that fails.
+//!
+//! A caller, from the tests of `whole_calls`:
+//!
+//! ```
+//! let gate = FreeGate;
+//! let ways = NetworkWays { network };
+//! match audit_block(rt, alloc, text, snapshot, network, &ways, &settings(), &gate) {
+//!     Ok(found) => Said::Good(found.lines, found.rest.len()),
+//!     Err(refusal) => Said::Refused(refusal),
+//! }
+//! ```
+//!
+//! Main clauses: `audit_block`: `good`, `lines`, `only`, `none`, `fault`; the law
+//! `a_text_is_refused_in_one_way`.
 #![tactic(auto)]
 
 mod audit;

@@ -16,7 +16,7 @@ pub enum BlockRefusal {
     /// So many lines of the block stand, and the next can't follow.
     Form { lines: u64 },
     /// The block stands whole, and this is the first point, from 0 to 8, that fails.
-    Wrong { point: u8 },
+    Wrong { point: u64 },
 }
 
 impl From<OutOfMemory> for BlockRefusal {
@@ -39,7 +39,7 @@ pub(crate) fn refusal_of(fault: BlockFault) -> BlockRefusal
 }
 
 /// The place of the point that fails; 9 where none does.
-pub(crate) fn place_of(verdict: Verdict) -> u8
+pub(crate) fn place_of(verdict: Verdict) -> u64
     ensures { result ≡ verdict_place verdict }
 {
     match verdict {

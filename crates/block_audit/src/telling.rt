@@ -10,7 +10,7 @@ use crate::told::BlockTold;
 use report_lines::{BlockLine, LateText, RowText, TripText};
 
 /// The place of the first point of which the lines tell what none can; 9 where there is none.
-pub(crate) fn untold_place(told: &BlockTold) -> u8
+pub(crate) fn untold_place(told: &BlockTold) -> u64
     ensures { HoldUpTo (λ q. CanBeTold q (told_in told.now)) result }
 {
     if !are_short_rows(&told.rows) {

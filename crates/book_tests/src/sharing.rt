@@ -2,26 +2,15 @@
 ghost use Rattle.std.specs.Prelude.{◌≡◌, ◌<◌, vec_len};
 ghost use Rattle.seat_lock.specs.Values.{AreAllPasses};
 
-use crate::line::{ONE, TWO, book, node, vehicle_id};
+use crate::line::{ONE, TWO, book, vehicle_id};
 use crate::replying::{Ask, command};
-use pool_base::{Party, RiderId, Second};
+use pool_base::Second;
 use request_book::BookRefusal::{Ended, IsAboard};
 use request_book::{Command, Reply, Status};
 use shared_book::{Pass, SealReceipt, SharedBook};
 use std::alloc::Global;
 use std::sync::Wait;
 use std::test::Fail;
-
-// A rider asks to go from node 2 to node 4.
-fn asks() -> Command {
-    Command::Submit {
-        rider: RiderId::default(),
-        origin: node(2),
-        destination: node(4),
-        time: Second::default(),
-        party: Party::ONE,
-    }
-}
 
 // What a lane is told of a command: its position and the reply.
 fn reply_of<R: Wait>(
@@ -90,7 +79,46 @@ fn seal_reply<R: Wait>(
     Some((receipt.position, receipt.reply, counts))
 }
 
-// Each call that takes memory answers, and its reply is the step table's.
+// What a lane asks, and what it is told.
+type Step = (usize, Ask, Reply);
+
+// Whether the lanes are told so, one step behind the other.
+fn are_told<R: Wait>(
+    rt: &R,
+    alloc: Global,
+    book: &SharedBook,
+    passes: &mut Vec<Pass>,
+    steps: &[Step],
+) -> bool
+    requires { AreAllPasses book.now passes.old.items }
+    ensures { AreAllPasses book.now passes.new.items }
+{
+    for (lane, ask, reply) in steps {
+        if *lane >= passes.len() || reply_to(rt, alloc, book, passes, *lane, *ask) != Some(*reply) {
+            return false;
+        }
+    }
+    true
+}
+
+// Whether the lanes of a new book of this fleet are told so.
+fn told_so<R: Wait>(rt: &R, alloc: Global, fleet: &[u8], steps: &[Step]) -> bool {
+    let Some(book) = book(alloc, fleet) else {
+        return false;
+    };
+    let Ok((shared, mut passes)) = SharedBook::start(alloc, book, 2) else {
+        return false;
+    };
+    let told = are_told(rt, alloc, &shared, &mut passes, steps);
+    shared.finish(passes).is_ok() && told
+}
+
+const ASKED: Step = (1, Ask::Submit(1, 2, 4, 0), Reply::Accepted);
+
+const SEALED: Step = (0, Ask::Seal(0), Reply::Sealed { batch: 1 });
+
+const GIVEN: Step = (0, Ask::Give(1, 1, 1, 60), Reply::Closed);
+
 #[test]
 fn answers_with_memory(rt: HostRuntime) -> Result<(), Fail> {
     let alloc = rt.alloc();
@@ -100,8 +128,7 @@ fn answers_with_memory(rt: HostRuntime) -> Result<(), Fail> {
     let Ok((shared, mut passes)) = SharedBook::start(alloc, book, 2) else {
         panic!(rt; "no memory to start")
     };
-    let asked = reply_of(&rt, alloc, &shared, &mut passes, 1, asks());
-    assert!(rt; asked == Some((0, Reply::Accepted)));
+    assert!(rt; are_told(&rt, alloc, &shared, &mut passes, &[ASKED]));
     let sealed = seal_reply(&rt, alloc, &shared, &mut passes);
     assert!(rt; sealed == Some((1, Reply::Sealed { batch: 1 }, [1, 1, 1])));
     let Ok(book) = shared.finish(passes) else {
@@ -113,58 +140,34 @@ fn answers_with_memory(rt: HostRuntime) -> Result<(), Fail> {
 
 // Lane 1 cancels while lane 0's batch is open, so its close promises nobody anything.
 #[test]
-fn a_cancel_of_another_lane_stands(rt: HostRuntime) -> Result<(), Fail> {
-    let alloc = rt.alloc();
-    let Some(book) = book(alloc, ONE) else {
-        panic!(rt; "no memory for a book")
-    };
-    let Ok((shared, mut passes)) = SharedBook::start(alloc, book, 2) else {
-        panic!(rt; "no memory to start")
-    };
-    let asked = reply_to(&rt, alloc, &shared, &mut passes, 1, Ask::Submit(1, 2, 4, 0));
-    assert!(rt; asked == Some(Reply::Accepted));
-    let sealed = reply_to(&rt, alloc, &shared, &mut passes, 0, Ask::Seal(0));
-    assert!(rt; sealed == Some(Reply::Sealed { batch: 1 }));
-    let cancelled = reply_to(&rt, alloc, &shared, &mut passes, 1, Ask::Cancel(1));
-    assert!(rt; cancelled == Some(Reply::Cancelled));
-    let closed = reply_to(&rt, alloc, &shared, &mut passes, 0, Ask::Give(1, 1, 1, 60));
-    assert!(rt; closed == Some(Reply::Closed));
-    let again = reply_to(&rt, alloc, &shared, &mut passes, 1, Ask::Cancel(1));
+fn a_cancel_of_another_lane_stands(rt: HostRuntime) {
     let ended = Ended {
         status: Status::Cancelled,
     };
-    assert!(rt; again == Some(Reply::Refused(ended)));
-    assert!(rt; shared.finish(passes).is_ok());
-    Ok(())
+    let steps = [
+        ASKED,
+        SEALED,
+        (1, Ask::Cancel(1), Reply::Cancelled),
+        GIVEN,
+        (1, Ask::Cancel(1), Reply::Refused(ended)),
+    ];
+    assert!(rt; told_so(&rt, rt.alloc(), ONE, &steps));
 }
 
 // Lane 1 tells a pickup while lane 0's batch is open, so the rider stays aboard.
 #[test]
-fn a_pickup_of_another_lane_stands(rt: HostRuntime) -> Result<(), Fail> {
-    let alloc = rt.alloc();
-    let Some(book) = book(alloc, TWO) else {
-        panic!(rt; "no memory for a book")
-    };
-    let Ok((shared, mut passes)) = SharedBook::start(alloc, book, 2) else {
-        panic!(rt; "no memory to start")
-    };
-    let asked = reply_to(&rt, alloc, &shared, &mut passes, 1, Ask::Submit(1, 2, 4, 0));
-    assert!(rt; asked == Some(Reply::Accepted));
-    let sealed = reply_to(&rt, alloc, &shared, &mut passes, 0, Ask::Seal(0));
-    assert!(rt; sealed == Some(Reply::Sealed { batch: 1 }));
-    let closed = reply_to(&rt, alloc, &shared, &mut passes, 0, Ask::Give(1, 1, 1, 60));
-    assert!(rt; closed == Some(Reply::Closed));
-    let sealed = reply_to(&rt, alloc, &shared, &mut passes, 0, Ask::Seal(0));
-    assert!(rt; sealed == Some(Reply::Sealed { batch: 2 }));
-    let picked = reply_to(&rt, alloc, &shared, &mut passes, 1, Ask::Pickup(1, 1, 60));
-    assert!(rt; picked == Some(Reply::Picked));
-    let closed = reply_to(&rt, alloc, &shared, &mut passes, 0, Ask::Give(2, 2, 1, 60));
-    assert!(rt; closed == Some(Reply::Closed));
-    let again = reply_to(&rt, alloc, &shared, &mut passes, 1, Ask::Pickup(2, 1, 60));
+fn a_pickup_of_another_lane_stands(rt: HostRuntime) {
     let aboard = IsAboard {
         vehicle: vehicle_id(1),
     };
-    assert!(rt; again == Some(Reply::Refused(aboard)));
-    assert!(rt; shared.finish(passes).is_ok());
-    Ok(())
+    let steps = [
+        ASKED,
+        SEALED,
+        GIVEN,
+        (0, Ask::Seal(0), Reply::Sealed { batch: 2 }),
+        (1, Ask::Pickup(1, 1, 60), Reply::Picked),
+        (0, Ask::Give(2, 2, 1, 60), Reply::Closed),
+        (1, Ask::Pickup(2, 1, 60), Reply::Refused(aboard)),
+    ];
+    assert!(rt; told_so(&rt, rt.alloc(), TWO, &steps));
 }

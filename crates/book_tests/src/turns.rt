@@ -133,26 +133,6 @@ fn sixteen_lanes(rt: HostRuntime) -> Result<(), Fail> {
 }
 
 #[test]
-fn a_refused_call_leaves_no_entry(rt: HostRuntime) -> Result<(), Fail> {
-    let alloc = rt.alloc();
-    let Ok((lock, mut passes)) = SeatLock::start(alloc, Counter::new(alloc, 10, 2)?, 2) else {
-        panic!(rt; "no memory to start")
-    };
-    let first = play_one(&rt, alloc, &lock, &mut passes, 0, 13).ok_or("refused")?;
-    let second = play_one(&rt, alloc, &lock, &mut passes, 1, 9).ok_or("refused")?;
-    assert!(rt;
-        (first.position, first.reply) == (0, 3) && (second.position, second.reply) == (1, 2)
-    );
-    assert!(rt; play_one(&rt, alloc, &lock, &mut passes, 0, 1).is_none());
-    assert!(rt; play_one(&rt, alloc, &lock, &mut passes, 1, 1).is_none());
-    let Ok(counter) = lock.finish(passes) else {
-        panic!(rt; "no memory to finish")
-    };
-    assert!(rt; counter.additions.len() == 2 && counter.count == 2);
-    Ok(())
-}
-
-#[test]
 fn answers_with_memory(rt: HostRuntime) -> Result<(), Fail> {
     let alloc = rt.alloc();
     let started = SeatLock::start(alloc, Counter::new(alloc, 10, 1)?, 1);

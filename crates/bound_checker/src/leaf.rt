@@ -1,23 +1,31 @@
 //! What a leaf shows.
-ghost use Rattle.std.specs.Prelude.{◌≡◌, ◌*◌, ◌<◌, ◌≤◌, All, IfSome, length, pos, neg_ℤ, ◌≤ℤ◌};
+ghost use Rattle.std.specs.Prelude.{◌≡◌, ◌*◌, ◌<◌, ◌≤◌, ℕ, All, IfOk, IfSome, Some, None, length, pos, ◌-ℤ◌, slice_index_or, slice_set, unwrap_or};
 ghost use Rattle.plan_rules.specs.Sums.{int_sum_below, lesser};
-ghost use Rattle.plan_rules.specs.Multipliers.{usable_of, leaf_value, vehicle_term, rider_term, multiplier_sum};
+ghost use Rattle.plan_rules.specs.Multipliers.{usable_of, leaf_value, rider_term, multiplier_sum};
 ghost use Rattle.plan_rules.specs.Tree.{rounded_up};
 ghost use Rattle.plan_rules.specs.Size.{IsSmall, IsSmallSum};
-ghost use Rattle.bound_checker.specs.work.Leaf.{reduced_cost_of};
+ghost use Rattle.bound_checker.specs.work.Leaf.{AreLeast};
 
 use plan_rules::{TripGraph, TripRow};
+use pool_base::OutOfMemory;
+use std::alloc::Global;
 
 /// What the multipliers show of every plan of allowed rows, in 1/1024 second: the sum over vehicles of the
 /// least cost of an allowed row less its riders' multipliers, plus the multiplier of each rider who must be
 /// served, plus for each other rider the lesser of her multiplier and the penalty.
-pub(crate) fn leaf_value(graph: &TripGraph, allowed: &[bool], multipliers: &[i64]) -> i128
+pub(crate) fn leaf_value(
+    alloc: Global,
+    graph: &TripGraph,
+    allowed: &[bool],
+    multipliers: &[i64],
+) -> Result<i128, OutOfMemory>
     requires allowed { length allowed.now ≡ length graph.now.rows }
     requires multipliers { length multipliers.now ≡ graph.now.riders }
-    ensures value { result ≡ leaf_value graph.now (usable_of allowed.now) multipliers.now }
-    ensures small { IsSmallSum 1500 result }
+    ensures value { IfOk result (λ value. value ≡ leaf_value graph.now (usable_of allowed.now) multipliers.now) }
+    ensures small { IfOk result (IsSmallSum 1500) }
 {
-    sum_of_vehicles(graph, allowed, multipliers) + sum_of_riders(graph, multipliers)
+    let least = least_costs(alloc, graph, allowed, multipliers)?;
+    Ok(sum_of_vehicles(least.as_slice()) + sum_of_riders(graph, multipliers))
 }
 
 /// 1/1024 seconds as whole seconds, rounded up.
@@ -32,40 +40,53 @@ pub(crate) fn seconds(value: i128) -> i128
     }
 }
 
-fn sum_of_vehicles(graph: &TripGraph, allowed: &[bool], multipliers: &[i64]) -> i128
-    requires allowed { length allowed.now ≡ length graph.now.rows }
-    requires multipliers { length multipliers.now ≡ graph.now.riders }
-    ensures value { result ≡ int_sum_below graph.now.vehicles (vehicle_term graph.now (usable_of allowed.now) multipliers.now) }
-    ensures small { IsSmallSum 500 result }
-{
-    let mut sum: i128 = 0;
-    for vehicle in 0..graph.vehicle_count() {
-        sum += least_of_vehicle(graph, allowed, multipliers, vehicle);
-    }
-    sum
-}
-
-/// The least cost of an allowed row of the vehicle, less its riders' multipliers; 0 where it has none.
-fn least_of_vehicle(
+/// For each vehicle the least cost of an allowed row, less its riders' multipliers, if it has such a row. All
+/// rows are looked at once, in whatever order they stand.
+fn least_costs(
+    alloc: Global,
     graph: &TripGraph,
     allowed: &[bool],
     multipliers: &[i64],
-    vehicle: usize,
-) -> i128
+) -> Result<Vec<Option<i128>>, OutOfMemory>
     requires allowed { length allowed.now ≡ length graph.now.rows }
     requires multipliers { length multipliers.now ≡ graph.now.riders }
-    requires vehicle { vehicle < graph.now.vehicles }
-    ensures value { result ≡ vehicle_term graph.now (usable_of allowed.now) multipliers.now vehicle }
-    ensures small { IsSmall result }
+    ensures least { IfOk result (λ least. AreLeast graph.now (usable_of allowed.now) multipliers.now (length graph.now.rows) least.items) }
+    ensures few { graph.now.vehicles ≤ 500 }
 {
+    let mut least = vec![in alloc; None; graph.vehicle_count()]?;
     let rows = graph.rows();
-    let mut least: Option<i128> = None;
-    for row in graph.first_row(vehicle)..graph.first_row(vehicle + 1) {
-        if allowed[row] {
-            least = Some(lesser(least, reduced_cost(&rows[row], multipliers)));
+    for place in 0..rows.len() {
+        if allowed[place] {
+            lower(
+                &mut least,
+                rows[place].vehicle,
+                cost_left(&rows[place], multipliers),
+            );
         }
     }
-    least.unwrap_or(0)
+    Ok(least)
+}
+
+/// Lowers the number of this vehicle to this cost, where it has none or a higher one.
+fn lower(least: &mut [Option<i128>], vehicle: usize, cost: i128)
+    requires { vehicle < length least.old }
+    ensures { least.new ≡ slice_set least.old vehicle (Some (lesser (slice_index_or least.old vehicle None) cost)) }
+{
+    least[vehicle] = Some(lesser(least[vehicle], cost));
+}
+
+/// The sum of the numbers; what is missing counts as 0.
+fn sum_of_vehicles(least: &[Option<i128>]) -> i128
+    requires few { length least.now ≤ 500 }
+    requires small { (v : ℕ) → IfSome (slice_index_or least.now v None) IsSmall }
+    ensures value { result ≡ int_sum_below (length least.now) (λ v. unwrap_or (slice_index_or least.now v None) (pos 0)) }
+    ensures small { IsSmallSum 500 result }
+{
+    let mut sum: i128 = 0;
+    for cost in least {
+        sum += cost.unwrap_or(0);
+    }
+    sum
 }
 
 /// The lesser of a number that may be missing and another one.
@@ -79,29 +100,19 @@ pub(crate) fn lesser(least: Option<i128>, value: i128) -> i128
     }
 }
 
-fn reduced_cost(row: &TripRow, multipliers: &[i64]) -> i128
+/// What a row costs in 1/1024 second, less the multipliers of its riders.
+fn cost_left(row: &TripRow, multipliers: &[i64]) -> i128
     requires few { length row.now.riders.items ≤ 6 }
     requires cheap { row.now.cost ≤ 1000000000 }
     requires riders { All (λ r. r < length multipliers.now) row.now.riders.items }
-    ensures value { result ≡ reduced_cost_of row.now multipliers.now }
+    ensures value { result ≡ pos (1024 * row.now.cost) -ℤ multiplier_sum multipliers.now row.now.riders.items }
     ensures small { IsSmall result }
 {
-    1024 * row.cost as i128 - sum_of_row(multipliers, row.riders.as_slice())
-}
-
-/// The multipliers of a row's riders together.
-fn sum_of_row(multipliers: &[i64], riders: &[usize]) -> i128
-    requires few { length riders.now ≤ 6 }
-    requires riders { All (λ r. r < length multipliers.now) riders.now }
-    ensures value { result ≡ multiplier_sum multipliers.now riders.now }
-    ensures low { neg_ℤ (pos (6 * 9223372036854775808)) ≤ℤ result }
-    ensures high { result ≤ℤ pos (6 * 9223372036854775808) }
-{
-    let mut sum: i128 = 0;
-    for rider in riders {
-        sum += multipliers[*rider] as i128;
+    let mut cost = 1024 * row.cost as i128;
+    for rider in row.riders.as_slice() {
+        cost -= multipliers[*rider] as i128;
     }
-    sum
+    cost
 }
 
 fn sum_of_riders(graph: &TripGraph, multipliers: &[i64]) -> i128

@@ -40,7 +40,9 @@ impl Walk {
     {
         match node {
             Node::Branch { vehicle, row } => self.visit_branch(graph, *vehicle, *row, place),
-            Node::Leaf { multipliers } => self.visit_leaf(graph, multipliers.as_slice(), place),
+            Node::Leaf { multipliers } => {
+                self.visit_leaf(alloc, graph, multipliers.as_slice(), place)
+            }
             Node::Dead => self.visit_dead(alloc, graph, place),
         }
     }
@@ -67,6 +69,7 @@ impl Walk {
 
     fn visit_leaf(
         &mut self,
+        alloc: Global,
         graph: &TripGraph,
         multipliers: &[i64],
         place: usize,
@@ -80,7 +83,8 @@ impl Walk {
             return Err(CheckFault::BadLeaf { node: place as u64 });
         }
         mark_allowed(graph, self.decisions.as_slice(), &mut self.allowed);
-        let value = seconds(leaf_value(graph, &self.allowed, multipliers));
+        let shown = leaf_value(alloc, graph, &self.allowed, multipliers)?;
+        let value = seconds(shown);
         self.least = Some(lesser(self.least, value));
         let more = leave(&mut self.decisions)?;
         self.ended = !more;

@@ -1,4 +1,7 @@
 //! Times two calls alone: exact routing of drawn tasks, and tables of shortest times.
+//!
+//! The scripts of bench/ run it beside other programs on the same tasks and networks, and compare the sums that it prints.
+//! Nothing is proved of it but that it is safe.
 #![tactic(auto)]
 
 mod draw;

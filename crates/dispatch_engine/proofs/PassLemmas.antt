@@ -14,7 +14,7 @@ use Rattle.request_book.specs.declared.reply.Reply.TheVariants.{Accepted}
 use Rattle.rider_limits.specs.declared.settings.Settings.{Settings}
 use Rattle.road_network.specs.Roads.{Roads}
 use Rattle.seat_lock.specs.Values.{entry}
-use Rattle.seat_lock.specs.declared.logged.Entry.{Entry as Logged}
+use Rattle.seat_lock.specs.declared.logged.LoggedCall.{LoggedCall}
 use Rattle.shared_book.specs.declared.locked.LockedReply.{LockedReply}
 use Rattle.shared_book.specs.declared.shared.Receipt.{Receipt}
 use Rattle.shared_book.specs.Locked.{entry_of, is_light, sealed_by, Fits}
@@ -68,34 +68,34 @@ nothing-left (Some batch) e = absurd cc
 gained-same : (old new : BookPass) → IsSamePass old new → HasGained [] old new
 gained-same old new same = record {
   calls = same.0 ∙ sym (append-nil old.calls);
-  behind = All-nil (λ (c : ℕ × Logged Command LockedReply). old.seen ≤ c.0);
+  behind = All-nil (λ (c : ℕ × LoggedCall Command LockedReply). old.seen ≤ c.0);
   seen = same.1;
 }
 
 gained-call : (nodes : List ℕ) (old new : BookPass) (command : Command) (position : ℕ) (reply : LockedReply) → HasCalled nodes old command position reply new
     → HasGained ((position, entry old.lane command reply) ∷ []) old new
 gained-call nodes old new command position reply called =
-    let P : ℕ × Logged Command LockedReply → Type 0 = λ c. old.seen ≤ c.0 in
+    let P : ℕ × LoggedCall Command LockedReply → Type 0 = λ c. old.seen ≤ c.0 in
     record {
       calls = called.calls;
       behind = All-cons P (position, entry old.lane command reply) [] called.after (All-nil P);
       seen = (let after = called.after in let seen = called.seen in omega (arith, after, seen));
     }
 
-gained-more : (a b c : BookPass) (xs ys : List (ℕ × Logged Command LockedReply)) → HasGained xs a b → HasGained ys b c → HasGained (xs ++ ys) a c
+gained-more : (a b c : BookPass) (xs ys : List (ℕ × LoggedCall Command LockedReply)) → HasGained xs a b → HasGained ys b c → HasGained (xs ++ ys) a c
 gained-more a b c xs ys p q =
     let first = p.seen in
     let second = q.seen in
-    let P : ℕ × Logged Command LockedReply → Type 0 = λ e. a.seen ≤ e.0 in
+    let P : ℕ × LoggedCall Command LockedReply → Type 0 = λ e. a.seen ≤ e.0 in
     record {
       calls = q.calls ∙ ap (λ l. l ++ ys) p.calls ∙ append_assoc a.calls xs ys;
-      behind = All-append P xs ys p.behind (All-weaker (λ (e : ℕ × Logged Command LockedReply). b.seen ≤ e.0) P (λ e after. omega (arith, first, after)) ys q.behind);
+      behind = All-append P xs ys p.behind (All-weaker (λ (e : ℕ × LoggedCall Command LockedReply). b.seen ≤ e.0) P (λ e after. omega (arith, first, after)) ys q.behind);
       seen = omega (arith, first, second);
     }
 
 module _ (settings : Settings) (roads : Roads) where
   -- what is good though nothing was sealed before is good after any batch
-  later : (last : Option Batch) (calls : List (Logged Command LockedReply)) → LaneClosesAreGood settings roads None calls → LaneClosesAreGood settings roads last calls
+  later : (last : Option Batch) (calls : List (LoggedCall Command LockedReply)) → LaneClosesAreGood settings roads None calls → LaneClosesAreGood settings roads last calls
   later last [] good = tt
   later last (c ∷ cs) good = (here c.call good.0, by c.reply.snapshot (later last cs) good.1)
     where
@@ -112,7 +112,7 @@ module _ (settings : Settings) (roads : Roads) where
       by None rest g = rest g
       by (Some b) rest g = g
 
-  closes-append : (last : Option Batch) (xs ys : List (Logged Command LockedReply)) → LaneClosesAreGood settings roads last xs → LaneClosesAreGood settings roads None ys → LaneClosesAreGood settings roads last (xs ++ ys)
+  closes-append : (last : Option Batch) (xs ys : List (LoggedCall Command LockedReply)) → LaneClosesAreGood settings roads last xs → LaneClosesAreGood settings roads None ys → LaneClosesAreGood settings roads last (xs ++ ys)
   closes-append last [] ys p q = later last ys q
   closes-append last (x ∷ xs) ys p q = (p.0, closes-append (last_sealed last x.reply.snapshot) xs ys p.1 q)
 
@@ -158,8 +158,8 @@ module _ (settings : Settings) (roads : Roads) where
   pub runs-sealed : (nodes : List ℕ) (old between new : BookPass) (now position : ℕ) (reply : Reply) (b : Batch) (outcome : Outcome) (receipt : Receipt)
       → HasCalled nodes old (Seal now) position (with_snapshot reply (Some b)) between → HasCalledSome nodes between (Close b.number outcome) receipt new → IsGoodOutcome settings roads b outcome → HasRun settings roads (Seal now ∷ []) old new
   runs-sealed nodes old between new now position reply b outcome receipt sealed closed good =
-      let first : ℕ × Logged Command LockedReply = (position, entry old.lane (Seal now) (with_snapshot reply (Some b))) in
-      let second : ℕ × Logged Command LockedReply = (receipt.position, entry between.lane (Close b.number outcome) (with_snapshot receipt.reply closed.snapshot)) in
+      let first : ℕ × LoggedCall Command LockedReply = (position, entry old.lane (Seal now) (with_snapshot reply (Some b))) in
+      let second : ℕ × LoggedCall Command LockedReply = (receipt.position, entry between.lane (Close b.number outcome) (with_snapshot receipt.reply closed.snapshot)) in
       let second_entry : Entry = entry_of second.1 in
       record {
         more = first ∷ second ∷ [];
@@ -183,7 +183,7 @@ module _ (settings : Settings) (roads : Roads) where
   pub begun-sealed : (nodes : List ℕ) (old between new : BookPass) (now position : ℕ) (reply : Reply) (b : Batch)
       → HasCalled nodes old (Seal now) position (with_snapshot reply (Some b)) between → IsSamePass between new → HasBegun settings roads (Seal now ∷ []) old new
   begun-sealed nodes old between new now position reply b sealed same =
-      let first : ℕ × Logged Command LockedReply = (position, entry old.lane (Seal now) (with_snapshot reply (Some b))) in
+      let first : ℕ × LoggedCall Command LockedReply = (position, entry old.lane (Seal now) (with_snapshot reply (Some b))) in
       let outcome : Outcome = record { expired = []; answer = Overflow } in
       let close : Entry = record { lane = 0; command = Close b.number outcome; reply = Accepted } in
       record {
@@ -210,6 +210,6 @@ module _ (settings : Settings) (roads : Roads) where
         subst (LaneClosesAreGood settings roads None) (ap (map (λ c. c.1)) (sym calls)) p.closes,
       )
     where
-      twice : (l : List (ℕ × Logged Command LockedReply)) → map (λ c. entry_of c.1) l ≡ map entry_of (map (λ c. c.1) l)
+      twice : (l : List (ℕ × LoggedCall Command LockedReply)) → map (λ c. entry_of c.1) l ≡ map entry_of (map (λ c. c.1) l)
       twice [] = refl
       twice (c ∷ cs) = ap (λ t. entry_of c.1 ∷ t) (twice cs)

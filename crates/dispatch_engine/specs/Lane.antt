@@ -11,7 +11,7 @@ use Rattle.request_book.specs.declared.reply.Reply.TheVariants.{Closed}
 use Rattle.request_book.specs.declared.state.State.{State}
 use Rattle.rider_limits.specs.declared.settings.Settings.{Settings}
 use Rattle.road_network.specs.Roads.{Roads}
-use Rattle.seat_lock.specs.declared.logged.Entry.{Entry as Logged}
+use Rattle.seat_lock.specs.declared.logged.LoggedCall.{LoggedCall}
 use Rattle.shared_book.specs.declared.locked.LockedReply.{LockedReply}
 use Rattle.shared_book.specs.Locked.{entry_of, sealed_by}
 use Rattle.shared_book.specs.Shared.{BookPass}
@@ -47,7 +47,7 @@ last_sealed last None = last
 last_sealed last (Some b) = Some b
 
 -- the pass has gained these calls: they stand behind all that it had seen, and it has seen no less
-pub record HasGained (more : List (ℕ × Logged Command LockedReply)) (old new : BookPass) : Type 0 where
+pub record HasGained (more : List (ℕ × LoggedCall Command LockedReply)) (old new : BookPass) : Type 0 where
   pub calls : new.calls ≡ old.calls ++ more
   pub behind : All (λ c. old.seen ≤ c.0) more
   pub seen : old.seen ≤ new.seen
@@ -69,20 +69,20 @@ module _ (settings : Settings) (roads : Roads) where
   IsGoodFor last _ = Unit {0}
 
   -- each close among a lane's calls has an outcome that is good for the batch that the lane itself sealed last before it
-  abbrev pub LaneClosesAreGood : Option Batch → List (Logged Command LockedReply) → Type 0
+  abbrev pub LaneClosesAreGood : Option Batch → List (LoggedCall Command LockedReply) → Type 0
   LaneClosesAreGood last [] = Unit {0}
   LaneClosesAreGood last (c ∷ cs) = IsGoodFor last c.call × LaneClosesAreGood (last_sealed last c.reply.snapshot) cs
 
   -- the pass has gained calls that are a run of these commands, with good closes
   pub record HasRun (commands : List Command) (old new : BookPass) : Type 0 where
-    pub more : List (ℕ × Logged Command LockedReply)
+    pub more : List (ℕ × LoggedCall Command LockedReply)
     pub gained : HasGained more old new
     pub run : IsLaneRun commands (map (λ c. entry_of c.1) more)
     pub closes : LaneClosesAreGood None (map (λ c. c.1) more)
 
   -- the pass has gained calls that are a beginning of a run of these commands, with good closes
   pub record HasBegun (commands : List Command) (old new : BookPass) : Type 0 where
-    pub more : List (ℕ × Logged Command LockedReply)
+    pub more : List (ℕ × LoggedCall Command LockedReply)
     pub gained : HasGained more old new
     pub begun : IsLaneBeginning commands (map (λ c. entry_of c.1) more)
     pub closes : LaneClosesAreGood None (map (λ c. c.1) more)

@@ -23,6 +23,10 @@ IsRun settings roads s position (r ∷ rs) (j ∷ js) =
     × IsRun settings roads (state_after roads.nodes settings.wait s j.entries) (next_position position j.entries) rs js
 IsRun settings roads s position _ _ = ⊥
 
+-- the state after journals
+abbrev pub state_after_run : Settings → Roads → State → List Journal → State
+state_after_run settings roads s journals = fold (λ t j. state_after roads.nodes settings.wait t j.entries) s journals
+
 -- the position of the next entry after journals
 abbrev pub position_after_run : ℕ → List Journal → ℕ
 position_after_run position journals = fold (λ p j. next_position p j.entries) position journals

@@ -2,7 +2,7 @@
 ghost use Rattle.std.specs.Prelude.{◌≡◌, ◌<◌, true, All, IfOk, IsTrue, map, vec_len};
 ghost use Rattle.dispatch_engine.specs.work.Crew.{AreInOrder, HasWorked, IsToWork, at_rest};
 
-use crate::lane::run_commands;
+use crate::lane::run_lane;
 use crate::setup::Setup;
 use pool_base::OutOfMemory;
 use row_tables::Drafter;
@@ -74,7 +74,7 @@ fn work<W: Ways, D: Drafter, G: Gate>(
     ensures lane { lane.new.pass.lane ≡ lane.old.pass.lane }
 {
     let commands = round.lane(usize::from(lane.pass.lane()));
-    let ran = run_commands(rt, alloc, book, &mut lane.pass, commands, setup);
+    let ran = run_lane(rt, alloc, book, &mut lane.pass, commands, setup);
     lane.done = ran.is_ok();
 }
 

@@ -10,8 +10,6 @@ use crate::setup::Setup;
 use batch_solver::solve_batch;
 use pool_base::{OutOfMemory, Second};
 use request_book::Command;
-use rider_limits::Settings;
-use road_network::Network;
 use row_tables::Drafter;
 use shared_book::{Pass, SealReceipt, SharedBook};
 use std::alloc::Global;
@@ -23,43 +21,11 @@ use worker_gate::Gate;
 /// Calls the book with a lane's commands, in their order, and closes each batch that a seal put up before
 /// the next command, with an outcome that is good for it. The batch is solved while other lanes go on.
 ///
-/// `ways` tells the travel times of this network, the search follows what `drafter` drafts and judges it, and the
-/// gate hears of each receipt.
+/// The search follows what the drafter drafts and judges it, and the gate hears of each receipt.
 ///
 /// A seal stands in lane 0 alone, and no command is a close. After `OutOfMemory` the commands were taken
 /// up to some place: the pass's new calls are a beginning of such a run.
 pub fn run_lane<W: Ways, D: Drafter, G: Gate>(
-    rt: &(impl Threads + Wait + Sync),
-    alloc: Global,
-    book: &SharedBook,
-    pass: &mut Pass,
-    commands: &[Command],
-    network: &Network,
-    ways: &W,
-    drafter: &D,
-    settings: &Settings,
-    gate: &G,
-) -> Result<(), OutOfMemory>
-    requires own { IsPassOf book.now pass.old }
-    requires stand { All (MayStand pass.old.lane) commands.now }
-    requires nodes { book.now.start.nodes ≡ network.now.nodes }
-    requires ways { W.roads ways.now ≡ network.now }
-    ensures pass { IsPassOf book.now pass.new × (pass.new.lane ≡ pass.old.lane) }
-    ensures run { OnOk result (HasRun settings.now network.now commands.now pass.old pass.new) }
-    ensures begun { OnErr result (HasBegun settings.now network.now commands.now pass.old pass.new) }
-{
-    let setup = Setup {
-        network,
-        ways,
-        drafter,
-        settings,
-        gate,
-    };
-    run_commands(rt, alloc, book, pass, commands, &setup)
-}
-
-/// The same, with what a round needs together.
-pub(crate) fn run_commands<W: Ways, D: Drafter, G: Gate>(
     rt: &(impl Threads + Wait + Sync),
     alloc: Global,
     book: &SharedBook,

@@ -9,8 +9,6 @@ use crate::crew::{are_done, crew_of, passes_of, work_all};
 use crate::setup::Setup;
 use pool_base::OutOfMemory;
 use request_book::{Book, Command};
-use rider_limits::Settings;
-use road_network::Network;
 use row_tables::Drafter;
 use script_rows::Round;
 use shared_book::{Pass, SharedBook};
@@ -21,10 +19,9 @@ use travel_times::Ways;
 use worker_gate::Gate;
 
 /// Runs the lanes of a round at the same time, each on a thread of its own where one can be made, each lane's
-/// commands in their order. `ways` tells the travel times of this network, the search follows what `drafter`
-/// drafts and judges it, and the gate hears of each receipt and of each piece of growth. After each seal that
-/// puts a batch up, its lane solves the batch while the others go on, and closes it before its next
-/// command, with an outcome that is good for it.
+/// commands in their order. The search follows what the drafter drafts and judges it, and the gate hears of each
+/// receipt and of each piece of growth. After each seal that puts a batch up, its lane solves the batch while the
+/// others go on, and closes it before its next command, with an outcome that is good for it.
 ///
 /// The book handed back has the nodes, the longest wait, and the journal's first position and base of the
 /// one taken in. For want of memory the book is given up.
@@ -33,31 +30,19 @@ pub fn run_round<W: Ways, D: Drafter, G: Gate>(
     alloc: Global,
     book: Book,
     round: &Round,
-    network: &Network,
-    ways: &W,
-    drafter: &D,
-    settings: &Settings,
-    gate: &G,
+    setup: &Setup<'_, W, D, G>,
 ) -> Result<Book, OutOfMemory>
     requires empty { book.entries ≡ [] }
-    requires ready { IsReady settings.now network.now book }
-    requires ways { W.roads ways.now ≡ network.now }
-    ensures run { IfOk result (λ after. IsRoundRun settings.now network.now round.now (journal_of after)) }
+    requires ready { IsReady setup.now.settings.now setup.now.network.now book }
+    ensures run { IfOk result (λ after. IsRoundRun setup.now.settings.now setup.now.network.now round.now (journal_of after)) }
     ensures same { IfOk result (λ after. IsSameRun book after) }
     ensures kept { IfOk result IsBook }
-    ensures ready { IfOk result (IsReady settings.now network.now) }
+    ensures ready { IfOk result (IsReady setup.now.settings.now setup.now.network.now) }
 {
-    let setup = Setup {
-        network,
-        ways,
-        drafter,
-        settings,
-        gate,
-    };
     let book = with_room(book, round)?;
     let _entries = book.entries();
     match SharedBook::start(alloc, book, lanes_in_use(round)) {
-        Ok((shared, passes)) => run_shared(rt, alloc, shared, passes, round, &setup),
+        Ok((shared, passes)) => run_shared(rt, alloc, shared, passes, round, setup),
         Err(refused) => {
             drop(refused);
             Err(OutOfMemory)

@@ -6,14 +6,14 @@ use row_tables::Drafter;
 use travel_times::Ways;
 use worker_gate::Gate;
 
-/// What a round needs beside its book: the network, what tells its travel times, what drafts assignments, the
-/// settings, and the gate that hears of pieces and receipts.
+/// What all batches of a run share: the network, `ways` that tells its travel times, what drafts assignments, the
+/// settings, and the gate that hears of pieces of growth and of receipts.
 #[derive(Drop)]
-pub(crate) struct Setup<'a, W: Ways, D: Drafter, G: Gate> {
-    pub(crate) network: &'a Network,
-    pub(crate) ways: &'a W,
-    pub(crate) drafter: &'a D,
-    pub(crate) settings: &'a Settings,
-    pub(crate) gate: &'a G,
-    ghost same_roads: { W.roads ways.now ≡ network.now },
+pub struct Setup<'a, W: Ways, D: Drafter, G: Gate> {
+    pub network: &'a Network,
+    pub ways: &'a W,
+    pub drafter: &'a D,
+    pub settings: &'a Settings,
+    pub gate: &'a G,
+    pub ghost same_roads: { W.roads ways.now ≡ network.now },
 }

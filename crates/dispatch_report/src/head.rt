@@ -8,6 +8,7 @@ use crate::block::{write_number, write_words};
 use crate::fault::ReportFault;
 use crate::lines::{write_line, write_piece};
 use crate::words::put_numbered;
+use batch_snapshot::Fleet;
 use pool_base::{OutOfMemory, put_bytes};
 use pool_io::Sink;
 use rider_limits::Settings;
@@ -23,15 +24,15 @@ pub fn write_head<K: Sink>(
     sink: &mut K,
     settings: &Settings,
     network: &Network,
-    vehicles: usize,
+    fleet: &Fleet,
 ) -> Result<(), ReportFault>
-    ensures { WritesText (sink_seen K.written K.faults sink.old sink.new) (head_text settings.now network.now vehicles) result }
+    ensures { WritesText (sink_seen K.written K.faults sink.old sink.new) (head_text settings.now network.now (length fleet.now)) result }
 {
     let mut piece = Vec::new(alloc);
     write_words(sink, &mut piece, b"ridepool report 1")?;
     write_settings(sink, &mut piece, settings)?;
     write_network(sink, &mut piece, network)?;
-    write_number(sink, &mut piece, b"fleet vehicles=", vehicles as u64)?;
+    write_fleet(sink, &mut piece, fleet)?;
     write_piece(sink, &mut piece)
 }
 
@@ -55,6 +56,17 @@ fn write_network<K: Sink>(
 {
     put_network(piece, network)?;
     write_line(sink, piece)
+}
+
+fn write_fleet<K: Sink>(sink: &mut K, piece: &mut Vec<u8>, fleet: &Fleet) -> Result<(), ReportFault>
+    ensures { WritesLines (sink_seen K.written K.faults sink.old sink.new) piece.old.items piece.new.items (numbered (codes "fleet vehicles=") (length fleet.now) ∷ []) result }
+{
+    write_number(
+        sink,
+        piece,
+        b"fleet vehicles=",
+        fleet.vehicles().len() as u64,
+    )
 }
 
 fn put_settings(line: &mut Vec<u8>, settings: &Settings) -> Result<(), OutOfMemory>

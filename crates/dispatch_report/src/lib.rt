@@ -4,6 +4,29 @@
 //! Every text is a list of lines, and each call says which lines the sink has taken: all of them, or with
 //! an error a beginning that isn't the whole. Text goes out in pieces of whole lines: a piece is written as soon as
 //! it has 32 KB, and at the end of each call. No line is longer than that, so a piece has at most 64 KB.
+//!
+//! A caller, from the tests of `book_tests`:
+//!
+//! ```
+//! fn writes_head(alloc: Global) -> bool {
+//!     let Some(network) = network(alloc) else {
+//!         return false;
+//!     };
+//!     let Some(fleet) = fleet(alloc, &network) else {
+//!         return false;
+//!     };
+//!     let mut out = sink(alloc);
+//!     write_head(alloc, &mut out, &settings(), &network, &fleet).is_ok()
+//!         && out.written()
+//!             == b"ridepool report 1\n\
+//! settings wait=120 delay=180 trip=4 penalty=10000 budget=200 pairs=200000 proof=1 dwell=5\n\
+//! network nodes=2 arcs=1\n\
+//! fleet vehicles=1\n"
+//!                 .as_slice()
+//! }
+//! ```
+//!
+//! Main clauses: the one of `write_head`, of `write_round` and of `write_end`.
 #![tactic(auto)]
 
 mod block;

@@ -1,7 +1,7 @@
 //! Trees of the worked pairs that are sound, and trees whose first wrong node is named.
 use crate::worked::three_pairs;
 use bound_checker::{CheckFault, check};
-use plan_rules::{Multipliers, Node, Tree, TripGraph};
+use plan_rules::{Multipliers, Node, Tree};
 use std::alloc::{AllocError, Global};
 use std::test::Fail;
 
@@ -26,7 +26,7 @@ fn fault(outcome: Result<i128, CheckFault>) -> Option<CheckFault> {
 }
 
 #[test]
-fn sound_trees_have_their_value(rt: HostRuntime) -> Result<(), Fail> {
+fn answers_with_memory(rt: HostRuntime) -> Result<(), Fail> {
     let alloc = rt.alloc();
     let graph = three_pairs(alloc)?;
     let zeros = Tree::of(vec![in alloc; leaf(alloc, 0)?]?);
@@ -74,17 +74,5 @@ fn the_first_wrong_node_is_named(rt: HostRuntime) -> Result<(), Fail> {
         fault(check(alloc, &graph, &two)),
         Some(CheckFault::Extra { node: 1 })
     );
-    Ok(())
-}
-
-#[test]
-fn answers_with_memory(rt: HostRuntime) -> Result<(), Fail> {
-    let alloc = rt.alloc();
-    let graph = TripGraph::new(alloc, 0, 0, 100, Vec::new(alloc), Vec::new(alloc))?;
-    let none = Node::Leaf {
-        multipliers: Multipliers::of(Vec::new(alloc)),
-    };
-    let tree = Tree::of(vec![in alloc; none]?);
-    assert_eq!(rt; value(check(alloc, &graph, &tree)), Some(0));
     Ok(())
 }

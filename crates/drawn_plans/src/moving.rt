@@ -47,19 +47,10 @@ fn nobody_moves(alloc: Global) -> bool {
     }
 }
 
-#[test]
-fn nobody_is_left(rt: HostRuntime) {
-    assert!(rt; nobody_moves(rt.alloc()));
-}
-
-/// The call that takes memory.
+/// The call that takes memory. To move the nearest first takes 101 seconds in the first example.
 #[test]
 fn answers_with_memory(rt: HostRuntime) {
     assert!(rt; moves(rt.alloc(), &CROSSED, &[(0, 1), (1, 0)], 4));
-}
-
-#[test]
-fn nearest_first_is_not_best(rt: HostRuntime) {
-    assert!(rt; moves(rt.alloc(), &CROSSED, &[(0, 1), (1, 0)], 4));
     assert!(rt; moves(rt.alloc(), &ONE_RIDER, &[(0, 0)], 1));
+    assert!(rt; nobody_moves(rt.alloc()));
 }

@@ -5,7 +5,7 @@ use std::alloc::Global;
 use std::test::Fail;
 
 #[test]
-fn greedy_takes_the_first_pair(rt: HostRuntime) -> Result<(), Fail> {
+fn answers_with_memory(rt: HostRuntime) -> Result<(), Fail> {
     let alloc = rt.alloc();
     let graph = three_pairs(alloc)?;
     let plan = greedy(alloc, &graph)?;
@@ -45,72 +45,30 @@ fn refusal(outcome: Result<TripGraph, GraphFault>) -> Option<GraphFault> {
     }
 }
 
-#[test]
-fn refusals_name_the_first(rt: HostRuntime) -> Result<(), Fail> {
-    let alloc = rt.alloc();
-    let rows = vec![in alloc; row(0, &[], 0), row(0, &[1, 0], 0), row(3, &[], 0)]?;
-    let fault = refusal(graph_of(alloc, rows, Vec::new(alloc)));
-    assert_eq!(rt; fault, Some(GraphFault::Range { row: 1 }));
-    let rows = vec![in alloc;
-        row(0, &[], 0),
-        row(0, &[1], 0),
-        row(0, &[1], 0),
-        row(0, &[0], 0),
-    ]?;
-    let fault = refusal(graph_of(alloc, rows, Vec::new(alloc)));
-    assert_eq!(rt; fault, Some(GraphFault::Order { row: 2 }));
-    let held = vec![in alloc; Some(1), Some(3), Some(5)]?;
-    let fault = refusal(graph_of(alloc, pair_rows(alloc)?, held));
-    assert_eq!(rt; fault, Some(GraphFault::Held { vehicle: 1 }));
-    let held = vec![in alloc; Some(0), Some(2), Some(4), None]?;
-    let fault = refusal(graph_of(alloc, pair_rows(alloc)?, held));
-    assert_eq!(rt; fault, Some(GraphFault::Held { vehicle: 3 }));
-    Ok(())
-}
-
 /// The refusal of these rows of three vehicles, three riders and nothing held.
 fn refused_rows(alloc: Global, rows: Vec<TripRow>) -> Option<GraphFault> {
     refusal(graph_of(alloc, rows, Vec::new(alloc)))
 }
 
-#[test]
-fn ranges_are_judged_row_by_row(rt: HostRuntime) -> Result<(), Fail> {
-    let alloc = rt.alloc();
-    let rider = vec![in alloc; row(0, &[3], 0), row(3, &[], 0)]?;
-    assert_eq!(rt;
-        refused_rows(alloc, rider),
-        Some(GraphFault::Range { row: 0 })
-    );
-    let vehicle = vec![in alloc; row(0, &[], 0), row(0, &[2], 0), row(3, &[], 0)]?;
-    assert_eq!(rt;
-        refused_rows(alloc, vehicle),
-        Some(GraphFault::Range { row: 2 })
-    );
-    let twice = vec![in alloc; row(0, &[], 0), row(0, &[1, 1], 0)]?;
-    assert_eq!(rt;
-        refused_rows(alloc, twice),
-        Some(GraphFault::Range { row: 1 })
-    );
-    let dear = vec![in alloc; row(0, &[], 1_000_000_000), row(1, &[], 1_000_000_001)]?;
-    assert_eq!(rt;
-        refused_rows(alloc, dear),
-        Some(GraphFault::Range { row: 1 })
-    );
-    // A row out of range is told before one out of order that stands above it.
-    let both = vec![in alloc; row(1, &[], 0), row(0, &[], 0), row(3, &[], 0)]?;
-    assert_eq!(rt;
-        refused_rows(alloc, both),
-        Some(GraphFault::Range { row: 2 })
-    );
-    Ok(())
+/// The refusal of the pairs with these rows held.
+fn refused_held(alloc: Global, held: &[Option<u32>]) -> Result<Option<GraphFault>, Fail> {
+    let held = Vec::from_slice(alloc, held)?;
+    Ok(refusal(graph_of(alloc, pair_rows(alloc)?, held)))
 }
 
+/// A row out of range is told before one out of order that stands above it.
 #[test]
-fn answers_with_memory(rt: HostRuntime) -> Result<(), Fail> {
+fn refusals_name_the_first(rt: HostRuntime) -> Result<(), Fail> {
     let alloc = rt.alloc();
-    let empty = TripGraph::new(alloc, 0, 2, 100, Vec::new(alloc), Vec::new(alloc))?;
-    assert!(rt; greedy(alloc, &empty).is_ok());
-    let plan = held_plan(alloc, &empty)?;
-    assert_eq!(rt; cost_of(&empty, &plan), 200);
+    let rows = vec![in alloc; row(1, &[], 0), row(0, &[1, 0], 0), row(3, &[], 0)]?;
+    let fault = refused_rows(alloc, rows);
+    assert_eq!(rt; fault, Some(GraphFault::Range { row: 1 }));
+    let rows = vec![in alloc; row(0, &[], 0), row(0, &[1], 0), row(0, &[1], 0)]?;
+    let fault = refused_rows(alloc, rows);
+    assert_eq!(rt; fault, Some(GraphFault::Order { row: 2 }));
+    let fault = refused_held(alloc, &[Some(1), Some(3), Some(5)])?;
+    assert_eq!(rt; fault, Some(GraphFault::Held { vehicle: 1 }));
+    let fault = refused_held(alloc, &[Some(0), Some(2), Some(4), None])?;
+    assert_eq!(rt; fault, Some(GraphFault::Held { vehicle: 3 }));
     Ok(())
 }

@@ -3,6 +3,20 @@
 //!
 //! A leaf value is computed exactly, in whole numbers, and takes no memory; whatever an ascent tries, it
 //! keeps the best multipliers that a leaf value has judged.
+//!
+//! A caller, from the tests of `drawn_plans`:
+//!
+//! ```
+//! fn fitted(alloc: Global, graph: &TripGraph) -> Result<(Multipliers, Multipliers), OutOfMemory> {
+//!     let allowed = vec![in alloc; true; graph.rows().len()]?;
+//!     let table = RowTable::of_graph(alloc, graph)?;
+//!     let index = RiderIndex::new(alloc, graph, &table)?;
+//!     let listed = first_fit_by(alloc, graph, &index, &allowed)?;
+//!     Ok((first_fit(alloc, graph, &allowed)?, listed))
+//! }
+//! ```
+//!
+//! Main clauses: `first_fit`: `value`, `never_negative`, `worth`; `ascend`: `value`; `climb`: `value`.
 #![tactic(auto)]
 
 mod ascent;

@@ -1,23 +1,28 @@
--- Rows of travel times, one after the other.
-use Rattle.std.proofs.Common.{◌≡◌, ℕ, ◌+◌, ◌*◌, ◌<◌, ◌≤◌, List, length, slice_index, ap, ◌∙◌, subst, ⊎_elim, arith}
+-- Cells of a table, row by row.
+use Rattle.std.proofs.Common.{◌≡◌, ℕ, ◌+◌, ◌*◌, ◌/◌, ◌%◌, ◌<◌, ◌≤◌, List, length, slice_index, ap, ◌∙◌, subst, ⊎_elim, arith}
+use Rattle.std.proofs.Math.Nat.{mul-le-mul_right, div-mul-le_self}
 use Rattle.std.proofs.lemmas.Bool.{cases_lt}
-use Rattle.std.proofs.lemmas.Nat.{mul-add-lt}
-use Rattle.road_network.specs.Roads.{Roads}
+use Rattle.std.proofs.lemmas.Nat.{mul-add-lt, div-mul-add, mod-mul-add}
+use Rattle.road_network.specs.declared.arc.Arc.{Arc}
 use Rattle.road_network.specs.Walk.{IsTimeBetween}
-use Rattle.hub_labels.specs.Labels.{NodeLabels, AreLabelsOf}
-use Rattle.hub_labels.specs.work.Cells.{PushesTimes}
+use Rattle.hub_labels.specs.work.Cells.{AreCells}
 
-pub rows_more : (labels : NodeLabels) (points : List ℕ) (row : ℕ) (before after : List ℕ) → length before ≡ row * length points
-    → ((roads : Roads) → AreLabelsOf roads labels → (i j : ℕ) → i < row → j < length points → IsTimeBetween roads.arcs (slice_index points i) (slice_index points j) (slice_index before (i * length points + j)))
-    → PushesTimes labels (slice_index points row) points (length points) before after
-    → (roads : Roads) → AreLabelsOf roads labels → (i j : ℕ) → i < row + 1 → j < length points → IsTimeBetween roads.arcs (slice_index points i) (slice_index points j) (slice_index after (i * length points + j))
-rows_more labels points row before after size so_far pushed roads of i j hi hj = ⊎_elim
-    (λ (earlier : i < row).
-    let place : i * length points + j < length points * row = mul-add-lt i (length points) j row earlier hj in
-    rw (pushed.kept (i * length points + j) (omega arith)) (so_far roads of i j earlier hj))
-    (λ (late : row ≤ i).
-    let is : row ≡ i = omega arith in
-    let at : length before + j ≡ i * length points + j = ap (λ (x : ℕ). x + j) (size ∙ ap (λ (x : ℕ). x * length points) is) in
-    subst (λ (k : ℕ). IsTimeBetween roads.arcs (slice_index points i) (slice_index points j) (slice_index after k)) at
-    (subst (λ (r : ℕ). IsTimeBetween roads.arcs (slice_index points r) (slice_index points j) (slice_index after (length before + j))) is (pushed.times roads of j hj)))
-    (cases_lt i row)
+-- a cell stands in one of the rows
+pub row_within : (n cell : ℕ) → cell < n * n → cell / n < n
+row_within n cell lt = ⊎_elim
+    (λ (h : cell / n < n). h)
+    (λ (h : n ≤ cell / n). let low : cell / n * n ≤ cell = div-mul-le_self cell n in let high : n * n ≤ cell / n * n = mul-le-mul_right n h in absurd (omega arith))
+    (cases_lt (cell / n) n)
+
+-- the cell in row i and column j has the time between these points
+pub times_of_cells : (arcs : List Arc) (points cells : List ℕ) → length cells ≡ length points * length points → AreCells arcs points 0 cells
+    → (i j : ℕ) → i < length points → j < length points → IsTimeBetween arcs (slice_index points i) (slice_index points j) (slice_index cells (i * length points + j))
+times_of_cells arcs points cells size are i j hi hj =
+    let n : ℕ = length points in
+    let inside : i * length points + j < length points * length points = mul-add-lt i (length points) j (length points) hi hj in
+    let front : 0 + (i * length points + j) ≡ i * length points + j = omega arith in
+    let row : (0 + (i * length points + j)) / length points ≡ i = ap (λ x. x / length points) front ∙ div-mul-add i (length points) j hj in
+    let column : (0 + (i * length points + j)) % length points ≡ j = ap (λ x. x % length points) front ∙ mod-mul-add i (length points) j hj in
+    subst (λ r. IsTimeBetween arcs (slice_index points r) (slice_index points j) (slice_index cells (i * length points + j))) row
+    (subst (λ c. IsTimeBetween arcs (slice_index points ((0 + (i * length points + j)) / length points)) (slice_index points c) (slice_index cells (i * length points + j))) column
+    (are (i * length points + j) (omega (arith, size, inside))))

@@ -20,10 +20,61 @@ pub record IsMerging (forward backward : List Hub) (i j best : ℕ) : Type 0 whe
   pub passed : (x y : ℕ) → x < length forward → y < length backward → (x < i) ⊎ (y < j) → (get_or forward x no_hub).node ≡ (get_or backward y no_hub).node
       → best ≤ (get_or forward x no_hub).seconds + (get_or backward y no_hub).seconds
 
+-- a later hub is of no lower rank
+no_lower : {rank : List ℕ} {label : List Hub} → IsRising rank label → (i x : ℕ) → x < length label → i ≤ x → slice_index rank (get_or label i no_hub).node ≤ slice_index rank (get_or label x no_hub).node
+no_lower {rank} {label} rises i x within le = ⊎_elim
+    (λ (e : i ≡ x). subst (λ (k : ℕ). slice_index rank (get_or label i no_hub).node ≤ slice_index rank (get_or label k no_hub).node) e (omega arith))
+    (λ (ne : i ≢ x). let less : slice_index rank (get_or label i no_hub).node < slice_index rank (get_or label x no_hub).node = rises.rising i x no_hub (omega arith) within in omega arith)
+    (cases_eq i x)
+
+-- one of two was passed before, or the first is at the place that is passed now
+passed_or_here : (x y i j : ℕ) → (x < i + 1) ⊎ (y < j) → ((x < i) ⊎ (y < j)) ⊎ ((i ≡ x) × (j ≤ y))
+passed_or_here x y i j either = ⊎_elim
+    (λ (a : x < i). inl (inl a))
+    (λ (a : i ≤ x). ⊎_elim
+    (λ (b : y < j). inl (inr b))
+    (λ (b : j ≤ y). inr (⊎_elim (λ (lt : x < i + 1). let e : i ≡ x = omega arith in e) (λ (lt : y < j). absurd (omega arith)) either, b))
+    (cases_lt y j))
+    (cases_lt x i)
+
 module _ {rank : List ℕ} {forward backward : List Hub} (ahead : IsRising rank forward) (back : IsRising rank backward) {i j best : ℕ} (so_far : IsMerging forward backward i j best) (hi : i < length forward) (hj : j < length backward) where
   -- nodes of equal hubs have one rank
   same_rank : (x y : ℕ) → (get_or forward x no_hub).node ≡ (get_or backward y no_hub).node → slice_index rank (get_or forward x no_hub).node ≡ slice_index rank (get_or backward y no_hub).node
   same_rank x y e = ap (slice_index rank) e
+
+  -- the hub ahead has the lower rank
+  pub merge_ahead : slice_index rank (get_or forward i no_hub).node < slice_index rank (get_or backward j no_hub).node → IsMerging forward backward (i + 1) j best
+  merge_ahead less = record {
+    i_within = omega arith;
+    j_within = so_far.j_within;
+    most = so_far.most;
+    given = so_far.given;
+    passed = λ x y hx hy either e. ⊎_elim
+        (λ (before : (x < i) ⊎ (y < j)). so_far.passed x y hx hy before e)
+        (λ (here : (i ≡ x) × (j ≤ y)).
+        let same : slice_index rank (get_or forward x no_hub).node ≡ slice_index rank (get_or backward y no_hub).node = same_rank x y e in
+        let low : slice_index rank (get_or forward x no_hub).node < slice_index rank (get_or backward j no_hub).node = subst (λ (k : ℕ). slice_index rank (get_or forward k no_hub).node < slice_index rank (get_or backward j no_hub).node) here.0 less in
+        let high : slice_index rank (get_or backward j no_hub).node ≤ slice_index rank (get_or backward y no_hub).node = no_lower back j y hy here.1 in
+        absurd (omega arith))
+        (passed_or_here x y i j either);
+  }
+
+  -- the hub behind has the lower rank
+  pub merge_back : slice_index rank (get_or backward j no_hub).node < slice_index rank (get_or forward i no_hub).node → IsMerging forward backward i (j + 1) best
+  merge_back less = record {
+    i_within = so_far.i_within;
+    j_within = omega arith;
+    most = so_far.most;
+    given = so_far.given;
+    passed = λ x y hx hy either e. ⊎_elim
+        (λ (before : (y < j) ⊎ (x < i)). so_far.passed x y hx hy (⊎_elim (λ b. inr b) (λ b. inl b) before) e)
+        (λ (here : (j ≡ y) × (i ≤ x)).
+        let same : slice_index rank (get_or forward x no_hub).node ≡ slice_index rank (get_or backward y no_hub).node = same_rank x y e in
+        let low : slice_index rank (get_or backward y no_hub).node < slice_index rank (get_or forward i no_hub).node = subst (λ (k : ℕ). slice_index rank (get_or backward k no_hub).node < slice_index rank (get_or forward i no_hub).node) here.0 less in
+        let high : slice_index rank (get_or forward i no_hub).node ≤ slice_index rank (get_or forward x no_hub).node = no_lower ahead i x hx here.1 in
+        absurd (omega arith))
+        (passed_or_here y x j i (⊎_elim (λ b. inr b) (λ b. inl b) either));
+  }
 
   -- it is one hub of both
   pub merge_both : (least : ℕ) → ((a b : ℕ) → a < length rank → b < length rank → slice_index rank a ≡ slice_index rank b → a ≡ b) → slice_index rank (get_or backward j no_hub).node ≤ slice_index rank (get_or forward i no_hub).node → slice_index rank (get_or forward i no_hub).node ≤ slice_index rank (get_or backward j no_hub).node

@@ -1,5 +1,5 @@
 -- Steps of a pruned search.
-use Rattle.std.proofs.Common.{◌≡◌, ◌≢◌, ℕ, ◌+◌, ◌<◌, ◌≤◌, ◌⊎◌, Bool, true, false, List, [], ◌∷◌, ◌++◌, length, get_or, slice_index, All, Contains, refl, sym, ap, ◌∙◌, subst, inl, inr, ⊎_elim, arith}
+use Rattle.std.proofs.Common.{◌≡◌, ◌≢◌, ℕ, ◌+◌, ◌<◌, ◌≤◌, ◌⊎◌, Bool, true, List, [], ◌∷◌, ◌++◌, length, get_or, slice_index, All, Contains, refl, sym, ap, ◌∙◌, subst, inl, inr, ⊎_elim, arith}
 use Rattle.std.proofs.lemmas.Bool.{cases_eq, true≢false}
 use Rattle.std.proofs.lemmas.List.Elements.{All-contains, Contains-append_left, Contains-push}
 use Rattle.pool_base.specs.TravelTime.{never, longest}
@@ -7,7 +7,8 @@ use Rattle.road_network.specs.declared.arc.Arc.{Arc}
 use Rattle.road_network.specs.declared.hop.Hop.{Hop}
 use Rattle.road_network.specs.Walk.{IsWalk, walk_seconds}
 use Rattle.road_network.specs.Roads.{IsArcAmong, hop_of}
-use Rattle.travel_times.specs.lemmas.Search.{waits, HasWalkOf, IsNextTaken, IsHopRelaxed, RelaxesHops}
+use Rattle.travel_times.specs.Search.{waits, IsNextTaken, IsHopRelaxed, RelaxesHops}
+use Rattle.travel_times.specs.lemmas.Search.{HasWalkOf}
 use Rattle.travel_times.proofs.lemmas.WalkLemmas.{IsWalk-push, walk_seconds-push}
 use Rattle.hub_labels.specs.declared.hub.Hub.{Hub}
 use Rattle.hub_labels.specs.work.Hops.{arc_from, AreHopsOf}

@@ -8,7 +8,8 @@ use Rattle.road_network.specs.declared.arc.Arc.{Arc}
 use Rattle.road_network.specs.declared.hop.Hop.{Hop}
 use Rattle.road_network.specs.Walk.{IsWalk, walk_seconds, IsLeastTime, IsTimeBetween}
 use Rattle.road_network.specs.Roads.{IsArcAmong, hop_of, leaving}
-use Rattle.travel_times.specs.lemmas.Search.{waits, work_left, IsSearching, IsNextTaken, RelaxesHops}
+use Rattle.travel_times.specs.Search.{waits, work_left, IsNextTaken, RelaxesHops}
+use Rattle.travel_times.specs.lemmas.Search.{IsSearching}
 use Rattle.travel_times.proofs.lemmas.WalkLemmas.{IsWalk-append, walk_seconds-append, short_walk}
 use Rattle.travel_times.proofs.lemmas.SearchLemmas.{RelaxesHops-take, RelaxesHops-skip, IsSearching-start, IsSearching-step, IsNextTaken-set, IsTimeBetween-settled, hops_among, none_waits}
 

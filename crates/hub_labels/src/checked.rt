@@ -5,8 +5,8 @@ ghost use Rattle.hub_labels.specs.Labels.{AreLabelsOf};
 ghost use Rattle.hub_labels.specs.work.Difference.{IsFirstDifference};
 
 use crate::fault::LabelFault;
-use crate::hub::Hub;
-use crate::label::Label;
+use crate::hub::{Hub, ShortHub};
+use crate::label::{Label, ShortLabel};
 use crate::labels::Labels;
 use road_network::Network;
 use std::alloc::Global;
@@ -44,7 +44,7 @@ impl Labels {
 }
 
 /// The first place at which two lists of labels differ.
-fn first_difference(labels: &[Label], others: &[Label]) -> Option<usize>
+fn first_difference(labels: &[ShortLabel], others: &[Label]) -> Option<usize>
     requires { length labels.now ≡ length others.now }
     ensures some { IfSome result (IsFirstDifference labels.now others.now) }
     ensures none { IfNone result (labels.now ≡ others.now) }
@@ -58,8 +58,16 @@ fn first_difference(labels: &[Label], others: &[Label]) -> Option<usize>
 }
 
 /// Whether two labels have the same hubs in the same order.
-fn are_same(label: &[Hub], other: &[Hub]) -> bool
+fn are_same(label: &[ShortHub], other: &[Hub]) -> bool
     ensures { IsTrue result ↔ label.now ≡ other.now }
 {
-    label == other
+    if label.len() != other.len() {
+        return false;
+    }
+    for place in 0..label.len() {
+        if label[place].hub() != other[place] {
+            return false;
+        }
+    }
+    true
 }

@@ -2,12 +2,12 @@
 ghost use Rattle.std.specs.Prelude.{◌≡◌, ℕ, ◌<◌, length, slice_index};
 ghost use Rattle.hub_labels.specs.work.Common.{IsLeastInCommon, IsRising};
 
-use crate::hub::Hub;
+use crate::hub::ShortHub;
 use pool_base::Times;
 
 /// The least sum of seconds over the hubs that two labels have in common, and `NEVER` where they have none: a merge of
 /// the two by rank.
-pub(crate) fn least_in_common(rank: &[u32], forward: &[Hub], backward: &[Hub]) -> u32
+pub(crate) fn least_in_common(rank: &[u32], forward: &[ShortHub], backward: &[ShortHub]) -> u32
     requires apart { (a b : ℕ) → a < length rank.now → b < length rank.now → slice_index rank.now a ≡ slice_index rank.now b → a ≡ b }
     requires forward { IsRising rank.now forward.now }
     requires backward { IsRising rank.now backward.now }
@@ -19,14 +19,14 @@ pub(crate) fn least_in_common(rank: &[u32], forward: &[Hub], backward: &[Hub]) -
     while i < forward.len() && j < backward.len() {
         let ahead = forward[i];
         let back = backward[j];
-        let near = rank[ahead.node];
-        let far = rank[back.node];
+        let near = rank[ahead.node()];
+        let far = rank[back.node()];
         if near < far {
             i += 1;
         } else if far < near {
             j += 1;
         } else {
-            best = best.min(ahead.seconds + back.seconds);
+            best = best.min(ahead.seconds() + back.seconds());
             i += 1;
             j += 1;
         }

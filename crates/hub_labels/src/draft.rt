@@ -3,8 +3,8 @@ ghost use Rattle.std.specs.Prelude.{◌≡◌, ◌≢◌, ℕ, ◌<◌, [], All,
 ghost use Rattle.pool_base.specs.TravelTime.{never};
 ghost use Rattle.hub_labels.specs.work.Drafts.{GainsHub, HandsOver};
 
-use crate::hub::Hub;
-use crate::label::Label;
+use crate::hub::{Hub, ShortHub};
+use crate::label::ShortLabel;
 use crate::via::is_told;
 use pool_base::{OutOfMemory, Times};
 
@@ -15,7 +15,7 @@ pub(crate) fn hand_over(
     taken: &[u32],
     via: &[u32],
     seconds: &mut [u32],
-    labels: &mut [Label],
+    labels: &mut [ShortLabel],
 ) -> Result<(), OutOfMemory>
     requires few { start < 100000 }
     requires labels { length labels.old ≡ length seconds.old }
@@ -36,7 +36,7 @@ fn hand_over_one(
     node: usize,
     via: &[u32],
     seconds: &mut [u32],
-    labels: &mut [Label],
+    labels: &mut [ShortLabel],
 ) -> Result<(), OutOfMemory>
     requires few { start < 100000 }
     requires labels { length labels.old ≡ length seconds.old }
@@ -56,8 +56,8 @@ fn hand_over_one(
     if is_told(labels[node].as_slice(), via, found) {
         return Ok(());
     }
-    labels[node].push(Hub {
+    labels[node].push(ShortHub::of(Hub {
         node: start,
         seconds: found,
-    })
+    }))
 }

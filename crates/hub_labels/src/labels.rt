@@ -5,14 +5,15 @@ ghost use Rattle.hub_labels.specs.Labels.{AreLabelsOf, label_at};
 
 use crate::common::least_in_common;
 use crate::hops::{hops_ahead, hops_back};
-use crate::hub::Hub;
-use crate::label::Label;
+use crate::hub::ShortHub;
+use crate::label::ShortLabel;
 use crate::rank::{nodes_by_rank, ranks_of};
 use crate::space::{Space, add_hub};
 use pool_base::{OutOfMemory, Times};
 use road_network::Network;
 use std::alloc::Global;
 use std::marker::Model;
+use worker_gate::{FreeGate, Gate};
 
 /// The hub labels of a road network. Contracts see the hubs of each node, by index: those that it reaches, and those that
 /// reach it.
@@ -20,8 +21,8 @@ use std::marker::Model;
 pub struct Labels {
     /// By node: its rank.
     rank: Vec<u32>,
-    forward: Vec<Label>,
-    backward: Vec<Label>,
+    forward: Vec<ShortLabel>,
+    backward: Vec<ShortLabel>,
 }
 
 impl Model for Labels {
@@ -40,6 +41,17 @@ impl Labels {
     pub fn build(alloc: Global, network: &Network) -> Result<Labels, OutOfMemory>
         ensures { IfOk result (AreLabelsOf network.now) }
     {
+        Labels::build_watched(alloc, network, &FreeGate)
+    }
+
+    /// The same. A gate hears at times how far it is, and at the end that all nodes are labelled.
+    pub fn build_watched<G: Gate>(
+        alloc: Global,
+        network: &Network,
+        gate: &G,
+    ) -> Result<Labels, OutOfMemory>
+        ensures { IfOk result (AreLabelsOf network.now) }
+    {
         let nodes = network.node_count();
         let order = nodes_by_rank(alloc, network)?;
         let rank = ranks_of(alloc, nodes, &order)?;
@@ -48,10 +60,13 @@ impl Labels {
         let mut forward = no_labels(alloc, nodes)?;
         let mut backward = no_labels(alloc, nodes)?;
         let mut space = Space::new(alloc, nodes)?;
+        let mut labelled = 0usize;
         for node in order.as_slice() {
             let start = *node as usize;
             add_hub(&mut space, &ahead, &forward, &mut backward, start)?;
             add_hub(&mut space, &back, &backward, &mut forward, start)?;
+            labelled = labelled.saturating_add(1);
+            tell(gate, labelled, &forward, &backward);
         }
         Ok(Labels {
             rank,
@@ -76,7 +91,7 @@ impl Labels {
     }
 
     /// The hubs that a node reaches, by rank, with the seconds to them.
-    pub fn forward(&self, a: usize) -> &[Hub]
+    pub fn forward(&self, a: usize) -> &[ShortHub]
         requires { a < length self.now.forward }
         ensures { result.now ≡ label_at self.now.forward a }
     {
@@ -84,20 +99,20 @@ impl Labels {
     }
 
     /// The hubs that reach a node, by rank, with the seconds from them.
-    pub fn backward(&self, b: usize) -> &[Hub]
+    pub fn backward(&self, b: usize) -> &[ShortHub]
         requires { b < length self.now.backward }
         ensures { result.now ≡ label_at self.now.backward b }
     {
         self.backward[b].as_slice()
     }
 
-    pub(crate) fn forward_labels(&self) -> &[Label]
+    pub(crate) fn forward_labels(&self) -> &[ShortLabel]
         ensures { result.now ≡ self.now.forward }
     {
         self.forward.as_slice()
     }
 
-    pub(crate) fn backward_labels(&self) -> &[Label]
+    pub(crate) fn backward_labels(&self) -> &[ShortLabel]
         ensures { result.now ≡ self.now.backward }
     {
         self.backward.as_slice()
@@ -132,13 +147,31 @@ impl Labels {
     }
 }
 
+/// Tells the gate how many nodes are labelled, at each 64th and at the last.
+fn tell<G: Gate>(gate: &G, labelled: usize, forward: &[ShortLabel], backward: &[ShortLabel]) {
+    let all = forward.len();
+    if labelled % 64 == 0 || labelled == all {
+        let bytes = bytes_of(forward).saturating_add(bytes_of(backward));
+        gate.labelled(labelled, all, bytes);
+    }
+}
+
+/// How many bytes the hubs of these labels take.
+fn bytes_of(labels: &[ShortLabel]) -> u64 {
+    let mut bytes = 0u64;
+    for label in labels {
+        bytes = bytes.saturating_add(label.bytes());
+    }
+    bytes
+}
+
 /// As many nodes without hubs.
-fn no_labels(alloc: Global, nodes: usize) -> Result<Vec<Label>, OutOfMemory>
+fn no_labels(alloc: Global, nodes: usize) -> Result<Vec<ShortLabel>, OutOfMemory>
     ensures { IfOk result (λ labels. labels.items ≡ replicate nodes []) }
 {
     let mut labels = Vec::with_capacity(alloc, nodes)?;
     for _ in 0..nodes {
-        labels.push(Label::empty(alloc))?;
+        labels.push(ShortLabel::empty(alloc))?;
     }
     Ok(labels)
 }

@@ -34,12 +34,11 @@ mod labels;
 mod rank;
 mod search;
 mod space;
-mod take;
 mod via;
 mod ways;
 
 pub use fault::LabelFault;
-pub use hub::Hub;
+pub use hub::{Hub, ShortHub};
 pub use label::Label;
 pub use labels::Labels;
 pub use ways::LabelWays;

@@ -2,25 +2,21 @@
 ghost use Rattle.std.specs.Prelude.{◌≡◌, ℕ, ◌+◌, ◌<◌, ◌≤◌, false, [], All, Contains, OnOk, length, slice_index, slice_index_or};
 ghost use Rattle.pool_base.specs.TravelTime.{longest, never};
 ghost use Rattle.road_network.specs.Roads.{IsArcAmong};
-ghost use Rattle.travel_times.specs.lemmas.Search.{RelaxesHops, waits};
+ghost use Rattle.travel_times.specs.Search.{RelaxesHops, waits};
 ghost use Rattle.hub_labels.specs.work.Hops.{AreNodeHops};
 ghost use Rattle.hub_labels.specs.work.Pruned.{IsPruned};
 
 use crate::hops::NodeHops;
-use crate::label::Label;
-use crate::take::next_waiting;
+use crate::label::ShortLabel;
 use crate::via::is_told;
-use pool_base::OutOfMemory;
-use travel_times::{Ring, ShortHop};
-
-/// No travel time is longer: a shortest walk has at most 99,999 arcs of 10,000 seconds.
-const LONGEST: u32 = 1_000_000_000;
+use pool_base::{OutOfMemory, Times};
+use travel_times::{Ring, next_near, relax};
 
 /// Finds the least seconds from a node to every node that no common hub of lower rank joins to it, and notes each node
 /// that it takes.
 pub(crate) fn search(
     hops: &[NodeHops],
-    labels: &[Label],
+    labels: &[ShortLabel],
     via: &[u32],
     start: usize,
     seconds: &mut [u32],
@@ -43,41 +39,13 @@ pub(crate) fn search(
     seconds[start] = 0;
     waiting[start] = true;
     ring.push(start as u32, 0)?;
-    while let Some(node) = next_waiting(ring, waiting) {
+    while let Some(node) = next_near(ring, waiting, seconds, Times::NEVER) {
         let here = seconds[node];
         taken.push(node as u32)?;
         if is_told(labels[node].as_slice(), via, here) {
             continue;
         }
         relax(hops[node].as_slice(), here, seconds, waiting, ring)?;
-    }
-    Ok(())
-}
-
-/// Relaxes the arcs of a node: where one gives fewer seconds, these are noted, and the node at its end waits.
-fn relax(
-    hops: &[ShortHop],
-    here: u32,
-    seconds: &mut [u32],
-    waiting: &mut [bool],
-    ring: &mut Ring,
-) -> Result<(), OutOfMemory>
-    requires few { length seconds.old ≤ 100000 }
-    requires lengths { length waiting.old ≡ length seconds.old }
-    requires short { here ≤ longest }
-    requires hops { All (λ hop. (hop.to < length seconds.old) × (hop.seconds ≤ 10000)) hops.now }
-    ensures relaxes { OnOk result (RelaxesHops hops.now (length hops.now) here seconds.old waiting.old seconds.new waiting.new) }
-    ensures seconds_length { length seconds.new ≡ length seconds.old }
-    ensures waiting_length { length waiting.new ≡ length waiting.old }
-{
-    for hop in hops {
-        let to = hop.to();
-        let through = here + hop.seconds();
-        if through < seconds[to] && through <= LONGEST {
-            seconds[to] = through;
-            waiting[to] = true;
-            ring.push(to as u32, through)?;
-        }
     }
     Ok(())
 }

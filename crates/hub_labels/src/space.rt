@@ -6,7 +6,7 @@ ghost use Rattle.hub_labels.specs.work.Hops.{AreNodeHops};
 
 use crate::draft::hand_over;
 use crate::hops::NodeHops;
-use crate::label::Label;
+use crate::label::ShortLabel;
 use crate::search::search;
 use crate::via::{clear, spread};
 use pool_base::{OutOfMemory, Times};
@@ -47,8 +47,8 @@ impl Space {
 pub(crate) fn add_hub(
     space: &mut Space,
     hops: &[NodeHops],
-    own: &[Label],
-    labels: &mut [Label],
+    own: &[ShortLabel],
+    labels: &mut [ShortLabel],
     start: usize,
 ) -> Result<(), OutOfMemory>
     requires clean { IsClean (length hops.now) space.old.seconds.items space.old.waiting.items space.old.taken.items space.old.via.items }

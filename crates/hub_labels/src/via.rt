@@ -4,38 +4,38 @@ ghost use Rattle.pool_base.specs.TravelTime.{never};
 ghost use Rattle.hub_labels.specs.work.Drafts.{HasSpread, IsAmongHubs};
 ghost use Rattle.hub_labels.specs.work.Pruned.{IsTold};
 
-use crate::hub::Hub;
+use crate::hub::ShortHub;
 use pool_base::Times;
 
 /// Writes the seconds of each hub at its node.
-pub(crate) fn spread(label: &[Hub], via: &mut [u32])
+pub(crate) fn spread(label: &[ShortHub], via: &mut [u32])
     requires within { All (λ hub. hub.node < length via.old) label.now }
     requires none { All (λ seconds. seconds ≡ never) via.old }
     ensures { HasSpread label.now (length label.now) via.new }
 {
     for hub in label {
-        via[hub.node] = hub.seconds;
+        via[hub.node()] = hub.seconds();
     }
 }
 
 /// Takes back what `spread` wrote.
-pub(crate) fn clear(label: &[Hub], via: &mut [u32])
+pub(crate) fn clear(label: &[ShortHub], via: &mut [u32])
     requires within { All (λ hub. hub.node < length via.old) label.now }
     requires among { (node : ℕ) → node < length via.old → IsAmongHubs label.now 0 via.old node }
     ensures { All (λ seconds. seconds ≡ never) via.new }
 {
     for hub in label {
-        via[hub.node] = Times::NEVER;
+        via[hub.node()] = Times::NEVER;
     }
 }
 
 /// Whether a hub of the label, with the seconds to it that `via` has, tells of a way of at most so many seconds.
-pub(crate) fn is_told(label: &[Hub], via: &[u32], most: u32) -> bool
+pub(crate) fn is_told(label: &[ShortHub], via: &[u32], most: u32) -> bool
     requires { All (λ hub. hub.node < length via.now) label.now }
     ensures { IsTrue result ↔ IsTold label.now via.now most }
 {
     for hub in label {
-        if u64::from(via[hub.node]) + u64::from(hub.seconds) <= u64::from(most) {
+        if u64::from(via[hub.node()]) + u64::from(hub.seconds()) <= u64::from(most) {
             return true;
         }
     }

@@ -1,17 +1,20 @@
 //! Travel times from labels.
-ghost use Rattle.std.specs.Prelude.{◌≡◌, ℕ, ◌+◌, ◌*◌, ◌<◌, ◌≤◌, All, IfOk, OnOk, length, slice_index};
+ghost use Rattle.std.specs.Prelude.{◌≡◌, ℕ, ◌+◌, ◌*◌, ◌<◌, ◌≤◌, All, IfOk, length};
 ghost use Rattle.road_network.specs.Roads.{Roads};
-ghost use Rattle.road_network.specs.Walk.{IsTimeBetween};
 ghost use Rattle.hub_labels.specs.Labels.{AreLabelsOf};
-ghost use Rattle.hub_labels.specs.work.Cells.{PushesTimes};
+ghost use Rattle.hub_labels.specs.work.Cells.{AreCells};
 
 use crate::labels::Labels;
 use pool_base::{NodeId, OutOfMemory, Times};
+use rayon::prelude::*;
 use road_network::Network;
 use std::alloc::Global;
 use std::marker::Model;
 use std::thread::Threads;
 use travel_times::{Ways, indexes_of, table_of_times};
+
+/// A table of fewer cells stays on one thread.
+const FEW: usize = 4_096;
 
 /// The travel times of a network by its labels: each cell of a table is looked up. Contracts see it as the network.
 #[derive(Drop)]
@@ -46,44 +49,72 @@ impl Ways for LabelWays<'_> {
 
     fn table<R: Threads + Sync>(
         &self,
-        _rt: &R,
+        rt: &R,
         alloc: Global,
         nodes: &[NodeId],
     ) -> Result<Times, OutOfMemory> {
         let points = indexes_of(alloc, self.network, nodes)?;
-        let cells = cells_between(alloc, &self.labels, &points)?;
+        let cells = cells_between(rt, alloc, &self.labels, &points)?;
         Ok(table_of_times(self.network, &points, cells))
     }
 }
 
-/// The cells of the table, row by row.
-fn cells_between(alloc: Global, labels: &Labels, points: &[usize]) -> Result<Vec<u32>, OutOfMemory>
+/// The cells of the table, row by row, each written where it stays. The rows are shared among threads.
+fn cells_between(
+    rt: &(impl Threads + Sync),
+    alloc: Global,
+    labels: &Labels,
+    points: &[usize],
+) -> Result<Vec<u32>, OutOfMemory>
     requires known { All (λ point. point < length labels.now.forward) points.now }
     requires few { length points.now ≤ 12500 }
     ensures size { IfOk result (λ cells. length cells.items ≡ length points.entry.now * length points.entry.now) }
-    ensures times { IfOk result (λ cells. (roads : Roads) → AreLabelsOf roads labels.entry.now → (i j : ℕ) → i < length points.entry.now → j < length points.entry.now → IsTimeBetween roads.arcs (slice_index points.entry.now i) (slice_index points.entry.now j) (slice_index cells.items (i * length points.entry.now + j))) }
+    ensures times { IfOk result (λ cells. (roads : Roads) → AreLabelsOf roads labels.entry.now → AreCells roads.arcs points.entry.now 0 cells.items) }
 {
-    let mut cells = Vec::with_capacity(alloc, points.len() * points.len())?;
-    for from in points {
-        push_row(&mut cells, labels, *from, points)?;
-    }
+    let count = points.len() * points.len();
+    let mut cells = vec![in alloc; Times::NEVER; count]?;
+    let piece = if count < FEW { FEW } else { points.len() };
+    write_table(rt, labels, points, piece, &mut cells);
     Ok(cells)
 }
 
-/// Appends the seconds from a node to each of the points.
-fn push_row(
-    cells: &mut Vec<u32>,
+/// Writes the cells of a table, so many in one piece of work.
+fn write_table(
+    rt: &(impl Threads + Sync),
     labels: &Labels,
-    from: usize,
     points: &[usize],
-) -> Result<(), OutOfMemory>
+    piece: usize,
+    cells: &mut [u32],
+)
     requires known { All (λ point. point < length labels.now.forward) points.now }
-    requires from { from < length labels.now.forward }
-    ensures { OnOk result (PushesTimes labels.entry.now from points.entry.now (length points.entry.now) cells.old.items cells.new.items) }
+    requires few { length points.now ≤ 12500 }
+    requires piece { 0 < piece }
+    requires size { length cells.old ≡ length points.now * length points.now }
+    ensures { (roads : Roads) → AreLabelsOf roads labels.entry.now → AreCells roads.arcs points.entry.now 0 cells.new }
+{
+    par_chunks_mut_for_each(
+        rt,
+        cells,
+        piece,
+        |start: usize, cells: &mut [u32]|
+            requires { All (λ point. point < length labels.now.forward) points.now × (length points.now ≤ 12500) × (start + length cells.now ≤ length points.now * length points.now) }
+            ensures { (length cells.new ≡ length cells.old) × ((roads : Roads) → AreLabelsOf roads labels.entry.now → AreCells roads.arcs points.entry.now start cells.new) }
+        { write_cells(labels, points, start, cells) },
+    );
+}
+
+/// Writes the cells from `start` on of a table.
+fn write_cells(labels: &Labels, points: &[usize], start: usize, cells: &mut [u32])
+    requires known { All (λ point. point < length labels.now.forward) points.now }
+    requires few { length points.now ≤ 12500 }
+    requires within { start + length cells.old ≤ length points.now * length points.now }
+    ensures size { length cells.new ≡ length cells.old }
+    ensures times { (roads : Roads) → AreLabelsOf roads labels.entry.now → AreCells roads.arcs points.entry.now start cells.new }
 {
     let _nodes = labels.len();
-    for to in points {
-        cells.push(labels.time(from, *to))?;
+    let count = points.len();
+    for place in 0..cells.len() {
+        let cell = start + place;
+        cells[place] = labels.time(points[cell / count], points[cell % count]);
     }
-    Ok(())
 }

@@ -1,13 +1,9 @@
-//! Worked inputs: numbers, streams and rows, networks, fleets, words, snapshots and made workloads.
+//! Each call of the crates from `pool_base` to `made_inputs` that takes memory, once, and the edges to std's streams. What
+//! files show of inputs, the cases of tests/ compare.
 //!
-//! It has tests alone, of the crates from `pool_base` to `made_inputs`, so that a crate under test is proved once and not
-//! a second time with its tests.
+//! It has tests alone, so that a crate under test is proved once and not a second time with its tests.
 #![tactic(auto)]
 
-#[cfg(test)]
-mod fleets;
-#[cfg(test)]
-mod loads;
 #[cfg(test)]
 mod made;
 #[cfg(test)]

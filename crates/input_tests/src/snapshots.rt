@@ -15,16 +15,6 @@ fn rider_id(name: u64) -> RiderId {
     RiderId::new(name).unwrap_or(RiderId::default())
 }
 
-fn empty_snapshot(alloc: Global, batch: u64) -> Snapshot {
-    Snapshot {
-        batch,
-        now: Second::default(),
-        vehicles: Sequence::empty(alloc),
-        riders: Sequence::empty(alloc),
-        expired: Sequence::empty(alloc),
-    }
-}
-
 /// A batch of this vehicle with nobody aboard, this rider, and one whose wait ended.
 fn one_of_each(
     alloc: Global,
@@ -95,13 +85,5 @@ fn answers_with_memory(rt: HostRuntime) -> Result<(), Fail> {
     assert_eq!(rt; copied(rt.alloc(), &batch)?, (true, true));
     let vehicles = copied_vehicles(rt.alloc(), batch.vehicles.as_slice())?;
     assert_eq!(rt; vehicles.len(), 1);
-    Ok(())
-}
-
-#[test]
-fn batches_of_other_numbers_differ(rt: HostRuntime) -> Result<(), Fail> {
-    let third = empty_snapshot(rt.alloc(), 3);
-    assert!(rt; third.same(&empty_snapshot(rt.alloc(), 3)));
-    assert!(rt; !third.same(&empty_snapshot(rt.alloc(), 4)));
     Ok(())
 }

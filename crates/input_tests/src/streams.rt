@@ -1,8 +1,6 @@
-ghost use Rattle.std.specs.Prelude.{◌≡◌};
-
 use pool_io::{
-    MemorySink, MemorySource, PlainSink, PlainSource, ReadAll, Rows, Sink, StdSink, StdSource,
-    WriteAll, read_all, rows, write_all,
+    MemorySink, MemorySource, PlainSink, PlainSource, ReadAll, Sink, StdSink, StdSource, WriteAll,
+    read_all, write_all,
 };
 use std::alloc::{AllocError, Global};
 use std::test::Fail;
@@ -61,49 +59,6 @@ fn reads_up_to_the_limit_in_short_reads(rt: HostRuntime) -> Result<(), Fail> {
     let mut none = PlainSource::new(Vec::new(rt.alloc()));
     assert_eq!(rt; read_all(rt.alloc(), &mut none, 0)?.len(), 0);
     Ok(())
-}
-
-#[test]
-fn a_planned_read_fails_and_ends_the_reading(rt: HostRuntime) -> Result<(), Fail> {
-    let mut fail = Vec::new(rt.alloc());
-    fail.push(1)?;
-    let mut source = MemorySource::new(owned(rt.alloc(), b"abcdef")?, 4, fail);
-    let refused = read_all(rt.alloc(), &mut source, 16);
-    assert!(rt; matches!(refused, Err(ReadAll::ReadFault)));
-    Ok(())
-}
-
-#[test]
-fn writes_all_in_short_writes_and_a_part_before_a_failure(rt: HostRuntime) -> Result<(), Fail> {
-    let mut sink = MemorySink::new(rt.alloc(), 2, Vec::new(rt.alloc()));
-    write_all(&mut sink, b"abcdefg")?;
-    assert_eq!(rt; sink.written(), b"abcdefg".as_slice());
-    let mut fail = Vec::new(rt.alloc());
-    fail.push(2)?;
-    let mut failing = MemorySink::new(rt.alloc(), 2, fail);
-    let refused = write_all(&mut failing, b"abcdefg");
-    assert!(rt; matches!(refused, Err(WriteAll::WriteFault)));
-    assert_eq!(rt; failing.written(), b"abcd".as_slice());
-    Ok(())
-}
-
-fn has_fields(table: &Rows, row: usize, first: &[u8], second: &[u8]) -> bool
-    requires { table.now.columns ≡ 2 }
-{
-    row < table.len() && table.field(row, 0) == first && table.field(row, 1) == second
-}
-
-#[test]
-fn rows_follow_csv(rt: HostRuntime) {
-    let text = b"\xEF\xBB\xBF\"from\",to\r\n1,\"2,\"\"3\"\"\"\r\r\n\n , x ";
-    match rows(rt.alloc(), text, b"from,to") {
-        Ok(table) => {
-            assert_eq!(rt; table.len(), 2);
-            assert!(rt; has_fields(&table, 0, b"1", b"2,\"3\""));
-            assert!(rt; has_fields(&table, 1, b" ", b" x "));
-        }
-        Err(_) => assert!(rt; false),
-    }
 }
 
 #[test]

@@ -2,6 +2,23 @@
 //!
 //! Multipliers come out of it that nobody has to trust: a leaf value judges them. Numbers are in fixed
 //! point, so that each machine does the same.
+//!
+//! A caller, from the tests of `drawn_plans`:
+//!
+//! ```
+//! fn relaxed(alloc: Global, graph: &TripGraph) -> Result<(i128, usize), OutOfMemory> {
+//!     let allowed = vec![in alloc; true; graph.rows().len()]?;
+//!     let table = RowTable::of_graph(alloc, graph)?;
+//!     let mut relaxation = Relaxation::new(alloc, &table, graph.held())?;
+//!     relaxation.solve(&table, i64::MAX, 20, 10)?;
+//!     let mut shares: Vec<Share> = Vec::new(alloc);
+//!     relaxation.find_shares(&table, &mut shares)?;
+//!     let multipliers = relaxation.multipliers(alloc, graph.rider_count())?;
+//!     Ok((leaf_value(graph, &allowed, &multipliers), shares.len()))
+//! }
+//! ```
+//!
+//! Main clauses: none, only what safety needs.
 #![tactic(auto)]
 
 mod relaxation;

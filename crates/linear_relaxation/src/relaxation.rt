@@ -133,6 +133,21 @@ impl Relaxation {
         Ok(relaxation)
     }
 
+    /// Another one over the same pool, which starts at this plan, as the first one does.
+    pub fn beside(
+        &self,
+        alloc: Global,
+        table: &RowTable,
+        start: &[Option<u32>],
+    ) -> Result<Self, OutOfMemory> {
+        let mut relaxation = Relaxation::new(alloc, table, start)?;
+        for place in 0..self.pool.len() {
+            let row = self.pool.row(place);
+            relaxation.pool.add(table, row, at(&self.row_costs, row))?;
+        }
+        Ok(relaxation)
+    }
+
     fn begin(&mut self, table: &RowTable, start: &[Option<u32>]) -> Result<(), OutOfMemory> {
         self.basis.make_space(table)?;
         self.basis.begin(table, start)?;

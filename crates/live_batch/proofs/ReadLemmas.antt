@@ -2,13 +2,12 @@
 use Rattle.std.proofs.Common.{◌≡◌, ℕ, List, [], ◌∷◌, ◌++◌, map, Option, None, Some, refl, sym, ap, subst, ◌∙◌, append_assoc, append-nil}
 use Rattle.std.specs.Prelude.{Bool, Result, Ok, Err, IfOk, IsTrue, IsFalse, false}
 use Rattle.batch_snapshot.specs.Batch.{Batch}
-use Rattle.dispatch_report.specs.Written.{SinkView}
 use Rattle.dispatch_report.specs.declared.fault.ReportFault.{ReportFault}
 use Rattle.request_book.specs.Book.{BookView}
 use Rattle.rider_limits.specs.declared.settings.Settings.{Settings}
 use Rattle.road_network.specs.Roads.{Roads}
 use Rattle.seat_lock.specs.Values.{GainsCalls}
-use Rattle.live_desk.specs.Desk.{desk_log, desk_root, DeskView, IsDesk}
+use Rattle.live_desk.specs.Desk.{desk_log, desk_root, DeskView, IsDesk, Outputs}
 use Rattle.live_batch.specs.Phase.{desk_after, HasClosed, IsOpenRun}
 use Rattle.std.specs.Result.{is_err}
 use Rattle.std.proofs.lemmas.Bool.{false≢true}
@@ -17,7 +16,7 @@ use Rattle.std.proofs.lemmas.List.Elements.{All-nil, All-push}
 use Rattle.live_desk.specs.declared.desk.LaneCommand.{LaneCommand}
 use Rattle.shared_book.specs.declared.locked.LockedReply.{LockedReply}
 use Rattle.seat_lock.specs.Values.{PassValue}
-use Rattle.seat_lock.specs.declared.logged.Entry.{Entry}
+use Rattle.seat_lock.specs.declared.logged.LoggedCall.{LoggedCall}
 use Rattle.script_rows.specs.declared.line.Line.{Line}
 use Rattle.live_batch.specs.declared.read_on.Halt.{Halt}
 use Rattle.live_batch.specs.declared.read_on.Halt.TheVariants as stop
@@ -36,17 +35,17 @@ takes-more (Some all) (Some mid) (Some end) xs ys f g = f ∙ ap (λ l. xs ++ l)
 
 -- nothing yet
 pub run-none : (round : ℕ) (old : Option (List Line)) {B : Type 0} (p : PassValue B LaneCommand LockedReply) → p.calls ≡ [] → HasRun round old old p
-run-none round old p none = record { run = []; going = All-nil (GoesOn round); called = ap (λ (cs : List (ℕ × Entry LaneCommand LockedReply)). map (λ c. c.1.call) cs) none; taken = takes-none old }
+run-none round old p none = record { run = []; going = All-nil (GoesOn round); called = ap (λ (cs : List (ℕ × LoggedCall LaneCommand LockedReply)). map (λ c. c.1.call) cs) none; taken = takes-none old }
 
 -- one more row
-pub run-more : (round : ℕ) (old now next : Option (List Line)) {B : Type 0} (p q : PassValue B LaneCommand LockedReply) (line : Line) (call : ℕ × Entry LaneCommand LockedReply)
+pub run-more : (round : ℕ) (old now next : Option (List Line)) {B : Type 0} (p q : PassValue B LaneCommand LockedReply) (line : Line) (call : ℕ × LoggedCall LaneCommand LockedReply)
     → HasRun round old now p → TakesRows now next (line ∷ []) → GoesOn round line → q.calls ≡ p.calls ++ call ∷ [] → call.1.call ≡ row_command line → HasRun round old next q
 run-more round old now next p q line call so_far taken may calls is = record {
   run = so_far.run ++ line ∷ [];
   going = All-push (GoesOn round) so_far.run line so_far.going may;
   called =
-      ap (λ (cs : List (ℕ × Entry LaneCommand LockedReply)). map (λ c. c.1.call) cs) calls
-      ∙ map-append (λ (c : ℕ × Entry LaneCommand LockedReply). c.1.call) p.calls (call ∷ [])
+      ap (λ (cs : List (ℕ × LoggedCall LaneCommand LockedReply)). map (λ c. c.1.call) cs) calls
+      ∙ map-append (λ (c : ℕ × LoggedCall LaneCommand LockedReply). c.1.call) p.calls (call ∷ [])
       ∙ ap (λ (l : List LaneCommand). l ++ call.1.call ∷ []) so_far.called
       ∙ ap (λ (c : LaneCommand). map row_command so_far.run ++ c ∷ []) is
       ∙ sym (map-append row_command so_far.run (line ∷ []));
@@ -96,7 +95,7 @@ pub no-calls : {B : Type 0} (p q : PassValue B LaneCommand LockedReply) → q.ca
 no-calls p q same round old now so_far = record {
   run = so_far.run;
   going = so_far.going;
-  called = ap (λ (cs : List (ℕ × Entry LaneCommand LockedReply)). map (λ c. c.1.call) cs) same ∙ so_far.called;
+  called = ap (λ (cs : List (ℕ × LoggedCall LaneCommand LockedReply)). map (λ c. c.1.call) cs) same ∙ so_far.called;
   taken = so_far.taken;
 }
 
@@ -123,7 +122,7 @@ open-run settings roads b round old new got after held start closed end first se
 }
 
 -- a desk whose parts are known
-pub desk-is : (d : DeskView) (start book : BookView) (proof : Bool) (opened from now : SinkView) (fault : Option ReportFault)
+pub desk-is : (d : DeskView) (start book : BookView) (proof : Bool) (opened from now : Outputs) (fault : Option ReportFault)
     → d ≡ record { book = book; proof = d.proof; opened = opened; now = now; fault = fault } → d.proof ≡ proof → opened ≡ from
     → d ≡ desk_after start proof from book now fault
 desk-is d start book proof opened from now fault parts told is = parts ∙ (λ i. record { book = book; proof = told i; opened = is i; now = now; fault = fault })

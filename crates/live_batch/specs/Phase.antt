@@ -1,5 +1,5 @@
 -- What the two threads do while a batch is open.
-use Rattle.live_desk.specs.Desk.{desk_log, desk_root, pass_of, DeskView, IsDesk}
+use Rattle.live_desk.specs.Desk.{desk_log, desk_root, pass_of, DeskView, IsDesk, Outputs}
 use Rattle.std.specs.Prelude.{◌≡◌, ◌≢◌, ℕ, ◌≤◌, ◌==◌, Bool, true, false, filter, IsTrue, IsFalse, List, [], ◌∷◌, ◌++◌, map, Option, None, Some, All, ⊤}
 use Rattle.batch_snapshot.specs.Batch.{Batch}
 use Rattle.pool_io.specs.Faults.{Rose}
@@ -10,7 +10,6 @@ use Rattle.request_book.specs.declared.outcome.Outcome.{Outcome}
 use Rattle.rider_limits.specs.declared.settings.Settings.{Settings}
 use Rattle.road_network.specs.Roads.{Roads}
 use Rattle.seat_lock.specs.Values.{PassValue, GainsCalls}
-use Rattle.dispatch_report.specs.Written.{SinkView}
 use Rattle.dispatch_report.specs.declared.fault.ReportFault.{ReportFault}
 use Rattle.request_book.specs.Book.{BookView}
 use Rattle.shared_book.specs.declared.locked.LockedReply.{LockedReply}
@@ -83,7 +82,8 @@ pub record HasRun {B : Type 0} (round : ℕ) (old now : Option (List Line)) (p :
   pub called : commands_in p ≡ map row_command run
   pub taken : TakesRows old now run
 
--- what came of a book and a sink while a batch was open: what two passes called, in one history, which is written
+-- what came of a book, a sink and notifiers while a batch was open: what two passes called, in one history, which is
+-- written and whose notices were told
 pub record IsOpenRun (settings : Settings) (roads : Roads) (b : Batch) (round : ℕ) (old new : Option (List Line)) (start after : DeskView) (closed : Bool) (end : Halt) : Type 0 where
   pub desk : IsDesk after
   pub root : desk_root after ≡ desk_root start
@@ -96,7 +96,7 @@ pub record IsOpenRun (settings : Settings) (roads : Roads) (b : Batch) (round : 
   pub read : HasReadOn round old new second end
 
 -- a desk after a batch
-abbrev pub desk_after : BookView → Bool → SinkView → BookView → SinkView → Option ReportFault → DeskView
+abbrev pub desk_after : BookView → Bool → Outputs → BookView → Outputs → Option ReportFault → DeskView
 desk_after start proof opened book now fault = record { book = book; proof = proof; opened = opened; now = now; fault = fault }
 
 -- an entry's command with its lane
@@ -120,8 +120,8 @@ pub record RanRows (round : ℕ) (old new : Option (List Line)) (commands : List
   pub called : commands ≡ map row_command run
   pub taken : TakesRun end old new run
 
--- what came of a book and a sink while a batch was open, in one history, which is written: lane 0 closed it, and the rows
--- of other lanes were run
+-- what came of a book, a sink and notifiers while a batch was open, in one history, which is written and whose notices
+-- were told: lane 0 closed it, and the rows of other lanes were run
 pub record HasRunOpen (settings : Settings) (roads : Roads) (b : Batch) (round : ℕ) (old new : Option (List Line)) (start after : DeskView) (closed : Bool) (end : Halt) : Type 0 where
   pub desk : IsDesk after
   pub root : desk_root after ≡ desk_root start

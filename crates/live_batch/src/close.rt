@@ -5,11 +5,11 @@ ghost use Rattle.live_batch.specs.Phase.{HasClosed};
 
 use batch_snapshot::Snapshot;
 use batch_solver::solve_batch;
+use dispatch_engine::Setup;
 use live_desk::{Desk, LaneCommand, Opening};
 use pool_io::Sink;
 use request_book::Command;
-use rider_limits::Settings;
-use road_network::Network;
+use rider_notices::Notifier;
 use row_tables::Drafter;
 use seat_lock::{Pass, SeatLock};
 use std::alloc::Global;
@@ -19,29 +19,32 @@ use travel_times::Ways;
 use worker_gate::Gate;
 
 /// Solves the batch and closes it, and says whether it did.
-pub(crate) fn close_batch<K: Sink, J: Opening, W: Ways, D: Drafter, G: Gate>(
+pub(crate) fn close_batch<K: Sink, N: Notifier, J: Opening, W: Ways, D: Drafter, G: Gate>(
     rt: &(impl Threads + Wait + Sync),
     alloc: Global,
-    lock: &SeatLock<Desk<K, J>>,
-    mut pass: Pass<Desk<K, J>>,
+    lock: &SeatLock<Desk<K, N, J>>,
+    mut pass: Pass<Desk<K, N, J>>,
     snapshot: &Snapshot,
-    network: &Network,
-    ways: &W,
-    drafter: &D,
-    settings: &Settings,
-    gate: &G,
-) -> (Pass<Desk<K, J>>, bool)
+    setup: &Setup<'_, W, D, G>,
+) -> (Pass<Desk<K, N, J>>, bool)
     requires own { IsPassOf lock.now pass }
     requires lane { (pass.lane ≡ 0) × (pass.calls ≡ []) }
-    requires nodes { All (λ node. Contains network.now.nodes node) (named_nodes snapshot.now) }
-    requires ways { W.roads ways.now ≡ network.now }
+    requires nodes { All (λ node. Contains setup.now.network.now.nodes node) (named_nodes snapshot.now) }
     ensures own { IsPassOf lock.now result.0 }
     ensures lane { result.0.lane ≡ 0 }
-    ensures closed { IsTrue result.1 → HasClosed settings.now network.now snapshot.entry.now result.0 }
+    ensures closed { IsTrue result.1 → HasClosed setup.now.settings.now setup.now.network.now snapshot.entry.now result.0 }
     ensures none { IsFalse result.1 → result.0.calls ≡ [] }
 {
-    let Ok(outcome) = solve_batch(rt, alloc, snapshot, network, ways, drafter, settings, gate)
-    else {
+    let Setup {
+        network,
+        ways,
+        drafter,
+        settings,
+        gate,
+    } = setup;
+    let Ok(outcome) = solve_batch(
+        rt, alloc, snapshot, network, *ways, *drafter, settings, *gate,
+    ) else {
         return (pass, false);
     };
     let close = LaneCommand {

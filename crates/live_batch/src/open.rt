@@ -1,7 +1,5 @@
-ghost use Rattle.std.specs.Prelude.{◌≡◌, ◌<◌, ◌^◌, [], ◌∷◌, All, Contains, None, IsOk, IsTrue, IsFalse, IfOk, IfErr, vec_capacity};
-ghost use Rattle.dispatch_report.specs.Written.{SinkView};
-ghost use Rattle.request_book.specs.Book.{BookView};
-ghost use Rattle.live_desk.specs.Desk.{DeskView, desk_log, desk_root};
+ghost use Rattle.std.specs.Prelude.{◌≡◌, ◌<◌, [], ◌∷◌, All, Contains, IsTrue, IsFalse, vec_capacity};
+ghost use Rattle.live_desk.specs.Desk.{desk_log, desk_root};
 ghost use Rattle.batch_snapshot.specs.Points.{named_nodes};
 ghost use Rattle.seat_lock.specs.Values.{AreAllPasses, GainsCalls, IsNew, IsPassOf};
 ghost use Rattle.live_batch.specs.Phase.{FaultsFrom, HasClosed, HasReadOn, IsHeldBack};
@@ -9,11 +7,11 @@ ghost use Rattle.live_batch.specs.Phase.{FaultsFrom, HasClosed, HasReadOn, IsHel
 use crate::close::close_batch;
 use crate::read_on::{Halt, read_on};
 use batch_snapshot::Snapshot;
+use dispatch_engine::Setup;
 use live_desk::{Desk, Opening};
 use live_rows::RowSource;
 use pool_io::Sink;
-use rider_limits::Settings;
-use road_network::Network;
+use rider_notices::Notifier;
 use row_tables::Drafter;
 use seat_lock::{Pass, SeatLock};
 use std::alloc::Global;
@@ -24,20 +22,20 @@ use travel_times::Ways;
 use worker_gate::Gate;
 
 /// The reader's part, with what it was lent.
-pub(crate) struct Reading<K: Sink, J: Opening, L> {
-    pub(crate) pass: Pass<Desk<K, J>>,
+pub(crate) struct Reading<K: Sink, N: Notifier, J: Opening, L> {
+    pub(crate) pass: Pass<Desk<K, N, J>>,
     pub(crate) lines: L,
     pub(crate) stop: Halt,
 }
 
-fn read_lines<K: Sink, J: Opening, L: RowSource>(
+fn read_lines<K: Sink, N: Notifier, J: Opening, L: RowSource>(
     rt: &impl Wait,
     alloc: Global,
-    lock: &SeatLock<Desk<K, J>>,
-    mut pass: Pass<Desk<K, J>>,
+    lock: &SeatLock<Desk<K, N, J>>,
+    mut pass: Pass<Desk<K, N, J>>,
     mut lines: L,
     round: u32,
-) -> Reading<K, J, L>
+) -> Reading<K, N, J, L>
     requires own { IsPassOf lock.now pass }
     requires lane { (pass.lane ≡ 1) × (pass.calls ≡ []) }
     requires last { L.last lines ≡ round }
@@ -54,6 +52,7 @@ fn read_lines<K: Sink, J: Opening, L: RowSource>(
 /// Solves the batch that is open in one thread, and goes on with the rows in this one.
 pub(crate) fn work_both<
     K: Sink + Send,
+    N: Notifier + Send,
     J: Opening + Send + Sync,
     L: RowSource + Send + Drop,
     W: Ways,
@@ -62,42 +61,33 @@ pub(crate) fn work_both<
 >(
     rt: &(impl Threads + Wait + Sync),
     alloc: Global,
-    lock: &SeatLock<Desk<K, J>>,
-    first: Pass<Desk<K, J>>,
-    second: Pass<Desk<K, J>>,
+    lock: &SeatLock<Desk<K, N, J>>,
+    passes: (Pass<Desk<K, N, J>>, Pass<Desk<K, N, J>>),
     lines: L,
     round: u32,
     snapshot: &Snapshot,
-    network: &Network,
-    ways: &W,
-    drafter: &D,
-    settings: &Settings,
-    gate: &G,
-) -> ((Pass<Desk<K, J>>, bool), Reading<K, J, L>)
-    requires first { IsPassOf lock.now first × (first.lane ≡ 0) × (first.calls ≡ []) }
-    requires second { IsPassOf lock.now second × (second.lane ≡ 1) × (second.calls ≡ []) }
+    setup: &Setup<'_, W, D, G>,
+) -> ((Pass<Desk<K, N, J>>, bool), Reading<K, N, J, L>)
+    requires first { IsPassOf lock.now passes.0 × (passes.0.lane ≡ 0) × (passes.0.calls ≡ []) }
+    requires second { IsPassOf lock.now passes.1 × (passes.1.lane ≡ 1) × (passes.1.calls ≡ []) }
     requires last { L.last lines ≡ round }
-    requires nodes { All (λ node. Contains network.now.nodes node) (named_nodes snapshot.now) }
-    requires ways { W.roads ways.now ≡ network.now }
+    requires nodes { All (λ node. Contains setup.now.network.now.nodes node) (named_nodes snapshot.now) }
     ensures own { IsPassOf lock.now result.0.0 × IsPassOf lock.now result.1.pass }
     ensures lanes { (result.0.0.lane ≡ 0) × (result.1.pass.lane ≡ 1) }
-    ensures closed { IsTrue result.0.1 → HasClosed settings.now network.now snapshot.entry.now result.0.0 }
+    ensures closed { IsTrue result.0.1 → HasClosed setup.now.settings.now setup.now.network.now snapshot.entry.now result.0.0 }
     ensures none { IsFalse result.0.1 → result.0.0.calls ≡ [] }
     ensures read { HasReadOn round (L.to_come lines) (L.to_come result.1.lines) result.1.pass result.1.stop }
     ensures held { IsHeldBack round (L.last result.1.lines) result.1.stop }
     ensures faults { FaultsFrom result.1.stop (L.faults lines) (L.faults result.1.lines) }
 {
+    let (first, second) = passes;
     thread::join(
         rt,
-        move || -> (Pass<Desk<K, J>>, bool)
-            requires { IsPassOf lock.now first × (first.lane ≡ 0) × (first.calls ≡ []) × All (λ node. Contains network.now.nodes node) (named_nodes snapshot.now) × (W.roads ways.now ≡ network.now) }
-            ensures { IsPassOf lock.entry.now result.0 × (result.0.lane ≡ 0) × (IsTrue result.1 → HasClosed settings.entry.now network.entry.now snapshot.entry.now result.0) × (IsFalse result.1 → result.0.calls ≡ []) }
-        {
-            close_batch(
-                rt, alloc, lock, first, snapshot, network, ways, drafter, settings, gate,
-            )
-        },
-        move || -> Reading<K, J, L>
+        move || -> (Pass<Desk<K, N, J>>, bool)
+            requires { IsPassOf lock.now first × (first.lane ≡ 0) × (first.calls ≡ []) × All (λ node. Contains setup.now.network.now.nodes node) (named_nodes snapshot.now) }
+            ensures { IsPassOf lock.entry.now result.0 × (result.0.lane ≡ 0) × (IsTrue result.1 → HasClosed setup.entry.now.settings.now setup.entry.now.network.now snapshot.entry.now result.0) × (IsFalse result.1 → result.0.calls ≡ []) }
+        { close_batch(rt, alloc, lock, first, snapshot, setup) },
+        move || -> Reading<K, N, J, L>
             requires { IsPassOf lock.now second × (second.lane ≡ 1) × (second.calls ≡ []) × (L.last lines ≡ round) }
             ensures { IsPassOf lock.entry.now result.pass × (result.pass.lane ≡ 1) × HasReadOn round (L.to_come lines) (L.to_come result.lines) result.pass result.stop × IsHeldBack round (L.last result.lines) result.stop × FaultsFrom result.stop (L.faults lines) (L.faults result.lines) }
         { read_lines(rt, alloc, lock, second, lines, round) },
@@ -105,10 +95,10 @@ pub(crate) fn work_both<
 }
 
 // The two passes of a lock of two lanes.
-pub(crate) fn two_of<K: Sink, J: Opening>(
-    lock: &SeatLock<Desk<K, J>>,
-    mut passes: Vec<Pass<Desk<K, J>>>,
-) -> (Pass<Desk<K, J>>, Pass<Desk<K, J>>)
+pub(crate) fn two_of<K: Sink, N: Notifier, J: Opening>(
+    lock: &SeatLock<Desk<K, N, J>>,
+    mut passes: Vec<Pass<Desk<K, N, J>>>,
+) -> (Pass<Desk<K, N, J>>, Pass<Desk<K, N, J>>)
     requires lanes { lock.now.lanes ≡ 2 }
     requires passes { AreAllPasses lock.now passes.items }
     requires fresh { All IsNew passes.items }
@@ -125,12 +115,12 @@ pub(crate) fn two_of<K: Sink, J: Opening>(
 }
 
 // The desk, once both passes are back.
-pub(crate) fn finish<K: Sink, J: Opening>(
-    lock: SeatLock<Desk<K, J>>,
-    mut passes: Vec<Pass<Desk<K, J>>>,
-    first: Pass<Desk<K, J>>,
-    second: Pass<Desk<K, J>>,
-) -> Desk<K, J>
+pub(crate) fn finish<K: Sink, N: Notifier, J: Opening>(
+    lock: SeatLock<Desk<K, N, J>>,
+    mut passes: Vec<Pass<Desk<K, N, J>>>,
+    first: Pass<Desk<K, N, J>>,
+    second: Pass<Desk<K, N, J>>,
+) -> Desk<K, N, J>
     requires lanes { lock.lanes ≡ 2 }
     requires room { (passes.items ≡ []) × (vec_capacity passes ≡ 2) }
     requires first { IsPassOf lock first × (first.lane ≡ 0) }

@@ -5,6 +5,7 @@ ghost use Rattle.live_batch.specs.Phase.{FaultsFrom, HasReadOn, IsHeldBack};
 use live_desk::{Desk, LaneCommand, Opening};
 use live_rows::{LineFault, RowSource};
 use pool_io::Sink;
+use rider_notices::Notifier;
 use script_rows::Line;
 use seat_lock::{Pass, SeatLock};
 use std::alloc::Global;
@@ -24,11 +25,11 @@ pub enum Halt {
 }
 
 /// Reads rows and runs them, until a row of lane 0 or of another round comes.
-pub(crate) fn read_on<K: Sink, J: Opening, L: RowSource>(
+pub(crate) fn read_on<K: Sink, N: Notifier, J: Opening, L: RowSource>(
     rt: &impl Wait,
     alloc: Global,
-    lock: &SeatLock<Desk<K, J>>,
-    pass: &mut Pass<Desk<K, J>>,
+    lock: &SeatLock<Desk<K, N, J>>,
+    pass: &mut Pass<Desk<K, N, J>>,
     lines: &mut L,
     round: u32,
 ) -> Halt

@@ -1,19 +1,20 @@
 //! A batch that is open, from a book and a sink to a book and a sink.
 ghost use Rattle.std.specs.Prelude.{◌≡◌, ◌<◌, ◌^◌, [], All, Contains, IfOk, IfErr};
 ghost use Rattle.batch_snapshot.specs.Points.{named_nodes};
-ghost use Rattle.live_desk.specs.Desk.{desk_of};
+ghost use Rattle.live_desk.specs.Desk.{desk_of, outputs_seen};
+ghost use Rattle.rider_notices.specs.Seen.{notifiers_seen};
 ghost use Rattle.live_batch.specs.Phase.{FaultsFrom, HasRunOpen, IsHeldBack, IsOpenRun, desk_after};
 
 use crate::open::{Reading, finish, two_of, work_both};
 use crate::read_on::Halt;
 use batch_snapshot::Snapshot;
+use dispatch_engine::Setup;
 use dispatch_report::ReportFault;
 use live_desk::{Desk, Opening};
 use live_rows::RowSource;
 use pool_io::Sink;
 use request_book::Book;
-use rider_limits::Settings;
-use road_network::Network;
+use rider_notices::Notifier;
 use row_tables::Drafter;
 use seat_lock::SeatLock;
 use std::alloc::Global;
@@ -23,11 +24,21 @@ use std::thread::Threads;
 use travel_times::Ways;
 use worker_gate::Gate;
 
-/// What came of a batch that was open.
+/// What a batch that is open is run on: the book, the sink of the report, the notifiers, and the rows to come.
 #[derive(Drop)]
-pub struct Opened<K, L> {
+pub struct OpenBatch<K, N: Drop, L> {
     pub book: Book,
     pub sink: K,
+    pub notifiers: Vec<N>,
+    pub lines: L,
+}
+
+/// What came of a batch that was open.
+#[derive(Drop)]
+pub struct Opened<K, N: Drop, L> {
+    pub book: Book,
+    pub sink: K,
+    pub notifiers: Vec<N>,
     /// The rows to come.
     pub lines: L,
     /// Whether the batch is closed.
@@ -36,50 +47,50 @@ pub struct Opened<K, L> {
     pub fault: Option<ReportFault>,
 }
 
-/// There was no memory to begin with a batch; nothing was read or written.
+/// There was no memory to begin with a batch; nothing was read or written, and nobody was told anything.
 #[derive(Drop)]
-pub struct Unopened<K, L> {
+pub struct Unopened<K, N: Drop, L> {
     pub sink: K,
+    pub notifiers: Vec<N>,
     pub lines: L,
 }
 
-/// Solves and closes the batch that is open while rows of other lanes are run. For want of memory at the start the sink
-/// and the rows come back.
-pub fn run_open<K: Sink + Send + Drop, L: RowSource + Send + Drop, W: Ways, D: Drafter, G: Gate>(
+/// Solves and closes the batch that is open while rows of other lanes are run. The thread that closes it tells its notices,
+/// right behind its block. For want of memory at the start the sink, the notifiers and the rows come back.
+pub fn run_open<
+    K: Sink + Send + Drop,
+    N: Notifier + Send,
+    L: RowSource + Send + Drop,
+    W: Ways,
+    D: Drafter,
+    G: Gate,
+>(
     rt: &(impl Threads + Wait + Sync),
     alloc: Global,
-    book: Book,
-    sink: K,
-    proof: bool,
-    lines: L,
+    batch: OpenBatch<K, N, L>,
     round: u32,
     snapshot: &Snapshot,
-    network: &Network,
-    ways: &W,
-    drafter: &D,
-    settings: &Settings,
-    gate: &G,
-) -> Result<Opened<K, L>, Unopened<K, L>>
-    requires empty { book.entries ≡ [] }
-    requires small { book.first < 2 ^ 64 }
-    requires last { L.last lines ≡ round }
-    requires nodes { All (λ node. Contains network.now.nodes node) (named_nodes snapshot.now) }
-    requires ways { W.roads ways.now ≡ network.now }
-    ensures run { IfOk result (λ o. HasRunOpen settings.now network.now snapshot.entry.now round (L.to_come lines) (L.to_come o.lines)
-        (desk_of book proof (record { written = K.written sink; faults = K.faults sink }))
-        (desk_after book proof (record { written = K.written sink; faults = K.faults sink }) o.book (record { written = K.written o.sink; faults = K.faults o.sink }) o.fault) o.closed o.stop) }
+    setup: &Setup<'_, W, D, G>,
+) -> Result<Opened<K, N, L>, Unopened<K, N, L>>
+    requires empty { batch.book.entries ≡ [] }
+    requires small { batch.book.first < 2 ^ 64 }
+    requires last { L.last batch.lines ≡ round }
+    requires nodes { All (λ node. Contains setup.now.network.now.nodes node) (named_nodes snapshot.now) }
+    ensures run { let opened = outputs_seen K.written K.faults N.told N.faults N.steady batch.sink batch.notifiers.items in
+        IfOk result (λ o. HasRunOpen setup.now.settings.now setup.now.network.now snapshot.entry.now round (L.to_come batch.lines) (L.to_come o.lines)
+        (desk_of batch.book setup.now.settings.now.proof opened)
+        (desk_after batch.book setup.now.settings.now.proof opened o.book (outputs_seen K.written K.faults N.told N.faults N.steady o.sink o.notifiers.items) o.fault) o.closed o.stop) }
     ensures held { IfOk result (λ o. IsHeldBack round (L.last o.lines) o.stop) }
-    ensures faults { IfOk result (λ o. FaultsFrom o.stop (L.faults lines) (L.faults o.lines)) }
-    ensures kept { IfErr result (λ u. (K.written u.sink ≡ K.written sink) × (K.faults u.sink ≡ K.faults sink) × (u.lines ≡ lines)) }
+    ensures faults { IfOk result (λ o. FaultsFrom o.stop (L.faults batch.lines) (L.faults o.lines)) }
+    ensures kept { IfErr result (λ u. (K.written u.sink ≡ K.written batch.sink) × (K.faults u.sink ≡ K.faults batch.sink) × (u.lines ≡ batch.lines)
+        × (notifiers_seen N.told N.faults N.steady u.notifiers.items ≡ notifiers_seen N.told N.faults N.steady batch.notifiers.items)) }
 {
-    run_in::<K, Brand, L, W, D, G>(
-        rt, alloc, book, sink, proof, lines, round, snapshot, network, ways, drafter, settings,
-        gate,
-    )
+    run_in::<K, N, Brand, L, W, D, G>(rt, alloc, batch, round, snapshot, setup)
 }
 
 fn run_in<
     K: Sink + Send + Drop,
+    N: Notifier + Send,
     J: Opening + Send + Sync,
     L: RowSource + Send + Drop,
     W: Ways,
@@ -88,59 +99,70 @@ fn run_in<
 >(
     rt: &(impl Threads + Wait + Sync),
     alloc: Global,
-    book: Book,
-    sink: K,
-    proof: bool,
-    lines: L,
+    batch: OpenBatch<K, N, L>,
     round: u32,
     snapshot: &Snapshot,
-    network: &Network,
-    ways: &W,
-    drafter: &D,
-    settings: &Settings,
-    gate: &G,
-) -> Result<Opened<K, L>, Unopened<K, L>>
-    requires opened { J.opened ≡ record { written = K.written sink; faults = K.faults sink } }
-    requires empty { book.entries ≡ [] }
-    requires small { book.first < 2 ^ 64 }
-    requires last { L.last lines ≡ round }
-    requires nodes { All (λ node. Contains network.now.nodes node) (named_nodes snapshot.now) }
-    requires ways { W.roads ways.now ≡ network.now }
-    ensures run { IfOk result (λ o. IsOpenRun settings.now network.now snapshot.entry.now round (L.to_come lines) (L.to_come o.lines)
-        (desk_of book proof (record { written = K.written sink; faults = K.faults sink }))
-        (desk_after book proof (record { written = K.written sink; faults = K.faults sink }) o.book (record { written = K.written o.sink; faults = K.faults o.sink }) o.fault) o.closed o.stop) }
+    setup: &Setup<'_, W, D, G>,
+) -> Result<Opened<K, N, L>, Unopened<K, N, L>>
+    requires opened { J.opened ≡ outputs_seen K.written K.faults N.told N.faults N.steady batch.sink batch.notifiers.items }
+    requires empty { batch.book.entries ≡ [] }
+    requires small { batch.book.first < 2 ^ 64 }
+    requires last { L.last batch.lines ≡ round }
+    requires nodes { All (λ node. Contains setup.now.network.now.nodes node) (named_nodes snapshot.now) }
+    ensures run { let opened = outputs_seen K.written K.faults N.told N.faults N.steady batch.sink batch.notifiers.items in
+        IfOk result (λ o. IsOpenRun setup.now.settings.now setup.now.network.now snapshot.entry.now round (L.to_come batch.lines) (L.to_come o.lines)
+        (desk_of batch.book setup.now.settings.now.proof opened)
+        (desk_after batch.book setup.now.settings.now.proof opened o.book (outputs_seen K.written K.faults N.told N.faults N.steady o.sink o.notifiers.items) o.fault) o.closed o.stop) }
     ensures held { IfOk result (λ o. IsHeldBack round (L.last o.lines) o.stop) }
-    ensures faults { IfOk result (λ o. FaultsFrom o.stop (L.faults lines) (L.faults o.lines)) }
-    ensures kept { IfErr result (λ u. (K.written u.sink ≡ K.written sink) × (K.faults u.sink ≡ K.faults sink) × (u.lines ≡ lines)) }
+    ensures faults { IfOk result (λ o. FaultsFrom o.stop (L.faults batch.lines) (L.faults o.lines)) }
+    ensures kept { IfErr result (λ u. (K.written u.sink ≡ K.written batch.sink) × (K.faults u.sink ≡ K.faults batch.sink) × (u.lines ≡ batch.lines)
+        × (notifiers_seen N.told N.faults N.steady u.notifiers.items ≡ notifiers_seen N.told N.faults N.steady batch.notifiers.items)) }
 {
-    let desk: Desk<K, J> = Desk::of(alloc, book, sink, proof);
+    let OpenBatch {
+        book,
+        sink,
+        notifiers,
+        lines,
+    } = batch;
+    let desk: Desk<K, N, J> = Desk::of(alloc, book, sink, notifiers, setup.settings.proof);
     let Ok(back) = Vec::with_capacity(alloc, 2) else {
-        let (book, sink, _) = desk.into_parts();
-        drop(book);
-        return Err(Unopened { sink, lines });
+        return Err(give_back(desk, lines));
     };
     match SeatLock::start(alloc, desk, 2) {
         Ok((lock, passes)) => {
-            let (first, second) = two_of(&lock, passes);
+            let both = two_of(&lock, passes);
             let ((first, closed), Reading { pass, lines, stop }) = work_both(
-                rt, alloc, &lock, first, second, lines, round, snapshot, network, ways, drafter,
-                settings, gate,
+                rt, alloc, &lock, both, lines, round, snapshot, setup,
             );
             let desk = finish(lock, back, first, pass);
-            let (book, sink, fault) = desk.into_parts();
+            let (book, sink, notifiers, fault) = desk.into_parts();
             Ok(Opened {
                 book,
                 sink,
+                notifiers,
                 lines,
                 closed,
                 stop,
                 fault,
             })
         }
-        Err(refused) => {
-            let (book, sink, _) = refused.value.into_parts();
-            drop(book);
-            Err(Unopened { sink, lines })
-        }
+        Err(refused) => Err(give_back(refused.value, lines)),
+    }
+}
+
+/// Gives up a desk with which there was no memory to begin.
+fn give_back<K: Sink + Drop, N: Notifier, J: Opening, L>(
+    desk: Desk<K, N, J>,
+    lines: L,
+) -> Unopened<K, N, L>
+    ensures lines { result.lines ≡ lines }
+    ensures outputs { outputs_seen K.written K.faults N.told N.faults N.steady result.sink result.notifiers.items ≡ desk.now }
+{
+    let (book, sink, notifiers, _) = desk.into_parts();
+    drop(book);
+    Unopened {
+        sink,
+        notifiers,
+        lines,
     }
 }

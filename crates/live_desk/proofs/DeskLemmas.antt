@@ -1,11 +1,10 @@
 -- One more entry, and what is written with it.
-use Rattle.std.proofs.Common.{◌≡◌, ℕ, suc, ◌+◌, ◌-◌, ◌<◌, ◌≤◌, ◌^◌, Bool, List, [], ◌∷◌, ◌++◌, length, take, Option, None, Some, Result, Ok, Err, min, arith, refl, sym, ap, subst, ◌∙◌, append_assoc, append-nil, length-append}
+use Rattle.std.proofs.Common.{◌≡◌, ℕ, suc, ◌+◌, ◌-◌, ◌<◌, ◌≤◌, ◌^◌, Bool, List, [], ◌∷◌, ◌++◌, length, take, Option, None, Some, Result, Ok, Err, min, arith, refl, sym, ap, subst, ◌∙◌, append_assoc, append-nil}
 use Rattle.std.proofs.KnownBytes.{Appends-nil, Appends-trans}
 use Rattle.std.proofs.lemmas.Grind.{flat_map-append}
-use Rattle.std.proofs.Math.Seq.{take-append-add}
 use Rattle.std.specs.Io.KnownBytes.{Appends}
 use Rattle.std.proofs.lemmas.Bool.{false≢true}
-use Rattle.std.specs.Prelude.{is_some, false, OnOk}
+use Rattle.std.specs.Prelude.{is_some, true, false, cond, OnOk}
 use Rattle.std.proofs.lemmas.List.{length-map}
 use Rattle.shared_book.specs.Locked.{log_of}
 use Rattle.shared_book.proofs.lemmas.LockedLemmas.{calls-length}
@@ -13,18 +12,28 @@ use Rattle.live_desk.specs.Desk.{desk_call, desk_log}
 use Rattle.pool_io.specs.Faults.{one_more, Rose}
 use Rattle.pool_io.specs.Sink.{AppendsPart}
 use Rattle.request_book.specs.Book.{BookView, next_position, IsApplied, IsBook}
+use Rattle.request_book.specs.Replay.{state_after}
+use Rattle.request_book.specs.Step.{step}
+use Rattle.request_book.specs.declared.command.Command.TheVariants.{Submit, Cancel, Report, Pickup, Dropoff, Seal, Close}
 use Rattle.request_book.specs.declared.command.Command.{Command}
 use Rattle.request_book.specs.declared.journal.Entry.{Entry}
 use Rattle.request_book.specs.declared.reply.Reply.{Reply}
+use Rattle.request_book.specs.declared.reply.Reply.TheVariants.{Accepted, Cancelled, Placed, Picked, Dropped, Sealed, Closed, Refused}
+use Rattle.request_book.specs.declared.state.State.{State}
+use Rattle.rider_notices.specs.Notices.{entry_notices, notices_from}
+use Rattle.rider_notices.specs.Told.{HaveHeard, NotifierView}
+use Rattle.rider_notices.specs.declared.notice.Notice.{Notice}
+use Rattle.rider_notices.proofs.lemmas.HeardLemmas.{all-heard-more, all-heard-nothing}
 use Rattle.dispatch_report.specs.Lines.{lines_text}
 use Rattle.dispatch_report.specs.Entry.{entry_line}
 use Rattle.dispatch_report.specs.Round.{entries_lines, entry_block, entry_text}
-use Rattle.dispatch_report.specs.Written.{SinkView, WritesText}
 use Rattle.dispatch_report.specs.declared.fault.ReportFault.{ReportFault}
+use Rattle.dispatch_report.specs.declared.fault.ReportFault.TheVariants.{WriteFault}
 use Rattle.batch_snapshot.specs.Batch.{Batch}
 use Rattle.shared_book.specs.lemmas.Locked.{snapshot_before}
 use Rattle.shared_book.proofs.lemmas.LockedLemmas.{applied-call, applied-fits}
-use Rattle.live_desk.specs.Desk.{HasEntered, fault_in, entries_text, DeskView, IsDesk, IsWritten}
+use Rattle.live_desk.specs.Desk.{HasEntered, entries_text, text_of, notices_in, DeskView, IsDesk, IsPassedOn, Outputs}
+use Rattle.live_desk.specs.work.Telling.{TellsClose, WroteLast, is_closed}
 
 pub lines_text-append : (xs ys : List (List ℕ)) → lines_text (xs ++ ys) ≡ lines_text xs ++ lines_text ys
 unfolding lines_text
@@ -51,20 +60,39 @@ entries_lines-push proof first (f ∷ es) e small =
     ∙ sym (append_assoc head (entries_lines proof (one_more first) es) (entry_lines proof (next_position (one_more first) es) e))
     ∙ ap (λ n. (head ++ entries_lines proof (one_more first) es) ++ entry_lines proof n e) (position-after first (length es))
 
--- what is written after one more text
-pub written-more : (opened old new : SinkView) (text more : List ℕ) (r : Result (Unit {0}) ReportFault)
-    → IsWritten None opened old text → opened.faults ≤ old.faults → WritesText (record { before = old; after = new }) more r → IsWritten (fault_in r) opened new (text ++ more)
-written-more opened old new text more (Ok done) so_far falls w = Appends-trans opened.written old.written new.written text more so_far w.bytes
-written-more opened old new text more (Err fault) so_far falls w =
-    let part : AppendsPart old.written new.written more = w.bytes in
-    let P : List ℕ → Type 0 = λ bytes. Appends opened.written new.written bytes in (
-      (
-        length text + part.0,
-        omega (arith, length-append text more, part.1),
-        subst P (sym (take-append-add text more part.0)) (Appends-trans opened.written old.written new.written text (take part.0 more) so_far part.2),
-      ),
-      λ is. (let rose : Rose old.faults new.faults = w.fault (ap Err is) in omega (arith, rose, falls)),
-    )
+-- the notices of entries, and of one more
+module _ (nodes : List ℕ) (wait : ℕ) where
+  notices-push : (s : State) (es : List Entry) (e : Entry) → notices_from nodes wait s (es ++ e ∷ []) ≡ notices_from nodes wait s es ++ entry_notices (state_after nodes wait s es) e.command e.reply
+  unfolding notices_from state_after
+  notices-push s [] e = append-nil (entry_notices s e.command e.reply)
+  notices-push s (f ∷ es) e =
+      ap (λ ns. entry_notices s f.command f.reply ++ ns) (notices-push (step nodes wait s f.command).0 es e)
+      ∙ sym (append_assoc (entry_notices s f.command f.reply) (notices_from nodes wait (step nodes wait s f.command).0 es) (entry_notices (state_after nodes wait (step nodes wait s f.command).0 es) e.command e.reply))
+
+no-notices : (b : Bool) (none : List Notice) → none ≡ [] → cond b none [] ≡ none
+no-notices true none is = refl
+no-notices false none is = sym is
+
+-- a command that wasn't answered `closed` has no notices, and no other command than a close has any
+close-notices : (s : State) (c : Command) (r : Reply) → cond (is_closed r) (entry_notices s c Closed) [] ≡ entry_notices s c r
+close-notices s c Closed = refl
+close-notices s (Close batch outcome) Accepted = refl
+close-notices s (Close batch outcome) Cancelled = refl
+close-notices s (Close batch outcome) Placed = refl
+close-notices s (Close batch outcome) Picked = refl
+close-notices s (Close batch outcome) Dropped = refl
+close-notices s (Close batch outcome) (Sealed n) = refl
+close-notices s (Close batch outcome) (Refused why) = refl
+close-notices s (Submit rider origin destination time party) r = no-notices (is_closed r) [] refl
+close-notices s (Cancel rider) r = no-notices (is_closed r) [] refl
+close-notices s (Report vehicle node time) r = no-notices (is_closed r) [] refl
+close-notices s (Pickup vehicle rider time) r = no-notices (is_closed r) [] refl
+close-notices s (Dropoff vehicle rider time) r = no-notices (is_closed r) [] refl
+close-notices s (Seal now) r = no-notices (is_closed r) [] refl
+
+-- where the reply isn't `closed`, nobody is told anything
+pub untold : (notices : List Notice) (reply : Reply) (ns : List NotifierView) → is_closed reply ≡ false → TellsClose notices reply ns ns
+untold notices reply ns is = subst (λ b. HaveHeard (cond b notices []) ns ns) (sym is) (all-heard-nothing ns)
 
 -- the text of a journal with one more entry
 pub entries_text-push : (proof : Bool) (old new : BookView) (lane : ℕ) (command : Command) (reply : Reply) → old.first < 2 ^ 64 → IsApplied old lane command reply new
@@ -76,32 +104,85 @@ entries_text-push proof old new lane command reply small applied =
     ∙ lines_text-append (entries_lines proof old.first old.entries) (entry_lines proof (next_position old.first old.entries) e)
 
 -- a desk with nothing written
-pub desk-opened : (book : BookView) (proof : Bool) (sink : SinkView) → IsBook book → book.entries ≡ [] → book.first < 2 ^ 64
-    → IsDesk (record { book = book; proof = proof; opened = sink; now = sink; fault = None })
-unfolding entries_lines lines_text
-desk-opened book proof sink kept empty small =
-    let P : List Entry → Type 0 = λ es. Appends sink.written sink.written (lines_text (entries_lines proof book.first es)) in
-    record { book = kept; first = small; text = subst P (sym empty) (Appends-nil sink.written); never_falls = omega arith }
+pub desk-opened : (book : BookView) (proof : Bool) (outputs : Outputs) → IsBook book → book.entries ≡ [] → book.first < 2 ^ 64
+    → IsDesk (record { book = book; proof = proof; opened = outputs; now = outputs; fault = None })
+unfolding entries_lines lines_text notices_from
+desk-opened book proof outputs kept empty small =
+    let P : List Entry → Type 0 = λ es. Appends outputs.sink.written outputs.sink.written (text_of proof book es) × HaveHeard (notices_in book es) outputs.notifiers outputs.notifiers in
+    record { book = kept; first = small; told = subst P (sym empty) (Appends-nil outputs.sink.written, all-heard-nothing outputs.notifiers); never_falls = omega arith }
 
--- a desk after a command that was taken
-pub desk-entered : (old : DeskView) (lane : ℕ) (command : Command) (reply : Reply) (book : BookView) (now : SinkView) (fault : Option ReportFault)
-    → IsDesk old → old.fault ≡ None → IsBook book → IsApplied old.book lane command reply book
-    → (answer : Result (Unit {0}) ReportFault) × (fault ≡ fault_in answer)
-    × WritesText (record { before = old.now; after = now }) (entry_text old.proof (next_position old.book.first old.book.entries) (record { lane = lane; command = command; reply = reply })) answer
-    → IsDesk (record { book = book; proof = old.proof; opened = old.opened; now = now; fault = fault })
-desk-entered old lane command reply book now fault desk whole kept applied wrote =
-    let more : List ℕ = entry_text old.proof (next_position old.book.first old.book.entries) (record { lane = lane; command = command; reply = reply }) in
-    let before : IsWritten None old.opened old.now (entries_text old.proof old.book) = subst (λ (f : Option ReportFault). IsWritten f old.opened old.now (entries_text old.proof old.book)) whole desk.text in
-    let after : IsWritten (fault_in wrote.0) old.opened now (entries_text old.proof old.book ++ more) = written-more old.opened old.now now (entries_text old.proof old.book) more wrote.0 before desk.never_falls wrote.2 in
-    let text : entries_text old.proof book ≡ entries_text old.proof old.book ++ more = entries_text-push old.proof old.book book lane command reply desk.first applied in
-    let small : book.first < 2 ^ 64 = subst (λ (n : ℕ). n < 2 ^ 64) (sym applied.first) desk.first in
-    let falls : old.now.faults ≤ now.faults = wrote.2.never_falls in
-    record {
-      book = kept;
-      first = small;
-      text = subst (λ (f : Option ReportFault). IsWritten f old.opened now (entries_text old.proof book)) (sym wrote.1) (subst (IsWritten (fault_in wrote.0) old.opened now) (sym text) after);
-      never_falls = omega (arith, falls, desk.never_falls);
-    }
+module _ (old : DeskView) (lane : ℕ) (command : Command) (reply : Reply) (book : BookView) (now : Outputs)
+    (desk : IsDesk old) (whole : old.fault ≡ None) (kept : IsBook book) (applied : IsApplied old.book lane command reply book) where
+  abbrev e : Entry
+  e = record { lane = lane; command = command; reply = reply }
+
+  abbrev more : List ℕ
+  more = entry_text old.proof (next_position old.book.first old.book.entries) e
+
+  before : IsPassedOn None old.proof old.book old.opened old.now
+  before = subst (λ (f : Option ReportFault). IsPassedOn f old.proof old.book old.opened old.now) whole desk.told
+
+  small : book.first < 2 ^ 64
+  small = subst (λ (n : ℕ). n < 2 ^ 64) (sym applied.first) desk.first
+
+  -- the notices of the old entries
+  old-notices : notices_in book old.book.entries ≡ notices_in old.book old.book.entries
+  old-notices = λ i. notices_from (applied.nodes i) (applied.wait i) (applied.base i) old.book.entries
+
+  -- the text was written whole, and the notices were told
+  desk-told : Appends old.now.sink.written now.sink.written more → old.now.sink.faults ≤ now.sink.faults
+      → (notices : List Notice) → notices ≡ entry_notices old.book.state command Closed → TellsClose notices reply old.now.notifiers now.notifiers
+      → IsDesk (record { book = book; proof = old.proof; opened = old.opened; now = now; fault = None })
+  desk-told wrote falls notices is told =
+      let mine : List Notice = entry_notices old.book.state command reply in
+      let heard : HaveHeard mine old.now.notifiers now.notifiers =
+      subst (λ ns. HaveHeard ns old.now.notifiers now.notifiers) (ap (λ ns. cond (is_closed reply) ns []) is ∙ close-notices old.book.state command reply) told in
+      let all : notices_in old.book old.book.entries ++ mine ≡ notices_in book book.entries =
+      ap (λ s. notices_in old.book old.book.entries ++ entry_notices s command reply) desk.book.state
+      ∙ sym (notices-push old.book.nodes old.book.wait old.book.base old.book.entries e)
+      ∙ (λ i. notices_from (sym applied.nodes i) (sym applied.wait i) (sym applied.base i) (sym applied.entries i)) in
+      record {
+        book = kept;
+        first = small;
+        told = (
+          subst (λ t. Appends old.opened.sink.written now.sink.written t) (sym (entries_text-push old.proof old.book book lane command reply desk.first applied))
+              (Appends-trans old.opened.sink.written old.now.sink.written now.sink.written (entries_text old.proof old.book) more before.0 wrote),
+          subst (λ ns. HaveHeard ns old.opened.notifiers now.notifiers) all
+              (all-heard-more (notices_in old.book old.book.entries) mine old.opened.notifiers old.now.notifiers now.notifiers before.1 heard),
+        );
+        never_falls = omega (arith, falls, desk.never_falls);
+      }
+
+  -- a fault broke the text off
+  desk-broken : (fault : ReportFault) → AppendsPart old.now.sink.written now.sink.written more → old.now.sink.faults ≤ now.sink.faults
+      → (fault ≡ WriteFault → Rose old.now.sink.faults now.sink.faults) → now.notifiers ≡ old.now.notifiers
+      → IsDesk (record { book = book; proof = old.proof; opened = old.opened; now = now; fault = Some fault })
+  desk-broken fault part falls rose same =
+      let front_text : List ℕ = text_of old.proof old.book old.book.entries in
+      record {
+        book = kept;
+        first = small;
+        told = record {
+          front = old.book.entries;
+          last = e;
+          entries = applied.entries;
+          part = part.0;
+          short = subst (λ n. part.0 < length (entry_text old.proof (next_position n old.book.entries) e)) (sym applied.first) part.1;
+          text =
+              subst (λ n. Appends old.opened.sink.written now.sink.written (lines_text (entries_lines old.proof n old.book.entries) ++ take part.0 (entry_text old.proof (next_position n old.book.entries) e))) (sym applied.first)
+              (Appends-trans old.opened.sink.written old.now.sink.written now.sink.written front_text (take part.0 more) before.0 part.2);
+          told = subst (λ ns. HaveHeard ns old.opened.notifiers now.notifiers) (sym old-notices)
+              (subst (λ ns. HaveHeard (notices_in old.book old.book.entries) old.opened.notifiers ns) (sym same) before.1);
+          fault = λ is. (let risen : Rose old.now.sink.faults now.sink.faults = rose is in omega (arith, risen, desk.never_falls));
+        };
+        never_falls = omega (arith, falls, desk.never_falls);
+      }
+
+  -- the desk is one after a command that was taken
+  pub desk-entered : (notices : List Notice) → notices ≡ entry_notices old.book.state command Closed → old.now.sink.faults ≤ now.sink.faults
+      → (fault : Option ReportFault) → WroteLast fault more notices reply old.now now → IsDesk (record { book = book; proof = old.proof; opened = old.opened; now = now; fault = fault })
+  desk-entered notices is falls None w = desk-told w.0 falls notices is w.1
+  desk-entered notices is falls (Some fault) w = desk-broken fault w.0 falls w.1 w.2
 
 -- and what its reply shows
 pub desk-replied : (old new : DeskView) (lane : ℕ) (command : Command) (reply : Reply) (snapshot : Option Batch)

@@ -5,6 +5,7 @@ ghost use Rattle.live_desk.specs.Desk.{pass_of};
 use crate::desk::{Desk, DeskRoot, LaneCommand, Opening};
 use pool_base::OutOfMemory;
 use pool_io::Sink;
+use rider_notices::Notifier;
 use seat_lock::Logged;
 use shared_book::LockedReply;
 use std::alloc::Global;
@@ -16,7 +17,7 @@ fn pass_of(lane: u8) -> u8
     if lane == 0 { 0 } else { 1 }
 }
 
-impl<K: Sink, J: Opening> Logged for Desk<K, J> {
+impl<K: Sink, N: Notifier, J: Opening> Logged for Desk<K, N, J> {
     ghost use Rattle.std.specs.Prelude.{true};
     ghost use Rattle.shared_book.specs.Locked.{Fits};
     ghost use Rattle.live_desk.specs.Desk.{desk_log, desk_root};
@@ -39,7 +40,7 @@ impl<K: Sink, J: Opening> Logged for Desk<K, J> {
 
     fn play(
         &mut self,
-        _alloc: Global,
+        alloc: Global,
         lane: u8,
         call: LaneCommand,
     ) -> Result<LockedReply, OutOfMemory> {
@@ -48,6 +49,6 @@ impl<K: Sink, J: Opening> Logged for Desk<K, J> {
             drop(command);
             return Err(OutOfMemory);
         }
-        self.enter(of, command)
+        self.enter(alloc, of, command)
     }
 }

@@ -27,7 +27,7 @@ use Rattle.rider_notices.specs.Notices.{entry_notices}
 use Rattle.road_network.specs.Roads.{Roads}
 use Rattle.script_rows.specs.Round.{MayStand}
 use Rattle.script_rows.specs.declared.line.Line.{Line}
-use Rattle.seat_lock.specs.declared.logged.Entry.{Entry as Logged}
+use Rattle.seat_lock.specs.declared.logged.LoggedCall.{LoggedCall}
 use Rattle.shared_book.specs.Locked.{calls_from, sealed_by, snapshot_after}
 use Rattle.shared_book.specs.declared.locked.LockedReply.{LockedReply}
 use Rattle.live_dispatch.specs.work.Rows.{in_lane}
@@ -196,18 +196,18 @@ module _ (nodes : List ℕ) (wait : ℕ) where
   call-commands s (e ∷ es) = by (eqb e.lane 0) (record { lane = e.lane; call = e.command; reply = record { reply = e.reply; snapshot = snapshot_after e.reply (step nodes wait s e.command).0 } })
       (filter (λ c. eqb c.lane 0) (calls_from nodes wait (step nodes wait s e.command).0 es)) refl (call-commands (step nodes wait s e.command).0 es)
     where
-      by : (b : Bool) (c : Logged Command LockedReply) (rest : List (Logged Command LockedReply)) → c.call ≡ e.command → map (λ c. c.call) rest ≡ map (λ e. e.command) (of_lane 0 es)
+      by : (b : Bool) (c : LoggedCall Command LockedReply) (rest : List (LoggedCall Command LockedReply)) → c.call ≡ e.command → map (λ c. c.call) rest ≡ map (λ e. e.command) (of_lane 0 es)
           → map (λ c. c.call) (cond b (c ∷ rest) rest) ≡ map (λ e. e.command) (cond b (e ∷ of_lane 0 es) (of_lane 0 es))
       by true c rest is same = (λ i. is i ∷ same i)
       by false c rest is same = same
 
 module _ (settings : Settings) (roads : Roads) where
-  good-calls : (b : Batch) (outcome : Outcome) → IsGoodOutcome settings roads b outcome → (calls : List (Logged Command LockedReply)) → map (λ c. c.call) calls ≡ Close b.number outcome ∷ [] → LaneClosesAreGood settings roads (Some b) calls
+  good-calls : (b : Batch) (outcome : Outcome) → IsGoodOutcome settings roads b outcome → (calls : List (LoggedCall Command LockedReply)) → map (λ c. c.call) calls ≡ Close b.number outcome ∷ [] → LaneClosesAreGood settings roads (Some b) calls
   good-calls b outcome good [] are = absurd cc
   good-calls b outcome good (c ∷ []) are = let is : c.call ≡ Close b.number outcome = cc in (subst (IsGoodFor settings roads (Some b)) (sym is) (b, refl, good), tt)
   good-calls b outcome good (c ∷ d ∷ calls) are = absurd cc
 
-  no-calls : (last : Option Batch) (calls : List (Logged Command LockedReply)) → map (λ c. c.call) calls ≡ [] → LaneClosesAreGood settings roads last calls
+  no-calls : (last : Option Batch) (calls : List (LoggedCall Command LockedReply)) → map (λ c. c.call) calls ≡ [] → LaneClosesAreGood settings roads last calls
   no-calls last [] are = tt
   no-calls last (c ∷ calls) are = absurd cc
 
@@ -229,12 +229,12 @@ module _ (settings : Settings) (roads : Roads) where
     pub batch-closes : (outcome : Outcome) → IsGoodOutcome settings roads b outcome → map (λ e. e.command) (of_lane 0 es) ≡ Close b.number outcome ∷ [] → ClosesAreGood settings roads s es
     batch-closes outcome good are =
         closes-join settings roads s (Some b) es last replies zeroth
-        (good-calls b outcome good (filter (λ (c : Logged Command LockedReply). eqb c.lane 0) (calls_from roads.nodes settings.wait s es)) (call-commands roads.nodes settings.wait s es ∙ are))
+        (good-calls b outcome good (filter (λ (c : LoggedCall Command LockedReply). eqb c.lane 0) (calls_from roads.nodes settings.wait s es)) (call-commands roads.nodes settings.wait s es ∙ are))
 
     pub batch-unclosed : map (λ e. e.command) (of_lane 0 es) ≡ [] → ClosesAreGood settings roads s es
     batch-unclosed are =
         closes-join settings roads s (Some b) es last replies zeroth
-        (no-calls (Some b) (filter (λ (c : Logged Command LockedReply). eqb c.lane 0) (calls_from roads.nodes settings.wait s es)) (call-commands roads.nodes settings.wait s es ∙ are))
+        (no-calls (Some b) (filter (λ (c : LoggedCall Command LockedReply). eqb c.lane 0) (calls_from roads.nodes settings.wait s es)) (call-commands roads.nodes settings.wait s es ∙ are))
 
     pub batch-ended : (outcome : Outcome) → map (λ e. e.command) (of_lane 0 es) ≡ Close b.number outcome ∷ [] → (state_after roads.nodes settings.wait s es).sealed ≡ None
     batch-ended outcome are =

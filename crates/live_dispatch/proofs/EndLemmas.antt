@@ -1,5 +1,5 @@
 -- How a run ends.
-use Rattle.std.proofs.Common.{◌≡◌, ℕ, ◌≤◌, Bool, List, [], ◌∷◌, ◌++◌, Option, Some, Result, Ok, Err, IfOk, IfErr, refl, sym, ap, subst, ◌∙◌, arith}
+use Rattle.std.proofs.Common.{◌≡◌, ℕ, ◌≤◌, Bool, List, ◌∷◌, ◌++◌, Option, Some, Result, Ok, Err, IfOk, IfErr, refl, sym, ap, subst, arith}
 use Rattle.std.proofs.KnownBytes.{Appends-trans}
 use Rattle.batch_snapshot.specs.Batch.{Batch}
 use Rattle.dispatch_engine.specs.Run.{position_after_run}
@@ -10,18 +10,17 @@ use Rattle.dispatch_report.specs.declared.fault.ReportFault.TheVariants as repor
 use Rattle.live_batch.specs.Phase.{FaultsFrom}
 use Rattle.live_batch.specs.declared.read_on.Halt.{Halt}
 use Rattle.live_batch.specs.declared.read_on.Halt.TheVariants as stop
-use Rattle.live_desk.specs.Desk.{IsWritten, entries_text}
+use Rattle.live_desk.specs.Desk.{IsPassedOn, Outputs}
 use Rattle.pool_io.specs.Faults.{Rose}
 use Rattle.request_book.specs.Book.{BookView, next_position}
 use Rattle.rider_limits.specs.declared.settings.Settings.{Settings}
-use Rattle.rider_notices.specs.Told.{NotifierView}
 use Rattle.road_network.specs.Roads.{Roads}
 use Rattle.script_rows.specs.declared.line.Line.{Line}
 use Rattle.script_rows.specs.lemmas.Named.{rounds_of}
 use Rattle.live_dispatch.specs.Live.{AreRows, BeginWithRows, BeginsRows, journals_text}
 use Rattle.live_dispatch.specs.declared.fault.LiveFault.{LiveFault}
 use Rattle.live_dispatch.specs.declared.fault.LiveFault.TheVariants as live
-use Rattle.live_dispatch.specs.work.Standing.{HasEnded, HasRunOn, HasToldBatch, HaveCome, Moment, Opens, Stands, ended_by, of_report, row_text}
+use Rattle.live_dispatch.specs.work.Standing.{HasCut, HasEnded, HasRunOn, HaveCome, Moment, Opens, Stands, ended_by, of_report, outputs_of, row_text}
 use Rattle.live_dispatch.proofs.StandLemmas.{begins-here, begins-last}
 use Rattle.live_dispatch.proofs.StepLemmas.{Behind, all-begin, batch-begins, batch-stands, lines-behind, row-begins}
 use Rattle.live_dispatch.proofs.WriteLemmas.{whole-some}
@@ -34,20 +33,17 @@ pub if-err : {T E : Type 0} (P Q : E → Type 0) (r : Result T E) → ((x : E) �
 if-err P Q (Ok x) more p = p
 if-err P Q (Err e) more p = more e p
 
-abbrev cut_book : BookView → BookView
-cut_book b = record { nodes = b.nodes; wait = b.wait; first = next_position b.first b.entries; base = b.state; entries = []; state = b.state; spare = 0 }
-
 faults-kept : (end : Halt) (row : Line) (before now : ℕ) → end ≡ stop.Held row → FaultsFrom end before now → before ≤ now
 faults-kept end row before now is from = subst (λ e. FaultsFrom e before now) is from
 
 module _ (settings : Settings) (roads : Roads) (start : Moment) where
   -- with a fault
-  pub begun-ended : (failed : ℕ) (sink : SinkView) (notifiers : List NotifierView) (fault : LiveFault) (ended : Result (Unit {0}) LiveFault) → ended ≡ Err fault
-      → BeginsRows settings roads start.book start.rows (record { before = start.sink; after = sink }) (record { before = start.notifiers; after = notifiers })
-      → (fault ≡ live.WriteFault → Rose start.sink.faults sink.faults) → (fault ≡ live.ReadFault → Rose start.reads failed) → start.sink.faults ≤ sink.faults
-      → HasEnded settings roads start failed sink notifiers ended
-  begun-ended failed sink notifiers fault ended is begins write read falls =
-      subst (HasEnded settings roads start failed sink notifiers) (sym is) (record {
+  pub begun-ended : (failed : ℕ) (outputs : Outputs) (fault : LiveFault) (ended : Result (Unit {0}) LiveFault) → ended ≡ Err fault
+      → BeginsRows settings roads start.book start.rows (record { before = start.sink; after = outputs.sink }) (record { before = start.notifiers; after = outputs.notifiers })
+      → (fault ≡ live.WriteFault → Rose start.sink.faults outputs.sink.faults) → (fault ≡ live.ReadFault → Rose start.reads failed) → start.sink.faults ≤ outputs.sink.faults
+      → HasEnded settings roads start failed outputs ended
+  begun-ended failed outputs fault ended is begins write read falls =
+      subst (HasEnded settings roads start failed outputs) (sym is) (record {
         run = begins;
         write_fault = λ e. write cc;
         read_fault = λ e. read cc;
@@ -56,18 +52,21 @@ module _ (settings : Settings) (roads : Roads) (start : Moment) where
 
   -- between two rows
   pub stood-ended : (now : Moment) (Now : List Line → Type 0) (stands : Stands settings roads start now Now) → BeginWithRows start.rows stands.lines
-      → (failed : ℕ) (sink : SinkView) (fault : LiveFault) (ended : Result (Unit {0}) LiveFault) → ended ≡ Err fault → sink ≡ now.sink
-      → (fault ≡ live.WriteFault → ⊥) → (fault ≡ live.ReadFault → Rose start.reads failed) → HasEnded settings roads start failed sink now.notifiers ended
-  stood-ended now Now stands begin failed sink fault ended is sink_is no_write read =
-      subst (λ (k : SinkView). HasEnded settings roads start failed k now.notifiers ended) (sym sink_is)
-      (begun-ended failed now.sink now.notifiers fault ended is (begins-here settings roads start now Now stands now.sink.faults begin) (λ e. absurd (no_write e)) read stands.writes)
+      → (failed : ℕ) (outputs : Outputs) (fault : LiveFault) (ended : Result (Unit {0}) LiveFault) → ended ≡ Err fault → outputs ≡ outputs_of now
+      → (fault ≡ live.WriteFault → ⊥) → (fault ≡ live.ReadFault → Rose start.reads failed) → HasEnded settings roads start failed outputs ended
+  stood-ended now Now stands begin failed outputs fault ended is outputs_are no_write read =
+      subst (λ (o : Outputs). HasEnded settings roads start failed o ended) (sym outputs_are)
+      (begun-ended failed (outputs_of now) fault ended is (begins-here settings roads start now Now stands now.sink.faults begin) (λ e. absurd (no_write e)) read stands.writes)
 
   -- behind the last row
   module _ (now : Moment) (Now : List Line → Type 0) (stands : Stands settings roads start now Now) (all : AreRows start.rows stands.lines) (failed : ℕ) (sink : SinkView) where
     abbrev last_line : List ℕ
     last_line = end_text (position_after_run start.book.first stands.journals)
 
-    whole-end : (done : Unit {0}) → WritesText (record { before = now.sink; after = sink }) last_line (Ok done) → HasEnded settings roads start failed sink now.notifiers (Ok done)
+    abbrev last : Outputs
+    last = record { sink = sink; notifiers = now.notifiers }
+
+    whole-end : (done : Unit {0}) → WritesText (record { before = now.sink; after = sink }) last_line (Ok done) → HasEnded settings roads start failed last (Ok done)
     whole-end done w =
         let falls : now.sink.faults ≤ sink.faults = w.never_falls in
         record {
@@ -92,103 +91,104 @@ module _ (settings : Settings) (roads : Roads) (start : Moment) where
     no_read_of report.WriteFault e = absurd cc
     no_read_of report.OutOfMemory e = absurd cc
 
-    part-end : (fault : ReportFault) → WritesText (record { before = now.sink; after = sink }) last_line (Err fault) → HasEnded settings roads start failed sink now.notifiers (Err (of_report fault))
+    part-end : (fault : ReportFault) → WritesText (record { before = now.sink; after = sink }) last_line (Err fault) → HasEnded settings roads start failed last (Err (of_report fault))
     part-end fault w =
         let falls : now.sink.faults ≤ sink.faults = w.never_falls in
-        begun-ended failed sink now.notifiers (of_report fault) (Err (of_report fault)) refl
+        begun-ended failed last (of_report fault) (Err (of_report fault)) refl
         (begins-last settings roads start now Now stands sink.written sink.faults (all-begin start.rows stands.lines all) w.bytes)
         (λ e. (let rose : Rose now.sink.faults sink.faults = w.fault (ap Err (write_of fault e)) in omega (arith, rose, stands.writes)))
         (λ e. absurd (no_read_of fault e))
         (omega (arith, falls, stands.writes))
 
-    by-answer : (answer : Result (Unit {0}) ReportFault) → WritesText (record { before = now.sink; after = sink }) last_line answer → HasEnded settings roads start failed sink now.notifiers (ended_by answer)
+    by-answer : (answer : Result (Unit {0}) ReportFault) → WritesText (record { before = now.sink; after = sink }) last_line answer → HasEnded settings roads start failed last (ended_by answer)
     by-answer (Ok done) w = whole-end done w
     by-answer (Err fault) w = part-end fault w
 
-    pub all-ended : (ended : Result (Unit {0}) LiveFault)
+    pub all-ended : (outputs : Outputs) (ended : Result (Unit {0}) LiveFault) → outputs ≡ last
         → (answer : Result (Unit {0}) ReportFault) × (ended ≡ ended_by answer) × WritesText (record { before = now.sink; after = sink }) (end_text (next_position now.book.first now.book.entries)) answer
-        → HasEnded settings roads start failed sink now.notifiers ended
-    all-ended ended wrote =
-        subst (HasEnded settings roads start failed sink now.notifiers) (sym wrote.1)
-        (by-answer wrote.0 (subst (λ n. WritesText (record { before = now.sink; after = sink }) (end_text n) wrote.0) stands.position wrote.2))
+        → HasEnded settings roads start failed outputs ended
+    all-ended outputs ended are wrote =
+        subst (λ (o : Outputs). HasEnded settings roads start failed o ended) (sym are)
+        (subst (HasEnded settings roads start failed last) (sym wrote.1)
+        (by-answer wrote.0 (subst (λ n. WritesText (record { before = now.sink; after = sink }) (end_text n) wrote.0) stands.position wrote.2)))
 
   -- behind a seal, before its batch is solved
-  pub opened-ended : (row : Line) (b : Batch) (now : Moment) → Opens settings roads start row b now → (failed : ℕ) (sink : SinkView) (notifiers : List NotifierView) (ended : Result (Unit {0}) LiveFault)
-      → ended ≡ Err live.OutOfMemory → sink ≡ now.sink → notifiers ≡ now.notifiers → HasEnded settings roads start failed sink notifiers ended
-  opened-ended row b now opens failed sink notifiers ended is sink_is told_is =
+  pub opened-ended : (row : Line) (b : Batch) (now : Moment) → Opens settings roads start row b now → (failed : ℕ) (outputs : Outputs) (ended : Result (Unit {0}) LiveFault)
+      → ended ≡ Err live.OutOfMemory → outputs ≡ outputs_of now → HasEnded settings roads start failed outputs ended
+  opened-ended row b now opens failed outputs ended is outputs_are =
       let before = opens.before in
       let falls : start.sink.faults ≤ before.sink.faults = opens.stands.writes in
-      subst (λ (k : SinkView). HasEnded settings roads start failed k notifiers ended) (sym sink_is)
-      (subst (λ ns. HasEnded settings roads start failed now.sink ns ended) (sym (told_is ∙ opens.same.2))
-      (begun-ended failed now.sink before.notifiers live.OutOfMemory ended is
+      subst (λ (o : Outputs). HasEnded settings roads start failed o ended) (sym outputs_are)
+      (subst (λ ns. HasEnded settings roads start failed (record { sink = now.sink; notifiers = ns }) ended) (sym opens.same.2)
+      (begun-ended failed (record { sink = now.sink; notifiers = before.notifiers }) live.OutOfMemory ended is
       (row-begins settings roads start before row opens.stands opens.behind now.sink.written now.sink.faults (whole-some before.sink.written now.sink.written (row_text settings.proof before.round before.book row) opens.text))
       (λ e. absurd cc) (λ e. absurd cc) (omega (arith, opens.writes, falls))))
 
   -- behind an open batch
-  module _ (b : Batch) (round : ℕ) (book : BookView) (rows : Option (List Line)) (sink : SinkView) (notifiers : List NotifierView) (closed : Bool) (end : Halt) (fault : Option ReportFault) (reads : ℕ)
-      (on : HasRunOn settings roads start b round book rows sink notifiers closed end fault reads) (after : List NotifierView) (cut : BookView) where
+  module _ (b : Batch) (round : ℕ) (book : BookView) (rows : Option (List Line)) (outputs : Outputs) (closed : Bool) (end : Halt) (fault : Option ReportFault) (reads : ℕ)
+      (on : HasRunOn settings roads start b round book rows outputs closed end fault reads) (cut : BookView) where
     start-reads : start.reads ≤ reads
     start-reads = (let were : start.reads ≤ on.opens.before.reads = on.opens.stands.reads in let a = on.opens.same.1 in let c = on.reads_were in omega (arith, were, a, c))
 
-    start-writes : start.sink.faults ≤ sink.faults
+    start-writes : start.sink.faults ≤ outputs.sink.faults
     start-writes =
         let were : start.sink.faults ≤ on.opens.before.sink.faults = on.opens.stands.writes in
         let here : on.opens.before.sink.faults ≤ on.sealed.sink.faults = on.opens.writes in
-        let falls : on.sealed.sink.faults ≤ sink.faults = on.ran.desk.never_falls in
+        let falls : on.sealed.sink.faults ≤ outputs.sink.faults = on.ran.desk.never_falls in
         omega (arith, were, here, falls)
 
-    pub batch-failed : (why : LiveFault) (failed : ℕ) (ended : Result (Unit {0}) LiveFault) → HasToldBatch roads.nodes settings.wait book cut closed fault notifiers after (Err why) → ended ≡ Err why → HasEnded settings roads start failed sink after ended
-    batch-failed why failed ended told is =
-        subst (λ ns. HasEnded settings roads start failed sink ns ended) (sym told.untold)
-        (begun-ended failed sink notifiers why ended is (batch-begins settings roads start b round book rows sink notifiers closed end fault reads on)
-        (λ e. rose (told.write_fault (ap Err e))) (λ e. absurd (told.no_read (ap Err e))) start-writes)
+    pub batch-failed : (why : LiveFault) (failed : ℕ) (ended : Result (Unit {0}) LiveFault) → HasCut book cut closed fault (Err why) → ended ≡ Err why → HasEnded settings roads start failed outputs ended
+    batch-failed why failed ended has_cut is =
+        begun-ended failed outputs why ended is (batch-begins settings roads start b round book rows outputs closed end fault reads on)
+        (λ e. rose (has_cut.write_fault (ap Err e))) (λ e. absurd (has_cut.no_read (ap Err e))) start-writes
       where
-        rose : fault ≡ Some report.WriteFault → Rose start.sink.faults sink.faults
+        rose : fault ≡ Some report.WriteFault → Rose start.sink.faults outputs.sink.faults
         rose e =
-            let text : IsWritten (Some report.WriteFault) on.sealed.sink sink (entries_text settings.proof book) = subst (λ f. IsWritten f on.sealed.sink sink (entries_text settings.proof book)) e on.ran.desk.text in
+            let broke : IsPassedOn (Some report.WriteFault) settings.proof book (outputs_of on.sealed) outputs = subst (λ f. IsPassedOn f settings.proof book (outputs_of on.sealed) outputs) e on.ran.desk.told in
             let were : start.sink.faults ≤ on.opens.before.sink.faults = on.opens.stands.writes in
             let here : on.opens.before.sink.faults ≤ on.sealed.sink.faults = on.opens.writes in
-            let risen : Rose on.sealed.sink.faults sink.faults = text.1 refl in
+            let risen : Rose on.sealed.sink.faults outputs.sink.faults = broke.fault refl in
             omega (arith, were, here, risen)
 
     -- the moment behind it
     abbrev pub behind_it : ℕ → Moment
-    behind_it count = record { book = cut; round = Some round; rows = rows; reads = count; sink = sink; notifiers = after }
+    behind_it count = record { book = cut; round = Some round; rows = rows; reads = count; sink = outputs.sink; notifiers = outputs.notifiers }
 
     abbrev lines : List Line
     lines = on.opens.stands.lines ++ (on.row ∷ on.ran.rows.run)
 
-    pub batch-stood : (done : Unit {0}) (count : ℕ) (Now : List Line → Type 0) → HasToldBatch roads.nodes settings.wait book cut closed fault notifiers after (Ok done) → reads ≤ count → Now lines
+    pub batch-stood : (done : Unit {0}) (count : ℕ) (Now : List Line → Type 0) → HasCut book cut closed fault (Ok done) → reads ≤ count → Now lines
         → Stands settings roads start (behind_it count) Now
-    batch-stood done count Now told failed are =
-        batch-stands settings roads start b round book rows sink notifiers closed end fault reads on (behind_it count) Now told.is_closed told.whole told.cut refl refl told.told failed are
+    batch-stood done count Now has_cut failed are =
+        batch-stands settings roads start b round book rows outputs closed end fault reads on (behind_it count) Now has_cut.is_closed has_cut.whole has_cut.cut refl refl failed are
 
-    pub batch-held : (done : Unit {0}) (row : Line) (count : ℕ) → HasToldBatch roads.nodes settings.wait book cut closed fault notifiers after (Ok done) → end ≡ stop.Held row → FaultsFrom end reads count
+    pub batch-held : (done : Unit {0}) (row : Line) (count : ℕ) → HasCut book cut closed fault (Ok done) → end ≡ stop.Held row → FaultsFrom end reads count
         → Stands settings roads start (behind_it count) (HaveCome start (behind_it count) (Some row))
-    batch-held done row count told is failed =
-        batch-stood done count (HaveCome start (behind_it count) (Some row)) told (faults-kept end row reads count is failed)
-        (subst (λ e. Behind e start.rows rows lines) is (lines-behind settings roads start b round book rows sink notifiers closed end fault reads on))
+    batch-held done row count has_cut is failed =
+        batch-stood done count (HaveCome start (behind_it count) (Some row)) has_cut (faults-kept end row reads count is failed)
+        (subst (λ e. Behind e start.rows rows lines) is (lines-behind settings roads start b round book rows outputs closed end fault reads on))
 
-    pub batch-last : (done : Unit {0}) (failed : ℕ) (last : SinkView) (ended : Result (Unit {0}) LiveFault) → HasToldBatch roads.nodes settings.wait book cut closed fault notifiers after (Ok done) → end ≡ stop.Ended
-        → (answer : Result (Unit {0}) ReportFault) × (ended ≡ ended_by answer) × WritesText (record { before = sink; after = last }) (end_text (next_position cut.first cut.entries)) answer
-        → HasEnded settings roads start failed last after ended
-    batch-last done failed last ended told is wrote =
-        let are : AreRows start.rows lines = subst (λ e. Behind e start.rows rows lines) is (lines-behind settings roads start b round book rows sink notifiers closed end fault reads on) in
-        let stands = batch-stood done reads (AreRows start.rows) told (omega arith) are in
-        all-ended (behind_it reads) (AreRows start.rows) stands stands.are failed last ended wrote
+    pub batch-last : (done : Unit {0}) (failed : ℕ) (last : Outputs) (ended : Result (Unit {0}) LiveFault) → HasCut book cut closed fault (Ok done) → end ≡ stop.Ended
+        → last.notifiers ≡ outputs.notifiers
+        → (answer : Result (Unit {0}) ReportFault) × (ended ≡ ended_by answer) × WritesText (record { before = outputs.sink; after = last.sink }) (end_text (next_position cut.first cut.entries)) answer
+        → HasEnded settings roads start failed last ended
+    batch-last done failed last ended has_cut is same wrote =
+        let are : AreRows start.rows lines = subst (λ e. Behind e start.rows rows lines) is (lines-behind settings roads start b round book rows outputs closed end fault reads on) in
+        let stands = batch-stood done reads (AreRows start.rows) has_cut (omega arith) are in
+        all-ended (behind_it reads) (AreRows start.rows) stands stands.are failed last.sink last ended (λ i. record { sink = last.sink; notifiers = same i }) wrote
 
-    pub batch-unread : (done : Unit {0}) (failed : ℕ) (last : SinkView) (ended : Result (Unit {0}) LiveFault) → HasToldBatch roads.nodes settings.wait book cut closed fault notifiers after (Ok done) → end ≡ stop.ReadFault
-        → FaultsFrom end reads failed → ended ≡ Err live.ReadFault → last ≡ sink → HasEnded settings roads start failed last after ended
-    batch-unread done failed last ended told is from ended_is last_is =
-        let are : BeginWithRows start.rows lines = subst (λ e. Behind e start.rows rows lines) is (lines-behind settings roads start b round book rows sink notifiers closed end fault reads on) in
-        let stands = batch-stood done reads (BeginWithRows start.rows) told (omega arith) are in
+    pub batch-unread : (done : Unit {0}) (failed : ℕ) (last : Outputs) (ended : Result (Unit {0}) LiveFault) → HasCut book cut closed fault (Ok done) → end ≡ stop.ReadFault
+        → FaultsFrom end reads failed → ended ≡ Err live.ReadFault → last ≡ outputs → HasEnded settings roads start failed last ended
+    batch-unread done failed last ended has_cut is from ended_is last_is =
+        let are : BeginWithRows start.rows lines = subst (λ e. Behind e start.rows rows lines) is (lines-behind settings roads start b round book rows outputs closed end fault reads on) in
+        let stands = batch-stood done reads (BeginWithRows start.rows) has_cut (omega arith) are in
         let rose : Rose reads failed = subst (λ e. FaultsFrom e reads failed) is from in
         let were = start-reads in
         stood-ended (behind_it reads) (BeginWithRows start.rows) stands stands.are failed last live.ReadFault ended ended_is last_is (λ e. absurd cc) (λ e. omega (arith, rose, were))
 
-    pub batch-out : (done : Unit {0}) (failed : ℕ) (last : SinkView) (ended : Result (Unit {0}) LiveFault) → HasToldBatch roads.nodes settings.wait book cut closed fault notifiers after (Ok done) → end ≡ stop.OutOfMemory
-        → ended ≡ Err live.OutOfMemory → last ≡ sink → HasEnded settings roads start failed last after ended
-    batch-out done failed last ended told is ended_is last_is =
-        let are : BeginWithRows start.rows lines = subst (λ e. Behind e start.rows rows lines) is (lines-behind settings roads start b round book rows sink notifiers closed end fault reads on) in
-        let stands = batch-stood done reads (BeginWithRows start.rows) told (omega arith) are in
+    pub batch-out : (done : Unit {0}) (failed : ℕ) (last : Outputs) (ended : Result (Unit {0}) LiveFault) → HasCut book cut closed fault (Ok done) → end ≡ stop.OutOfMemory
+        → ended ≡ Err live.OutOfMemory → last ≡ outputs → HasEnded settings roads start failed last ended
+    batch-out done failed last ended has_cut is ended_is last_is =
+        let are : BeginWithRows start.rows lines = subst (λ e. Behind e start.rows rows lines) is (lines-behind settings roads start b round book rows outputs closed end fault reads on) in
+        let stands = batch-stood done reads (BeginWithRows start.rows) has_cut (omega arith) are in
         stood-ended (behind_it reads) (BeginWithRows start.rows) stands stands.are failed last live.OutOfMemory ended ended_is last_is (λ e. absurd cc) (λ e. absurd cc)

@@ -4,7 +4,7 @@ use Rattle.std.proofs.lemmas.Grind.{flat_map-append}
 use Rattle.std.proofs.lemmas.List.{map-append}
 use Rattle.std.proofs.lemmas.List.Elements.{filter-append}
 use Rattle.dispatch_engine.specs.Lane.{of_lane, IsLaneRunFrom, IsLaneRun, IsLaneBeginning, ClosesAreGood}
-use Rattle.dispatch_engine.specs.Run.{IsRoundRun, IsRun, position_after_run}
+use Rattle.dispatch_engine.specs.Run.{IsRoundRun, IsRun, position_after_run, state_after_run}
 use Rattle.dispatch_report.specs.Entry.{entry_line}
 use Rattle.dispatch_report.specs.Lines.{lines_text}
 use Rattle.dispatch_report.specs.Round.{entries_lines, entry_block, round_line, round_text}
@@ -26,7 +26,7 @@ use Rattle.script_rows.specs.Script.{round_of}
 use Rattle.script_rows.specs.declared.line.Line.{Line}
 use Rattle.script_rows.specs.lemmas.Named.{rounds_of}
 use Rattle.shared_book.specs.Locked.{sealed_by}
-use Rattle.live_dispatch.specs.Live.{IsBegunRun, IsRoundBeginning, journals_notices, journals_text, state_after_all}
+use Rattle.live_dispatch.specs.Live.{ButLast, IsBegunRun, IsRoundBeginning, journals_notices, journals_text}
 use Rattle.live_dispatch.specs.work.Rows.{EndsIn, in_lane, start_text}
 use Rattle.live_dispatch.proofs.RowLemmas.{AreOf, RoundsGrow, lane-grows}
 
@@ -93,7 +93,7 @@ unfolding round_text
 round-begins number proof j = lines-append (numbered (codes "round ") number ∷ []) (entries_lines proof j.first j.entries)
 
 -- a journal with more entries
-abbrev with_more : Journal → List Entry → Journal
+abbrev pub with_more : Journal → List Entry → Journal
 with_more j es = record { first = j.first; base = j.base; entries = j.entries ++ es }
 
 round-grows : (number : ℕ) (proof : Bool) (j : Journal) (es : List Entry) → j.first < 2 ^ 64
@@ -110,10 +110,6 @@ module _ (nodes : List ℕ) (wait : ℕ) where
   unfolding state_after
   state-append s [] ys = refl
   state-append s (e ∷ es) ys = state-append (step nodes wait s e.command).0 es ys
-
-  state-push : (s : State) (js : List Journal) (j : Journal) → state_after_all nodes wait s (js ++ j ∷ []) ≡ state_after nodes wait (state_after_all nodes wait s js) j.entries
-  state-push s [] j = refl
-  state-push s (k ∷ js) j = state-push (state_after nodes wait s k.entries) js j
 
   replies-append : (s : State) (xs ys : List Entry) → RepliesAreSteps nodes wait s xs → RepliesAreSteps nodes wait (state_after nodes wait s xs) ys → RepliesAreSteps nodes wait s (xs ++ ys)
   unfolding RepliesAreSteps state_after
@@ -135,7 +131,11 @@ module _ (settings : Settings) (roads : Roads) where
 
   -- the state and the position behind journals
   abbrev after : State → List Journal → State
-  after s js = state_after_all roads.nodes settings.wait s js
+  after s js = state_after_run settings roads s js
+
+  state-push : (s : State) (js : List Journal) (j : Journal) → after s (js ++ j ∷ []) ≡ state_after roads.nodes settings.wait (after s js) j.entries
+  state-push s [] j = refl
+  state-push s (k ∷ js) j = state-push (state_after roads.nodes settings.wait s k.entries) js j
 
   -- one more round
   pub run-push : (s : State) (p : ℕ) (rs : List NumberedLanes) (js : List Journal) (r : NumberedLanes) (j : Journal) → IsRun settings roads s p rs js
@@ -154,6 +154,14 @@ module _ (settings : Settings) (roads : Roads) where
   text-push s p (q ∷ rs) (k ∷ js) r j run =
       ap (λ t. round_text q.number settings.proof k ++ t) (text-push (state_after roads.nodes settings.wait s k.entries) (next_position p k.entries) rs js r j run.3)
       ∙ sym (append_assoc (round_text q.number settings.proof k) (journals_text settings.proof rs js) (round_text r.number settings.proof j))
+
+  -- a round without a journal has no text
+  text-short : (s : State) (p : ℕ) (rs : List NumberedLanes) (js : List Journal) (r : NumberedLanes) → IsRun settings roads s p rs js → journals_text settings.proof (rs ++ r ∷ []) js ≡ journals_text settings.proof rs js
+  text-short s p [] [] r run = refl
+  text-short s p [] (k ∷ js) r run = absurd run
+  text-short s p (q ∷ rs) [] r run = absurd run
+  text-short s p (q ∷ rs) (k ∷ js) r run =
+      ap (λ t. round_text q.number settings.proof k ++ t) (text-short (state_after roads.nodes settings.wait s k.entries) (next_position p k.entries) rs js r run.3)
 
   -- the notices of a journal from its base
   abbrev own_notices : Journal → List Notice
@@ -194,16 +202,21 @@ module _ (settings : Settings) (roads : Roads) where
   pub record HasGrown (s : State) (p : ℕ) (round : Option ℕ) (lines rows : List Line) (number : ℕ) (journals : List Journal) (es : List Entry) : Type 0 where
     pub fronts : List NumberedLanes
     pub done : List Journal
+    -- the last journal, or an empty one, and what it becomes
+    pub front : Journal
     pub journal : Journal
+    pub is : journal ≡ with_more front es
+    pub one : (e : Entry) → es ≡ e ∷ [] → ButLast (done ++ journal ∷ []) journals
     pub rounds : rounds_of (lines ++ rows) ≡ fronts ++ round_of (lines ++ rows) number ∷ []
     pub run : IsRun settings roads s p fronts done
     pub base : journal.base ≡ after s done
     pub first : journal.first ≡ position_after_run p done
     pub whole : ((lane : ℕ) → IsLaneRun (in_lane rows lane) (of_lane lane es)) → IsRoundRun settings roads (round_of (lines ++ rows) number) journal
     pub begun : ((lane : ℕ) → IsLaneBeginning (in_lane rows lane) (of_lane lane es)) → IsRoundBeginning settings roads (round_of (lines ++ rows) number) journal
-    pub text : journals_text settings.proof (fronts ++ round_of (lines ++ rows) number ∷ []) (done ++ journal ∷ [])
-        ≡ journals_text settings.proof (rounds_of lines) journals ++ (start_text round number ++ lines_text (entries_lines settings.proof (position_after_run p journals) es))
-    pub notices : journals_notices settings roads (done ++ journal ∷ []) ≡ journals_notices settings roads journals ++ notices_from roads.nodes settings.wait (after s journals) es
+    pub text : (fs : List Entry) → journals_text settings.proof (fronts ++ round_of (lines ++ rows) number ∷ []) (done ++ with_more front fs ∷ [])
+        ≡ journals_text settings.proof (rounds_of lines) journals ++ (start_text round number ++ lines_text (entries_lines settings.proof (position_after_run p journals) fs))
+    pub old_text : journals_text settings.proof (fronts ++ round_of (lines ++ rows) number ∷ []) journals ≡ journals_text settings.proof (rounds_of lines) journals
+    pub notices : (fs : List Entry) → journals_notices settings roads (done ++ with_more front fs ∷ []) ≡ journals_notices settings roads journals ++ notices_from roads.nodes settings.wait (after s journals) fs
     pub state : after s (done ++ journal ∷ []) ≡ state_after roads.nodes settings.wait (after s journals) es
     pub position : position_after_run p (done ++ journal ∷ []) ≡ next_position (position_after_run p journals) es
 
@@ -218,7 +231,7 @@ module _ (settings : Settings) (roads : Roads) where
         let own : NumberedLanes = round_of lines number in
         let grown : NumberedLanes = round_of (lines ++ rows) number in
         let here : State = state_after roads.nodes settings.wait j.base j.entries in
-        let state : after s (done ++ j ∷ []) ≡ here = state-push roads.nodes settings.wait s done j ∙ ap (λ t. state_after roads.nodes settings.wait t j.entries) (sym base) in
+        let state : after s (done ++ j ∷ []) ≡ here = state-push s done j ∙ ap (λ t. state_after roads.nodes settings.wait t j.entries) (sym base) in
         let position : position_after_run p (done ++ j ∷ []) ≡ next_position j.first j.entries = position-push p done j ∙ ap (λ n. next_position n j.entries) (sym first) in
         let small : j.first < 2 ^ 64 = subst (λ (n : ℕ). n < 2 ^ 64) (sym first) (position-low p done low) in
         let all_replies : RepliesAreSteps roads.nodes settings.wait j.base (j.entries ++ es) =
@@ -228,7 +241,10 @@ module _ (settings : Settings) (roads : Roads) where
         record {
           fronts = front;
           done = done;
+          front = j;
           journal = k;
+          is = refl;
+          one = λ e one. subst (λ xs. ButLast (done ++ with_more j xs ∷ []) (done ++ j ∷ [])) (sym one) (ButLast.later done j.first j.base j.entries e);
           rounds = rounds;
           run = run;
           base = base;
@@ -249,22 +265,25 @@ module _ (settings : Settings) (roads : Roads) where
                 (subst (IsLaneBeginning (lane_at own lane ++ in_lane rows lane)) (sym (lane-entries lane j.entries es))
                 (lane-begins (lane_at own lane) (in_lane rows lane) (of_lane lane j.entries) (of_lane lane es) (is.lanes lane) (lanes lane)));
           };
-          text =
-              let more : List ℕ = lines_text (entries_lines settings.proof (next_position j.first j.entries) es) in
+          text = λ fs.
+              let more : List ℕ = lines_text (entries_lines settings.proof (next_position j.first j.entries) fs) in
               let before : List ℕ = journals_text settings.proof front done in
-              text-push s p front done grown k run
-              ∙ ap (λ t. before ++ t) (round-grows number settings.proof j es small)
+              text-push s p front done grown (with_more j fs) run
+              ∙ ap (λ t. before ++ t) (round-grows number settings.proof j fs small)
               ∙ sym (append_assoc before (round_text number settings.proof j) more)
               ∙ ap (λ t. t ++ more) (sym (text-push s p front done own j run) ∙ ap (λ rs. journals_text settings.proof rs (done ++ j ∷ [])) (sym was))
-              ∙ ap (λ n. journals_text settings.proof (rounds_of lines) (done ++ j ∷ []) ++ lines_text (entries_lines settings.proof n es)) (sym position)
-              ∙ ap (λ t. journals_text settings.proof (rounds_of lines) (done ++ j ∷ []) ++ (t ++ lines_text (entries_lines settings.proof (position_after_run p (done ++ j ∷ [])) es))) (sym starts);
-          notices =
-              notices-push done k
-              ∙ ap (λ t. journals_notices settings roads done ++ t) (notices-append roads.nodes settings.wait j.base j.entries es)
-              ∙ sym (append_assoc (journals_notices settings roads done) (own_notices j) (notices_from roads.nodes settings.wait here es))
-              ∙ (λ i. sym (notices-push done j) i ++ notices_from roads.nodes settings.wait (sym state i) es);
+              ∙ ap (λ n. journals_text settings.proof (rounds_of lines) (done ++ j ∷ []) ++ lines_text (entries_lines settings.proof n fs)) (sym position)
+              ∙ ap (λ t. journals_text settings.proof (rounds_of lines) (done ++ j ∷ []) ++ (t ++ lines_text (entries_lines settings.proof (position_after_run p (done ++ j ∷ [])) fs))) (sym starts);
+          old_text =
+              text-push s p front done grown j run ∙ sym (text-push s p front done own j run)
+              ∙ ap (λ rs. journals_text settings.proof rs (done ++ j ∷ [])) (sym was);
+          notices = λ fs.
+              notices-push done (with_more j fs)
+              ∙ ap (λ t. journals_notices settings roads done ++ t) (notices-append roads.nodes settings.wait j.base j.entries fs)
+              ∙ sym (append_assoc (journals_notices settings roads done) (own_notices j) (notices_from roads.nodes settings.wait here fs))
+              ∙ (λ i. sym (notices-push done j) i ++ notices_from roads.nodes settings.wait (sym state i) fs);
           state =
-              state-push roads.nodes settings.wait s done k
+              state-push s done k
               ∙ ap (λ t. state_after roads.nodes settings.wait t (j.entries ++ es)) (sym base)
               ∙ state-append roads.nodes settings.wait j.base j.entries es
               ∙ ap (λ t. state_after roads.nodes settings.wait t es) (sym state);
@@ -281,14 +300,18 @@ module _ (settings : Settings) (roads : Roads) where
         → RepliesAreSteps roads.nodes settings.wait (after s journals) es → ClosesAreGood settings roads (after s journals) es
         → HasGrown s p round lines rows number journals es
     grown-new journals run starts rounds none replies closes =
-        let k : Journal = record { first = position_after_run p journals; base = after s journals; entries = es } in
+        let none_yet : Journal = record { first = position_after_run p journals; base = after s journals; entries = [] } in
+        let k : Journal = with_more none_yet es in
         let grown : NumberedLanes = round_of (lines ++ rows) number in
         let lane_is : (lane : ℕ) → lane_at grown lane ≡ in_lane rows lane = λ lane. lane-grows lines rows number lane are ∙ ap (λ cs. cs ++ in_lane rows lane) (none lane) in
         let before : List ℕ = journals_text settings.proof (rounds_of lines) journals in
         record {
           fronts = rounds_of lines;
           done = journals;
+          front = none_yet;
           journal = k;
+          is = refl;
+          one = λ e one. subst (λ xs. ButLast (journals ++ with_more none_yet xs ∷ []) journals) (sym one) (ButLast.only journals none_yet.first none_yet.base e);
           rounds = rounds;
           run = run;
           base = refl;
@@ -303,12 +326,13 @@ module _ (settings : Settings) (roads : Roads) where
             closes = closes;
             lanes = λ lane. subst (λ cs. IsLaneBeginning cs (of_lane lane es)) (sym (lane_is lane)) (lanes lane);
           };
-          text =
-              text-push s p (rounds_of lines) journals grown k run
-              ∙ ap (λ t. before ++ t) (round-begins number settings.proof k)
-              ∙ ap (λ t. before ++ (t ++ lines_text (entries_lines settings.proof (position_after_run p journals) es))) (sym starts);
-          notices = notices-push journals k;
-          state = state-push roads.nodes settings.wait s journals k;
+          text = λ fs.
+              text-push s p (rounds_of lines) journals grown (with_more none_yet fs) run
+              ∙ ap (λ t. before ++ t) (round-begins number settings.proof (with_more none_yet fs))
+              ∙ ap (λ t. before ++ (t ++ lines_text (entries_lines settings.proof (position_after_run p journals) fs))) (sym starts);
+          old_text = text-short s p (rounds_of lines) journals grown run;
+          notices = λ fs. notices-push journals (with_more none_yet fs);
+          state = state-push s journals k;
           position = position-push p journals k;
         }
 

@@ -1,12 +1,13 @@
 -- What stands of a run after more rows.
-use Rattle.std.proofs.Common.{◌≡◌, ℕ, ◌+◌, ◌<◌, ◌≤◌, List, [], ◌∷◌, ◌++◌, codes, length, take, Option, Some, sym, ap, subst, ◌∙◌, append_assoc, append-nil, length-append, arith}
+use Rattle.std.proofs.Common.{◌≡◌, ℕ, ◌+◌, ◌<◌, ◌≤◌, Bool, List, [], ◌∷◌, ◌++◌, codes, length, take, drop, Option, Some, refl, sym, ap, subst, ◌∙◌, append_assoc, append-nil, take-append-drop, length-append, inl, inr, arith}
 use Rattle.std.specs.Io.KnownBytes.{Appends}
 use Rattle.std.proofs.KnownBytes.{Appends-trans}
 use Rattle.std.proofs.Math.Seq.{take-append-add}
 use Rattle.dispatch_engine.specs.Lane.{of_lane, IsLaneRun, IsLaneBeginning, ClosesAreGood}
 use Rattle.dispatch_engine.specs.Run.{IsReady, IsRun, position_after_run}
 use Rattle.dispatch_report.specs.Lines.{lines_text}
-use Rattle.dispatch_report.specs.Round.{end_text, entries_lines}
+use Rattle.dispatch_report.specs.Round.{end_text, entries_lines, entry_text}
+use Rattle.dispatch_report.specs.Written.{Change, SinkView}
 use Rattle.dispatch_report.specs.Words.{numbered}
 use Rattle.pool_io.specs.Sink.{AppendsPart}
 use Rattle.request_book.specs.Book.{next_position}
@@ -23,11 +24,11 @@ use Rattle.road_network.specs.Roads.{Roads}
 use Rattle.script_rows.specs.Script.{round_of}
 use Rattle.script_rows.specs.declared.line.Line.{Line}
 use Rattle.script_rows.specs.lemmas.Named.{rounds_of}
-use Rattle.live_dispatch.specs.Live.{BeginsRows, BeginWithRows, IsBegunRun, journals_notices, journals_text, rows_text}
+use Rattle.live_dispatch.specs.Live.{AreWhole, BeginsRows, BeginWithRows, ButLast, HasAppended, IsBegunRun, journals_notices, journals_text, rows_text}
 use Rattle.live_dispatch.specs.work.Rows.{EndsIn, in_lane, last_of, start_text}
-use Rattle.live_dispatch.specs.work.Standing.{AppendsSome, Moment, Stands}
+use Rattle.live_dispatch.specs.work.Standing.{Moment, Stands}
 use Rattle.live_dispatch.proofs.RowLemmas.{AreMore, AreOf, rows-more}
-use Rattle.live_dispatch.proofs.RunLemmas.{HasGrown, has-grown, run-begins, run-push}
+use Rattle.live_dispatch.proofs.RunLemmas.{HasGrown, entries-append, has-grown, next-low, run-begins, run-push, with_more}
 
 -- bytes that were written are a part of them and some more
 pub part-of : (old new : Option (List ℕ)) (bytes rest : List ℕ) → Appends old new bytes → 0 < length rest → AppendsPart old new (bytes ++ rest)
@@ -37,8 +38,21 @@ part-of old new bytes rest written some = (
   subst (λ (l : List ℕ). Appends old new l) (sym (take-append-add bytes rest 0 ∙ append-nil bytes)) written,
 )
 
+-- bytes and a part of a text are a part of both
+pub part-behind : (old new : Option (List ℕ)) (front text : List ℕ) (k : ℕ) → k < length text → Appends old new (front ++ take k text) → AppendsPart old new (front ++ text)
+part-behind old new front text k short written = (
+  length front + k,
+  omega (arith, length-append front text, short),
+  subst (λ (l : List ℕ). Appends old new l) (sym (take-append-add front text k)) written,
+)
+
 some-append : (xs ys : List ℕ) → 0 < length ys → 0 < length (xs ++ ys)
 some-append xs ys some = omega (arith, length-append xs ys, some)
+
+-- one entry's text
+pub one-text : (proof : Bool) (p : ℕ) (e : Entry) → lines_text (entries_lines proof p (e ∷ [])) ≡ entry_text proof p e
+unfolding entries_lines
+one-text proof p e = ap lines_text (append-nil _)
 
 pub end-some : (n : ℕ) → 0 < length (end_text n)
 unfolding end_text lines_text
@@ -70,24 +84,41 @@ module _ (settings : Settings) (roads : Roads) (start before : Moment) (Before :
   abbrev old_text : List ℕ
   old_text = journals_text settings.proof (rounds_of stands.lines) stands.journals
 
-  abbrev more_text : List ℕ
-  more_text = start_text before.round number ++ lines_text (entries_lines settings.proof (next_position before.book.first before.book.entries) es)
+  abbrev position : ℕ
+  position = next_position before.book.first before.book.entries
 
-  unfold-text : journals_text settings.proof (rounds_of all) journals ≡ old_text ++ more_text
-  unfolding journals
-  unfold-text =
-      ap (λ rs. journals_text settings.proof rs (grown.done ++ grown.journal ∷ [])) grown.rounds
-      ∙ grown.text
-      ∙ ap (λ n. old_text ++ (start_text before.round number ++ lines_text (entries_lines settings.proof n es))) (sym stands.position)
+  -- the text of some entries behind it, and the journals with these alone
+  abbrev more_of : List Entry → List ℕ
+  more_of fs = start_text before.round number ++ lines_text (entries_lines settings.proof position fs)
+
+  whole_of : List Entry → List Journal
+  whole_of fs = grown.done ++ with_more grown.front fs ∷ []
+
+  journals-are : journals ≡ whole_of es
+  unfolding journals whole_of
+  journals-are = ap (λ j. grown.done ++ j ∷ []) grown.is
+
+  whole-text : (fs : List Entry) → journals_text settings.proof (rounds_of all) (whole_of fs) ≡ old_text ++ more_of fs
+  unfolding whole_of
+  whole-text fs =
+      ap (λ rs. journals_text settings.proof rs (grown.done ++ with_more grown.front fs ∷ [])) grown.rounds
+      ∙ grown.text fs
+      ∙ ap (λ n. old_text ++ (start_text before.round number ++ lines_text (entries_lines settings.proof n fs))) (sym stands.position)
+
+  whole-notices : (fs : List Entry) → journals_notices settings roads (whole_of fs) ≡ journals_notices settings roads stands.journals ++ notices_from roads.nodes settings.wait before.book.state fs
+  unfolding whole_of
+  whole-notices fs = grown.notices fs ∙ ap (λ s. journals_notices settings roads stands.journals ++ notices_from roads.nodes settings.wait s fs) (sym stands.state)
+
+  unfold-text : journals_text settings.proof (rounds_of all) journals ≡ old_text ++ more_of es
+  unfold-text = ap (λ js. journals_text settings.proof (rounds_of all) js) journals-are ∙ whole-text es
 
   notices-are : journals_notices settings roads journals ≡ journals_notices settings roads stands.journals ++ notices_from roads.nodes settings.wait before.book.state es
-  unfolding journals
-  notices-are = grown.notices ∙ ap (λ s. journals_notices settings roads stands.journals ++ notices_from roads.nodes settings.wait s es) (sym stands.state)
+  notices-are = ap (λ js. journals_notices settings roads js) journals-are ∙ whole-notices es
 
   pub stands-after : (now : Moment) (Now : List Line → Type 0) → Now all → ((lane : ℕ) → IsLaneRun (in_lane (row ∷ rest) lane) (of_lane lane es))
       → now.round ≡ Some number → now.book.state ≡ state_after roads.nodes settings.wait before.book.state es
       → next_position now.book.first now.book.entries ≡ next_position (next_position before.book.first before.book.entries) es
-      → IsReady settings roads now.book → Appends before.sink.written now.sink.written more_text
+      → IsReady settings roads now.book → Appends before.sink.written now.sink.written (more_of es)
       → HaveHeard (notices_from roads.nodes settings.wait before.book.state es) before.notifiers now.notifiers
       → before.sink.faults ≤ now.sink.faults → before.reads ≤ now.reads → Stands settings roads start now Now
   unfolding journals
@@ -99,7 +130,7 @@ module _ (settings : Settings) (roads : Roads) (start before : Moment) (Before :
     run = subst (λ rs. IsRun settings roads start.book.base start.book.first rs journals) (sym grown.rounds)
         (run-push settings roads start.book.base start.book.first grown.fronts grown.done (round_of all number) grown.journal grown.run grown.base grown.first (grown.whole lanes));
     text = subst (λ (t : List ℕ). Appends start.sink.written now.sink.written t) (sym unfold-text)
-        (Appends-trans start.sink.written before.sink.written now.sink.written old_text more_text stands.text text);
+        (Appends-trans start.sink.written before.sink.written now.sink.written old_text (more_of es) stands.text text);
     told = subst (λ (ns : List Notice). HaveHeard ns start.notifiers now.notifiers) (sym notices-are)
         (all-heard-more (journals_notices settings roads stands.journals) (notices_from roads.nodes settings.wait before.book.state es) start.notifiers before.notifiers now.notifiers stands.told told);
     state = state ∙ ap (λ s. state_after roads.nodes settings.wait s es) stands.state ∙ sym grown.state;
@@ -110,35 +141,93 @@ module _ (settings : Settings) (roads : Roads) (start before : Moment) (Before :
     reads = omega (arith, reads, stands.reads);
   }
 
-  pub begins-after : (written : Option (List ℕ)) (faults : ℕ) (notifiers : List NotifierView) (front back : List Notice) → BeginWithRows start.rows all
-      → ((lane : ℕ) → IsLaneBeginning (in_lane (row ∷ rest) lane) (of_lane lane es)) → AppendsSome before.sink.written written more_text
-      → front ++ back ≡ notices_from roads.nodes settings.wait before.book.state es → HaveHeard front before.notifiers notifiers
-      → BeginsRows settings roads start.book start.rows (record { before = start.sink; after = record { written = written; faults = faults } }) (record { before = start.notifiers; after = notifiers })
-  unfolding journals
-  begins-after written faults notifiers front back begin lanes text parts heard =
-      let end : List ℕ = end_text (position_after_run start.book.first journals) in
-      let bytes : List ℕ = old_text ++ text.written in
-      let is : bytes ++ (text.unwritten ++ end) ≡ rows_text settings roads start.book.first all journals =
-      append_assoc old_text text.written (text.unwritten ++ end)
-      ∙ ap (λ t. old_text ++ t) (sym (append_assoc text.written text.unwritten end) ∙ ap (λ t. t ++ end) text.parts)
-      ∙ sym (append_assoc old_text more_text end)
-      ∙ ap (λ t. t ++ end) (sym unfold-text) in
-      let told : List Notice = journals_notices settings roads stands.journals in
-      record {
-        lines = all;
-        begin = begin;
-        journals = journals;
-        run = subst (λ rs. IsBegunRun settings roads start.book.base start.book.first rs journals) (sym grown.rounds)
-            (IsBegunRun.some grown.fronts grown.done (round_of all number) grown.journal grown.run grown.base grown.first (grown.begun lanes));
-        text = subst (λ (t : List ℕ). AppendsPart start.sink.written written t) is
-            (part-of start.sink.written written bytes (text.unwritten ++ end)
-            (Appends-trans start.sink.written before.sink.written written old_text text.written stands.text text.bytes)
-            (some-append text.unwritten end (end-some (position_after_run start.book.first journals))));
-        told = told ++ front;
-        untold = back;
-        notices = append_assoc told front back ∙ ap (λ ns. told ++ ns) parts ∙ sym notices-are;
-        heard = all-heard-more told front start.notifiers before.notifiers notifiers stands.told heard;
-      }
+  module _ (written : Option (List ℕ)) (faults : ℕ) (begin : BeginWithRows start.rows all) (lanes : (lane : ℕ) → IsLaneBeginning (in_lane (row ∷ rest) lane) (of_lane lane es)) where
+    abbrev sinks : Change SinkView
+    sinks = record { before = start.sink; after = record { written = written; faults = faults } }
+
+    abbrev all_text : List ℕ
+    all_text = journals_text settings.proof (rounds_of all) journals
+
+    begins-of : (notifiers : List NotifierView) (bytes unwritten : List ℕ) → bytes ++ unwritten ≡ old_text ++ more_of es → Appends start.sink.written written bytes
+        → (whole : List Journal) → AreWhole sinks all_text journals whole → HasAppended start.sink.written written (journals_text settings.proof (rounds_of all) whole)
+        → HaveHeard (journals_notices settings roads whole) start.notifiers notifiers
+        → BeginsRows settings roads start.book start.rows sinks (record { before = start.notifiers; after = notifiers })
+    unfolding journals
+    begins-of notifiers bytes unwritten parts appended whole are_whole has told =
+        let end : List ℕ = end_text (position_after_run start.book.first journals) in
+        let is : bytes ++ (unwritten ++ end) ≡ rows_text settings roads start.book.first all journals =
+        sym (append_assoc bytes unwritten end) ∙ ap (λ t. t ++ end) (parts ∙ sym unfold-text) in
+        record {
+          lines = all;
+          begin = begin;
+          journals = journals;
+          run = subst (λ rs. IsBegunRun settings roads start.book.base start.book.first rs journals) (sym grown.rounds)
+              (IsBegunRun.some grown.fronts grown.done (round_of all number) grown.journal grown.run grown.base grown.first (grown.begun lanes));
+          text = subst (λ (t : List ℕ). AppendsPart start.sink.written written t) is
+              (part-of start.sink.written written bytes (unwritten ++ end) appended (some-append unwritten end (end-some (position_after_run start.book.first journals))));
+          whole = whole;
+          are_whole = are_whole;
+          written = has;
+          told = told;
+        }
+
+    -- all entries are written whole
+    pub begins-whole : (notifiers : List NotifierView) → Appends before.sink.written written (more_of es) → HaveHeard (notices_from roads.nodes settings.wait before.book.state es) before.notifiers notifiers
+        → BeginsRows settings roads start.book start.rows sinks (record { before = start.notifiers; after = notifiers })
+    begins-whole notifiers text heard =
+        let bytes : List ℕ = old_text ++ more_of es in
+        let appended : Appends start.sink.written written bytes = Appends-trans start.sink.written before.sink.written written old_text (more_of es) stands.text text in
+        begins-of notifiers bytes [] (append-nil bytes) appended journals (inl refl)
+        ([], subst (λ (t : List ℕ). Appends start.sink.written written t) (sym unfold-text ∙ sym (append-nil all_text)) appended)
+        (subst (λ (ns : List Notice). HaveHeard ns start.notifiers notifiers) (sym notices-are)
+        (all-heard-more (journals_notices settings roads stands.journals) (notices_from roads.nodes settings.wait before.book.state es) start.notifiers before.notifiers notifiers stands.told heard))
+
+    -- the text breaks off within the last entry
+    pub begins-broken : (notifiers : List NotifierView) (fs : List Entry) (e : Entry) (k : ℕ) → es ≡ fs ++ e ∷ [] → k < length (entry_text settings.proof (next_position position fs) e)
+        → Appends before.sink.written written (more_of fs ++ take k (entry_text settings.proof (next_position position fs) e))
+        → HaveHeard (notices_from roads.nodes settings.wait before.book.state fs) before.notifiers notifiers
+        → BeginsRows settings roads start.book start.rows sinks (record { before = start.notifiers; after = notifiers })
+    unfolding whole_of
+    begins-broken notifiers fs e k is short text heard =
+        let last : List ℕ = entry_text settings.proof (next_position position fs) e in
+        let split : more_of es ≡ more_of fs ++ last =
+        ap more_of is
+        ∙ ap (λ t. start_text before.round number ++ t)
+        (entries-append settings.proof position fs (e ∷ []) (next-low before.book.first before.book.entries)
+        ∙ ap (λ t. lines_text (entries_lines settings.proof position fs) ++ t) (one-text settings.proof (next_position position fs) e))
+        ∙ sym (append_assoc (start_text before.round number) (lines_text (entries_lines settings.proof position fs)) last) in
+        let bytes : List ℕ = old_text ++ (more_of fs ++ take k last) in
+        let appended : Appends start.sink.written written bytes = Appends-trans start.sink.written before.sink.written written old_text (more_of fs ++ take k last) stands.text text in
+        let front : List ℕ = old_text ++ more_of fs in
+        let at_front : bytes ≡ front ++ take k last = sym (append_assoc old_text (more_of fs) (take k last)) in
+        let here : Appends start.sink.written written (front ++ take k last) = subst (λ (t : List ℕ). Appends start.sink.written written t) at_front appended in
+        let joined : front ++ last ≡ old_text ++ more_of es = append_assoc old_text (more_of fs) last ∙ ap (λ t. old_text ++ t) (sym split) in
+        let f : Journal = grown.front in
+        begins-of notifiers bytes (drop k last)
+        (ap (λ t. t ++ drop k last) at_front ∙ append_assoc front (take k last) (drop k last) ∙ ap (λ t. front ++ t) (take-append-drop k last) ∙ joined)
+        appended (whole_of fs)
+        (inr (
+          subst (λ js. ButLast js (whole_of fs)) (ap (λ xs. grown.done ++ (record { first = f.first; base = f.base; entries = xs }) ∷ []) (append_assoc f.entries fs (e ∷ []) ∙ ap (λ xs. f.entries ++ xs) (sym is)) ∙ sym journals-are)
+              (ButLast.later grown.done f.first f.base (f.entries ++ fs) e),
+          subst (λ (t : List ℕ). AppendsPart start.sink.written written t) (joined ∙ sym unfold-text) (part-behind start.sink.written written front last k short here),
+        ))
+        (take k last, subst (λ (t : List ℕ). Appends start.sink.written written (t ++ take k last)) (sym (whole-text fs)) here)
+        (subst (λ (ns : List Notice). HaveHeard ns start.notifiers notifiers) (sym (whole-notices fs))
+        (all-heard-more (journals_notices settings roads stands.journals) (notices_from roads.nodes settings.wait before.book.state fs) start.notifiers before.notifiers notifiers stands.told heard))
+
+    -- one entry, or the line of its round before it, isn't written whole
+    pub begins-one : (e : Entry) → es ≡ e ∷ [] → AppendsPart before.sink.written written (more_of es)
+        → BeginsRows settings roads start.book start.rows sinks (record { before = start.notifiers; after = before.notifiers })
+    unfolding journals
+    begins-one e is part =
+        let more : List ℕ = more_of es in
+        let here : Appends start.sink.written written (old_text ++ take part.0 more) = Appends-trans start.sink.written before.sink.written written old_text (take part.0 more) stands.text part.2 in
+        begins-of before.notifiers (old_text ++ take part.0 more) (drop part.0 more)
+        (append_assoc old_text (take part.0 more) (drop part.0 more) ∙ ap (λ t. old_text ++ t) (take-append-drop part.0 more))
+        here stands.journals
+        (inr (grown.one e is, subst (λ (t : List ℕ). AppendsPart start.sink.written written t) (sym unfold-text) (part-behind start.sink.written written old_text more part.0 part.1 here)))
+        (take part.0 more, subst (λ (t : List ℕ). Appends start.sink.written written (t ++ take part.0 more)) (sym (ap (λ rs. journals_text settings.proof rs stands.journals) grown.rounds ∙ grown.old_text)) here)
+        stands.told
 
 -- what stands begins, whatever comes of its last line
 module _ (settings : Settings) (roads : Roads) (start now : Moment) (Now : List Line → Type 0) (stands : Stands settings roads start now Now) where
@@ -159,11 +248,14 @@ module _ (settings : Settings) (roads : Roads) (start now : Moment) (Now : List 
     journals = stands.journals;
     run = begun;
     text = part-of start.sink.written now.sink.written lines_text_is last_line stands.text (end-some (position_after_run start.book.first stands.journals));
-    told = journals_notices settings roads stands.journals;
-    untold = [];
-    notices = append-nil (journals_notices settings roads stands.journals);
-    heard = stands.told;
+    whole = stands.journals;
+    are_whole = inl refl;
+    written = ([], subst (λ (t : List ℕ). Appends start.sink.written now.sink.written t) (sym (append-nil lines_text_is)) stands.text);
+    told = stands.told;
   }
+
+  wrote : (written : Option (List ℕ)) → (part : AppendsPart now.sink.written written last_line) → Appends start.sink.written written (lines_text_is ++ take part.0 last_line)
+  wrote written part = Appends-trans start.sink.written now.sink.written written lines_text_is (take part.0 last_line) stands.text part.2
 
   pub begins-last : (written : Option (List ℕ)) (faults : ℕ) → BeginWithRows start.rows stands.lines → AppendsPart now.sink.written written last_line
       → BeginsRows settings roads start.book start.rows (record { before = start.sink; after = record { written = written; faults = faults } }) (record { before = start.notifiers; after = now.notifiers })
@@ -172,15 +264,9 @@ module _ (settings : Settings) (roads : Roads) (start now : Moment) (Now : List 
     begin = begin;
     journals = stands.journals;
     run = begun;
-    text =
-        let short : part.0 < length last_line = part.1 in (
-          length lines_text_is + part.0,
-          omega (arith, length-append lines_text_is last_line, short),
-          subst (λ (t : List ℕ). Appends start.sink.written written t) (sym (take-append-add lines_text_is last_line part.0))
-              (Appends-trans start.sink.written now.sink.written written lines_text_is (take part.0 last_line) stands.text part.2),
-        );
-    told = journals_notices settings roads stands.journals;
-    untold = [];
-    notices = append-nil (journals_notices settings roads stands.journals);
-    heard = stands.told;
+    text = part-behind start.sink.written written lines_text_is last_line part.0 part.1 (wrote written part);
+    whole = stands.journals;
+    are_whole = inl refl;
+    written = (take part.0 last_line, wrote written part);
+    told = stands.told;
   }

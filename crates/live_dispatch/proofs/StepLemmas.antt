@@ -1,5 +1,5 @@
 -- What stands after a row, and after an open batch.
-use Rattle.std.proofs.Common.{◌≡◌, ◌≢◌, ℕ, ◌≤◌, Bool, true, false, cond, eqb, List, [], ◌∷◌, ◌++◌, get_or, map, Option, None, Some, refl, sym, ap, subst, ◌∙◌, append_assoc, append-nil, arith}
+use Rattle.std.proofs.Common.{◌≡◌, ◌≢◌, ℕ, ◌<◌, ◌≤◌, Bool, true, false, cond, eqb, List, [], ◌∷◌, ◌++◌, get_or, length, map, take, Option, None, Some, refl, sym, ap, subst, ◌∙◌, append_assoc, append-nil, arith}
 use Rattle.std.specs.Prelude.{All, Contains, option_map}
 use Rattle.std.specs.Io.KnownBytes.{Appends}
 use Rattle.std.proofs.KnownBytes.{Appends-trans}
@@ -8,17 +8,16 @@ use Rattle.std.proofs.lemmas.Map.Views.{Contains-from_any}
 use Rattle.batch_snapshot.specs.Batch.{Batch}
 use Rattle.batch_snapshot.specs.Points.{named_nodes}
 use Rattle.dispatch_engine.specs.Lane.{of_lane, IsLaneRunFrom, IsLaneRun, IsLaneBeginning, ClosesAreGood}
-use Rattle.dispatch_engine.specs.Run.{IsReady, journal_of}
+use Rattle.dispatch_engine.specs.Run.{IsReady}
 use Rattle.dispatch_engine.proofs.lemmas.LaneLemmas.{ends-closed}
 use Rattle.dispatch_engine.proofs.lemmas.StandLemmas.{stands-plain}
 use Rattle.dispatch_report.specs.Lines.{lines_text}
 use Rattle.dispatch_report.specs.Round.{entries_lines, entry_text}
-use Rattle.dispatch_report.specs.Written.{SinkView}
 use Rattle.dispatch_report.specs.declared.fault.ReportFault.{ReportFault}
 use Rattle.live_batch.specs.Phase.{AllLines, ClosesBatch, StartsWith, TakesRun, commands_of_pass, desk_after}
 use Rattle.live_batch.specs.declared.read_on.Halt.{Halt}
 use Rattle.live_batch.specs.declared.read_on.Halt.TheVariants as stop
-use Rattle.live_desk.specs.Desk.{IsWritten, desk_of, desk_root, entries_text}
+use Rattle.live_desk.specs.Desk.{IsPassedOn, Outputs, desk_of, desk_root, entries_text, notices_in, text_of}
 use Rattle.live_desk.specs.declared.desk.DeskRoot.{DeskRoot}
 use Rattle.live_desk.specs.declared.desk.LaneCommand.{LaneCommand}
 use Rattle.live_rows.specs.Rows.{TakesRows}
@@ -32,8 +31,8 @@ use Rattle.request_book.specs.declared.journal.Entry.{Entry}
 use Rattle.request_book.specs.declared.reply.Reply.{Reply}
 use Rattle.request_book.specs.declared.state.State.{State}
 use Rattle.rider_limits.specs.declared.settings.Settings.{Settings}
-use Rattle.rider_notices.specs.Notices.{notices, notices_from}
-use Rattle.rider_notices.specs.Told.{HaveHeard, NotifierView}
+use Rattle.rider_notices.specs.Notices.{notices_from}
+use Rattle.rider_notices.specs.Told.{HaveHeard}
 use Rattle.rider_notices.specs.declared.notice.Notice.{Notice}
 use Rattle.rider_notices.proofs.lemmas.HeardLemmas.{all-heard-nothing}
 use Rattle.road_network.specs.Roads.{Roads}
@@ -44,11 +43,11 @@ use Rattle.shared_book.specs.Locked.{is_light, sealed_by}
 use Rattle.shared_book.proofs.lemmas.LockedLemmas.{step-seals}
 use Rattle.live_dispatch.specs.Live.{AreRows, BeginWithRows, BeginsRows}
 use Rattle.live_dispatch.specs.work.Rows.{in_lane, last_of, start_text}
-use Rattle.live_dispatch.specs.work.Standing.{AppendsSome, HasRunOn, HasTaken, HaveCome, Moment, Stands, entry_for, row_text}
+use Rattle.live_dispatch.specs.work.Standing.{AppendsSome, HasRunOn, HasTaken, HaveCome, Moment, Stands, entry_for, outputs_of, row_text}
 use Rattle.live_dispatch.proofs.BatchLemmas.{batch-begun, batch-closes, batch-ended, batch-lanes, batch-others, batch-unclosed, close-run, none-left, row-lanes, rows-of, some_close, stands-good, stands-silent, told, zero-commands}
 use Rattle.live_dispatch.proofs.RunLemmas.{entries-append, next-append, next-low}
-use Rattle.live_dispatch.proofs.StandLemmas.{Gives, begins-after, stands-after}
-use Rattle.live_dispatch.proofs.WriteLemmas.{then-some, written-some}
+use Rattle.live_dispatch.proofs.StandLemmas.{Gives, begins-broken, begins-one, begins-whole, one-text, stands-after}
+use Rattle.live_dispatch.proofs.WriteLemmas.{some-part, some-whole}
 
 -- rows that were taken
 pub takes-begin : (old new : Option (List Line)) (rows : List Line) → TakesRows old new rows → BeginWithRows old rows
@@ -104,11 +103,6 @@ behind-begin (stop.Held row) old new lines behind = cut old new lines (row ∷ [
 behind-begin stop.Ended old new lines behind = all-begin old lines behind
 behind-begin stop.ReadFault old new lines behind = behind
 behind-begin stop.OutOfMemory old new lines behind = behind
-
--- one entry's text
-one-text : (proof : Bool) (p : ℕ) (e : Entry) → lines_text (entries_lines proof p (e ∷ [])) ≡ entry_text proof p e
-unfolding entries_lines
-one-text proof p e = ap lines_text (append-nil _)
 
 -- a row's entry begins its lane's run, or is one with a close
 row-begun : (row : Line) (reply : Reply) (lane : ℕ) → IsLaneBeginning (in_lane (row ∷ []) lane) (of_lane lane ((record { lane = row.lane; command = row.command; reply = reply }) ∷ []))
@@ -232,22 +226,33 @@ module _ (settings : Settings) (roads : Roads) where
         writes
         (omega (arith, reads))
 
+    abbrev mine : Entry
+    mine = entry_for book row.lane row.command
+
+    abbrev mine_text : List ℕ
+    mine_text = start_text before.round row.round ++ lines_text (entries_lines settings.proof (next_position book.first book.entries) (mine ∷ []))
+
+    row-begins-by : (written : Option (List ℕ)) (faults : ℕ) (some : AppendsSome before.sink.written written mine_text) (unwritten : List ℕ) → some.unwritten ≡ unwritten
+        → BeginsRows settings roads start.book start.rows (record { before = start.sink; after = record { written = written; faults = faults } }) (record { before = start.notifiers; after = before.notifiers })
+    row-begins-by written faults some [] is =
+        begins-whole settings roads start before (HaveCome start before (Some row)) stands row [] row.round (mine ∷ []) behind.round (own-gives book row stands.ready row.round (last_of before.round) refl behind)
+        written faults (takes-begin start.rows before.rows (stands.lines ++ row ∷ []) stands.are) (row-begun row mine.reply) before.notifiers
+        (some-whole before.sink.written written mine_text some is)
+        (subst (λ (ns : List Notice). HaveHeard ns before.notifiers before.notifiers) (sym (own-silent book row stands.ready row.round (last_of before.round) refl behind)) (all-heard-nothing before.notifiers))
+    row-begins-by written faults some (x ∷ xs) is =
+        begins-one settings roads start before (HaveCome start before (Some row)) stands row [] row.round (mine ∷ []) behind.round (own-gives book row stands.ready row.round (last_of before.round) refl behind)
+        written faults (takes-begin start.rows before.rows (stands.lines ++ row ∷ []) stands.are) (row-begun row mine.reply) mine refl
+        (some-part before.sink.written written mine_text some x xs is)
+
     pub row-begins : (written : Option (List ℕ)) (faults : ℕ) → AppendsSome before.sink.written written (row_text settings.proof before.round book row)
         → BeginsRows settings roads start.book start.rows (record { before = start.sink; after = record { written = written; faults = faults } }) (record { before = start.notifiers; after = before.notifiers })
     row-begins written faults text =
-        let e : Entry = entry_for book row.lane row.command in
-        let ready = stands.ready in
-        begins-after settings roads start before (HaveCome start before (Some row)) stands row [] row.round (e ∷ []) behind.round (own-gives book row ready row.round (last_of before.round) refl behind)
-        written faults before.notifiers [] []
-        (takes-begin start.rows before.rows (stands.lines ++ row ∷ []) stands.are)
-        (row-begun row e.reply)
-        (subst (λ (t : List ℕ). AppendsSome before.sink.written written t) (row-more (row_text settings.proof before.round book row) refl) text)
-        (sym (own-silent book row ready row.round (last_of before.round) refl behind))
-        (all-heard-nothing before.notifiers)
+        let some : AppendsSome before.sink.written written mine_text = subst (λ (t : List ℕ). AppendsSome before.sink.written written t) (row-more (row_text settings.proof before.round book row) refl) text in
+        row-begins-by written faults some some.unwritten refl
 
   -- a batch from its seal on
-  module _ (start : Moment) (b : Batch) (round : ℕ) (book : BookView) (rows : Option (List Line)) (sink : SinkView) (notifiers : List NotifierView) (closed : Bool) (end : Halt) (fault : Option ReportFault) (reads : ℕ)
-      (on : HasRunOn settings roads start b round book rows sink notifiers closed end fault reads) where
+  module _ (start : Moment) (b : Batch) (round : ℕ) (book : BookView) (rows : Option (List Line)) (outputs : Outputs) (closed : Bool) (end : Halt) (fault : Option ReportFault) (reads : ℕ)
+      (on : HasRunOn settings roads start b round book rows outputs closed end fault reads) where
     abbrev before : Moment
     before = on.opens.before
 
@@ -288,7 +293,7 @@ module _ (settings : Settings) (roads : Roads) where
         ∙ (step-seals before.book.nodes before.book.wait before.book.state row.command b (sym on.opens.taken.shown)).stands
 
     -- the book's root
-    root : desk_root (desk_after on.fresh settings.proof on.sealed.sink book sink fault) ≡ desk_root (desk_of on.fresh settings.proof on.sealed.sink)
+    root : desk_root (desk_after on.fresh settings.proof (outputs_of on.sealed) book outputs fault) ≡ desk_root (desk_of on.fresh settings.proof (outputs_of on.sealed))
     root = on.ran.root
 
     base : book.base ≡ opened
@@ -362,14 +367,20 @@ module _ (settings : Settings) (roads : Roads) where
     abbrev front : List ℕ
     front = row_text settings.proof before.round before.book row
 
-    text-is : front ++ entries_text settings.proof book ≡ start_text before.round round ++ lines_text (entries_lines settings.proof at (first ∷ es))
-    text-is =
-        append_assoc (start_text before.round row.round) (entry_text settings.proof at first) (entries_text settings.proof book)
-        ∙ (λ i. start_text before.round (number i) ++ (sym (one-text settings.proof at first) i ++ lines_text (entries_lines settings.proof (first-is i) es)))
-        ∙ ap (λ t. start_text before.round round ++ t) (sym (entries-append settings.proof at (first ∷ []) es (next-low before.book.first before.book.entries)))
+    text-is : (fs : List Entry) → front ++ text_of settings.proof book fs ≡ start_text before.round round ++ lines_text (entries_lines settings.proof at (first ∷ fs))
+    text-is fs =
+        append_assoc (start_text before.round row.round) (entry_text settings.proof at first) (text_of settings.proof book fs)
+        ∙ (λ i. start_text before.round (number i) ++ (sym (one-text settings.proof at first) i ++ lines_text (entries_lines settings.proof (first-is i) fs)))
+        ∙ ap (λ t. start_text before.round round ++ t) (sym (entries-append settings.proof at (first ∷ []) fs (next-low before.book.first before.book.entries)))
 
-    notices-are : notices_from roads.nodes settings.wait before.book.state (first ∷ es) ≡ notices roads.nodes settings.wait (journal_of book)
-    notices-are = own-notices before.book row ready round last number behind es ∙ ap (λ s. notices_from roads.nodes settings.wait s es) (sym base)
+    notices-are : (fs : List Entry) → notices_from roads.nodes settings.wait before.book.state (first ∷ fs) ≡ notices_in book fs
+    notices-are fs = own-notices before.book row ready round last number behind fs ∙ (λ i. notices_from (sym nodes-are i) (sym wait-is i) (sym base i) fs)
+
+    -- what was told from the seal on was told from before it on
+    heard-before : (fs : List Entry) → HaveHeard (notices_in book fs) on.sealed.notifiers outputs.notifiers → HaveHeard (notices_from roads.nodes settings.wait before.book.state (first ∷ fs)) before.notifiers outputs.notifiers
+    heard-before fs heard =
+        subst (λ (ns : List Notice). HaveHeard ns before.notifiers outputs.notifiers) (sym (notices-are fs))
+        (subst (λ ns. HaveHeard (notices_in book fs) ns outputs.notifiers) on.opens.same.2 heard)
 
     all-are : (on.opens.stands.lines ++ row ∷ []) ++ run ≡ on.opens.stands.lines ++ (row ∷ run)
     all-are = append_assoc on.opens.stands.lines (row ∷ []) run
@@ -382,13 +393,13 @@ module _ (settings : Settings) (roads : Roads) where
     low = subst (λ n. last ≤ n) number behind.round
 
     pub batch-stands : (now : Moment) (Now : List Line → Type 0) → closed ≡ true → fault ≡ None → now.book ≡ record { nodes = book.nodes; wait = book.wait; first = next_position book.first book.entries; base = book.state; entries = []; state = book.state; spare = 0 }
-        → now.sink ≡ sink → now.round ≡ Some round → HaveHeard (notices roads.nodes settings.wait (journal_of book)) notifiers now.notifiers → reads ≤ now.reads
+        → outputs_of now ≡ outputs → now.round ≡ Some round → reads ≤ now.reads
         → Now (on.opens.stands.lines ++ (row ∷ run)) → Stands settings roads start now Now
-    batch-stands now Now is_closed whole cut sink_is round_is heard failed are =
+    batch-stands now Now is_closed whole cut outputs_are round_is failed are =
         let close : ClosesBatch settings roads b true (commands_of_pass 0 es) = subst (λ c. ClosesBatch settings roads b c (commands_of_pass 0 es)) is_closed on.ran.close in
         let zero : map (λ (e : Entry). e.command) (of_lane 0 es) ≡ map told ((record { lane = 0; command = Close b.number close.0 }) ∷ []) = zero-is _ close.2 in
-        let wrote : Appends on.sealed.sink.written sink.written (entries_text settings.proof book) = subst (λ f. IsWritten f on.sealed.sink sink (entries_text settings.proof book)) whole on.ran.desk.text in
-        let falls : on.sealed.sink.faults ≤ sink.faults = on.ran.desk.never_falls in
+        let wrote : IsPassedOn None settings.proof book (outputs_of on.sealed) outputs = subst (λ f. IsPassedOn f settings.proof book (outputs_of on.sealed) outputs) whole on.ran.desk.told in
+        let falls : on.sealed.sink.faults ≤ outputs.sink.faults = on.ran.desk.never_falls in
         let were : before.sink.faults ≤ on.sealed.sink.faults = on.opens.writes in
         stands-after settings roads start before (HaveCome start before (Some row)) on.opens.stands row run round (first ∷ es) low gives now Now are
         (batch-lanes row first b.number round run es zero-lane zero-lane refl seals on.ran.rows.going others (close-run b.number close.0 (of_lane 0 es) zero))
@@ -402,22 +413,36 @@ module _ (settings : Settings) (roads : Roads) where
           closed = ap (λ (k : BookView). k.state.sealed) cut ∙ ap (λ (s : State). s.sealed) (state-is ∙ own-state before.book row ready round last number behind es)
               ∙ batch-ended settings roads b opened es round run stands-sealed replies on.ran.rows.going on.ran.rows.called close.0 zero;
         })
-        (subst (λ (t : List ℕ). Appends before.sink.written now.sink.written t) text-is
-        (subst (λ (k : SinkView). Appends before.sink.written k.written (front ++ entries_text settings.proof book)) (sym sink_is)
-        (Appends-trans before.sink.written on.sealed.sink.written sink.written front (entries_text settings.proof book) on.opens.text wrote)))
-        (subst (λ (ns : List Notice). HaveHeard ns before.notifiers now.notifiers) (sym notices-are)
-        (subst (λ ns. HaveHeard (notices roads.nodes settings.wait (journal_of book)) ns now.notifiers) (on.told ∙ on.opens.same.2) heard))
-        (subst (λ (k : SinkView). before.sink.faults ≤ k.faults) (sym sink_is) (omega (arith, were, falls)))
+        (subst (λ (t : List ℕ). Appends before.sink.written now.sink.written t) (text-is es)
+        (subst (λ (o : Outputs). Appends before.sink.written o.sink.written (front ++ entries_text settings.proof book)) (sym outputs_are)
+        (Appends-trans before.sink.written on.sealed.sink.written outputs.sink.written front (entries_text settings.proof book) on.opens.text wrote.0)))
+        (subst (λ (o : Outputs). HaveHeard (notices_from roads.nodes settings.wait before.book.state (first ∷ es)) before.notifiers o.notifiers) (sym outputs_are) (heard-before es wrote.1))
+        (subst (λ (o : Outputs). before.sink.faults ≤ o.sink.faults) (sym outputs_are) (omega (arith, were, falls)))
         (omega (arith, failed, on.reads_were, on.opens.same.1))
 
-    pub batch-begins : BeginsRows settings roads start.book start.rows (record { before = start.sink; after = sink }) (record { before = start.notifiers; after = notifiers })
-    batch-begins =
-        begins-after settings roads start before (HaveCome start before (Some row)) on.opens.stands row run round (first ∷ es) low gives
-        sink.written sink.faults notifiers [] (notices_from roads.nodes settings.wait before.book.state (first ∷ es))
-        (behind-begin end start.rows rows (on.opens.stands.lines ++ (row ∷ run)) lines-behind)
-        (begun-by closed on.ran.close)
-        (subst (λ (t : List ℕ). AppendsSome before.sink.written sink.written t) text-is
-        (then-some before.sink.written on.sealed.sink.written sink.written front (entries_text settings.proof book) on.opens.text
-        (written-some fault on.sealed.sink sink (entries_text settings.proof book) on.ran.desk.text)))
-        refl
-        (subst (λ ns. HaveHeard [] before.notifiers ns) (sym (on.told ∙ on.opens.same.2)) (all-heard-nothing before.notifiers))
+    pub batch-begins : BeginsRows settings roads start.book start.rows (record { before = start.sink; after = outputs.sink }) (record { before = start.notifiers; after = outputs.notifiers })
+    batch-begins = by fault on.ran.desk.told
+      where
+        begin : BeginWithRows start.rows (on.opens.stands.lines ++ (row ∷ run))
+        begin = behind-begin end start.rows rows (on.opens.stands.lines ++ (row ∷ run)) lines-behind
+
+        by : (f : Option ReportFault) → IsPassedOn f settings.proof book (outputs_of on.sealed) outputs
+            → BeginsRows settings roads start.book start.rows (record { before = start.sink; after = outputs.sink }) (record { before = start.notifiers; after = outputs.notifiers })
+        by None wrote =
+            begins-whole settings roads start before (HaveCome start before (Some row)) on.opens.stands row run round (first ∷ es) low gives
+            outputs.sink.written outputs.sink.faults begin (begun-by closed on.ran.close) outputs.notifiers
+            (subst (λ (t : List ℕ). Appends before.sink.written outputs.sink.written t) (text-is es)
+            (Appends-trans before.sink.written on.sealed.sink.written outputs.sink.written front (entries_text settings.proof book) on.opens.text wrote.0))
+            (heard-before es wrote.1)
+        by (Some why) broke =
+            let fs : List Entry = broke.front in
+            let here : next_position book.first fs ≡ next_position at (first ∷ fs) = ap (λ n. next_position n fs) first-is ∙ sym (next-append at (first ∷ []) fs) in
+            let part : List ℕ = take broke.part (entry_text settings.proof (next_position book.first fs) broke.last) in
+            begins-broken settings roads start before (HaveCome start before (Some row)) on.opens.stands row run round (first ∷ es) low gives
+            outputs.sink.written outputs.sink.faults begin (begun-by closed on.ran.close) outputs.notifiers (first ∷ fs) broke.last broke.part
+            (ap (λ xs. first ∷ xs) broke.entries)
+            (subst (λ n. broke.part < length (entry_text settings.proof n broke.last)) here broke.short)
+            (subst (λ n. Appends before.sink.written outputs.sink.written ((start_text before.round round ++ lines_text (entries_lines settings.proof at (first ∷ fs))) ++ take broke.part (entry_text settings.proof n broke.last))) here
+            (subst (λ (t : List ℕ). Appends before.sink.written outputs.sink.written t) (sym (append_assoc front (text_of settings.proof book fs) part) ∙ ap (λ t. t ++ part) (text-is fs))
+            (Appends-trans before.sink.written on.sealed.sink.written outputs.sink.written front (text_of settings.proof book fs ++ part) on.opens.text broke.text)))
+            (heard-before fs broke.told)

@@ -5,6 +5,7 @@ use Rattle.std.proofs.KnownBytes.{Appends-nil}
 use Rattle.batch_snapshot.specs.Batch.{Batch}
 use Rattle.dispatch_engine.specs.Run.{IsReady}
 use Rattle.dispatch_report.specs.Written.{SinkView}
+use Rattle.live_desk.specs.Desk.{Outputs}
 use Rattle.dispatch_report.specs.declared.fault.ReportFault.{ReportFault}
 use Rattle.dispatch_report.specs.declared.fault.ReportFault.TheVariants as report
 use Rattle.live_rows.specs.Rows.{NoRows, TakesRows}
@@ -25,7 +26,7 @@ use Rattle.live_dispatch.specs.Live.{AreRows, BeginWithRows, journals_notices, j
 use Rattle.live_dispatch.specs.declared.fault.LiveFault.{LiveFault}
 use Rattle.live_dispatch.specs.declared.fault.LiveFault.TheVariants as live
 use Rattle.live_dispatch.specs.work.Rows.{EndsIn, last_of}
-use Rattle.live_dispatch.specs.work.Standing.{AppendsSome, Awaits, GivesNext, HasEnded, HasTaken, HaveCome, Moment, Opens, Stands, WritesSome, of_line, of_report, row_text}
+use Rattle.live_dispatch.specs.work.Standing.{AppendsSome, Awaits, GivesNext, HasEnded, HasTaken, HaveCome, Moment, Opens, Stands, WritesSome, of_line, of_report, outputs_of, row_text}
 use Rattle.live_dispatch.proofs.EndLemmas.{begun-ended, stood-ended}
 use Rattle.live_dispatch.proofs.StepLemmas.{row-begins, takes-begin, takes-more}
 
@@ -105,27 +106,27 @@ module _ (settings : Settings) (roads : Roads) (start : Moment) where
   none-stands now later held stands gives = restand now later (HaveCome start now held) (AreRows start.rows) stands (next-none start now held later.rows stands.lines stands.are gives)
 
   -- a read failed, or there was no memory for a row
-  pub unread-ended : (now : Moment) (held : Option Line) → Stands settings roads start now (HaveCome start now held) → (fault : LineFault) (failed : ℕ) (sink : SinkView) (why : LiveFault) (ended : Result (Unit {0}) LiveFault)
-      → ended ≡ Err why → why ≡ of_line fault → sink ≡ now.sink → (fault ≡ line.ReadFault → Rose now.reads failed) → HasEnded settings roads start failed sink now.notifiers ended
-  unread-ended now held stands fault failed sink why ended is why_is sink_is rose =
-      stood-ended settings roads start now (HaveCome start now held) stands (come-begin start now held stands.lines stands.are) failed sink (of_line fault) ended (is ∙ ap Err why_is) sink_is
+  pub unread-ended : (now : Moment) (held : Option Line) → Stands settings roads start now (HaveCome start now held) → (fault : LineFault) (failed : ℕ) (outputs : Outputs) (why : LiveFault) (ended : Result (Unit {0}) LiveFault)
+      → ended ≡ Err why → why ≡ of_line fault → outputs ≡ outputs_of now → (fault ≡ line.ReadFault → Rose now.reads failed) → HasEnded settings roads start failed outputs ended
+  unread-ended now held stands fault failed outputs why ended is why_is outputs_are rose =
+      stood-ended settings roads start now (HaveCome start now held) stands (come-begin start now held stands.lines stands.are) failed outputs (of_line fault) ended (is ∙ ap Err why_is) outputs_are
       (line-write fault) (λ e. (let risen : Rose now.reads failed = rose (line-read fault e) in let were = stands.reads in omega (arith, risen, were)))
 
   -- no more rows can be counted
-  pub counted-ended : (now : Moment) (held : Option Line) → Stands settings roads start now (HaveCome start now held) → (failed : ℕ) (sink : SinkView) (ended : Result (Unit {0}) LiveFault) → ended ≡ Err live.OutOfMemory → sink ≡ now.sink
-      → HasEnded settings roads start failed sink now.notifiers ended
-  counted-ended now held stands failed sink ended is sink_is =
-      stood-ended settings roads start now (HaveCome start now held) stands (come-begin start now held stands.lines stands.are) failed sink live.OutOfMemory ended is sink_is (λ e. absurd cc) (λ e. absurd cc)
+  pub counted-ended : (now : Moment) (held : Option Line) → Stands settings roads start now (HaveCome start now held) → (failed : ℕ) (outputs : Outputs) (ended : Result (Unit {0}) LiveFault) → ended ≡ Err live.OutOfMemory → outputs ≡ outputs_of now
+      → HasEnded settings roads start failed outputs ended
+  counted-ended now held stands failed outputs ended is outputs_are =
+      stood-ended settings roads start now (HaveCome start now held) stands (come-begin start now held stands.lines stands.are) failed outputs live.OutOfMemory ended is outputs_are (λ e. absurd cc) (λ e. absurd cc)
 
   -- a row's text wasn't written whole, or there was no memory for it
   pub row-ended : (now : Moment) (row : Line) → Stands settings roads start now (HaveCome start now (Some row)) → IsBehind (last_of now.round) row → (proof : Bool) → proof ≡ settings.proof → (A : Type 0) (fault : ReportFault) (later : SinkView)
       → WritesSome {A = A} (record { before = now.sink; after = later }) (row_text proof now.round now.book row) (Err fault)
-      → (failed : ℕ) (sink : SinkView) (why : LiveFault) (ended : Result (Unit {0}) LiveFault) → ended ≡ Err why → why ≡ of_report fault → sink ≡ later → HasEnded settings roads start failed sink now.notifiers ended
-  row-ended now row stands behind proof proof_is A fault later wrote failed sink why ended is why_is sink_is =
+      → (failed : ℕ) (outputs : Outputs) (why : LiveFault) (ended : Result (Unit {0}) LiveFault) → ended ≡ Err why → why ≡ of_report fault → outputs ≡ record { sink = later; notifiers = now.notifiers } → HasEnded settings roads start failed outputs ended
+  row-ended now row stands behind proof proof_is A fault later wrote failed outputs why ended is why_is outputs_are =
       let falls : now.sink.faults ≤ later.faults = wrote.never_falls in
       let were : start.sink.faults ≤ now.sink.faults = stands.writes in
-      subst (λ (k : SinkView). HasEnded settings roads start failed k now.notifiers ended) (sym sink_is)
-      (begun-ended settings roads start failed later now.notifiers (of_report fault) ended (is ∙ ap Err why_is)
+      subst (λ (o : Outputs). HasEnded settings roads start failed o ended) (sym outputs_are)
+      (begun-ended settings roads start failed (record { sink = later; notifiers = now.notifiers }) (of_report fault) ended (is ∙ ap Err why_is)
       (row-begins settings roads start now row stands behind later.written later.faults
       (subst (λ p. AppendsSome now.sink.written later.written (row_text p now.round now.book row)) proof_is wrote.bytes))
       (λ e. (let risen : Rose now.sink.faults later.faults = wrote.fault (ap Err (report-write fault e)) in omega (arith, risen, were)))

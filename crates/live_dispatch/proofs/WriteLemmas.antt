@@ -1,12 +1,12 @@
 -- What is written of a text.
-use Rattle.std.proofs.Common.{◌≡◌, ◌≢◌, ℕ, Bool, cond, List, [], ◌++◌, take, drop, Option, None, Some, Result, Ok, Err, sym, ap, subst, ◌∙◌, append_assoc, append-nil, take-append-drop, arith}
+use Rattle.std.proofs.Common.{◌≡◌, ◌≢◌, ℕ, Bool, cond, List, [], ◌∷◌, ◌++◌, length, take, drop, Option, None, Some, Result, Ok, Err, sym, ap, subst, ◌∙◌, append_assoc, append-nil, take-append-drop, length-append, arith}
+use Rattle.std.proofs.Math.Seq.{take-append_seam}
 use Rattle.std.specs.Io.KnownBytes.{Appends}
 use Rattle.std.proofs.lemmas.Bool.{ne_eqb}
 use Rattle.std.proofs.KnownBytes.{Appends-trans}
 use Rattle.dispatch_report.specs.Round.{entry_text, round_line}
 use Rattle.dispatch_report.specs.Written.{Change, SinkView, WritesText}
 use Rattle.dispatch_report.specs.declared.fault.ReportFault.{ReportFault}
-use Rattle.live_desk.specs.Desk.{IsWritten}
 use Rattle.pool_io.specs.Faults.{Rose}
 use Rattle.pool_io.specs.Sink.{AppendsPart}
 use Rattle.request_book.specs.Book.{BookView, next_position}
@@ -31,9 +31,19 @@ then-some a b c xs ys first next = record {
   bytes = Appends-trans a b c xs next.written first next.bytes;
 }
 
-pub written-some : (fault : Option ReportFault) (old new : SinkView) (text : List ℕ) → IsWritten fault old new text → AppendsSome old.written new.written text
-written-some None old new text whole = whole-some old.written new.written text whole
-written-some (Some fault) old new text part = part-some old.written new.written text part.0
+-- all of it
+pub some-whole : (old new : Option (List ℕ)) (text : List ℕ) → (s : AppendsSome old new text) → s.unwritten ≡ [] → Appends old new text
+some-whole old new text s is = subst (λ b. Appends old new b) (sym (append-nil s.written) ∙ ap (λ u. s.written ++ u) (sym is) ∙ s.parts) s.bytes
+
+-- not all of it
+pub some-part : (old new : Option (List ℕ)) (text : List ℕ) → (s : AppendsSome old new text) → (x : ℕ) (xs : List ℕ) → s.unwritten ≡ x ∷ xs → AppendsPart old new text
+some-part old new text s x xs is =
+    let whole : text ≡ s.written ++ x ∷ xs = sym s.parts ∙ ap (λ u. s.written ++ u) is in
+    let longer : length text ≡ length (s.written ++ x ∷ xs) = ap length whole in (
+      length s.written,
+      omega (arith, longer, length-append s.written (x ∷ xs)),
+      subst (λ b. Appends old new b) (sym (ap (take (length s.written)) whole ∙ take-append_seam s.written (x ∷ xs))) s.bytes,
+    )
 
 pub text-some : (sink : Change SinkView) (text : List ℕ) (r : Result (Unit {0}) ReportFault) → WritesText sink text r → WritesSome sink text r
 text-some sink text (Ok done) w = record { bytes = w.bytes; fault = w.fault; never_falls = w.never_falls }

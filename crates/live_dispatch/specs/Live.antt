@@ -1,15 +1,16 @@
 -- What stands of a run whose rows come one by one.
-use Rattle.std.specs.Prelude.{◌≡◌, ℕ, Bool, List, [], ◌∷◌, ◌++◌, map, Option, None, Some}
+use Rattle.std.specs.Prelude.{◌≡◌, ℕ, Bool, List, [], ◌∷◌, ◌++◌, map, Option, None, Some, ◌⊎◌}
 use Rattle.std.specs.Io.KnownBytes.{Appends}
 use Rattle.std.specs.List.{flat_map}
 use Rattle.pool_base.specs.Distinct.{distinct}
 use Rattle.pool_io.specs.Sink.{AppendsPart}
 use Rattle.dispatch_engine.specs.Lane.{ClosesAreGood, IsLaneBeginning, of_lane}
-use Rattle.dispatch_engine.specs.Run.{IsRun, position_after_run}
+use Rattle.dispatch_engine.specs.Run.{IsRun, position_after_run, state_after_run}
 use Rattle.dispatch_report.specs.Round.{end_text, round_text}
 use Rattle.dispatch_report.specs.Written.{Change, SinkView}
 use Rattle.request_book.specs.Book.{BookView}
-use Rattle.request_book.specs.Replay.{state_after, RepliesAreSteps}
+use Rattle.request_book.specs.Replay.{RepliesAreSteps}
+use Rattle.request_book.specs.declared.journal.Entry.{Entry}
 use Rattle.request_book.specs.declared.journal.Journal.{Journal}
 use Rattle.request_book.specs.declared.state.State.{State}
 use Rattle.rider_limits.specs.declared.settings.Settings.{Settings}
@@ -35,11 +36,6 @@ BeginWithRows (Some all) rows = (rest : List Line) × (all ≡ rows ++ rest)
 abbrev pub rows_rounds : List Line → List NumberedLanes
 rows_rounds lines = map (round_of lines) (distinct (map (λ l. l.round) lines))
 
--- the state behind journals
-abbrev pub state_after_all : List ℕ → ℕ → State → List Journal → State
-state_after_all nodes wait s [] = s
-state_after_all nodes wait s (j ∷ js) = state_after_all nodes wait (state_after nodes wait s j.entries) js
-
 -- the texts of rounds with their journals, one after the other
 abbrev pub journals_text : Bool → List NumberedLanes → List Journal → List ℕ
 journals_text proof (round ∷ rounds) (journal ∷ journals) = round_text round.number proof journal ++ journals_text proof rounds journals
@@ -48,6 +44,20 @@ journals_text proof _ _ = []
 -- the notices of journals, one after the other
 abbrev pub journals_notices : Settings → Roads → List Journal → List Notice
 journals_notices settings roads journals = flat_map (notices roads.nodes settings.wait) journals
+
+-- journals and the same without their last entry; where that is the only one of its journal, also without the journal
+pub data ButLast : List Journal → List Journal → Type 0 where
+  only : (front : List Journal) (first : ℕ) (base : State) (last : Entry) → ButLast (front ++ (record { first = first; base = base; entries = last ∷ [] }) ∷ []) front
+  later : (front : List Journal) (first : ℕ) (base : State) (entries : List Entry) (last : Entry)
+      → ButLast (front ++ (record { first = first; base = base; entries = entries ++ last ∷ [] }) ∷ []) (front ++ (record { first = first; base = base; entries = entries }) ∷ [])
+
+-- of journals with this text those entries that are written whole: all, or all but the last, where the text breaks off
+abbrev pub AreWhole : Change SinkView → List ℕ → List Journal → List Journal → Type 0
+AreWhole sink text journals whole = (whole ≡ journals) ⊎ (ButLast journals whole × AppendsPart sink.before.written sink.after.written text)
+
+-- the bytes written, where they are told, have grown by a text, and maybe by more
+abbrev pub HasAppended : Option (List ℕ) → Option (List ℕ) → List ℕ → Type 0
+HasAppended old new text = (more : List ℕ) × Appends old new (text ++ more)
 
 module _ (settings : Settings) (roads : Roads) where
   -- a journal is a beginning of a run of a round: each lane's entries begin a run of its commands
@@ -61,7 +71,7 @@ module _ (settings : Settings) (roads : Roads) where
     none : IsBegunRun s position [] []
     some : (rounds : List NumberedLanes) (journals : List Journal) (round : NumberedLanes) (journal : Journal)
         → IsRun settings roads s position rounds journals
-        → journal.base ≡ state_after_all roads.nodes settings.wait s journals
+        → journal.base ≡ state_after_run settings roads s journals
         → journal.first ≡ position_after_run position journals
         → IsRoundBeginning round journal
         → IsBegunRun s position (rounds ++ round ∷ []) (journals ++ journal ∷ [])
@@ -80,14 +90,14 @@ module _ (settings : Settings) (roads : Roads) where
     pub told : HaveHeard (journals_notices settings roads journals) notifiers.before notifiers.after
 
   -- some first rows were run, the last round maybe in part; what is written begins their report and isn't the whole; and
-  -- the notices of some first entries were told
+  -- the notices told are those of the entries that are written whole: of all, or of all but the last
   pub record BeginsRows (book : BookView) (rows : Option (List Line)) (sink : Change SinkView) (notifiers : Change (List NotifierView)) : Type 0 where
     pub lines : List Line
     pub begin : BeginWithRows rows lines
     pub journals : List Journal
     pub run : IsBegunRun book.base book.first (rows_rounds lines) journals
     pub text : AppendsPart sink.before.written sink.after.written (rows_text book.first lines journals)
-    pub told : List Notice
-    pub untold : List Notice
-    pub notices : told ++ untold ≡ journals_notices settings roads journals
-    pub heard : HaveHeard told notifiers.before notifiers.after
+    pub whole : List Journal
+    pub are_whole : AreWhole sink (journals_text settings.proof (rows_rounds lines) journals) journals whole
+    pub written : HasAppended sink.before.written sink.after.written (journals_text settings.proof (rows_rounds lines) whole)
+    pub told : HaveHeard (journals_notices settings roads whole) notifiers.before notifiers.after

@@ -1,29 +1,24 @@
-//! A batch from its seal to the notices of its close.
-ghost use Rattle.std.specs.Prelude.{◌≡◌, ℕ, All, Contains, IfOk, IfErr, MatchResult, map};
+//! A batch from its seal to its close.
+ghost use Rattle.std.specs.Prelude.{◌≡◌, ℕ, All, Contains, IfOk, IfErr};
 ghost use Rattle.batch_snapshot.specs.Batch.{Batch};
 ghost use Rattle.batch_snapshot.specs.Points.{named_nodes};
-ghost use Rattle.dispatch_report.specs.Written.{SinkView};
 ghost use Rattle.live_batch.specs.Phase.{FaultsFrom, IsHeldBack};
-ghost use Rattle.request_book.specs.Consistent.{IsConsistent};
-ghost use Rattle.rider_notices.specs.Notices.{notices};
-ghost use Rattle.rider_notices.specs.Seen.{notifier_seen};
-ghost use Rattle.rider_notices.specs.Told.{HaveHeard};
+ghost use Rattle.live_desk.specs.Desk.{outputs_seen};
 ghost use Rattle.script_rows.specs.declared.line.Line.{Line};
 ghost use Rattle.live_dispatch.specs.work.Rows.{last_of};
-ghost use Rattle.live_dispatch.specs.work.Standing.{Awaits, HasEnded, HasRunOn, HasToldBatch, HaveCome, Moment, Opens, Stands, moment};
+ghost use Rattle.live_dispatch.specs.work.Standing.{Awaits, HasCut, HasEnded, HasRunOn, HaveCome, Moment, Opens, Stands, moment};
 
 use crate::fault::{LiveFault, fault_of_text};
 use crate::live_run::{Dispatched, LiveRun, end, stop};
-use crate::setup::LiveSetup;
 use batch_snapshot::Snapshot;
+use dispatch_engine::Setup;
 use dispatch_report::ReportFault;
-use live_batch::{Halt, Opened, Unopened, run_open};
+use live_batch::{Halt, OpenBatch, Opened, Unopened, run_open};
 use live_rows::RowSource;
 use pool_base::OutOfMemory;
 use pool_io::Sink;
-use request_book::{Book, Journal};
-use rider_notices::{Notifier, notices_of, tell_all};
-use road_network::Network;
+use request_book::Book;
+use rider_notices::Notifier;
 use row_tables::Drafter;
 use script_rows::Line;
 use std::alloc::Global;
@@ -32,10 +27,11 @@ use std::thread::Threads;
 use travel_times::Ways;
 use worker_gate::Gate;
 
-/// Solves and closes the batch that is open, while rows of its round in other lanes are run, and tells its notices. It
-/// gives the row that waited for the close; at the end of the rows the run is ended.
+/// Solves and closes the batch that is open, while rows of its round in other lanes are run. It gives the row that waited
+/// for the close; at the end of the rows the run is ended.
 pub(crate) fn run_batch<
     K: Sink + Send + Drop,
+    N: Notifier + Send,
     L: RowSource + Send + Drop,
     W: Ways,
     D: Drafter,
@@ -43,35 +39,31 @@ pub(crate) fn run_batch<
 >(
     rt: &(impl Threads + Wait + Sync),
     alloc: Global,
-    run: LiveRun<K, L>,
+    run: LiveRun<K, N, L>,
     round: u32,
     snapshot: &Snapshot,
-    setup: &LiveSetup<'_, W, D, G>,
-    notifiers: &mut Vec<Box<dyn Notifier>>,
-) -> Result<(LiveRun<K, L>, Option<Line>), Dispatched<K, L>>
+    setup: &Setup<'_, W, D, G>,
+) -> Result<(LiveRun<K, N, L>, Option<Line>), Dispatched<K, N, L>>
     requires proof { run.proof ≡ setup.now.settings.now.proof }
     requires last { L.last run.rows ≡ round }
     requires nodes { All (λ node. Contains setup.now.network.now.nodes node) (named_nodes snapshot.now) }
-    ensures goes_on { let before = map (λ n. notifier_seen (⟦<dyn Notifier as Notifier>⟧ n.vtable) n.value) notifiers.old.items in
-        let after = map (λ n. notifier_seen (⟦<dyn Notifier as Notifier>⟧ n.vtable) n.value) notifiers.new.items in
-        let sealed = moment run.book run.round (L.to_come run.rows) (L.faults run.rows) (K.written run.sink) (K.faults run.sink) before in
+    ensures goes_on { let sealed = moment run.book run.round (L.to_come run.rows) (L.faults run.rows) (outputs_seen K.written K.faults N.told N.faults N.steady run.sink run.notifiers.items) in
         IfOk result (λ r. (start : Moment) (row : Line) → row.round ≡ round → Opens setup.now.settings.now setup.now.network.now start row snapshot.entry.now sealed
-        → let now = moment r.0.book r.0.round (L.to_come r.0.rows) (L.faults r.0.rows) (K.written r.0.sink) (K.faults r.0.sink) after in
+        → let now = moment r.0.book r.0.round (L.to_come r.0.rows) (L.faults r.0.rows) (outputs_seen K.written K.faults N.told N.faults N.steady r.0.sink r.0.notifiers.items) in
         Stands setup.now.settings.now setup.now.network.now start now (HaveCome start now r.1)) }
     ensures awaits { IfOk result (λ r. Awaits (last_of r.0.round) (L.last r.0.rows) r.1 × (r.0.proof ≡ setup.now.settings.now.proof)) }
-    ensures ended { let before = map (λ n. notifier_seen (⟦<dyn Notifier as Notifier>⟧ n.vtable) n.value) notifiers.old.items in
-        let after = map (λ n. notifier_seen (⟦<dyn Notifier as Notifier>⟧ n.vtable) n.value) notifiers.new.items in
-        let sealed = moment run.book run.round (L.to_come run.rows) (L.faults run.rows) (K.written run.sink) (K.faults run.sink) before in
+    ensures ended { let sealed = moment run.book run.round (L.to_come run.rows) (L.faults run.rows) (outputs_seen K.written K.faults N.told N.faults N.steady run.sink run.notifiers.items) in
         IfErr result (λ d. (start : Moment) (row : Line) → row.round ≡ round → Opens setup.now.settings.now setup.now.network.now start row snapshot.entry.now sealed
-        → HasEnded setup.now.settings.now setup.now.network.now start (L.faults d.rows) (record { written = K.written d.sink; faults = K.faults d.sink }) after d.ended) }
+        → HasEnded setup.now.settings.now setup.now.network.now start (L.faults d.rows) (outputs_seen K.written K.faults N.told N.faults N.steady d.sink d.notifiers.items) d.ended) }
 {
     let LiveRun {
         book,
         sink,
+        notifiers,
         rows,
         line,
         round: _,
-        proof,
+        proof: _,
     } = run;
     drop(line);
     let mut book = book;
@@ -81,73 +73,70 @@ pub(crate) fn run_batch<
             drop(book);
             return Err(Dispatched {
                 sink,
+                notifiers,
                 rows,
                 ended: Err(LiveFault::OutOfMemory),
             });
         }
     }
-    match run_open(
-        rt,
-        alloc,
+    let batch = OpenBatch {
         book,
         sink,
-        proof,
-        rows,
-        round,
-        snapshot,
-        setup.network,
-        setup.ways,
-        setup.drafter,
-        setup.settings,
-        setup.gate,
-    ) {
-        Ok(opened) => after_batch(alloc, opened, round, setup, notifiers),
-        Err(Unopened { sink, lines }) => Err(Dispatched {
+        notifiers,
+        lines: rows,
+    };
+    match run_open(rt, alloc, batch, round, snapshot, setup) {
+        Ok(opened) => after_batch(alloc, opened, round, setup),
+        Err(
+            Unopened {
+                sink,
+                notifiers,
+                lines,
+            },
+        ) => Err(Dispatched {
             sink,
+            notifiers,
             rows: lines,
             ended: Err(LiveFault::OutOfMemory),
         }),
     }
 }
 
-/// Tells the notices of a batch that was closed, and goes on with the row that waited.
-fn after_batch<K: Sink + Send + Drop, L: RowSource + Send + Drop, W: Ways, D: Drafter, G: Gate>(
+/// Goes on behind a batch with the row that waited.
+fn after_batch<K: Sink, N: Notifier, L: RowSource, W: Ways, D: Drafter, G: Gate>(
     alloc: Global,
-    opened: Opened<K, L>,
+    opened: Opened<K, N, L>,
     round: u32,
-    setup: &LiveSetup<'_, W, D, G>,
-    notifiers: &mut Vec<Box<dyn Notifier>>,
-) -> Result<(LiveRun<K, L>, Option<Line>), Dispatched<K, L>>
+    setup: &Setup<'_, W, D, G>,
+) -> Result<(LiveRun<K, N, L>, Option<Line>), Dispatched<K, N, L>>
     requires held { IsHeldBack round (L.last opened.lines) opened.stop }
-    ensures goes_on { let before = map (λ n. notifier_seen (⟦<dyn Notifier as Notifier>⟧ n.vtable) n.value) notifiers.old.items in
-        let after = map (λ n. notifier_seen (⟦<dyn Notifier as Notifier>⟧ n.vtable) n.value) notifiers.new.items in
-        let sink : SinkView = record { written = K.written opened.sink; faults = K.faults opened.sink } in
+    ensures goes_on { let outputs = outputs_seen K.written K.faults N.told N.faults N.steady opened.sink opened.notifiers.items in
         IfOk result (λ r. (start : Moment) (b : Batch) (reads : ℕ) → FaultsFrom opened.stop reads (L.faults opened.lines)
-        → HasRunOn setup.now.settings.now setup.now.network.now start b round opened.book (L.to_come opened.lines) sink before opened.closed opened.stop opened.fault reads
-        → let now = moment r.0.book r.0.round (L.to_come r.0.rows) (L.faults r.0.rows) (K.written r.0.sink) (K.faults r.0.sink) after in
+        → HasRunOn setup.now.settings.now setup.now.network.now start b round opened.book (L.to_come opened.lines) outputs opened.closed opened.stop opened.fault reads
+        → let now = moment r.0.book r.0.round (L.to_come r.0.rows) (L.faults r.0.rows) (outputs_seen K.written K.faults N.told N.faults N.steady r.0.sink r.0.notifiers.items) in
         Stands setup.now.settings.now setup.now.network.now start now (HaveCome start now r.1)) }
     ensures awaits { IfOk result (λ r. Awaits (last_of r.0.round) (L.last r.0.rows) r.1 × (r.0.proof ≡ setup.now.settings.now.proof)) }
-    ensures ended { let before = map (λ n. notifier_seen (⟦<dyn Notifier as Notifier>⟧ n.vtable) n.value) notifiers.old.items in
-        let after = map (λ n. notifier_seen (⟦<dyn Notifier as Notifier>⟧ n.vtable) n.value) notifiers.new.items in
-        let sink : SinkView = record { written = K.written opened.sink; faults = K.faults opened.sink } in
+    ensures ended { let outputs = outputs_seen K.written K.faults N.told N.faults N.steady opened.sink opened.notifiers.items in
         IfErr result (λ d. (start : Moment) (b : Batch) (reads : ℕ) → FaultsFrom opened.stop reads (L.faults opened.lines)
-        → HasRunOn setup.now.settings.now setup.now.network.now start b round opened.book (L.to_come opened.lines) sink before opened.closed opened.stop opened.fault reads
-        → HasEnded setup.now.settings.now setup.now.network.now start (L.faults d.rows) (record { written = K.written d.sink; faults = K.faults d.sink }) after d.ended) }
+        → HasRunOn setup.now.settings.now setup.now.network.now start b round opened.book (L.to_come opened.lines) outputs opened.closed opened.stop opened.fault reads
+        → HasEnded setup.now.settings.now setup.now.network.now start (L.faults d.rows) (outputs_seen K.written K.faults N.told N.faults N.steady d.sink d.notifiers.items) d.ended) }
 {
     let Opened {
         book,
         sink,
+        notifiers,
         lines,
         closed,
         stop: stopped,
         fault,
     } = opened;
     let mut book = book;
-    match tell_batch(alloc, &mut book, closed, fault, setup, notifiers) {
+    match cut_batch(&mut book, closed, fault) {
         Ok(()) => {
             let run = LiveRun {
                 book,
                 sink,
+                notifiers,
                 rows: lines,
                 line: Vec::new(alloc),
                 round: Some(round),
@@ -165,6 +154,7 @@ fn after_batch<K: Sink + Send + Drop, L: RowSource + Send + Drop, W: Ways, D: Dr
             drop(stopped);
             Err(Dispatched {
                 sink,
+                notifiers,
                 rows: lines,
                 ended: Err(fault),
             })
@@ -172,18 +162,9 @@ fn after_batch<K: Sink + Send + Drop, L: RowSource + Send + Drop, W: Ways, D: Dr
     }
 }
 
-/// Gives up the journal of a batch that was closed and written whole, and tells its notices.
-fn tell_batch<W: Ways, D: Drafter, G: Gate>(
-    alloc: Global,
-    book: &mut Book,
-    closed: bool,
-    fault: Option<ReportFault>,
-    setup: &LiveSetup<'_, W, D, G>,
-    notifiers: &mut Vec<Box<dyn Notifier>>,
-) -> Result<(), LiveFault>
-    ensures { HasToldBatch setup.now.network.now.nodes setup.now.settings.now.wait book.old book.new closed fault
-        (map (λ n. notifier_seen (⟦<dyn Notifier as Notifier>⟧ n.vtable) n.value) notifiers.old.items)
-        (map (λ n. notifier_seen (⟦<dyn Notifier as Notifier>⟧ n.vtable) n.value) notifiers.new.items) result }
+/// Gives up the journal of a batch that was closed and written whole.
+fn cut_batch(book: &mut Book, closed: bool, fault: Option<ReportFault>) -> Result<(), LiveFault>
+    ensures { HasCut book.old book.new closed fault result }
 {
     if let Some(fault) = fault {
         return Err(fault_of_text(fault));
@@ -191,38 +172,11 @@ fn tell_batch<W: Ways, D: Drafter, G: Gate>(
     if !closed {
         return Err(LiveFault::OutOfMemory);
     }
-    let Ok(journal) = book.take_round() else {
-        return Err(LiveFault::OutOfMemory);
-    };
-    match tell_journal(
-        alloc,
-        notifiers,
-        &journal,
-        setup.network,
-        setup.settings.wait,
-    ) {
-        Ok(()) => Ok(()),
+    match book.take_round() {
+        Ok(journal) => {
+            drop(journal);
+            Ok(())
+        }
         Err(OutOfMemory) => Err(LiveFault::OutOfMemory),
     }
-}
-
-/// Tells the notices of a journal. Without memory nobody is told anything.
-fn tell_journal(
-    alloc: Global,
-    notifiers: &mut Vec<Box<dyn Notifier>>,
-    journal: &Journal,
-    network: &Network,
-    wait: u32,
-) -> Result<(), OutOfMemory>
-    requires { IsConsistent journal.now.base }
-    ensures { let all = map (λ n. notifier_seen (⟦<dyn Notifier as Notifier>⟧ n.vtable) n.value) notifiers.old.items in
-        let left = map (λ n. notifier_seen (⟦<dyn Notifier as Notifier>⟧ n.vtable) n.value) notifiers.new.items in
-        MatchResult result (λ _. HaveHeard (notices network.now.nodes wait journal.now) all left) (λ _. left ≡ all) }
-{
-    if notifiers.is_empty() {
-        return Ok(());
-    }
-    let told = notices_of(alloc, journal, network, wait)?;
-    tell_all(notifiers, &told);
-    Ok(())
 }

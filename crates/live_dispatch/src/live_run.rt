@@ -11,13 +11,15 @@ use dispatch_report::write_end;
 use live_rows::RowSource;
 use pool_io::Sink;
 use request_book::Book;
+use rider_notices::Notifier;
 use std::alloc::Global;
 
-/// A run while no batch is open: the book, the sink of its report and its rows to come.
+/// A run while no batch is open: the book, the sink of its report, its notifiers and its rows to come.
 #[derive(Drop)]
-pub(crate) struct LiveRun<K: Sink, L: RowSource> {
+pub(crate) struct LiveRun<K: Sink, N: Notifier, L: RowSource> {
     pub(crate) book: Book,
     pub(crate) sink: K,
+    pub(crate) notifiers: Vec<N>,
     pub(crate) rows: L,
     /// Room for a line.
     pub(crate) line: Vec<u8>,
@@ -29,21 +31,27 @@ pub(crate) struct LiveRun<K: Sink, L: RowSource> {
 
 /// What a run gives back, and how it ended.
 #[derive(Drop)]
-pub struct Dispatched<K: Sink, L: RowSource> {
+pub struct Dispatched<K: Sink, N: Notifier, L: RowSource> {
     pub sink: K,
+    pub notifiers: Vec<N>,
     pub rows: L,
     pub ended: Result<(), LiveFault>,
 }
 
 /// Ends a run with a fault.
-pub(crate) fn stop<K: Sink, L: RowSource>(run: LiveRun<K, L>, fault: LiveFault) -> Dispatched<K, L>
+pub(crate) fn stop<K: Sink, N: Notifier, L: RowSource>(
+    run: LiveRun<K, N, L>,
+    fault: LiveFault,
+) -> Dispatched<K, N, L>
     ensures sink { result.sink ≡ run.sink }
+    ensures notifiers { result.notifiers.items ≡ run.notifiers.items }
     ensures rows { result.rows ≡ run.rows }
     ensures ended { result.ended ≡ Err fault }
 {
     let LiveRun {
         book,
         sink,
+        notifiers,
         rows,
         line,
         ..
@@ -52,13 +60,18 @@ pub(crate) fn stop<K: Sink, L: RowSource>(run: LiveRun<K, L>, fault: LiveFault) 
     drop(line);
     Dispatched {
         sink,
+        notifiers,
         rows,
         ended: Err(fault),
     }
 }
 
 /// Writes the last line.
-pub(crate) fn end<K: Sink, L: RowSource>(alloc: Global, run: LiveRun<K, L>) -> Dispatched<K, L>
+pub(crate) fn end<K: Sink, N: Notifier, L: RowSource>(
+    alloc: Global,
+    run: LiveRun<K, N, L>,
+) -> Dispatched<K, N, L>
+    ensures notifiers { result.notifiers.items ≡ run.notifiers.items }
     ensures rows { result.rows ≡ run.rows }
     ensures wrote { (answer : Result (Unit {0}) ReportFault) × (result.ended ≡ ended_by answer)
         × WritesText (sink_seen K.written K.faults run.sink result.sink) (end_text (next_position run.book.first run.book.entries)) answer }
@@ -66,6 +79,7 @@ pub(crate) fn end<K: Sink, L: RowSource>(alloc: Global, run: LiveRun<K, L>) -> D
     let LiveRun {
         book,
         sink,
+        notifiers,
         rows,
         line,
         ..
@@ -74,16 +88,14 @@ pub(crate) fn end<K: Sink, L: RowSource>(alloc: Global, run: LiveRun<K, L>) -> D
     let position = book.next_position();
     drop(book);
     let mut sink = sink;
-    match write_end(alloc, &mut sink, position) {
-        Ok(()) => Dispatched {
-            sink,
-            rows,
-            ended: Ok(()),
-        },
-        Err(fault) => Dispatched {
-            sink,
-            rows,
-            ended: Err(fault_of_text(fault)),
-        },
+    let ended = match write_end(alloc, &mut sink, position) {
+        Ok(()) => Ok(()),
+        Err(fault) => Err(fault_of_text(fault)),
+    };
+    Dispatched {
+        sink,
+        notifiers,
+        rows,
+        ended,
     }
 }

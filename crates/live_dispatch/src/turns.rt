@@ -1,10 +1,11 @@
 //! Rows, one by one, with the batches that they seal.
-ghost use Rattle.std.specs.Prelude.{◌≡◌, ℕ, List, ◌<◌, ◌≤◌, ◌^◌, [], map, MatchResult, IfOk, IfErr, Some};
+ghost use Rattle.std.specs.Prelude.{◌≡◌, ℕ, List, ◌<◌, ◌≤◌, ◌^◌, [], MatchResult, IfOk, IfErr, Some};
 ghost use Rattle.std.specs.Result.{IsErrOf};
 ghost use Rattle.pool_io.specs.Faults.{Rose};
 ghost use Rattle.dispatch_engine.specs.Run.{IsReady};
 ghost use Rattle.dispatch_report.specs.Written.{Change, sink_seen};
-ghost use Rattle.rider_notices.specs.Seen.{notifier_seen};
+ghost use Rattle.live_desk.specs.Desk.{outputs_seen};
+ghost use Rattle.rider_notices.specs.Seen.{notifiers_seen};
 ghost use Rattle.rider_notices.specs.Told.{NotifierView};
 ghost use Rattle.script_rows.specs.Line.{IsBehind};
 ghost use Rattle.live_dispatch.specs.Live.{BeginsRows, RunsRows};
@@ -15,7 +16,7 @@ use crate::batch::run_batch;
 use crate::fault::{LiveFault, fault_of_line, fault_of_text};
 use crate::live_run::{Dispatched, LiveRun, end, stop};
 use crate::row::run_row;
-use crate::setup::LiveSetup;
+use dispatch_engine::Setup;
 use live_rows::{LineFault, RowSource};
 use pool_io::Sink;
 use request_book::Book;
@@ -31,23 +32,30 @@ use worker_gate::Gate;
 /// Runs rows until there is none, and writes the last line: each row's line is written before the next row is waited
 /// for, but for the rows that run beside an open batch, whose lines are written in the order of the journal. Where that
 /// ends well, what was written is the report behind its head of a run of the rounds of all rows.
-pub fn dispatch<K: Sink + Send + Drop, L: RowSource + Send + Drop, W: Ways, D: Drafter, G: Gate>(
+pub fn dispatch<
+    K: Sink + Send + Drop,
+    N: Notifier + Send,
+    L: RowSource + Send + Drop,
+    W: Ways,
+    D: Drafter,
+    G: Gate,
+>(
     rt: &(impl Threads + Wait + Sync),
     alloc: Global,
     book: Book,
     sink: K,
+    notifiers: Vec<N>,
     rows: L,
-    setup: &LiveSetup<'_, W, D, G>,
-    notifiers: &mut Vec<Box<dyn Notifier>>,
-) -> Dispatched<K, L>
+    setup: &Setup<'_, W, D, G>,
+) -> Dispatched<K, N, L>
     requires ready { IsReady setup.now.settings.now setup.now.network.now book }
     requires empty { book.entries ≡ [] }
     requires small { book.first < 2 ^ 64 }
     requires first { L.last rows ≡ 0 }
     ensures run { let sinks = sink_seen K.written K.faults sink result.sink in
         let told : Change (List NotifierView) = (record {
-          before = map (λ n. notifier_seen (⟦<dyn Notifier as Notifier>⟧ n.vtable) n.value) notifiers.old.items;
-          after = map (λ n. notifier_seen (⟦<dyn Notifier as Notifier>⟧ n.vtable) n.value) notifiers.new.items;
+          before = notifiers_seen N.told N.faults N.steady notifiers.items;
+          after = notifiers_seen N.told N.faults N.steady result.notifiers.items;
         }) in
         MatchResult result.ended
         (λ _. RunsRows setup.now.settings.now setup.now.network.now book (L.to_come rows) sinks told)
@@ -60,6 +68,7 @@ pub fn dispatch<K: Sink + Send + Drop, L: RowSource + Send + Drop, W: Ways, D: D
     let mut run = LiveRun {
         book,
         sink,
+        notifiers,
         rows,
         line: Vec::new(alloc),
         round: None,
@@ -67,7 +76,7 @@ pub fn dispatch<K: Sink + Send + Drop, L: RowSource + Send + Drop, W: Ways, D: D
     };
     let mut held = None;
     for _ in 0..u64::MAX {
-        match run_next(rt, alloc, run, held, setup, notifiers) {
+        match run_next(rt, alloc, run, held, setup) {
             Ok((next, row)) => {
                 run = next;
                 held = row;
@@ -81,32 +90,34 @@ pub fn dispatch<K: Sink + Send + Drop, L: RowSource + Send + Drop, W: Ways, D: D
 
 /// Runs the row that is held, or the next that comes, with the batch that it seals. It gives the row that waits then; at
 /// the end of the rows the run is ended.
-fn run_next<K: Sink + Send + Drop, L: RowSource + Send + Drop, W: Ways, D: Drafter, G: Gate>(
+fn run_next<
+    K: Sink + Send + Drop,
+    N: Notifier + Send,
+    L: RowSource + Send + Drop,
+    W: Ways,
+    D: Drafter,
+    G: Gate,
+>(
     rt: &(impl Threads + Wait + Sync),
     alloc: Global,
-    run: LiveRun<K, L>,
+    run: LiveRun<K, N, L>,
     held: Option<Line>,
-    setup: &LiveSetup<'_, W, D, G>,
-    notifiers: &mut Vec<Box<dyn Notifier>>,
-) -> Result<(LiveRun<K, L>, Option<Line>), Dispatched<K, L>>
+    setup: &Setup<'_, W, D, G>,
+) -> Result<(LiveRun<K, N, L>, Option<Line>), Dispatched<K, N, L>>
     requires ready { IsReady setup.now.settings.now setup.now.network.now run.book }
     requires awaits { Awaits (last_of run.round) (L.last run.rows) held × (run.proof ≡ setup.now.settings.now.proof) }
-    ensures goes_on { let before = map (λ n. notifier_seen (⟦<dyn Notifier as Notifier>⟧ n.vtable) n.value) notifiers.old.items in
-        let after = map (λ n. notifier_seen (⟦<dyn Notifier as Notifier>⟧ n.vtable) n.value) notifiers.new.items in
-        let was = moment run.book run.round (L.to_come run.rows) (L.faults run.rows) (K.written run.sink) (K.faults run.sink) before in
+    ensures goes_on { let was = moment run.book run.round (L.to_come run.rows) (L.faults run.rows) (outputs_seen K.written K.faults N.told N.faults N.steady run.sink run.notifiers.items) in
         IfOk result (λ r. (start : Moment) → Stands setup.now.settings.now setup.now.network.now start was (HaveCome start was held)
-        → let now = moment r.0.book r.0.round (L.to_come r.0.rows) (L.faults r.0.rows) (K.written r.0.sink) (K.faults r.0.sink) after in
+        → let now = moment r.0.book r.0.round (L.to_come r.0.rows) (L.faults r.0.rows) (outputs_seen K.written K.faults N.told N.faults N.steady r.0.sink r.0.notifiers.items) in
         Stands setup.now.settings.now setup.now.network.now start now (HaveCome start now r.1)) }
     ensures awaits { IfOk result (λ r. Awaits (last_of r.0.round) (L.last r.0.rows) r.1 × (r.0.proof ≡ setup.now.settings.now.proof)) }
-    ensures ended { let before = map (λ n. notifier_seen (⟦<dyn Notifier as Notifier>⟧ n.vtable) n.value) notifiers.old.items in
-        let after = map (λ n. notifier_seen (⟦<dyn Notifier as Notifier>⟧ n.vtable) n.value) notifiers.new.items in
-        let was = moment run.book run.round (L.to_come run.rows) (L.faults run.rows) (K.written run.sink) (K.faults run.sink) before in
+    ensures ended { let was = moment run.book run.round (L.to_come run.rows) (L.faults run.rows) (outputs_seen K.written K.faults N.told N.faults N.steady run.sink run.notifiers.items) in
         IfErr result (λ d. (start : Moment) → Stands setup.now.settings.now setup.now.network.now start was (HaveCome start was held)
-        → HasEnded setup.now.settings.now setup.now.network.now start (L.faults d.rows) (record { written = K.written d.sink; faults = K.faults d.sink }) after d.ended) }
+        → HasEnded setup.now.settings.now setup.now.network.now start (L.faults d.rows) (outputs_seen K.written K.faults N.told N.faults N.steady d.sink d.notifiers.items) d.ended) }
 {
     let mut run = run;
     match next_row(&mut run.rows, held) {
-        Ok(Some(row)) => run_one(rt, alloc, run, row, setup, notifiers),
+        Ok(Some(row)) => run_one(rt, alloc, run, row, setup),
         Ok(None) => Err(end(alloc, run)),
         Err(fault) => Err(stop(run, fault_of_line(fault))),
     }
@@ -126,28 +137,30 @@ fn next_row<L: RowSource>(rows: &mut L, held: Option<Line>) -> Result<Option<Lin
 }
 
 /// Runs a row with the batch that it seals.
-fn run_one<K: Sink + Send + Drop, L: RowSource + Send + Drop, W: Ways, D: Drafter, G: Gate>(
+fn run_one<
+    K: Sink + Send + Drop,
+    N: Notifier + Send,
+    L: RowSource + Send + Drop,
+    W: Ways,
+    D: Drafter,
+    G: Gate,
+>(
     rt: &(impl Threads + Wait + Sync),
     alloc: Global,
-    run: LiveRun<K, L>,
+    run: LiveRun<K, N, L>,
     row: Line,
-    setup: &LiveSetup<'_, W, D, G>,
-    notifiers: &mut Vec<Box<dyn Notifier>>,
-) -> Result<(LiveRun<K, L>, Option<Line>), Dispatched<K, L>>
+    setup: &Setup<'_, W, D, G>,
+) -> Result<(LiveRun<K, N, L>, Option<Line>), Dispatched<K, N, L>>
     requires ready { IsReady setup.now.settings.now setup.now.network.now run.book }
     requires behind { IsBehind (last_of run.round) row × (L.last run.rows ≡ row.round) × (run.proof ≡ setup.now.settings.now.proof) }
-    ensures goes_on { let before = map (λ n. notifier_seen (⟦<dyn Notifier as Notifier>⟧ n.vtable) n.value) notifiers.old.items in
-        let after = map (λ n. notifier_seen (⟦<dyn Notifier as Notifier>⟧ n.vtable) n.value) notifiers.new.items in
-        let was = moment run.book run.round (L.to_come run.rows) (L.faults run.rows) (K.written run.sink) (K.faults run.sink) before in
+    ensures goes_on { let was = moment run.book run.round (L.to_come run.rows) (L.faults run.rows) (outputs_seen K.written K.faults N.told N.faults N.steady run.sink run.notifiers.items) in
         IfOk result (λ r. (start : Moment) → Stands setup.now.settings.now setup.now.network.now start was (HaveCome start was (Some row))
-        → let now = moment r.0.book r.0.round (L.to_come r.0.rows) (L.faults r.0.rows) (K.written r.0.sink) (K.faults r.0.sink) after in
+        → let now = moment r.0.book r.0.round (L.to_come r.0.rows) (L.faults r.0.rows) (outputs_seen K.written K.faults N.told N.faults N.steady r.0.sink r.0.notifiers.items) in
         Stands setup.now.settings.now setup.now.network.now start now (HaveCome start now r.1)) }
     ensures awaits { IfOk result (λ r. Awaits (last_of r.0.round) (L.last r.0.rows) r.1 × (r.0.proof ≡ setup.now.settings.now.proof)) }
-    ensures ended { let before = map (λ n. notifier_seen (⟦<dyn Notifier as Notifier>⟧ n.vtable) n.value) notifiers.old.items in
-        let after = map (λ n. notifier_seen (⟦<dyn Notifier as Notifier>⟧ n.vtable) n.value) notifiers.new.items in
-        let was = moment run.book run.round (L.to_come run.rows) (L.faults run.rows) (K.written run.sink) (K.faults run.sink) before in
+    ensures ended { let was = moment run.book run.round (L.to_come run.rows) (L.faults run.rows) (outputs_seen K.written K.faults N.told N.faults N.steady run.sink run.notifiers.items) in
         IfErr result (λ d. (start : Moment) → Stands setup.now.settings.now setup.now.network.now start was (HaveCome start was (Some row))
-        → HasEnded setup.now.settings.now setup.now.network.now start (L.faults d.rows) (record { written = K.written d.sink; faults = K.faults d.sink }) after d.ended) }
+        → HasEnded setup.now.settings.now setup.now.network.now start (L.faults d.rows) (outputs_seen K.written K.faults N.told N.faults N.steady d.sink d.notifiers.items) d.ended) }
 {
     let mut run = run;
     let round = row.round;
@@ -163,7 +176,7 @@ fn run_one<K: Sink + Send + Drop, L: RowSource + Send + Drop, W: Ways, D: Drafte
             run.round = Some(round);
             Ok((run, None))
         }
-        Ok(Some(snapshot)) => run_batch(rt, alloc, run, round, &snapshot, setup, notifiers),
+        Ok(Some(snapshot)) => run_batch(rt, alloc, run, round, &snapshot, setup),
         Err(fault) => Err(stop(run, fault_of_text(fault))),
     }
 }

@@ -2,6 +2,21 @@
 //!
 //! The batch is settled and its graphs are grown anew; trips, plan, bound, tree and moves are then judged as
 //! they are told, and no plan is searched for. A batch poses one problem, so the verdict is exact both ways.
+//!
+//! A caller, shortened from `block_audit`, which judges what a report tells of a batch:
+//!
+//! ```
+//! let outcome = outcome_of(alloc, told, &ids)?;
+//! match judge(rt, alloc, snapshot, network, ways, settings, &outcome, gate) {
+//!     Ok(verdict) => Ok((outcome, least(untold, place_of(verdict)))),
+//!     Err(fault) => {
+//!         drop(outcome);
+//!         Err(fault)
+//!     }
+//! }
+//! ```
+//!
+//! Main clauses: `judge`: `points`, `good`.
 #![tactic(auto)]
 
 mod graphs;

@@ -1,10 +1,18 @@
 //! A draft: the relaxation of all rows, plans made from it, and a tree where they leave a gap.
+use crate::annealing::Board;
+use crate::branching::Effort;
+use crate::diving::dive;
+use crate::part::relax;
 use crate::plans::Plans;
-use draft_trees::{DraftTree, Effort, Growth, by_falling_part, dive, relax, seconds_of};
+use crate::ranks::by_falling_part;
+use crate::scout::{Round, Scout, look_all};
+use crate::team::grow;
+use crate::tree::{DraftTree, Growth, seconds_of};
 use linear_relaxation::{Relaxation, first_multipliers};
 use pool_base::OutOfMemory;
 use row_tables::{Draft, Drafter, Draws, RowTable, Share};
 use std::alloc::Global;
+use std::thread::Threads;
 
 /// Beyond so many rows the first multipliers take more turns, unless a vehicle or rider has this many on average:
 /// then a turn is dear, and few are enough.
@@ -24,7 +32,6 @@ const EFFORT: Effort = Effort {
     candidates: 12,
     idle: 8,
     pivots: 30,
-    most_pivots: u64::MAX,
 };
 
 /// In graphs of few vehicles and riders, up to this many, a trial is cheap.
@@ -34,7 +41,6 @@ const STRONG_EFFORT: Effort = Effort {
     candidates: 60,
     idle: 60,
     pivots: 600,
-    most_pivots: u64::MAX,
 };
 
 /// Beyond so many vehicles and riders a trial is dear.
@@ -44,7 +50,6 @@ const LIGHT_EFFORT: Effort = Effort {
     candidates: 3,
     idle: 3,
     pivots: 30,
-    most_pivots: u64::MAX,
 };
 
 /// How many columns come in before a tree tries no more rows, times vehicles and riders.
@@ -56,139 +61,98 @@ const PROBE: usize = 40;
 /// After so many neighbourhoods in a row without a gain a plan is left, and how far each is searched.
 const IDLE: u32 = 300;
 
-const MORE_IDLE: u32 = 1500;
-
 const STEPS: u32 = 500;
 
 const MORE_STEPS: u32 = 2000;
 
-/// How many rounds are made where annealing helps: what one comes to is luck, so none is left out.
-const WARM_ROUNDS: u32 = 6;
+/// How many scouts anneal at once where that helps: what one comes to is luck. How many dive.
+const ANNEALINGS: usize = 8;
 
-/// Elsewhere none are made after so many in a row that saved nothing.
-const MOST_IDLE_ROUNDS: u32 = 3;
+const DIVES: usize = 4;
 
-/// How many moves an annealing has.
-const MOVES: u64 = 2_000_000;
-
-/// How many plans are merged at most.
-const MOST_OPTIMA: usize = 10;
-
-/// How many small programs a round solves.
-const PROGRAMS: u32 = 20;
+/// How many rounds of scouts there are at most. A large graph has one, one that is nearly closed one of two scouts.
+const ROUNDS: u64 = 2;
 
 /// How far from a vehicle's least a merged row's reduced cost may be where nobody is left out, in seconds.
 const MERGE_WIDTH: i64 = 5;
-
-/// A draft in the making.
-#[derive(Drop)]
-struct Drafting {
-    alloc: Global,
-    relaxation: Relaxation,
-    plans: Plans,
-    /// The first multipliers that are the best for all rows, their value in 1/1024 second, and the basis.
-    multipliers: Vec<i64>,
-    value: i64,
-    basis: Vec<u32>,
-    shares: Vec<Share>,
-    /// The best plan so far and its cost in seconds, and the bound.
-    plan: Vec<Option<u32>>,
-    cost: i64,
-    bound: i64,
-    draws: Draws,
-}
 
 /// Drafts by the relaxation of all rows, as this crate does.
 #[derive(Clone, Copy)]
 pub struct RelaxationDrafter;
 
 impl Drafter for RelaxationDrafter {
-    fn draft(
+    fn draft<R: Threads + Sync>(
         &self,
+        rt: &R,
         alloc: Global,
         table: &RowTable,
         held: &[Option<u32>],
         budget: usize,
+        workers: u8,
     ) -> Result<Draft, OutOfMemory> {
-        make_draft(alloc, table, held, budget)
+        let mut drafting = Drafting::new(alloc, table, held, workers)?;
+        drafting.make_plans(table)?;
+        drafting.go_back(table)?;
+        let mut tree = drafting.plant(table)?;
+        drafting.grow(rt, table, budget, &mut tree)?;
+        if drafting.is_open() {
+            drafting.make_more_plans(rt, table)?;
+            if drafting.is_open() && !drafting.is_near(2000) {
+                drafting.go_back(table)?;
+                drafting.grow(rt, table, budget, &mut tree)?;
+            }
+        }
+        let mut draft = tree.draft;
+        draft.plan = drafting.plan;
+        draft.cost = drafting.cost;
+        Ok(draft)
     }
 }
 
-/// The best plan that is found, and a tree of at most so many nodes. The held plan is lawful.
-fn make_draft(
+/// A draft in the making.
+#[derive(Drop)]
+struct Drafting {
     alloc: Global,
-    table: &RowTable,
-    held: &[Option<u32>],
-    budget: usize,
-) -> Result<Draft, OutOfMemory> {
-    let mut drafting = Drafting::new(alloc, table, held)?;
-    drafting.make_plans(table)?;
-    drafting.go_back(table)?;
-    let mut tree = drafting.plant(table)?;
-    drafting.grow(table, budget, &mut tree)?;
-    if drafting.is_open() {
-        drafting.make_more_plans(table)?;
-        if drafting.is_open() && !drafting.is_near(2000) {
-            drafting.go_back(table)?;
-            drafting.grow(table, budget, &mut tree)?;
-        }
-    }
-    let mut draft = tree.draft;
-    draft.plan.clear();
-    draft.plan.extend_from_slice(&drafting.plan)?;
-    draft.cost = drafting.cost;
-    Ok(draft)
+    workers: u8,
+    relaxation: Relaxation,
+    plans: Plans,
+    /// The first multipliers that are the best for all rows, their value in 1/1024 second, and the basis.
+    multipliers: Vec<i64>,
+    value: i64,
+    basis: Vec<u32>,
+    /// The best plan so far and its cost in seconds, and the bound.
+    plan: Vec<Option<u32>>,
+    cost: i64,
+    bound: i64,
 }
 
 impl Drafting {
-    /// Solves the relaxation.
-    fn new(alloc: Global, table: &RowTable, held: &[Option<u32>]) -> Result<Self, OutOfMemory> {
-        let relaxation = Relaxation::new(alloc, table, held)?;
-        let plans = Plans::new(alloc, table)?;
-        let mut drafting = Drafting {
+    /// Solves the relaxation, and takes a plan without rows.
+    fn new(
+        alloc: Global,
+        table: &RowTable,
+        held: &[Option<u32>],
+        workers: u8,
+    ) -> Result<Self, OutOfMemory> {
+        let mut relaxation = Relaxation::new(alloc, table, held)?;
+        solve(alloc, table, &mut relaxation)?;
+        let multipliers = relaxation.multipliers(alloc, table.rider_count())?;
+        let nobody: Vec<Option<u32>> = vec![in alloc; None; table.vehicle_count()]?;
+        let plans = Plans::new(alloc, table, &multipliers, &nobody, 0)?;
+        let value = relaxation.value();
+        let basis = Vec::from_slice(alloc, relaxation.columns())?;
+        Ok(Drafting {
             alloc,
+            workers,
             relaxation,
             plans,
-            multipliers: Vec::new(alloc),
-            value: i64::MIN,
-            basis: Vec::new(alloc),
-            shares: Vec::new(alloc),
+            multipliers,
+            value,
+            basis,
             plan: Vec::new(alloc),
             cost: i64::MAX / 4096,
-            bound: i64::MIN,
-            draws: Draws::new(5),
-        };
-        drafting.relax(table)?;
-        Ok(drafting)
-    }
-
-    /// Solves the relaxation, at first with little to pay for a rider who is left out.
-    fn relax(&mut self, table: &RowTable) -> Result<(), OutOfMemory> {
-        let rows = table.row_count();
-        let is_dear = rows > condition_count(table).saturating_mul(MANY_A_CONDITION);
-        let turns = if rows > MANY_ROWS && !is_dear {
-            MORE_TURNS
-        } else {
-            TURNS
-        };
-        let first = first_multipliers(self.alloc, table, turns)?;
-        self.relaxation.fill_pool(table, &first, MOST_ROWS)?;
-        relax(table, &mut self.relaxation, &first, MOST_ROWS)?;
-        self.note_solution(table)
-    }
-
-    /// Notes the solution at hand as the first one.
-    fn note_solution(&mut self, table: &RowTable) -> Result<(), OutOfMemory> {
-        let mut shares = Vec::new(self.alloc);
-        self.relaxation.find_shares(table, &mut shares)?;
-        self.shares = by_falling_part(self.alloc, &shares)?;
-        self.multipliers = self
-            .relaxation
-            .multipliers(self.alloc, table.rider_count())?;
-        self.value = self.relaxation.value();
-        self.basis = Vec::from_slice(self.alloc, self.relaxation.columns())?;
-        self.bound = seconds_of(self.value);
-        Ok(())
+            bound: seconds_of(value),
+        })
     }
 
     fn is_open(&self) -> bool {
@@ -205,83 +169,56 @@ impl Drafting {
         self.cost.saturating_sub(self.bound) >= table.penalty() / 4
     }
 
-    /// Keeps the plan at hand where it is the best so far.
-    fn keep(&mut self) -> Result<(), OutOfMemory> {
-        if self.plans.cost() < self.cost {
-            self.cost = self.plans.cost();
+    /// Takes a plan where it is the best so far.
+    fn offer(&mut self, plan: &[Option<u32>], cost: i64) -> Result<(), OutOfMemory> {
+        if cost < self.cost {
+            self.cost = cost;
+            self.plan = Vec::from_slice(self.alloc, plan)?;
+        }
+        Ok(())
+    }
+
+    /// Betters the plan at hand by neighbourhoods, and takes it where it is the best so far.
+    fn better(&mut self, table: &RowTable, steps: u32) -> Result<(), OutOfMemory> {
+        self.plans.better(table, self.bound, IDLE, steps)?;
+        let cost = self.plans.cost();
+        if cost < self.cost {
+            self.cost = cost;
             self.plan.clear();
             self.plan.extend_from_slice(self.plans.chosen())?;
         }
         Ok(())
     }
 
-    /// Makes a plan from the solution and one by a dive, each bettered by neighbourhoods.
+    /// Makes a plan from the solution and one by a dive.
     fn make_plans(&mut self, table: &RowTable) -> Result<(), OutOfMemory> {
-        self.plans.price(table, &self.multipliers)?;
-        self.plans.round(table, &self.shares)?;
-        self.plans.better(table, self.bound, IDLE, STEPS)?;
-        self.keep()?;
+        let mut shares: Vec<Share> = Vec::new(self.alloc);
+        self.relaxation.find_shares(table, &mut shares)?;
+        let shares = by_falling_part(self.alloc, &shares)?;
+        self.plans.round(table, &shares)?;
+        self.better(table, STEPS)?;
         if self.is_open() {
-            self.dive(table, false, IDLE, STEPS)?;
+            let relaxation = &mut self.relaxation;
+            let mut draws = Draws::new(5);
+            if let Some(plan) = dive(
+                self.alloc,
+                table,
+                relaxation,
+                &self.basis,
+                &mut draws,
+                false,
+            )? {
+                self.plans.adopt(table, &plan)?;
+                self.better(table, STEPS)?;
+            }
         }
         Ok(())
     }
 
-    /// A plan by a dive, bettered by neighbourhoods. Whether there is one.
-    fn dive(
-        &mut self,
-        table: &RowTable,
-        is_drawn: bool,
-        idle: u32,
-        steps: u32,
-    ) -> Result<bool, OutOfMemory> {
-        let found = dive(
-            self.alloc,
-            table,
-            &mut self.relaxation,
-            &self.basis,
-            &mut self.draws,
-            is_drawn,
-        )?;
-        match found {
-            None => Ok(false),
-            Some(plan) => {
-                self.plans.adopt(table, &plan)?;
-                self.plans.better(table, self.bound, idle, steps)?;
-                self.keep()?;
-                Ok(true)
-            }
-        }
-    }
-
     /// A tree of one node, where the first solution stands.
     fn plant(&mut self, table: &RowTable) -> Result<DraftTree, OutOfMemory> {
-        DraftTree::new(
-            self.alloc,
-            table,
-            &mut self.relaxation,
-            &self.plan,
-            self.cost,
-        )
-    }
-
-    /// How a tree grows.
-    fn growth(&self, table: &RowTable, budget: usize) -> Growth {
-        let conditions = condition_count(table);
-        let most = MOST_WORK.checked_div(conditions as u64).unwrap_or(0);
-        let mut effort = if conditions <= FEW_CONDITIONS {
-            STRONG_EFFORT
-        } else if is_large(table) {
-            LIGHT_EFFORT
-        } else {
-            EFFORT
-        };
-        effort.most_pivots = self.relaxation.pivots().saturating_add(most);
-        Growth {
-            budget,
-            effort,
-            probe: PROBE,
-        }
+        let relaxation = &mut self.relaxation;
+        DraftTree::new(self.alloc, table, relaxation, &self.plan, self.cost)
     }
 
     /// Goes back to the first solution, without the rows whose reduced cost exceeds the gap.
@@ -295,8 +232,9 @@ impl Drafting {
     }
 
     /// Grows a tree with the best plan so far, and takes its bound and plan where they are better.
-    fn grow(
+    fn grow<R: Threads + Sync>(
         &mut self,
+        rt: &R,
         table: &RowTable,
         budget: usize,
         tree: &mut DraftTree,
@@ -304,106 +242,148 @@ impl Drafting {
         if self.is_open() {
             let plan = Vec::from_slice(self.alloc, &self.plan)?;
             tree.offer(self.alloc, table, plan)?;
-            let growth = self.growth(table, budget);
-            tree.grow(self.alloc, table, &mut self.relaxation, growth)?;
+            let growth = growth_of(table, budget);
+            let pivots = MOST_WORK
+                .checked_div(condition_count(table) as u64)
+                .unwrap_or(0);
+            let relaxation = &self.relaxation;
+            grow(
+                rt,
+                self.alloc,
+                table,
+                relaxation,
+                tree,
+                growth,
+                pivots,
+                self.workers,
+            )?;
         }
         self.bound = self.bound.max(tree.draft.bound);
-        if tree.draft.cost < self.cost {
-            self.cost = tree.draft.cost;
-            self.plan.clear();
-            self.plan.extend_from_slice(&tree.draft.plan)?;
-        }
-        Ok(())
+        self.offer(&tree.draft.plan, tree.draft.cost)
     }
 
-    /// Rounds of annealing, drawn dives and merges: annealing where more riders might be served.
-    fn make_more_plans(&mut self, table: &RowTable) -> Result<(), OutOfMemory> {
-        let is_wide = self.is_wide(table);
-        let rounds = if self.is_near(2000) {
-            2
-        } else if is_wide {
-            WARM_ROUNDS
-        } else if is_large(table) {
-            4
+    /// Rounds of scouts, whose plans are merged: annealing and then dives where more riders might be served, and
+    /// elsewhere dives, as long as they save something.
+    fn make_more_plans<R: Threads + Sync>(
+        &mut self,
+        rt: &R,
+        table: &RowTable,
+    ) -> Result<(), OutOfMemory> {
+        let board = if self.is_wide(table) {
+            Some(Board::new(self.alloc, table, self.plans.regrets())?)
         } else {
-            8
+            None
         };
-        let mut optima: Vec<Vec<Option<u32>>> = Vec::new(self.alloc);
-        optima.push(Vec::from_slice(self.alloc, &self.plan)?)?;
-        let mut idle: u32 = 0;
-        for round in 0..rounds {
-            if !self.is_open() || (!is_wide && idle >= MOST_IDLE_ROUNDS) {
+        let rounds = if self.is_near(2000) || is_large(table) {
+            1
+        } else {
+            ROUNDS
+        };
+        let mut scouts: Vec<Scout> = Vec::new(self.alloc);
+        for number in 0..rounds {
+            let before = self.cost;
+            self.make_round(rt, table, board.as_ref(), number, &mut scouts)?;
+            if !self.is_open() || (board.is_none() && self.cost >= before) {
                 return Ok(());
             }
-            let before = self.cost;
-            self.make_round(table, round, is_wide, &mut optima)?;
-            idle = if self.cost < before {
-                0
-            } else {
-                idle.saturating_add(1)
-            };
         }
         Ok(())
     }
 
-    fn make_round(
+    fn make_round<R: Threads + Sync>(
+        &mut self,
+        rt: &R,
+        table: &RowTable,
+        board: Option<&Board>,
+        number: u64,
+        scouts: &mut Vec<Scout>,
+    ) -> Result<(), OutOfMemory> {
+        let dives = board.is_none() || number > 0;
+        let count = if !dives {
+            ANNEALINGS
+        } else if self.is_near(2000) {
+            2
+        } else {
+            DIVES
+        };
+        scouts.truncate(count);
+        self.call_scouts(table, count, scouts)?;
+        let round = Round {
+            number,
+            plan: &self.plan,
+            bound: self.bound,
+            basis: &self.basis,
+            board,
+            dives,
+        };
+        look_all(rt, self.alloc, table, round, self.workers, scouts)?;
+        self.merge(table, scouts, if board.is_none() { MERGE_WIDTH } else { 0 })
+    }
+
+    /// Has so many scouts be there.
+    fn call_scouts(
         &mut self,
         table: &RowTable,
-        round: u32,
-        is_wide: bool,
-        optima: &mut Vec<Vec<Option<u32>>>,
+        count: usize,
+        scouts: &mut Vec<Scout>,
     ) -> Result<(), OutOfMemory> {
-        if is_wide {
-            self.anneal(table, round, optima)?;
+        for number in scouts.len()..count {
+            let scout = Scout::beside(
+                self.alloc,
+                table,
+                &self.relaxation,
+                &self.multipliers,
+                &self.plan,
+                number as u64,
+            )?;
+            scouts.push(scout)?;
         }
-        let idle = if is_wide { MORE_IDLE } else { 2 * MORE_IDLE };
-        if self.is_open() && self.dive(table, round > 0, idle, MORE_STEPS)? {
-            self.note(optima)?;
+        Ok(())
+    }
+
+    /// Takes the best of the scouts' plans, and merges it with the others.
+    fn merge(&mut self, table: &RowTable, scouts: &[Scout], width: i64) -> Result<(), OutOfMemory> {
+        let mut optima: Vec<Vec<Option<u32>>> = Vec::new(self.alloc);
+        for scout in scouts {
+            self.offer(scout.plans.chosen(), scout.plans.cost())?;
+            optima.push(Vec::from_slice(self.alloc, scout.plans.chosen())?)?;
         }
         if self.is_open() {
-            self.merge(table, is_wide, optima)?;
-        }
-        if self.is_open() && !is_wide {
-            self.plans.try_programs(table, PROGRAMS)?;
-            self.keep()?;
+            self.plans.adopt(table, &self.plan)?;
+            self.plans.merge(table, &optima, width)?;
+            self.better(table, MORE_STEPS)?;
         }
         Ok(())
     }
+}
 
-    fn anneal(
-        &mut self,
-        table: &RowTable,
-        round: u32,
-        optima: &mut Vec<Vec<Option<u32>>>,
-    ) -> Result<(), OutOfMemory> {
-        self.plans.adopt(table, &self.plan)?;
-        self.plans.anneal(table, u64::from(round), MOVES)?;
-        self.plans.better(table, self.bound, MORE_IDLE, MORE_STEPS)?;
-        self.keep()?;
-        self.note(optima)
-    }
+/// Solves the relaxation, at first with little to pay for a rider who is left out.
+fn solve(alloc: Global, table: &RowTable, relaxation: &mut Relaxation) -> Result<(), OutOfMemory> {
+    let rows = table.row_count();
+    let is_dear = rows > condition_count(table).saturating_mul(MANY_A_CONDITION);
+    let turns = if rows > MANY_ROWS && !is_dear {
+        MORE_TURNS
+    } else {
+        TURNS
+    };
+    let first = first_multipliers(alloc, table, turns)?;
+    relaxation.fill_pool(table, &first, MOST_ROWS)?;
+    relax(table, relaxation, &first, MOST_ROWS)
+}
 
-    fn merge(
-        &mut self,
-        table: &RowTable,
-        is_wide: bool,
-        optima: &mut Vec<Vec<Option<u32>>>,
-    ) -> Result<(), OutOfMemory> {
-        self.plans.adopt(table, &self.plan)?;
-        let width = if is_wide { 0 } else { MERGE_WIDTH };
-        self.plans.merge(table, optima, width)?;
-        self.plans.better(table, self.bound, IDLE, MORE_STEPS)?;
-        self.keep()?;
-        self.note(optima)
-    }
-
-    /// Puts the plan at hand among the optima, in place of the oldest where there are many.
-    fn note(&self, optima: &mut Vec<Vec<Option<u32>>>) -> Result<(), OutOfMemory> {
-        if optima.len() >= MOST_OPTIMA {
-            optima.remove(0);
-        }
-        optima.push(Vec::from_slice(self.alloc, self.plans.chosen())?)?;
-        Ok(())
+/// How a tree grows.
+fn growth_of(table: &RowTable, budget: usize) -> Growth {
+    let effort = if condition_count(table) <= FEW_CONDITIONS {
+        STRONG_EFFORT
+    } else if is_large(table) {
+        LIGHT_EFFORT
+    } else {
+        EFFORT
+    };
+    Growth {
+        budget,
+        effort,
+        probe: PROBE,
     }
 }
 

@@ -1,10 +1,42 @@
 //! A search without proofs: it finds a plan, and a tree that shows how good the plan is.
 //!
-//! Both are judged where they are used. All decisions are by counts and by numbers drawn from fixed seeds,
-//! so that the same rows give the same draft.
+//! Both are judged where they are used. All decisions are by counts and by numbers drawn from fixed seeds, so that
+//! the same rows give the same draft, whatever the number of workers: a fixed number of nodes is parted at once, and
+//! a fixed number of scouts looks for plans, each with a relaxation, a plan and draws of its own.
+//!
+//! A caller, from the tests of `drawn_plans`:
+//!
+//! ```
+//! fn drafted<R: Threads + Sync>(rt: &R, alloc: Global) -> Result<(i64, i64), OutOfMemory> {
+//!     let table = table_of_pairs(alloc)?;
+//!     let held = [Some(0), Some(3), Some(5)];
+//!     let draft = RelaxationDrafter.draft(rt, alloc, &table, &held, 20, 4)?;
+//!     Ok((draft.cost, draft.bound))
+//! }
+//! ```
+//!
+//! Main clauses: none, only what safety needs.
 #![tactic(auto)]
 
+mod annealing;
+mod bans;
+mod beside;
+mod branching;
+mod choices;
+mod cooling;
+mod diving;
 mod draft;
+mod merge;
+mod neighbourhood;
+mod part;
 mod plans;
+mod present;
+mod ranks;
+mod regrets;
+mod rounding;
+mod scout;
+mod team;
+mod tree;
+mod whole;
 
 pub use draft::RelaxationDrafter;

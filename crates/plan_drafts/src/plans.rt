@@ -4,11 +4,13 @@
 //! Nothing is proved of the plans that come out: they are judged before they are used. All choices follow
 //! from counts and drawn numbers, so that the same rows give the same plan.
 
-mod merge;
-
-use crate::plans::merge::{Wanted, solve};
-use draft_trees::plan_cost;
-use plan_moves::{Annealing, Neighbourhood, Present, Regrets, round};
+use crate::annealing::{Board, anneal};
+use crate::merge::{Wanted, solve};
+use crate::neighbourhood::Neighbourhood;
+use crate::present::Present;
+use crate::regrets::Regrets;
+use crate::rounding::round;
+use crate::whole::plan_cost;
 use pool_base::OutOfMemory;
 use row_tables::fixed_point::{item, set_at};
 use row_tables::lists::short;
@@ -40,39 +42,41 @@ pub struct Plans {
     regrets: Regrets,
     present: Present,
     neighbourhood: Neighbourhood,
-    annealing: Option<Annealing>,
     multipliers: Vec<i64>,
     chosen: Vec<Option<u32>>,
     cost: i64,
 }
 
 impl Plans {
-    /// A plan without rows.
-    pub fn new(alloc: Global, table: &RowTable) -> Result<Plans, OutOfMemory> {
+    /// A plan, with the regrets of rows under these multipliers, in 1/1024 second. What is drawn follows from the
+    /// number.
+    pub fn new(
+        alloc: Global,
+        table: &RowTable,
+        multipliers: &[i64],
+        chosen: &[Option<u32>],
+        number: u64,
+    ) -> Result<Plans, OutOfMemory> {
         let vehicles = table.vehicle_count();
         let riders = table.rider_count();
-        let present = Present::new(alloc, vehicles, riders)?;
-        let neighbourhood = Neighbourhood::new(alloc, vehicles, riders)?;
         let mut plans = Plans {
             alloc,
-            draws: Draws::new(4242),
+            draws: Draws::new(number.wrapping_add(4242)),
             regrets: Regrets::none(alloc),
-            present,
-            neighbourhood,
-            annealing: None,
-            multipliers: Vec::new(alloc),
-            chosen: Vec::new(alloc),
+            present: Present::new(alloc, vehicles, riders)?,
+            neighbourhood: Neighbourhood::new(alloc, vehicles, riders)?,
+            multipliers: Vec::from_slice(alloc, multipliers)?,
+            chosen: Vec::from_slice(alloc, chosen)?,
             cost: 0,
         };
-        plans.begin(table)?;
+        plans.count(table)?;
+        plans.list(table)?;
         Ok(plans)
     }
 
-    fn begin(&mut self, table: &RowTable) -> Result<(), OutOfMemory> {
-        self.multipliers = vec![in self.alloc; 0; table.rider_count()]?;
-        self.chosen = vec![in self.alloc; None; table.vehicle_count()]?;
-        self.count(table)?;
-        self.list(table)
+    /// The regrets of rows.
+    pub fn regrets(&self) -> &Regrets {
+        &self.regrets
     }
 
     /// The rows of the present plan.
@@ -83,12 +87,6 @@ impl Plans {
     /// What the present plan costs, in seconds.
     pub fn cost(&self) -> i64 {
         self.cost
-    }
-
-    /// Takes the regrets from these multipliers, in 1/1024 second. The plan stays.
-    pub fn price(&mut self, table: &RowTable, multipliers: &[i64]) -> Result<(), OutOfMemory> {
-        self.multipliers = Vec::from_slice(self.alloc, multipliers)?;
-        self.list(table)
     }
 
     /// Makes a plan of the relaxation's shares. Where the vehicles' rows can't be made to fit, the present
@@ -138,17 +136,16 @@ impl Plans {
         self.keep(table)
     }
 
-    /// Makes so many moves of an annealing from the present plan, others in each round, and takes the best plan that
-    /// it finds, or its last one where none is better than the present one.
-    pub fn anneal(&mut self, table: &RowTable, round: u64, moves: u64) -> Result<(), OutOfMemory> {
-        let mut annealing = match self.annealing.take() {
-            Some(annealing) => annealing,
-            None => Annealing::new(self.alloc, table)?,
-        };
-        annealing.run(table, &self.regrets, &self.chosen, round, moves)?;
-        self.adopt(table, annealing.found())?;
-        self.annealing = Some(annealing);
-        Ok(())
+    /// Makes so many moves of an annealing from the present plan, others in each round, and takes what it finds.
+    pub fn anneal(
+        &mut self,
+        table: &RowTable,
+        board: &Board,
+        round: u64,
+        moves: u64,
+    ) -> Result<(), OutOfMemory> {
+        let found = anneal(self.alloc, table, board, &self.chosen, round, moves)?;
+        self.adopt(table, &found)
     }
 
     /// Solves the part of the vehicles whose rows aren't the same in all these plans, over the rows that any

@@ -3,6 +3,24 @@
 //!
 //! Every type keeps its own range, so that no sum above them overflows; a table of travel times keeps
 //! a zero diagonal and the triangle inequality, where "cannot be reached" is above every number.
+//!
+//! A caller reads a node's number, and looks up a travel time:
+//!
+//! ```
+//! fn node_of(field: &[u8]) -> Option<NodeId> {
+//!     match read_number(field) {
+//!         Ok(number) => NodeId::new(number),
+//!         Err(_) => None,
+//!     }
+//! }
+//!
+//! fn reaches(times: &Times, from: usize, to: usize) -> bool {
+//!     from < times.len() && to < times.len() && times.get(from, to).is_some()
+//! }
+//! ```
+//!
+//! Main clauses: `read_number`: `value`, `empty`, `not_digit`, `too_large`; `Times::checked`: `accepts`,
+//! `kept`, `refused`.
 #![tactic(auto)]
 
 mod memory;

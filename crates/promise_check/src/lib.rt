@@ -2,6 +2,28 @@
 //!
 //! A vehicle is live where some order of stops serves its passengers and all riders promised to it, each by
 //! the promised second. Their limits then hold for every vehicle; other promises have lapsed.
+//!
+//! A caller, from the tests of `whole_calls`:
+//!
+//! ```
+//! fn told_over(
+//!     rt: &(impl Threads + Sync),
+//!     alloc: Global,
+//!     snapshot: &Snapshot,
+//!     points: &Points,
+//!     times: &Times,
+//!     settings: &Settings,
+//!     asked: Asked,
+//! ) -> Result<String, OutOfMemory>
+//!     requires points { ArePoints snapshot.now points.now }
+//!     requires table { point_count times.now ≡ length points.now }
+//! {
+//!     let settled = settle(alloc, snapshot, settings, points, times)?;
+//!     told_of_settled(rt, alloc, &settled, times, settings, asked)
+//! }
+//! ```
+//!
+//! Main clauses: `settle`: `settled`, `sound`.
 #![tactic(auto)]
 
 mod kept_riders;

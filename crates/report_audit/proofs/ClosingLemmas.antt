@@ -5,7 +5,9 @@ use Rattle.std.proofs.lemmas.Bool.{eqb-true}
 use Rattle.std.proofs.lemmas.Map.Views.{Contains-from_any}
 use Rattle.batch_snapshot.specs.Batch.{Batch}
 use Rattle.batch_snapshot.specs.Points.{named_nodes}
+use Rattle.batch_snapshot.specs.Kept.{IsKept}
 use Rattle.block_audit.specs.Block.{BeginsWithGood}
+use Rattle.block_audit.proofs.lemmas.AuditLemmas.{good_not_refused}
 use Rattle.request_book.specs.Book.{BookView, IsApplied, next_position}
 use Rattle.request_book.specs.Consistent.{IsNode}
 use Rattle.request_book.specs.declared.command.Command.TheVariants.{Close}
@@ -36,14 +38,15 @@ closed_applied old new batch lane n outcome reply number sealed applied =
 
 pub takes_close : (settings : Settings) (roads : Roads) (old new : BookView) (batch : Batch) (lane n position : ℕ) (line after rest : List ℕ) (outcome : Outcome) (reply : Reply)
     → n ≡ batch.number → n < 2 ^ 64 → old.state.sealed ≡ Some batch → position ≡ next_position old.first old.entries → line ≡ close_line position lane n
-    → BeginsWithGood settings roads batch after outcome rest
+    → IsKept batch → BeginsWithGood settings roads batch after outcome rest
     → ((other : Outcome) (behind : List ℕ) → BeginsWithGood settings roads batch after other behind → (other ≡ outcome) × (behind ≡ rest))
     → IsApplied old lane (Close n outcome) reply new → TakesClose settings roads old batch lane line after rest new
-takes_close settings roads old new batch lane n position line after rest outcome reply number low sealed at is good only applied = record {
+takes_close settings roads old new batch lane n position line after rest outcome reply number low sealed at is kept good only applied = record {
   low = subst (λ (k : ℕ). k < 2 ^ 64) number low;
   line_is = is ∙ ap (λ (p : ℕ). close_line p lane n) at ∙ ap (λ (k : ℕ). close_line (next_position old.first old.entries) lane k) number;
   outcome = outcome;
   good = good;
   only = only;
+  unrefused = good_not_refused settings roads batch kept after outcome rest good;
   applied = closed_applied old new batch lane n outcome reply number sealed applied;
 }

@@ -1,10 +1,12 @@
 -- An entry that an audit reads.
-use Rattle.std.proofs.Common.{◌≡◌, ℕ, ◌<◌, ◌≤◌, ◌^◌, true, List, [], ◌∷◌, ◌++◌, length, set, slice_get, Option, Some, None, refl, sym, ap, ◌∙◌, subst, length-append, arith}
+use Rattle.std.proofs.Common.{◌≡◌, ◌≢◌, ◌⊎◌, ℕ, ◌<◌, ◌≤◌, ◌^◌, true, List, [], ◌∷◌, ◌++◌, length, set, slice_get, Option, Some, None, ⊎_elim, refl, sym, ap, ◌∙◌, subst, length-append, arith}
 use Rattle.std.proofs.lemmas.List.{length-set}
 use Rattle.std.proofs.lemmas.Option.{slice_get_within, get_or_from_slice_get}
 use Rattle.batch_snapshot.specs.Batch.{Batch}
 use Rattle.batch_solver.specs.Outcome.{IsGoodOutcome}
-use Rattle.block_audit.specs.Block.{BeginsWithGood}
+use Rattle.block_audit.specs.Block.{BeginsWithGood, Refuses}
+use Rattle.block_audit.specs.declared.refusal.BlockRefusal.{BlockRefusal}
+use Rattle.block_audit.specs.declared.refusal.BlockRefusal.TheVariants as refusal
 use Rattle.block_audit.specs.Fits.{FitsTypes}
 use Rattle.dispatch_engine.specs.Lane.{IsCloseOf, IsGoodClose, last_sealed}
 use Rattle.dispatch_engine.specs.Run.{journal_of}
@@ -35,6 +37,8 @@ use Rattle.rider_limits.specs.declared.settings.Settings.{Settings}
 use Rattle.road_network.specs.Roads.{Roads}
 use Rattle.script_rows.specs.Round.{NumberedLanes, MayStand, lane_at}
 use Rattle.report_lines.specs.Line.{IsFirstLine}
+use Rattle.report_lines.proofs.lemmas.OneBlock.{cut_once}
+use Rattle.report_audit.specs.Fault.{IsWrongBlock}
 use Rattle.report_audit.specs.Place.{Extent, BeginsRound, MayComeNext, AreAtEnd, position_behind, state_behind}
 use Rattle.report_audit.specs.work.Place.{with_entry}
 use Rattle.report_audit.specs.Types.{HasFittingBlock, IsTold}
@@ -43,12 +47,12 @@ use Rattle.report_audit.specs.declared.stop.LineFault.TheVariants as wrong
 use Rattle.report_audit.specs.declared.stop.Stop.{Stop}
 use Rattle.report_audit.specs.declared.stop.Stop.TheVariants.{OutOfMemory, Line, Block}
 use Rattle.report_audit.specs.work.Closing.{TakesClose, CloseStops}
-use Rattle.report_audit.specs.work.Rest.{IsRestOfRound}
-use Rattle.report_audit.specs.work.Steps.{StopsAt, HasNoNext, IsWithin, HasRead, StopsWithin, Waits}
+use Rattle.report_audit.specs.work.Rest.{GoesOn, StopsAt, StopsHere}
+use Rattle.report_audit.specs.work.Steps.{HasNoNext, IsWithin, HasRead, StopsWithin, Waits}
 use Rattle.report_audit.specs.work.Taking.{TakesCommand, CommandStops}
-use Rattle.report_audit.proofs.JournalLemmas.{closes-push, told-push, sealed-after, close-is}
+use Rattle.report_audit.proofs.JournalLemmas.{closes-push, told-push, sealed-after, close-is, not_closed}
 use Rattle.report_audit.proofs.LaneLemmas.{come_begins, end_done, no_close_of, no_outcome, none_beyond, waits_command, waits_close, waits_for}
-use Rattle.report_audit.proofs.NextLemmas.{HasNext, has_next, first_is, wrong_is_none, no_next_within, book_state, book_step, journal_applied, book_of_applied, entry_by, candidate_lane, candidate_next, candidate_command, next_begins, read_one, close_of}
+use Rattle.report_audit.proofs.NextLemmas.{HasNext, comes_is_no_stop, has_next, first_is, same_stop, wrong_is_none, no_next_within, book_state, book_step, journal_applied, book_of_applied, entry_by, candidate_lane, candidate_next, candidate_command, next_begins, read_one, close_of}
 use Rattle.report_audit.proofs.TextLemmas.{lines-none, next-low}
 
 -- a round goes on with one more entry
@@ -95,19 +99,24 @@ pub not_at_end : (settings : Settings) (roads : Roads) (round : NumberedLanes) (
 not_at_end settings roads round b lanes sealed is going end = going (end_done round lanes b.entries is.come end)
 
 module _ (settings : Settings) (roads : Roads) (round : NumberedLanes) (b : BookView) (lanes : List LaneStand) (sealed : Option Batch) (is : IsWithin settings roads round b lanes sealed) (going : AreDone round lanes → ⊥) (text : List ℕ) where
-  next_of : (later : List NumberedLanes) → IsRestOfRound settings roads round later (journal_of b) text → HasNext settings roads round later (journal_of b) text
-  next_of later rest = has_next settings roads round later (journal_of b) text (not_at_end settings roads round b lanes sealed is going) rest
+  next_of : (end : Option Stop) (passed later : List NumberedLanes) → GoesOn settings roads end passed round later (journal_of b) text
+      → HasNext settings roads round end passed later (journal_of b) text ⊎ StopsHere settings roads end (Extent.within round (journal_of b)) text
+  next_of end passed later rest = has_next settings roads round end passed later (journal_of b) text (not_at_end settings roads round b lanes sealed is going) rest
 
   -- a stop at a line
   pub line_stops : (left : ℕ) (fault : LineFault) → StopsAt settings roads (Extent.within round (journal_of b)) text (Line left fault) → StopsWithin settings roads round (journal_of b) text (Line left fault)
   line_stops left fault stops = record {
     stops = stops;
-    none = λ other later rest. wrong_is_none settings roads round later (journal_of b) text left fault stops (next_of later rest);
+    only = λ some end passed later rest.
+        ⊎_elim
+        (λ (h : HasNext settings roads round end passed later (journal_of b) text). absurd (wrong_is_none settings roads round end passed later (journal_of b) text left fault stops h))
+        (λ (here : StopsHere settings roads end (Extent.within round (journal_of b)) text). same_stop settings roads (Extent.within round (journal_of b)) text (Line left fault) some stops end here)
+        (next_of end passed later rest);
   }
 
   -- a stop for want of memory
   pub memory_stops : StopsWithin settings roads round (journal_of b) text OutOfMemory
-  memory_stops = record { stops = tt; none = λ other later rest. absurd (other refl) }
+  memory_stops = record { stops = tt; only = λ some end passed later rest. absurd (some refl) }
 
   -- a stop where no line in form stands first
   pub gap_stops : (stop : Stop) → HasNoNext text stop → StopsWithin settings roads round (journal_of b) text stop
@@ -221,6 +230,27 @@ module _ (settings : Settings) (roads : Roads) (round : NumberedLanes) (b : Book
                   ∙ sealed-after b.nodes b.wait b.state takes.command plain ∙ ap (λ (s : State). s.sealed) (sym stepped);
             }
 
+        comes_taken : MayComeNext settings roads round (journal_of b) taken
+        unfolding taken
+        comes_taken = record {
+          line = record { placed = next-low b.first b.entries; lane = omega (arith, low); command = takes.command_fits; reply = takes.reply_fits };
+          next = next_begins settings roads round (journal_of b) lanes is.come taken (let n = is.sixteen in omega (arith, n, low)) takes.next;
+          reply = replied ∙ ap (λ p. p.1) (book_step settings roads b is.book takes.command);
+        }
+
+        -- its line is no close's that was answered `closed`
+        no_block : (refused : BlockRefusal) → IsWrongBlock settings roads round (journal_of b) text refused → ⊥
+        unfolding taken
+        no_block refused wrong =
+            let same_line = (cut_once wrong.line line wrong.after after wrong.has.one has.one (sym wrong.has.whole ∙ has.whole)).0 in
+            let is_taken = candidate_command settings roads round (journal_of b) lanes is.come wrong.closing lane line takes.command wrong.comes (sym same_line ∙ wrong.line_is) form pending takes.next in
+            not_closed roads.nodes settings.wait (state_behind settings roads (journal_of b)) takes.command plain (sym (ap (λ (x : Entry). x.reply) is_taken) ∙ wrong.closed)
+
+        no_stop : (end : Option Stop) → StopsHere settings roads end (Extent.within round (journal_of b)) text → ⊥
+        unfolding taken
+        no_stop None here = here
+        no_stop (Some stop) here = comes_is_no_stop settings roads round (journal_of b) text line after has taken comes_taken takes.line_is stop here.0 here.1 (λ refused at wrong some. no_block refused wrong)
+
         -- its entry was read
         pub read_command : HasRead settings roads round (journal_of b) (journal_of new) text after
         unfolding taken
@@ -230,15 +260,18 @@ module _ (settings : Settings) (roads : Roads) (round : NumberedLanes) (b : Book
           base = takes.applied.base;
           entries = takes.applied.entries;
           printed = read_one (position_behind (journal_of b)) taken text line after after has takes.line_is (block_is takes.command reply plain after);
-          only = λ later rest.
-              let h = next_of later rest in
-              let first = first_is settings roads round later (journal_of b) text line after h has in
+          only = λ end passed later rest.
+              let h = ⊎_elim
+              (λ (h : HasNext settings roads round end passed later (journal_of b) text). h)
+              (λ (here : StopsHere settings roads end (Extent.within round (journal_of b)) text). absurd (no_stop end here))
+              (next_of end passed later rest) in
+              let first = first_is settings roads round end passed later (journal_of b) text line after h has in
               let own : taken ≡ record { lane = lane; command = takes.command; reply = (step roads.nodes settings.wait (state_behind settings roads (journal_of b)) takes.command).1 } =
               entry_by taken lane takes.command (step roads.nodes settings.wait (state_behind settings roads (journal_of b)) takes.command).1 refl refl (replied ∙ ap (λ p. p.1) (book_step settings roads b is.book takes.command)) in
               let same : h.entry ≡ taken = candidate_command settings roads round (journal_of b) lanes is.come h.entry lane line takes.command h.comes first.0 form pending takes.next ∙ sym own in
               let behind : h.behind ≡ after = sym (first.1 ∙ ap (λ (x : Entry). lines_text (entry_block true x.command x.reply) ++ h.behind) same ∙ sym (block_is takes.command reply plain h.behind)) in
-              subst (λ (t : List ℕ). IsRestOfRound settings roads round later (journal_of new) t) behind
-              (subst (λ (k : Journal). IsRestOfRound settings roads round later k h.behind) (ap (with_entry (journal_of b)) same ∙ sym (journal_applied b new lane takes.command reply takes.applied)) h.rest);
+              subst (λ (t : List ℕ). GoesOn settings roads end passed round later (journal_of new) t) behind
+              (subst (λ (k : Journal). GoesOn settings roads end passed round later k h.behind) (ap (with_entry (journal_of b)) same ∙ sym (journal_applied b new lane takes.command reply takes.applied)) h.rest);
         }
           where
             block_is : (c : Command) (r : Reply) → IsNoClose c → (t : List ℕ) → t ≡ lines_text (entry_block true c r) ++ t
@@ -273,10 +306,10 @@ module _ (settings : Settings) (roads : Roads) (round : NumberedLanes) (b : Book
             (o, entry_by e lane (Close batch.number o) Closed (candidate_lane settings roads round (journal_of b) lanes is.come e lane line comes is_line form) command reply)
 
         -- where a run goes on, a good outcome's block stands behind the line
-        next_good : (later : List NumberedLanes) → (h : HasNext settings roads round later (journal_of b) text) → (o : Outcome) × (h.entry ≡ closing o) × BeginsWithGood settings roads batch after o h.behind
+        next_good : (end : Option Stop) (passed later : List NumberedLanes) → (h : HasNext settings roads round end passed later (journal_of b) text) → (o : Outcome) × (h.entry ≡ closing o) × BeginsWithGood settings roads batch after o h.behind
         unfolding closing
-        next_good later h =
-            let first = first_is settings roads round later (journal_of b) text line after h has in
+        next_good end passed later h =
+            let first = first_is settings roads round end passed later (journal_of b) text line after h has in
             let found = only_closing h.entry h.comes first.0 in
             let o : Outcome = found.0 in
             let fits : FitsTypes batch.number o = subst (λ (x : Entry). HasFittingBlock x.command x.reply) found.1 h.fits in
@@ -293,6 +326,14 @@ module _ (settings : Settings) (roads : Roads) (round : NumberedLanes) (b : Book
 
         low_lane : lane < length lanes
         low_lane = (let n = is.sixteen in omega (arith, n, low))
+
+        comes_closing : (o : Outcome) → batch.number < 2 ^ 64 → MayComeNext settings roads round (journal_of b) (closing o)
+        unfolding closing
+        comes_closing o number = record {
+          line = told_closing o number;
+          next = next_begins settings roads round (journal_of b) lanes is.come (closing o) low_lane (closing_next o);
+          reply = closing_reply o;
+        }
 
         -- a stop at the close or at its block
         pub close_stops : (stop : Stop) → CloseStops settings roads b batch lane line after left stop → StopsWithin settings roads round (journal_of b) text stop
@@ -312,32 +353,31 @@ module _ (settings : Settings) (roads : Roads) (round : NumberedLanes) (b : Book
         )
         close_stops (Line here wrong.Cut) stops = absurd stops
         close_stops (Line here wrong.Form) stops = absurd stops
-        close_stops (Block here refused) stops = record {
-          stops = (
-            stops.0 ∙ at,
+        close_stops (Block here refused) stops =
+            let at_block : StopsAt settings roads (Extent.within round (journal_of b)) text (Block here refused) = (
+              stops.0 ∙ at,
+              record {
+                line = line;
+                after = after;
+                closing = closing no_outcome;
+                batch = batch;
+                has = has;
+                comes = comes_closing no_outcome stops.2.low;
+                line_is = stops.1;
+                closed = refl;
+                sealed = sealed_behind;
+                refused = stops.2.refuses;
+              },
+              stops.2.memory,
+            ) in
             record {
-              line = line;
-              after = after;
-              closing = closing no_outcome;
-              batch = batch;
-              has = has;
-              comes = record {
-                line = told_closing no_outcome stops.2.low;
-                next = next_begins settings roads round (journal_of b) lanes is.come (closing no_outcome) low_lane (closing_next no_outcome);
-                reply = closing_reply no_outcome;
-              };
-              line_is = stops.1;
-              closed = refl;
-              sealed = sealed_behind;
-              refused = stops.2.refuses;
-            },
-            stops.2.memory,
-          );
-          none = λ other later rest.
-              let h = next_of later rest in
-              let good = next_good later h in
-              stops.2.none good.0 h.behind good.2;
-        }
+              stops = at_block;
+              only = λ some end passed later rest.
+                  ⊎_elim
+                  (λ (h : HasNext settings roads round end passed later (journal_of b) text). let good = next_good end passed later h in absurd (stops.2.none good.0 h.behind good.2))
+                  (λ (stop : StopsHere settings roads end (Extent.within round (journal_of b)) text). same_stop settings roads (Extent.within round (journal_of b)) text (Block here refused) some at_block end stop)
+                  (next_of end passed later rest);
+            }
 
         module _ (rest : List ℕ) (new : BookView) (takes : TakesClose settings roads b batch lane line after rest new) where
           -- what holds within the round holds behind the close
@@ -363,6 +403,23 @@ module _ (settings : Settings) (roads : Roads) (round : NumberedLanes) (b : Book
                 is_open = sym none;
               }
 
+          -- no audit stops at the close
+          unrefused_block : (refused : BlockRefusal) → IsWrongBlock settings roads round (journal_of b) text refused → refused ≢ refusal.OutOfMemory → ⊥
+          unfolding closing
+          unrefused_block refused wrong some =
+              let behind = (cut_once wrong.line line wrong.after after wrong.has.one has.one (sym wrong.has.whole ∙ has.whole)).1 in
+              let both : Some wrong.batch ≡ Some batch = sym wrong.sealed ∙ sealed_behind in
+              let same_batch : wrong.batch ≡ batch = cc in
+              takes.unrefused refused some
+              (subst (λ (t : List ℕ). Refuses settings roads batch t refused) behind (subst (λ (x : Batch). Refuses settings roads x wrong.after refused) same_batch wrong.refused))
+
+          no_stop_close : (end : Option Stop) → StopsHere settings roads end (Extent.within round (journal_of b)) text → ⊥
+          unfolding closing
+          no_stop_close None here = here
+          no_stop_close (Some stop) here =
+              comes_is_no_stop settings roads round (journal_of b) text line after has (closing takes.outcome) (comes_closing takes.outcome takes.low) takes.line_is stop here.0 here.1
+              (λ refused at wrong some. unrefused_block refused wrong some)
+
           -- its entry and block were read
           pub read_close : HasRead settings roads round (journal_of b) (journal_of new) text rest
           unfolding closing
@@ -372,17 +429,20 @@ module _ (settings : Settings) (roads : Roads) (round : NumberedLanes) (b : Book
             base = takes.applied.base;
             entries = takes.applied.entries;
             printed = read_one (position_behind (journal_of b)) (closing takes.outcome) text line after rest has takes.line_is takes.good.whole;
-            only = λ later more.
-                let h = next_of later more in
-                let good = next_good later h in
+            only = λ end passed later more.
+                let h = ⊎_elim
+                (λ (h : HasNext settings roads round end passed later (journal_of b) text). h)
+                (λ (here : StopsHere settings roads end (Extent.within round (journal_of b)) text). absurd (no_stop_close end here))
+                (next_of end passed later more) in
+                let good = next_good end passed later h in
                 let same = takes.only good.0 h.behind good.2 in
                 let entry : h.entry ≡ closing takes.outcome = good.1 ∙ ap closing same.0 in
-                subst (λ (t : List ℕ). IsRestOfRound settings roads round later (journal_of new) t) same.1
-                (subst (λ (k : Journal). IsRestOfRound settings roads round later k h.behind)
+                subst (λ (t : List ℕ). GoesOn settings roads end passed round later (journal_of new) t) same.1
+                (subst (λ (k : Journal). GoesOn settings roads end passed round later k h.behind)
                 (ap (with_entry (journal_of b)) entry ∙ sym (journal_applied b new lane (Close batch.number takes.outcome) Closed takes.applied)) h.rest);
           }
-          -- reading shortens the text
 
+-- reading shortens the text
 pub shorter : (settings : Settings) (roads : Roads) (round : NumberedLanes) (text line after rest : List ℕ) (block : List ℕ) → IsFirstLine text line after → after ≡ block ++ rest → length rest < length text
 shorter settings roads round text line after rest block has is =
     let a : length text ≡ length (line ++ 10 ∷ after) = ap length has.whole in

@@ -1,5 +1,5 @@
 -- From where an audit stops to what it says of the report.
-use Rattle.std.proofs.Common.{◌≡◌, ◌≢◌, ℕ, ◌+◌, ◌-◌, ◌≤◌, ◌^◌, min, true, List, [], ◌∷◌, ◌++◌, length, take, refl, sym, ap, ◌∙◌, subst, append_assoc, length-append, arith}
+use Rattle.std.proofs.Common.{◌≡◌, ◌≢◌, ℕ, ◌+◌, ◌-◌, ◌≤◌, ◌^◌, min, true, List, [], ◌∷◌, ◌++◌, length, take, Option, Some, None, refl, sym, ap, ◌∙◌, subst, append_assoc, length-append, arith}
 use Rattle.batch_snapshot.specs.declared.vehicle.Vehicle.{Vehicle}
 use Rattle.block_audit.specs.declared.refusal.BlockRefusal.TheVariants as block
 use Rattle.dispatch_engine.specs.Run.{IsRun, position_after_run}
@@ -17,13 +17,15 @@ use Rattle.script_rows.specs.Round.{NumberedLanes}
 use Rattle.report_audit.specs.Fault.{FailsAt, HasFault, IsCut, IsOutOfForm, FailsAsLine, IsWrongBatch, IsWrongLine}
 use Rattle.report_audit.specs.Place.{Extent, IsRightUpTo, rounds_so_far}
 use Rattle.report_audit.specs.Report.{IsAudited, IsReportOfRun, rounds_text}
+use Rattle.report_audit.proofs.GoingLemmas.{right_goes, right_head, run_goes}
+use Rattle.report_audit.specs.declared.fault.AuditFault.{AuditFault}
 use Rattle.report_audit.specs.declared.fault.AuditFault.TheVariants as fault
 use Rattle.report_audit.specs.declared.fault.Audited.{Audited}
 use Rattle.report_audit.specs.declared.stop.LineFault.TheVariants as wrong
 use Rattle.report_audit.specs.declared.stop.Stop.{Stop}
 use Rattle.report_audit.specs.declared.stop.Stop.TheVariants.{OutOfMemory, Line, Block}
 use Rattle.report_audit.specs.work.Faults.{IsLeftOf, fault_of, fault_of_head, higher, line_left, next_line}
-use Rattle.report_audit.specs.work.Steps.{StopsAt}
+use Rattle.report_audit.specs.work.Rest.{IsRestOfRounds, StopsAt}
 use Rattle.report_audit.specs.work.Whole.{AllStops, HasReadAll, WhereAllStops}
 
 take_front : (xs ys : List ℕ) → take (length xs) (xs ++ ys) ≡ xs
@@ -36,6 +38,9 @@ line_is text read rest left whole at =
     let long : length text ≡ length read + length rest = ap length whole ∙ length-append read rest in
     let count : length text - left ≡ length read = omega (arith, long, at) in
     ap next_line ((λ i. take (count i) (whole i)) ∙ take_front read rest)
+
+counted : (k m : ℕ) → higher (higher k 1) m ≡ min (k + 1 + m) (2 ^ 64 - 1)
+counted k m = omega arith
 
 left_low : (text read rest : List ℕ) (left : ℕ) → text ≡ read ++ rest → left ≡ length rest → left ≤ length text
 left_low text read rest left whole at =
@@ -65,14 +70,8 @@ module _ (roads : Roads) (vehicles : List Vehicle) (rounds : List NumberedLanes)
     fault_at (Block left block.OutOfMemory) stops = absurd (stops.2 refl)
     fault_at (Block left (block.Cut n)) stops =
         FailsAsLine.in_block (record { closing = line_left text left; lines = n; line_is = counted (line_left text left) n; fails = fails_at left stops.0 (IsWrongBatch (block.Cut n)) stops.1 })
-      where
-        counted : (k m : ℕ) → higher (higher k 1) m ≡ min (k + 1 + m) (2 ^ 64 - 1)
-        counted k m = omega arith
     fault_at (Block left (block.Form n)) stops =
         FailsAsLine.in_block (record { closing = line_left text left; lines = n; line_is = counted (line_left text left) n; fails = fails_at left stops.0 (IsWrongBatch (block.Form n)) stops.1 })
-      where
-        counted : (k m : ℕ) → higher (higher k 1) m ≡ min (k + 1 + m) (2 ^ 64 - 1)
-        counted k m = omega arith
     fault_at (Block left (block.Wrong point)) stops =
         record { closing = line_left text left; line_is = refl; fails = fails_at left stops.0 (IsWrongBatch (block.Wrong point)) stops.1 }
 
@@ -134,8 +133,59 @@ module _ (roads : Roads) (vehicles : List Vehicle) (rounds : List NumberedLanes)
     refused stop only stops other report =
         let rest : List ℕ = rounds_text rounds report.made ++ end_text (position_after_run 0 report.made) in
         let same = only report.settings rest (record { whole = report.printed; settings = report.audited }) in
-        stops.none (λ is. other (ap (fault_of text) is))
-        (record { made = report.made; run = subst (λ (s : Settings). IsRun s roads (opening vehicles) 0 rounds report.made) same.0 report.run; told = report.told; printed = sym same.1 })
+        let run : IsRun settings roads (opening vehicles) 0 rounds report.made = subst (λ (s : Settings). IsRun s roads (opening vehicles) 0 rounds report.made) same.0 report.run in
+        let goes = subst (λ (t : List ℕ). IsRestOfRounds settings roads None [] rounds (opening vehicles) 0 t) same.1 (run_goes settings roads rounds report.made (opening vehicles) run report.told) in
+        let none : None ≡ Some stop = stops.only (λ is. other (ap (fault_of text) is)) None goes in
+        cc
+
+    -- no other fault holds than that of the stop, and where there is none, no fault
+    abbrev pub IsOnly : Option Stop → AuditFault → Type 0
+    IsOnly None other = ⊥
+    IsOnly (Some stop) other = other ≡ fault_of text stop
+
+    so_told : (end : Option Stop) (stop : Stop) (other : AuditFault) → Some stop ≡ end → other ≡ fault_of text stop → IsOnly end other
+    so_told None stop other is at = cc
+    so_told (Some found) stop other is at = (let same : stop ≡ found = cc in at ∙ ap (fault_of text) same)
+
+    module _ (end : Option Stop) (only : (s : Settings) (rest : List ℕ) → BeginsWithHead workers roads (length vehicles) text s rest → (s ≡ settings) × (rest ≡ behind))
+        (ends : (other : Option Stop) → IsRestOfRounds settings roads other [] rounds (opening vehicles) 0 behind → other ≡ end) where
+      stops_so : {Fails : Settings → Roads → Extent → List ℕ → Type 0} (line : ℕ) (fails : FailsAt roads vehicles rounds workers text Fails line) (other : ℕ → Stop) → ((n : ℕ) → other n ≢ OutOfMemory)
+          → StopsAt fails.settings roads fails.place fails.rest (other (length fails.rest)) → (left : ℕ) × (Some (other left) ≡ end) × (line_left text left ≡ line)
+      stops_so line fails other known is =
+          let stop : Stop = other (length fails.rest) in
+          let goes = right_goes fails.settings roads vehicles rounds stop (known (length fails.rest)) fails.place fails.read fails.rest is fails.right in
+          let same = only fails.settings goes.0 (record { whole = fails.whole ∙ goes.1; settings = fails.audited }) in
+          let here = subst (λ (s : Settings). IsRestOfRounds s roads (Some stop) [] rounds (opening vehicles) 0 goes.0) same.0 goes.2 in (
+            length fails.rest,
+            ends (Some stop) (subst (λ (t : List ℕ). IsRestOfRounds settings roads (Some stop) [] rounds (opening vehicles) 0 t) same.1 here),
+            line_is text fails.read fails.rest (length fails.rest) fails.whole refl ∙ sym fails.line_is,
+          )
+
+      pub only_fault : ((other : HeadFault) → HeadFails roads (length vehicles) text other → ⊥) → (other : AuditFault) → other ≢ fault.OutOfMemory → HasFault roads vehicles rounds workers text other → IsOnly end other
+      only_fault none fault.OutOfMemory memory has = absurd (memory refl)
+      only_fault none (fault.Head n) memory has = absurd (none (head.Head n) has)
+      only_fault none (fault.Entry n) memory has =
+          let found = stops_so n has (λ k. Line k wrong.Entry) (λ k e. cc) (refl, has.fails) in
+          so_told end (Line found.0 wrong.Entry) (fault.Entry n) found.1 (ap fault.Entry (sym found.2))
+      only_fault none (fault.Batch n point) memory has =
+          let found = stops_so has.closing has.fails (λ k. Block k (block.Wrong point)) (λ k e. cc) (refl, has.fails.fails, λ e. cc) in
+          so_told end (Block found.0 (block.Wrong point)) (fault.Batch n point) found.1 (ap (λ (k : ℕ). fault.Batch k point) (has.line_is ∙ ap (λ (k : ℕ). higher k 1) (sym found.2)))
+      only_fault none (fault.Cut n) memory (FailsAsLine.in_head has) = absurd (none (head.Cut n) has)
+      only_fault none (fault.Cut n) memory (FailsAsLine.behind has) =
+          let found = stops_so n has (λ k. Line k wrong.Cut) (λ k e. cc) (refl, has.fails) in
+          so_told end (Line found.0 wrong.Cut) (fault.Cut n) found.1 (ap fault.Cut (sym found.2))
+      only_fault none (fault.Cut n) memory (FailsAsLine.in_block has) =
+          let found = stops_so has.closing has.fails (λ k. Block k (block.Cut has.lines)) (λ k e. cc) (refl, has.fails.fails, λ e. cc) in
+          so_told end (Block found.0 (block.Cut has.lines)) (fault.Cut n) found.1
+          (ap fault.Cut (has.line_is ∙ sym (counted has.closing has.lines) ∙ ap (λ (k : ℕ). higher (higher k 1) has.lines) (sym found.2)))
+      only_fault none (fault.Form n) memory (FailsAsLine.in_head has) = absurd (none (head.Form n) has)
+      only_fault none (fault.Form n) memory (FailsAsLine.behind has) =
+          let found = stops_so n has (λ k. Line k wrong.Form) (λ k e. cc) (refl, has.fails) in
+          so_told end (Line found.0 wrong.Form) (fault.Form n) found.1 (ap fault.Form (sym found.2))
+      only_fault none (fault.Form n) memory (FailsAsLine.in_block has) =
+          let found = stops_so has.closing has.fails (λ k. Block k (block.Form has.lines)) (λ k e. cc) (refl, has.fails.fails, λ e. cc) in
+          so_told end (Block found.0 (block.Form has.lines)) (fault.Form n) found.1
+          (ap fault.Form (has.line_is ∙ sym (counted has.closing has.lines) ∙ ap (λ (k : ℕ). higher (higher k 1) has.lines) (sym found.2)))
 
 -- where the text has no head, it is the report of no run
 pub no_head : (roads : Roads) (vehicles : List Vehicle) (rounds : List NumberedLanes) (workers : ℕ) (text : List ℕ) → ((s : Settings) (rest : List ℕ) → BeginsWithHead workers roads (length vehicles) text s rest → ⊥)
@@ -148,3 +198,25 @@ pub head_fault : (roads : Roads) (vehicles : List Vehicle) (rounds : List Number
 head_fault roads vehicles rounds workers text (head.Cut n) fails = FailsAsLine.in_head fails
 head_fault roads vehicles rounds workers text (head.Form n) fails = FailsAsLine.in_head fails
 head_fault roads vehicles rounds workers text (head.Head n) fails = fails
+
+-- where the text has no head, nothing behind one fails
+no_fault_behind : {Fails : Settings → Roads → Extent → List ℕ → Type 0} (roads : Roads) (vehicles : List Vehicle) (rounds : List NumberedLanes) (workers : ℕ) (text : List ℕ)
+    → ((s : Settings) (rest : List ℕ) → BeginsWithHead workers roads (length vehicles) text s rest → ⊥) → (line : ℕ) → FailsAt roads vehicles rounds workers text Fails line → ⊥
+no_fault_behind roads vehicles rounds workers text none line fails =
+    let read = right_head fails.settings roads vehicles rounds fails.place fails.read fails.right in
+    none fails.settings (read.0 ++ fails.rest) (record { whole = fails.whole ∙ ap (λ (t : List ℕ). t ++ fails.rest) read.1 ∙ append_assoc (head_text fails.settings roads (length vehicles)) read.0 fails.rest; settings = fails.audited })
+
+-- of a head that fails no other fault holds
+pub fault_of_heads : (roads : Roads) (vehicles : List Vehicle) (rounds : List NumberedLanes) (workers : ℕ) (text : List ℕ) → ((s : Settings) (rest : List ℕ) → BeginsWithHead workers roads (length vehicles) text s rest → ⊥)
+    → (found : HeadFault) → ((other : HeadFault) → HeadFails roads (length vehicles) text other → other ≡ found)
+    → (other : AuditFault) → other ≢ fault.OutOfMemory → HasFault roads vehicles rounds workers text other → other ≡ fault_of_head found
+fault_of_heads roads vehicles rounds workers text none found one fault.OutOfMemory memory has = absurd (memory refl)
+fault_of_heads roads vehicles rounds workers text none found one (fault.Head n) memory has = ap fault_of_head (one (head.Head n) has)
+fault_of_heads roads vehicles rounds workers text none found one (fault.Entry n) memory has = absurd (no_fault_behind roads vehicles rounds workers text none n has)
+fault_of_heads roads vehicles rounds workers text none found one (fault.Batch n point) memory has = absurd (no_fault_behind roads vehicles rounds workers text none has.closing has.fails)
+fault_of_heads roads vehicles rounds workers text none found one (fault.Cut n) memory (FailsAsLine.in_head has) = ap fault_of_head (one (head.Cut n) has)
+fault_of_heads roads vehicles rounds workers text none found one (fault.Cut n) memory (FailsAsLine.behind has) = absurd (no_fault_behind roads vehicles rounds workers text none n has)
+fault_of_heads roads vehicles rounds workers text none found one (fault.Cut n) memory (FailsAsLine.in_block has) = absurd (no_fault_behind roads vehicles rounds workers text none has.closing has.fails)
+fault_of_heads roads vehicles rounds workers text none found one (fault.Form n) memory (FailsAsLine.in_head has) = ap fault_of_head (one (head.Form n) has)
+fault_of_heads roads vehicles rounds workers text none found one (fault.Form n) memory (FailsAsLine.behind has) = absurd (no_fault_behind roads vehicles rounds workers text none n has)
+fault_of_heads roads vehicles rounds workers text none found one (fault.Form n) memory (FailsAsLine.in_block has) = absurd (no_fault_behind roads vehicles rounds workers text none has.closing has.fails)

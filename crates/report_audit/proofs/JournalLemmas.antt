@@ -1,5 +1,5 @@
 -- Journals, entry by entry.
-use Rattle.std.proofs.Common.{◌≡◌, ℕ, ◌<◌, ◌^◌, List, [], ◌∷◌, ◌++◌, Option, Some, None, refl, sym, ap, ◌∙◌, subst, eq-eqb, arith}
+use Rattle.std.proofs.Common.{◌≡◌, ℕ, ◌<◌, ◌^◌, List, [], ◌∷◌, ◌++◌, Option, Some, None, Result, Ok, Err, refl, sym, ap, ◌∙◌, subst, eq-eqb, arith}
 use Rattle.batch_snapshot.specs.Batch.{Batch}
 use Rattle.dispatch_engine.specs.Lane.{IsGoodClose, ClosesAreGood, last_sealed}
 use Rattle.dispatch_engine.specs.lemmas.Lanes.{IsPlain}
@@ -10,13 +10,15 @@ use Rattle.request_book.specs.Closing.{after_answer}
 use Rattle.request_book.specs.Command.{IsNoClose}
 use Rattle.request_book.specs.Replay.{state_after, RepliesAreSteps}
 use Rattle.request_book.specs.Sealing.{batch_of, sealed_state}
-use Rattle.request_book.specs.Step.{step, close}
+use Rattle.request_book.specs.Step.{answered, cancel, close, dropoff, pickup, report, seal, step, submit}
 use Rattle.request_book.specs.declared.command.Command.{Command}
 use Rattle.request_book.specs.declared.command.Command.TheVariants.{Submit, Cancel, Report, Pickup, Dropoff, Seal, Close}
 use Rattle.request_book.specs.declared.journal.Entry.{Entry}
 use Rattle.request_book.specs.declared.outcome.Outcome.{Outcome}
 use Rattle.request_book.specs.declared.reply.BookRefusal.{BookRefusal}
-use Rattle.request_book.specs.declared.reply.Reply.TheVariants.{Closed, Sealed}
+use Rattle.request_book.specs.declared.reply.Reply.{Reply}
+use Rattle.request_book.specs.declared.reply.Reply.TheVariants.{Accepted, Cancelled, Closed, Dropped, Picked, Placed, Sealed}
+use Rattle.request_book.specs.declared.rider.Status.TheVariants.{Waiting}
 use Rattle.request_book.specs.declared.state.State.{State}
 use Rattle.request_book.specs.lemmas.Table.{answer, seal_refusal, seal_step, table_step, batch_unless}
 use Rattle.request_book.proofs.lemmas.StepTable.{by-table, would_seal-table}
@@ -98,3 +100,19 @@ pub close-is : (nodes : List ℕ) (wait : ℕ) (s : State) (b : Batch) (outcome 
     → step nodes wait s (Close b.number outcome) ≡ (record s { riders = after_answer b.riders outcome.answer s.riders; sealed = None }, Closed)
 unfolding step close
 close-is nodes wait s b outcome e = rw e (rw (eq-eqb b.number b.number refl) refl)
+
+-- only a close is answered `closed`
+answered_is : (s : State) (own : Reply) (r : Result State BookRefusal) → (own ≡ Closed → ⊥) → (answered s own r).1 ≡ Closed → ⊥
+answered_is s own (Ok next) other is = other is
+answered_is s own (Err refused) other is = cc
+
+pub not_closed : (nodes : List ℕ) (wait : ℕ) (s : State) (c : Command) → IsNoClose c → (step nodes wait s c).1 ≡ Closed → ⊥
+unfolding step
+not_closed nodes wait s (Submit rider origin destination time party) plain is =
+    answered_is s Accepted (submit nodes s (record { id = rider; origin = origin; destination = destination; time = time; party = party; status = Waiting })) (λ e. cc) is
+not_closed nodes wait s (Cancel rider) plain is = answered_is s Cancelled (cancel s rider) (λ e. cc) is
+not_closed nodes wait s (Report vehicle node time) plain is = answered_is s Placed (report nodes s vehicle node time) (λ e. cc) is
+not_closed nodes wait s (Pickup vehicle rider time) plain is = answered_is s Picked (pickup s vehicle rider time) (λ e. cc) is
+not_closed nodes wait s (Dropoff vehicle rider time) plain is = answered_is s Dropped (dropoff s vehicle rider time) (λ e. cc) is
+not_closed nodes wait s (Seal now) plain is = answered_is s (Sealed (one_more s.batches)) (seal wait s now) (λ e. cc) is
+not_closed nodes wait s (Close batch outcome) plain is = plain

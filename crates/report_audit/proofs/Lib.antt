@@ -9,4 +9,6 @@ pub mod ReadLemmas
 pub mod RoundLemmas
 pub mod EndLemmas
 pub mod WholeLemmas
-pub mod FaultLemmas
+pub mod GoingLemmas
+mod HeadFaults
+mod FaultLemmas

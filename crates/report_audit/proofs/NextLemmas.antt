@@ -1,9 +1,14 @@
 -- What comes next within a round.
-use Rattle.std.proofs.Common.{◌≡◌, ◌==◌, ℕ, ◌<◌, true, false, List, [], ◌∷◌, ◌++◌, length, set, slice_get, Option, Some, None, refl, sym, ap, ◌∙◌, subst, append-nil, append_assoc, length-append, arith}
+use Rattle.std.proofs.Common.{◌≡◌, ◌≢◌, ◌⊎◌, ◌==◌, ℕ, ◌<◌, true, false, List, [], ◌∷◌, ◌++◌, length, set, slice_get, Option, Some, None, inl, inr, ⊎_elim, refl, sym, ap, ◌∙◌, subst, append-nil, append_assoc, length-append, arith}
 use Rattle.std.specs.Prelude.{not}
 use Rattle.std.proofs.lemmas.Bool.{and_parts}
+use Rattle.batch_snapshot.specs.Batch.{Batch}
+use Rattle.block_audit.specs.Block.{Refuses}
+use Rattle.block_audit.specs.declared.refusal.BlockRefusal.{BlockRefusal}
+use Rattle.block_audit.specs.declared.refusal.BlockRefusal.TheVariants as refusal
+use Rattle.block_audit.proofs.lemmas.AuditLemmas.{one_refusal}
 use Rattle.dispatch_engine.specs.Lane.{of_lane, IsCloseOf, IsLaneRun, IsLaneBeginning, IsGoodClose}
-use Rattle.dispatch_engine.specs.Run.{IsRoundRun, journal_of}
+use Rattle.dispatch_engine.specs.Run.{journal_of}
 use Rattle.dispatch_report.specs.Entry.{entry_line}
 use Rattle.dispatch_report.specs.Lines.{lines_text}
 use Rattle.dispatch_report.specs.Round.{entry_block}
@@ -31,15 +36,16 @@ use Rattle.rider_limits.specs.declared.settings.Settings.{Settings}
 use Rattle.road_network.specs.Roads.{Roads}
 use Rattle.script_rows.specs.Round.{NumberedLanes, lane_at}
 use Rattle.report_lines.specs.Line.{IsFirstLine}
-use Rattle.report_audit.specs.Place.{Extent, IsInForm, MayComeNext, AreAtEnd, position_behind, state_behind}
+use Rattle.report_audit.specs.Place.{Extent, BeginsRound, IsInForm, MayComeNext, MayFollow, AreAtEnd, position_behind, state_behind}
+use Rattle.report_audit.specs.Fault.{IsCut, IsWrongBatch, IsWrongBlock}
 use Rattle.report_audit.specs.work.Place.{with_entry}
 use Rattle.report_audit.specs.Types.{HasFittingBlock, AreTold}
 use Rattle.report_audit.specs.declared.stop.LineFault.{LineFault}
 use Rattle.report_audit.specs.declared.stop.LineFault.TheVariants as wrong
 use Rattle.report_audit.specs.declared.stop.Stop.{Stop}
 use Rattle.report_audit.specs.declared.stop.Stop.TheVariants.{OutOfMemory, Line, Block}
-use Rattle.report_audit.specs.work.Rest.{IsRestOfRound, IsRestOfRounds, entries_text, with_more}
-use Rattle.report_audit.specs.work.Steps.{BeginsWithEntry, MayBegin, StopsAt, HasNoNext, IsBookOf}
+use Rattle.report_audit.specs.work.Rest.{GoesOn, IsRestOfRounds, IsWrong, StopsAt, StopsHere, entries_text, with_more}
+use Rattle.report_audit.specs.work.Steps.{BeginsWithEntry, MayBegin, HasNoNext, IsBookOf}
 use Rattle.report_audit.proofs.JournalLemmas.{reply-at, close-at}
 use Rattle.report_audit.proofs.LaneLemmas.{of_lane-append, begins_next, come_begins}
 use Rattle.report_audit.proofs.TextLemmas.{entries-more, entry_one, entries-none}
@@ -53,8 +59,92 @@ not_one (c ∷ cs) r h = not_one cs r (and_parts (not (c == 10)) (is_one_line (c
 pub push-position : (p : ℕ) (es : List Entry) (e : Entry) → one_more (next_position p es) ≡ next_position p (es ++ e ∷ [])
 push-position p es e = omega (arith, length-append es (e ∷ []))
 
-module _ (settings : Settings) (roads : Roads) (round : NumberedLanes) (later : List NumberedLanes) where
-  -- what the text goes on with, where it is that of a run: one more entry, and what is then still to come
+-- two lines that stand first are one
+one_first : (text line after other behind : List ℕ) → IsFirstLine text line after → IsFirstLine text other behind → (line ≡ other) × (after ≡ behind)
+one_first text line after other behind has first = cut_once line other after behind has.one first.one (sym has.whole ∙ first.whole)
+
+-- where a line stands first, the text isn't cut
+cut_line : (place : Extent) (text line after : List ℕ) → IsFirstLine text line after → IsCut place text → ⊥
+cut_line (Extent.between before later p) text line after has cut = not_one line after (subst (λ (t : List ℕ). is_one_line t ≡ true) has.whole cut)
+cut_line (Extent.within round j) text line after has cut = not_one line after (subst (λ (t : List ℕ). is_one_line t ≡ true) has.whole cut)
+cut_line Extent.finished text line after has cut = not_one line after (subst (λ (t : List ℕ). is_one_line t ≡ true) has.whole cut.0)
+
+-- a line that stands first and may stand there is no stop
+line_is_no_stop : (settings : Settings) (roads : Roads) (place : Extent) (text line after : List ℕ) → IsFirstLine text line after → IsInForm place line → MayFollow settings roads place line
+    → (fault : LineFault) → IsWrong settings roads place text fault → ⊥
+line_is_no_stop settings roads place text line after has form follow wrong.Cut stops = cut_line place text line after has stops
+line_is_no_stop settings roads place text line after has form follow wrong.Form stops =
+    stops.3 (subst (IsInForm place) (sym (one_first text stops.0 stops.1 line after stops.2 has).0) form)
+line_is_no_stop settings roads place text line after has form follow wrong.Entry stops =
+    stops.4 (subst (MayFollow settings roads place) (sym (one_first text stops.0 stops.1 line after stops.2 has).0) follow)
+
+-- where an entry's line stands first that may come next, an audit stops at its block alone
+pub comes_is_no_stop : (settings : Settings) (roads : Roads) (round : NumberedLanes) (j : Journal) (text line after : List ℕ) → IsFirstLine text line after → (e : Entry) → MayComeNext settings roads round j e
+    → line ≡ entry_line (position_behind j) e → (stop : Stop) → stop ≢ OutOfMemory → StopsAt settings roads (Extent.within round j) text stop
+    → ((refused : BlockRefusal) → stop ≡ Block (length text) refused → IsWrongBlock settings roads round j text refused → refused ≢ refusal.OutOfMemory → ⊥) → ⊥
+comes_is_no_stop settings roads round j text line after has e comes is OutOfMemory some stops block = some refl
+comes_is_no_stop settings roads round j text line after has e comes is (Line left fault) some stops block =
+    line_is_no_stop settings roads (Extent.within round j) text line after has (EntryOf e.lane, (position_behind j, e, comes.line, refl, is)) (e, comes, is) fault stops.1
+comes_is_no_stop settings roads round j text line after has e comes is (Block left refused) some stops block = block refused (ap (λ (n : ℕ). Block n refused) stops.0) stops.1 stops.2
+
+-- an audit stops at a place for one cause
+one_line : (settings : Settings) (roads : Roads) (place : Extent) (text : List ℕ) (fault other : LineFault) → IsWrong settings roads place text fault → IsWrong settings roads place text other → fault ≡ other
+one_line settings roads place text wrong.Cut wrong.Cut one two = refl
+one_line settings roads place text wrong.Form wrong.Form one two = refl
+one_line settings roads place text wrong.Entry wrong.Entry one two = refl
+one_line settings roads place text wrong.Cut wrong.Form one two = absurd (cut_line place text two.0 two.1 two.2 one)
+one_line settings roads place text wrong.Cut wrong.Entry one two = absurd (cut_line place text two.0 two.1 two.2 one)
+one_line settings roads place text wrong.Form wrong.Cut one two = absurd (cut_line place text one.0 one.1 one.2 two)
+one_line settings roads place text wrong.Entry wrong.Cut one two = absurd (cut_line place text one.0 one.1 one.2 two)
+one_line settings roads place text wrong.Form wrong.Entry one two = absurd (one.3 (subst (IsInForm place) (one_first text two.0 two.1 one.0 one.1 two.2 one.2).0 two.3))
+one_line settings roads place text wrong.Entry wrong.Form one two = absurd (two.3 (subst (IsInForm place) (one_first text one.0 one.1 two.0 two.1 one.2 two.2).0 one.3))
+
+-- a block that is wrong stands behind a line that may come next
+wrong_block_line : (settings : Settings) (roads : Roads) (place : Extent) (text : List ℕ) (refused : BlockRefusal) (fault : LineFault) → IsWrongBatch refused settings roads place text → IsWrong settings roads place text fault → ⊥
+wrong_block_line settings roads (Extent.within round j) text refused fault wrong stops =
+    line_is_no_stop settings roads (Extent.within round j) text wrong.line wrong.after wrong.has (EntryOf wrong.closing.lane, (position_behind j, wrong.closing, wrong.comes.line, refl, wrong.line_is))
+    (wrong.closing, wrong.comes, wrong.line_is) fault stops
+wrong_block_line settings roads (Extent.between before later p) text refused fault wrong stops = wrong
+wrong_block_line settings roads Extent.finished text refused fault wrong stops = wrong
+
+one_block : (settings : Settings) (roads : Roads) (place : Extent) (text : List ℕ) (one other : BlockRefusal) → IsWrongBatch one settings roads place text → IsWrongBatch other settings roads place text
+    → one ≢ refusal.OutOfMemory → other ≢ refusal.OutOfMemory → one ≡ other
+one_block settings roads (Extent.within round j) text one other a b some more =
+    let line = one_first text a.line a.after b.line b.after a.has b.has in
+    let both : Some a.batch ≡ Some b.batch = sym a.sealed ∙ b.sealed in
+    let batch : a.batch ≡ b.batch = cc in
+    one_refusal settings roads b.batch b.after one other some more
+    (subst (λ (t : List ℕ). Refuses settings roads b.batch t one) line.1 (subst (λ (x : Batch). Refuses settings roads x a.after one) batch a.refused)) b.refused
+one_block settings roads (Extent.between before later p) text one other a b some more = absurd a
+one_block settings roads Extent.finished text one other a b some more = absurd a
+
+one_stop : (settings : Settings) (roads : Roads) (place : Extent) (text : List ℕ) (stop other : Stop) → stop ≢ OutOfMemory → other ≢ OutOfMemory → StopsAt settings roads place text stop
+    → StopsAt settings roads place text other → other ≡ stop
+one_stop settings roads place text OutOfMemory other some more one two = absurd (some refl)
+one_stop settings roads place text (Line n f) OutOfMemory some more one two = absurd (more refl)
+one_stop settings roads place text (Block n r) OutOfMemory some more one two = absurd (more refl)
+one_stop settings roads place text (Line n f) (Line m g) some more one two = λ i. Line ((two.0 ∙ sym one.0) i) (one_line settings roads place text g f two.1 one.1 i)
+one_stop settings roads place text (Line n f) (Block m r) some more one two = absurd (wrong_block_line settings roads place text r f two.1 one.1)
+one_stop settings roads place text (Block n r) (Line m g) some more one two = absurd (wrong_block_line settings roads place text r g one.1 two.1)
+one_stop settings roads place text (Block n r) (Block m q) some more one two = λ i. Block ((two.0 ∙ sym one.0) i) (one_block settings roads place text q r two.1 one.1 two.2 one.2 i)
+
+-- where an audit stops at a place, a text that stops there stops so
+pub same_stop : (settings : Settings) (roads : Roads) (place : Extent) (text : List ℕ) (stop : Stop) → stop ≢ OutOfMemory → StopsAt settings roads place text stop
+    → (end : Option Stop) → StopsHere settings roads end place text → end ≡ Some stop
+same_stop settings roads place text stop some stops None here = absurd here
+same_stop settings roads place text stop some stops (Some other) here = ap Some (one_stop settings roads place text stop other some here.0 stops here.1)
+
+-- between rounds a line that may stand first is no stop
+pub between_is_no_stop : (settings : Settings) (roads : Roads) (before later : List NumberedLanes) (p : ℕ) (text line after : List ℕ) → IsFirstLine text line after → IsInForm (Extent.between before later p) line
+    → MayFollow settings roads (Extent.between before later p) line → (end : Option Stop) → StopsHere settings roads end (Extent.between before later p) text → ⊥
+between_is_no_stop settings roads before later p text line after has form follow None here = here
+between_is_no_stop settings roads before later p text line after has form follow (Some OutOfMemory) here = here.0 refl
+between_is_no_stop settings roads before later p text line after has form follow (Some (Line left fault)) here =
+    line_is_no_stop settings roads (Extent.between before later p) text line after has form follow fault here.1.1
+between_is_no_stop settings roads before later p text line after has form follow (Some (Block left refused)) here = here.1.1
+
+module _ (settings : Settings) (roads : Roads) (round : NumberedLanes) (end : Option Stop) (passed later : List NumberedLanes) where
+  -- what the text goes on with, where it doesn't stop: one more entry, and what is then still to come
   pub record HasNext (j : Journal) (text : List ℕ) : Type 0 where
     pub entry : Entry
     pub comes : MayComeNext settings roads round j entry
@@ -62,44 +152,60 @@ module _ (settings : Settings) (roads : Roads) (round : NumberedLanes) (later : 
     pub good : IsGoodClose settings roads (state_behind settings roads j) entry.command entry.reply
     pub behind : List ℕ
     pub printed : text ≡ entry_line (position_behind j) entry ++ 10 ∷ (lines_text (entry_block true entry.command entry.reply) ++ behind)
-    pub rest : IsRestOfRound settings roads round later (with_entry j entry) behind
+    pub rest : GoesOn settings roads end passed round later (with_entry j entry) behind
 
-  pub has_next : (j : Journal) (text : List ℕ) → (AreAtEnd round j → ⊥) → IsRestOfRound settings roads round later j text → HasNext j text
-  has_next j text going rest = by rest.more rest.run rest.told rest.behind rest.rounds rest.printed
+  -- how the text ends behind these entries
+  abbrev EndsAt : Journal → List ℕ → Type 0
+  EndsAt k behind = ((AreAtEnd round k → ⊥) × StopsHere settings roads end (Extent.within round k) behind)
+      ⊎ (AreAtEnd round k × IsRestOfRounds settings roads end passed later (state_behind settings roads k) (position_behind k) behind)
+
+  -- a text goes on within a round that isn't at its end: with one more entry, or it stops
+  pub has_next : (j : Journal) (text : List ℕ) → (AreAtEnd round j → ⊥) → GoesOn settings roads end passed round later j text → HasNext j text ⊎ StopsHere settings roads end (Extent.within round j) text
+  has_next j text going rest = by rest.more rest.begins rest.told rest.behind rest.ends rest.printed
     where
-      by : (more : List Entry) → IsRoundRun settings roads round (with_more j more) → AreTold (position_behind j) more → (behind : List ℕ)
-          → IsRestOfRounds settings roads later (state_behind settings roads (with_more j more)) (position_behind (with_more j more)) behind
-          → text ≡ entries_text (position_behind j) more ++ behind → HasNext j text
-      by [] run told behind rounds printed =
-          absurd (going (λ lane. subst (λ (es : List Entry). IsLaneRun (lane_at round lane) (of_lane lane es)) (append-nil j.entries) (run.lanes lane)))
-      by (e ∷ es) run told behind rounds printed =
+      here : (behind : List ℕ) → EndsAt j behind → text ≡ behind → StopsHere settings roads end (Extent.within round j) text
+      here behind ends is = subst (λ (t : List ℕ). StopsHere settings roads end (Extent.within round j) t) (sym is)
+          (⊎_elim (λ (stops : (AreAtEnd round j → ⊥) × StopsHere settings roads end (Extent.within round j) behind). stops.1)
+          (λ (over : AreAtEnd round j × IsRestOfRounds settings roads end passed later (state_behind settings roads j) (position_behind j) behind). absurd (going over.0)) ends)
+
+      by : (more : List Entry) → BeginsRound settings roads round (with_more j more) → AreTold (position_behind j) more → (behind : List ℕ) → EndsAt (with_more j more) behind
+          → text ≡ entries_text (position_behind j) more ++ behind → HasNext j text ⊎ StopsHere settings roads end (Extent.within round j) text
+      by [] begins told behind ends printed =
+          let same : with_more j [] ≡ j = λ i. record { first = j.first; base = j.base; entries = append-nil j.entries i } in
+          inr (here behind (subst (λ (k : Journal). EndsAt k behind) same ends) (printed ∙ ap (λ (t : List ℕ). t ++ behind) (entries-none (position_behind j))))
+      by (e ∷ es) begins told behind ends printed =
           let pos : ℕ = position_behind j in
           let block : List ℕ = lines_text (entry_block true e.command e.reply) in
           let more : List ℕ = entries_text (one_more pos) es in
           let joined : (j.entries ++ e ∷ []) ++ es ≡ j.entries ++ (e ∷ es) = append_assoc j.entries (e ∷ []) es in
+          let whole : with_more j (e ∷ es) ≡ with_more (with_entry j e) es = λ i. record { first = j.first; base = j.base; entries = sym joined i } in
           let next_is : one_more pos ≡ next_position j.first (j.entries ++ e ∷ []) = push-position j.first j.entries e in
-          record {
+          let own = begins.lanes e.lane in
+          let lane : of_lane e.lane (j.entries ++ (e ∷ es)) ++ own.0 ≡ of_lane e.lane (j.entries ++ e ∷ []) ++ (of_lane e.lane es ++ own.0) =
+          ap (λ (zs : List Entry). zs ++ own.0) (ap (λ (zs : List Entry). of_lane e.lane zs) (sym joined) ∙ of_lane-append e.lane (j.entries ++ e ∷ []) es)
+          ∙ append_assoc (of_lane e.lane (j.entries ++ e ∷ [])) (of_lane e.lane es) own.0 in
+          inl (record {
             entry = e;
             comes = record {
               line = told.0.line;
-              next = (of_lane e.lane es, subst (IsLaneRun (lane_at round e.lane)) (ap (λ (zs : List Entry). of_lane e.lane zs) (sym joined) ∙ of_lane-append e.lane (j.entries ++ e ∷ []) es) (run.lanes e.lane));
-              reply = reply-at roads.nodes settings.wait j.base j.entries e es run.replies;
+              next = (of_lane e.lane es ++ own.0, subst (IsLaneRun (lane_at round e.lane)) lane own.1);
+              reply = reply-at roads.nodes settings.wait j.base j.entries e es begins.replies;
             };
             fits = told.0.block;
-            good = close-at settings roads j.base j.entries e es run.closes;
+            good = close-at settings roads j.base j.entries e es begins.closes;
             behind = more ++ behind;
             printed = printed ∙ ap (λ (t : List ℕ). t ++ behind) (entries-more pos e es)
                 ∙ append_assoc (entry_line pos e) (10 ∷ (block ++ more)) behind
                 ∙ ap (λ (t : List ℕ). entry_line pos e ++ 10 ∷ t) (append_assoc block more behind);
             rest = record {
               more = es;
-              run = subst (λ (zs : List Entry). IsRoundRun settings roads round (record { first = j.first; base = j.base; entries = zs })) (sym joined) run;
+              begins = subst (BeginsRound settings roads round) whole begins;
               told = subst (λ (k : ℕ). AreTold k es) next_is told.1;
               behind = behind;
-              rounds = subst (λ (zs : List Entry). IsRestOfRounds settings roads later (state_after roads.nodes settings.wait j.base zs) (next_position j.first zs) behind) (sym joined) rounds;
               printed = ap (λ (k : ℕ). entries_text k es ++ behind) next_is;
+              ends = subst (λ (k : Journal). EndsAt k behind) whole ends;
             };
-          }
+          })
 
   -- the line that stands first is the next entry's
   pub first_is : (j : Journal) (text line after : List ℕ) → (h : HasNext j text) → IsFirstLine text line after
@@ -107,18 +213,11 @@ module _ (settings : Settings) (roads : Roads) (round : NumberedLanes) (later : 
   first_is j text line after h has =
       cut_once line (entry_line (position_behind j) h.entry) after (lines_text (entry_block true h.entry.command h.entry.reply) ++ h.behind) has.one (entry_one (position_behind j) h.entry h.comes.line) (sym has.whole ∙ h.printed)
 
-  -- where a line is wrong, no run goes on
+  -- where a line is wrong, no entry comes next
   pub wrong_is_none : (j : Journal) (text : List ℕ) (left : ℕ) (fault : LineFault) → StopsAt settings roads (Extent.within round j) text (Line left fault) → HasNext j text → ⊥
-  wrong_is_none j text left wrong.Cut stops h =
-      not_one (entry_line (position_behind j) h.entry) (lines_text (entry_block true h.entry.command h.entry.reply) ++ h.behind) (subst (λ (t : List ℕ). is_one_line t ≡ true) h.printed stops.1)
-  wrong_is_none j text left wrong.Form stops h =
-      let bad = stops.1 in
-      let first = first_is j text bad.0 bad.1 h bad.2 in
-      bad.3 (EntryOf h.entry.lane, (position_behind j, h.entry, h.comes.line, refl, first.0))
-  wrong_is_none j text left wrong.Entry stops h =
-      let bad = stops.1 in
-      let first = first_is j text bad.0 bad.1 h bad.2 in
-      bad.4 (h.entry, h.comes, first.0)
+  wrong_is_none j text left fault stops h =
+      comes_is_no_stop settings roads round j text (entry_line (position_behind j) h.entry) (lines_text (entry_block true h.entry.command h.entry.reply) ++ h.behind)
+      (record { whole = h.printed; one = entry_one (position_behind j) h.entry h.comes.line }) h.entry h.comes refl (Line left fault) (λ e. cc) stops (λ refused is wrong some. cc)
 
 -- no line in form is a stop at each place that isn't the end
 pub no_next_within : (settings : Settings) (roads : Roads) (round : NumberedLanes) (j : Journal) (text : List ℕ) (stop : Stop) → HasNoNext text stop → StopsAt settings roads (Extent.within round j) text stop

@@ -1,12 +1,12 @@
 -- Rounds of a report.
-use Rattle.std.proofs.Common.{◌≡◌, ◌≢◌, ℕ, ◌<◌, ◌≤◌, ◌^◌, true, List, [], ◌∷◌, ◌++◌, length, replicate, drop, codes, Option, Some, None, refl, sym, ap, ◌∙◌, subst, ⊎_elim, append-nil, append_assoc, arith}
+use Rattle.std.proofs.Common.{◌≡◌, ◌≢◌, ◌⊎◌, ℕ, ◌<◌, ◌≤◌, ◌^◌, true, List, [], ◌∷◌, ◌++◌, length, replicate, drop, codes, Option, Some, None, refl, sym, ap, ◌∙◌, subst, ⊎_elim, append-nil, append_assoc, arith}
 use Rattle.std.specs.Prelude.{option_map, count_by}
 use Rattle.std.proofs.lemmas.Bool.{cases_lt}
 use Rattle.std.proofs.lemmas.List.{get_or_past, get_or-replicate, length-replicate}
 use Rattle.batch_snapshot.specs.Batch.{Batch}
-use Rattle.dispatch_engine.specs.Lane.{of_lane, ClosesAreGood, IsLaneRun, IsLaneRunFrom}
-use Rattle.dispatch_engine.specs.Run.{IsRoundRun, IsRun, journal_of, position_after_run}
-use Rattle.dispatch_report.specs.Round.{end_text, round_text}
+use Rattle.dispatch_engine.specs.Lane.{of_lane, ClosesAreGood, IsLaneBeginning, IsLaneRun, IsLaneRunFrom}
+use Rattle.dispatch_engine.specs.Run.{journal_of}
+use Rattle.dispatch_report.specs.Round.{round_text}
 use Rattle.dispatch_report.specs.Words.{numbered}
 use Rattle.report_lines.specs.Next.{IsNextLine}
 use Rattle.report_lines.specs.declared.next.NextLine.{NextLine}
@@ -14,7 +14,6 @@ use Rattle.report_lines.specs.declared.next.NextLine.TheVariants.{Round as Round
 use Rattle.report_lines.proofs.lemmas.NextLemmas.{one_kind}
 use Rattle.lane_progress.specs.declared.stand.LaneStand.{LaneStand}
 use Rattle.lane_progress.specs.Stand.{at_start, stand_at, HaveCome, AreDone}
-use Rattle.report_lines.specs.Cut.{is_one_line}
 use Rattle.report_lines.proofs.lemmas.OneBlock.{cut_once}
 use Rattle.request_book.specs.Book.{BookView, next_position}
 use Rattle.request_book.specs.Replay.{state_after, RepliesAreSteps}
@@ -28,18 +27,18 @@ use Rattle.road_network.specs.Roads.{Roads}
 use Rattle.script_rows.specs.Round.{NumberedLanes, IsRound, lane_at}
 use Rattle.shared_book.specs.Locked.{sealed_by}
 use Rattle.report_lines.specs.Line.{IsFirstLine}
-use Rattle.report_audit.specs.Place.{Extent, AreAtEnd, position_behind, state_behind}
-use Rattle.report_audit.specs.Report.{closes, rounds_text}
-use Rattle.report_audit.specs.Types.{AreTold, JournalsAreTold}
+use Rattle.report_audit.specs.Place.{Extent, AreAtEnd, IsInForm, position_behind, state_behind}
+use Rattle.report_audit.specs.Report.{closes}
+use Rattle.report_audit.specs.Types.{AreTold}
 use Rattle.report_audit.specs.declared.stop.LineFault.TheVariants as wrong
 use Rattle.report_audit.specs.declared.stop.Stop.{Stop}
 use Rattle.report_audit.specs.declared.stop.Stop.TheVariants.{OutOfMemory, Line, Block}
-use Rattle.report_audit.specs.work.Rest.{IsRestOfRound, IsRestOfRounds, entries_text, with_more}
+use Rattle.report_audit.specs.work.Rest.{GoesOn, IsRestOfRounds, StopsAt, StopsHere, entries_text, with_more}
 use Rattle.report_audit.specs.work.Rounds.{IsRoundStart, HasRoundLine, IsNoRoundLine, EntriesStop, HasReadEntries, HasReadRound, RoundStops, WhereRoundStops}
-use Rattle.report_audit.specs.work.Steps.{HasRead, IsBookOf, IsWithin, StopsAt, StopsBehind, StopsWithin}
+use Rattle.report_audit.specs.work.Steps.{HasRead, IsBookOf, IsWithin, StopsBehind, StopsWithin}
 use Rattle.report_audit.proofs.JournalLemmas.{after-none, closes-none}
 use Rattle.report_audit.proofs.LaneLemmas.{come_begins, done_end, own-lane}
-use Rattle.report_audit.proofs.NextLemmas.{book_state, in_form, not_one}
+use Rattle.report_audit.proofs.NextLemmas.{between_is_no_stop, book_state, in_form, same_stop}
 use Rattle.report_audit.proofs.EntryLemmas.{not_at_end}
 use Rattle.report_audit.proofs.TextLemmas.{words_one, entries-append, entries-none, next-append, next-low, next-none, round-is}
 
@@ -84,7 +83,7 @@ read_none settings roads round j text = record {
   base = refl;
   entries = sym (append-nil j.entries);
   printed = ap (λ (t : List ℕ). t ++ text) (sym (entries-none (position_behind j)));
-  only = λ later rest. rest;
+  only = λ end passed later rest. rest;
 }
 
 -- entries were read, and then more
@@ -103,7 +102,7 @@ read_more settings roads round i j k text rest behind one two =
           ∙ ap (λ (t : List ℕ). entries_text p one.read ++ t) (two.printed ∙ ap (λ (n : ℕ). entries_text n two.read ++ behind) here)
           ∙ sym (append_assoc (entries_text p one.read) (entries_text (next_position p one.read) two.read) behind)
           ∙ ap (λ (t : List ℕ). t ++ behind) (sym (entries-append p one.read two.read (next-low i.first i.entries)));
-      only = λ later rest_of. two.only later (one.only later rest_of);
+      only = λ end passed later rest_of. two.only end passed later (one.only end passed later rest_of);
     }
 
 -- a lane that is done waits for nothing
@@ -154,23 +153,40 @@ run_ends (Some batch) cs [] ys one two = absurd one
 run_ends (Some batch) cs (x ∷ xs) ys one two = run_ends None cs xs ys one.1 two.1
 
 -- nothing follows the entries of a round whose lanes are at their ends
-no_more : (round : NumberedLanes) (es more : List Entry) → ((lane : ℕ) → IsLaneRun (lane_at round lane) (of_lane lane es)) → ((lane : ℕ) → IsLaneRun (lane_at round lane) (of_lane lane (es ++ more))) → more ≡ []
+no_more : (round : NumberedLanes) (es more : List Entry) → ((lane : ℕ) → IsLaneRun (lane_at round lane) (of_lane lane es)) → ((lane : ℕ) → IsLaneBeginning (lane_at round lane) (of_lane lane (es ++ more))) → more ≡ []
 no_more round es [] one two = refl
 no_more round es (e ∷ more) one two =
-    let none : e ∷ of_lane e.lane more ≡ [] =
-    run_ends None (lane_at round e.lane) (of_lane e.lane es) (e ∷ of_lane e.lane more) (one e.lane) (subst (IsLaneRun (lane_at round e.lane)) (own-lane es e more) (two e.lane)) in
+    let begun = two e.lane in
+    let own : of_lane e.lane (es ++ e ∷ more) ++ begun.0 ≡ of_lane e.lane es ++ (e ∷ (of_lane e.lane more ++ begun.0)) =
+    ap (λ (zs : List Entry). zs ++ begun.0) (own-lane es e more) ∙ append_assoc (of_lane e.lane es) (e ∷ of_lane e.lane more) begun.0 in
+    let none : e ∷ (of_lane e.lane more ++ begun.0) ≡ [] =
+    run_ends None (lane_at round e.lane) (of_lane e.lane es) (e ∷ (of_lane e.lane more ++ begun.0)) (one e.lane) (subst (IsLaneRun (lane_at round e.lane)) own begun.1) in
     absurd cc
 
--- the rest of a run behind the last entry of a round is that of the later rounds
-rest_behind : (settings : Settings) (roads : Roads) (round : NumberedLanes) (later : List NumberedLanes) (j : Journal) (text : List ℕ) → AreAtEnd round j → IsRestOfRound settings roads round later j text
-    → IsRestOfRounds settings roads later (state_behind settings roads j) (position_behind j) text
-rest_behind settings roads round later j text end rest =
-    let none : rest.more ≡ [] = no_more round j.entries rest.more end rest.run.lanes in
-    let same : j.entries ++ rest.more ≡ j.entries = ap (λ (es : List Entry). j.entries ++ es) none ∙ append-nil j.entries in
+-- behind the last entry of a round, the text goes on with the later rounds
+rest_behind : (settings : Settings) (roads : Roads) (end : Option Stop) (passed : List NumberedLanes) (round : NumberedLanes) (later : List NumberedLanes) (j : Journal) (text : List ℕ) → AreAtEnd round j
+    → GoesOn settings roads end passed round later j text → IsRestOfRounds settings roads end passed later (state_behind settings roads j) (position_behind j) text
+rest_behind settings roads end passed round later j text over rest =
+    let none : rest.more ≡ [] = no_more round j.entries rest.more over rest.begins.lanes in
+    let same : with_more j rest.more ≡ j = λ i. record { first = j.first; base = j.base; entries = (ap (λ (es : List Entry). j.entries ++ es) none ∙ append-nil j.entries) i } in
     let text_is : text ≡ rest.behind =
     rest.printed ∙ ap (λ (es : List Entry). entries_text (position_behind j) es ++ rest.behind) none ∙ ap (λ (t : List ℕ). t ++ rest.behind) (entries-none (position_behind j)) in
-    subst (λ (t : List ℕ). IsRestOfRounds settings roads later (state_behind settings roads j) (position_behind j) t) (sym text_is)
-    (subst (λ (es : List Entry). IsRestOfRounds settings roads later (state_after roads.nodes settings.wait j.base es) (next_position j.first es) rest.behind) same rest.rounds)
+    subst (λ (t : List ℕ). IsRestOfRounds settings roads end passed later (state_behind settings roads j) (position_behind j) t) (sym text_is)
+    (⊎_elim
+    (λ (stops : (AreAtEnd round j → ⊥) × StopsHere settings roads end (Extent.within round j) rest.behind). absurd (stops.0 over))
+    (λ (ended : AreAtEnd round j × IsRestOfRounds settings roads end passed later (state_behind settings roads j) (position_behind j) rest.behind). ended.1)
+    (subst (λ (k : Journal). ((AreAtEnd round k → ⊥) × StopsHere settings roads end (Extent.within round k) rest.behind)
+    ⊎ (AreAtEnd round k × IsRestOfRounds settings roads end passed later (state_behind settings roads k) (position_behind k) rest.behind)) same rest.ends))
+
+-- the line of a round may stand before it
+round_goes : (settings : Settings) (roads : Roads) (before : List NumberedLanes) (round : NumberedLanes) (later : List NumberedLanes) (p : ℕ) (text after : List ℕ) → HasRoundLine text round.number after
+    → (end : Option Stop) → StopsHere settings roads end (Extent.between before (round ∷ later) p) text → ⊥
+round_goes settings roads before round later p text after line end here =
+    between_is_no_stop settings roads before (round ∷ later) p text (numbered (codes "round ") round.number) after line.has (form before) refl end here
+  where
+    form : (before : List NumberedLanes) → IsInForm (Extent.between before (round ∷ later) p) (numbered (codes "round ") round.number)
+    form [] = (RoundOf round.number, (line.low, refl), tt)
+    form (r ∷ rs) = (RoundOf round.number, (line.low, refl))
 
 module _ (settings : Settings) (roads : Roads) (round : NumberedLanes) (old : BookView) (start : IsRoundStart settings roads old) where
   -- the book's state is its journal's base, and its first position the next
@@ -180,44 +196,18 @@ module _ (settings : Settings) (roads : Roads) (round : NumberedLanes) (old : Bo
   pub position_is : position_behind (journal_of old) ≡ old.first
   position_is = ap (next_position old.first) start.empty ∙ next-none old.first start.book.low
 
-  -- behind the line of the round, the rest of a run of rounds is that of the round
-  rest_of_round : (later : List NumberedLanes) (text after : List ℕ) → HasRoundLine text round.number after → IsRestOfRounds settings roads (round ∷ later) old.state old.first text
-      → IsRestOfRound settings roads round later (journal_of old) after
-  rest_of_round later text after line rest = by rest.made rest.run rest.told rest.printed
-    where
-      by : (made : List Journal) → IsRun settings roads old.state old.first (round ∷ later) made → JournalsAreTold made
-          → text ≡ rounds_text (round ∷ later) made ++ end_text (position_after_run old.first made) → IsRestOfRound settings roads round later (journal_of old) after
-      by [] run told printed = absurd run
-      by (j ∷ js) run told printed =
-          let behind : List ℕ = rounds_text later js ++ end_text (position_after_run (next_position old.first j.entries) js) in
-          let words : List ℕ = numbered (codes "round ") round.number in
-          let text_is : text ≡ words ++ 10 ∷ (entries_text j.first j.entries ++ behind) =
-          printed
-          ∙ append_assoc (round_text round.number true j) (rounds_text later js) (end_text (position_after_run (next_position old.first j.entries) js))
-          ∙ ap (λ (t : List ℕ). t ++ behind) (round-is round.number j)
-          ∙ append_assoc words (10 ∷ entries_text j.first j.entries) behind in
-          let after_is : after ≡ entries_text j.first j.entries ++ behind =
-          (cut_once words words after (entries_text j.first j.entries ++ behind) line.has.one line.has.one (sym line.has.whole ∙ text_is)).1 in
-          let first : j.first ≡ position_behind (journal_of old) = run.1 ∙ sym position_is in
-          let empty : [] ++ j.entries ≡ old.entries ++ j.entries = ap (λ (es : List Entry). es ++ j.entries) (sym start.empty) in
-          let whole : j ≡ with_more (journal_of old) j.entries = λ i. record { first = run.1 i; base = (run.0 ∙ sym base_is) i; entries = empty i } in
-          let state : state_after roads.nodes settings.wait old.state j.entries ≡ state_behind settings roads (with_more (journal_of old) j.entries) =
-          (λ i. state_after roads.nodes settings.wait (sym base_is i) (empty i)) in
-          let place : next_position old.first j.entries ≡ position_behind (with_more (journal_of old) j.entries) = (λ i. next_position old.first (empty i)) in
-          record {
-            more = j.entries;
-            run = subst (IsRoundRun settings roads round) whole run.2;
-            told = subst (λ (k : ℕ). AreTold k j.entries) first told.0;
-            behind = behind;
-            rounds = record {
-              made = js;
-              run = subst (λ (k : ℕ). IsRun settings roads (state_behind settings roads (with_more (journal_of old) j.entries)) k later js) place
-                  (subst (λ (s : State). IsRun settings roads s (next_position old.first j.entries) later js) state run.3);
-              told = told.1;
-              printed = ap (λ (k : ℕ). rounds_text later js ++ end_text (position_after_run k js)) place;
-            };
-            printed = after_is ∙ ap (λ (k : ℕ). entries_text k j.entries ++ behind) first;
-          }
+  -- behind the line of the round, the text goes on with it
+  rest_of_round : (end : Option Stop) (passed later : List NumberedLanes) (text after : List ℕ) → HasRoundLine text round.number after → IsRestOfRounds settings roads end passed (round ∷ later) old.state old.first text
+      → GoesOn settings roads end (passed ++ round ∷ []) round later (journal_of old) after
+  rest_of_round end passed later text after line rest = ⊎_elim
+      (λ (here : StopsHere settings roads end (Extent.between passed (round ∷ later) old.first) text). absurd (round_goes settings roads passed round later old.first text after line end here))
+      (λ (goes : (behind : List ℕ) × (text ≡ numbered (codes "round ") round.number ++ 10 ∷ behind)
+      × GoesOn settings roads end (passed ++ round ∷ []) round later (record { first = old.first; base = old.state; entries = [] }) behind).
+      let same = cut_once (numbered (codes "round ") round.number) (numbered (codes "round ") round.number) goes.0 after line.has.one line.has.one (sym goes.1 ∙ line.has.whole) in
+      let journal : record { first = old.first; base = old.state; entries = [] } ≡ journal_of old = λ i. record { first = old.first; base = sym base_is i; entries = sym start.empty i } in
+      subst (λ (k : Journal). GoesOn settings roads end (passed ++ round ∷ []) round later k after) journal
+      (subst (λ (t : List ℕ). GoesOn settings roads end (passed ++ round ∷ []) round later (record { first = old.first; base = old.state; entries = [] }) t) same.1 goes.2))
+      rest
 
   -- the text of a round so far
   pub round_so_far : (j : Journal) (text after rest : List ℕ) → HasRoundLine text round.number after → HasRead settings roads round (journal_of old) j after rest → text ≡ round_text round.number true j ++ rest
@@ -248,24 +238,25 @@ module _ (settings : Settings) (roads : Roads) (round : NumberedLanes) (old : Bo
         position = place;
         printed = round_so_far (journal_of b) text after rest line read.has_read;
         counted = counted;
-        only = λ later whole.
-            let behind = rest_behind settings roads round later (journal_of b) rest read.run.lanes (read.has_read.only later (rest_of_round later text after line whole)) in
-            subst (λ (k : ℕ). IsRestOfRounds settings roads later new.state k rest) (sym place)
-            (subst (λ (s : State). IsRestOfRounds settings roads later s (position_behind (journal_of b)) rest) (sym state) behind);
+        only = λ end passed later whole.
+            let ahead : List NumberedLanes = passed ++ round ∷ [] in
+            let behind = rest_behind settings roads end ahead round later (journal_of b) rest read.run.lanes (read.has_read.only end ahead later (rest_of_round end passed later text after line whole)) in
+            subst (λ (k : ℕ). IsRestOfRounds settings roads end ahead later new.state k rest) (sym place)
+            (subst (λ (s : State). IsRestOfRounds settings roads end ahead later s (position_behind (journal_of b)) rest) (sym state) behind);
       }
 
   -- a stop within the round
   pub round_stops_within : (text after : List ℕ) (stop : Stop) → HasRoundLine text round.number after → StopsBehind settings roads round (journal_of old) after stop → RoundStops settings roads round old text stop
   round_stops_within text after stop line stops = record {
     stops = WhereRoundStops.behind after line stops;
-    none = λ other later rest. stops.stops.none other later (stops.has_read.only later (rest_of_round later text after line rest));
+    only = λ some end passed later begins rest. stops.stops.only some end (passed ++ round ∷ []) later (stops.has_read.only end (passed ++ round ∷ []) later (rest_of_round end passed later text after line rest));
   }
 
   -- a stop for want of memory
   pub round_stops_memory : (text : List ℕ) → round.number < 2 ^ 32 → RoundStops settings roads round old text OutOfMemory
   round_stops_memory text low = record {
     stops = WhereRoundStops.before (record { low = low; stops = λ s r round_ before later position number begins. tt });
-    none = λ other later rest. absurd (other refl);
+    only = λ some end passed later begins rest. absurd (some refl);
   }
 
   -- a stop among the entries
@@ -278,42 +269,15 @@ module _ (settings : Settings) (roads : Roads) (round : NumberedLanes) (old : Bo
   pub round_stops_before : (text : List ℕ) (stop : Stop) → IsNoRoundLine text round.number stop → RoundStops settings roads round old text stop
   round_stops_before text stop no_line = record {
     stops = WhereRoundStops.before no_line;
-    none = λ other later rest. by stop other later rest (no_line.stops settings roads round (round ∷ []) later old.first refl (λ none begins. cc));
+    only = λ some end passed later begins rest.
+        let stops : StopsAt settings roads (Extent.between passed (round ∷ later) old.first) text stop = no_line.stops settings roads round passed later old.first refl begins in
+        ⊎_elim
+        (λ (here : StopsHere settings roads end (Extent.between passed (round ∷ later) old.first) text). same_stop settings roads (Extent.between passed (round ∷ later) old.first) text stop some stops end here)
+        (λ (goes : (behind : List ℕ) × (text ≡ numbered (codes "round ") round.number ++ 10 ∷ behind)
+        × GoesOn settings roads end (passed ++ round ∷ []) round later (record { first = old.first; base = old.state; entries = [] }) behind).
+        absurd (round_goes settings roads passed round later old.first text goes.0 (record { low = no_line.low; has = record { whole = goes.1; one = words_one round.number no_line.low } }) (Some stop) (some, stops)))
+        rest;
   }
-    where
-      first_line : (later : List NumberedLanes) → IsRestOfRounds settings roads (round ∷ later) old.state old.first text → (after : List ℕ) × (text ≡ numbered (codes "round ") round.number ++ 10 ∷ after)
-      first_line later rest = at rest.made rest.run rest.printed
-        where
-          at : (made : List Journal) → IsRun settings roads old.state old.first (round ∷ later) made → text ≡ rounds_text (round ∷ later) made ++ end_text (position_after_run old.first made)
-              → (after : List ℕ) × (text ≡ numbered (codes "round ") round.number ++ 10 ∷ after)
-          at [] run printed = absurd run
-          at (j ∷ js) run printed =
-              let behind : List ℕ = rounds_text later js ++ end_text (position_after_run (next_position old.first j.entries) js) in
-              let words : List ℕ = numbered (codes "round ") round.number in (
-                entries_text j.first j.entries ++ behind,
-                printed
-                    ∙ append_assoc (round_text round.number true j) (rounds_text later js) (end_text (position_after_run (next_position old.first j.entries) js))
-                    ∙ ap (λ (t : List ℕ). t ++ behind) (round-is round.number j)
-                    ∙ append_assoc words (10 ∷ entries_text j.first j.entries) behind,
-              )
-
-      by : (stop : Stop) → stop ≢ OutOfMemory → (later : List NumberedLanes) → IsRestOfRounds settings roads (round ∷ later) old.state old.first text
-          → StopsAt settings roads (Extent.between (round ∷ []) (round ∷ later) old.first) text stop → ⊥
-      by OutOfMemory other later rest stops = other refl
-      by (Line left wrong.Cut) other later rest stops =
-          let line = first_line later rest in
-          not_one (numbered (codes "round ") round.number) line.0 (subst (λ (t : List ℕ). is_one_line t ≡ true) line.1 stops.1)
-      by (Line left wrong.Form) other later rest stops =
-          let line = first_line later rest in
-          let bad = stops.1 in
-          let same = cut_once bad.0 (numbered (codes "round ") round.number) bad.1 line.0 bad.2.one (words_one round.number no_line.low) (sym bad.2.whole ∙ line.1) in
-          bad.3 (RoundOf round.number, (no_line.low, same.0))
-      by (Line left wrong.Entry) other later rest stops =
-          let line = first_line later rest in
-          let bad = stops.1 in
-          let same = cut_once bad.0 (numbered (codes "round ") round.number) bad.1 line.0 bad.2.one (words_one round.number no_line.low) (sym bad.2.whole ∙ line.1) in
-          bad.4 same.0
-      by (Block left refused) other later rest stops = stops.1
 
 -- a book whose round was taken begins the next
 pub next_start : (settings : Settings) (roads : Roads) (b new : BookView) → IsBookOf settings roads b → b.state.sealed ≡ None

@@ -1,11 +1,12 @@
 -- All rounds of a report.
-use Rattle.std.proofs.Common.{◌≡◌, ℕ, ◌+◌, ◌-◌, ◌<◌, ◌≤◌, ◌^◌, add-one, drop, codes, get_or, min, take, true, List, [], ◌∷◌, ◌++◌, length, refl, sym, ap, ◌∙◌, subst, append_assoc, append-nil}
+use Rattle.std.proofs.Common.{◌≡◌, ◌≢◌, ◌⊎◌, ℕ, ◌+◌, ◌-◌, ◌<◌, ◌≤◌, ◌^◌, add-one, drop, codes, get_or, min, take, true, List, [], ◌∷◌, ◌++◌, length, Option, Some, None, ⊎_elim, refl, sym, ap, ◌∙◌, subst, append_assoc, append-nil}
 use Rattle.std.proofs.Math.Seq.{take-suc}
 use Rattle.std.proofs.lemmas.List.{drop_all, drop_more, take_all}
-use Rattle.dispatch_engine.specs.Run.{IsRun, IsRoundRun, position_after_run}
+use Rattle.dispatch_engine.specs.Run.{IsRun, IsRoundRun, position_after_run, state_after_run}
 use Rattle.dispatch_report.specs.Round.{end_text, round_text}
 use Rattle.dispatch_report.specs.Words.{numbered}
-use Rattle.report_lines.specs.declared.next.NextLine.TheVariants.{Entry as EntryOf}
+use Rattle.report_lines.specs.Line.{IsFirstLine}
+use Rattle.report_lines.specs.declared.next.NextLine.TheVariants.{Done as DoneOf, Entry as EntryOf}
 use Rattle.report_lines.proofs.lemmas.NextLemmas.{no_entry_done, no_entry_round, one_kind}
 use Rattle.request_book.specs.Book.{BookView, next_position}
 use Rattle.request_book.specs.Replay.{state_after}
@@ -14,19 +15,21 @@ use Rattle.request_book.specs.declared.state.State.{State}
 use Rattle.rider_limits.specs.declared.settings.Settings.{Settings}
 use Rattle.road_network.specs.Roads.{Roads}
 use Rattle.script_rows.specs.Round.{NumberedLanes}
-use Rattle.report_audit.specs.Place.{Extent, IsNoEntry, state_after_rounds}
+use Rattle.report_audit.specs.Place.{Extent, IsInForm, IsNoEntry}
 use Rattle.report_audit.specs.Report.{batches_after, batches_in, rounds_text}
 use Rattle.report_audit.specs.Types.{AreTold, JournalsAreTold}
 use Rattle.report_audit.specs.declared.stop.LineFault.TheVariants as wrong
 use Rattle.report_audit.specs.declared.stop.Stop.{Stop}
-use Rattle.report_audit.specs.declared.stop.Stop.TheVariants.{OutOfMemory, Line}
-use Rattle.report_audit.specs.work.Ends.{EndStops, IsEndText, WhereEndStops}
-use Rattle.report_audit.specs.work.Rest.{IsRestOfRounds, entries_text}
+use Rattle.report_audit.specs.declared.stop.Stop.TheVariants.{OutOfMemory, Line, Block}
+use Rattle.report_audit.specs.work.Ends.{EndStops, IsEndText, IsRestBehind}
+use Rattle.report_audit.specs.work.Rest.{EndsBehind, GoesOn, IsRestOfRounds, StopsAt, StopsHere}
 use Rattle.report_audit.specs.work.Rounds.{HasReadRound, IsRoundStart, RoundStops, WhereRoundStops}
-use Rattle.report_audit.specs.work.Steps.{BeginsWithEntry, MayBegin, StopsAt}
+use Rattle.report_audit.specs.work.Steps.{BeginsWithEntry, MayBegin}
 use Rattle.report_audit.specs.work.Whole.{AllStops, HasComeTo, HasReadAll, WhereAllStops}
+use Rattle.report_lines.proofs.lemmas.OneBlock.{cut_once}
+use Rattle.report_audit.proofs.NextLemmas.{between_is_no_stop, same_stop}
 use Rattle.report_audit.proofs.RoundLemmas.{base_is, round_so_far}
-use Rattle.report_audit.proofs.TextLemmas.{end-is, next-none, round-is}
+use Rattle.report_audit.proofs.TextLemmas.{done_one, end-is, next-none}
 
 -- items up to the next one
 take_next : {X : Type 0} (xs : List X) (i : ℕ) (x : X) → i < length xs → x ≡ get_or xs i x → take i xs ++ x ∷ [] ≡ take (i + 1) xs
@@ -35,14 +38,14 @@ take_next xs i x within is = ap (λ y. take i xs ++ y ∷ []) is ∙ sym (rw add
 module _ (settings : Settings) (roads : Roads) where
   -- one more round of a run
   run_push : (s : State) (p : ℕ) (rs : List NumberedLanes) (js : List Journal) (r : NumberedLanes) (j : Journal) → IsRun settings roads s p rs js
-      → j.base ≡ state_after_rounds settings roads s js → j.first ≡ position_after_run p js → IsRoundRun settings roads r j → IsRun settings roads s p (rs ++ r ∷ []) (js ++ j ∷ [])
+      → j.base ≡ state_after_run settings roads s js → j.first ≡ position_after_run p js → IsRoundRun settings roads r j → IsRun settings roads s p (rs ++ r ∷ []) (js ++ j ∷ [])
   run_push s p [] [] r j run base first round = (base, first, round, tt)
   run_push s p [] (k ∷ ks) r j run base first round = absurd run
   run_push s p (q ∷ qs) [] r j run base first round = absurd run
   run_push s p (q ∷ qs) (k ∷ ks) r j run base first round =
       (run.0, run.1, run.2, run_push (state_after roads.nodes settings.wait s k.entries) (next_position p k.entries) qs ks r j run.3 base first round)
 
-  state_push : (s : State) (js : List Journal) (j : Journal) → state_after_rounds settings roads s (js ++ j ∷ []) ≡ state_after roads.nodes settings.wait (state_after_rounds settings roads s js) j.entries
+  state_push : (s : State) (js : List Journal) (j : Journal) → state_after_run settings roads s (js ++ j ∷ []) ≡ state_after roads.nodes settings.wait (state_after_run settings roads s js) j.entries
   state_push s [] j = refl
   state_push s (k ∷ ks) j = state_push (state_after roads.nodes settings.wait s k.entries) ks j
 
@@ -71,6 +74,66 @@ some_behind : (rounds : List NumberedLanes) (r : NumberedLanes) → rounds ++ r 
 some_behind [] r none = cc
 some_behind (q ∷ qs) r none = cc
 
+-- the last line, and what follows it
+end_line : (p : ℕ) (rest : List ℕ) → end_text p ++ rest ≡ numbered (codes "done ") p ++ 10 ∷ rest
+end_line p rest = ap (λ (t : List ℕ). t ++ rest) (end-is p) ∙ append_assoc (numbered (codes "done ") p) (10 ∷ []) rest
+
+-- nothing is no stop behind the last line
+no_line : (line after : List ℕ) → IsFirstLine [] line after → ⊥
+no_line [] after has = (let e : [] ≡ 10 ∷ after = has.whole in cc)
+no_line (c ∷ cs) after has = (let e : [] ≡ c ∷ (cs ++ 10 ∷ after) = has.whole in cc)
+
+nothing_behind : (settings : Settings) (roads : Roads) (stop : Stop) → StopsHere settings roads (Some stop) Extent.finished [] → ⊥
+nothing_behind settings roads OutOfMemory here = here.0 refl
+nothing_behind settings roads (Line left wrong.Cut) here = here.1.1.1 refl
+nothing_behind settings roads (Line left wrong.Form) here = no_line here.1.1.0 here.1.1.1 here.1.1.2
+nothing_behind settings roads (Line left wrong.Entry) here = no_line here.1.1.0 here.1.1.1 here.1.1.2
+nothing_behind settings roads (Block left refused) here = here.1.1
+
+module _ (settings : Settings) (roads : Roads) (before : List NumberedLanes) (s : State) (p : ℕ) (text : List ℕ) where
+  -- the last line may stand there
+  end_goes : p < 2 ^ 64 → (rest : List ℕ) → text ≡ end_text p ++ rest → (end : Option Stop) → StopsHere settings roads end (Extent.between before [] p) text → ⊥
+  end_goes low rest is end here =
+      between_is_no_stop settings roads before [] p text (numbered (codes "done ") p) rest (record { whole = is ∙ end_line p rest; one = done_one p low }) (form before) refl end here
+    where
+      form : (before : List NumberedLanes) → IsInForm (Extent.between before [] p) (numbered (codes "done ") p)
+      form [] = (DoneOf p, (low, refl), tt)
+      form (r ∷ rs) = (DoneOf p, (low, refl))
+
+  -- the same text follows the last line
+  same_behind : (rest other : List ℕ) → p < 2 ^ 64 → text ≡ end_text p ++ rest → text ≡ end_text p ++ other → rest ≡ other
+  same_behind rest other low is too =
+      (cut_once (numbered (codes "done ") p) (numbered (codes "done ") p) rest other (done_one p low) (done_one p low) (sym (is ∙ end_line p rest) ∙ too ∙ end_line p other)).1
+
+  -- the last line and nothing else stops nowhere
+  pub end_done : text ≡ end_text p → p < 2 ^ 64 → (end : Option Stop) → IsRestOfRounds settings roads end before [] s p text → end ≡ None
+  end_done is low None whole = refl
+  end_done is low (Some stop) whole = ⊎_elim
+      (λ (here : StopsHere settings roads (Some stop) (Extent.between before [] p) text). absurd (end_goes low [] (is ∙ sym (append-nil (end_text p))) (Some stop) here))
+      (λ (ends : (rest : List ℕ) × (text ≡ end_text p ++ rest) × EndsBehind settings roads (Some stop) rest).
+      absurd (nothing_behind settings roads stop
+      (subst (λ (t : List ℕ). EndsBehind settings roads (Some stop) t) (same_behind ends.0 [] low ends.1 (is ∙ sym (append-nil (end_text p)))) ends.2)))
+      whole
+
+  -- where an audit stops at the last line or behind it, a text that goes on to there stops so too
+  pub end_only : (stop : Stop) → stop ≢ OutOfMemory → EndStops text p stop → MayBegin before text → p < 2 ^ 64 → (end : Option Stop) → IsRestOfRounds settings roads end before [] s p text → end ≡ Some stop
+  end_only stop some stops begins low end whole = by stops
+    where
+      behind_is : (rest : List ℕ) → IsRestBehind rest stop → (end : Option Stop) → EndsBehind settings roads end rest → end ≡ Some stop
+      behind_is rest left None none = absurd (left.some none)
+      behind_is rest left (Some other) here = same_stop settings roads Extent.finished rest stop some (left.stops settings roads) (Some other) here
+
+      by : EndStops text p stop → end ≡ Some stop
+      by (EndStops.before at_line) = ⊎_elim
+          (λ (here : StopsHere settings roads end (Extent.between before [] p) text). same_stop settings roads (Extent.between before [] p) text stop some (at_line settings roads before begins) end here)
+          (λ (ends : (rest : List ℕ) × (text ≡ end_text p ++ rest) × EndsBehind settings roads end rest). absurd (end_goes low ends.0 ends.1 (Some stop) (some, at_line settings roads before begins)))
+          whole
+      by (EndStops.behind rest is left) = ⊎_elim
+          (λ (here : StopsHere settings roads end (Extent.between before [] p) text). absurd (end_goes low rest is end here))
+          (λ (ends : (rest : List ℕ) × (text ≡ end_text p ++ rest) × EndsBehind settings roads end rest).
+          behind_is rest left end (subst (λ (t : List ℕ). EndsBehind settings roads end t) (same_behind ends.0 rest low ends.1 is) ends.2))
+          whole
+
 -- the next position of a book without entries is its first
 pub first_next : (settings : Settings) (roads : Roads) (b : BookView) → IsRoundStart settings roads b → next_position b.first b.entries ≡ b.first
 first_next settings roads b start = ap (next_position b.first) start.empty ∙ next-none b.first start.book.low
@@ -87,7 +150,7 @@ module _ (settings : Settings) (roads : Roads) (s : State) (rounds : List Number
     position = first;
     counted = refl;
     begins = begins;
-    only = λ whole. subst (λ (k : ℕ). IsRestOfRounds settings roads rounds b.state k text) (sym first) (subst (λ (t : State). IsRestOfRounds settings roads rounds t 0 text) (sym state) whole);
+    only = λ end whole. subst (λ (k : ℕ). IsRestOfRounds settings roads end [] rounds b.state k text) (sym first) (subst (λ (t : State). IsRestOfRounds settings roads end [] rounds t 0 text) (sym state) whole);
   }
 
   module _ (before later : List NumberedLanes) (r : NumberedLanes) (b : BookView) (rest : List ℕ) (batches : ℕ) (come : HasComeTo settings roads s rounds text before (r ∷ later) rest b batches) where
@@ -96,7 +159,7 @@ module _ (settings : Settings) (roads : Roads) (s : State) (rounds : List Number
         → HasComeTo settings roads s rounds text (before ++ r ∷ []) later rest_new new (min (batches + count) (2 ^ 64 - 1))
     come_more new rest_new count read =
         let j : Journal = read.journal in
-        let base : j.base ≡ state_after_rounds settings roads s come.made = read.base ∙ come.state in
+        let base : j.base ≡ state_after_run settings roads s come.made = read.base ∙ come.state in
         let first : j.first ≡ position_after_run 0 come.made = read.first ∙ come.position in
         record {
           made = come.made ++ j ∷ [];
@@ -113,12 +176,12 @@ module _ (settings : Settings) (roads : Roads) (s : State) (rounds : List Number
           position = read.position ∙ ap (λ (k : ℕ). next_position k j.entries) first ∙ sym (position_push 0 come.made j);
           counted = (λ i. min (come.counted i + read.counted i) (2 ^ 64 - 1)) ∙ sym (batches_push 0 come.made j);
           begins = λ none. absurd (some_behind before r none);
-          only = λ whole. read.only later (come.only whole);
+          only = λ end whole. read.only end before later (come.only end whole);
         }
 
     -- a stop at a round or within it
     pub stops_in_round : (stop : Stop) → RoundStops settings roads r b rest stop → AllStops settings roads rounds s text stop
-    stops_in_round stop stops = record { stops = by stops.stops; none = λ other whole. stops.none other later (come.only whole) }
+    stops_in_round stop stops = record { stops = by stops.stops; only = λ some end whole. stops.only some end before later come.begins (come.only end whole) }
       where
         by : WhereRoundStops settings roads r b rest stop → WhereAllStops settings roads rounds s text stop
         by (WhereRoundStops.before no_line) = WhereAllStops.between before (r ∷ later) come.made rest come.all come.has_read (no_line.stops settings roads r before later (position_after_run 0 come.made) refl come.begins)
@@ -164,54 +227,47 @@ module _ (settings : Settings) (roads : Roads) (s : State) (rounds : List Number
       has_read = record { run = come.has_read.run; told = come.has_read.told; printed = come.has_read.printed ∙ ap (λ (t : List ℕ). rounds_text rounds come.made ++ t) (end ∙ ap end_text at_end) };
       entries = at_end;
       batches = come.counted;
+      only = λ stops whole. end_done settings roads rounds b.state b.first rest (end ∙ ap end_text at) come.start.book.low stops (come.only stops whole);
     }
 
     -- a stop at the end or behind it
     pub stops_at_end : (stop : Stop) → EndStops rest entries stop → AllStops settings roads rounds s text stop
-    stops_at_end stop stops = record { stops = by stops.stops; none = λ other whole. none_left (come.only whole) }
+    stops_at_end stop stops = record { stops = by stops; only = λ some end whole. end_only settings roads rounds b.state b.first rest stop some (subst (λ (k : ℕ). EndStops rest k stop) at stops) come.begins come.start.book.low end (come.only end whole) }
       where
-        by : WhereEndStops rest entries stop → WhereAllStops settings roads rounds s text stop
-        by (WhereEndStops.before at_line) =
+        by : EndStops rest entries stop → WhereAllStops settings roads rounds s text stop
+        by (EndStops.before at_line) =
             WhereAllStops.between rounds [] come.made rest (sym (append-nil rounds)) come.has_read
             (subst (λ (k : ℕ). StopsAt settings roads (Extent.between rounds [] k) rest stop) at_end (at_line settings roads rounds come.begins))
-        by (WhereEndStops.behind behind whole left) =
+        by (EndStops.behind behind whole left) =
             WhereAllStops.behind come.made behind
             (record { run = come.has_read.run; told = come.has_read.told; printed = come.has_read.printed ∙ ap (λ (t : List ℕ). rounds_text rounds come.made ++ t) (whole ∙ ap (λ (k : ℕ). end_text k ++ behind) at_end) })
             (left.stops settings roads)
-
-        none_left : IsRestOfRounds settings roads [] b.state b.first rest → ⊥
-        none_left whole = nothing whole.made whole.run whole.printed
-          where
-            nothing : (made : List Journal) → IsRun settings roads b.state b.first [] made → rest ≡ rounds_text [] made ++ end_text (position_after_run b.first made) → ⊥
-            nothing [] run printed = stops.none (printed ∙ ap end_text (sym at))
-            nothing (j ∷ js) run printed = absurd run
 
 -- a stop for want of memory, before anything was read
 pub memory_at_start : (settings : Settings) (roads : Roads) (rounds : List NumberedLanes) (s : State) (text : List ℕ) → AllStops settings roads rounds s text OutOfMemory
 memory_at_start settings roads rounds s text = record {
   stops = WhereAllStops.between [] rounds [] text refl (record { run = tt; told = tt; printed = refl }) tt;
-  none = λ other whole. absurd (other refl);
+  only = λ some end whole. absurd (some refl);
 }
 
 -- an entry before the first round
 pub entry_at_start : (settings : Settings) (roads : Roads) (rounds : List NumberedLanes) (s : State) (text : List ℕ) → BeginsWithEntry text → AllStops settings roads rounds s text (Line (length text) wrong.Form)
 entry_at_start settings roads rounds s text (lane, line, after, has, is) = record {
-  stops = WhereAllStops.between [] rounds [] text refl (record { run = tt; told = tt; printed = refl })
-      (refl, (line, after, has, λ f. subst IsNoEntry (one_kind f.0 (EntryOf lane) line f.1 is) f.2));
-  none = λ other whole. by rounds whole.made whole.run whole.printed;
+  stops = WhereAllStops.between [] rounds [] text refl (record { run = tt; told = tt; printed = refl }) (stops rounds);
+  only = λ some end whole. by end rounds some whole;
 }
   where
-    by : (rs : List NumberedLanes) (made : List Journal) → IsRun settings roads s 0 rs made → text ≡ rounds_text rs made ++ end_text (position_after_run 0 made) → ⊥
-    by [] [] run printed = no_entry_done 0 (10 ∷ []) line (10 ∷ after) lane is (sym (printed ∙ end-is 0) ∙ has.whole)
-    by [] (j ∷ js) run printed = absurd run
-    by (r ∷ rs) [] run printed = absurd run
-    by (r ∷ rs) (j ∷ js) run printed =
-        let entries : List ℕ = entries_text j.first j.entries in
-        let behind : List ℕ = rounds_text rs js ++ end_text (position_after_run (next_position 0 j.entries) js) in
-        let words : List ℕ = numbered (codes "round ") r.number in
-        let text_is : text ≡ words ++ 10 ∷ (entries ++ behind) =
-        printed
-        ∙ append_assoc (round_text r.number true j) (rounds_text rs js) (end_text (position_after_run (next_position 0 j.entries) js))
-        ∙ ap (λ (t : List ℕ). t ++ behind) (round-is r.number j)
-        ∙ append_assoc words (10 ∷ entries) behind in
-        no_entry_round r.number (10 ∷ (entries ++ behind)) line (10 ∷ after) lane is (sym text_is ∙ has.whole)
+    stops : (rs : List NumberedLanes) → StopsAt settings roads (Extent.between [] rs 0) text (Line (length text) wrong.Form)
+    stops rs = (refl, (line, after, has, λ f. subst IsNoEntry (one_kind f.0 (EntryOf lane) line f.1 is) f.2))
+
+    by : (end : Option Stop) (rs : List NumberedLanes) → Line (length text) wrong.Form ≢ OutOfMemory → IsRestOfRounds settings roads end [] rs s 0 text → end ≡ Some (Line (length text) wrong.Form)
+    by end [] some whole = ⊎_elim
+        (λ (here : StopsHere settings roads end (Extent.between [] [] 0) text). same_stop settings roads (Extent.between [] [] 0) text (Line (length text) wrong.Form) some (stops []) end here)
+        (λ (ends : (rest : List ℕ) × (text ≡ end_text 0 ++ rest) × EndsBehind settings roads end rest).
+        absurd (no_entry_done 0 (10 ∷ ends.0) line (10 ∷ after) lane is (sym (ends.1 ∙ end_line 0 ends.0) ∙ has.whole)))
+        whole
+    by end (r ∷ rs) some whole = ⊎_elim
+        (λ (here : StopsHere settings roads end (Extent.between [] (r ∷ rs) 0) text). same_stop settings roads (Extent.between [] (r ∷ rs) 0) text (Line (length text) wrong.Form) some (stops (r ∷ rs)) end here)
+        (λ (goes : (behind : List ℕ) × (text ≡ numbered (codes "round ") r.number ++ 10 ∷ behind) × GoesOn settings roads end (r ∷ []) r rs (record { first = 0; base = s; entries = [] }) behind).
+        absurd (no_entry_round r.number (10 ∷ goes.0) line (10 ∷ after) lane is (sym goes.1 ∙ has.whole)))
+        whole

@@ -1,7 +1,7 @@
-use Rattle.std.specs.Prelude.{◌≡◌, ℕ, true, List, ◌∷◌, ◌++◌, length, codes, fold, []}
+use Rattle.std.specs.Prelude.{◌≡◌, ℕ, true, List, ◌∷◌, ◌++◌, length, codes, []}
 use Rattle.batch_snapshot.specs.declared.vehicle.Vehicle.{Vehicle}
 use Rattle.dispatch_engine.specs.Lane.{of_lane, IsLaneRun, IsLaneBeginning, ClosesAreGood}
-use Rattle.dispatch_engine.specs.Run.{IsRun, position_after_run}
+use Rattle.dispatch_engine.specs.Run.{IsRun, position_after_run, state_after_run}
 use Rattle.dispatch_report.specs.Entry.{entry_line}
 use Rattle.dispatch_report.specs.Head.{head_text}
 use Rattle.dispatch_report.specs.Round.{round_text, end_text}
@@ -30,10 +30,6 @@ state_behind settings roads j = state_after roads.nodes settings.wait j.base j.e
 -- the position of the entry that follows a journal
 abbrev pub position_behind : Journal → ℕ
 position_behind j = next_position j.first j.entries
-
--- the state after journals
-abbrev pub state_after_rounds : Settings → Roads → State → List Journal → State
-state_after_rounds settings roads s journals = fold (λ t j. state_after roads.nodes settings.wait t j.entries) s journals
 
 -- the entries begin a run of the round: replies are the step's, closes are good, each lane's entries begin a run of its
 -- commands, and their numbers are within their types
@@ -104,7 +100,7 @@ pub record IsRightWithin (settings : Settings) (roads : Roads) (vehicles : List 
   pub made : List Journal
   pub all : rounds ≡ before ++ round ∷ later
   pub rounds_made : HasRounds settings roads vehicles before made
-  pub base_is : j.base ≡ state_after_rounds settings roads (opening vehicles) made
+  pub base_is : j.base ≡ state_after_run settings roads (opening vehicles) made
   pub first_is : j.first ≡ position_after_run 0 made
   pub begins : BeginsRound settings roads round j
   pub going : AreAtEnd round j → ⊥

@@ -22,6 +22,6 @@ pub enum AuditFault {
     Entry { line: u64 },
     /// The block that begins with this line is in form, and of its outcome this point, from 0 to 8, is the first that
     /// fails.
-    Batch { line: u64, point: u8 },
+    Batch { line: u64, point: u64 },
     OutOfMemory,
 }

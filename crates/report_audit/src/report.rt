@@ -4,6 +4,7 @@ ghost use Rattle.request_book.specs.Consistent.{IsNode};
 ghost use Rattle.request_book.specs.Book.{opening};
 ghost use Rattle.report_audit.specs.Fault.{HasFault};
 ghost use Rattle.report_audit.specs.Report.{IsAudited, IsReportOfRun};
+ghost use Rattle.report_audit.specs.declared.fault.AuditFault.{AuditFault as OneFault};
 ghost use Rattle.report_audit.specs.declared.fault.AuditFault.TheVariants.{OutOfMemory as NoMemory};
 ghost use Rattle.report_audit.specs.work.Faults.{IsLeftOf, fault_of, fault_of_block, fault_of_head, fault_of_line, line_left};
 ghost use Rattle.report_audit.specs.work.Whole.{AllStops, HasReadAll};
@@ -14,8 +15,8 @@ use crate::setup::Setup;
 use crate::stop::{LineFault, Stop, begins_with_entry};
 use batch_snapshot::Fleet;
 use block_audit::BlockRefusal;
+use dispatch_engine::opened_book;
 use report_lines::{HeadFault, read_head};
-use request_book::Book;
 use rider_limits::Settings;
 use road_network::Network;
 use script_rows::Script;
@@ -29,24 +30,27 @@ use worker_gate::Gate;
 ///
 /// The settings are those that the text tells. It is judged against a book of its own, line by line, and each block by
 /// `audit_block`, with `workers` threads that grow trip graphs; no plan is searched for. At most one round is kept.
-/// `OutOfMemory` may come for any text.
+/// At most one fault holds of a text, and none of a report. `OutOfMemory` may come for any text.
 pub fn audit<G: Gate>(
     rt: &(impl Threads + Sync),
     alloc: Global,
     report: &[u8],
     network: &Network,
-    fleet: Fleet,
+    fleet: &Fleet,
     script: &Script,
     workers: u8,
     gate: &G,
 ) -> Result<Audited, AuditFault>
-    requires nodes { All (λ vehicle. IsNode network.now.nodes vehicle.node) fleet }
+    requires nodes { All (λ vehicle. IsNode network.now.nodes vehicle.node) fleet.now }
     requires some { 1 ≤ workers }
     requires few { workers ≤ 64 }
-    ensures accepted { IfOk result (IsAudited network.entry.now fleet script.entry.now workers report.entry.now) }
-    ensures refused { IfErr result (λ fault. fault ≢ NoMemory → ¬ (IsReportOfRun network.entry.now fleet script.entry.now workers report.entry.now)) }
-    ensures fault { IfErr result (HasFault network.entry.now fleet script.entry.now workers report.entry.now) }
+    ensures accepted { IfOk result (IsAudited network.entry.now fleet.entry.now script.entry.now workers report.entry.now) }
+    ensures refused { IfErr result (λ fault. fault ≢ NoMemory → ¬ (IsReportOfRun network.entry.now fleet.entry.now script.entry.now workers report.entry.now)) }
+    ensures fault { IfErr result (HasFault network.entry.now fleet.entry.now script.entry.now workers report.entry.now) }
+    ensures sound { IfOk result (λ _. (other : OneFault) → other ≢ NoMemory → HasFault network.entry.now fleet.entry.now script.entry.now workers report.entry.now other → ⊥) }
+    ensures only { IfErr result (λ fault. fault ≢ NoMemory → (other : OneFault) → other ≢ NoMemory → HasFault network.entry.now fleet.entry.now script.entry.now workers report.entry.now other → other ≡ fault) }
 {
+    let _sizes = (network.node_count(), network.arc_count());
     let vehicles = fleet.vehicles().len() as u64;
     let (settings, rest) = match read_head(report, workers, network, vehicles) {
         Ok(head) => head,
@@ -64,14 +68,14 @@ fn audit_behind<G: Gate>(
     alloc: Global,
     text: &[u8],
     network: &Network,
-    fleet: Fleet,
+    fleet: &Fleet,
     script: &Script,
     settings: &Settings,
     gate: &G,
 ) -> Result<Audited, Stop>
-    requires { All (λ vehicle. IsNode network.now.nodes vehicle.node) fleet }
-    ensures { MatchResult result (HasReadAll settings.entry.now network.entry.now script.entry.now (opening fleet) text.entry.now)
-        (AllStops settings.entry.now network.entry.now script.entry.now (opening fleet) text.entry.now) }
+    requires { All (λ vehicle. IsNode network.now.nodes vehicle.node) fleet.now }
+    ensures { MatchResult result (HasReadAll settings.entry.now network.entry.now script.entry.now (opening fleet.entry.now) text.entry.now)
+        (AllStops settings.entry.now network.entry.now script.entry.now (opening fleet.entry.now) text.entry.now) }
 {
     if begins_with_entry(text) {
         return Err(Stop::Line {
@@ -79,7 +83,7 @@ fn audit_behind<G: Gate>(
             fault: LineFault::Form,
         });
     }
-    let mut book = match Book::new(alloc, network, fleet, settings.wait) {
+    let mut book = match opened_book(alloc, network, fleet, settings.wait) {
         Ok(book) => book,
         Err(_) => return Err(Stop::OutOfMemory),
     };

@@ -5,10 +5,8 @@ pub mod LateLemmas
 pub mod SignedLemmas
 pub mod BlockLemmas
 pub mod OneLine
-pub mod LineLemmas
 pub mod SettingsLemmas
 pub mod FormLemmas
-pub mod WholeHead
 pub mod ToldLemmas
 pub mod CommandLemmas
 pub mod EntryLemmas

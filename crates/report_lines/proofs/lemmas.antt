@@ -4,3 +4,5 @@ pub mod ReadingLemmas
 pub mod NumeralLemmas
 pub mod HeadLemmas
 pub mod NextLemmas
+pub mod LineLemmas
+pub mod WholeHead

@@ -4,6 +4,20 @@
 //! A line is read from its beginning, a word or a number at a time. No number is followed by a digit, so the text of
 //! each thing ends at one place alone, and what is read is the only thing that the line can say. Of an entry nothing is
 //! kept but its lane: its line is only known to be in form.
+//!
+//! A caller:
+//!
+//! ```
+//! fn judge(text: &[u8], network: &Network) -> Told {
+//!     match read_head(text, 3, network, 2) {
+//!         Ok((settings, rest)) => Told::Head(settings.dwell, settings.workers, rest.len()),
+//!         Err(fault) => Told::Fault(fault),
+//!     }
+//! }
+//! ```
+//!
+//! Main clauses: `read_head`: `read`, `only`, `none`, `fault`; `read_block`; `read_next`; the laws
+//! `a_line_says_one_thing`, `a_text_begins_with_one_block` and `a_text_has_one_fault`.
 #![tactic(auto)]
 
 mod block;

@@ -203,6 +203,13 @@ impl Book {
         self.register.state(self.alloc)
     }
 
+    /// The batch that is sealed and not closed.
+    pub fn sealed(&self) -> Option<&Snapshot>
+        ensures { option_map (λ batch. batch.now) result ≡ self.now.state.sealed }
+    {
+        self.register.sealed.as_ref()
+    }
+
     /// The entries since the last `take_round`.
     pub fn entries(&self) -> &[Entry]
         ensures entries { result.now ≡ self.now.entries }

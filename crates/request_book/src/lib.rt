@@ -4,6 +4,21 @@
 //! `Book::apply` answers each command by the step table, whose definition is one function over plain
 //! lists; the book keeps that its state is that step run over its journal. A refused command is an entry
 //! of the journal and changes nothing else.
+//!
+//! A caller, from the tests of `book_tests`:
+//!
+//! ```
+//! // The reply in lane 0; none for want of memory.
+//! fn replied(book: &mut Book, command: Command) -> Option<Reply> {
+//!     match book.apply(0, command) {
+//!         Ok(reply) => Some(reply),
+//!         Err(_) => None,
+//!     }
+//! }
+//! ```
+//!
+//! Main clauses: `Book::apply`: `applied`, `unchanged`, `sure`, `room`; `Book::take_round`: `journal`,
+//! `next`, `unchanged`.
 #![tactic(auto)]
 
 mod book;

@@ -1,5 +1,5 @@
 -- What is said of the inputs of a call, from what the readers say of sources and of made texts.
-use Rattle.std.proofs.Common.{◌≡◌, ℕ, List, Some, None, Result, Ok, Err, sym, ap, subst, ◌∙◌}
+use Rattle.std.proofs.Common.{◌≡◌, ℕ, List, Some, None, Result, Ok, Err, refl, sym, ap, subst, ◌∙◌, inl, inr}
 use Rattle.std.specs.Prelude.{IfOk, IfErr}
 use Rattle.batch_snapshot.specs.declared.vehicle.Vehicle.{Vehicle}
 use Rattle.fleet_state.specs.Fleet.{vehicles_of}
@@ -17,14 +17,15 @@ use Rattle.route_drive.specs.Day.{day_fault}
 use Rattle.route_drive.specs.declared.day.DayFault.{DayFault}
 use Rattle.script_rows.specs.Round.{NumberedLanes}
 use Rattle.ridepool.specs.work.Ended.{HidesNoMemory}
-use Rattle.ridepool.specs.Inputs.{Inputs, AreTexts, AreUntouched, AreInputs, CameTo, IsStop}
+use Rattle.ridepool.specs.Inputs.{Inputs, AreUntouched, CameTo, IsStop}
+use Rattle.ridepool.specs.Load.{AreTexts}
 use Rattle.ridepool.specs.Reading.{own_fault, in_rows, first_version, network_in, vehicles_in, IsFleetIn, script_in}
 use Rattle.dispatch_report.specs.Written.{Change}
 use Rattle.ridepool.specs.Seen.{SourceView, Sources, source_at}
 use Rattle.ridepool.specs.declared.inputs.ReadInputs.{ReadInputs}
 use Rattle.ridepool.specs.declared.status.RunStatus.{RunStatus}
-use Rattle.ridepool.specs.declared.status.RunStatus.TheVariants.{Done, Words, Network, Fleet, Script, TooLong, ReadFault, WriteFault, OutOfMemory, Day, TooLate, Report}
-use Rattle.ridepool.specs.work.Reading.{IsUnread, StopsAt, ReadSources, IsNoInput, GotInputs}
+use Rattle.ridepool.specs.declared.status.RunStatus.TheVariants.{Network, Fleet, Script, OutOfMemory, Day}
+use Rattle.ridepool.specs.work.Reading.{AreInputs, IsUnread, StopsAt, ReadSources, IsNoInput, GotInputs}
 
 -- a text that is read as a network, a fleet, a script
 network_made : (text : List ℕ) (roads : Roads) → IsNetworkText text roads → network_in text ≡ Ok roads
@@ -92,25 +93,10 @@ got_day settings s got is read day =
 pub got_no_day : (settings : Settings) (s : Sources) (got : ReadInputs) (fault : DayFault) → settings.mode ≡ Drive → ReadSources s (Ok got) → day_fault got.script ≡ Some fault
     → GotInputs settings s (Err (Day fault))
 got_no_day settings s got fault is read refused =
-    record { inputs = subst (λ m. IsNoInput m s (Day fault)) (sym is) (_, read.inputs settings, refused); refused = tt }
-
--- a source that stops a call stops it as well where vehicles are driven
-stops_day : (s : Sources) (e : RunStatus) → IsStop s e → IsNoInput Drive s e
-stops_day s (Network fault) stop = stop
-stops_day s (Fleet fault) stop = stop
-stops_day s (Script fault) stop = stop
-stops_day s (TooLong w) stop = stop
-stops_day s (ReadFault w) stop = stop
-stops_day s OutOfMemory stop = stop
-stops_day s Done stop = absurd stop
-stops_day s (Words fault) stop = absurd stop
-stops_day s WriteFault stop = absurd stop
-stops_day s (Day fault) stop = absurd stop
-stops_day s (TooLate round made) stop = absurd stop
-stops_day s (Report fault) stop = absurd stop
+    record { inputs = subst (λ m. IsNoInput m s (Day fault)) (sym is) (inr (fault, refl, (_, read.inputs settings, refused))); refused = tt }
 
 pub got_stop : (settings : Settings) (s : Sources) (e : RunStatus) → settings.mode ≡ Drive → ReadSources s (Err e) → GotInputs settings s (Err e)
-got_stop settings s e is read = record { inputs = subst (λ m. IsNoInput m s e) (sym is) (stops_day s e read.inputs); refused = read.refused }
+got_stop settings s e is read = record { inputs = subst (λ m. IsNoInput m s e) (sym is) (inl read.inputs); refused = read.refused }
 
 -- what came of a made workload's
 pub got_made : (settings : Settings) (s : Sources) (shape : LoadShape) (r : Result ReadInputs RunStatus) → settings.mode ≡ Load shape → AreUntouched s

@@ -1,5 +1,6 @@
 pub mod ReadingLemmas
 pub mod ExitLemmas
+pub mod HeldLemmas
 pub mod WriteLemmas
 pub mod CompleteLemmas
 pub mod InputLemmas

@@ -4,7 +4,6 @@ use Rattle.std.specs.Prelude.{◌⊎◌}
 use Rattle.std.specs.Io.KnownBytes.{Appends}
 use Rattle.std.specs.Result.{IsErrOf}
 use Rattle.dispatch_engine.specs.Run.{IsReady}
-use Rattle.dispatch_report.specs.Head.{head_text}
 use Rattle.dispatch_report.specs.Written.{Change, SinkView, WritesText}
 use Rattle.dispatch_report.specs.declared.fault.ReportFault.{ReportFault}
 use Rattle.dispatch_report.specs.declared.fault.ReportFault.TheVariants as report
@@ -16,8 +15,10 @@ use Rattle.live_rows.specs.Lines.{lines_in}
 use Rattle.live_rows.specs.Start.{live_rows, HasOtherStart, HasStarted}
 use Rattle.live_rows.specs.declared.start.StartFault.{StartFault}
 use Rattle.live_rows.specs.declared.start.StartFault.TheVariants as start
+use Rattle.pool_base.specs.declared.which.Which.{Which}
 use Rattle.pool_base.specs.declared.which.Which.TheVariants as file
 use Rattle.pool_io.specs.Faults.{Rose}
+use Rattle.pool_io.specs.declared.input.Input.{Input}
 use Rattle.pool_io.specs.declared.input.Input.TheVariants.{Rows, Own}
 use Rattle.pool_io.specs.declared.records.RowFault.TheVariants as row
 use Rattle.request_book.specs.Book.{BookView}
@@ -27,14 +28,15 @@ use Rattle.rider_notices.specs.Told.{NotifierView}
 use Rattle.road_network.specs.Roads.{Roads}
 use Rattle.script_rows.specs.declared.line.Line.{Line}
 use Rattle.script_rows.specs.declared.version.ScriptVersion.{ScriptVersion}
-use Rattle.ridepool.specs.Explained.{AreGood}
-use Rattle.ridepool.specs.Inputs.{Reads}
-use Rattle.ridepool.specs.Live.{AnswersLive, AreRowsOf, BeginsLive, EndsBehind, EndsLive, ExplainsLive, HasHead, IsFaultlessLive, IsLiveStop, IsSilentCall, LiveCall, LiveInputs, LiveSeen, StopsLive, live_head, opened_book, words_of_run}
+use Rattle.ridepool.specs.Inputs.{AreGood, IsWithin, Reads}
+use Rattle.ridepool.specs.Live.{AnswersLive, AreLimited, AreRowsOf, BeginsLive, EndsBehind, EndsLive, ExplainsLive, HasHead, IsFaultlessLive, IsLiveStop, IsSilentCall, LiveCall, LiveInputs, LiveSeen, StopsLive, live_head, opened_book, words_of_run}
 use Rattle.ridepool.specs.Reading.{network_in, vehicles_in}
-use Rattle.ridepool.specs.Seen.{IsUntouched}
+use Rattle.ridepool.specs.Seen.{IsUntouched, SourceView}
+use Rattle.ridepool.proofs.ReadingLemmas.{reads_within}
 use Rattle.ridepool.proofs.CompleteLemmas.{none_is_no_some, not_long, ok_is_no_err, read_of, same_value}
 use Rattle.ridepool.specs.declared.status.RunStatus.{RunStatus}
 use Rattle.ridepool.specs.declared.status.RunStatus.TheVariants.{Done, Words, Network, Fleet, Script, TooLong, ReadFault, WriteFault, OutOfMemory, Day, TooLate, Report}
+use Rattle.ridepool.specs.work.Ended.{HidesNoMemory}
 use Rattle.ridepool.specs.work.Live.{RefusesWords, status_of_end, status_of_start}
 use Rattle.ridepool.specs.work.Reading.{IsUnread, StopsAt}
 use Rattle.ridepool.specs.work.Writing.{status_of}
@@ -58,15 +60,12 @@ start-stops i seen start.ReadFault status is silent other rose = subst (EndsLive
 start-stops i seen start.OutOfMemory status is silent other rose = subst (EndsLive i seen) (sym is) (inl silent)
 
 -- a call whose head isn't written whole
-pub head-stops : (i : LiveInputs) (seen : LiveSeen) (version : ScriptVersion) (next : Option (List ℕ)) (count : ℕ) (fault : ReportFault) (status : RunStatus) → status ≡ status_of fault
-    → HasStarted seen.script next version → head_text i.settings i.roads count ≡ live_head i → IsUntouched seen.notifiers
-    → WritesText seen.out (head_text i.settings i.roads count) (Err fault) → EndsLive i seen status
-head-stops i seen version next count report.WriteFault status is started head untold wrote =
-    let w : WritesText seen.out (live_head i) (Err report.WriteFault) = subst (λ t. WritesText seen.out t (Err report.WriteFault)) head wrote in
-    subst (EndsLive i seen) (sym is) (inl (rows_to_come version 0 next, rows-of version seen.script next started, w.bytes, untold), w.fault refl)
-head-stops i seen version next count report.OutOfMemory status is started head untold wrote =
-    let w : WritesText seen.out (live_head i) (Err report.OutOfMemory) = subst (λ t. WritesText seen.out t (Err report.OutOfMemory)) head wrote in
-    subst (EndsLive i seen) (sym is) (inr (inl (rows_to_come version 0 next, rows-of version seen.script next started, w.bytes, untold)))
+pub head-stops : (i : LiveInputs) (seen : LiveSeen) (version : ScriptVersion) (next : Option (List ℕ)) (fault : ReportFault) (status : RunStatus) → status ≡ status_of fault
+    → HasStarted seen.script next version → IsUntouched seen.notifiers → WritesText seen.out (live_head i) (Err fault) → EndsLive i seen status
+head-stops i seen version next report.WriteFault status is started untold wrote =
+    subst (EndsLive i seen) (sym is) (inl (rows_to_come version 0 next, rows-of version seen.script next started, wrote.bytes, untold), wrote.fault refl)
+head-stops i seen version next report.OutOfMemory status is started untold wrote =
+    subst (EndsLive i seen) (sym is) (inr (inl (rows_to_come version 0 next, rows-of version seen.script next started, wrote.bytes, untold)))
 
 -- a call whose rows were begun
 module _ (i : LiveInputs) (seen : LiveSeen) (version : ScriptVersion) (next : Option (List ℕ)) (book : BookView) (behind : SinkView) (reads : ℕ) where
@@ -109,7 +108,7 @@ module _ (call : LiveCall) (silent : IsSilentCall call.rest) where
   words-stop (ReadFault w) network fleet why = absurd why
   words-stop WriteFault network fleet why = absurd why
   words-stop (Day fault) network fleet why = absurd why
-  words-stop (TooLate round made) network fleet why = absurd why
+  words-stop (TooLate round) network fleet why = absurd why
   words-stop (Report fault) network fleet why = absurd why
 
   network-unread : (settings : Settings) (status : RunStatus) → AreGood (words_of_run call.words) settings → IsUntouched call.fleet → IsUnread call.network file.Network status → ExplainsLive call status
@@ -145,7 +144,7 @@ ends-behind call (TooLong w) ends = inr ends
 ends-behind call (ReadFault w) ends = inr ends
 ends-behind call WriteFault ends = inr ends
 ends-behind call (Day fault) ends = inr ends
-ends-behind call (TooLate round made) ends = inr ends
+ends-behind call (TooLate round) ends = inr ends
 ends-behind call (Report fault) ends = inr ends
 
 -- where nothing is wrong, a call is done or out of memory
@@ -171,7 +170,7 @@ no-stop call (Script fault) f why = why
 no-stop call WriteFault f why = why
 no-stop call OutOfMemory f why = why
 no-stop call (Day fault) f why = why
-no-stop call (TooLate round made) f why = why
+no-stop call (TooLate round) f why = why
 no-stop call (Report fault) f why = why
 
 has-header : (script : Option (List ℕ)) (text : List ℕ) (rows : List Line) (fields : ℕ) → script ≡ Some text → live_rows (lines_in text) ≡ Ok rows → HasOtherStart script fields → ⊥
@@ -196,7 +195,7 @@ no-end call i (Network fault) f writes ends = absurd ends
 no-end call i (Fleet fault) f writes ends = absurd ends
 no-end call i (TooLong w) f writes ends = absurd ends
 no-end call i (Day fault) f writes ends = absurd ends
-no-end call i (TooLate round made) f writes ends = absurd ends
+no-end call i (TooLate round) f writes ends = absurd ends
 no-end call i (Report fault) f writes ends = absurd ends
 
 stop-or-end : (call : LiveCall) (status : RunStatus) → IsFaultlessLive call → (Rose call.rest.out.before.faults call.rest.out.after.faults → ⊥) → StopsLive call status ⊎ EndsBehind call status
@@ -216,11 +215,65 @@ complete-live call (TooLong w) f writes why = stop-or-end call (TooLong w) f wri
 complete-live call (ReadFault w) f writes why = stop-or-end call (ReadFault w) f writes why
 complete-live call WriteFault f writes why = stop-or-end call WriteFault f writes why
 complete-live call (Day fault) f writes why = stop-or-end call (Day fault) f writes why
-complete-live call (TooLate round made) f writes why = stop-or-end call (TooLate round made) f writes why
+complete-live call (TooLate round) f writes why = stop-or-end call (TooLate round) f writes why
 complete-live call (Report fault) f writes why = stop-or-end call (Report fault) f writes why
 
-pub answers-live : (call : LiveCall) (status : RunStatus) → ExplainsLive call status → AnswersLive call status
-answers-live call status why = record { explained = why; complete = λ f writes. complete-live call status f writes why }
+pub answers-live : (call : LiveCall) (status : RunStatus) → ExplainsLive call status → AreLimited call.network call.fleet status → HidesNoMemory status → AnswersLive call status
+answers-live call status why limited hides =
+    record {
+      explained = why;
+      complete = λ f writes. complete-live call status f writes why;
+      limited = limited;
+      refused = (
+        (λ is. subst HidesNoMemory is hides refl),
+        (λ is. subst HidesNoMemory is hides refl),
+        (λ is. subst HidesNoMemory is hides refl),
+        (λ is. subst HidesNoMemory is hides refl),
+        (λ is. subst HidesNoMemory is hides refl),
+        (λ is. subst HidesNoMemory is hides refl),
+      );
+    }
+
+-- the end of a call behind its inputs hides no want of memory
+pub ends-hide : (i : LiveInputs) (seen : LiveSeen) (status : RunStatus) → EndsLive i seen status → HidesNoMemory status
+ends-hide i seen Done ends = tt
+ends-hide i seen OutOfMemory ends = tt
+ends-hide i seen WriteFault ends = tt
+ends-hide i seen (ReadFault w) ends = tt
+ends-hide i seen (Script (Rows (row.Header fields))) ends = λ is. absurd cc
+ends-hide i seen (Script (Rows (row.UnequalLength n))) ends = absurd ends
+ends-hide i seen (Script (Rows row.OutOfMemory)) ends = absurd ends
+ends-hide i seen (Script (Own fault)) ends = absurd ends
+ends-hide i seen (Words fault) ends = tt
+ends-hide i seen (Network fault) ends = absurd ends
+ends-hide i seen (Fleet fault) ends = absurd ends
+ends-hide i seen (TooLong w) ends = tt
+ends-hide i seen (Day fault) ends = tt
+ends-hide i seen (TooLate round) ends = tt
+ends-hide i seen (Report fault) ends = absurd ends
+
+-- words that are refused hide none
+pub words-hide : (words : List (List ℕ)) (status : RunStatus) → RefusesWords words status → HidesNoMemory status
+words-hide words (Words fault) why = tt
+words-hide words OutOfMemory why = tt
+words-hide words Done why = tt
+words-hide words (Network fault) why = absurd why
+words-hide words (Fleet fault) why = absurd why
+words-hide words (Script fault) why = absurd why
+words-hide words (TooLong w) why = tt
+words-hide words (ReadFault w) why = tt
+words-hide words WriteFault why = tt
+words-hide words (Day fault) why = tt
+words-hide words (TooLate round) why = tt
+words-hide words (Report fault) why = absurd why
+
+-- why a source stopped a call, and that no more than may be was taken from it
+pub stop-limited : {A E : Type 0} (s : Change SourceView) (w : Which) (refusal : Input E → RunStatus) (read : List ℕ → Result A (Input E)) (status : RunStatus) → StopsAt s w refusal read status
+    → IsWithin w s ⊎ (status ≡ TooLong w)
+stop-limited s w refusal read _ (StopsAt.unread _ (IsUnread.long why)) = inr refl
+stop-limited s w refusal read _ (StopsAt.unread _ (IsUnread.failed within rose)) = inl within
+stop-limited s w refusal read _ (StopsAt.unread _ (IsUnread.memory within)) = inl within
+stop-limited s w refusal read _ (StopsAt.refused fault reads hides) = inl (reads_within s _ reads)
 
 -- the same, of the values that the calls name
 pub rows-ended : (i : LiveInputs) (script left next came : Option (List ℕ)) (version known : ScriptVersion) (last : ℕ) (book : BookView) (before behind after : SinkView) (r0 r1 r2 r3 : ℕ) (n m : List NotifierView)

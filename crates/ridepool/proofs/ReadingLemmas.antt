@@ -74,7 +74,7 @@ module _ (s : Change SourceView) where
   network_stops bytes (ReadFault w) whole why hides = absurd why
   network_stops bytes WriteFault whole why hides = absurd why
   network_stops bytes (Day fault) whole why hides = absurd why
-  network_stops bytes (TooLate round made) whole why hides = absurd why
+  network_stops bytes (TooLate round) whole why hides = absurd why
   network_stops bytes (Report fault) whole why hides = absurd why
 
   pub fleet_stops : (nodes bytes : List ℕ) (status : RunStatus) → Reads file.Fleet s (λ came. came ≡ bytes) → RefusesFleet nodes bytes status → HidesNoMemory status
@@ -89,7 +89,7 @@ module _ (s : Change SourceView) where
   fleet_stops nodes bytes (ReadFault w) whole why hides = absurd why
   fleet_stops nodes bytes WriteFault whole why hides = absurd why
   fleet_stops nodes bytes (Day fault) whole why hides = absurd why
-  fleet_stops nodes bytes (TooLate round made) whole why hides = absurd why
+  fleet_stops nodes bytes (TooLate round) whole why hides = absurd why
   fleet_stops nodes bytes (Report fault) whole why hides = absurd why
 
   pub script_stops : (bytes : List ℕ) (status : RunStatus) → Reads file.Script s (λ came. came ≡ bytes) → RefusesRounds (script_in bytes) status → HidesNoMemory status
@@ -104,7 +104,7 @@ module _ (s : Change SourceView) where
   script_stops bytes (ReadFault w) whole why hides = absurd why
   script_stops bytes WriteFault whole why hides = absurd why
   script_stops bytes (Day fault) whole why hides = absurd why
-  script_stops bytes (TooLate round made) whole why hides = absurd why
+  script_stops bytes (TooLate round) whole why hides = absurd why
   script_stops bytes (Report fault) whole why hides = absurd why
 
 -- what came of an input, from what came of its bytes

@@ -1,41 +1,35 @@
 -- Texts of rounds, one after the other, and what stands where the last isn't whole.
 use Rattle.std.proofs.Common.{◌≡◌, ℕ, ◌+◌, ◌-◌, ◌^◌, ◌<◌, ◌≤◌, List, [], ◌∷◌, ◌++◌, length, take, drop, get_or, Option, Result, Ok, Err, MatchResult, refl, sym, subst, ap, ◌∙◌, append_assoc, append-nil, add-one, arith}
 use Rattle.std.specs.Io.KnownBytes.{Appends}
-use Rattle.std.specs.List.{All, flat_map}
+use Rattle.std.specs.List.{flat_map}
+use Rattle.std.specs.Prelude.{Bool, true, false, not, ◌==◌}
+use Rattle.std.proofs.lemmas.Bool.{eqb-true, false≢true}
 use Rattle.std.proofs.KnownBytes.{Appends-nil, Appends-trans, Appends-kept}
 use Rattle.std.proofs.lemmas.Grind.{flat_map-append}
-use Rattle.std.proofs.lemmas.List.Elements.{All-cons}
 use Rattle.std.proofs.lemmas.List.{take-append-drop, length-append, map-append}
 use Rattle.std.proofs.Math.Seq.{take-suc, take-length}
 use Rattle.batch_snapshot.specs.Kept.{IsFleet}
 use Rattle.pool_io.specs.Sink.{AppendsPart}
-use Rattle.dispatch_engine.specs.Run.{IsReady, IsRoundRun, IsRun, IsSameRun, position_after_run, journal_of}
-use Rattle.dispatch_engine.specs.lemmas.Run.{state_after_run}
-use Rattle.dispatch_report.specs.Day.{day_end_text}
+use Rattle.dispatch_engine.specs.Run.{IsReady, IsRoundRun, IsRun, IsSameRun, journal_of, position_after_run, state_after_run}
 use Rattle.dispatch_report.specs.Head.{head_text}
 use Rattle.dispatch_report.specs.Lines.{lines_text}
 use Rattle.dispatch_report.specs.Round.{end_text}
 use Rattle.dispatch_report.specs.Summary.{load_text}
 use Rattle.report_audit.specs.declared.fault.Audited.{Audited}
 use Rattle.ridepool.specs.Audit.{yes_text}
-use Rattle.dispatch_report.specs.declared.day.DayCounts.{DayCounts}
 use Rattle.dispatch_report.specs.declared.fault.ReportFault.{ReportFault}
 use Rattle.dispatch_report.specs.declared.fault.ReportFault.TheVariants as report
 use Rattle.pool_io.specs.Faults.{Rose}
 use Rattle.request_book.specs.Book.{BookView, IsBook, next_position, opening}
-use Rattle.request_book.specs.Consistent.{IsConsistent}
 use Rattle.request_book.specs.Replay.{state_after}
-use Rattle.request_book.specs.Step.{step}
-use Rattle.request_book.specs.declared.journal.Entry.{Entry}
 use Rattle.request_book.specs.declared.journal.Journal.{Journal}
 use Rattle.request_book.specs.declared.state.State.{State}
 use Rattle.rider_limits.specs.declared.settings.Mode.{Mode}
 use Rattle.rider_limits.specs.declared.settings.Mode.TheVariants.{Run, Load, Drive, Audit}
 use Rattle.rider_limits.specs.declared.settings.Settings.{Settings}
 use Rattle.road_network.specs.Roads.{Roads}
-use Rattle.route_drive.specs.Counts.{AreCounts, entries_of}
-use Rattle.route_drive.specs.Driven.{IsDrivenDay, IsLateAnswer, IsNewBook, IsTooLateDay, state_left}
-use Rattle.route_drive.specs.Promises.{EntriesKeep}
+use Rattle.route_drive.specs.Driven.{IsLateAnswer, IsNewBook, IsTooLateDay}
+use Rattle.route_drive.specs.Promises.{IsRunOfDay}
 use Rattle.route_drive.specs.declared.day_run.DayRound.{DayRound}
 use Rattle.route_drive.specs.declared.day_run.DayRun.{DayRun}
 use Rattle.route_drive.specs.declared.day_run.DriveFault.{DriveFault}
@@ -45,8 +39,10 @@ use Rattle.ridepool.specs.Inputs.{Inputs}
 use Rattle.rider_notices.specs.Notices.{notices}
 use Rattle.rider_notices.specs.Told.{NotifierView, HaveHeard}
 use Rattle.rider_notices.proofs.lemmas.HeardLemmas.{all-heard-nothing, all-heard-more}
-use Rattle.ridepool.specs.Report.{AreAll, AreFirst, AppendsWithPart, IsCutShort, IsDayEnd, IsEnd, IsPart, IsReport, IsReportCut, IsReportPart, IsReportWhole, IsWhole, Runs, added_text, first_text, head_of, journals_of, rounds_notices}
-use Rattle.ridepool.specs.work.Writing.{BeginsRounds, EndsRounds, NextJournal, HasPut, PutsRound, IsUnput, StopsIn, RunsAll, RunsFirst, RunsFrom, WritesRound, IsReportFault, IsTextFault, IsRoundFault, IsWritingFault, day_counts, day_ending, late_status, made_of, status_of, rounds_text}
+use Rattle.ridepool.specs.Drive.{DrivesDay, IsKeptDay}
+use Rattle.ridepool.specs.Report.{AppendsWithPart, IsCutShort, IsPart, IsWhole, Runs, journals_of, rounds_notices}
+use Rattle.ridepool.specs.Run.{RunsScript, RunsSome}
+use Rattle.ridepool.specs.work.Writing.{AreAllWith, AreFirst, IsReportWhole, added_by, first_text, head_of, BeginsRounds, EndsRounds, NextJournal, HasPut, PutsRound, IsUnput, StopsIn, RunsAll, RunsFirst, RunsFrom, WritesRound, IsReportFault, IsTextFault, IsRoundFault, IsWritingFault, day_counts, day_ending, late_status, made_of, status_of, rounds_text}
 use Rattle.ridepool.specs.declared.status.RunStatus.{RunStatus}
 use Rattle.ridepool.specs.declared.status.RunStatus.TheVariants.{WriteFault, OutOfMemory}
 
@@ -74,7 +70,7 @@ flat_more f xs x = flat_map-append f xs (x ∷ []) ∙ ap (λ t. flat_map f xs +
 module _ (settings : Settings) (roads : Roads) where
   -- a run of rounds, and a run of one more
   run-more : (s : State) (position : ℕ) (rs : List NumberedLanes) (js : List Journal) (r : NumberedLanes) (j : Journal)
-      → IsRun settings roads s position rs js → j.base ≡ state_after_run roads.nodes settings.wait s js → j.first ≡ position_after_run position js → IsRoundRun settings roads r j
+      → IsRun settings roads s position rs js → j.base ≡ state_after_run settings roads s js → j.first ≡ position_after_run position js → IsRoundRun settings roads r j
       → IsRun settings roads s position (rs ++ r ∷ []) (js ++ j ∷ [])
   run-more s position [] [] r j run base first round = (base, first, round, tt)
   run-more s position [] (k ∷ js) r j run base first round = absurd run
@@ -82,7 +78,7 @@ module _ (settings : Settings) (roads : Roads) where
   run-more s position (q ∷ rs) (k ∷ js) r j run base first round =
       (run.0, run.1, run.2, run-more (state_after roads.nodes settings.wait s k.entries) (next_position position k.entries) rs js r j run.3 base first round)
 
-  pub state_after_run-more : (s : State) (js : List Journal) (j : Journal) → state_after_run roads.nodes settings.wait s (js ++ j ∷ []) ≡ state_after roads.nodes settings.wait (state_after_run roads.nodes settings.wait s js) j.entries
+  pub state_after_run-more : (s : State) (js : List Journal) (j : Journal) → state_after_run settings roads s (js ++ j ∷ []) ≡ state_after roads.nodes settings.wait (state_after_run settings roads s js) j.entries
   state_after_run-more s [] j = refl
   state_after_run-more s (k ∷ js) j = state_after_run-more (state_after roads.nodes settings.wait s k.entries) js j
 
@@ -94,8 +90,8 @@ module _ (settings : Settings) (roads : Roads) where
   put_more made r a b c n m k w x =
       record {
         text =
-            subst (λ t. Appends a c t) (sym (flat_more (added_text settings.mode settings.proof) made r))
-            (Appends-trans a b c (rounds_text settings made) (added_text settings.mode settings.proof r) w.text x.text);
+            subst (λ t. Appends a c t) (sym (flat_more (added_by settings) made r))
+            (Appends-trans a b c (rounds_text settings made) (added_by settings r) w.text x.text);
         told =
             subst (λ t. HaveHeard t n k) (sym (flat_more (λ (x : DayRound). notices roads.nodes settings.wait x.journal) made r))
             (all-heard-more (rounds_notices settings roads made) (notices roads.nodes settings.wait r.journal) n m k w.told x.told);
@@ -136,22 +132,13 @@ module _ (settings : Settings) (roads : Roads) where
       let all : take i rounds ≡ rounds = ap (λ k. take k rounds) end ∙ take-length rounds in
       (subst (λ rs. HasPut settings roads rs a b n m) all w, at ∙ ap (λ rs. position_after_run 0 (journals_of rs)) all)
 
-  -- what stands before the last lines of a day, and that they are its last lines
-  pub day_end : (run : DayRun) (rounds : List DayRound) (a b : Option (List ℕ)) (n m : List NotifierView) (p : ℕ) (counts : DayCounts) → rounds ≡ run.rounds → counts ≡ day_counts run
-      → HasPut settings roads rounds a b n m × (p ≡ position_after_run 0 (journals_of rounds))
-      → HasPut settings roads run.rounds a b n m × (day_end_text counts p ≡ day_ending run)
-  day_end run rounds a b n m p counts same counted (w, at) = (
-    subst (λ rs. HasPut settings roads rs a b n m) same w,
-    ap (λ k. day_end_text k p) counted ∙ ap (day_end_text (day_counts run)) (at ∙ ap (λ rs. position_after_run 0 (journals_of rs)) same),
-  )
-
   -- what stands after some rounds of a run: those that were made, and the book that comes next
   pub record HasWritten (book : BookView) (rounds : List NumberedLanes) (before after : Option (List ℕ)) (notifiers left : List NotifierView) (current : BookView) : Type 0 where
     pub made : List DayRound
     pub runs : RunsFrom settings roads book rounds made
     pub puts : HasPut settings roads made before after notifiers left
     pub ready : IsReady settings roads current
-    pub base : current.base ≡ state_after_run roads.nodes settings.wait book.base (journals_of made)
+    pub base : current.base ≡ state_after_run settings roads book.base (journals_of made)
     pub first : current.first ≡ position_after_run book.first (journals_of made)
     pub entries : current.entries ≡ []
 
@@ -187,7 +174,7 @@ module _ (settings : Settings) (roads : Roads) where
             x.base
             ∙ ap (λ s. state_after roads.nodes settings.wait s x.journal.entries) w.base
             ∙ sym (state_after_run-more book.base js x.journal)
-            ∙ ap (state_after_run roads.nodes settings.wait book.base) (sym (journals_more w.made made));
+            ∙ ap (state_after_run settings roads book.base) (sym (journals_more w.made made));
         first =
             x.first ∙ ap (λ p. next_position p x.journal.entries) w.first ∙ sym (position_after_run-more book.first js x.journal)
             ∙ ap (position_after_run book.first) (sym (journals_more w.made made));
@@ -215,15 +202,15 @@ module _ (settings : Settings) (roads : Roads) where
         → P (made ++ r ∷ []) → HasPut settings roads made a b n m → low ≤ middle → IsUnput settings roads r b c m k middle high s → IsReportFault settings roads [] P Q a c n k low high s
     unput_fault made r a b c n m k low middle high _ first w up (IsUnput.unwritten _ (IsTextFault.failed rose part) same) =
         IsReportFault.failed (omega (arith, rose, up))
-        (subst (IsCutShort settings roads [] P Q a c n) (sym same) (IsCutShort.round made r first (part_behind made (added_text settings.mode settings.proof r) a b c n m w part) w.told))
+        (subst (IsCutShort settings roads (added_by settings) [] P Q a c n) (sym same) (IsCutShort.round made r first (part_behind made (added_by settings r) a b c n m w part) w.told))
     unput_fault made r a b c n m k low middle high _ first w up (IsUnput.unwritten _ (IsTextFault.unstored part) same) =
         IsReportFault.unstored
-        (IsPart.cut (subst (IsCutShort settings roads [] P Q a c n) (sym same) (IsCutShort.round made r first (part_behind made (added_text settings.mode settings.proof r) a b c n m w part) w.told)))
+        (IsPart.cut (subst (IsCutShort settings roads (added_by settings) [] P Q a c n) (sym same) (IsCutShort.round made r first (part_behind made (added_by settings r) a b c n m w part) w.told)))
     unput_fault made r a b c n m k low middle high _ first w up (IsUnput.untold text same) =
         IsReportFault.unstored
-        (subst (IsPart settings roads [] P Q a c n) (sym same)
+        (subst (IsPart settings roads (added_by settings) [] P Q a c n) (sym same)
         (IsPart.untold made r first
-        (subst (Appends a c) (sym (flat_more (added_text settings.mode settings.proof) made r)) (Appends-trans a b c (rounds_text settings made) (added_text settings.mode settings.proof r) w.text text))
+        (subst (Appends a c) (sym (flat_more (added_by settings) made r)) (Appends-trans a b c (rounds_text settings made) (added_by settings r) w.text text))
         w.told))
 
     pub stops_fault : (rounds : List DayRound) (a b : Option (List ℕ)) (n m : List NotifierView) (low high : ℕ) (s : RunStatus) → ((made : List DayRound) → BeginsRounds rounds made → P made)
@@ -232,7 +219,7 @@ module _ (settings : Settings) (roads : Roads) where
         unput_fault stop.made stop.next a stop.here b n stop.heard m low stop.faults high s (firsts (stop.made ++ stop.next ∷ []) stop.first) stop.puts stop.up stop.why
 
     -- all rounds and the last lines
-    pub written_all : (made : List DayRound) (end : List ℕ) (a b c : Option (List ℕ)) (n m : List NotifierView) → Q made end → HasPut settings roads made a b n m → Appends b c end → IsWhole settings roads [] P Q a c n m
+    pub written_all : (made : List DayRound) (end : List ℕ) (a b c : Option (List ℕ)) (n m : List NotifierView) → Q made end → HasPut settings roads made a b n m → Appends b c end → IsWhole settings roads (added_by settings) [] P Q a c n m
     written_all made end a b c n m all w last =
         record { made = made; end = end; all = all; text = Appends-trans a b c (rounds_text settings made) end w.text last; told = w.told }
 
@@ -252,13 +239,13 @@ module _ (settings : Settings) (roads : Roads) where
       text_behind : (text more : List ℕ) → Appends b c (text ++ more) → Appends a c ((head ++ text) ++ more)
       text_behind text more h = subst (Appends a c) (sym (append_assoc head text more)) (Appends-trans a b c head (text ++ more) first h)
 
-      cut_behind : IsCutShort settings roads [] P Q b c n m → IsCutShort settings roads head P Q a c n m
+      cut_behind : IsCutShort settings roads (added_by settings) [] P Q b c n m → IsCutShort settings roads (added_by settings) head P Q a c n m
       cut_behind (IsCutShort.first_lines part same) = absurd (let short : part.0 < 0 = part.1 in omega (arith, short))
       cut_behind (IsCutShort.round made next rounds part told) =
-          IsCutShort.round made next rounds (part.0, part.1, text_behind (rounds_text settings made) (take part.0 (added_text settings.mode settings.proof next)) part.2) told
+          IsCutShort.round made next rounds (part.0, part.1, text_behind (rounds_text settings made) (take part.0 (added_by settings next)) part.2) told
       cut_behind (IsCutShort.last_lines made end all part told) = IsCutShort.last_lines made end all (part.0, part.1, text_behind (rounds_text settings made) (take part.0 end) part.2) told
 
-      part_of : IsPart settings roads [] P Q b c n m → IsPart settings roads head P Q a c n m
+      part_of : IsPart settings roads (added_by settings) [] P Q b c n m → IsPart settings roads (added_by settings) head P Q a c n m
       part_of (IsPart.cut short) = IsPart.cut (cut_behind short)
       part_of (IsPart.rounds made rounds text told) = IsPart.rounds made rounds (Appends-trans a b c head (rounds_text settings made) first text) told
       part_of (IsPart.untold made last rounds text told) = IsPart.untold made last rounds (Appends-trans a b c head (rounds_text settings (made ++ last ∷ [])) first text) told
@@ -267,13 +254,13 @@ module _ (settings : Settings) (roads : Roads) where
       fault_behind low middle high _ up (IsReportFault.failed rose short) = IsReportFault.failed (omega (arith, rose, up)) (cut_behind short)
       fault_behind low middle high _ up (IsReportFault.unstored part) = IsReportFault.unstored (part_of part)
 
-      whole_behind : IsWhole settings roads [] P Q b c n m → IsWhole settings roads head P Q a c n m
+      whole_behind : IsWhole settings roads (added_by settings) [] P Q b c n m → IsWhole settings roads (added_by settings) head P Q a c n m
       whole_behind w = record { made = w.made; end = w.end; all = w.all; text = text_behind (rounds_text settings w.made) w.end w.text; told = w.told }
 
     -- the first lines, and what became of the rounds behind them
     pub behind_head : (head : List ℕ) (a b c : Option (List ℕ)) (n m : List NotifierView) (low middle high : ℕ) (r : Result (Unit {0}) RunStatus) → Appends a b head → low ≤ middle
-        → MatchResult r (λ _. IsWhole settings roads [] P Q b c n m) (IsReportFault settings roads [] P Q b c n m middle high)
-        → MatchResult r (λ _. IsWhole settings roads head P Q a c n m) (IsReportFault settings roads head P Q a c n m low high)
+        → MatchResult r (λ _. IsWhole settings roads (added_by settings) [] P Q b c n m) (IsReportFault settings roads [] P Q b c n m middle high)
+        → MatchResult r (λ _. IsWhole settings roads (added_by settings) head P Q a c n m) (IsReportFault settings roads head P Q a c n m low high)
     behind_head head a b c n m low middle high (Ok x) first up w = whole_behind head a b c n m first w
     behind_head head a b c n m low middle high (Err s) first up why = fault_behind head a b c n m first low middle high s up why
 
@@ -294,7 +281,7 @@ module _ (settings : Settings) (roads : Roads) where
       let P = RunsFirst settings roads book rounds in
       let Q = RunsAll settings roads book rounds in
       IsReportFault.unstored
-      (subst (IsPart settings roads [] P Q a c n) (sym same) (IsPart.rounds w.made (i, w.runs) (Appends-kept a b c (rounds_text settings w.made) w.puts.text keeps) w.puts.told))
+      (subst (IsPart settings roads (added_by settings) [] P Q a c n) (sym same) (IsPart.rounds w.made (i, w.runs) (Appends-kept a b c (rounds_text settings w.made) w.puts.text keeps) w.puts.told))
   round_fault book current rounds i r a b c n m k low middle high _ within is up w (IsRoundFault.unput j s next why) =
       let made = made_of settings roads r j in
       unput_fault (RunsFirst settings roads book rounds) (RunsAll settings roads book rounds) w.made made a b c n m k low middle high s
@@ -309,7 +296,7 @@ module _ (settings : Settings) (roads : Roads) where
 
   pub run_written : (book current : BookView) (rounds : List NumberedLanes) (a b c : Option (List ℕ)) (n m : List NotifierView) (number : ℕ)
       → HasWritten book rounds a b n m current → number ≡ next_position current.first current.entries → Appends b c (end_text number)
-      → IsWhole settings roads [] (RunsFirst settings roads book rounds) (RunsAll settings roads book rounds) a c n m
+      → IsWhole settings roads (added_by settings) [] (RunsFirst settings roads book rounds) (RunsAll settings roads book rounds) a c n m
   run_written book current rounds a b c n m number w is last =
       written_all (RunsFirst settings roads book rounds) (RunsAll settings roads book rounds) w.made (end_text number) a b c n m (runs_all book current rounds a b n m number w is) w.puts last
 
@@ -413,18 +400,18 @@ last_position js = omega (arith, position_after_run-most 0 js (omega arith))
 -- where rounds are the first of those of a call, and are all of them with the last lines
 pub record Serves (i : Inputs) (P : List DayRound → Type 0) (Q : List DayRound → List ℕ → Type 0) : Type 0 where
   pub first : (made : List DayRound) → P made → AreFirst i.settings.mode i made
-  pub all : (made : List DayRound) (end : List ℕ) → Q made end → IsReport i made end
+  pub all : (made : List DayRound) (end : List ℕ) → Q made end → AreAllWith i.settings.mode i made end
 
 module _ (i : Inputs) (P : List DayRound → Type 0) (Q : List DayRound → List ℕ → Type 0) (serves : Serves i P Q) (a c : Option (List ℕ)) (n m : List NotifierView) where
-  report_whole : IsWhole i.settings i.roads (head_of i) P Q a c n m → IsReportWhole i a c n m
+  report_whole : IsWhole i.settings i.roads (added_by i.settings) (head_of i) P Q a c n m → IsReportWhole i a c n m
   report_whole w = record { made = w.made; end = w.end; all = serves.all w.made w.end w.all; text = w.text; told = w.told }
 
-  report_cut : IsCutShort i.settings i.roads (head_of i) P Q a c n m → IsReportCut i a c n m
+  report_cut : IsCutShort i.settings i.roads (added_by i.settings) (head_of i) P Q a c n m → IsCutShort i.settings i.roads (added_by i.settings) (head_of i) (AreFirst i.settings.mode i) (AreAllWith i.settings.mode i) a c n m
   report_cut (IsCutShort.first_lines part same) = IsCutShort.first_lines part same
   report_cut (IsCutShort.round made next first part told) = IsCutShort.round made next (serves.first (made ++ next ∷ []) first) part told
   report_cut (IsCutShort.last_lines made end all part told) = IsCutShort.last_lines made end (serves.all made end all) part told
 
-  report_part : IsPart i.settings i.roads (head_of i) P Q a c n m → IsReportPart i a c n m
+  report_part : IsPart i.settings i.roads (added_by i.settings) (head_of i) P Q a c n m → IsPart i.settings i.roads (added_by i.settings) (head_of i) (AreFirst i.settings.mode i) (AreAllWith i.settings.mode i) a c n m
   report_part (IsPart.cut short) = IsPart.cut (report_cut short)
   report_part (IsPart.rounds made first text told) = IsPart.rounds made (serves.first made first) text told
   report_part (IsPart.untold made last first text told) = IsPart.untold made last (serves.first (made ++ last ∷ []) first) text told
@@ -434,41 +421,28 @@ module _ (i : Inputs) (P : List DayRound → Type 0) (Q : List DayRound → List
   report_fault low high _ (IsReportFault.unstored part) = IsWritingFault.unwritten OutOfMemory (IsReportFault.unstored (report_part part))
 
   -- the report, from what became of its parts
-  report_from : (low high : ℕ) (r : Result (Unit {0}) RunStatus)
-      → MatchResult r (λ _. IsWhole i.settings i.roads (head_of i) P Q a c n m) (IsReportFault i.settings i.roads (head_of i) P Q a c n m low high)
+  pub report_from : (low high : ℕ) (r : Result (Unit {0}) RunStatus)
+      → MatchResult r (λ _. IsWhole i.settings i.roads (added_by i.settings) (head_of i) P Q a c n m) (IsReportFault i.settings i.roads (head_of i) P Q a c n m low high)
       → MatchResult r (λ _. IsReportWhole i a c n m) (IsWritingFault i a c n m low high)
   report_from low high (Ok x) w = report_whole w
   report_from low high (Err s) why = report_fault low high s why
 
-  -- the same with a count of the vehicles
-  pub report_counted : (low high count : ℕ) (r : Result (Unit {0}) RunStatus) → count ≡ length i.vehicles
-      → MatchResult r (λ _. IsWhole i.settings i.roads (first_text i.settings.mode i.settings i.roads count) P Q a c n m)
-      (IsReportFault i.settings i.roads (first_text i.settings.mode i.settings i.roads count) P Q a c n m low high)
-      → MatchResult r (λ _. IsReportWhole i a c n m) (IsWritingFault i a c n m low high)
-  report_counted low high count r is h =
-      report_from low high r
-      (subst (λ k. MatchResult r (λ _. IsWhole i.settings i.roads (first_text i.settings.mode i.settings i.roads k) P Q a c n m)
-      (IsReportFault i.settings i.roads (first_text i.settings.mode i.settings i.roads k) P Q a c n m low high)) is h)
-
 -- a run's rounds
-first_run : (m : Mode) (i : Inputs) (made : List DayRound) → (m ≡ Drive → ⊥) → (count : ℕ) × Runs i (take count i.rounds) made → AreFirst m i made
+runs_of : (i : Inputs) (book : BookView) (rounds : List NumberedLanes) (made : List DayRound) → book ≡ opened i → RunsFrom i.settings i.roads book rounds made → Runs i rounds made
+runs_of i book rounds made is runs =
+    record { numbers = runs.numbers; run = subst (λ b. IsRun i.settings i.roads b.base b.first rounds (journals_of made)) is runs.run }
+
+first_run : (m : Mode) (i : Inputs) (made : List DayRound) → (m ≡ Drive → ⊥) → RunsSome i made → AreFirst m i made
 first_run Run i made undriven first = first
 first_run (Load shape) i made undriven first = first
 first_run Audit i made undriven first = first
 first_run Drive i made undriven first = absurd (undriven refl)
 
-runs_of : (i : Inputs) (book : BookView) (rounds : List NumberedLanes) (made : List DayRound) → book ≡ opened i → RunsFrom i.settings i.roads book rounds made → Runs i rounds made
-runs_of i book rounds made is runs =
-    record { numbers = runs.numbers; run = subst (λ b. IsRun i.settings i.roads b.base b.first rounds (journals_of made)) is runs.run }
-
-all_run : (m : Mode) (i : Inputs) (made : List DayRound) (end : List ℕ) → m ≡ i.settings.mode → (m ≡ Drive → ⊥) → Runs i i.rounds made → end ≡ end_text (position_after_run 0 (journals_of made)) → IsReport i made end
-all_run Run i made end is undriven runs ends =
-    record { all = subst (λ m. AreAll m i made) is runs; ends = subst (λ m. IsEnd m i made end) is ends }
-all_run (Load shape) i made end is undriven runs ends =
-    record { all = subst (λ m. AreAll m i made) is runs; ends = subst (λ m. IsEnd m i made end) is ends }
-all_run Audit i made end is undriven runs ends =
-    record { all = subst (λ m. AreAll m i made) is runs; ends = subst (λ m. IsEnd m i made end) is ends }
-all_run Drive i made end is undriven runs ends = absurd (undriven refl)
+all_run : (m : Mode) (i : Inputs) (made : List DayRound) (end : List ℕ) → (m ≡ Drive → ⊥) → RunsScript i made end → AreAllWith m i made end
+all_run Run i made end undriven all = all
+all_run (Load shape) i made end undriven all = all
+all_run Audit i made end undriven all = all
+all_run Drive i made end undriven all = absurd (undriven refl)
 
 pub run_serves : (i : Inputs) (book : BookView) (rounds : List NumberedLanes) → (i.settings.mode ≡ Drive → ⊥) → book ≡ opened i → rounds ≡ i.rounds
     → Serves i (RunsFirst i.settings i.roads book rounds) (RunsAll i.settings i.roads book rounds)
@@ -478,65 +452,36 @@ run_serves i book rounds undriven is all =
           first_run i.settings.mode i made undriven
           (first.0, subst (λ rs. Runs i (take first.0 rs) made) all (runs_of i book (take first.0 rounds) made is first.1));
       all = λ made end report.
-          all_run i.settings.mode i made end refl undriven (subst (λ rs. Runs i rs made) all (runs_of i book rounds made is report.0))
-          (report.1 ∙ ap (λ b. end_text (next_position (position_after_run b.first (journals_of made)) [])) is ∙ ap end_text (last_position (journals_of made)));
+          all_run i.settings.mode i made end undriven (
+            subst (λ rs. Runs i rs made) all (runs_of i book rounds made is report.0),
+            report.1 ∙ ap (λ b. end_text (next_position (position_after_run b.first (journals_of made)) [])) is ∙ ap end_text (last_position (journals_of made)),
+          );
     }
 
 -- a driven day's rounds
-pub day_serves : (i : Inputs) (book : BookView) (run : DayRun) → i.settings.mode ≡ Drive → book ≡ opened i
-    → IsDrivenDay i.settings i.roads book.state i.rounds run.rounds
-    → AreCounts i.roads (state_left i.settings i.roads book.state (journals_of run.rounds)).riders (entries_of run.rounds) run.picked run.dropped run.worst_wait run.worst_delay
-    → EntriesKeep i.settings i.roads book.state (entries_of run.rounds)
-    → (run.worst_wait ≤ i.settings.wait) × (run.worst_delay ≤ i.settings.delay)
-    → Serves i (BeginsRounds run.rounds) (EndsRounds run.rounds (day_ending run))
-day_serves i book run driven is day counts keeps worst =
-    let whole : AreAll Drive i run.rounds = (
-      subst (λ b. IsDrivenDay i.settings i.roads b.state i.rounds run.rounds) is day,
-      subst (λ b. EntriesKeep i.settings i.roads b.state (entries_of run.rounds)) is keeps,
-    ) in
-    let ending : IsDayEnd i run.rounds (day_ending run) = record {
+pub day_serves : (i : Inputs) (book : BookView) (made : List DayRound) (run : DayRun) → i.settings.mode ≡ Drive → book ≡ opened i
+    → IsRunOfDay i.settings i.roads book.state i.rounds made run → Serves i (BeginsRounds made) (EndsRounds made (day_ending run made))
+day_serves i book made run driven is day =
+    let opens : IsRunOfDay i.settings i.roads (opening i.vehicles) i.rounds made run = subst (λ b. IsRunOfDay i.settings i.roads b.state i.rounds made run) is day in
+    let kept : IsKeptDay i made = record { driven = opens.driven; keeps = opens.keeps } in
+    let whole : DrivesDay i made (day_ending run made) = record {
+      day = kept;
       counts = day_counts run;
-      counted = subst (λ b. AreCounts i.roads (state_left i.settings i.roads b.state (journals_of run.rounds)).riders (entries_of run.rounds) run.picked run.dropped run.worst_wait run.worst_delay) is counts;
-      in_wait = worst.0;
-      in_delay = worst.1;
+      counted = opens.counts;
+      in_wait = opens.in_wait;
+      in_delay = opens.in_delay;
       text_is = refl;
     } in
     record {
-      first = λ made first. subst (λ m. AreFirst m i made) (sym driven) (first.0, subst (AreAll Drive i) (sym first.1) whole);
-      all = λ made end report.
-          record {
-            all = subst (λ m. AreAll m i made) (sym driven) (subst (AreAll Drive i) (sym report.0) whole);
-            ends = subst (λ m. IsEnd m i made end) (sym driven) (subst (λ rs. IsDayEnd i rs end) (sym report.0) (subst (IsDayEnd i run.rounds) (sym report.1) ending));
-          };
+      first = λ begun first. subst (λ m. AreFirst m i begun) (sym driven) (first.0, subst (IsKeptDay i) (sym first.1) kept);
+      all = λ begun end report.
+          subst (λ m. AreAllWith m i begun end) (sym driven) (subst (λ rs. DrivesDay i rs end) (sym report.0) (subst (DrivesDay i made) (sym report.1) whole));
     }
 
--- the states of a run are consistent, and so are those from which the rounds of a day begin
-abbrev pub AreConsistentFrom : (i : Inputs) → Type 0
-AreConsistentFrom i = (entries : List Entry) → IsConsistent (state_after i.roads.nodes i.settings.wait (opening i.vehicles) entries)
-
-state_after-more : (nodes : List ℕ) (wait : ℕ) (s : State) (es fs : List Entry) → state_after nodes wait (state_after nodes wait s es) fs ≡ state_after nodes wait s (es ++ fs)
-unfolding state_after
-state_after-more nodes wait s [] fs = refl
-state_after-more nodes wait s (e ∷ es) fs = state_after-more nodes wait (step nodes wait s e.command).0 es fs
-
-run_bases : (i : Inputs) → AreConsistentFrom i → (s : State) (es : List Entry) → s ≡ state_after i.roads.nodes i.settings.wait (opening i.vehicles) es
-    → (p : ℕ) (rounds : List NumberedLanes) (made : List DayRound) → IsRun i.settings i.roads s p rounds (journals_of made) → All (λ r. IsConsistent r.journal.base) made
-run_bases i law s es at p [] [] run = λ k d within. absurd (omega (arith, within))
-run_bases i law s es at p [] (m ∷ made) run = absurd run
-run_bases i law s es at p (r ∷ rounds) [] run = absurd run
-run_bases i law s es at p (r ∷ rounds) (m ∷ made) run =
-    All-cons (λ (x : DayRound). IsConsistent x.journal.base) m made (subst IsConsistent (sym (run.0 ∙ at)) (law es))
-    (run_bases i law (state_after i.roads.nodes i.settings.wait s m.journal.entries) (es ++ m.journal.entries)
-    (ap (λ x. state_after i.roads.nodes i.settings.wait x m.journal.entries) at ∙ state_after-more i.roads.nodes i.settings.wait (opening i.vehicles) es m.journal.entries)
-    (next_position p m.journal.entries) rounds made run.3)
-
-driven_bases : (i : Inputs) → AreConsistentFrom i → (rounds : List NumberedLanes) (made : List DayRound) → IsDrivenDay i.settings i.roads (opening i.vehicles) rounds made → All (λ r. IsConsistent r.journal.base) made
-unfolding state_after
-driven_bases i law [] made day = subst (All (λ (x : DayRound). IsConsistent x.journal.base)) (sym day) (λ k d within. absurd (omega (arith, within)))
-driven_bases i law (r ∷ rounds) made day = run_bases i law (opening i.vehicles) [] refl 0 (day.script ++ day.end ∷ []) made day.run
-
-pub day_bases : (i : Inputs) (book : BookView) (made : List DayRound) → book ≡ opened i → AreConsistentFrom i → IsDrivenDay i.settings i.roads book.state i.rounds made → All (λ r. IsConsistent r.journal.base) made
-day_bases i book made is law day = driven_bases i law i.rounds made (subst (λ b. IsDrivenDay i.settings i.roads b.state i.rounds made) is day)
+-- where nobody is told anything, there is no notifier
+pub nobody_told : (len size : ℕ) (none told : Bool) → size ≡ len → none ≡ (len == 0) → told ≡ not none → told ≡ false → size ≡ 0
+nobody_told len size true told same empty is nobody = same ∙ eqb-true len 0 (sym empty)
+nobody_told len size false told same empty is nobody = absurd (false≢true (sym nobody ∙ is))
 
 -- the book of a call is new
 pub new_book : (i : Inputs) (book : BookView) → IsFleet i.vehicles → book ≡ opened i → IsNewBook i.settings i.roads book
@@ -557,8 +502,8 @@ ready_book i book is = record { nodes = ap (λ b. b.nodes) is; wait = ap (λ b. 
 
 -- a day that comes too late, or lacks memory
 pub day_fault : (i : Inputs) (book : BookView) (a : Option (List ℕ)) (n : List NotifierView) (low : ℕ) (fault : DriveFault) (s : RunStatus) → i.settings.mode ≡ Drive → book ≡ opened i
-    → s ≡ late_status fault → IsLateAnswer i.settings i.roads book.state i.rounds fault → IsWritingFault i a a n n low low s
-day_fault i book a n low (drive.TooLate round made) s driven is named late =
+    → s ≡ late_status fault → (Took : List DayRound → Type 0) → IsLateAnswer i.settings i.roads Took book.state i.rounds fault → IsWritingFault i a a n n low low s
+day_fault i book a n low (drive.TooLate round) s driven is named Took (made, took, late) =
     subst (IsWritingFault i a a n n low low) (sym named)
     (IsWritingFault.late round made driven (subst (λ b. IsTooLateDay i.settings i.roads b.state i.rounds round made) is late) refl refl refl)
-day_fault i book a n low drive.OutOfMemory s driven is named late = subst (IsWritingFault i a a n n low low) (sym named) (nothing_written i a n low)
+day_fault i book a n low drive.OutOfMemory s driven is named Took late = subst (IsWritingFault i a a n n low low) (sym named) (nothing_written i a n low)

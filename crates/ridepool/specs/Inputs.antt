@@ -1,22 +1,25 @@
--- Where the inputs of a call come from, and where a run can stop at them.
-use Rattle.std.specs.Prelude.{◌≡◌, ℕ, ◌+◌, ◌<◌, ◌≤◌, List, None, length, Ok, Err, IfSome}
+-- Where the inputs of a call come from, and where a call can stop at them.
+use Rattle.std.specs.Prelude.{◌≡◌, ℕ, ◌+◌, ◌<◌, ◌≤◌, List, None, Some, length, Ok, Err, IfSome, ◌⊎◌}
 use Rattle.std.specs.Io.KnownBytes.{IsAtEnd}
 use Rattle.batch_snapshot.specs.declared.vehicle.Vehicle.{Vehicle}
-use Rattle.load_maker.specs.Texts.{Texts, texts_of}
 use Rattle.pool_base.specs.declared.which.Which.{Which}
 use Rattle.pool_base.specs.declared.which.Which.TheVariants as file
 use Rattle.pool_io.specs.Faults.{Rose}
-use Rattle.rider_limits.specs.declared.settings.Mode.{Mode}
-use Rattle.rider_limits.specs.declared.settings.Mode.TheVariants.{Load, Drive, Audit}
+use Rattle.rider_limits.specs.Settings.{AreGiven}
+use Rattle.rider_limits.specs.Words.{fault_of}
 use Rattle.rider_limits.specs.declared.settings.Settings.{Settings}
 use Rattle.road_network.specs.Roads.{Roads}
-use Rattle.route_drive.specs.Day.{day_fault}
 use Rattle.script_rows.specs.Round.{NumberedLanes}
 use Rattle.ridepool.specs.Reading.{network_in, vehicles_in, IsFleetIn, script_in}
 use Rattle.dispatch_report.specs.Written.{Change}
-use Rattle.ridepool.specs.Seen.{IsUntouched, SourceView, Sources, source_at}
+use Rattle.ridepool.specs.Seen.{IsSilent, IsUntouched, Seen, SourceView, Sources, source_at}
 use Rattle.ridepool.specs.declared.status.RunStatus.{RunStatus}
 use Rattle.ridepool.specs.declared.status.RunStatus.TheVariants.{Network, Fleet, Script, TooLong, ReadFault, OutOfMemory}
+
+-- the words are good, and give these settings
+pub record AreGood (words : List (List ℕ)) (settings : Settings) : Type 0 where
+  pub faultless : fault_of words ≡ None
+  pub given : AreGiven words settings
 
 -- what a call works on
 pub record Inputs : Type 0 where
@@ -54,38 +57,12 @@ pub record AreReadFrom (s : Sources) (i : Inputs) : Type 0 where
   pub fleet : Reads file.Fleet s.fleet (λ bytes. IsFleetIn i.roads.nodes bytes i.vehicles)
   pub script : Reads file.Script s.script (λ bytes. script_in bytes ≡ Ok i.rounds)
 
--- three texts give these inputs
-pub record AreTexts (t : Texts) (i : Inputs) : Type 0 where
-  pub network : network_in t.network ≡ Ok i.roads
-  pub fleet : IsFleetIn i.roads.nodes t.fleet i.vehicles
-  pub script : script_in t.script ≡ Ok i.rounds
-
 -- no source is touched
 pub record AreUntouched (s : Sources) : Type 0 where
   pub network : IsUntouched s.network
   pub fleet : IsUntouched s.fleet
   pub script : IsUntouched s.script
   pub report : IsUntouched s.report
-
--- a command reads its sources, if it makes no workload
-abbrev pub ReadsSources : Mode → Type 0
-ReadsSources (Load shape) = ⊥
-ReadsSources _ = Unit {0}
-
--- an audit reads a report, and prints none
-abbrev pub ReadsReport : Mode → Type 0
-ReadsReport Audit = Unit {0}
-ReadsReport _ = ⊥
-
--- where vehicles are driven, these rounds are a day
-abbrev pub IsDayFor : Mode → List NumberedLanes → Type 0
-IsDayFor Drive rounds = day_fault rounds ≡ None
-IsDayFor _ rounds = Unit {0}
-
--- the inputs by the command: of a made workload what its texts give, else what the sources were read as
-abbrev pub AreInputs : Mode → Sources → Inputs → Type 0
-AreInputs (Load shape) s i = AreTexts (texts_of shape) i × AreUntouched s
-AreInputs mode s i = AreReadFrom s i × IsDayFor mode i.rounds
 
 -- a call came to one of the first three sources: those before it were read and pass, those behind it are untouched
 abbrev pub CameTo : Sources → Which → Type 0
@@ -106,9 +83,30 @@ IsStop s (ReadFault w) = CameTo s w × IsWithin w (source_at s w) × Rose (sourc
 IsStop s OutOfMemory = (w : Which) × CameTo s w × IsWithin w (source_at s w)
 IsStop s _ = ⊥
 
--- why the report of an audit wasn't read to its end
-abbrev pub IsReportUnread : Change SourceView → RunStatus → Type 0
-IsReportUnread s (TooLong file.Report) = IsSourceTooLong file.Report s
-IsReportUnread s (ReadFault file.Report) = IsWithin file.Report s × Rose s.before.faults s.after.faults
-IsReportUnread s OutOfMemory = IsWithin file.Report s
-IsReportUnread s _ = ⊥
+-- a call with these settings stopped at its sources, with nothing written and nobody told; or they were read as inputs of which
+-- this holds
+abbrev pub StopsOrReads : Settings → Seen → RunStatus → (Inputs → Type 0) → Type 0
+StopsOrReads settings seen status Holds =
+    (IsStop seen.sources status × IsSilent seen) ⊎ ((i : Inputs) × (i.settings ≡ settings) × AreReadFrom seen.sources i × Holds i)
+
+-- the source of an input tells these bytes at entry, no more than may be, and no read of it fails
+pub record Tells (which : Which) (s : Change SourceView) (bytes : List ℕ) : Type 0 where
+  pub told : s.before.left ≡ Some bytes
+  pub short : length bytes ≤ most_bytes which
+  pub faultless : Rose s.before.faults s.after.faults → ⊥
+
+-- network, fleet and script tell texts that give these inputs, and no read of them fails
+pub record TellInputs (s : Sources) (i : Inputs) : Type 0 where
+  pub network_text : List ℕ
+  pub network : Tells file.Network s.network network_text
+  pub roads : network_in network_text ≡ Ok i.roads
+  pub fleet_text : List ℕ
+  pub fleet : Tells file.Fleet s.fleet fleet_text
+  pub vehicles : IsFleetIn i.roads.nodes fleet_text i.vehicles
+  pub script_text : List ℕ
+  pub script : Tells file.Script s.script script_text
+  pub rounds : script_in script_text ≡ Ok i.rounds
+
+-- no write of the call fails
+abbrev pub HasNoWriteFault : Seen → Type 0
+HasNoWriteFault seen = Rose seen.out.before.faults seen.out.after.faults → ⊥

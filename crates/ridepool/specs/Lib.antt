@@ -2,8 +2,11 @@ pub mod Seen
 pub mod Reading
 pub mod Inputs
 pub mod Report
+pub mod Run
+pub mod Drive
+pub mod Load
 pub mod Audit
-pub mod Explained
+pub mod Answers
 pub mod Live
 pub mod Status
 pub mod Text

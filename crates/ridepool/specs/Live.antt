@@ -1,25 +1,27 @@
 -- A call of `live`: what is seen of it, how it ends, and what stands then.
-use Rattle.std.specs.Prelude.{◌≡◌, ℕ, List, [], ◌∷◌, ◌++◌, Option, Some, None, Ok, Err, codes, is_none, length, if◌then◌else◌, ◌⊎◌}
+use Rattle.std.specs.Prelude.{◌≡◌, ◌≢◌, ℕ, List, [], ◌∷◌, ◌++◌, Option, Some, None, Ok, Err, codes, is_none, length, if◌then◌else◌, ◌⊎◌}
 use Rattle.std.specs.Io.KnownBytes.{Appends}
 use Rattle.batch_snapshot.specs.declared.vehicle.Vehicle.{Vehicle}
 use Rattle.dispatch_report.specs.Head.{head_text}
 use Rattle.dispatch_report.specs.Written.{Change, SinkView}
+use Rattle.fleet_state.specs.declared.fault.FleetFault.TheVariants as fleet
 use Rattle.live_dispatch.specs.Live.{BeginsRows, RunsRows}
 use Rattle.live_rows.specs.Lines.{lines_in}
 use Rattle.live_rows.specs.Start.{live_rows, HasOtherStart}
 use Rattle.pool_base.specs.declared.which.Which.TheVariants as file
 use Rattle.pool_io.specs.Faults.{Rose}
 use Rattle.pool_io.specs.Sink.{AppendsPart}
-use Rattle.pool_io.specs.declared.input.Input.TheVariants.{Rows}
+use Rattle.pool_io.specs.declared.input.Input.TheVariants.{Rows, Own}
 use Rattle.pool_io.specs.declared.records.RowFault.TheVariants as row
 use Rattle.request_book.specs.Book.{BookView, opening}
 use Rattle.rider_limits.specs.Words.{fault_of, text_given}
 use Rattle.rider_limits.specs.declared.settings.Settings.{Settings}
 use Rattle.rider_notices.specs.Told.{NotifierView}
 use Rattle.road_network.specs.Roads.{Roads}
+use Rattle.road_network.specs.declared.fault.NetworkFault.TheVariants as network
+use Rattle.script_rows.specs.declared.fault.ScriptFault.TheVariants as script
 use Rattle.script_rows.specs.declared.line.Line.{Line}
-use Rattle.ridepool.specs.Explained.{AreGood, Tells}
-use Rattle.ridepool.specs.Inputs.{IsSourceTooLong, IsWithin, Reads}
+use Rattle.ridepool.specs.Inputs.{AreGood, IsSourceTooLong, IsWithin, Reads, Tells}
 use Rattle.ridepool.specs.Reading.{network_in, vehicles_in, IsFleetIn}
 use Rattle.ridepool.specs.Seen.{IsUntouched, SourceView}
 use Rattle.ridepool.specs.declared.status.RunStatus.{RunStatus}
@@ -82,7 +84,7 @@ CutsHead i seen =
     (rows : Option (List Line)) × AreRowsOf seen.script rows × AppendsPart seen.out.before.written seen.out.after.written (live_head i) × IsUntouched seen.notifiers
 
 -- some first rows were run, the last round maybe in part; what is written begins their report and isn't the whole; and
--- the notices of some first entries were told
+-- the notices told are those of the blocks that are written whole
 abbrev pub BeginsLive : LiveInputs → LiveSeen → Type 0
 BeginsLive i seen = CutsHead i seen ⊎ HasHead i seen (λ rows sink. BeginsRows i.settings i.roads (opened_book i) rows sink seen.notifiers)
 
@@ -154,6 +156,12 @@ pub record IsFaultlessLive (call : LiveCall) : Type 0 where
   pub header : live_rows (lines_in text) ≡ Ok rows
   pub faultless : Rose call.rest.reads.before call.rest.reads.after → ⊥
 
+-- no more bytes than may be were taken from the sources of network and fleet, and one more only where it is answered as too
+-- long
+abbrev pub AreLimited : Change SourceView → Change SourceView → RunStatus → Type 0
+AreLimited network fleet status =
+    (IsWithin file.Network network ⊎ (status ≡ TooLong file.Network)) × (IsWithin file.Fleet fleet ⊎ (status ≡ TooLong file.Fleet))
+
 -- what a call's answer says
 pub record AnswersLive (call : LiveCall) (status : RunStatus) : Type 0 where
   -- its cause, and what is written
@@ -161,3 +169,9 @@ pub record AnswersLive (call : LiveCall) (status : RunStatus) : Type 0 where
   -- where nothing is wrong with words, network, fleet and header, and no write fails, all is done or there is no memory,
   -- whatever the rows
   pub complete : IsFaultlessLive call → (Rose call.rest.out.before.faults call.rest.out.after.faults → ⊥) → (status ≡ Done) ⊎ (status ≡ OutOfMemory)
+  -- no more bytes than may be were taken from network and fleet
+  pub limited : AreLimited call.network call.fleet status
+  -- want of memory stands inside no other status
+  pub refused : (status ≢ Network (Rows row.OutOfMemory)) × (status ≢ Network (Own network.OutOfMemory))
+      × (status ≢ Fleet (Rows row.OutOfMemory)) × (status ≢ Fleet (Own fleet.OutOfMemory))
+      × (status ≢ Script (Rows row.OutOfMemory)) × (status ≢ Script (Own script.OutOfMemory))

@@ -14,5 +14,5 @@ code_of (ReadFault which) = 7
 code_of WriteFault = 8
 code_of OutOfMemory = 9
 code_of (Day fault) = 11
-code_of (TooLate round made) = 12
+code_of (TooLate round) = 12
 code_of (Report fault) = 13

@@ -130,5 +130,5 @@ status_text (ReadFault w) = file_name w ++ codes ": read failed"
 status_text WriteFault = codes "report: write failed"
 status_text OutOfMemory = codes "out of memory"
 status_text (Day fault) = codes "script: " ++ day_text fault
-status_text (TooLate round made) = numbered (codes "script: day too late at round ") round
+status_text (TooLate round) = numbered (codes "script: day too late at round ") round
 status_text (Report fault) = codes "report: " ++ audit_text fault

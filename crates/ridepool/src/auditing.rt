@@ -77,12 +77,13 @@ fn judge_report<G: Gate>(
         alloc,
         bytes,
         &network,
-        fleet,
+        &fleet,
         &script,
         settings.workers,
         gate,
     );
     drop(network);
+    drop(fleet);
     drop(script);
     match audited {
         Ok(audited) => Ok(audited),

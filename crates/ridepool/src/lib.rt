@@ -5,15 +5,31 @@
 //! for each batch instead. Where vehicles are driven, the script is a day, and the report is that of the day with
 //! all that is entered of them. Behind each round its notices are told. An audit says whether a printed report is that of
 //! such a run. Every other answer has its cause in the contract of the call, and a refused input leaves nothing written.
+//!
+//! A caller, as the program runs the words that it is given:
+//!
+//! ```
+//! let mut network = source_of(rt, words, "network");
+//! let mut fleet = source_of(rt, words, "fleet");
+//! let mut script = source_of(rt, words, "script");
+//! let mut report = source_of(rt, words, "report");
+//! let mut sink = StdSink::over(rt.stdout());
+//! let status = ridepool(
+//!     threads, rt.alloc(), words, &mut network, &mut fleet, &mut script, &mut report, &mut sink,
+//!     &mut notifiers, &FreeGate,
+//! );
+//! ```
+//!
+//! Main clauses: of `ridepool`: `Answers`; of `live`: `AnswersLive`.
 #![tactic(auto)]
 
 mod auditing;
+mod held_day;
 mod inputs;
 mod line_notifier;
 mod live_call;
 mod reading;
 mod run;
-mod setup;
 mod status;
 mod text;
 mod words;

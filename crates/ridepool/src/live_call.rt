@@ -5,10 +5,13 @@ ghost use Rattle.std.specs.String.{string_bytes};
 ghost use Rattle.dispatch_report.specs.Written.{sink_seen};
 ghost use Rattle.live_rows.specs.Start.{HasStarted};
 ghost use Rattle.request_book.specs.Consistent.{IsNode};
-ghost use Rattle.rider_notices.specs.Seen.{notifier_seen};
+ghost use Rattle.rider_notices.specs.Seen.{notifiers_seen};
 ghost use Rattle.rider_notices.specs.Told.{NotifierView};
-ghost use Rattle.ridepool.specs.Live.{AnswersLive, AreLiveInputs, EndsLive, ExplainsLive, IsSilentCall, LiveCall, LiveInputs, LiveSeen, live_head, opened_book};
+ghost use Rattle.pool_base.specs.declared.which.Which.TheVariants as file;
+ghost use Rattle.ridepool.specs.Inputs.{IsWithin};
+ghost use Rattle.ridepool.specs.Live.{AnswersLive, AreLimited, AreLiveInputs, EndsLive, ExplainsLive, IsSilentCall, LiveCall, LiveInputs, LiveSeen, live_head, opened_book};
 ghost use Rattle.ridepool.specs.Seen.{source_seen};
+ghost use Rattle.ridepool.specs.work.Ended.{HidesNoMemory};
 ghost use Rattle.ridepool.specs.work.Live.{status_of_end, status_of_start};
 ghost use Rattle.ridepool.specs.work.Writing.{status_of};
 
@@ -16,9 +19,10 @@ use crate::reading::{fleet_from, network_from};
 use crate::status::RunStatus;
 use crate::words::live_settings;
 use batch_snapshot::Fleet;
+use dispatch_engine::{Setup, opened_book};
 use dispatch_report::{ReportFault, write_head};
 use hub_labels::{LabelWays, Labels};
-use live_dispatch::{Dispatched, LiveFault, LiveSetup, dispatch};
+use live_dispatch::{Dispatched, LiveFault, dispatch};
 use live_rows::{LineStream, LiveRows, RefusalListener, StartFault, read_start};
 use plan_drafts::RelaxationDrafter;
 use pool_base::Which;
@@ -37,9 +41,11 @@ use worker_gate::Gate;
 
 /// What a call gives back, and how it ended.
 #[derive(Drop)]
-pub struct LiveEnd<S: Source, K: Sink> {
+pub struct LiveEnd<S: Source, K: Sink, N: Notifier> {
     pub script: S,
     pub out: K,
+    /// Those that didn't fail.
+    pub notifiers: Vec<N>,
     pub status: RunStatus,
 }
 
@@ -48,81 +54,87 @@ pub struct LiveEnd<S: Source, K: Sink> {
 /// The words are those of `run` behind another command, and need name no script. Words, network and fleet are judged as by
 /// `run`, and then the header; only then the head is written. A row that is refused is told to the listener and skipped.
 /// While a batch is open it is solved, and rows of its round in other lanes are run beside; a row of lane 0 or of a later
-/// round waits for the close. At the end of the rows an open batch is closed, and the last line is written. Notices of a
-/// batch are told once the rows that ran beside it are.
+/// round waits for the close. At the end of the rows an open batch is closed, and the last line is written. The notices of
+/// a batch are told right behind its block, before the next line is written.
 ///
 /// `Done` says that the report of a run of the accepted rows is written, and that each notifier that is left was told
 /// exactly the notices of that run. `Script` comes only for the header, and `ReadFault` of the script only where its count
 /// of faults rose; `WriteFault` only where the sink's count rose. After these two and `OutOfMemory` a beginning of such a
-/// report stands that isn't the whole.
+/// report stands that isn't the whole, and the notices told are those of the blocks that are written whole.
 pub fn live<
-    N: Source,
+    R: Source,
     F: Source,
     S: Source + Send + Drop,
     K: Sink + Send + Drop,
+    N: Notifier + Send,
     G: Gate,
     L: RefusalListener + Send + Drop,
 >(
     rt: &(impl Threads + Wait + Sync),
     alloc: Global,
     words: &[String],
-    network: &mut N,
+    network: &mut R,
     fleet: &mut F,
     script: S,
     out: K,
-    notifiers: &mut Vec<Box<dyn Notifier>>,
+    notifiers: Vec<N>,
     gate: &G,
     listener: L,
-) -> LiveEnd<S, K>
+) -> LiveEnd<S, K, N>
     ensures { AnswersLive (record {
       words = map string_bytes words.now;
-      network = source_seen N.left N.taken N.faults network.old network.new;
+      network = source_seen R.left R.taken R.faults network.old network.new;
       fleet = source_seen F.left F.taken F.faults fleet.old fleet.new;
       rest = record {
         script = S.left script;
         reads = record { before = S.faults script; after = S.faults result.script };
         out = sink_seen K.written K.faults out result.out;
         notifiers = record {
-          before = map (λ n. notifier_seen (⟦<dyn Notifier as Notifier>⟧ n.vtable) n.value) notifiers.old.items;
-          after = map (λ n. notifier_seen (⟦<dyn Notifier as Notifier>⟧ n.vtable) n.value) notifiers.new.items;
+          before = notifiers_seen N.told N.faults N.steady notifiers.items;
+          after = notifiers_seen N.told N.faults N.steady result.notifiers.items;
         };
       };
     }) result.status }
 {
     match live_inputs(alloc, words, network, fleet) {
         Ok((settings, network, fleet)) => {
-            let ended = live_in(
+            let answer = live_in(
                 rt, alloc, out, &settings, &network, fleet, script, notifiers, gate, listener,
             );
             drop(network);
-            ended
+            answer
         }
         Err(status) => {
             drop(listener);
             LiveEnd {
                 script,
                 out,
+                notifiers,
                 status,
             }
         }
     }
 }
 
-fn live_inputs<N: Source, F: Source>(
+fn live_inputs<R: Source, F: Source>(
     alloc: Global,
     words: &[String],
-    network: &mut N,
+    network: &mut R,
     fleet: &mut F,
 ) -> Result<(Settings, Network, Fleet), RunStatus>
     ensures got { (rest : LiveSeen) → let call : LiveCall = (record {
       words = map string_bytes words.now;
-      network = source_seen N.left N.taken N.faults network.old network.new;
+      network = source_seen R.left R.taken R.faults network.old network.new;
       fleet = source_seen F.left F.taken F.faults fleet.old fleet.new;
       rest = rest;
     }) in MatchResult result
         (λ got. AreLiveInputs call (record { settings = got.0; roads = got.1; vehicles = got.2 }))
         (λ status. IsSilentCall rest → ExplainsLive call status) }
     ensures named { IfOk result (λ got. All (λ vehicle. IsNode got.1.nodes vehicle.node) got.2) }
+    ensures limited { let network_seen = source_seen R.left R.taken R.faults network.old network.new in
+        let fleet_seen = source_seen F.left F.taken F.faults fleet.old fleet.new in
+        MatchResult result (λ _. IsWithin file.Network network_seen × IsWithin file.Fleet fleet_seen) (AreLimited network_seen fleet_seen) }
+    ensures no_memory { IfErr result HidesNoMemory }
 {
     let settings = match live_settings(alloc, words) {
         Ok(settings) => settings,
@@ -145,6 +157,7 @@ fn live_inputs<N: Source, F: Source>(
 fn live_in<
     S: Source + Send + Drop,
     K: Sink + Send + Drop,
+    N: Notifier + Send,
     G: Gate,
     L: RefusalListener + Send + Drop,
 >(
@@ -155,25 +168,25 @@ fn live_in<
     network: &Network,
     fleet: Fleet,
     script: S,
-    notifiers: &mut Vec<Box<dyn Notifier>>,
+    notifiers: Vec<N>,
     gate: &G,
     listener: L,
-) -> LiveEnd<S, K>
+) -> LiveEnd<S, K, N>
     requires named { All (λ vehicle. IsNode network.now.nodes vehicle.node) fleet }
     ensures { EndsLive (record { settings = settings.now; roads = network.now; vehicles = fleet }) (record {
       script = S.left script;
       reads = record { before = S.faults script; after = S.faults result.script };
       out = sink_seen K.written K.faults out result.out;
       notifiers = record {
-        before = map (λ n. notifier_seen (⟦<dyn Notifier as Notifier>⟧ n.vtable) n.value) notifiers.old.items;
-        after = map (λ n. notifier_seen (⟦<dyn Notifier as Notifier>⟧ n.vtable) n.value) notifiers.new.items;
+        before = notifiers_seen N.told N.faults N.steady notifiers.items;
+        after = notifiers_seen N.told N.faults N.steady result.notifiers.items;
       };
     }) result.status }
 {
     match settings.times {
         TimesWay::Rows => {
             let ways = NetworkWays { network };
-            let setup = LiveSetup {
+            let setup = Setup {
                 network,
                 ways: &ways,
                 drafter: &RelaxationDrafter,
@@ -183,17 +196,18 @@ fn live_in<
             live_by(rt, alloc, out, fleet, script, &setup, notifiers, listener)
         }
         TimesWay::Labels => {
-            let Ok(labels) = Labels::build(alloc, network) else {
+            let Ok(labels) = Labels::build_watched(alloc, network, gate) else {
                 drop(fleet);
                 drop(listener);
                 return LiveEnd {
                     script,
                     out,
+                    notifiers,
                     status: RunStatus::OutOfMemory,
                 };
             };
             let ways = LabelWays::of(network, labels);
-            let setup = LiveSetup {
+            let setup = Setup {
                 network,
                 ways: &ways,
                 drafter: &RelaxationDrafter,
@@ -209,6 +223,7 @@ fn live_in<
 fn live_by<
     S: Source + Send + Drop,
     K: Sink + Send + Drop,
+    N: Notifier + Send,
     W: Ways,
     D: Drafter,
     G: Gate,
@@ -219,32 +234,36 @@ fn live_by<
     out: K,
     fleet: Fleet,
     script: S,
-    setup: &LiveSetup<'_, W, D, G>,
-    notifiers: &mut Vec<Box<dyn Notifier>>,
+    setup: &Setup<'_, W, D, G>,
+    notifiers: Vec<N>,
     listener: L,
-) -> LiveEnd<S, K>
+) -> LiveEnd<S, K, N>
     requires named { All (λ vehicle. IsNode setup.now.network.now.nodes vehicle.node) fleet }
     ensures { EndsLive (record { settings = setup.now.settings.now; roads = setup.now.network.now; vehicles = fleet }) (record {
       script = S.left script;
       reads = record { before = S.faults script; after = S.faults result.script };
       out = sink_seen K.written K.faults out result.out;
       notifiers = record {
-        before = map (λ n. notifier_seen (⟦<dyn Notifier as Notifier>⟧ n.vtable) n.value) notifiers.old.items;
-        after = map (λ n. notifier_seen (⟦<dyn Notifier as Notifier>⟧ n.vtable) n.value) notifiers.new.items;
+        before = notifiers_seen N.told N.faults N.steady notifiers.items;
+        after = notifiers_seen N.told N.faults N.steady result.notifiers.items;
       };
     }) result.status }
 {
     let mut out = out;
     let mut lines = LineStream::over(script);
-    match start_live(alloc, &mut out, fleet, &mut lines, setup) {
+    match start_live(alloc, &mut out, &fleet, &mut lines, setup) {
         Ok((book, version)) => {
             let rows = LiveRows::behind(alloc, lines, version, listener);
-            let Dispatched { sink, rows, ended } = dispatch(
-                rt, alloc, book, out, rows, setup, notifiers,
-            );
+            let Dispatched {
+                sink,
+                notifiers,
+                rows,
+                ended,
+            } = dispatch(rt, alloc, book, out, notifiers, rows, setup);
             LiveEnd {
                 script: rows.into_source(),
                 out: sink,
+                notifiers,
                 status: end_status(ended),
             }
         }
@@ -253,6 +272,7 @@ fn live_by<
             LiveEnd {
                 script: lines.into_source(),
                 out,
+                notifiers,
                 status,
             }
         }
@@ -263,15 +283,15 @@ fn live_by<
 fn start_live<S: Source, K: Sink, W: Ways, D: Drafter, G: Gate>(
     alloc: Global,
     out: &mut K,
-    fleet: Fleet,
+    fleet: &Fleet,
     lines: &mut LineStream<S>,
-    setup: &LiveSetup<'_, W, D, G>,
+    setup: &Setup<'_, W, D, G>,
 ) -> Result<(Book, ScriptVersion), RunStatus>
-    requires named { All (λ vehicle. IsNode setup.now.network.now.nodes vehicle.node) fleet }
-    ensures started { let i : LiveInputs = record { settings = setup.now.settings.now; roads = setup.now.network.now; vehicles = fleet } in
+    requires named { All (λ vehicle. IsNode setup.now.network.now.nodes vehicle.node) fleet.now }
+    ensures started { let i : LiveInputs = record { settings = setup.now.settings.now; roads = setup.now.network.now; vehicles = fleet.now } in
         IfOk result (λ r. (r.0 ≡ opened_book i) × HasStarted lines.old.to_come lines.new.to_come r.1
         × Appends (K.written out.old) (K.written out.new) (live_head i)) }
-    ensures stopped { let i : LiveInputs = record { settings = setup.now.settings.now; roads = setup.now.network.now; vehicles = fleet } in
+    ensures stopped { let i : LiveInputs = record { settings = setup.now.settings.now; roads = setup.now.network.now; vehicles = fleet.now } in
         (told : List NotifierView) → IfErr result (EndsLive i (record {
           script = lines.old.to_come;
           reads = record { before = lines.old.faults; after = lines.new.faults };
@@ -280,18 +300,15 @@ fn start_live<S: Source, K: Sink, W: Ways, D: Drafter, G: Gate>(
         })) }
     ensures never_falls { (K.faults out.old ≤ K.faults out.new) × (lines.old.faults ≤ lines.new.faults) }
 {
-    let vehicles = fleet.vehicles().len();
     let version = match read_start(alloc, lines) {
         Ok(version) => version,
-        Err(fault) => {
-            drop(fleet);
-            return Err(start_status(fault));
-        }
+        Err(fault) => return Err(start_status(fault)),
     };
-    let Ok(book) = Book::new(alloc, setup.network, fleet, setup.settings.wait) else {
+    let opened = opened_book(alloc, setup.network, fleet, setup.settings.wait);
+    let Ok(book) = opened else {
         return Err(RunStatus::OutOfMemory);
     };
-    match write_head(alloc, out, setup.settings, setup.network, vehicles) {
+    match write_head(alloc, out, setup.settings, setup.network, fleet) {
         Ok(()) => Ok((book, version)),
         Err(fault) => {
             drop(book);

@@ -1,6 +1,6 @@
 ghost use Rattle.std.specs.Prelude.{map};
 ghost use Rattle.std.specs.String.{string_bytes};
-ghost use Rattle.ridepool.specs.Explained.{Answers};
+ghost use Rattle.ridepool.specs.Answers.{Answers};
 ghost use Rattle.dispatch_report.specs.Written.{sink_seen};
 ghost use Rattle.ridepool.specs.Seen.{source_seen};
 ghost use Rattle.rider_notices.specs.Seen.{notifier_seen};
@@ -44,8 +44,8 @@ use worker_gate::Gate;
 /// 268,435,457;
 /// `ReadFault` only where that source's count of faults rose. Sources behind the one that is named are
 /// untouched, and those before it were read to their ends. For `drive` alone, `Day` comes exactly where the three
-/// pass and the script is no day, and `TooLate` exactly where a second above 1,000,000,000 would be entered; it
-/// has the rounds before that. `WriteFault` comes only where the sink's count
+/// pass and the script is no day, and `TooLate` exactly where a second above 1,000,000,000 would be entered.
+/// `WriteFault` comes only where the sink's count
 /// of faults rose. Where nothing of this is so, the answer is `Done` or `OutOfMemory`. After all of these
 /// but `WriteFault` nothing is written and nobody was told anything; after `WriteFault` and `OutOfMemory` a
 /// beginning of the report of a run of the script's first rounds stands that isn't the whole, and the notices
@@ -88,11 +88,11 @@ pub fn ridepool<N: Source, F: Source, S: Source, A: Source, K: Sink, G: Gate>(
     };
     match settings.mode {
         Mode::Audit => match write_audit(rt, alloc, out, &settings, inputs, report, gate) {
-            Ok(()) => RunStatus::Done,
+            Ok(()) => RunStatus::Done, // its line stands
             Err(status) => status,
         },
         _ => match write_report(rt, alloc, out, &settings, inputs, notifiers, gate) {
-            Ok(()) => RunStatus::Done,
+            Ok(()) => RunStatus::Done, // the whole text stands
             Err(status) => status,
         },
     }

@@ -1,12 +1,12 @@
 ghost use Rattle.std.specs.Prelude.{◌≡◌};
 
 use fleet_state::FleetFault;
-use pool_base::{Sequence, Which};
+use pool_base::Which;
 use pool_io::Input;
 use report_audit::AuditFault;
 use rider_limits::WordFault;
 use road_network::NetworkFault;
-use route_drive::{DayFault, DayRound};
+use route_drive::DayFault;
 use script_rows::ScriptFault;
 
 /// How a call ended.
@@ -32,11 +32,8 @@ pub enum RunStatus {
     OutOfMemory,
     /// The script is no day.
     Day(DayFault),
-    /// A second above 1,000,000,000 would be entered into this round of a day; these are the rounds before it.
-    TooLate {
-        round: u32,
-        rounds: Sequence<DayRound>,
-    },
+    /// A second above 1,000,000,000 would be entered into this round of a day.
+    TooLate { round: u32 },
     /// The report of an audit is none of a run of the script.
     Report(AuditFault),
 }

@@ -168,7 +168,7 @@ fn put_audit_fault(text: &mut Vec<u8>, fault: AuditFault) -> Result<(), OutOfMem
         AuditFault::Entry { line } => put_at(text, b"wrong entry at line ", line),
         AuditFault::Batch { line, point } => {
             put_at(text, b"wrong batch at line ", line)?;
-            put_at(text, b" point ", u64::from(point))
+            put_at(text, b" point ", point)
         }
         AuditFault::OutOfMemory => put_bytes(text, b"out of memory"),
     }

@@ -1,7 +1,7 @@
 //! The words of a call of `live`, as words of `run`.
 ghost use Rattle.std.specs.Prelude.{◌≡◌, ◌++◌, ◌∷◌, [], map, MatchResult, IfOk, OnOk};
 ghost use Rattle.std.specs.String.{string_bytes};
-ghost use Rattle.ridepool.specs.Explained.{AreGood};
+ghost use Rattle.ridepool.specs.Inputs.{AreGood};
 ghost use Rattle.ridepool.specs.Live.{words_of_run};
 ghost use Rattle.ridepool.specs.work.Live.{RefusesWords};
 

@@ -1,21 +1,20 @@
-ghost use Rattle.std.specs.Prelude.{◌≡◌, ◌≤◌, [], List, map, MatchResult};
+ghost use Rattle.std.specs.Prelude.{◌≡◌, ◌≤◌, [], false, List, length, map, MatchResult};
 ghost use Rattle.std.specs.List.{All};
-ghost use Rattle.dispatch_engine.specs.Run.{IsReady, position_after_run};
+ghost use Rattle.dispatch_engine.specs.Run.{IsReady};
 ghost use Rattle.request_book.specs.Consistent.{IsConsistent, IsNode};
-ghost use Rattle.rider_notices.specs.Notices.{notices};
 ghost use Rattle.rider_notices.specs.Seen.{notifier_seen};
-ghost use Rattle.rider_notices.specs.Told.{HaveHeard};
 ghost use Rattle.dispatch_report.specs.Written.{sink_seen, WritesText};
-ghost use Rattle.request_book.specs.Book.{next_position};
-ghost use Rattle.ridepool.specs.Inputs.{Inputs, IsDayFor};
-ghost use Rattle.ridepool.specs.Report.{IsReportWhole, IsWhole, first_text, added_text, journals_of};
-ghost use Rattle.ridepool.specs.work.Writing.{BeginsRounds, EndsRounds, IsWritingFault, IsReportFault, IsRoundFault, IsUnput, HasPut, PutsRound, StopsIn, RunsAll, RunsFirst, WritesRound, day_counts, day_ending, late_status, status_of};
+ghost use Rattle.ridepool.specs.Inputs.{Inputs};
+ghost use Rattle.ridepool.specs.Report.{IsWhole};
+ghost use Rattle.ridepool.specs.work.Held.{HoldsRounds};
+ghost use Rattle.route_drive.specs.declared.day_run.DayRound.{DayRound as RoundValue};
+ghost use Rattle.ridepool.specs.work.Writing.{BeginsRounds, EndsRounds, IsWritingFault, IsReportFault, IsRoundFault, IsUnput, PutsRound, RunsAll, RunsFirst, WritesRound, IsDayFor, IsReportWhole, added_by, added_text, first_text, day_counts, day_ending, late_status, status_of};
 
+use crate::held_day::{HeldDay, write_held};
 use crate::inputs::ReadInputs;
-use crate::setup::Setup;
 use crate::status::RunStatus;
 use batch_snapshot::Fleet;
-use dispatch_engine::run_round;
+use dispatch_engine::{Setup, opened_book, run_round};
 use dispatch_report::{
     DayCounts, ReportFault, write_day_end, write_end, write_head, write_load, write_round,
     write_summary,
@@ -24,9 +23,9 @@ use hub_labels::{LabelWays, Labels};
 use plan_drafts::RelaxationDrafter;
 use pool_base::OutOfMemory;
 use pool_io::Sink;
-use request_book::{Book, Journal, states_are_consistent};
+use request_book::Book;
 use rider_limits::{Mode, Settings, TimesWay};
-use rider_notices::{Notifier, notices_of, tell_all};
+use rider_notices::{Notifier, tell_journal};
 use road_network::Network;
 use route_drive::{DayRound, DayRun, DriveFault, drive_day};
 use row_tables::Drafter;
@@ -67,9 +66,10 @@ pub(crate) fn write_report<K: Sink, G: Gate>(
         script,
     } = inputs;
     let written = write_in(
-        rt, alloc, out, settings, &network, fleet, &script, notifiers, gate,
+        rt, alloc, out, settings, &network, &fleet, &script, notifiers, gate,
     );
     drop(network);
+    drop(fleet);
     drop(script);
     written
 }
@@ -81,14 +81,14 @@ fn write_in<K: Sink, G: Gate>(
     out: &mut K,
     settings: &Settings,
     network: &Network,
-    fleet: Fleet,
+    fleet: &Fleet,
     script: &Script,
     notifiers: &mut Vec<Box<dyn Notifier>>,
     gate: &G,
 ) -> Result<(), RunStatus>
-    requires named { All (λ vehicle. IsNode network.now.nodes vehicle.node) fleet }
+    requires named { All (λ vehicle. IsNode network.now.nodes vehicle.node) fleet.now }
     requires day { IsDayFor settings.now.mode script.now }
-    ensures report { let i : Inputs = record { settings = settings.now; roads = network.now; vehicles = fleet; rounds = script.now } in
+    ensures report { let i : Inputs = record { settings = settings.now; roads = network.now; vehicles = fleet.now; rounds = script.now } in
         let all = map (λ n. notifier_seen (⟦<dyn Notifier as Notifier>⟧ n.vtable) n.value) notifiers.old.items in
         let left = map (λ n. notifier_seen (⟦<dyn Notifier as Notifier>⟧ n.vtable) n.value) notifiers.new.items in
         MatchResult result
@@ -109,8 +109,7 @@ fn write_in<K: Sink, G: Gate>(
             write_by(rt, alloc, out, fleet, script, &setup, notifiers)
         }
         TimesWay::Labels => {
-            let Ok(labels) = Labels::build(alloc, network) else {
-                drop(fleet);
+            let Ok(labels) = Labels::build_watched(alloc, network, gate) else {
                 return Err(RunStatus::OutOfMemory);
             };
             let ways = LabelWays::of(network, labels);
@@ -131,14 +130,14 @@ fn write_by<K: Sink, W: Ways, D: Drafter, G: Gate>(
     rt: &(impl Threads + Wait + Sync),
     alloc: Global,
     out: &mut K,
-    fleet: Fleet,
+    fleet: &Fleet,
     script: &Script,
     setup: &Setup<'_, W, D, G>,
     notifiers: &mut Vec<Box<dyn Notifier>>,
 ) -> Result<(), RunStatus>
-    requires named { All (λ vehicle. IsNode setup.now.network.now.nodes vehicle.node) fleet }
+    requires named { All (λ vehicle. IsNode setup.now.network.now.nodes vehicle.node) fleet.now }
     requires day { IsDayFor setup.now.settings.now.mode script.now }
-    ensures report { let i : Inputs = record { settings = setup.now.settings.now; roads = setup.now.network.now; vehicles = fleet; rounds = script.now } in
+    ensures report { let i : Inputs = record { settings = setup.now.settings.now; roads = setup.now.network.now; vehicles = fleet.now; rounds = script.now } in
         let all = map (λ n. notifier_seen (⟦<dyn Notifier as Notifier>⟧ n.vtable) n.value) notifiers.old.items in
         let left = map (λ n. notifier_seen (⟦<dyn Notifier as Notifier>⟧ n.vtable) n.value) notifiers.new.items in
         MatchResult result
@@ -146,42 +145,32 @@ fn write_by<K: Sink, W: Ways, D: Drafter, G: Gate>(
         (IsWritingFault i (K.written out.old) (K.written out.new) all left (K.faults out.old) (K.faults out.new)) }
     ensures never_falls { K.faults out.old ≤ K.faults out.new }
 {
-    states_are_consistent();
-    let vehicles = fleet.vehicles().len();
-    let Ok(book) = Book::new(alloc, setup.network, fleet, setup.settings.wait) else {
+    let _vehicles = fleet.vehicles();
+    let Ok(book) = opened_book(alloc, setup.network, fleet, setup.settings.wait) else {
         return Err(RunStatus::OutOfMemory);
     };
     match setup.settings.mode {
         Mode::Drive => {
-            let driven = drive_day(
-                rt,
-                alloc,
-                book,
-                script,
-                setup.network,
-                setup.ways,
-                setup.drafter,
-                setup.settings,
-                setup.gate,
-            );
+            let told = !notifiers.is_empty();
+            let mut day = HeldDay::empty(alloc, setup.settings, setup.network, told);
+            let driven = drive_day(rt, alloc, book, script, setup, &mut day);
             match driven {
                 Ok(run) => {
-                    let settings = setup.settings;
-                    let network = setup.network;
-                    let written = write_day(
-                        alloc, out, vehicles, &run, settings, network, notifiers,
-                    );
-                    drop(run);
+                    let written = write_day(alloc, out, fleet, &day, &run, notifiers);
+                    drop(day);
                     written
                 }
-                Err(fault) => Err(late_status(fault)),
+                Err(fault) => {
+                    drop(day);
+                    Err(late_status(fault))
+                }
             }
         }
         _ => write_run(
             rt,
             alloc,
             out,
-            vehicles,
+            fleet,
             book,
             script.rounds(),
             setup,
@@ -194,24 +183,25 @@ fn write_by<K: Sink, W: Ways, D: Drafter, G: Gate>(
 fn write_day<K: Sink>(
     alloc: Global,
     out: &mut K,
-    vehicles: usize,
+    fleet: &Fleet,
+    day: &HeldDay<'_>,
     run: &DayRun,
-    settings: &Settings,
-    network: &Network,
     notifiers: &mut Vec<Box<dyn Notifier>>,
 ) -> Result<(), RunStatus>
-    requires { All (λ r. IsConsistent r.journal.base) run.now.rounds }
-    ensures report { let head = first_text settings.now.mode settings.now network.now vehicles in
-        let end = day_ending run.now in
+    requires { day.now.told ≡ false → length notifiers.old.items ≡ 0 }
+    ensures report { (made : List RoundValue) → HoldsRounds day.now.settings.now day.now.network.now day.now.told made day.now.rounds.items →
+        let s = day.now.settings.now in let roads = day.now.network.now in
+        let head = first_text s.mode s roads (length fleet.now) in
+        let end = day_ending run.now made in
         let all = map (λ n. notifier_seen (⟦<dyn Notifier as Notifier>⟧ n.vtable) n.value) notifiers.old.items in
         let left = map (λ n. notifier_seen (⟦<dyn Notifier as Notifier>⟧ n.vtable) n.value) notifiers.new.items in
         MatchResult result
-        (λ _. IsWhole settings.now network.now head (BeginsRounds run.now.rounds) (EndsRounds run.now.rounds end) (K.written out.old) (K.written out.new) all left)
-        (IsReportFault settings.now network.now head (BeginsRounds run.now.rounds) (EndsRounds run.now.rounds end) (K.written out.old) (K.written out.new) all left (K.faults out.old) (K.faults out.new)) }
+        (λ _. IsWhole s roads (added_by s) head (BeginsRounds made) (EndsRounds made end) (K.written out.old) (K.written out.new) all left)
+        (IsReportFault s roads head (BeginsRounds made) (EndsRounds made end) (K.written out.old) (K.written out.new) all left (K.faults out.old) (K.faults out.new)) }
     ensures never_falls { K.faults out.old ≤ K.faults out.new }
 {
-    match write_first(alloc, out, settings, network, vehicles) {
-        Ok(()) => write_driven(alloc, out, run, settings, network, notifiers),
+    match write_first(alloc, out, day.settings, day.network, fleet) {
+        Ok(()) => write_driven(alloc, out, day, run, notifiers),
         Err(fault) => Err(status_of(fault)),
     }
 }
@@ -221,7 +211,7 @@ fn write_run<K: Sink, W: Ways, D: Drafter, G: Gate>(
     rt: &(impl Threads + Wait + Sync),
     alloc: Global,
     out: &mut K,
-    vehicles: usize,
+    fleet: &Fleet,
     book: Book,
     rounds: &[Round],
     setup: &Setup<'_, W, D, G>,
@@ -230,15 +220,15 @@ fn write_run<K: Sink, W: Ways, D: Drafter, G: Gate>(
     requires ready { IsReady setup.now.settings.now setup.now.network.now book }
     requires empty { book.entries ≡ [] }
     ensures report { let s = setup.now.settings.now in let roads = setup.now.network.now in
-        let head = first_text s.mode s roads vehicles in
+        let head = first_text s.mode s roads (length fleet.now) in
         let all = map (λ n. notifier_seen (⟦<dyn Notifier as Notifier>⟧ n.vtable) n.value) notifiers.old.items in
         let left = map (λ n. notifier_seen (⟦<dyn Notifier as Notifier>⟧ n.vtable) n.value) notifiers.new.items in
         MatchResult result
-        (λ _. IsWhole s roads head (RunsFirst s roads book rounds.now) (RunsAll s roads book rounds.now) (K.written out.old) (K.written out.new) all left)
+        (λ _. IsWhole s roads (added_by s) head (RunsFirst s roads book rounds.now) (RunsAll s roads book rounds.now) (K.written out.old) (K.written out.new) all left)
         (IsReportFault s roads head (RunsFirst s roads book rounds.now) (RunsAll s roads book rounds.now) (K.written out.old) (K.written out.new) all left (K.faults out.old) (K.faults out.new)) }
     ensures never_falls { K.faults out.old ≤ K.faults out.new }
 {
-    match write_first(alloc, out, setup.settings, setup.network, vehicles) {
+    match write_first(alloc, out, setup.settings, setup.network, fleet) {
         Ok(()) => write_each(rt, alloc, out, book, rounds, setup, notifiers),
         Err(fault) => {
             drop(book);
@@ -263,7 +253,7 @@ fn write_each<K: Sink, W: Ways, D: Drafter, G: Gate>(
         let all = map (λ n. notifier_seen (⟦<dyn Notifier as Notifier>⟧ n.vtable) n.value) notifiers.old.items in
         let left = map (λ n. notifier_seen (⟦<dyn Notifier as Notifier>⟧ n.vtable) n.value) notifiers.new.items in
         MatchResult result
-        (λ _. IsWhole s roads [] (RunsFirst s roads book rounds.now) (RunsAll s roads book rounds.now) (K.written out.old) (K.written out.new) all left)
+        (λ _. IsWhole s roads (added_by s) [] (RunsFirst s roads book rounds.now) (RunsAll s roads book rounds.now) (K.written out.old) (K.written out.new) all left)
         (IsReportFault s roads [] (RunsFirst s roads book rounds.now) (RunsAll s roads book rounds.now) (K.written out.old) (K.written out.new) all left (K.faults out.old) (K.faults out.new)) }
     ensures never_falls { K.faults out.old ≤ K.faults out.new }
 {
@@ -301,16 +291,7 @@ fn write_next<K: Sink, W: Ways, D: Drafter, G: Gate>(
         (IsRoundFault setup.now.settings.now setup.now.network.now book round.now (K.written out.old) (K.written out.new) all left (K.faults out.old) (K.faults out.new)) }
     ensures never_falls { K.faults out.old ≤ K.faults out.new }
 {
-    let Setup {
-        network,
-        ways,
-        drafter,
-        settings,
-        gate,
-    } = setup;
-    let Ok(mut book) = run_round(
-        rt, alloc, book, round, network, *ways, *drafter, settings, *gate,
-    ) else {
+    let Ok(mut book) = run_round(rt, alloc, book, round, setup) else {
         return Err(RunStatus::OutOfMemory);
     };
     let Ok(journal) = book.take_round() else {
@@ -321,7 +302,7 @@ fn write_next<K: Sink, W: Ways, D: Drafter, G: Gate>(
         number: round.number(),
         journal,
     };
-    let put = put_round(alloc, out, &made, settings, network, notifiers);
+    let put = put_round(alloc, out, &made, setup.settings, setup.network, notifiers);
     drop(made);
     match put {
         Ok(()) => Ok(book),
@@ -336,22 +317,22 @@ fn write_next<K: Sink, W: Ways, D: Drafter, G: Gate>(
 fn write_driven<K: Sink>(
     alloc: Global,
     out: &mut K,
+    day: &HeldDay<'_>,
     run: &DayRun,
-    settings: &Settings,
-    network: &Network,
     notifiers: &mut Vec<Box<dyn Notifier>>,
 ) -> Result<(), RunStatus>
-    requires { All (λ r. IsConsistent r.journal.base) run.now.rounds }
-    ensures rounds { let end = day_ending run.now in
+    requires { day.now.told ≡ false → length notifiers.old.items ≡ 0 }
+    ensures rounds { (made : List RoundValue) → HoldsRounds day.now.settings.now day.now.network.now day.now.told made day.now.rounds.items →
+        let s = day.now.settings.now in let roads = day.now.network.now in
+        let end = day_ending run.now made in
         let all = map (λ n. notifier_seen (⟦<dyn Notifier as Notifier>⟧ n.vtable) n.value) notifiers.old.items in
         let left = map (λ n. notifier_seen (⟦<dyn Notifier as Notifier>⟧ n.vtable) n.value) notifiers.new.items in
         MatchResult result
-        (λ _. IsWhole settings.now network.now [] (BeginsRounds run.now.rounds) (EndsRounds run.now.rounds end) (K.written out.old) (K.written out.new) all left)
-        (IsReportFault settings.now network.now [] (BeginsRounds run.now.rounds) (EndsRounds run.now.rounds end) (K.written out.old) (K.written out.new) all left (K.faults out.old) (K.faults out.new)) }
+        (λ _. IsWhole s roads (added_by s) [] (BeginsRounds made) (EndsRounds made end) (K.written out.old) (K.written out.new) all left)
+        (IsReportFault s roads [] (BeginsRounds made) (EndsRounds made end) (K.written out.old) (K.written out.new) all left (K.faults out.old) (K.faults out.new)) }
     ensures never_falls { K.faults out.old ≤ K.faults out.new }
 {
-    let rounds = run.rounds.as_slice();
-    let position = match write_made(alloc, out, rounds, settings, network, notifiers) {
+    let position = match write_held(out, day.rounds.as_slice(), notifiers) {
         Ok(position) => position,
         Err(status) => return Err(status),
     };
@@ -360,38 +341,6 @@ fn write_driven<K: Sink>(
         Ok(()) => Ok(()),
         Err(fault) => Err(status_of(fault)),
     }
-}
-
-/// Writes rounds, each with its notices told, and gives the position behind their entries.
-fn write_made<K: Sink>(
-    alloc: Global,
-    out: &mut K,
-    rounds: &[DayRound],
-    settings: &Settings,
-    network: &Network,
-    notifiers: &mut Vec<Box<dyn Notifier>>,
-) -> Result<u64, RunStatus>
-    requires { All (λ r. IsConsistent r.journal.base) rounds.now }
-    ensures rounds { let all = map (λ n. notifier_seen (⟦<dyn Notifier as Notifier>⟧ n.vtable) n.value) notifiers.old.items in
-        let left = map (λ n. notifier_seen (⟦<dyn Notifier as Notifier>⟧ n.vtable) n.value) notifiers.new.items in
-        MatchResult result
-        (λ position. HasPut settings.now network.now rounds.now (K.written out.old) (K.written out.new) all left × (position ≡ position_after_run 0 (journals_of rounds.now)))
-        (StopsIn settings.now network.now rounds.now (K.written out.old) (K.written out.new) all left (K.faults out.old) (K.faults out.new)) }
-    ensures never_falls { K.faults out.old ≤ K.faults out.new }
-{
-    let mut position = 0;
-    for made in rounds {
-        put_round(alloc, out, made, settings, network, notifiers)?;
-        position = position_after(position, &made.journal);
-    }
-    Ok(position)
-}
-
-/// The position behind the entries of a journal.
-fn position_after(position: u64, journal: &Journal) -> u64
-    ensures { result ≡ next_position position journal.now.entries }
-{
-    position.saturating_add(journal.entries.len() as u64)
 }
 
 fn counts_of(run: &DayRun) -> DayCounts
@@ -431,45 +380,24 @@ fn put_round<K: Sink>(
     }
 }
 
-/// Tells the notices of a journal. Without memory nobody is told anything.
-fn tell_journal(
-    alloc: Global,
-    notifiers: &mut Vec<Box<dyn Notifier>>,
-    journal: &Journal,
-    network: &Network,
-    wait: u32,
-) -> Result<(), OutOfMemory>
-    requires { IsConsistent journal.now.base }
-    ensures { let all = map (λ n. notifier_seen (⟦<dyn Notifier as Notifier>⟧ n.vtable) n.value) notifiers.old.items in
-        let left = map (λ n. notifier_seen (⟦<dyn Notifier as Notifier>⟧ n.vtable) n.value) notifiers.new.items in
-        MatchResult result (λ _. HaveHeard (notices network.now.nodes wait journal.now) all left) (λ _. left ≡ all) }
-{
-    if notifiers.is_empty() {
-        return Ok(());
-    }
-    let told = notices_of(alloc, journal, network, wait)?;
-    tell_all(notifiers, &told);
-    Ok(())
-}
-
 /// Writes the first lines: the head of a report, or the shape of a made workload.
 fn write_first<K: Sink>(
     alloc: Global,
     out: &mut K,
     settings: &Settings,
     network: &Network,
-    vehicles: usize,
+    fleet: &Fleet,
 ) -> Result<(), ReportFault>
-    ensures { WritesText (sink_seen K.written K.faults out.old out.new) (first_text settings.now.mode settings.now network.now vehicles) result }
+    ensures { WritesText (sink_seen K.written K.faults out.old out.new) (first_text settings.now.mode settings.now network.now (length fleet.now)) result }
 {
     match &settings.mode {
         Mode::Load(shape) => write_load(alloc, out, shape),
-        _ => write_head(alloc, out, settings, network, vehicles),
+        _ => write_head(alloc, out, settings, network, fleet),
     }
 }
 
 /// Writes what a round adds: its whole text, or of a made workload the lines of its batches.
-fn write_added<K: Sink>(
+pub(crate) fn write_added<K: Sink>(
     alloc: Global,
     out: &mut K,
     settings: &Settings,
@@ -483,7 +411,7 @@ fn write_added<K: Sink>(
     }
 }
 
-fn status_of(fault: ReportFault) -> RunStatus
+pub(crate) fn status_of(fault: ReportFault) -> RunStatus
     ensures { result ≡ status_of fault }
 {
     match fault {
@@ -497,7 +425,7 @@ fn late_status(fault: DriveFault) -> RunStatus
     ensures { result ≡ late_status fault }
 {
     match fault {
-        DriveFault::TooLate { round, rounds } => RunStatus::TooLate { round, rounds },
+        DriveFault::TooLate { round } => RunStatus::TooLate { round },
         DriveFault::OutOfMemory => RunStatus::OutOfMemory,
     }
 }

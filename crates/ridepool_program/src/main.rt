@@ -15,7 +15,7 @@ use ridepool::{
 };
 use rider_limits::{read_words, value_of};
 use rider_notices::Notifier;
-use run_progress::WatchedSink;
+use run_progress::{WatchedGate, WatchedSink};
 use std::alloc::Global;
 use std::fs::File;
 use std::io::{IsTerminal, Stderr, Write};
@@ -23,7 +23,6 @@ use std::process::ExitCode;
 use std::sync::Wait;
 use std::thread::Threads;
 use std::{env, io};
-use worker_gate::FreeGate;
 
 const HELP: &str = "\
 usage: ridepool run network=FILE fleet=FILE script=FILE [KEY=VALUE ..]
@@ -83,7 +82,7 @@ Exit status: 0 done; 2 words; 3 network; 4 fleet; 5 script; 6 input too long; 7 
 that of no run of the script.
 ";
 
-const VERSION: &str = "ridepool 1.1.0\n";
+const VERSION: &str = "ridepool 1.2.0\n";
 
 fn main(rt: HostRuntime) -> ExitCode {
     let _places = [
@@ -165,7 +164,7 @@ fn run(rt: &HostRuntime, threads: &(impl Threads + Wait + Sync), words: &[String
     };
     let mut notifiers: Vec<Box<dyn Notifier>> = Vec::new(rt.alloc());
     if value_of(named, "notices").is_some() {
-        let Ok(notifier) = notifier_to(rt, &file) else {
+        let Ok(notifier) = boxed_notifier_to(rt, &file) else {
             return RunStatus::OutOfMemory;
         };
         if notifiers.push(notifier).is_err() {
@@ -189,7 +188,7 @@ fn run(rt: &HostRuntime, threads: &(impl Threads + Wait + Sync), words: &[String
         &mut report,
         &mut sink,
         &mut notifiers,
-        &FreeGate,
+        &WatchedGate::over(rt.alloc(), terminal_of(rt)),
     );
     sink.clear();
     if notifiers.len() < given && path.is_some() {
@@ -227,22 +226,19 @@ fn live_from<S: Source + Send + Drop>(
     script: S,
 ) -> RunStatus {
     let path = notices_path(rt, named);
-    let mut notifiers: Vec<Box<dyn Notifier>> = Vec::new(rt.alloc());
-    if let Some(path) = path {
-        let notifier = LineNotifier::over(rt.alloc(), File::create(rt, path).ok());
-        let Ok(boxed) = Box::new(rt.alloc(), notifier) else {
-            return RunStatus::OutOfMemory;
-        };
-        if notifiers.push(boxed).is_err() {
-            return RunStatus::OutOfMemory;
-        }
-    }
+    let Ok(file) = SharedFile::new(rt.alloc()) else {
+        return RunStatus::OutOfMemory;
+    };
+    let Ok(notifiers) = notifiers_to(rt, named, &file) else {
+        return RunStatus::OutOfMemory;
+    };
     let given = notifiers.len();
     let mut network = source_of(rt, named, "network");
     let mut fleet = source_of(rt, named, "fleet");
     let LiveEnd {
         script,
         out,
+        notifiers,
         status,
     } = live(
         threads,
@@ -251,9 +247,9 @@ fn live_from<S: Source + Send + Drop>(
         &mut network,
         &mut fleet,
         script,
-        StdSink::over(rt.stdout()),
-        &mut notifiers,
-        &FreeGate,
+        OpeningSink::over(rt, StdSink::over(rt.stdout()), path, file),
+        notifiers,
+        &WatchedGate::over(rt.alloc(), terminal_of(rt)),
         RefusedRows {
             alloc: rt.alloc(),
             error: rt.stderr(),
@@ -265,6 +261,19 @@ fn live_from<S: Source + Send + Drop>(
         print_line(rt, b"notices: write failed");
     }
     status
+}
+
+/// The notifiers that the words ask for: one that writes to this file, or none.
+fn notifiers_to(
+    rt: &HostRuntime,
+    words: &[String],
+    file: &SharedFile,
+) -> Result<Vec<LineNotifier<SharedFile>>, OutOfMemory> {
+    let mut notifiers = Vec::new(rt.alloc());
+    if value_of(words, "notices").is_some() {
+        notifiers.push(LineNotifier::over(rt.alloc(), Some(file.share()?)))?;
+    }
+    Ok(notifiers)
 }
 
 /// Tells each refused row on standard error.
@@ -296,10 +305,14 @@ fn terminal_of(rt: &HostRuntime) -> Option<Stderr> {
 /// The file for notices, where the words name one that is no input and not standard output; else a line says so.
 fn notices_path<'a>(rt: &HostRuntime, words: &'a [String]) -> Option<&'a str> {
     let path = value_of(words, "notices")?;
+    let script = match value_of(words, "script") {
+        Some(script) => script,
+        None => "/dev/stdin",
+    };
     let inputs = [
         value_of(words, "network"),
         value_of(words, "fleet"),
-        value_of(words, "script"),
+        Some(script),
     ];
     if is_taken(rt, path, &inputs) {
         print_line(
@@ -311,8 +324,8 @@ fn notices_path<'a>(rt: &HostRuntime, words: &'a [String]) -> Option<&'a str> {
     Some(path)
 }
 
-/// A notifier that writes to this file.
-fn notifier_to(
+/// A notifier that writes to this file, in a box.
+fn boxed_notifier_to(
     rt: &HostRuntime,
     file: &SharedFile,
 ) -> Result<Box<LineNotifier<SharedFile>>, OutOfMemory> {

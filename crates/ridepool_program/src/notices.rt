@@ -5,13 +5,12 @@ ghost use Rattle.pool_io.specs.Faults.{Rose};
 
 use pool_io::{Sink, SinkFault};
 use std::alloc::{AllocError, Global};
-use std::cell::RefCell;
 use std::fs::{self, File, Metadata};
 use std::io;
 use std::io::{ErrorKind, Write};
 use std::marker::Model;
 use std::os::unix::fs::MetadataExt;
-use std::rc::Rc;
+use std::sync::{Arc, OnceLock};
 
 /// Whether a path leads to a file that one of the others leads to, or to standard output. A path that leads nowhere
 /// doesn't.
@@ -33,17 +32,17 @@ fn leads_to(rt: &HostRuntime, path: &str, place: &Metadata) -> bool {
     }
 }
 
-/// A file that is opened by one and written by another.
+/// A file that is opened once by one and written by another, maybe in another thread.
 #[derive(Drop)]
 pub struct SharedFile {
-    file: Rc<RefCell<Option<File>>>,
+    file: Arc<OnceLock<File>>,
 }
 
 impl SharedFile {
     /// A file that isn't open.
     pub fn new(alloc: Global) -> Result<SharedFile, AllocError> {
         Ok(SharedFile {
-            file: Rc::new(alloc, RefCell::new(None))?,
+            file: Arc::new(alloc, OnceLock::new())?,
         })
     }
 
@@ -55,20 +54,16 @@ impl SharedFile {
     }
 
     fn open(&self, rt: &HostRuntime, path: &str) {
-        let opened = File::create(rt, path).ok();
-        if let Ok(mut file) = self.file.try_borrow_mut() {
-            *file = opened;
+        if let Ok(file) = File::create(rt, path) {
+            let _ = self.file.try_set(file);
         }
     }
 }
 
 impl Write for SharedFile {
     fn write(&mut self, bytes: &[u8]) -> io::Result<usize> {
-        let Ok(mut file) = self.file.try_borrow_mut() else {
-            return Err(io::Error::from(ErrorKind::Other));
-        };
-        match file.as_mut() {
-            Some(file) => file.write(bytes),
+        match self.file.get() {
+            Some(mut file) => file.write(bytes),
             None => Err(io::Error::from(ErrorKind::NotFound)),
         }
     }

@@ -8,8 +8,8 @@ use Rattle.pool_base.specs.Number.{value_of}
 use Rattle.pool_base.specs.Numeral.{is_numeral, number_up_to}
 use Rattle.pool_base.proofs.lemmas.InOrderLemmas.{first_fault-each}
 use Rattle.pool_base.proofs.lemmas.NumeralLemmas.{number_up_to-some}
-use Rattle.rider_limits.specs.declared.command.Command.{Command}
-use Rattle.rider_limits.specs.declared.command.Command.TheVariants.{Run, Load, Drive, Audit}
+use Rattle.rider_limits.specs.declared.subcommand.Subcommand.{Subcommand}
+use Rattle.rider_limits.specs.declared.subcommand.Subcommand.TheVariants.{Run, Load, Drive, Audit}
 use Rattle.rider_limits.specs.declared.key.Key.{Key}
 use Rattle.rider_limits.specs.declared.key.Key.TheVariants.{Input, Notices, Wait, Delay, Trip, Penalty, Budget, Pairs, Workers, Proof, Dwell, Times, Seed, Side, Vehicles, Riders, Rounds}
 use Rattle.rider_limits.specs.declared.key.Takes.TheVariants.{Number}
@@ -52,7 +52,7 @@ name_lacks_equals Riders = refl
 name_lacks_equals Rounds = refl
 
 -- a key is found by its name, where the command has it
-key_of-name : (command : Command) (key : Key) → key_of command (about key).name ≡ cond ((about key).has command) (Some key) None
+key_of-name : (command : Subcommand) (key : Key) → key_of command (about key).name ≡ cond ((about key).has command) (Some key) None
 unfolding key_of
 key_of-name Run (Input Network) = refl
 key_of-name Run (Input Fleet) = refl
@@ -136,7 +136,7 @@ key_of-name Audit Riders = refl
 key_of-name Audit Rounds = refl
 
 -- a word of a key's name, `=` and a text gives that key and text, where the command has the key
-option_of-named : (command : Command) (key : Key) (word text : List ℕ) → word ≡ (about key).name ++ 61 ∷ text → option_of command word ≡ option_map (λ k. (k, text)) (cond ((about key).has command) (Some key) None)
+option_of-named : (command : Subcommand) (key : Key) (word text : List ℕ) → word ≡ (about key).name ++ 61 ∷ text → option_of command word ≡ option_map (λ k. (k, text)) (cond ((about key).has command) (Some key) None)
 unfolding option_of
 option_of-named command key word text is =
     let name : List ℕ = (about key).name in
@@ -156,7 +156,7 @@ option_of-named command key word text is =
     ∙ ap (option_map (λ k. (k, text))) (key_of-name command key)
 
 -- a word without a fault gives a key of the command a text that the key takes
-faultless : (command : Command) (key : Key) (earlier : List (List ℕ)) (place : ℕ) (word text : List ℕ) → word ≡ (about key).name ++ 61 ∷ text → option_fault earlier place (option_of command word) ≡ None → accepts (about key).takes text ≡ true
+faultless : (command : Subcommand) (key : Key) (earlier : List (List ℕ)) (place : ℕ) (word text : List ℕ) → word ≡ (about key).name ++ 61 ∷ text → option_fault earlier place (option_of command word) ≡ None → accepts (about key).takes text ≡ true
 faultless command key earlier place word text is none =
     let named = option_of-named command key word text is in
     let at : option_fault earlier place (option_map (λ k. (k, text)) (cond ((about key).has command) (Some key) None)) ≡ None = sym (ap (option_fault earlier place) named) ∙ none in
@@ -191,7 +191,7 @@ text_given-at key (word ∷ words) text given = by_first (λ given. text_given-a
     by_first later (Some t) here given = (0, omega arith, here ∙ given)
 
 -- words without a fault give each key a text that it takes
-given_is_accepted : (command : Command) (key : Key) (words : List (List ℕ)) (text : List ℕ) → words_fault command words ≡ None → text_given (about key).name words ≡ Some text → accepts (about key).takes text ≡ true
+given_is_accepted : (command : Subcommand) (key : Key) (words : List (List ℕ)) (text : List ℕ) → words_fault command words ≡ None → text_given (about key).name words ≡ Some text → accepts (about key).takes text ≡ true
 given_is_accepted command key words text none given =
     let at = text_given-at (about key).name words text given in
     faultless command key (take at.0 words) (at.0 + 2) (get_or words at.0 []) text (after_key-some (about key).name (get_or words at.0 []) text at.2)
@@ -248,6 +248,6 @@ accepted_is_taken Riders text number good = number_taken Riders 1 1000 text refl
 accepted_is_taken Rounds text number good = number_taken Rounds 1 100 text refl (lit≤ tt) good
 
 -- words without a fault give a key of numbers a numeral that it takes
-pub given_is_taken : (command : Command) (key : Key) (words : List (List ℕ)) (text : List ℕ) → words_fault command words ≡ None → IsNumber (about key).takes → text_given (about key).name words ≡ Some text → IsTakenText key text
+pub given_is_taken : (command : Subcommand) (key : Key) (words : List (List ℕ)) (text : List ℕ) → words_fault command words ≡ None → IsNumber (about key).takes → text_given (about key).name words ≡ Some text → IsTakenText key text
 given_is_taken command key words text none number given =
     accepted_is_taken key text number (given_is_accepted command key words text none given)

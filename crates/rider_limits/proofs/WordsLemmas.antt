@@ -9,7 +9,7 @@ use Rattle.std.proofs.lemmas.Bool.Decides.{Decides-eqb}
 use Rattle.std.proofs.lemmas.Slice.Eq.{starts_is}
 use Rattle.pool_base.specs.InOrder.{first_fault}
 use Rattle.pool_base.proofs.lemmas.InOrderLemmas.{first_fault-none, first_fault-some}
-use Rattle.rider_limits.specs.declared.command.Command.{Command}
+use Rattle.rider_limits.specs.declared.subcommand.Subcommand.{Subcommand}
 use Rattle.rider_limits.specs.declared.word_fault.WordFault.{WordFault}
 use Rattle.rider_limits.specs.Key.{key_of}
 use Rattle.rider_limits.specs.Words.{after_key, option_of, option_fault}
@@ -65,7 +65,7 @@ Parts word r =
     (λ x. (position_or_len (λ c. nat_eq c 61) word < length word) × (x.0.now ≡ before_first (λ c. nat_eq c 61) word) × (x.1.now ≡ after_first (λ c. nat_eq c 61) word))
 
 -- a word without `=` gives no key
-pub option_of-lacks : (command : Command) (word : List ℕ) (r : Option (Bor (List ℕ) × Bor (List ℕ))) → Parts word r → r ≡ None → option_of command word ≡ None
+pub option_of-lacks : (command : Subcommand) (word : List ℕ) (r : Option (Bor (List ℕ) × Bor (List ℕ))) → Parts word r → r ≡ None → option_of command word ≡ None
 unfolding option_of
 option_of-lacks command word r parts none =
     let at : position_or_len (λ c. nat_eq c 61) word ≡ length word = MatchOption-at_none _ _ none parts in
@@ -73,7 +73,7 @@ option_of-lacks command word r parts none =
     (le-ltb (position_or_len (λ c. nat_eq c 61) word) (length word) (omega arith))
 
 -- a word with `=` gives the key of what stands before it, and what stands behind it
-pub option_of-parts : (command : Command) (word : List ℕ) (r : Option (Bor (List ℕ) × Bor (List ℕ))) (x : Bor (List ℕ) × Bor (List ℕ)) → Parts word r → r ≡ Some x → option_of command word ≡ option_map (λ key. (key, x.1.now)) (key_of command x.0.now)
+pub option_of-parts : (command : Subcommand) (word : List ℕ) (r : Option (Bor (List ℕ) × Bor (List ℕ))) (x : Bor (List ℕ) × Bor (List ℕ)) → Parts word r → r ≡ Some x → option_of command word ≡ option_map (λ key. (key, x.1.now)) (key_of command x.0.now)
 unfolding option_of
 option_of-parts command word r x parts some =
     let at = MatchOption-at_some _ _ x some parts in
@@ -83,18 +83,18 @@ option_of-parts command word r x parts some =
     ∙ ap (λ text. option_map (λ key. (key, text)) (key_of command x.0.now)) (sym at.2)
 
 -- what a word says among all words is what is wrong at its place
-fault_at-word : {X : Type 0} (f : X → List ℕ) (command : Command) (xs : List X) (i : ℕ) (x : X) → i < length xs → x ≡ get_or xs i x → fault_at command (map f xs) i ≡ option_fault (map f (take i xs)) (i + 2) (option_of command (f x))
+fault_at-word : {X : Type 0} (f : X → List ℕ) (command : Subcommand) (xs : List X) (i : ℕ) (x : X) → i < length xs → x ≡ get_or xs i x → fault_at command (map f xs) i ≡ option_fault (map f (take i xs)) (i + 2) (option_of command (f x))
 fault_at-word f command xs i x within is =
     ap (λ earlier. option_fault earlier (i + 2) (option_of command (get_or (map f xs) i []))) (take-map f i xs)
     ∙ ap (λ word. option_fault (map f (take i xs)) (i + 2) (option_of command word)) (get_or-map f xs i x [] within ∙ ap f (sym is))
 
 -- a word without a fault
-pub words_fault-step : {X : Type 0} (f : X → List ℕ) (command : Command) (xs : List X) (i : ℕ) (x : X) → i < length xs → x ≡ get_or xs i x → option_fault (map f (take i xs)) (i + 2) (option_of command (f x)) ≡ None → first_fault (fault_at command (map f xs)) i ≡ None → first_fault (fault_at command (map f xs)) (i + 1) ≡ None
+pub words_fault-step : {X : Type 0} (f : X → List ℕ) (command : Subcommand) (xs : List X) (i : ℕ) (x : X) → i < length xs → x ≡ get_or xs i x → option_fault (map f (take i xs)) (i + 2) (option_of command (f x)) ≡ None → first_fault (fault_at command (map f xs)) i ≡ None → first_fault (fault_at command (map f xs)) (i + 1) ≡ None
 words_fault-step f command xs i x within is none before =
     first_fault-none (fault_at command (map f xs)) i before (fault_at-word f command xs i x within is ∙ none)
 
 -- the first word with a fault
-pub words_fault-here : {X : Type 0} (f : X → List ℕ) (command : Command) (xs : List X) (i : ℕ) (x : X) (fault : WordFault) → i < length xs → x ≡ get_or xs i x → option_fault (map f (take i xs)) (i + 2) (option_of command (f x)) ≡ Some fault → first_fault (fault_at command (map f xs)) i ≡ None → words_fault command (map f xs) ≡ Some fault
+pub words_fault-here : {X : Type 0} (f : X → List ℕ) (command : Subcommand) (xs : List X) (i : ℕ) (x : X) (fault : WordFault) → i < length xs → x ≡ get_or xs i x → option_fault (map f (take i xs)) (i + 2) (option_of command (f x)) ≡ Some fault → first_fault (fault_at command (map f xs)) i ≡ None → words_fault command (map f xs) ≡ Some fault
 words_fault-here f command xs i x fault within is some before =
     let size : length (map f xs) ≡ length xs = length-map xs f in
     first_fault-some (fault_at command (map f xs)) (length (map f xs)) i fault (omega (arith, within, size)) before (fault_at-word f command xs i x within is ∙ some)

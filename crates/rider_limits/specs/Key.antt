@@ -6,49 +6,49 @@ use Rattle.pool_base.specs.Numeral.{number_up_to}
 use Rattle.pool_base.specs.Which as file
 use Rattle.pool_base.specs.declared.which.Which.{Which}
 use Rattle.pool_base.specs.declared.which.Which.TheVariants.{Network, Fleet, Script, Report}
-use Rattle.rider_limits.specs.declared.command.Command.{Command}
-use Rattle.rider_limits.specs.declared.command.Command.TheVariants.{Run, Load, Drive, Audit}
+use Rattle.rider_limits.specs.declared.subcommand.Subcommand.{Subcommand}
+use Rattle.rider_limits.specs.declared.subcommand.Subcommand.TheVariants.{Run, Load, Drive, Audit}
 use Rattle.rider_limits.specs.declared.key.Key.{Key}
 use Rattle.rider_limits.specs.declared.key.Key.TheVariants.{Input, Notices, Wait, Delay, Trip, Penalty, Budget, Pairs, Workers, Proof, Dwell, Times, Seed, Side, Vehicles, Riders, Rounds}
 use Rattle.rider_limits.specs.declared.key.Takes.{Takes}
 use Rattle.rider_limits.specs.declared.key.Takes.TheVariants.{FileName, Number, Way}
 
 -- the word of a command
-abbrev pub command_name : Command → List ℕ
+abbrev pub command_name : Subcommand → List ℕ
 command_name Run = codes "run"
 command_name Load = codes "load"
 command_name Drive = codes "drive"
 command_name Audit = codes "audit"
 
 -- the command of a word
-abbrev pub command_of : List ℕ → Option Command
+abbrev pub command_of : List ℕ → Option Subcommand
 command_of word = find (λ command. bytes_eq (command_name command) word) (Run ∷ Load ∷ Drive ∷ Audit ∷ [])
 
 -- a command reads this file: a made workload none, and only an audit a report
-abbrev pub reads : Command → Which → Bool
+abbrev pub reads : Subcommand → Which → Bool
 reads Load which = false
 reads Audit which = true
 reads command Report = false
 reads command which = true
 
 -- a command makes its inputs from a seed
-abbrev pub makes_inputs : Command → Bool
+abbrev pub makes_inputs : Subcommand → Bool
 makes_inputs Load = true
 makes_inputs _ = false
 
 -- a command solves batches, by settings that the words give; an audit judges a printed report instead
-abbrev pub solves : Command → Bool
+abbrev pub solves : Subcommand → Bool
 solves Audit = false
 solves _ = true
 
 -- a command prints a report
-abbrev pub prints_report : Command → Bool
+abbrev pub prints_report : Subcommand → Bool
 prints_report command = solves command && not (makes_inputs command)
 
 -- a row of the table of keys: the key's name, the commands that have it, what it takes, its number where no word gives one
 pub record KeyRow : Type 0 where
   pub name : List ℕ
-  pub has : Command → Bool
+  pub has : Subcommand → Bool
   pub takes : Takes
   pub default_number : ℕ
 
@@ -73,7 +73,7 @@ about Riders = record { name = codes "riders"; has = makes_inputs; takes = Numbe
 about Rounds = record { name = codes "rounds"; has = makes_inputs; takes = Number 1 100; default_number = 4 }
 
 -- the key of this name that a command has, of all keys
-unfoldable pub key_of : Command → List ℕ → Option Key
+unfoldable pub key_of : Subcommand → List ℕ → Option Key
 key_of command name =
     find (λ key. (about key).has command && bytes_eq (about key).name name)
     (Input Network ∷ Input Fleet ∷ Input Script ∷ Input Report ∷ Notices

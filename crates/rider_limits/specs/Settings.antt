@@ -1,8 +1,8 @@
 use Rattle.std.specs.Prelude.{◌≡◌, ℕ, List, [], ◌∷◌, Option, Some, IsTrue, ◌↔◌, codes}
 use Rattle.std.specs.Option.{option_map_or}
 use Rattle.pool_base.specs.Number.{value_of}
-use Rattle.rider_limits.specs.declared.command.Command.{Command}
-use Rattle.rider_limits.specs.declared.command.Command.TheVariants.{Run, Load, Drive, Audit}
+use Rattle.rider_limits.specs.declared.subcommand.Subcommand.{Subcommand}
+use Rattle.rider_limits.specs.declared.subcommand.Subcommand.TheVariants.{Run, Load, Drive, Audit}
 use Rattle.rider_limits.specs.declared.key.Key.{Key}
 use Rattle.rider_limits.specs.declared.key.Key.TheVariants.{Wait, Delay, Trip, Penalty, Budget, Pairs, Workers, Proof, Dwell, Times, Seed, Side, Vehicles, Riders, Rounds}
 use Rattle.rider_limits.specs.declared.load_shape.LoadShape.{LoadShape}
@@ -26,7 +26,7 @@ pub record IsShapeGiven (words : List (List ℕ)) (shape : LoadShape) : Type 0 w
   pub rounds : shape.rounds ≡ number_given Rounds words
 
 -- the mode is the command's, with the shape that the words give
-abbrev pub IsModeGiven : Option Command → List (List ℕ) → Mode → Type 0
+abbrev pub IsModeGiven : Option Subcommand → List (List ℕ) → Mode → Type 0
 IsModeGiven (Some Run) words Running = Unit {0}
 IsModeGiven (Some Drive) words Driving = Unit {0}
 IsModeGiven (Some Audit) words Auditing = Unit {0}
@@ -34,7 +34,7 @@ IsModeGiven (Some Load) words (Loading shape) = IsShapeGiven words shape
 IsModeGiven _ words _ = ⊥
 
 -- the settings are those that a command and the words behind it give
-pub record AreGivenBehind (command : Option Command) (words : List (List ℕ)) (s : Settings) : Type 0 where
+pub record AreGivenBehind (command : Option Subcommand) (words : List (List ℕ)) (s : Settings) : Type 0 where
   pub mode : IsModeGiven command words s.mode
   pub wait : s.wait ≡ number_given Wait words
   pub delay : s.delay ≡ number_given Delay words

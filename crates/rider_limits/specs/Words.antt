@@ -5,8 +5,8 @@ use Rattle.pool_base.specs.InOrder.{first_fault}
 use Rattle.pool_base.specs.Which as file
 use Rattle.pool_base.specs.declared.which.Which.{Which}
 use Rattle.pool_base.specs.declared.which.Which.TheVariants.{Network, Fleet, Script, Report}
-use Rattle.rider_limits.specs.declared.command.Command.{Command}
-use Rattle.rider_limits.specs.declared.command.Command.TheVariants.{Load, Audit}
+use Rattle.rider_limits.specs.declared.subcommand.Subcommand.{Subcommand}
+use Rattle.rider_limits.specs.declared.subcommand.Subcommand.TheVariants.{Load, Audit}
 use Rattle.rider_limits.specs.declared.key.Key.{Key}
 use Rattle.rider_limits.specs.declared.word_fault.WordFault.{WordFault}
 use Rattle.rider_limits.specs.declared.word_fault.WordFault.TheVariants.{NoCommand, UnknownKey, Repeated, BadValue, MissingFile}
@@ -22,7 +22,7 @@ text_given key [] = None
 text_given key (word ∷ words) = option_or (after_key key word) (text_given key words)
 
 -- the command's key that stands before a word's first `=`, and what stands behind it
-unfoldable pub option_of : Command → List ℕ → Option (Key × List ℕ)
+unfoldable pub option_of : Subcommand → List ℕ → Option (Key × List ℕ)
 option_of command word =
     if nat_lt (position_or_len (λ c. c == 61) word) (length word)
     then option_map (λ key. (key, after_first (λ c. c == 61) word)) (key_of command (before_first (λ c. c == 61) word))
@@ -41,14 +41,14 @@ abbrev pub is_missing : List (List ℕ) → Which → Bool
 is_missing words which = is_none (text_given (file.file_name which) words)
 
 -- the first file that a command needs and these words don't name
-abbrev pub missing_file : Command → List (List ℕ) → Option Which
+abbrev pub missing_file : Subcommand → List (List ℕ) → Option Which
 missing_file Load words = None
 missing_file Audit words = find (is_missing words) (Network ∷ Fleet ∷ Script ∷ Report ∷ [])
 missing_file _ words = find (is_missing words) (Network ∷ Fleet ∷ Script ∷ [])
 
 -- why the words behind a command are refused, if they are: the first fault of a word, or else a file that is missing;
 -- the command is word 1
-abbrev pub fault_behind : Option Command → List (List ℕ) → Option WordFault
+abbrev pub fault_behind : Option Subcommand → List (List ℕ) → Option WordFault
 fault_behind None words = Some NoCommand
 fault_behind (Some command) words =
     option_or

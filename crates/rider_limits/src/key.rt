@@ -2,7 +2,7 @@ ghost use Rattle.std.specs.Prelude.{◌≡◌};
 ghost use Rattle.std.specs.List.{find};
 ghost use Rattle.rider_limits.specs.work.Taken.{is_key};
 
-use crate::command::Command;
+use crate::subcommand::Subcommand;
 use pool_base::{Which, read_number_up_to};
 
 /// What stands before a word's `=`.
@@ -63,21 +63,21 @@ impl Key {
         }
     }
 
-    fn is_of(self, command: Command) -> bool
+    fn is_of(self, command: Subcommand) -> bool
         ensures { result ≡ (about self).has command }
     {
         match self {
-            Key::Input(Which::Report) => command == Command::Audit,
-            Key::Input(_) => command != Command::Load,
-            Key::Notices | Key::Proof => matches!(command, Command::Run | Command::Drive),
+            Key::Input(Which::Report) => command == Subcommand::Audit,
+            Key::Input(_) => command != Subcommand::Load,
+            Key::Notices | Key::Proof => matches!(command, Subcommand::Run | Subcommand::Drive),
             Key::Seed | Key::Side | Key::Vehicles | Key::Riders | Key::Rounds => command
-                == Command::Load,
+                == Subcommand::Load,
             Key::Workers => true,
-            _ => command != Command::Audit,
+            _ => command != Subcommand::Audit,
         }
     }
 
-    fn is_named(self, command: Command, name: &str) -> bool
+    fn is_named(self, command: Subcommand, name: &str) -> bool
         ensures { result ≡ is_key command name.now self }
     {
         self.is_of(command) && self.name() == name
@@ -85,7 +85,7 @@ impl Key {
 
     /// The key of this name that a command has.
     #[tactic(auto, unfolding(crate::specs::Key::key_of))]
-    pub(crate) fn of(command: Command, name: &str) -> Option<Key>
+    pub(crate) fn of(command: Subcommand, name: &str) -> Option<Key>
         ensures { result ≡ key_of command name.now }
     {
         let keys = [
@@ -156,7 +156,7 @@ impl Key {
 }
 
 /// The first of these keys that a command has under this name.
-fn first_named(keys: &[Key], command: Command, name: &str) -> Option<Key>
+fn first_named(keys: &[Key], command: Subcommand, name: &str) -> Option<Key>
     ensures { result ≡ find (is_key command name.now) keys.now }
 {
     keys.iter().copied().find(|key| key.is_named(command, name))

@@ -2,13 +2,33 @@
 //!
 //! Words are a command and `key=value` pairs; every fault is found in the order of the words and named
 //! with its place. The types keep each number within its range, so that no crate above checks one again.
+//!
+//! A caller, from the tests of `input_tests`:
+//!
+//! ```
+//! fn an_audit_has_four_files_and_workers(rt: HostRuntime) -> Result<(), Fail> {
+//!     let given = words(
+//!         rt.alloc(),
+//!         "audit network=n fleet=f script=s report=r workers=2",
+//!     )?;
+//!     let Ok(settings) = read_words(&given) else {
+//!         return Err("the words of an audit are refused")?;
+//!     };
+//!     assert!(rt; settings.mode == Mode::Audit && settings.workers == 2 && settings.wait == 120);
+//!     let given = words(rt.alloc(), "audit wait=5")?;
+//!     assert!(rt; read_words(&given) == Err(WordFault::UnknownKey { word: 2 }));
+//!     Ok(())
+//! }
+//! ```
+//!
+//! Main clauses: `read_words`: `accepted`, `refused`; `value_of`.
 #![tactic(auto)]
 
-mod command;
 mod key;
 mod load_shape;
 mod reading;
 mod settings;
+mod subcommand;
 mod word_fault;
 mod words;
 

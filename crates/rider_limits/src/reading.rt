@@ -5,20 +5,20 @@ ghost use Rattle.rider_limits.specs.work.Taken.{IsNumber, IsAccepted};
 ghost use Rattle.rider_limits.specs.Words.{text_given, fault_of};
 ghost use Rattle.rider_limits.specs.work.Named.{words_fault};
 ghost use Rattle.rider_limits.specs.Settings.{number_given, IsShapeGiven, AreGivenBehind, AreGiven};
-ghost use Rattle.rider_limits.specs.declared.command.Command.TheVariants.{Load};
+ghost use Rattle.rider_limits.specs.declared.subcommand.Subcommand.TheVariants.{Load};
 ghost use Rattle.rider_limits.specs.declared.key.Key.TheVariants.{Times};
 ghost use Rattle.rider_limits.specs.declared.settings.TimesWay.TheVariants.{Labels};
 
-use crate::command::Command;
 use crate::key::Key;
 use crate::load_shape::LoadShape;
 use crate::settings::{Mode, Settings, TimesWay};
+use crate::subcommand::Subcommand;
 use crate::word_fault::WordFault;
 use crate::words::{first_fault, missing_file, value_of};
 use pool_base::read_number_up_to;
 
 /// The number that words without a fault give a key.
-fn number(command: Command, options: &[String], key: Key) -> u64
+fn number(command: Subcommand, options: &[String], key: Key) -> u64
     requires faultless { words_fault command (map string_bytes options.now) ≡ None }
     requires number { IsNumber (about key).takes }
     ensures value { result ≡ number_given key (map string_bytes options.now) }
@@ -32,29 +32,29 @@ fn number(command: Command, options: &[String], key: Key) -> u64
 
 /// The shape that words without a fault give.
 fn shape(options: &[String]) -> LoadShape
-    requires { words_fault Command.Load (map string_bytes options.now) ≡ None }
+    requires { words_fault Subcommand.Load (map string_bytes options.now) ≡ None }
     ensures { IsShapeGiven (map string_bytes options.now) result }
 {
     LoadShape {
-        seed: number(Command::Load, options, Key::Seed),
-        side: number(Command::Load, options, Key::Side) as u32,
-        vehicles: number(Command::Load, options, Key::Vehicles) as u32,
-        riders: number(Command::Load, options, Key::Riders) as u32,
-        rounds: number(Command::Load, options, Key::Rounds) as u32,
+        seed: number(Subcommand::Load, options, Key::Seed),
+        side: number(Subcommand::Load, options, Key::Side) as u32,
+        vehicles: number(Subcommand::Load, options, Key::Vehicles) as u32,
+        riders: number(Subcommand::Load, options, Key::Riders) as u32,
+        rounds: number(Subcommand::Load, options, Key::Rounds) as u32,
     }
 }
 
 /// The settings that words without a fault give.
-fn settings(command: Command, options: &[String]) -> Settings
+fn settings(command: Subcommand, options: &[String]) -> Settings
     requires { words_fault command (map string_bytes options.now) ≡ None }
     ensures { AreGivenBehind (Some command) (map string_bytes options.now) result }
 {
     Settings {
         mode: match command {
-            Command::Run => Mode::Run,
-            Command::Load => Mode::Load(shape(options)),
-            Command::Drive => Mode::Drive,
-            Command::Audit => Mode::Audit,
+            Subcommand::Run => Mode::Run,
+            Subcommand::Load => Mode::Load(shape(options)),
+            Subcommand::Drive => Mode::Drive,
+            Subcommand::Audit => Mode::Audit,
         },
         wait: number(command, options, Key::Wait) as u32,
         delay: number(command, options, Key::Delay) as u32,
@@ -96,7 +96,7 @@ pub fn read_words(words: &[String]) -> Result<Settings, WordFault>
     let Some((word, options)) = words.split_first() else {
         return Err(WordFault::NoCommand);
     };
-    let Some(command) = Command::of(word.as_str()) else {
+    let Some(command) = Subcommand::of(word.as_str()) else {
         return Err(WordFault::NoCommand);
     };
     if let Some(fault) = first_fault(command, options) {

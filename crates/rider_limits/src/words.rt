@@ -5,8 +5,8 @@ ghost use Rattle.std.specs.Option.{option_copied};
 ghost use Rattle.rider_limits.specs.Words.{after_key, text_given, option_of, option_fault, is_missing, missing_file};
 ghost use Rattle.rider_limits.specs.work.Named.{words_fault};
 
-use crate::command::Command;
 use crate::key::Key;
+use crate::subcommand::Subcommand;
 use crate::word_fault::WordFault;
 use pool_base::Which;
 
@@ -30,7 +30,7 @@ pub fn value_of<'a>(words: &'a [String], key: &str) -> Option<&'a str>
 }
 
 /// The command's key before a word's first `=`, and the text behind it.
-fn option_of(command: Command, word: &str) -> Option<(Key, &str)>
+fn option_of(command: Subcommand, word: &str) -> Option<(Key, &str)>
     ensures { MatchOption result (option_of command word.now ≡ None)
         (λ x. option_of command word.now ≡ Some (x.0, x.1.now)) }
 {
@@ -40,7 +40,7 @@ fn option_of(command: Command, word: &str) -> Option<(Key, &str)>
 }
 
 /// What is wrong with the word of a number, where these stand before it.
-fn word_fault(command: Command, earlier: &[String], word: &str, number: u64) -> Option<WordFault>
+fn word_fault(command: Subcommand, earlier: &[String], word: &str, number: u64) -> Option<WordFault>
     ensures { result ≡ option_fault (map string_bytes earlier.now) number (option_of command word.now) }
 {
     let Some((key, text)) = option_of(command, word) else {
@@ -57,7 +57,7 @@ fn word_fault(command: Command, earlier: &[String], word: &str, number: u64) -> 
 }
 
 /// The first fault of the words behind a command.
-pub(crate) fn first_fault(command: Command, options: &[String]) -> Option<WordFault>
+pub(crate) fn first_fault(command: Subcommand, options: &[String]) -> Option<WordFault>
     ensures { result ≡ words_fault command (map string_bytes options.now) }
 {
     for (index, word) in options.iter().enumerate() {
@@ -90,13 +90,13 @@ fn first_missing(options: &[String], files: &[Which]) -> Option<Which>
 }
 
 /// The first file that a command needs and these words don't name.
-pub(crate) fn missing_file(command: Command, options: &[String]) -> Option<Which>
+pub(crate) fn missing_file(command: Subcommand, options: &[String]) -> Option<Which>
     ensures { result ≡ missing_file command (map string_bytes options.now) }
 {
     let files = [Which::Network, Which::Fleet, Which::Script, Which::Report];
     match command {
-        Command::Run | Command::Drive => first_missing(options, &files[..3]),
-        Command::Audit => first_missing(options, &files),
-        Command::Load => None,
+        Subcommand::Run | Subcommand::Drive => first_missing(options, &files[..3]),
+        Subcommand::Audit => first_missing(options, &files),
+        Subcommand::Load => None,
     }
 }

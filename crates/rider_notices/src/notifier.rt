@@ -27,3 +27,27 @@ pub trait Notifier: Drop {
         ensures sure { 0 < steady self.old → IsOk result }
         ensures steady { steady self.old ≤ steady self.new + 1 };
 }
+
+impl Notifier for Box<dyn Notifier> {
+    ghost told = { λ b. (Notifier-box b).told b.value };
+
+    ghost faults = { λ b. (Notifier-box b).faults b.value };
+
+    ghost steady = { λ b. (Notifier-box b).steady b.value };
+
+    fn tell(&mut self, notice: &Notice) -> Result<(), Failed> {
+        (**self).tell(notice)
+    }
+}
+
+impl Notifier for Box<dyn Notifier + Send> {
+    ghost told = { λ b. (Notifier-box b).told b.value };
+
+    ghost faults = { λ b. (Notifier-box b).faults b.value };
+
+    ghost steady = { λ b. (Notifier-box b).steady b.value };
+
+    fn tell(&mut self, notice: &Notice) -> Result<(), Failed> {
+        (**self).tell(notice)
+    }
+}

@@ -1,12 +1,14 @@
 ghost use Rattle.std.specs.Prelude.{◌≡◌, ◌++◌, ◌∷◌, [], IfOk, OnOk, if◌then◌else◌};
 ghost use Rattle.request_book.specs.Consistent.{IsConsistent};
+ghost use Rattle.request_book.specs.declared.reply.Reply.TheVariants.{Closed};
 ghost use Rattle.rider_notices.specs.Notices.{notices, notices_from, entry_notices, batch_notices, is_asking, notice_of, trip_notice, pickup_second, dropoff_second};
 
 use crate::notice::Notice;
+use crate::statuses::Statuses;
 use batch_snapshot::Snapshot;
 use pool_base::{OutOfMemory, RiderId};
 use request_book::{
-    Answer, ChosenTrip, Command, Entry, Journal, PlannedStop, Replay, Reply, Status,
+    Answer, Book, ChosenTrip, Command, Entry, Journal, PlannedStop, Replay, Reply, Status,
 };
 use road_network::Network;
 use std::alloc::Global;
@@ -27,6 +29,19 @@ pub fn notices_of(
 {
     let mut told = Vec::new(alloc);
     note_journal(alloc, &mut told, journal, network, wait)?;
+    Ok(told)
+}
+
+/// The notices of a close, if the book takes it now; another command has none.
+pub fn notices_of_close(
+    alloc: Global,
+    book: &Book,
+    command: &Command,
+) -> Result<Vec<Notice>, OutOfMemory>
+    ensures { IfOk result (λ told. told.items ≡ entry_notices book.now.state command.now Closed) }
+{
+    let mut told = Vec::new(alloc);
+    note_step(&mut told, book, command, &Reply::Closed)?;
     Ok(told)
 }
 
@@ -54,19 +69,24 @@ fn note_entries(
     ensures { OnOk result (told.new.items ≡ told.old.items ++ notices_from replay.old.nodes replay.old.wait replay.old.state entries.now) }
 {
     for entry in entries {
-        note_entry(told, replay, entry)?;
+        note_step(told, replay, &entry.command, &entry.reply)?;
         replay.run(&entry.command)?;
     }
     Ok(())
 }
 
-/// Notes what an entry tells, in the state before it.
-fn note_entry(told: &mut Vec<Notice>, replay: &Replay, entry: &Entry) -> Result<(), OutOfMemory>
-    ensures { OnOk result (told.new.items ≡ told.old.items ++ entry_notices replay.now.state entry.now.command entry.now.reply) }
+/// Notes what a command that was answered so tells, in the state before it.
+fn note_step<S: Statuses>(
+    told: &mut Vec<Notice>,
+    before: &S,
+    command: &Command,
+    reply: &Reply,
+) -> Result<(), OutOfMemory>
+    ensures { OnOk result (told.new.items ≡ told.old.items ++ entry_notices (S.state before.now) command.now reply.now) }
 {
-    match (&entry.command, &entry.reply) {
-        (Command::Close { outcome, .. }, Reply::Closed) => match replay.sealed() {
-            Some(batch) => note_batch(told, replay, batch, &outcome.answer),
+    match (command, reply) {
+        (Command::Close { outcome, .. }, Reply::Closed) => match before.sealed() {
+            Some(batch) => note_batch(told, before, batch, &outcome.answer),
             None => Ok(()),
         },
         _ => Ok(()),
@@ -74,20 +94,20 @@ fn note_entry(told: &mut Vec<Notice>, replay: &Replay, entry: &Entry) -> Result<
 }
 
 /// Notes what an answer tells the riders of its batch.
-fn note_batch(
+fn note_batch<S: Statuses>(
     told: &mut Vec<Notice>,
-    replay: &Replay,
+    before: &S,
     batch: &Snapshot,
     answer: &Answer,
 ) -> Result<(), OutOfMemory>
-    ensures { OnOk result (told.new.items ≡ told.old.items ++ batch_notices replay.now.state batch.entry.now answer.now) }
+    ensures { OnOk result (told.new.items ≡ told.old.items ++ batch_notices (S.state before.now) batch.entry.now answer.now) }
 {
     match answer {
         Answer::Overflow => Ok(()),
         Answer::Planned(plan) => {
             let chosen = plan.chosen.as_slice();
             for rider in batch.riders.as_slice() {
-                note_rider(told, replay, batch.batch, chosen, rider.id)?;
+                note_rider(told, before, batch.batch, chosen, rider.id)?;
             }
             Ok(())
         }
@@ -95,26 +115,26 @@ fn note_batch(
 }
 
 /// Notes the notice of a rider who waits or has a promise.
-fn note_rider(
+fn note_rider<S: Statuses>(
     told: &mut Vec<Notice>,
-    replay: &Replay,
+    before: &S,
     batch: u64,
     chosen: &[ChosenTrip],
     rider: RiderId,
 ) -> Result<(), OutOfMemory>
-    ensures { OnOk result (told.new.items ≡ told.old.items ++ (if is_asking replay.now.state rider then notice_of batch chosen.now rider ∷ [] else [])) }
+    ensures { OnOk result (told.new.items ≡ told.old.items ++ (if is_asking (S.state before.now) rider then notice_of batch chosen.now rider ∷ [] else [])) }
 {
-    if is_asking(replay, rider) {
+    if is_asking(before, rider) {
         told.push(notice_of(batch, chosen, rider))?;
     }
     Ok(())
 }
 
 /// Whether a rider waits or has a promise.
-fn is_asking(replay: &Replay, rider: RiderId) -> bool
-    ensures { result ≡ is_asking replay.now.state rider }
+fn is_asking<S: Statuses>(state: &S, rider: RiderId) -> bool
+    ensures { result ≡ is_asking (S.state state.now) rider }
 {
-    match replay.status_of(rider) {
+    match state.status_of(rider) {
         Some(Status::Waiting | Status::Promised(_)) => true,
         _ => false,
     }

@@ -1,10 +1,17 @@
-ghost use Rattle.std.specs.Prelude.{◌≡◌, ◌+◌, ◌<◌, ◌∷◌, [], OnOk, OnErr, length, map};
-ghost use Rattle.rider_notices.specs.Seen.{notifier_seen};
+ghost use Rattle.std.specs.Prelude.{◌≡◌, ◌+◌, ◌<◌, ◌∷◌, [], MatchResult, OnOk, OnErr, length};
+ghost use Rattle.request_book.specs.Consistent.{IsConsistent};
+ghost use Rattle.rider_notices.specs.Notices.{notices};
+ghost use Rattle.rider_notices.specs.Seen.{notifiers_seen};
 ghost use Rattle.rider_notices.specs.Told.{HasHeard, HaveHeard};
 
 use crate::notice::Notice;
 use crate::notifier::Notifier;
+use crate::noting::notices_of;
+use pool_base::OutOfMemory;
 use pool_io::Failed;
+use request_book::Journal;
+use road_network::Network;
+use std::alloc::Global;
 
 /// What came of telling.
 #[derive(Clone, Copy)]
@@ -13,14 +20,35 @@ pub struct Told {
     pub dropped: usize,
 }
 
+/// Tells each notifier the notices of a journal over this network, where a rider waits for `wait` seconds at most.
+/// Without memory nobody is told anything.
+pub fn tell_journal<N: Notifier>(
+    alloc: Global,
+    notifiers: &mut Vec<N>,
+    journal: &Journal,
+    network: &Network,
+    wait: u32,
+) -> Result<(), OutOfMemory>
+    requires { IsConsistent journal.now.base }
+    ensures { let all = notifiers_seen N.told N.faults N.steady notifiers.old.items in
+        let left = notifiers_seen N.told N.faults N.steady notifiers.new.items in
+        MatchResult result (λ _. HaveHeard (notices network.now.nodes wait journal.now) all left) (λ _. left ≡ all) }
+{
+    if notifiers.is_empty() {
+        return Ok(());
+    }
+    let told = notices_of(alloc, journal, network, wait)?;
+    tell_all(notifiers, &told);
+    Ok(())
+}
+
 /// Tells each notifier the notices, in order.
 ///
 /// One that fails is told no more, taken out and dropped; the others keep their order. One that is sure of
 /// as many calls as there are notices is kept.
-pub fn tell_all(notifiers: &mut Vec<Box<dyn Notifier>>, notices: &[Notice]) -> Told
-    ensures heard { HaveHeard notices.now
-        (map (λ n. notifier_seen (⟦<dyn Notifier as Notifier>⟧ n.vtable) n.value) notifiers.old.items)
-        (map (λ n. notifier_seen (⟦<dyn Notifier as Notifier>⟧ n.vtable) n.value) notifiers.new.items) }
+pub fn tell_all<N: Notifier>(notifiers: &mut Vec<N>, notices: &[Notice]) -> Told
+    ensures heard { HaveHeard notices.now (notifiers_seen N.told N.faults N.steady notifiers.old.items)
+        (notifiers_seen N.told N.faults N.steady notifiers.new.items) }
     ensures dropped { length notifiers.new.items + result.dropped ≡ length notifiers.old.items }
 {
     let before = notifiers.len();
@@ -39,11 +67,11 @@ pub fn tell_all(notifiers: &mut Vec<Box<dyn Notifier>>, notices: &[Notice]) -> T
 }
 
 /// Tells a notifier the notices, in order, up to the first that fails.
-fn tell_one(notifier: &mut Box<dyn Notifier>, notices: &[Notice]) -> Result<(), Failed>
+fn tell_one<N: Notifier>(notifier: &mut N, notices: &[Notice]) -> Result<(), Failed>
     ensures heard { OnOk result (HasHeard notices.now
-        (notifier_seen (⟦<dyn Notifier as Notifier>⟧ notifier.old.vtable) notifier.old.value)
-        (notifier_seen (⟦<dyn Notifier as Notifier>⟧ notifier.new.vtable) notifier.new.value)) }
-    ensures unsure { OnErr result ((notifier_seen (⟦<dyn Notifier as Notifier>⟧ notifier.old.vtable) notifier.old.value).steady < length notices.now) }
+        (record { told = N.told notifier.old; faults = N.faults notifier.old; steady = N.steady notifier.old })
+        (record { told = N.told notifier.new; faults = N.faults notifier.new; steady = N.steady notifier.new })) }
+    ensures unsure { OnErr result (N.steady notifier.old < length notices.now) }
 {
     for notice in notices {
         tell_once(notifier, notice)?;
@@ -52,11 +80,11 @@ fn tell_one(notifier: &mut Box<dyn Notifier>, notices: &[Notice]) -> Result<(), 
 }
 
 /// Tells a notifier one notice. Only one that is sure of no call fails.
-fn tell_once(notifier: &mut Box<dyn Notifier>, notice: &Notice) -> Result<(), Failed>
+fn tell_once<N: Notifier>(notifier: &mut N, notice: &Notice) -> Result<(), Failed>
     ensures heard { OnOk result (HasHeard (notice.now ∷ [])
-        (notifier_seen (⟦<dyn Notifier as Notifier>⟧ notifier.old.vtable) notifier.old.value)
-        (notifier_seen (⟦<dyn Notifier as Notifier>⟧ notifier.new.vtable) notifier.new.value)) }
-    ensures unsure { OnErr result ((notifier_seen (⟦<dyn Notifier as Notifier>⟧ notifier.old.vtable) notifier.old.value).steady ≡ 0) }
+        (record { told = N.told notifier.old; faults = N.faults notifier.old; steady = N.steady notifier.old })
+        (record { told = N.told notifier.new; faults = N.faults notifier.new; steady = N.steady notifier.new })) }
+    ensures unsure { OnErr result (N.steady notifier.old ≡ 0) }
 {
     notifier.tell(notice)
 }

@@ -17,21 +17,21 @@ use Rattle.road_network.specs.Roads.{Roads}
 use Rattle.script_rows.specs.Round.{NumberedLanes, empty_round, lane_at}
 use Rattle.dispatch_engine.specs.Run.{IsReady, IsRoundRun, IsRun, IsSameRun, journal_of, position_after_run}
 use Rattle.route_drive.proofs.CountLemmas.{vehicles-count}
+use Rattle.route_drive.proofs.EntryLemmas.{map-push, served_more}
 use Rattle.route_drive.specs.declared.course.Course.{Course}
 use Rattle.route_drive.specs.declared.day_run.DayRound.{DayRound}
+use Rattle.route_drive.specs.declared.day_run.DayRun.{DayRun}
 use Rattle.route_drive.specs.declared.day_run.DriveFault.{DriveFault}
 use Rattle.route_drive.specs.declared.day_run.DriveFault.TheVariants as fault
-use Rattle.route_drive.specs.Driven.{AreDriven, HasDrivenToTheEnd, IsDrivenDay, IsDrivenRound, IsLateAnswer, IsNewBook, courses_after, courses_from, courses_left, first_courses, left_course, left_state, number_after, plan_in, planned_course, state_left}
+use Rattle.route_drive.specs.declared.drive.Drive.{Drive}
+use Rattle.route_drive.specs.Driven.{AreDriven, HasDrivenToTheEnd, IsDrivenRound, IsLateAnswer, IsTooLateDay, IsNewBook, courses_after, courses_from, courses_left, first_courses, left_course, left_state, number_after, plan_in, planned_course, state_left}
 use Rattle.route_drive.specs.Counts.{AreCounts, entries_of}
 use Rattle.route_drive.specs.Day.{seal_of}
 use Rattle.route_drive.specs.Entering.{EntersTooLate, IsInTime, IsTooLate, left_commands}
 use Rattle.route_drive.specs.declared.entering.Stopped.{Stopped}
 use Rattle.route_drive.specs.declared.entering.Stopped.TheVariants as stop
-use Rattle.route_drive.specs.work.Drive.{IsUnderWay, IsRoundMade, IsRoundOn, IsRoundLate, IsLastOn, IsLastLate, IsEnd, IsEndLate, IsStoppedAt, IsTaken}
-
-map-last : {X Y : Type 0} (f : X → Y) (xs : List X) (x : X) → map f (xs ++ x ∷ []) ≡ map f xs ++ f x ∷ []
-map-last f [] x = refl
-map-last f (y ∷ xs) x = ap (λ l. f y ∷ l) (map-last f xs x)
+use Rattle.route_drive.specs.work.Counting.{AddsServed, AreServed}
+use Rattle.route_drive.specs.work.Drive.{HasCome, HasEnded, IsCounted, IsEndLate, IsLastLate, IsLastOn, IsRoundLate, IsRoundOn, IsStoppedAt, IsTaken, IsUnderWay, Takes}
 
 -- as many courses as vehicles
 courses_each : (s : State) (round : NumberedLanes) (es : List Entry) (courses : List Course) → length courses ≡ length s.vehicles → length (courses_after s round es courses) ≡ length s.vehicles
@@ -100,87 +100,81 @@ module _ (settings : Settings) (roads : Roads) where
   courses-more courses (q ∷ rs) (e ∷ ds) (k ∷ js) r j driven = courses-more (courses_after (left_state settings roads k) q k.entries courses) rs ds js r j driven.1
 
   -- a day begins
-  pub under_way_none : (new book : BookView) (courses : List Course) (made : List DayRound) → IsNewBook settings roads new → book ≡ new
-      → courses ≡ first_courses settings roads new.state → made ≡ [] → IsUnderWay settings roads new.state [] book courses made
-  under_way_none new book courses made is same are none =
-      let js : map (λ (r : DayRound). r.journal) made ≡ [] = ap (map (λ (r : DayRound). r.journal)) none in
-      let way : IsUnderWay settings roads new.state [] new courses made = record {
-        driven = record {
-          script = [];
-          driven = rw js tt;
-          numbers = ap (map (λ (r : DayRound). r.number)) none;
-          run = rw js tt;
-        };
+  pub come_none : (Took : List DayRound → Type 0) (new : BookView) (drive : Drive) → Took [] → IsNewBook settings roads new → drive.book ≡ new
+      → drive.courses.items ≡ first_courses settings roads new.state → AreServed [] drive.served → HasCome Took settings roads new.state [] drive
+  come_none Took new drive took is same are nobody =
+      let way : IsUnderWay settings roads new.state [] new drive.courses.items [] = record {
+        driven = record { script = []; driven = tt; numbers = refl; run = tt };
         ready = record { nodes = is.nodes; wait = is.wait; closed = ap (λ (s : State). s.sealed) is.state };
         entries = is.entries;
         base = is.base ∙ sym is.state;
-        state = rw js refl;
-        first = rw js is.first;
+        state = refl;
+        first = is.first;
         courses_are = are;
         each = ap length are ∙ length-map new.state.vehicles _;
       } in
-      subst (λ (b : BookView). IsUnderWay settings roads new.state [] b courses made) (sym same) way
+      record { made = []; taken = took; served = nobody; way = subst (λ (b : BookView). IsUnderWay settings roads new.state [] b drive.courses.items []) (sym same) way }
 
   -- one more round is driven
-  module _ (s : State) (rounds : List NumberedLanes) (book : BookView) (courses : List Course) (made : List DayRound) (way : IsUnderWay settings roads s rounds book courses made) where
+  module _ (s : State) (rounds : List NumberedLanes) (drive : Drive) (made : List DayRound) (way : IsUnderWay settings roads s rounds drive.book drive.courses.items made) where
     abbrev js : List Journal
     js = map (λ (r : DayRound). r.journal) made
 
-    -- the journal that is made
-    made_more : (driven : NumberedLanes) (number : ℕ) (made' : List DayRound) (on : IsRoundMade settings roads driven number book made made') → map (λ (r : DayRound). r.journal) made' ≡ js ++ on.journal ∷ []
-    made_more driven number made' on = ap (map (λ (r : DayRound). r.journal)) on.made_is ∙ map-last (λ (r : DayRound). r.journal) made (record { number = number; journal = on.journal })
+    -- the journals, the numbers and the run with one that is made
+    made_more : (number : ℕ) (j : Journal) → map (λ (r : DayRound). r.journal) (made ++ (record { number = number; journal = j }) ∷ []) ≡ js ++ j ∷ []
+    made_more number j = map-push (λ (r : DayRound). r.journal) made (record { number = number; journal = j })
 
-    numbers_more : (driven : NumberedLanes) (number : ℕ) (made' : List DayRound) → IsRoundMade settings roads driven number book made made' → map (λ (r : DayRound). r.number) made' ≡ map (λ (r : NumberedLanes). r.number) rounds ++ number ∷ []
-    numbers_more driven number made' on = ap (map (λ (r : DayRound). r.number)) on.made_is ∙ map-last (λ (r : DayRound). r.number) made (record { number = number; journal = on.journal })
-        ∙ ap (λ (l : List ℕ). l ++ number ∷ []) way.driven.numbers
+    numbers_more : (number : ℕ) (j : Journal) → map (λ (r : DayRound). r.number) (made ++ (record { number = number; journal = j }) ∷ []) ≡ map (λ (r : NumberedLanes). r.number) rounds ++ number ∷ []
+    numbers_more number j = map-push (λ (r : DayRound). r.number) made (record { number = number; journal = j }) ∙ ap (λ (l : List ℕ). l ++ number ∷ []) way.driven.numbers
 
-    run_on : (driven : NumberedLanes) (number : ℕ) (made' : List DayRound) (on : IsRoundMade settings roads driven number book made made') → IsRun settings roads s 0 (way.driven.script ++ driven ∷ []) (js ++ on.journal ∷ [])
-    run_on driven number made' on = run-more s 0 way.driven.script js driven on.journal way.driven.run (on.base ∙ way.base ∙ way.state) (on.first ∙ way.first) on.run
+    run_on : (driven : NumberedLanes) (j : Journal) → IsRoundRun settings roads driven j → j.base ≡ drive.book.base → j.first ≡ drive.book.first → IsRun settings roads s 0 (way.driven.script ++ driven ∷ []) (js ++ j ∷ [])
+    run_on driven j run base first = run-more s 0 way.driven.script js driven j way.driven.run (base ∙ way.base ∙ way.state) (first ∙ way.first) run
 
-    pub under_way_more : (round : NumberedLanes) (book' : BookView) (courses' : List Course) (made' : List DayRound)
-        → IsRoundOn settings roads round book courses made book' courses' made' → IsUnderWay settings roads s (rounds ++ round ∷ []) book' courses' made'
-    under_way_more round book' courses' made' on =
-        let j : Journal = on.round_made.journal in
-        let more = made_more on.driven round.number made' on.round_made in
-        let from : on.round_made.journal.base ≡ book.state = on.round_made.base ∙ way.base in
+    way_more : (round : NumberedLanes) (Before After : List DayRound → Type 0) (drive' : Drive) (on : IsRoundOn settings roads round drive Before After drive')
+        → IsUnderWay settings roads s (rounds ++ round ∷ []) drive'.book drive'.courses.items (made ++ (record { number = round.number; journal = on.journal }) ∷ [])
+    way_more round Before After drive' on =
+        let j : Journal = on.journal in
+        let more = made_more round.number j in
+        let from : on.journal.base ≡ drive.book.state = on.base ∙ way.base in
         let is : IsDrivenRound settings roads j.base (courses_from settings roads s rounds made) round on.driven =
         subst (λ (t : State). IsDrivenRound settings roads t (courses_from settings roads s rounds made) round on.driven) (sym from)
-        (subst (λ (cs : List Course). IsDrivenRound settings roads book.state cs round on.driven) way.courses_are on.is_driven) in
-        let left : book'.state ≡ left_state settings roads j = on.state ∙ ap (λ (t : State). state_after roads.nodes settings.wait t j.entries) (sym on.round_made.base) in
-        let count : length book'.state.vehicles ≡ length book.state.vehicles =
-        ap (λ (t : State). length t.vehicles) on.state ∙ vehicles-count roads.nodes settings.wait book.base j.entries ∙ ap (λ (t : State). length t.vehicles) way.base in
+        (subst (λ (cs : List Course). IsDrivenRound settings roads drive.book.state cs round on.driven) way.courses_are on.is_driven) in
+        let left : drive'.book.state ≡ left_state settings roads j = on.state ∙ ap (λ (t : State). state_after roads.nodes settings.wait t j.entries) (sym on.base) in
+        let count : length drive'.book.state.vehicles ≡ length drive.book.state.vehicles =
+        ap (λ (t : State). length t.vehicles) on.state ∙ vehicles-count roads.nodes settings.wait drive.book.base j.entries ∙ ap (λ (t : State). length t.vehicles) way.base in
         record {
           driven = record {
             script = way.driven.script ++ on.driven ∷ [];
             driven = rw more (driven-more (first_courses settings roads s) rounds way.driven.script js round on.driven j way.driven.driven is);
-            numbers = numbers_more on.driven round.number made' on.round_made ∙ sym (map-last (λ (r : NumberedLanes). r.number) rounds round);
-            run = rw more (run_on on.driven round.number made' on.round_made);
+            numbers = numbers_more round.number j ∙ sym (map-push (λ (r : NumberedLanes). r.number) rounds round);
+            run = rw more (run_on on.driven j on.run on.base on.first);
           };
           ready = on.ready;
           entries = on.entries;
           base = on.base_is;
           state = left ∙ sym (state_left-more s js j) ∙ sym (ap (state_left settings roads s) more);
-          first = on.first ∙ ap (λ (p : ℕ). next_position p j.entries) way.first ∙ sym (position-more 0 js j) ∙ sym (ap (position_after_run 0) more);
-          courses_are = on.courses_are ∙ ap (λ (t : State). courses_after t round j.entries courses) left ∙ ap (courses_after (left_state settings roads j) round j.entries) way.courses_are
+          first = on.next ∙ ap (λ (p : ℕ). next_position p j.entries) way.first ∙ sym (position-more 0 js j) ∙ sym (ap (position_after_run 0) more);
+          courses_are = on.courses_are ∙ ap (λ (t : State). courses_after t round j.entries drive.courses.items) left ∙ ap (courses_after (left_state settings roads j) round j.entries) way.courses_are
               ∙ sym (courses-more (first_courses settings roads s) rounds way.driven.script js round j way.driven.driven) ∙ sym (ap (courses_left settings roads (first_courses settings roads s) (rounds ++ round ∷ [])) more);
-          each = ap length on.courses_are ∙ courses_each book'.state round j.entries courses (way.each ∙ sym count);
+          each = ap length on.courses_are ∙ courses_each drive'.book.state round j.entries drive.courses.items (way.each ∙ sym count);
         }
 
     -- the last round is driven
-    day_done : (book' : BookView) (made' : List DayRound) → IsLastOn settings roads (number_after rounds) book courses made book' made' → HasDrivenToTheEnd settings roads s rounds made'
-    day_done book' made' on =
-        let j : Journal = on.round_made.journal in
+    day_done : (Before After : List DayRound → Type 0) (drive' : Drive) (on : IsLastOn settings roads (number_after rounds) drive Before After drive')
+        → HasDrivenToTheEnd settings roads s rounds (made ++ (record { number = number_after rounds; journal = on.journal }) ∷ [])
+    day_done Before After drive' on =
+        let j : Journal = on.journal in
         let number = number_after rounds in
         let end : NumberedLanes = record on.driven { number = number } in
-        let run : IsRoundRun settings roads end j = record { replies = on.round_made.run.replies; closes = on.round_made.run.closes; lanes = on.round_made.run.lanes } in
-        let more = made_more on.driven number made' on.round_made in
-        let from : book.state ≡ on.round_made.journal.base = sym way.base ∙ sym on.round_made.base in
-        let left : left_commands book.state.vehicles courses ≡ left_commands j.base.vehicles (courses_from settings roads s rounds made) =
-        ap (λ (t : State). left_commands t.vehicles courses) from ∙ ap (left_commands j.base.vehicles) way.courses_are in
+        let run : IsRoundRun settings roads end j = record { replies = on.run.replies; closes = on.run.closes; lanes = on.run.lanes } in
+        let more = made_more number j in
+        let from : drive.book.state ≡ on.journal.base = sym way.base ∙ sym on.base in
+        let left : left_commands drive.book.state.vehicles drive.courses.items ≡ left_commands j.base.vehicles (courses_from settings roads s rounds made) =
+        ap (λ (t : State). left_commands t.vehicles drive.courses.items) from ∙ ap (left_commands j.base.vehicles) way.courses_are in
         record {
           first = made;
           last = record { number = number; journal = j };
-          parts = on.round_made.made_is;
+          parts = refl;
           script = way.driven.script;
           end = end;
           driven = way.driven.driven;
@@ -190,39 +184,57 @@ module _ (settings : Settings) (roads : Roads) where
             others = λ lane ne. on.others lane ne ∙ sym (nothing_at number lane);
           };
           in_time = subst (All IsInTime) left on.in_time;
-          numbers = numbers_more on.driven number made' on.round_made;
-          run = rw more (run-more s 0 way.driven.script js end j way.driven.run (on.round_made.base ∙ way.base ∙ way.state) (on.round_made.first ∙ way.first) run);
+          numbers = numbers_more number j;
+          run = rw more (run_on end j run on.base on.first);
         }
 
     -- the book is left in the state that the journals lead to
-    state_done : (book' : BookView) (made' : List DayRound) → IsLastOn settings roads (number_after rounds) book courses made book' made' → book'.state ≡ state_left settings roads s (map (λ (r : DayRound). r.journal) made')
-    state_done book' made' on =
-        let j : Journal = on.round_made.journal in
-        on.state ∙ ap (λ (t : State). state_after roads.nodes settings.wait t j.entries) (sym on.round_made.base) ∙ sym (state_left-more s js j)
-        ∙ sym (ap (state_left settings roads s) (made_more on.driven (number_after rounds) made' on.round_made))
+    state_done : (Before After : List DayRound → Type 0) (drive' : Drive) (on : IsLastOn settings roads (number_after rounds) drive Before After drive')
+        → drive'.book.state ≡ state_left settings roads s (map (λ (r : DayRound). r.journal) (made ++ (record { number = number_after rounds; journal = on.journal }) ∷ []))
+    state_done Before After drive' on =
+        on.state ∙ ap (λ (t : State). state_after roads.nodes settings.wait t on.journal.entries) (sym on.base) ∙ sym (state_left-more s js on.journal)
+        ∙ sym (ap (state_left settings roads s) (made_more (number_after rounds) on.journal))
 
     -- the last round is too late
-    pub end_late : (answer : DriveFault) → IsEndLate rounds book courses made answer → IsLateAnswer settings roads s rounds answer
-    end_late (fault.TooLate n rs) late = record {
+    last_late : (n : ℕ) → n ≡ number_after rounds → Any IsTooLate (left_commands drive.book.state.vehicles drive.courses.items) → IsTooLateDay settings roads s rounds n made
+    last_late n is late = record {
       before = rounds;
       rest = [];
       parts = sym (append-nil rounds);
-      driven = rw late.1 way.driven;
-      late = rw (late.1, ← way.state, ← way.courses_are) late.2;
-      end = λ _. late.0;
+      driven = way.driven;
+      late = rw (← way.state, ← way.courses_are) late;
+      end = λ _. is;
     }
-    end_late fault.OutOfMemory late = tt
 
     -- a round is too late
-    pub round_late : (all rest : List NumberedLanes) (round : NumberedLanes) (answer : DriveFault) → all ≡ rounds ++ round ∷ rest → IsRoundLate settings roads round book courses made answer → IsLateAnswer settings roads s all answer
-    round_late all rest round (fault.TooLate n rs) parts late = record {
+    next_late : (all rest : List NumberedLanes) (round : NumberedLanes) (n : ℕ) → all ≡ rounds ++ round ∷ rest → n ≡ round.number
+        → (now : ℕ) × (seal_of round ≡ Some now) × EntersTooLate roads settings.dwell now drive.book.state.vehicles drive.courses.items → IsTooLateDay settings roads s all n made
+    next_late all rest round n parts is late = record {
       before = rounds;
       rest = round ∷ rest;
       parts = parts;
-      driven = rw late.1 way.driven;
-      late = rw (late.1, ← way.state, ← way.courses_are) (sym late.0, late.2);
+      driven = way.driven;
+      late = rw (← way.state, ← way.courses_are) (sym is, late);
       end = λ none. absurd (let e : suc (length rest) ≡ 0 = ap length none in omega (arith, e));
     }
+
+  module _ (s : State) (rounds : List NumberedLanes) (Before After : List DayRound → Type 0) (drive : Drive) (come : HasCome Before settings roads s rounds drive) where
+    pub come_more : (round : NumberedLanes) (drive' : Drive) → IsRoundOn settings roads round drive Before After drive' → HasCome After settings roads s (rounds ++ round ∷ []) drive'
+    come_more round drive' on =
+        let r : DayRound = record { number = round.number; journal = on.journal } in
+        record {
+          made = come.made ++ r ∷ [];
+          taken = on.kept come.made come.taken;
+          served = served_more come.made r drive.served drive'.served come.served on.served;
+          way = way_more s rounds drive come.made come.way round Before After drive' on;
+        }
+
+    pub end_late : (answer : DriveFault) → IsEndLate rounds drive Before After answer → IsLateAnswer settings roads After s rounds answer
+    end_late (fault.TooLate n) late = (come.made, late.1 come.made come.taken, last_late s rounds drive come.made come.way n late.0 late.2)
+    end_late fault.OutOfMemory late = tt
+
+    pub round_late : (all rest : List NumberedLanes) (round : NumberedLanes) (answer : DriveFault) → all ≡ rounds ++ round ∷ rest → IsRoundLate settings roads round drive Before After answer → IsLateAnswer settings roads After s all answer
+    round_late all rest round (fault.TooLate n) parts late = (come.made, late.1 come.made come.taken, next_late s rounds drive come.made come.way all rest round n parts late.0 late.2)
     round_late all rest round fault.OutOfMemory parts late = tt
 
 -- a list at the round of a number
@@ -236,23 +248,34 @@ no_map : (made : List DayRound) → map (λ (r : DayRound). r.number) made ≡ [
 no_map [] none = refl
 no_map (r ∷ made) none = absurd (let e : suc (length (map (λ (r : DayRound). r.number) made)) ≡ 0 = ap length none in omega (arith, e))
 
--- a day came to its end
-pub day_ends : (settings : Settings) (roads : Roads) (s : State) (rounds : List NumberedLanes) (book book' : BookView) (courses : List Course) (made made' : List DayRound)
-    → IsUnderWay settings roads s rounds book courses made → IsEnd settings roads rounds book courses made book' made' → IsDrivenDay settings roads s rounds made'
-day_ends settings roads s [] book book' courses made made' way end = end.1 ∙ no_map made way.driven.numbers
-day_ends settings roads s (r ∷ rounds) book book' courses made made' way end = day_done settings roads s (r ∷ rounds) book courses made way book' made' end
-
-pub state_ends : (settings : Settings) (roads : Roads) (s : State) (rounds : List NumberedLanes) (book book' : BookView) (courses : List Course) (made made' : List DayRound)
-    → IsUnderWay settings roads s rounds book courses made → IsEnd settings roads rounds book courses made book' made' → book'.state ≡ state_left settings roads s (map (λ (r : DayRound). r.journal) made')
-state_ends settings roads s [] book book' courses made made' way end =
-    ap (λ (b : BookView). b.state) end.0 ∙ way.state ∙ sym (ap (λ (l : List DayRound). state_left settings roads s (map (λ (r : DayRound). r.journal) l)) end.1)
-state_ends settings roads s (r ∷ rounds) book book' courses made made' way end = state_done settings roads s (r ∷ rounds) book courses made way book' made' end
+-- a day came to its end, and its counts are taken
+pub day_ends : (settings : Settings) (roads : Roads) (s : State) (rounds : List NumberedLanes) (Before After : List DayRound → Type 0) (drive end : Drive) (run : DayRun)
+    → HasCome Before settings roads s rounds drive → HasEnded settings roads rounds drive Before After end
+    → ((entries : List Entry) → AreServed entries end.served → AreCounts roads end.book.state.riders entries run.picked run.dropped run.worst_wait run.worst_delay)
+    → IsCounted After settings roads s rounds run
+day_ends settings roads s [] Before After drive end run come ended counts =
+    let same = sym ended.0 in record {
+      made = come.made;
+      taken = ended.1 come.made come.taken;
+      driven = no_map come.made come.way.driven.numbers;
+      counts = subst (λ (t : State). AreCounts roads t.riders (entries_of come.made) run.picked run.dropped run.worst_wait run.worst_delay) (ap (λ (d : Drive). d.book.state) ended.0 ∙ come.way.state)
+          (counts (entries_of come.made) (subst (λ (d : Drive). AreServed (entries_of come.made) d.served) same come.served));
+    }
+day_ends settings roads s (q ∷ rounds) Before After drive end run come on counts =
+    let r : DayRound = record { number = number_after (q ∷ rounds); journal = on.journal } in
+    let made : List DayRound = come.made ++ r ∷ [] in record {
+      made = made;
+      taken = on.kept come.made come.taken;
+      driven = day_done settings roads s (q ∷ rounds) drive come.made come.way Before After end on;
+      counts = subst (λ (t : State). AreCounts roads t.riders (entries_of made) run.picked run.dropped run.worst_wait run.worst_delay) (state_done settings roads s (q ∷ rounds) drive come.made come.way Before After end on)
+          (counts (entries_of made) (served_more come.made r drive.served end.served come.served on.served));
+    }
 
 -- a day that isn't empty ends with its last round
-pub end_of : (settings : Settings) (roads : Roads) (rounds : List NumberedLanes) (number : ℕ) (book book' : BookView) (courses : List Course) (made made' : List DayRound)
-    → 0 < length rounds → number ≡ number_after rounds → IsLastOn settings roads number book courses made book' made' → IsEnd settings roads rounds book courses made book' made'
-end_of settings roads [] number book book' courses made made' some is on = absurd (omega arith)
-end_of settings roads (r ∷ rounds) number book book' courses made made' some is on = subst (λ (n : ℕ). IsLastOn settings roads n book courses made book' made') is on
+pub end_of : (settings : Settings) (roads : Roads) (rounds : List NumberedLanes) (number : ℕ) (drive end : Drive) (Before After : List DayRound → Type 0)
+    → 0 < length rounds → number ≡ number_after rounds → IsLastOn settings roads number drive Before After end → HasEnded settings roads rounds drive Before After end
+end_of settings roads [] number drive end Before After some is on = absurd (omega arith)
+end_of settings roads (r ∷ rounds) number drive end Before After some is on = subst (λ (n : ℕ). IsLastOn settings roads n drive Before After end) is on
 
 -- what follows from two facts of what is given
 pub if_ok_both : {X E : Type 0} (r : Result X E) (A B C : X → Type 0) → IfOk r A → IfOk r B → ((x : X) → A x → B x → C x) → IfOk r C
@@ -295,60 +318,65 @@ taken_is settings roads driven book after next journal run same kept ready is ne
 renumbered : (settings : Settings) (roads : Roads) (driven : NumberedLanes) (number : ℕ) (journal : Journal) → IsRoundRun settings roads driven journal → IsRoundRun settings roads (record driven { number = number }) journal
 renumbered settings roads driven number journal run = record { replies = run.replies; closes = run.closes; lanes = run.lanes }
 
-pub round_on : (settings : Settings) (roads : Roads) (round driven : NumberedLanes) (book next kept : BookView) (journal : Journal) (courses courses' : List Course) (made made' : List DayRound)
-    → IsDrivenRound settings roads book.state courses round (record driven { number = round.number })
-    → IsTaken settings roads driven book next journal → kept ≡ next → courses' ≡ courses_after next.state round journal.entries courses
-    → made' ≡ made ++ (record { number = round.number; journal = journal }) ∷ []
-    → IsRoundOn settings roads round book courses made kept courses' made'
-round_on settings roads round driven book next kept journal courses courses' made made' is taken same are made_is =
-    subst (λ (b : BookView). IsRoundOn settings roads round book courses made b courses' made') (sym same) (record {
-      driven = record driven { number = round.number };
-      is_driven = is;
-      round_made = record { journal = journal; run = renumbered settings roads driven round.number journal taken.run; base = taken.base; first = taken.first; made_is = made_is };
-      ready = taken.ready;
-      entries = taken.entries;
-      base_is = taken.base_is;
-      state = taken.state;
-      first = taken.next;
-      courses_are = are;
-    })
+pub round_on : (settings : Settings) (roads : Roads) (round driven : NumberedLanes) (drive drive' : Drive) (next : BookView) (journal : Journal) (Before After : List DayRound → Type 0)
+    → IsDrivenRound settings roads drive.book.state drive.courses.items round (record driven { number = round.number })
+    → IsTaken settings roads driven drive.book next journal → drive'.book ≡ next → drive'.courses.items ≡ courses_after next.state round journal.entries drive.courses.items
+    → AddsServed journal.entries drive.served drive'.served → Takes Before After (record { number = round.number; journal = journal })
+    → IsRoundOn settings roads round drive Before After drive'
+round_on settings roads round driven drive drive' next journal Before After is taken same are adds takes = record {
+  driven = record driven { number = round.number };
+  is_driven = is;
+  journal = journal;
+  run = renumbered settings roads driven round.number journal taken.run;
+  base = taken.base;
+  first = taken.first;
+  kept = takes;
+  served = adds;
+  ready = rw same taken.ready;
+  entries = ap (λ (b : BookView). b.entries) same ∙ taken.entries;
+  base_is = rw same taken.base_is;
+  state = ap (λ (b : BookView). b.state) same ∙ taken.state;
+  next = ap (λ (b : BookView). b.first) same ∙ taken.next;
+  courses_are = are ∙ sym (ap (λ (b : BookView). courses_after b.state round journal.entries drive.courses.items) same);
+}
 
 -- why a round stopped
-pub stopped_late : (settings : Settings) (roads : Roads) (round : NumberedLanes) (book : BookView) (courses : List Course) (made : List DayRound) (stopped : Stopped) (answer : DriveFault)
-    → IsStoppedAt stopped round.number made answer → (stopped ≡ stop.TooLate → (now : ℕ) × (seal_of round ≡ Some now) × EntersTooLate roads settings.dwell now book.state.vehicles courses)
-    → IsRoundLate settings roads round book courses made answer
-stopped_late settings roads round book courses made stop.TooLate answer is late = subst (IsRoundLate settings roads round book courses made) (sym is) (refl, refl, late refl)
-stopped_late settings roads round book courses made stop.OutOfMemory answer is late = subst (IsRoundLate settings roads round book courses made) (sym is) tt
+pub stopped_late : (settings : Settings) (roads : Roads) (round : NumberedLanes) (drive : Drive) (Before : List DayRound → Type 0) (stopped : Stopped) (answer : DriveFault)
+    → IsStoppedAt stopped round.number answer → (stopped ≡ stop.TooLate → (now : ℕ) × (seal_of round ≡ Some now) × EntersTooLate roads settings.dwell now drive.book.state.vehicles drive.courses.items)
+    → IsRoundLate settings roads round drive Before Before answer
+stopped_late settings roads round drive Before stop.TooLate answer is late = subst (IsRoundLate settings roads round drive Before Before) (sym is) (refl, (λ made is. is), late refl)
+stopped_late settings roads round drive Before stop.OutOfMemory answer is late = subst (IsRoundLate settings roads round drive Before Before) (sym is) tt
 
-pub stopped_last : (number : ℕ) (book : BookView) (courses : List Course) (made : List DayRound) (stopped : Stopped) (answer : DriveFault)
-    → IsStoppedAt stopped number made answer → (stopped ≡ stop.TooLate → Any IsTooLate (left_commands book.state.vehicles courses)) → IsLastLate number book courses made answer
-stopped_last number book courses made stop.TooLate answer is late = subst (IsLastLate number book courses made) (sym is) (refl, refl, late refl)
-stopped_last number book courses made stop.OutOfMemory answer is late = subst (IsLastLate number book courses made) (sym is) tt
+pub stopped_last : (number : ℕ) (drive : Drive) (Before : List DayRound → Type 0) (stopped : Stopped) (answer : DriveFault)
+    → IsStoppedAt stopped number answer → (stopped ≡ stop.TooLate → Any IsTooLate (left_commands drive.book.state.vehicles drive.courses.items)) → IsLastLate number drive Before Before answer
+stopped_last number drive Before stop.TooLate answer is late = subst (IsLastLate number drive Before Before) (sym is) (refl, (λ made is. is), late refl)
+stopped_last number drive Before stop.OutOfMemory answer is late = subst (IsLastLate number drive Before Before) (sym is) tt
 
 pub if_ok_map : {X E : Type 0} (r : Result X E) (A B : X → Type 0) → IfOk r A → ((x : X) → A x → B x) → IfOk r B
 if_ok_map (Ok x) A B a b = b x a
 if_ok_map (Err e) A B a b = tt
 
--- the last round was run and stands last
-pub last_on : (settings : Settings) (roads : Roads) (driven : NumberedLanes) (number : ℕ) (book next kept : BookView) (journal : Journal) (courses : List Course) (made made' : List DayRound)
-    → lane_at driven 0 ≡ left_commands book.state.vehicles courses → ((lane : ℕ) → lane ≢ 0 → lane_at driven lane ≡ []) → All IsInTime (left_commands book.state.vehicles courses)
-    → IsTaken settings roads driven book next journal → kept ≡ next → made' ≡ made ++ (record { number = number; journal = journal }) ∷ []
-    → IsLastOn settings roads number book courses made kept made'
-last_on settings roads driven number book next kept journal courses made made' own others in_time taken same made_is =
-    subst (λ (b : BookView). IsLastOn settings roads number book courses made b made') (sym same) (record {
-      driven = driven;
-      own = own;
-      others = others;
-      in_time = in_time;
-      round_made = record { journal = journal; run = taken.run; base = taken.base; first = taken.first; made_is = made_is };
-      nodes = taken.ready.nodes;
-      state = taken.state;
-    })
+-- the last round was run and taken
+pub last_on : (settings : Settings) (roads : Roads) (driven : NumberedLanes) (number : ℕ) (drive drive' : Drive) (next : BookView) (journal : Journal) (Before After : List DayRound → Type 0)
+    → lane_at driven 0 ≡ left_commands drive.book.state.vehicles drive.courses.items → ((lane : ℕ) → lane ≢ 0 → lane_at driven lane ≡ []) → All IsInTime (left_commands drive.book.state.vehicles drive.courses.items)
+    → IsTaken settings roads driven drive.book next journal → drive'.book ≡ next → AddsServed journal.entries drive.served drive'.served → Takes Before After (record { number = number; journal = journal })
+    → IsLastOn settings roads number drive Before After drive'
+last_on settings roads driven number drive drive' next journal Before After own others in_time taken same adds takes = record {
+  driven = driven;
+  own = own;
+  others = others;
+  in_time = in_time;
+  journal = journal;
+  run = taken.run;
+  base = taken.base;
+  first = taken.first;
+  kept = takes;
+  served = adds;
+  nodes = ap (λ (b : BookView). b.nodes) same ∙ taken.ready.nodes;
+  state = ap (λ (b : BookView). b.state) same ∙ taken.state;
+}
 
--- what is counted of a day, by the state that its journals leave
-pub day_counts : (settings : Settings) (roads : Roads) (s t : State) (made rounds : List DayRound) (picked dropped wait delay : ℕ) → rounds ≡ made
-    → t ≡ state_left settings roads s (map (λ (r : DayRound). r.journal) made) → AreCounts roads t.riders (entries_of made) picked dropped wait delay
-    → AreCounts roads (state_left settings roads s (map (λ (r : DayRound). r.journal) rounds)).riders (entries_of rounds) picked dropped wait delay
-day_counts settings roads s t made rounds picked dropped wait delay same left counts =
-    subst (λ (ms : List DayRound). AreCounts roads (state_left settings roads s (map (λ (r : DayRound). r.journal) ms)).riders (entries_of ms) picked dropped wait delay) (sym same)
-    (subst (λ (u : State). AreCounts roads u.riders (entries_of made) picked dropped wait delay) left counts)
+-- what follows from four facts of what is given
+pub if_ok_four : {X E : Type 0} (r : Result X E) (A B C D F : X → Type 0) → IfOk r A → IfOk r B → IfOk r C → IfOk r D → ((x : X) → A x → B x → C x → D x → F x) → IfOk r F
+if_ok_four (Ok x) A B C D F a b c d f = f x a b c d
+if_ok_four (Err e) A B C D F a b c d f = tt

@@ -1,11 +1,11 @@
 -- What is entered, stop by stop and vehicle by vehicle.
-use Rattle.std.proofs.Common.{◌≡◌, ℕ, zero, suc, ◌+◌, ◌<◌, ◌≤◌, Bool, true, false, leb, List, [], ◌∷◌, ◌++◌, length, get_or, map, filter, take, drop, Some, refl, sym, ap, ◌∙◌, inl, inr, subst, arith, append_assoc, append-nil, add-one, length-append}
-use Rattle.std.specs.Prelude.{IsSome, All, find}
-use Rattle.std.specs.List.{Any}
+use Rattle.std.proofs.Common.{◌≡◌, ℕ, zero, suc, ◌+◌, ◌<◌, ◌≤◌, Bool, true, false, leb, List, [], ◌∷◌, ◌++◌, length, get_or, map, filter, take, drop, Some, Result, Ok, Err, refl, sym, ap, ◌∙◌, inl, inr, subst, arith, append_assoc, append-nil, add-one, length-append}
+use Rattle.std.specs.Prelude.{IsSome, All, Contains, IfOk, MatchResult, find}
+use Rattle.std.specs.List.{AllZip, Any}
 use Rattle.std.proofs.lemmas.Bool.{cases_Bool, cond-true, cond-false, le-leb}
 use Rattle.std.proofs.lemmas.Bool.Decides.{leb_tells}
 use Rattle.std.proofs.lemmas.List.{take_more, get_or_append_left}
-use Rattle.std.proofs.lemmas.List.Elements.{filter-append, All-nil, All-cons}
+use Rattle.std.proofs.lemmas.List.Elements.{filter-append, All-nil, All-cons, All-push}
 use Rattle.std.proofs.Math.Seq.{drop-cons, get_or-append_seam}
 use Rattle.batch_snapshot.specs.declared.vehicle.Vehicle.{Vehicle}
 use Rattle.request_book.specs.declared.command.Command.{Command}
@@ -13,13 +13,15 @@ use Rattle.request_book.specs.declared.outcome.PlannedStop.{PlannedStop}
 use Rattle.road_network.specs.Roads.{Roads}
 use Rattle.script_rows.specs.Round.{NumberedLanes, lane_at}
 use Rattle.route_drive.specs.declared.course.Course.{Course}
-use Rattle.route_drive.specs.declared.course.Standing.{Standing}
+use Rattle.route_drive.specs.declared.course.NodeAt.{NodeAt}
+use Rattle.route_drive.specs.declared.course.Stay.{Stay}
 use Rattle.route_drive.specs.declared.walk.WalkStep.{WalkStep}
 use Rattle.pool_base.specs.TravelTime.{longest}
-use Rattle.request_book.specs.declared.command.Command.TheVariants.{Pickup, Dropoff}
-use Rattle.route_drive.specs.Entering.{AreEntered, EntersTooLate, IsEntered, IsInTime, IsTooLate, due, left_commands, standing_after, stop_command, walk_end}
+use Rattle.request_book.specs.declared.command.Command.TheVariants.{Pickup, Dropoff, Report}
+use Rattle.route_drive.specs.Entering.{AreEntered, EntersTooLate, IsInTime, IsTooLate, due, left_commands, standing_after, stop_command, walk_end}
 use Rattle.route_drive.specs.work.Drive.{step_from}
-use Rattle.route_drive.specs.work.Rounds.{Adds, EntersLate}
+use Rattle.route_drive.specs.work.Places.{ArePlaced, heading_of, headings_of, told_by, told_of}
+use Rattle.route_drive.specs.work.Rounds.{Adds}
 
 module _ {X : Type 0} where
   -- at the end nothing is left
@@ -66,7 +68,7 @@ step_there now left (x ∷ y ∷ steps) le h = elim (leb_tells now (left + x.sec
   | inr f ↦ rw f.0 (step_there now left (y ∷ steps) le h)
 ]
 
-pub standing-push : (dwell : ℕ) (at : Standing) (stops : List PlannedStop) (s : PlannedStop) → standing_after dwell at (stops ++ s ∷ []) ≡ record { node = s.node; second = s.second; free = s.second + dwell }
+pub standing-push : (dwell : ℕ) (at : Stay) (stops : List PlannedStop) (s : PlannedStop) → standing_after dwell at (stops ++ s ∷ []) ≡ record { node = s.node; second = s.second; free = s.second + dwell }
 standing-push dwell at [] s = refl
 standing-push dwell at (x ∷ stops) s = standing-push dwell (record { node = x.node; second = x.second; free = x.second + dwell }) stops s
 
@@ -85,36 +87,83 @@ same_takes (x ∷ xs) [] k e = absurd (omega (arith, e))
 same_takes (x ∷ xs) (y ∷ ys) zero e = refl
 same_takes (x ∷ xs) (y ∷ ys) (suc k) e = ap suc (same_takes xs ys k (omega (arith, e)))
 
--- one more vehicle is entered
-module _ (roads : Roads) (dwell now : ℕ) where
-  AreEntered-push : (vehicles : List Vehicle) (courses : List Course) (entered own : List Command) (v : Vehicle) (c : Course) → length courses ≡ length vehicles → AreEntered roads dwell now vehicles courses entered → IsEntered roads dwell now v c own
-      → AreEntered roads dwell now (vehicles ++ v ∷ []) (courses ++ c ∷ []) (entered ++ own)
-  AreEntered-push [] [] entered own v c size are is = (own, [], is, refl, ap (λ l. l ++ own) are ∙ sym (append-nil own))
-  AreEntered-push [] (x ∷ courses) entered own v c size are is = absurd (omega (arith, size))
-  AreEntered-push (x ∷ vehicles) [] entered own v c size are is = absurd (omega (arith, size))
-  AreEntered-push (x ∷ vehicles) (y ∷ courses) entered own v c size are is =
-      (are.0, are.1 ++ own, are.2, AreEntered-push vehicles courses are.1 own v c (omega (arith, size)) are.3 is, ap (λ l. l ++ own) are.4 ∙ append_assoc are.0 are.1 own)
-
-  pub AreEntered-more : (vehicles : List Vehicle) (courses : List Course) (k : ℕ) (entered own : List Command) (v : Vehicle) (c : Course) → length courses ≡ length vehicles → k < length vehicles
-      → v ≡ get_or vehicles k v → c ≡ get_or courses k c → AreEntered roads dwell now (take k vehicles) (take k courses) entered → IsEntered roads dwell now v c own
-      → AreEntered roads dwell now (take (k + 1) vehicles) (take (k + 1) courses) (entered ++ own)
-  AreEntered-more vehicles courses k entered own v c size h is_v is_c are is =
-      let more = AreEntered-push (take k vehicles) (take k courses) entered own v c (same_takes vehicles courses k size) are is in
-      let vs : take k vehicles ++ v ∷ [] ≡ take (k + 1) vehicles = ap (λ y. take k vehicles ++ y ∷ []) is_v ∙ sym (take_more vehicles k v h) in
-      let cs : take k courses ++ c ∷ [] ≡ take (k + 1) courses = ap (λ y. take k courses ++ y ∷ []) is_c ∙ sym (take_more courses k c (omega (arith, size, h))) in
-      rw (← vs, ← cs) more
-
-  -- the vehicle of a number is too late
-  pub late_at : (vehicles : List Vehicle) (courses : List Course) (k : ℕ) (v : Vehicle) (c : Course) → k < length vehicles → k < length courses
-      → v ≡ get_or vehicles k v → c ≡ get_or courses k c → EntersLate roads dwell now v c → EntersTooLate roads dwell now vehicles courses
-  late_at [] courses k v c h g is_v is_c late = absurd (omega arith)
-  late_at (x ∷ vehicles) [] k v c h g is_v is_c late = absurd (omega arith)
-  late_at (x ∷ vehicles) (y ∷ courses) zero v c h g is_v is_c late = inl (rw (← is_v, ← is_c) late)
-  late_at (x ∷ vehicles) (y ∷ courses) (suc k) v c h g is_v is_c late = inr (late_at vehicles courses k v c (omega arith) (omega arith) is_v is_c late)
-
 -- the last one is among them
 pub any_last : (P : Command → Type 0) (xs : List Command) (x : Command) → P x → Any P (xs ++ x ∷ [])
 any_last P xs x p = (length xs, x, (let e = length-append xs (x ∷ []) in omega (arith, e)), get_or-append_seam xs x [] x, p)
+
+-- what is entered of one more vehicle
+module _ (now : ℕ) where
+  told-push : (vehicles : List Vehicle) (courses : List Course) (places : List NodeAt) (v : Vehicle) (c : Course) (there : NodeAt) → length courses ≡ length vehicles → length places ≡ length vehicles
+      → told_by now (vehicles ++ v ∷ []) (courses ++ c ∷ []) (places ++ there ∷ []) ≡ told_by now vehicles courses places ++ told_of now v.id c there
+  told-push [] [] [] v c there size each = append-nil (told_of now v.id c there)
+  told-push [] [] (z ∷ places) v c there size each = absurd (omega (arith, each))
+  told-push [] (y ∷ courses) places v c there size each = absurd (omega (arith, size))
+  told-push (x ∷ vehicles) [] places v c there size each = absurd (omega (arith, size))
+  told-push (x ∷ vehicles) (y ∷ courses) [] v c there size each = absurd (omega (arith, each))
+  told-push (x ∷ vehicles) (y ∷ courses) (z ∷ places) v c there size each =
+      ap (λ l. told_of now x.id y z ++ l) (told-push vehicles courses places v c there (omega (arith, size)) (omega (arith, each)))
+      ∙ sym (append_assoc (told_of now x.id y z) (told_by now vehicles courses places) (told_of now v.id c there))
+
+  pub told-more : (vehicles : List Vehicle) (courses : List Course) (places : List NodeAt) (k : ℕ) (v : Vehicle) (c : Course) (there : NodeAt) → length courses ≡ length vehicles → length places ≡ length vehicles
+      → k < length vehicles → v ≡ get_or vehicles k v → c ≡ get_or courses k c → there ≡ get_or places k there
+      → told_by now (take (k + 1) vehicles) (take (k + 1) courses) (take (k + 1) places) ≡ told_by now (take k vehicles) (take k courses) (take k places) ++ told_of now v.id c there
+  told-more vehicles courses places k v c there size each h is_v is_c is_p =
+      let vs : take (k + 1) vehicles ≡ take k vehicles ++ v ∷ [] = take_more vehicles k v h ∙ ap (λ y. take k vehicles ++ y ∷ []) (sym is_v) in
+      let cs : take (k + 1) courses ≡ take k courses ++ c ∷ [] = take_more courses k c (omega (arith, size, h)) ∙ ap (λ y. take k courses ++ y ∷ []) (sym is_c) in
+      let ps : take (k + 1) places ≡ take k places ++ there ∷ [] = take_more places k there (omega (arith, each, h)) ∙ ap (λ y. take k places ++ y ∷ []) (sym is_p) in
+      rw (vs, cs, ps) (told-push (take k vehicles) (take k courses) (take k places) v c there (same_takes vehicles courses k size) (same_takes vehicles places k each))
+
+-- where one more vehicle heads
+module _ (dwell now : ℕ) where
+  headings-push : (vehicles : List Vehicle) (courses : List Course) (v : Vehicle) (c : Course) → length courses ≡ length vehicles
+      → headings_of dwell now (vehicles ++ v ∷ []) (courses ++ c ∷ []) ≡ headings_of dwell now vehicles courses ++ heading_of dwell now v c ∷ []
+  headings-push [] [] v c size = refl
+  headings-push [] (y ∷ courses) v c size = absurd (omega (arith, size))
+  headings-push (x ∷ vehicles) [] v c size = absurd (omega (arith, size))
+  headings-push (x ∷ vehicles) (y ∷ courses) v c size = ap (λ l. heading_of dwell now x y ∷ l) (headings-push vehicles courses v c (omega (arith, size)))
+
+  pub headings-more : (vehicles : List Vehicle) (courses : List Course) (k : ℕ) (v : Vehicle) (c : Course) → length courses ≡ length vehicles → k < length vehicles → v ≡ get_or vehicles k v → c ≡ get_or courses k c
+      → headings_of dwell now (take (k + 1) vehicles) (take (k + 1) courses) ≡ headings_of dwell now (take k vehicles) (take k courses) ++ heading_of dwell now v c ∷ []
+  headings-more vehicles courses k v c size h is_v is_c =
+      let vs : take (k + 1) vehicles ≡ take k vehicles ++ v ∷ [] = take_more vehicles k v h ∙ ap (λ y. take k vehicles ++ y ∷ []) (sym is_v) in
+      let cs : take (k + 1) courses ≡ take k courses ++ c ∷ [] = take_more courses k c (omega (arith, size, h)) ∙ ap (λ y. take k courses ++ y ∷ []) (sym is_c) in
+      rw (vs, cs) (headings-push (take k vehicles) (take k courses) v c (same_takes vehicles courses k size))
+
+-- who is placed is entered there
+module _ (roads : Roads) (dwell now : ℕ) where
+  pub placed-size : (vehicles : List Vehicle) (courses : List Course) (places : List NodeAt) → length courses ≡ length vehicles → ArePlaced roads dwell now vehicles courses places → length places ≡ length vehicles
+  placed-size [] courses [] size placed = refl
+  placed-size [] courses (z ∷ places) size placed = absurd placed
+  placed-size (x ∷ vehicles) [] places size placed = absurd (omega (arith, size))
+  placed-size (x ∷ vehicles) (y ∷ courses) [] size placed = absurd placed
+  placed-size (x ∷ vehicles) (y ∷ courses) (z ∷ places) size placed = ap suc (placed-size vehicles courses places (omega (arith, size)) placed.1)
+
+  pub placed_entered : (vehicles : List Vehicle) (courses : List Course) (places : List NodeAt) → length courses ≡ length vehicles → ArePlaced roads dwell now vehicles courses places
+      → AreEntered roads dwell now vehicles courses (told_by now vehicles courses places)
+  placed_entered [] courses places size placed = refl
+  placed_entered (x ∷ vehicles) [] places size placed = absurd (omega (arith, size))
+  placed_entered (x ∷ vehicles) (y ∷ courses) [] size placed = absurd placed
+  placed_entered (x ∷ vehicles) (y ∷ courses) (z ∷ places) size placed = (
+    told_of now x.id y z,
+    told_by now vehicles courses places,
+    record { there = z; reported = placed.0; told = refl },
+    placed_entered vehicles courses places (omega (arith, size)) placed.1,
+    refl,
+  )
+
+  -- whoever is placed too late is entered too late
+  pub placed_late : (vehicles : List Vehicle) (courses : List Course) (places : List NodeAt) → length courses ≡ length vehicles → ArePlaced roads dwell now vehicles courses places
+      → Any (λ (there : NodeAt). longest < there.second) places → EntersTooLate roads dwell now vehicles courses
+  placed_late vehicles courses [] size placed (k, there, within, is, late) = absurd (omega (arith, within))
+  placed_late [] courses (z ∷ places) size placed late = absurd placed
+  placed_late (x ∷ vehicles) [] (z ∷ places) size placed late = absurd (omega (arith, size))
+  placed_late (x ∷ vehicles) (y ∷ courses) (z ∷ places) size placed (zero, there, within, is, late) = inl (
+    told_of now x.id y z,
+    record { there = z; reported = placed.0; told = refl },
+    any_last IsTooLate (map (stop_command x.id) (due now y.stops.items)) (Report x.id z.node z.second) (subst (λ (t : NodeAt). longest < t.second) (sym is) late),
+  )
+  placed_late (x ∷ vehicles) (y ∷ courses) (z ∷ places) size placed (suc k, there, within, is, late) =
+      inr (placed_late vehicles courses places (omega (arith, size)) placed.1 (k, there, omega (arith, within), is, late))
 
 -- the stops left of one more vehicle
 left-push : (vehicles : List Vehicle) (courses : List Course) (v : Vehicle) (c : Course) → length courses ≡ length vehicles
@@ -178,3 +227,23 @@ due_in_time vehicle now (s ∷ stops) h = elim (leb_tells s.second now) [
   | inl t ↦ rw t.0 (All-cons IsInTime (stop_command vehicle s) (map (stop_command vehicle) (due now stops)) (stop_in_time vehicle s (let le = t.1 in omega (arith, le, h))) (due_in_time vehicle now stops h))
   | inr f ↦ rw f.0 (due_in_time vehicle now stops h)
 ]
+
+pub told_in_time : (vehicle now : ℕ) (course : Course) (there : NodeAt) → now ≤ longest → there.second ≤ longest → All IsInTime (told_of now vehicle course there)
+told_in_time vehicle now course there h in_time = All-push IsInTime (map (stop_command vehicle) (due now course.stops.items)) (Report vehicle there.node there.second) (due_in_time vehicle now course.stops.items h) in_time
+
+-- where all are answered, what holds of each answer holds of all
+ok-zip : {X Y : Type 0} (E : Type 0) (R : X → Y → Type 0) (xs : List X) (ys : List Y) → AllZip (λ x (y : Result Y E). IfOk y (R x)) xs (map Ok ys) → AllZip R xs ys
+ok-zip E R [] [] all = tt
+ok-zip E R [] (y ∷ ys) all = absurd all
+ok-zip E R (x ∷ xs) [] all = absurd all
+ok-zip E R (x ∷ xs) (y ∷ ys) all = (all.0, ok-zip E R xs ys all.1)
+
+pub all-ok : {X Y V : Type 0} (E : Type 0) (items : V → List Y) (R : X → Y → Type 0) (xs : List X) (r : Result V E) (ys : List (Result Y E))
+    → MatchResult r (λ v. (zs : List Y) × (ys ≡ map Ok zs) × (items v ≡ zs)) (λ e. Contains ys (Err e)) → AllZip (λ x y. IfOk y (R x)) xs ys → IfOk r (λ v. AllZip R xs (items v))
+all-ok E items R xs (Ok v) ys (zs, is, same) all = subst (AllZip R xs) (sym same) (ok-zip E R xs zs (subst (AllZip (λ x y. IfOk y (R x)) xs) is all))
+all-ok E items R xs (Err e) ys found all = tt
+
+-- what follows from two facts of what went well
+pub on_ok_both : {U E : Type 0} (r : Result U E) (A B C : Type 0) → IfOk r (λ _. A) → IfOk r (λ _. B) → (A → B → C) → IfOk r (λ _. C)
+on_ok_both (Ok u) A B C a b c = c a b
+on_ok_both (Err e) A B C a b c = tt

@@ -7,7 +7,8 @@ use Rattle.pool_base.specs.TravelTime.{never, longest}
 use Rattle.road_network.specs.declared.arc.Arc.{Arc}
 use Rattle.road_network.specs.Roads.{IsArcAmong}
 use Rattle.road_network.specs.Walk.{IsWalk, walk_seconds}
-use Rattle.travel_times.specs.lemmas.Search.{waits, IsSearching}
+use Rattle.travel_times.specs.Search.{waits}
+use Rattle.travel_times.specs.lemmas.Search.{IsSearching}
 use Rattle.travel_times.proofs.lemmas.WalkLemmas.{short_walk}
 use Rattle.route_drive.specs.work.Near.{AreTimesUpTo}
 

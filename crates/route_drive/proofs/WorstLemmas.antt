@@ -3,6 +3,7 @@
 use Rattle.std.proofs.Common.{◌≡◌, ℕ, ◌+◌, ◌-◌, ◌≤◌, max, Bool, true, false, cond, List, [], ◌∷◌, ◌++◌, map, Option, None, Some, inl, inr, refl, sym, ap, ◌∙◌, subst, arith}
 use Rattle.std.proofs.lemmas.Bool.{cases_Bool, cases_eq, cond-true, cond-false, true≢false}
 use Rattle.std.specs.Prelude.{◌==◌, ◌&&◌, MatchOption}
+use Rattle.std.specs.List.{AllZip}
 use Rattle.std.specs.Option.{option_map_or}
 use Rattle.batch_snapshot.specs.Batch.{Batch}
 use Rattle.batch_snapshot.specs.declared.rider.Rider.{Rider}
@@ -42,7 +43,6 @@ use Rattle.dispatch_engine.specs.Run.{IsRun}
 use Rattle.route_drive.specs.declared.day_run.DayRound.{DayRound}
 use Rattle.route_drive.specs.Driven.{IsDrivenDay, state_left}
 use Rattle.stop_orders.specs.Settled.{greatest}
-use Rattle.route_drive.specs.work.Counting.{AreDelaysOf}
 use Rattle.route_drive.specs.Counts.{AreCounts, entries_of, IsDelayOf, dropped_among, ideal_dropoff, is_dropped, is_picked, picked_among, rider_of, wait_of}
 use Rattle.route_drive.specs.Entering.{second_of}
 use Rattle.route_drive.specs.Promises.{EntriesKeep, EntryKeeps, IsDroppedInTime}
@@ -337,8 +337,8 @@ module _ (settings : Settings) (roads : Roads) where
       ]
 
   delay_first : (s : State) (e : Entry) (es : List Entry) (later : List BookRider) (ds : List ℕ) → IsDropoff e.command → EntryKeeps settings roads s e.command e.reply → Keeps s.riders later
-      → ((others : List ℕ) → AreDelaysOf roads later (dropped_among es) others → greatest others ≤ settings.delay)
-      → AreDelaysOf roads later (e ∷ dropped_among es) ds → greatest ds ≤ settings.delay
+      → ((others : List ℕ) → AllZip (IsDelayOf roads later) (dropped_among es) others → greatest others ≤ settings.delay)
+      → AllZip (IsDelayOf roads later) (e ∷ dropped_among es) ds → greatest ds ≤ settings.delay
   delay_first s e es later [] is kept keeps rest are = absurd are
   delay_first s e es later (d ∷ ds) is kept keeps rest are =
       let one = entry_delay s later d e.command e.reply e.lane is kept keeps are.0 in
@@ -347,7 +347,7 @@ module _ (settings : Settings) (roads : Roads) where
 
   -- the worst delay is within the delay
   delays_within : (s : State) (es : List Entry) (later : List BookRider) (ds : List ℕ) → RepliesAreSteps roads.nodes settings.wait s es → EntriesKeep settings roads s es
-      → Keeps (state_after roads.nodes settings.wait s es).riders later → AreDelaysOf roads later (dropped_among es) ds → greatest ds ≤ settings.delay
+      → Keeps (state_after roads.nodes settings.wait s es).riders later → AllZip (IsDelayOf roads later) (dropped_among es) ds → greatest ds ≤ settings.delay
   unfolding state_after RepliesAreSteps
   delays_within s [] later [] replies kept keeps are = omega arith
   delays_within s [] later (d ∷ ds) replies kept keeps are = absurd are
@@ -358,8 +358,8 @@ module _ (settings : Settings) (roads : Roads) where
             delay_first s e es later ds (dropped_by roads.nodes settings.wait s e.command (sym (ap is_dropped replies.0) ∙ holds)) kept.0
             (keeps_trans s.riders next.riders later (step-keeps roads.nodes settings.wait s e.command) (keeps_trans next.riders (state_after roads.nodes settings.wait next es).riders later (riders_stay roads.nodes settings.wait next es) keeps))
             (λ others. delays_within next es later others replies.1 kept.2 keeps)
-            (subst (λ (l : List Entry). AreDelaysOf roads later l ds) (cond-true (is_dropped e.reply) (e ∷ dropped_among es) (dropped_among es) holds) are)
-        | inr other ↦ delays_within next es later ds replies.1 kept.2 keeps (subst (λ (l : List Entry). AreDelaysOf roads later l ds) (cond-false (is_dropped e.reply) (e ∷ dropped_among es) (dropped_among es) other) are)
+            (subst (λ (l : List Entry). AllZip (IsDelayOf roads later) l ds) (cond-true (is_dropped e.reply) (e ∷ dropped_among es) (dropped_among es) holds) are)
+        | inr other ↦ delays_within next es later ds replies.1 kept.2 keeps (subst (λ (l : List Entry). AllZip (IsDelayOf roads later) l ds) (cond-false (is_dropped e.reply) (e ∷ dropped_among es) (dropped_among es) other) are)
       ]
 
   replies-join : (s : State) (es later : List Entry) → RepliesAreSteps roads.nodes settings.wait s es → RepliesAreSteps roads.nodes settings.wait (state_after roads.nodes settings.wait s es) later

@@ -160,7 +160,7 @@ module _ (settings : Settings) (roads : Roads) where
     pub late : ComesTooLate (state_left s (map (λ r. r.journal) made)).vehicles (courses_from s before made) rest number
     pub end : rest ≡ [] → number ≡ number_after rounds
 
-  -- why a day isn't driven to its end
-  abbrev pub IsLateAnswer : State → List NumberedLanes → DriveFault → Type 0
-  IsLateAnswer s rounds (TooLate number made) = IsTooLateDay s rounds number made
-  IsLateAnswer s rounds OutOfMemory = Unit {0}
+  -- why a day isn't driven to its end, by the rounds that were taken
+  abbrev pub IsLateAnswer : (List DayRound → Type 0) → State → List NumberedLanes → DriveFault → Type 0
+  IsLateAnswer Took s rounds (TooLate number) = (made : List DayRound) × Took made × IsTooLateDay s rounds number made
+  IsLateAnswer Took s rounds OutOfMemory = Unit {0}

@@ -9,8 +9,8 @@ use Rattle.request_book.specs.declared.outcome.PlannedStop.{PlannedStop}
 use Rattle.road_network.specs.Roads.{Roads, index_in}
 use Rattle.road_network.specs.Walk.{HasNoWalk}
 use Rattle.route_drive.specs.declared.course.Course.{Course}
-use Rattle.route_drive.specs.declared.course.Place.{Place}
-use Rattle.route_drive.specs.declared.course.Standing.{Standing}
+use Rattle.route_drive.specs.declared.course.NodeAt.{NodeAt}
+use Rattle.route_drive.specs.declared.course.Stay.{Stay}
 use Rattle.route_drive.specs.declared.walk.WalkStep.{WalkStep}
 use Rattle.route_drive.specs.Walk.{IsShortestWalk}
 
@@ -27,7 +27,7 @@ abbrev pub stop_command : ℕ → PlannedStop → Command
 stop_command vehicle stop = if stop.pick then Pickup vehicle stop.rider stop.second else Dropoff vehicle stop.rider stop.second
 
 -- where a vehicle is after stops, when it came there, and from when on it can leave: after a dwell
-abbrev pub standing_after : ℕ → Standing → List PlannedStop → Standing
+abbrev pub standing_after : ℕ → Stay → List PlannedStop → Stay
 standing_after dwell at stops = fold (λ _ stop. record { node = stop.node; second = stop.second; free = stop.second + dwell }) at stops
 
 -- where it goes: to its next stop; without one to the rider whom its move names
@@ -42,7 +42,7 @@ walk_end (step ∷ []) = step.seconds
 walk_end (step ∷ steps) = walk_end steps
 
 -- where a vehicle is reported at a seal
-pub data IsReported (roads : Roads) (now : ℕ) (at : Standing) (goal : Option ℕ) (there : Place) : Type 0 where
+pub data IsReported (roads : Roads) (now : ℕ) (at : Stay) (goal : Option ℕ) (there : NodeAt) : Type 0 where
   -- it can't leave before the seal: where it is, when it can
   stays : now < at.free → there ≡ record { node = at.node; second = at.free } → IsReported roads now at goal there
   -- it goes nowhere: where it is, by now
@@ -61,7 +61,7 @@ pub data IsReported (roads : Roads) (now : ℕ) (at : Standing) (goal : Option �
 
 -- what is entered of a vehicle before a seal: its stops that are due, each at its second, and where it is then
 pub record IsEntered (roads : Roads) (dwell now : ℕ) (v : Vehicle) (course : Course) (commands : List Command) : Type 0 where
-  pub there : Place
+  pub there : NodeAt
   pub reported : IsReported roads now
       (standing_after dwell (record { node = v.node; second = v.time; free = v.time }) (due now course.stops.items))
       (goal_of course.target (to_come now course.stops.items)) there

@@ -29,9 +29,10 @@ use Rattle.script_rows.specs.Round.{IsRound, NumberedLanes}
 use Rattle.stop_orders.specs.declared.settled.Settled.{Settled}
 use Rattle.travel_times.specs.Table.{AreTravelTimes}
 use Rattle.route_drive.specs.declared.day_run.DayRound.{DayRound}
-use Rattle.route_drive.specs.Counts.{entries_of, ideal_dropoff}
+use Rattle.route_drive.specs.declared.day_run.DayRun.{DayRun}
+use Rattle.route_drive.specs.Counts.{AreCounts, entries_of, ideal_dropoff}
 use Rattle.route_drive.specs.Day.{day_fault}
-use Rattle.route_drive.specs.Driven.{IsDrivenDay}
+use Rattle.route_drive.specs.Driven.{IsDrivenDay, state_left}
 
 -- a drop-off at a second is at most so much later than the ideal one
 pub record IsDroppedInTime (roads : Roads) (delay : ℕ) (r : BookRider) (second : ℕ) : Type 0 where
@@ -92,6 +93,14 @@ module _ (settings : Settings) (roads : Roads) where
   abbrev pub EntriesKeep : State → List Entry → Type 0
   EntriesKeep s [] = StateKeeps s []
   EntriesKeep s (e ∷ es) = EntryKeeps s e.command e.reply × StateKeeps s (e ∷ es) × EntriesKeep (step roads.nodes settings.wait s e.command).0 es
+
+  -- rounds are those of a driven day that keeps its promises, and these are its counts; the worst are within the limits
+  pub record IsRunOfDay (s : State) (rounds : List NumberedLanes) (made : List DayRound) (run : DayRun) : Type 0 where
+    pub driven : IsDrivenDay settings roads s rounds made
+    pub counts : AreCounts roads (state_left settings roads s (map (λ r. r.journal) made)).riders (entries_of made) run.picked run.dropped run.worst_wait run.worst_delay
+    pub keeps : EntriesKeep s (entries_of made)
+    pub in_wait : run.worst_wait ≤ settings.wait
+    pub in_delay : run.worst_delay ≤ settings.delay
 
 -- a driven day keeps its promises: all its entries do, from the state of a fleet before its first round
 abbrev pub DaysKeep : Type 0

@@ -1,5 +1,6 @@
 pub mod Near
 pub mod Tree
+pub mod Places
 pub mod Rounds
 pub mod Drive
 pub mod Counting

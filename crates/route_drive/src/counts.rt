@@ -1,137 +1,163 @@
 //! What is counted of a driven day.
-ghost use Rattle.std.specs.Prelude.{◌≡◌, ◌==◌, All, IfOk, IfSome, IfNone, None, Some, find};
+ghost use Rattle.std.specs.Prelude.{◌≡◌, ◌==◌, ◌∷◌, [], ℕ, List, All, IfOk, IfSome, IfNone, None, OnOk, Some, find, map};
+ghost use Rattle.std.specs.List.{AllZip};
 ghost use Rattle.request_book.specs.Consistent.{IsNode};
+ghost use Rattle.request_book.specs.declared.journal.Entry.{Entry as EntryValue};
 ghost use Rattle.road_network.specs.Roads.{index_in};
 ghost use Rattle.road_network.specs.Walk.{IsTimeBetween};
-ghost use Rattle.route_drive.specs.Counts.{AreCounts, IsDelayOf, entries_of, ideal_dropoff, rider_of, wait_of};
-ghost use Rattle.route_drive.specs.Entering.{second_of};
-ghost use Rattle.route_drive.specs.work.Counting.{AddsCounts, AddsEntry};
+ghost use Rattle.route_drive.specs.Counts.{AreCounts, ideal_dropoff};
+ghost use Rattle.route_drive.specs.work.Counting.{AddsServed, AreServed, IsDelayed, served_by, waited};
+ghost use Rattle.stop_orders.specs.Settled.{greatest};
 
-use crate::day_run::DayRound;
+use crate::day_run::DayRun;
 use crate::search::Search;
 use pool_base::{NodeId, OutOfMemory, RiderId, Second, Times};
 use request_book::{Book, BookRider, Command, Entry, Reply};
 use road_network::Network;
 use std::alloc::Global;
 
-/// How many were picked up and dropped, the worst wait and the worst delay, in seconds.
+/// A rider who was picked up or dropped, and when.
 #[derive(Clone, Copy)]
-pub struct Counts {
-    pub picked: u64,
-    pub dropped: u64,
-    pub worst_wait: u64,
-    pub worst_delay: u64,
+pub struct ServedRider {
+    pub rider: RiderId,
+    pub second: Second,
 }
 
-/// The counts of the rounds that led to a book over this network.
+/// Who was picked up and who was dropped so far, in order.
+#[derive(Drop)]
+pub struct Served {
+    pub picked: Vec<ServedRider>,
+    pub dropped: Vec<ServedRider>,
+}
+
+impl Served {
+    pub(crate) fn nobody(alloc: Global) -> Served
+        ensures picked { result.picked.items ≡ [] }
+        ensures dropped { result.dropped.items ≡ [] }
+    {
+        Served {
+            picked: Vec::new(alloc),
+            dropped: Vec::new(alloc),
+        }
+    }
+}
+
+/// Notes whom entries pick up or drop.
+pub(crate) fn note_entries(served: &mut Served, entries: &[Entry]) -> Result<(), OutOfMemory>
+    ensures { OnOk result (AddsServed entries.now served.old served.new) }
+{
+    for entry in entries {
+        note_entry(served, entry)?;
+    }
+    Ok(())
+}
+
+/// Notes whom an entry picks up or drops, if it does.
+fn note_entry(served: &mut Served, entry: &Entry) -> Result<(), OutOfMemory>
+    ensures { OnOk result (AddsServed (entry.now ∷ []) served.old served.new) }
+{
+    match entry.reply {
+        Reply::Picked => served.picked.push(served_by(&entry.command))?,
+        Reply::Dropped => served.dropped.push(served_by(&entry.command))?,
+        _ => {}
+    }
+    Ok(())
+}
+
+/// The rider of a pickup or drop-off, and its second.
+fn served_by(command: &Command) -> ServedRider
+    ensures { result ≡ served_by command.now }
+{
+    match command {
+        Command::Pickup { rider, time, .. } => ServedRider {
+            rider: *rider,
+            second: *time,
+        },
+        Command::Dropoff { rider, time, .. } => ServedRider {
+            rider: *rider,
+            second: *time,
+        },
+        Command::Report { time, .. } => ServedRider {
+            rider: RiderId::default(),
+            second: *time,
+        },
+        _ => ServedRider {
+            rider: RiderId::default(),
+            second: Second::default(),
+        },
+    }
+}
+
+/// The counts of a day that led to a book over this network, where these were served.
 pub(crate) fn counts_of(
     alloc: Global,
     book: &Book,
-    rounds: &[DayRound],
+    served: &Served,
     network: &Network,
-) -> Result<Counts, OutOfMemory>
+) -> Result<DayRun, OutOfMemory>
     requires nodes { book.now.nodes ≡ network.now.nodes }
-    ensures { IfOk result (λ counts. AreCounts network.now book.now.state.riders (entries_of rounds.now) counts.picked counts.dropped counts.worst_wait counts.worst_delay) }
+    ensures { IfOk result (λ run. (entries : List EntryValue) → AreServed entries served.now → AreCounts network.now book.now.state.riders entries run.picked run.dropped run.worst_wait run.worst_delay) }
 {
     let _named = book.entries();
     let mut search = Search::new(alloc)?;
     match book.state() {
-        Ok(state) => count_rounds(&mut search, state.riders.as_slice(), rounds, network),
+        Ok(state) => counts_among(&mut search, state.riders.as_slice(), served, network),
         Err(_) => Err(OutOfMemory),
     }
 }
 
-/// The counts of rounds, where these are the riders.
-fn count_rounds(
+/// The counts, where these are the riders.
+fn counts_among(
     search: &mut Search,
     riders: &[BookRider],
-    rounds: &[DayRound],
+    served: &Served,
     network: &Network,
-) -> Result<Counts, OutOfMemory>
+) -> Result<DayRun, OutOfMemory>
     requires named { All (λ r. IsNode network.now.nodes r.origin × IsNode network.now.nodes r.destination) riders.now }
-    ensures { IfOk result (λ counts. AreCounts network.now riders.now (entries_of rounds.now) counts.picked counts.dropped counts.worst_wait counts.worst_delay) }
+    ensures { IfOk result (λ run. (entries : List EntryValue) → AreServed entries served.now → AreCounts network.now riders.now entries run.picked run.dropped run.worst_wait run.worst_delay) }
 {
-    let mut counts = Counts {
-        picked: 0,
-        dropped: 0,
-        worst_wait: 0,
-        worst_delay: 0,
-    };
-    for round in rounds {
-        let entries = round.journal.entries.as_slice();
-        match count_entries(search, counts, riders, entries, network) {
-            Ok(next) => counts = next,
+    let delay = worst_delay(search, riders, &served.dropped, network)?;
+    Ok(DayRun {
+        picked: served.picked.len() as u64,
+        dropped: served.dropped.len() as u64,
+        worst_wait: worst_wait(riders, &served.picked),
+        worst_delay: delay,
+    })
+}
+
+/// The longest wait of those who were picked up.
+fn worst_wait(riders: &[BookRider], picked: &[ServedRider]) -> u64
+    ensures { result ≡ greatest (map (waited riders.now) picked.now) }
+{
+    let mut worst = 0u64;
+    for served in picked {
+        worst = worst.max(wait_of(riders, *served));
+    }
+    worst
+}
+
+/// The longest delay of those who were dropped.
+fn worst_delay(
+    search: &mut Search,
+    riders: &[BookRider],
+    dropped: &[ServedRider],
+    network: &Network,
+) -> Result<u64, OutOfMemory>
+    requires named { All (λ r. IsNode network.now.nodes r.origin × IsNode network.now.nodes r.destination) riders.now }
+    ensures { IfOk result (λ worst. (delays : List ℕ) × AllZip (IsDelayed network.now riders.now) dropped.now delays × (worst ≡ greatest delays)) }
+{
+    let mut worst = 0u64;
+    for served in dropped {
+        match delay_of(search, riders, *served, network) {
+            Ok(delay) => worst = worst.max(delay),
             Err(_) => return Err(OutOfMemory),
         }
     }
-    Ok(counts)
-}
-
-/// The counts with entries that follow.
-fn count_entries(
-    search: &mut Search,
-    before: Counts,
-    riders: &[BookRider],
-    entries: &[Entry],
-    network: &Network,
-) -> Result<Counts, OutOfMemory>
-    requires named { All (λ r. IsNode network.now.nodes r.origin × IsNode network.now.nodes r.destination) riders.now }
-    ensures { IfOk result (AddsCounts network.now riders.now entries.now before) }
-{
-    let mut counts = before;
-    for entry in entries {
-        match count_entry(search, counts, riders, entry, network) {
-            Ok(next) => counts = next,
-            Err(_) => return Err(OutOfMemory),
-        }
-    }
-    Ok(counts)
-}
-
-/// The counts with an entry that follows.
-fn count_entry(
-    search: &mut Search,
-    counts: Counts,
-    riders: &[BookRider],
-    entry: &Entry,
-    network: &Network,
-) -> Result<Counts, OutOfMemory>
-    requires named { All (λ r. IsNode network.now.nodes r.origin × IsNode network.now.nodes r.destination) riders.now }
-    ensures { IfOk result (AddsEntry network.now riders.now entry.now counts) }
-{
-    match entry.reply {
-        Reply::Picked => Ok(Counts {
-            picked: counts.picked.saturating_add(1),
-            worst_wait: counts.worst_wait.max(wait_of(riders, entry)),
-            ..counts
-        }),
-        Reply::Dropped => {
-            let delay = delay_of(search, riders, entry, network)?;
-            Ok(Counts {
-                dropped: counts.dropped.saturating_add(1),
-                worst_delay: counts.worst_delay.max(delay),
-                ..counts
-            })
-        }
-        _ => Ok(counts),
-    }
-}
-
-/// The rider of a pickup or drop-off, and its second.
-fn visit_of(command: &Command) -> (RiderId, Second)
-    ensures rider { result.0 ≡ rider_of command.now }
-    ensures second { result.1 ≡ second_of command.now }
-{
-    match command {
-        Command::Pickup { rider, time, .. } => (*rider, *time),
-        Command::Dropoff { rider, time, .. } => (*rider, *time),
-        Command::Report { time, .. } => (RiderId::default(), *time),
-        _ => (RiderId::default(), Second::default()),
-    }
+    Ok(worst)
 }
 
 /// The rider of this id.
-pub(crate) fn rider_in(riders: &[BookRider], id: RiderId) -> Option<&BookRider>
+fn rider_in(riders: &[BookRider], id: RiderId) -> Option<&BookRider>
     ensures some { IfSome result (λ rider. find (λ r. r.id == id) riders.now ≡ Some rider.now) }
     ensures none { IfNone result (find (λ r. r.id == id) riders.now ≡ None) }
 {
@@ -144,12 +170,11 @@ pub(crate) fn rider_in(riders: &[BookRider], id: RiderId) -> Option<&BookRider>
 }
 
 /// How long a rider who was picked up had waited.
-fn wait_of(riders: &[BookRider], entry: &Entry) -> u64
-    ensures { result ≡ wait_of riders.now entry.now }
+fn wait_of(riders: &[BookRider], served: ServedRider) -> u64
+    ensures { result ≡ waited riders.now served }
 {
-    let (id, second) = visit_of(&entry.command);
-    match rider_in(riders, id) {
-        Some(rider) => (second.get() as u64).saturating_sub(rider.time.get() as u64),
+    match rider_in(riders, served.rider) {
+        Some(rider) => (served.second.get() as u64).saturating_sub(rider.time.get() as u64),
         None => 0,
     }
 }
@@ -158,20 +183,19 @@ fn wait_of(riders: &[BookRider], entry: &Entry) -> u64
 fn delay_of(
     search: &mut Search,
     riders: &[BookRider],
-    entry: &Entry,
+    served: ServedRider,
     network: &Network,
 ) -> Result<u64, OutOfMemory>
     requires named { All (λ r. IsNode network.now.nodes r.origin × IsNode network.now.nodes r.destination) riders.now }
-    ensures { IfOk result (IsDelayOf network.now riders.now entry.now) }
+    ensures { IfOk result (IsDelayed network.now riders.now served) }
 {
-    let (id, second) = visit_of(&entry.command);
-    match rider_in(riders, id) {
+    match rider_in(riders, served.rider) {
         Some(rider) => {
             let from = rider.origin;
             let to = rider.destination;
             let seconds = seconds_between(search, from, to, network)?;
             let ideal = ideal_of(rider.time, seconds);
-            Ok((second.get() as u64).saturating_sub(ideal))
+            Ok((served.second.get() as u64).saturating_sub(ideal))
         }
         None => Ok(0),
     }

@@ -12,7 +12,7 @@ pub struct Course {
 
 /// A node at which a vehicle came at a second, and the second from which on it can leave.
 #[derive(Clone, Copy)]
-pub struct Standing {
+pub struct Stay {
     pub node: NodeId,
     pub second: u64,
     pub free: u64,
@@ -20,7 +20,14 @@ pub struct Standing {
 
 /// A node at a second.
 #[derive(Clone, Copy)]
-pub struct Place {
+pub struct NodeAt {
     pub node: NodeId,
     pub second: u64,
+}
+
+/// Where a vehicle stands when its due stops are done, and where it goes from there.
+#[derive(Clone, Copy)]
+pub struct Heading {
+    pub from: Stay,
+    pub goal: Option<NodeId>,
 }

@@ -1,4 +1,3 @@
-use pool_base::Sequence;
 use request_book::Journal;
 
 /// A round of a driven day.
@@ -8,11 +7,9 @@ pub struct DayRound {
     pub journal: Journal,
 }
 
-/// What came of a driven day. Seconds are whole seconds.
-#[derive(Drop)]
+/// What is counted of a driven day. Seconds are whole seconds.
+#[derive(Clone, Copy)]
 pub struct DayRun {
-    /// The rounds as they were driven, the last of them of the stops that were left.
-    pub rounds: Sequence<DayRound>,
     /// How many were picked up, and how many dropped.
     pub picked: u64,
     pub dropped: u64,
@@ -24,12 +21,9 @@ pub struct DayRun {
 }
 
 /// Why a day wasn't driven to its end.
-#[derive(Drop)]
+#[derive(Clone, Copy)]
 pub enum DriveFault {
-    /// A second above 1,000,000,000 would be entered into this round; these are the rounds before it.
-    TooLate {
-        round: u32,
-        rounds: Sequence<DayRound>,
-    },
+    /// A second above 1,000,000,000 would be entered into this round.
+    TooLate { round: u32 },
     OutOfMemory,
 }

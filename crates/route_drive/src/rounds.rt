@@ -12,40 +12,35 @@ use crate::course::Course;
 use crate::day::first_seal;
 use crate::entering::{Stopped, command_of, enter_all, put};
 use batch_snapshot::Vehicle;
+use dispatch_engine::Setup;
 use pool_base::{OutOfMemory, Second, VehicleId};
 use request_book::{Command, PlannedStop, State};
-use rider_limits::Settings;
-use road_network::Network;
+use row_tables::Drafter;
 use script_rows::Round;
 use std::alloc::Global;
+use std::thread::Threads;
+use travel_times::Ways;
+use worker_gate::Gate;
 
 /// A round of a day as it is driven from a state: where it has a seal, all vehicles are entered before it.
-pub(crate) fn driven_round(
+pub(crate) fn driven_round<W: Ways, D: Drafter, G: Gate>(
+    rt: &(impl Threads + Sync),
     alloc: Global,
-    network: &Network,
-    settings: &Settings,
+    setup: &Setup<'_, W, D, G>,
     state: &State,
     courses: &[Course],
     round: &Round,
 ) -> Result<Round, Stopped>
     requires same { length courses.now ≡ length state.now.vehicles }
-    ensures driven { IfOk result (λ driven. IsDrivenRound settings.now network.now state.now courses.now round.now (record driven { number = round.now.number })) }
-    ensures late { result ≡ Err Late → (now : ℕ) × (seal_of round.now ≡ Some now) × EntersTooLate network.now settings.now.dwell now state.now.vehicles courses.now }
+    ensures driven { IfOk result (λ driven. IsDrivenRound setup.now.settings.now setup.now.network.now state.now courses.now round.now (record driven { number = round.now.number })) }
+    ensures late { result ≡ Err Late → (now : ℕ) × (seal_of round.now ≡ Some now) × EntersTooLate setup.now.network.now setup.now.settings.now.dwell now state.now.vehicles courses.now }
 {
     let Ok(mut driven) = Round::new(alloc, 0) else {
         return Err(Stopped::OutOfMemory);
     };
     if let Some(now) = first_seal(round.lane(0)) {
         let vehicles = state.vehicles.as_slice();
-        match enter_all(
-            alloc,
-            &mut driven,
-            network,
-            settings.dwell,
-            now,
-            vehicles,
-            courses,
-        ) {
+        match enter_all(rt, alloc, &mut driven, setup, now, vehicles, courses) {
             Ok(()) => {}
             Err(stopped) => return Err(stopped),
         }

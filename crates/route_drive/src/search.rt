@@ -1,13 +1,13 @@
 //! Travel times from a node, as far as another one.
-ghost use Rattle.std.specs.Prelude.{◌≡◌, ℕ, ◌<◌, ◌≤◌, true, false, All, IfSome, IfNone, OnOk, length, replicate, slice_index};
+ghost use Rattle.std.specs.Prelude.{◌≡◌, ◌<◌, ◌≤◌, false, All, OnOk, length, replicate};
 ghost use Rattle.pool_base.specs.TravelTime.{longest};
-ghost use Rattle.travel_times.specs.lemmas.Search.{IsNextTaken, RelaxesHops, waits};
+ghost use Rattle.travel_times.specs.Search.{RelaxesHops};
 ghost use Rattle.route_drive.specs.work.Near.{AreTimesUpTo};
 
 use pool_base::{OutOfMemory, Times};
 use road_network::{Hop, Network};
 use std::alloc::Global;
-use travel_times::Ring;
+use travel_times::{Ring, next_near};
 
 /// No travel time is longer: a shortest walk has at most 99,999 arcs of 10,000 seconds.
 const LONGEST: u32 = 1_000_000_000;
@@ -84,41 +84,6 @@ impl Search {
         }
         Ok(())
     }
-}
-
-/// Takes a node that waits and has at most so many seconds: the ring's next, or any, should the ring be empty before.
-/// What the ring gives and is further stays waiting.
-fn next_near(ring: &mut Ring, waiting: &mut [bool], seconds: &[u32], most: u32) -> Option<usize>
-    requires { length waiting.old ≡ length seconds.now }
-    ensures length { length waiting.new ≡ length waiting.old }
-    ensures some { IfSome result (IsNextTaken waiting.old waiting.new) }
-    ensures none { IfNone result ((node : ℕ) → waits waiting.new node ≡ true → most < slice_index seconds.now node) }
-    ensures unchanged { IfNone result (waiting.new ≡ waiting.old) }
-{
-    while let Some(node) = ring.pop() {
-        let node = node as usize;
-        if node < waiting.len() && waiting[node] && seconds[node] <= most {
-            waiting[node] = false;
-            return Some(node);
-        }
-    }
-    let node = first_near(waiting, seconds, most)?;
-    waiting[node] = false;
-    Some(node)
-}
-
-/// The first node that waits and has at most so many seconds.
-fn first_near(waiting: &[bool], seconds: &[u32], most: u32) -> Option<usize>
-    requires { length waiting.now ≡ length seconds.now }
-    ensures some { IfSome result (λ node. (node < length waiting.now) × (waits waiting.now node ≡ true)) }
-    ensures none { IfNone result ((node : ℕ) → waits waiting.now node ≡ true → most < slice_index seconds.now node) }
-{
-    for (node, waits) in waiting.iter().enumerate() {
-        if *waits && seconds[node] <= most {
-            return Some(node);
-        }
-    }
-    None
 }
 
 /// Relaxes the arcs of a node: where one gives fewer seconds, these are noted, and the node at its end waits.

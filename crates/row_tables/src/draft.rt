@@ -1,21 +1,28 @@
 //! A draft of an assignment: a plan and a tree of decisions, of which nothing is promised.
+ghost use Rattle.std.specs.Thread.{IsSync};
+
 use crate::row_table::RowTable;
 use pool_base::OutOfMemory;
 use std::alloc::Global;
+use std::thread::Threads;
 
 /// What multiplier a rider has whose row is taken, in 1/1024 second: it shuts out her other rows.
 const SUNK: i64 = -(1 << 41);
 
 /// What drafts assignments. Whoever asks for a draft judges all of it, so that any drafter will do.
 pub trait Drafter: Sync {
-    /// A plan, and a tree of at most so many nodes. The held plan is lawful.
-    fn draft(
+    /// A plan, and a tree of at most so many nodes, by at most so many workers. The held plan is lawful. (That `R` is
+    /// `Sync` is said once more in a clause: of a method's own type, a proof knows only what clauses say.)
+    fn draft<R: Threads + Sync>(
         &self,
+        rt: &R,
         alloc: Global,
         table: &RowTable,
         held: &[Option<u32>],
         budget: usize,
-    ) -> Result<Draft, OutOfMemory>;
+        workers: u8,
+    ) -> Result<Draft, OutOfMemory>
+        requires shared { IsSync R.row };
 }
 
 /// A row that is taken or forbidden below another node.

@@ -2,6 +2,24 @@
 //! draws that drafts share.
 //!
 //! Nothing is proved of what is made of them: it is judged where it is used.
+//!
+//! A caller, from the tests of `drawn_plans`, shortened:
+//!
+//! ```
+//! fn table_of_pairs(alloc: Global) -> Result<RowTable, OutOfMemory> {
+//!     let must = vec![in alloc; false; 3]?;
+//!     let mut table = RowTable::new(alloc, 100, must);
+//!     table.push_row(20, &[0])?;
+//!     table.push_row(10, &[0, 1])?;
+//!     table.end_vehicle()?;
+//!     table.push_row(10, &[1, 2])?;
+//!     table.end_vehicle()?;
+//!     table.index()?;
+//!     Ok(table)
+//! }
+//! ```
+//!
+//! Main clauses: none, only what safety needs.
 #![tactic(auto)]
 
 mod draft;

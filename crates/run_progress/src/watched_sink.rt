@@ -10,7 +10,7 @@ use std::io::Write;
 use std::marker::Model;
 
 /// Back to the line's front, and what stands there away.
-const CLEAR: &[u8] = b"\r\x1b[K";
+pub(crate) const CLEAR: &[u8] = b"\r\x1b[K";
 
 /// A sink whose bytes pass on to another one unchanged, and a line on a terminal that says how far the run is
 /// whose report or summary they are.

@@ -2,6 +2,29 @@
 //!
 //! Each call decides its question exactly: a yes says that it holds, a no that it doesn't. The search's own
 //! tables, guides and drafts are not asked.
+//!
+//! A caller, from the tests of `drawn_plans`:
+//!
+//! ```
+//! fn is_shown(
+//!     alloc: Global,
+//!     graph: &TripGraph,
+//!     budget: u32,
+//!     cost: u64,
+//!     bound: &i128,
+//!     tree: &Tree,
+//! ) -> Result<bool, Fail> {
+//!     if !shows_bound(alloc, graph, budget, bound, tree)? {
+//!         return Ok(false);
+//!     }
+//!     if !is_close(alloc, graph, budget, cost, bound, tree)? {
+//!         return Ok(false);
+//!     }
+//!     Ok(is_fair(alloc, graph, bound, tree)?)
+//! }
+//! ```
+//!
+//! Main clauses: `shows_bound`, `is_close`, `is_fair` and `is_best_near`: of each its one clause.
 #![tactic(auto)]
 
 mod best;

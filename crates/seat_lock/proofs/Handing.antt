@@ -4,7 +4,7 @@ use mathlib.Core.Logic.{dite}
 use native.Mathlib.Decide.{dec_lt}
 use Rattle.atomic_table.specs.Table.{Me}
 use Rattle.atomic_table.specs.declared.shared.Seat.{Seat}
-use Rattle.seat_lock.specs.declared.logged.Entry.{Entry}
+use Rattle.seat_lock.specs.declared.logged.LoggedCall.{LoggedCall}
 use Rattle.seat_lock.specs.declared.view.View.{View}
 use Rattle.seat_lock.specs.declared.view.Stage.TheVariants.{Idle}
 use Rattle.seat_lock.specs.Values.{PassValue, calls_of}
@@ -52,14 +52,14 @@ module _ {A : Type 0} where
 
 module _ {B C R : Type 0} where
   -- the seat of one lane is the seat of a pass
-  pub IsPass-at : (s : Seat (Option B) (View B C R)) (start : B) (lane : ℕ) (calls : List (ℕ × Entry C R)) (seen : ℕ) → s.me ≡ (lane_view start lane calls seen Idle, []) → IsPass s lane
+  pub IsPass-at : (s : Seat (Option B) (View B C R)) (start : B) (lane : ℕ) (calls : List (ℕ × LoggedCall C R)) (seen : ℕ) → s.me ≡ (lane_view start lane calls seen Idle, []) → IsPass s lane
   IsPass-at s start lane calls seen e = record {
     rests = ap (λ m. m.0.stage) e;
     claims = subst (λ (m : Me (Option B) (View B C R)). m.0.claims ≡ claim lane (calls_in m.0.claims) ∷ []) (sym e) refl;
     empty_handed = ap (λ m. m.1) e;
   }
 
-  pub pass_value-at : (s : Seat (Option B) (View B C R)) (start : B) (lane : ℕ) (calls : List (ℕ × Entry C R)) (seen : ℕ) → s.me ≡ (lane_view start lane calls seen Idle, [])
+  pub pass_value-at : (s : Seat (Option B) (View B C R)) (start : B) (lane : ℕ) (calls : List (ℕ × LoggedCall C R)) (seen : ℕ) → s.me ≡ (lane_view start lane calls seen Idle, [])
       → pass_value s lane ≡ record { table = s.table_id; start = Some start; lane = lane; calls = calls; seen = seen }
   pass_value-at s start lane calls seen e = ap (λ (m : Me (Option B) (View B C R)). record { table = s.table_id; start = m.0.start; lane = lane; calls = calls_in m.0.claims; seen = m.0.seen }) e
 
@@ -75,12 +75,12 @@ module _ {B C R : Type 0} where
       e ∙ ap (λ (n : Me (Option B) (View B C R)). (lanes_kept n.0, n.1)) (lanes_left m start lane lanes is lt) ∙ ap (λ (n : ℕ). (lanes_view start n (lanes - (lane + 1)), [])) (let z : suc lane ≡ lane + 1 = omega arith in z)
 
   -- the claims of passes, one by one
-  pub claimed_each : (entries : List (Entry C R)) (passes : List (PassValue B C R)) → Claimed entries (map claim_of passes) → (k : ℕ) (d : PassValue B C R) → k < length passes → (get_or passes k d).calls ≡ calls_of (get_or passes k d).lane entries
+  pub claimed_each : (entries : List (LoggedCall C R)) (passes : List (PassValue B C R)) → Claimed entries (map claim_of passes) → (k : ℕ) (d : PassValue B C R) → k < length passes → (get_or passes k d).calls ≡ calls_of (get_or passes k d).lane entries
   claimed_each entries [] c k d lt = absurd (omega arith)
   claimed_each entries (p ∷ ps) c zero d lt = c.0
   claimed_each entries (p ∷ ps) c (suc k) d lt = claimed_each entries ps c.1 k d (omega arith)
 
-pub All-laned : {C R : Type 0} (lanes n : ℕ) (entries : List (Entry C R)) → lanes ≡ n → Laned lanes entries → All (λ e. e.lane < n) entries
+pub All-laned : {C R : Type 0} (lanes n : ℕ) (entries : List (LoggedCall C R)) → lanes ≡ n → Laned lanes entries → All (λ e. e.lane < n) entries
 All-laned lanes n [] is l k d lt = absurd (omega arith)
 All-laned lanes n (e ∷ es) is l zero d lt = subst (λ (z : ℕ). e.lane < z) is l.0
 All-laned lanes n (e ∷ es) is l (suc k) d lt = All-laned lanes n es is l.1 k d (omega arith)

@@ -11,7 +11,7 @@ use native.Mathlib.Decide.{ℕ_discrete}
 use lib.ListN.{get_elem?}
 use Rattle.atomic_table.specs.Table.{State, Me, step, keeps, takes, gives, stepped, Allows, Splits, Joins, opening, Final, Seen}
 use Rattle.atomic_table.proofs.Lists.{at_set, at_snoc, at_longer, set_else, set_again, one_turn}
-use Rattle.seat_lock.specs.declared.logged.Entry.{Entry}
+use Rattle.seat_lock.specs.declared.logged.LoggedCall.{LoggedCall}
 use Rattle.seat_lock.specs.declared.view.View.{View}
 use Rattle.seat_lock.specs.declared.view.Claim.{Claim}
 use Rattle.seat_lock.specs.declared.view.Stage.{Stage}
@@ -35,13 +35,13 @@ module _ {A : Type 0} where
   set_at (x ∷ xs) (suc i) a b e = set_at xs i a b e
 
 module _ {C R : Type 0} where
-  in_turn_weight : (n : ℕ) (es : List (Entry C R)) (st : Stage C R) → IsInTurn st → Knows n es st → ticket_weight (at n) st ≡ 1
+  in_turn_weight : (n : ℕ) (es : List (LoggedCall C R)) (st : Stage C R) → IsInTurn st → Knows n es st → ticket_weight (at n) st ≡ 1
   in_turn_weight n es Idle t k = absurd t
   in_turn_weight n es (Waiting x) t k = absurd t
   in_turn_weight n es (InTurn x l) t k = at-same n x k.0
 
   -- what a seat out of turn knows stays so
-  knows_on : (n n' : ℕ) (es es' : List (Entry C R)) (st : Stage C R) → ¬ IsInTurn st → Knows n es st → Knows n' es' st
+  knows_on : (n n' : ℕ) (es es' : List (LoggedCall C R)) (st : Stage C R) → ¬ IsInTurn st → Knows n es st → Knows n' es' st
   knows_on n n' es es' Idle t k = tt
   knows_on n n' es es' (Waiting x) t k = tt
   knows_on n n' es es' (InTurn x l) t k = absurd (t tt)
@@ -52,7 +52,7 @@ module _ {C R : Type 0} where
   waiting_out : (st : Stage C R) (x : ℕ) → st ≡ Waiting x → ¬ IsInTurn st
   waiting_out st x is t = subst IsInTurn is t
 
-module _ {B C R Root : Type 0} (root : B → Root) (log : B → List (Entry C R)) (spare : B → ℕ) (start : B) (lanes : ℕ) where
+module _ {B C R Root : Type 0} (root : B → Root) (log : B → List (LoggedCall C R)) (spare : B → ℕ) (start : B) (lanes : ℕ) where
   abbrev V : Type 0
   V = View B C R
 
@@ -63,7 +63,7 @@ module _ {B C R Root : Type 0} (root : B → Root) (log : B → List (Entry C R)
   M = Me (Option B) V
 
   abbrev Es : Type 0
-  Es = List (Entry C R)
+  Es = List (LoggedCall C R)
 
   abbrev Homes : Type 0
   Homes = List (maybe.Option (Option B))
@@ -219,7 +219,7 @@ module _ {B C R Root : Type 0} (root : B → Root) (log : B → List (Entry C R)
   lies_out s r id v here t = ⊎_elim (λ (h : IsHome root log spare start r.entries s.homes s.views). absurd (h.nobody id v here t)) (λ (h : IsOut s.homes s.views). h.lies) r.slot
 
   -- the entry is noted: the log has it, at the end, as a call of the seat's lane
-  note_kept : (s : St) (r : Rule s) (id : ℕ) (a b : B) (e : Entry C R) (l seen x : ℕ) (calls : List (ℕ × Entry C R)) (es : Es) (cs : List (ℕ × Option B))
+  note_kept : (s : St) (r : Rule s) (id : ℕ) (a b : B) (e : LoggedCall C R) (l seen x : ℕ) (calls : List (ℕ × LoggedCall C R)) (es : Es) (cs : List (ℕ × Option B))
       → get_elem? s.views id ≡ some (lane_view a l calls seen (InTurn x r.entries)) → since log a b ≡ r.entries ++ e ∷ [] → e.lane ≡ l → x ≡ r.served → a ≡ start → length (log b) < 2 ^ 63 → length (since log a b) ≤ length (log b)
       → Rule (stepped s 2 ((get_or s.words 2 0 + 1) % 2 ^ 64) id cs (lane_view a l (calls_of l (since log a b)) (length (since log a b)) (InTurn x (since log a b))) keeps)
   note_kept s r id a b e l seen x calls es cs here grown is same began short within =
@@ -253,7 +253,7 @@ module _ {B C R Root : Type 0} (root : B → Root) (log : B → List (Entry C R)
         slot = inr record { lies = lies_out s r id v here tt; who = id; view = w; at = set_at s.views id v w here; turn = tt };
       }
 
-  pub notes : (slots id : ℕ) (a b : B) (e : Entry C R) (l seen x : ℕ) (calls : List (ℕ × Entry C R)) (es : Es) → log b ≡ (log a ++ es) ++ e ∷ [] → e.lane ≡ l → length (log b) < 2 ^ 63
+  pub notes : (slots id : ℕ) (a b : B) (e : LoggedCall C R) (l seen x : ℕ) (calls : List (ℕ × LoggedCall C R)) (es : Es) → log b ≡ (log a ++ es) ++ e ∷ [] → e.lane ≡ l → length (log b) < 2 ^ 63
       → Allows Rule slots id (lane_view a l calls seen (InTurn x es), (0, Some b) ∷ []) 2 (λ n. (n + 1) % 2 ^ 64) (noted log (step slots 2 1 0 none) (lane_view a l calls seen (InTurn x es), (0, Some b) ∷ []))
   notes slots id a b e l seen x calls es grown is short s r wide here small =
       let v : V = lane_view a l calls seen (InTurn x es) in
@@ -272,7 +272,7 @@ module _ {B C R Root : Type 0} (root : B → Root) (log : B → List (Entry C R)
         (ap (λ (ws : List ℕ). get_or ws 2 0) r.words ∙ ap length (sym known), refl),
       )
 
-  pub serves : (slots id : ℕ) (a b : B) (l seen x : ℕ) (calls : List (ℕ × Entry C R)) (es : Es) → Sound root log spare a es b
+  pub serves : (slots id : ℕ) (a b : B) (l seen x : ℕ) (calls : List (ℕ × LoggedCall C R)) (es : Es) → Sound root log spare a es b
       → Allows Rule slots id (lane_view a l calls seen (InTurn x es), (0, Some b) ∷ []) 1 (λ n. (n + 1) % 2 ^ 64) (gave_way (step slots 1 1 0 none) (lane_view a l calls seen (InTurn x es), (0, Some b) ∷ []))
   serves slots id a b l seen x calls es good s r wide here small =
       let v : V = lane_view a l calls seen (InTurn x es) in

@@ -4,7 +4,7 @@ use mathlib.Core.Logic.{dite}
 use native.Mathlib.Decide.{ℕ_discrete}
 use Rattle.std.specs.List.{enumerate_from}
 use Rattle.std.proofs.lemmas.List.Sums.{sum_by-cons}
-use Rattle.seat_lock.specs.declared.logged.Entry.{Entry}
+use Rattle.seat_lock.specs.declared.logged.LoggedCall.{LoggedCall}
 use Rattle.seat_lock.specs.Values.{calls_of}
 use Rattle.seat_lock.specs.work.Rule.{below, Laned}
 use Rattle.seat_lock.proofs.Totals.{at, at-same, at-other}
@@ -64,17 +64,17 @@ pick w lane (suc n) lt = dite (ℕ_discrete lane n)
 
 module _ {C R : Type 0} (n : ℕ) where
   -- how many of these calls have the position n
-  abbrev pub calls_at : List (ℕ × Entry C R) → ℕ
+  abbrev pub calls_at : List (ℕ × LoggedCall C R) → ℕ
   calls_at calls = count_by (λ c. c.0 == n) calls
 
-  abbrev hits : ℕ → List (Entry C R) → ℕ → ℕ
+  abbrev hits : ℕ → List (LoggedCall C R) → ℕ → ℕ
   hits m es lane = calls_at (filter (λ p. p.1.lane == lane) (enumerate_from m es))
 
-  one_more : (b : Bool) (x : ℕ × Entry C R) (xs : List (ℕ × Entry C R)) → calls_at (cond b (x ∷ xs) xs) ≡ (if b then at n x.0 else 0) + calls_at xs
-  one_more true x xs = sum_by-cons (λ (c : ℕ × Entry C R). cond (c.0 == n) 1 0) x xs
+  one_more : (b : Bool) (x : ℕ × LoggedCall C R) (xs : List (ℕ × LoggedCall C R)) → calls_at (cond b (x ∷ xs) xs) ≡ (if b then at n x.0 else 0) + calls_at xs
+  one_more true x xs = sum_by-cons (λ (c : ℕ × LoggedCall C R). cond (c.0 == n) 1 0) x xs
   one_more false x xs = omega arith
 
-  all_hits : (m : ℕ) (es : List (Entry C R)) (lanes : ℕ) → Laned lanes es → below (hits m es) lanes ≡ in_range n m (length es)
+  all_hits : (m : ℕ) (es : List (LoggedCall C R)) (lanes : ℕ) → Laned lanes es → below (hits m es) lanes ≡ in_range n m (length es)
   all_hits m [] lanes l = below-zero lanes
   all_hits m (e ∷ es) lanes l =
       let cut = below-ext (hits m (e ∷ es)) (λ k. (if e.lane == k then at n m else 0) + hits (m + 1) es k) lanes (λ k. one_more (e.lane == k) (m, e) (filter (λ p. p.1.lane == k) (enumerate_from (m + 1) es))) in
@@ -84,7 +84,7 @@ module _ {C R : Type 0} (n : ℕ) where
       cut ∙ sum ∙ (λ i. here i + more i)
 
 -- a number below the length of the log is the position of one call, and another is that of none
-pub each_once : {A C R : Type 0} (n : ℕ) (since : List (Entry C R)) (calls : A → List (ℕ × Entry C R)) (passes : List A) → ((k : ℕ) (d : A) → k < length passes → calls (get_or passes k d) ≡ calls_of k since) → Laned (length passes) since
+pub each_once : {A C R : Type 0} (n : ℕ) (since : List (LoggedCall C R)) (calls : A → List (ℕ × LoggedCall C R)) (passes : List A) → ((k : ℕ) (d : A) → k < length passes → calls (get_or passes k d) ≡ calls_of k since) → Laned (length passes) since
     → sum_by (λ p. count_by (λ c. c.0 == n) (calls p)) passes ≡ (if nat_lt n (length since) then 1 else 0)
 each_once {A} n since calls passes cut laned =
     sum-below (λ (p : A). calls_at n (calls p)) (λ k. calls_at n (calls_of k since)) passes (λ k d lt. ap (calls_at n) (cut k d lt)) ∙ all_hits n 0 since (length passes) laned

@@ -3,7 +3,7 @@ use Rattle.std.proofs.Common.{◌≡◌, ℕ, ◌+◌, List, [], ◌∷◌, ◌+
 use mathlib.Core.List.{append_assoc}
 use Rattle.std.proofs.Math.Seq.{drop-append_seam}
 use Rattle.atomic_table.specs.Table.{Me, rest}
-use Rattle.seat_lock.specs.declared.logged.Entry.{Entry}
+use Rattle.seat_lock.specs.declared.logged.LoggedCall.{LoggedCall}
 use Rattle.seat_lock.specs.declared.view.View.{View}
 use Rattle.seat_lock.specs.declared.view.Stage.TheVariants.{Idle, Waiting, InTurn}
 use Rattle.seat_lock.specs.Values.{calls_of}
@@ -17,7 +17,7 @@ same_held xs a b p q = let both : Some a ≡ Some b = sym (ap held p) ∙ ap hel
 
 module _ {B C R : Type 0} where
   -- the view of the lane's seat, once its turn has come and the value is back in the slot
-  pub back_in_slot : (v : View B C R) (m1 m2 m3 m4 : Me (Option B) (View B C R)) (start value after : B) (lane x0 x : ℕ) (calls : List (ℕ × Entry C R)) (entries : List (Entry C R)) (cs : List (ℕ × Option B))
+  pub back_in_slot : (v : View B C R) (m1 m2 m3 m4 : Me (Option B) (View B C R)) (start value after : B) (lane x0 x : ℕ) (calls : List (ℕ × LoggedCall C R)) (entries : List (LoggedCall C R)) (cs : List (ℕ × Option B))
       → m1 ≡ (with_stage (Waiting x0) v, cs) → v.claims ≡ claim lane calls ∷ [] → m1.0.start ≡ Some start → m2 ≡ (in_turn x entries (length entries) m1.0, (0, Some value) ∷ []) → m3 ≡ (m2.0, (0, None) ∷ []) → m4 ≡ (m3.0, (0, Some after) ∷ [])
       → m4 ≡ (lane_view start lane calls (length entries) (InTurn x entries), (0, Some after) ∷ [])
   back_in_slot v m1 m2 m3 m4 start value after lane x0 x calls entries cs waits claims opened turn out back =
@@ -25,11 +25,11 @@ module _ {B C R : Type 0} where
       ∙ (λ i. record { start = opened i; claims = (ap (λ (m : Me (Option B) (View B C R)). m.0.claims) waits ∙ claims) i; seen = length entries; stage = InTurn x entries }))
 
   -- what the seat knows of a log that has grown by one entry
-  since-grown : (log : B → List (Entry C R)) (start b : B) (entries : List (Entry C R)) (e : Entry C R) → log b ≡ (log start ++ entries) ++ e ∷ [] → since log start b ≡ entries ++ e ∷ []
+  since-grown : (log : B → List (LoggedCall C R)) (start b : B) (entries : List (LoggedCall C R)) (e : LoggedCall C R) → log b ≡ (log start ++ entries) ++ e ∷ [] → since log start b ≡ entries ++ e ∷ []
   since-grown log start b entries e grown = ap (Rattle.std.proofs.Common.drop (length (log start))) (grown ∙ append_assoc (log start) entries (e ∷ [])) ∙ drop-append_seam (log start) (entries ++ e ∷ [])
 
   -- the pass has the call at the position that was found
-  pub calls_grown : (log : B → List (Entry C R)) (start b : B) (m4 m5 m6 : Me (Option B) (View B C R)) (lane seen x position : ℕ) (calls : List (ℕ × Entry C R)) (entries : List (Entry C R)) (e : Entry C R)
+  pub calls_grown : (log : B → List (LoggedCall C R)) (start b : B) (m4 m5 m6 : Me (Option B) (View B C R)) (lane seen x position : ℕ) (calls : List (ℕ × LoggedCall C R)) (entries : List (LoggedCall C R)) (e : LoggedCall C R)
       → m4 ≡ (lane_view start lane calls seen (InTurn x entries), (0, Some b) ∷ []) → NotesAt log m4.0.start (held m4.1) m4.0.claims m4.0.stage position m5 → m6 ≡ (with_stage Idle m5.0, rest m5.1)
       → log b ≡ (log start ++ entries) ++ e ∷ [] → e.lane ≡ lane → calls ≡ calls_of lane entries → calls_in m6.0.claims ≡ calls ++ (position, e) ∷ []
   calls_grown log start b m4 m5 m6 lane seen x position calls entries e is noted served grown own known =

@@ -2,7 +2,7 @@
 use Rattle.std.specs.Prelude.{◌≡◌, ℕ, ◌<◌, ◌==◌, List, [], ◌++◌, length, Option, Some, All, filter, slice_index_or, sum_by, count_by, nat_lt, if◌then◌else◌}
 use Rattle.std.specs.List.{enumerate_from}
 use Rattle.atomic_table.specs.Seated.{TableId}
-use Rattle.seat_lock.specs.declared.logged.Entry.{Entry}
+use Rattle.seat_lock.specs.declared.logged.LoggedCall.{LoggedCall}
 
 -- a lock: its table, the value that it was started with, and how many lanes it has
 pub record LockValue (B : Type 0) : Type 0 where
@@ -15,15 +15,15 @@ pub record PassValue (B C R : Type 0) : Type 0 where
   pub table : TableId
   pub start : Option B
   pub lane : ℕ
-  pub calls : List (ℕ × Entry C R)
+  pub calls : List (ℕ × LoggedCall C R)
   pub seen : ℕ
 
 -- the entries of one lane in a log, each with its position
-abbrev pub calls_of : {C R : Type 0} → ℕ → List (Entry C R) → List (ℕ × Entry C R)
+abbrev pub calls_of : {C R : Type 0} → ℕ → List (LoggedCall C R) → List (ℕ × LoggedCall C R)
 calls_of lane log = filter (λ p. p.1.lane == lane) (enumerate_from 0 log)
 
 -- a call of a lane with its reply
-abbrev pub entry : {C R : Type 0} → ℕ → C → R → Entry C R
+abbrev pub entry : {C R : Type 0} → ℕ → C → R → LoggedCall C R
 entry lane call reply = record { lane = lane; call = call; reply = reply }
 
 module _ {B C R : Type 0} where
@@ -43,8 +43,8 @@ module _ {B C R : Type 0} where
 
   -- what a log has gained is the calls of these passes: cut to each lane, it is that pass's calls with their replies, at their positions.
   -- Each entry is of one of the lanes, and each number below the length is the position of one call
-  pub record GainsCalls (before after : List (Entry C R)) (passes : List (PassValue B C R)) : Type 0 where
-    pub since : List (Entry C R)
+  pub record GainsCalls (before after : List (LoggedCall C R)) (passes : List (PassValue B C R)) : Type 0 where
+    pub since : List (LoggedCall C R)
     pub gained : after ≡ before ++ since
     pub cut : (k : ℕ) (d : PassValue B C R) → k < length passes → (slice_index_or passes k d).calls ≡ calls_of k since
     pub lanes : All (λ e. e.lane < length passes) since

@@ -40,6 +40,6 @@ mod view;
 
 pub use counter::{Addition, Counter};
 pub use lock::{Refused, SeatLock, Unfinished};
-pub use logged::{Entry, Logged};
+pub use logged::{Logged, LoggedCall};
 pub use pass::Pass;
 pub use turn::Played;

@@ -5,7 +5,7 @@ use pool_base::OutOfMemory;
 use std::alloc::Global;
 
 /// One entry of a log: a call of a lane, with the reply that it got. Contracts alone speak of it.
-pub struct Entry<C, R> {
+pub struct LoggedCall<C, R> {
     pub lane: u8,
     pub call: C,
     pub reply: R,
@@ -14,7 +14,7 @@ pub struct Entry<C, R> {
 /// A value with calls and replies, whose log gains one entry with each call.
 pub trait Logged {
     ghost use Rattle.std.specs.Prelude.{ℕ, Bool, List};
-    ghost use Rattle.seat_lock.specs.declared.logged.Entry.{Entry};
+    ghost use Rattle.seat_lock.specs.declared.logged.LoggedCall.{LoggedCall};
 
     type Call;
 
@@ -27,7 +27,7 @@ pub trait Logged {
     ghost root: { Self → Self.Root };
 
     /// The calls so far, each with its lane and its reply.
-    ghost log: { Self → List (Entry Self.Call Self.Reply) };
+    ghost log: { Self → List (LoggedCall Self.Call Self.Reply) };
 
     /// How many light calls certainly find memory.
     ghost spare: { Self → ℕ };

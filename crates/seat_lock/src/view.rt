@@ -1,5 +1,5 @@
 //! What a seat at the lock's table knows.
-use crate::logged::Entry;
+use crate::logged::LoggedCall;
 use std::collections::LinkedList;
 
 /// Where a seat stands in the queue.
@@ -8,13 +8,13 @@ pub enum Stage<C, R> {
     /// It has this ticket.
     Waiting(u64),
     /// Its ticket's turn has come, and these are all entries so far.
-    InTurn(u64, LinkedList<Entry<C, R>>),
+    InTurn(u64, LinkedList<LoggedCall<C, R>>),
 }
 
 /// A lane, and the calls that it made, each at its position.
 pub struct Claim<C, R> {
     pub lane: u8,
-    pub calls: LinkedList<(u64, Entry<C, R>)>,
+    pub calls: LinkedList<(u64, LoggedCall<C, R>)>,
 }
 
 /// What a seat knows. No value of it is made.

@@ -10,7 +10,7 @@ use Rattle.request_book.specs.declared.command.Command.{Command}
 use Rattle.request_book.specs.declared.journal.Entry.{Entry}
 use Rattle.request_book.specs.declared.state.State.{State}
 use Rattle.seat_lock.specs.Values.{GainsCalls, calls_of}
-use Rattle.seat_lock.specs.declared.logged.Entry.{Entry as Logged}
+use Rattle.seat_lock.specs.declared.logged.LoggedCall.{LoggedCall}
 use Rattle.shared_book.specs.declared.locked.BookRoot.{BookRoot}
 use Rattle.shared_book.specs.declared.locked.LockedReply.{LockedReply}
 use Rattle.shared_book.specs.Locked.{calls_from, call_of, entry_of, log_of, root_of}
@@ -35,18 +35,18 @@ module _ (nodes : List ℕ) (wait : ℕ) where
   replies-later s (e ∷ es) later replies = replies-later (step nodes wait s e.command).0 es later replies.1
 
   -- where the calls of a longer journal are those of a shorter one and more, so are the entries
-  pub gained-entries : (s : State) (es all : List Entry) (more : List (Logged Command LockedReply)) → calls_from nodes wait s all ≡ calls_from nodes wait s es ++ more → all ≡ es ++ map entry_of more
+  pub gained-entries : (s : State) (es all : List Entry) (more : List (LoggedCall Command LockedReply)) → calls_from nodes wait s all ≡ calls_from nodes wait s es ++ more → all ≡ es ++ map entry_of more
   gained-entries s es all more gained =
       sym (calls-entries s all)
       ∙ ap (map entry_of) gained
       ∙ map-append entry_of (calls_from nodes wait s es) more
       ∙ ap (λ l. l ++ map entry_of more) (calls-entries s es)
 
-  pub gained-calls : (s : State) (es all : List Entry) (more : List (Logged Command LockedReply)) → calls_from nodes wait s all ≡ calls_from nodes wait s es ++ more → calls_from nodes wait (state_after nodes wait s es) (map entry_of more) ≡ more
+  pub gained-calls : (s : State) (es all : List Entry) (more : List (LoggedCall Command LockedReply)) → calls_from nodes wait s all ≡ calls_from nodes wait s es ++ more → calls_from nodes wait (state_after nodes wait s es) (map entry_of more) ≡ more
   gained-calls s es all more gained = append_cancel_left (calls_from nodes wait s es) _ _
       (sym (calls-append s es (map entry_of more)) ∙ ap (calls_from nodes wait s) (sym (gained-entries s es all more gained)) ∙ gained)
 
-lanes-mapped : (n : ℕ) (calls : List (Logged Command LockedReply)) → All (λ c. c.lane < n) calls → All (λ e. e.lane < n) (map entry_of calls)
+lanes-mapped : (n : ℕ) (calls : List (LoggedCall Command LockedReply)) → All (λ c. c.lane < n) calls → All (λ e. e.lane < n) (map entry_of calls)
 lanes-mapped n calls all = All-map (λ (e : Entry). e.lane < n) entry_of calls all
 
 pub finished : ((nodes : List ℕ) (wait : ℕ) (s : State) (round later : List Entry) → state_after nodes wait s (round ++ later) ≡ state_after nodes wait (state_after nodes wait s round) later)

@@ -11,7 +11,7 @@ use Rattle.request_book.specs.declared.journal.Entry.{Entry}
 use Rattle.request_book.specs.declared.reply.Reply.{Reply}
 use Rattle.request_book.specs.declared.reply.Reply.TheVariants.{Sealed}
 use Rattle.request_book.specs.declared.state.State.{State}
-use Rattle.seat_lock.specs.declared.logged.Entry.{Entry as Logged}
+use Rattle.seat_lock.specs.declared.logged.LoggedCall.{LoggedCall}
 use Rattle.shared_book.specs.declared.locked.BookRoot.{BookRoot}
 use Rattle.shared_book.specs.declared.locked.LockedReply.{LockedReply}
 
@@ -31,21 +31,21 @@ snapshot_after (Sealed batch) s = s.sealed
 snapshot_after _ s = None
 
 -- an entry of the journal that leaves this state, as a call of its lane
-abbrev pub call_of : State → Entry → Logged Command LockedReply
+abbrev pub call_of : State → Entry → LoggedCall Command LockedReply
 call_of s e = record { lane = e.lane; call = e.command; reply = record { reply = e.reply; snapshot = snapshot_after e.reply s } }
 
 -- a call as an entry of the journal
-abbrev pub entry_of : Logged Command LockedReply → Entry
+abbrev pub entry_of : LoggedCall Command LockedReply → Entry
 entry_of c = record { lane = c.lane; command = c.call; reply = c.reply.reply }
 
 -- the entries of a journal as calls, replayed from the state before them
-unfoldable pub calls_from : List ℕ → ℕ → State → List Entry → List (Logged Command LockedReply)
+unfoldable pub calls_from : List ℕ → ℕ → State → List Entry → List (LoggedCall Command LockedReply)
 calls_from nodes wait s [] = []
 calls_from nodes wait s (e ∷ es) =
     call_of (step nodes wait s e.command).0 e ∷ calls_from nodes wait (step nodes wait s e.command).0 es
 
 -- the calls of a book's journal
-abbrev pub log_of : BookView → List (Logged Command LockedReply)
+abbrev pub log_of : BookView → List (LoggedCall Command LockedReply)
 log_of b = calls_from b.nodes b.wait b.base b.entries
 
 -- what no command changes

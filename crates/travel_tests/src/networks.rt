@@ -1,5 +1,5 @@
 //! Networks of files, their nodes, and tables that are compared.
-use pool_base::{NodeId, OutOfMemory, Times, put_number};
+use pool_base::{NodeId, OutOfMemory};
 use pool_io::rows;
 use road_network::{Network, read_network};
 use std::alloc::Global;
@@ -28,29 +28,4 @@ pub fn nodes_of(alloc: Global, network: &Network) -> Result<Vec<NodeId>, OutOfMe
         nodes.push(network.node_at(index))?;
     }
     Ok(nodes)
-}
-
-pub fn have_same_cells(one: &Times, other: &Times) -> bool {
-    if one.len() != other.len() {
-        return false;
-    }
-    for a in 0..one.len() {
-        for b in 0..one.len() {
-            if one.seconds(a, b) != other.seconds(a, b) {
-                return false;
-            }
-        }
-    }
-    true
-}
-
-/// The row of an arc.
-pub fn put_arc(text: &mut Vec<u8>, from: u64, to: u64, seconds: u64) -> Result<(), OutOfMemory> {
-    put_number(text, from)?;
-    text.push(b',')?;
-    put_number(text, to)?;
-    text.push(b',')?;
-    put_number(text, seconds)?;
-    text.push(b'\n')?;
-    Ok(())
 }

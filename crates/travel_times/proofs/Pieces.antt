@@ -1,5 +1,5 @@
 -- A table is written by pieces, each of whole rows.
-use Rattle.std.proofs.Common.{◌≡◌, ℕ, suc, ◌+◌, ◌-◌, ◌*◌, ◌/◌, ◌%◌, ◌<◌, ◌≤◌, ◌⊎◌, min, List, length, get_or, slice_index, take, drop, All, refl, sym, ap, ◌∙◌, subst, inl, inr, ⊎_elim, arith}
+use Rattle.std.proofs.Common.{◌≡◌, ℕ, ◌+◌, ◌-◌, ◌*◌, ◌/◌, ◌%◌, ◌<◌, ◌≤◌, ◌⊎◌, min, List, length, slice_index, drop, All, sym, ap, ◌∙◌, subst, inl, inr, ⊎_elim, arith}
 use Rattle.std.specs.Fork.{IsChunk, slice_chunk}
 use Rattle.std.proofs.Math.Nat.{mul-le-mul_right, mod-eq-sub-div-mul, div-mul-le_self, lt-div-mul-add, mul-div_cancel}
 use Rattle.std.proofs.lemmas.Bool.{cases_lt}

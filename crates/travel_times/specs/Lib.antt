@@ -1,3 +1,4 @@
 pub mod Table
+pub mod Search
 pub mod lemmas
 pub mod work

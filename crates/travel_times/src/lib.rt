@@ -29,13 +29,12 @@ mod ring;
 mod rows;
 mod search;
 mod short_hop;
-mod single;
 mod table;
 mod ways;
 
 pub use plain::times_by_repeated_relaxation;
 pub use ring::Ring;
+pub use search::{next_near, relax};
 pub use short_hop::ShortHop;
-pub use single::times_from;
 pub use table::{are_known, indexes_of, table_of_times, times_between};
 pub use ways::{NetworkWays, Ways};

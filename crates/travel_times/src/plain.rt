@@ -2,12 +2,12 @@ ghost use Rattle.std.specs.Prelude.{◌≡◌, ℕ, ◌+◌, ◌<◌, ◌≤◌,
 ghost use Rattle.pool_base.specs.TravelTime.{longest};
 ghost use Rattle.road_network.specs.Roads.{index_in};
 ghost use Rattle.road_network.specs.Walk.{IsTimeBetween};
-ghost use Rattle.travel_times.specs.lemmas.Search.{RelaxesHops};
+ghost use Rattle.travel_times.specs.Search.{RelaxesHops};
 ghost use Rattle.travel_times.specs.Table.{AreTravelTimes};
 ghost use Rattle.travel_times.specs.work.Table.{AreRows};
 
 use crate::rows::push_row;
-use crate::search::{LONGEST, first_waiting};
+use crate::search::{LONGEST, first_near};
 use crate::table::{indexes_of, table_of};
 use pool_base::{NodeId, OutOfMemory, Times};
 use road_network::{Hop, Network};
@@ -54,7 +54,7 @@ fn seconds_from(alloc: Global, network: &Network, start: usize) -> Result<Vec<u3
     let mut waiting = none_waiting(alloc, nodes)?;
     seconds[start] = 0;
     waiting[start] = true;
-    while let Some(node) = first_waiting(&waiting) {
+    while let Some(node) = first_near(&waiting, &seconds, Times::NEVER) {
         waiting[node] = false;
         let here = seconds[node];
         relax(network.arcs_from(node), here, &mut seconds, &mut waiting);

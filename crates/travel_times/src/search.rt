@@ -2,7 +2,7 @@ ghost use Rattle.std.specs.Prelude.{◌≡◌, ℕ, ◌+◌, ◌<◌, ◌≤◌,
 ghost use Rattle.pool_base.specs.TravelTime.{longest};
 ghost use Rattle.road_network.specs.Walk.{IsTimeBetween};
 ghost use Rattle.travel_times.specs.work.Arcs.{AreArcsOf};
-ghost use Rattle.travel_times.specs.lemmas.Search.{IsNextTaken, RelaxesHops, waits};
+ghost use Rattle.travel_times.specs.Search.{IsNextTaken, RelaxesHops, waits};
 
 use crate::arcs::Arcs;
 use crate::ring::Ring;
@@ -67,7 +67,12 @@ impl Search {
         self.seconds[start] = 0;
         self.waiting[start] = true;
         self.ring.push(start as u32, 0)?;
-        while let Some(node) = next_waiting(&mut self.ring, &mut self.waiting) {
+        while let Some(node) = next_near(
+            &mut self.ring,
+            &mut self.waiting,
+            &self.seconds,
+            Times::NEVER,
+        ) {
             let here = self.seconds[node];
             relax(
                 arcs.leaving(node),
@@ -81,32 +86,35 @@ impl Search {
     }
 }
 
-/// Takes a node that waits: the ring's next, or any, should the ring be empty before.
-fn next_waiting(ring: &mut Ring, waiting: &mut [bool]) -> Option<usize>
+/// Takes a node that waits and has at most so many seconds: the ring's next, or any, should the ring be empty before.
+/// What the ring gives and is further stays waiting.
+pub fn next_near(ring: &mut Ring, waiting: &mut [bool], seconds: &[u32], most: u32) -> Option<usize>
+    requires { length waiting.old ≡ length seconds.now }
     ensures length { length waiting.new ≡ length waiting.old }
     ensures some { IfSome result (IsNextTaken waiting.old waiting.new) }
-    ensures none { IfNone result ((node : ℕ) → waits waiting.new node ≡ false) }
+    ensures none { IfNone result ((node : ℕ) → waits waiting.new node ≡ true → most < slice_index seconds.now node) }
     ensures unchanged { IfNone result (waiting.new ≡ waiting.old) }
 {
     while let Some(node) = ring.pop() {
         let node = node as usize;
-        if node < waiting.len() && waiting[node] {
+        if node < waiting.len() && waiting[node] && seconds[node] <= most {
             waiting[node] = false;
             return Some(node);
         }
     }
-    let node = first_waiting(waiting)?;
+    let node = first_near(waiting, seconds, most)?;
     waiting[node] = false;
     Some(node)
 }
 
-/// The first node that waits.
-pub(crate) fn first_waiting(waiting: &[bool]) -> Option<usize>
+/// The first node that waits and has at most so many seconds.
+pub(crate) fn first_near(waiting: &[bool], seconds: &[u32], most: u32) -> Option<usize>
+    requires { length waiting.now ≡ length seconds.now }
     ensures some { IfSome result (λ node. (node < length waiting.now) × (waits waiting.now node ≡ true)) }
-    ensures none { IfNone result ((node : ℕ) → waits waiting.now node ≡ false) }
+    ensures none { IfNone result ((node : ℕ) → waits waiting.now node ≡ true → most < slice_index seconds.now node) }
 {
     for (node, waits) in waiting.iter().enumerate() {
-        if *waits {
+        if *waits && seconds[node] <= most {
             return Some(node);
         }
     }
@@ -114,7 +122,7 @@ pub(crate) fn first_waiting(waiting: &[bool]) -> Option<usize>
 }
 
 /// Relaxes the arcs of a node: where one gives fewer seconds, these are noted, and the node at its end waits.
-fn relax(
+pub fn relax(
     hops: &[ShortHop],
     here: u32,
     seconds: &mut [u32],

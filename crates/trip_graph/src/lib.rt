@@ -3,6 +3,27 @@
 //! It is grown size by size over all vehicles, by several workers, and it is exact: the edges between
 //! vehicles and riders, the edges between riders, and the rows, none missing and none twice; or there are
 //! more rows than allowed.
+//!
+//! A caller, from the tests of `whole_calls`:
+//!
+//! ```
+//! fn text_of_rows(
+//!     rt: &(impl Threads + Sync),
+//!     alloc: Global,
+//!     settled: &Settled,
+//!     times: &Times,
+//!     settings: &Settings,
+//! ) -> Result<String, OutOfMemory>
+//!     requires { IsSound settings.now.trip (point_count times.now) (travel_time times.now) settled.now }
+//! {
+//!     match grow_graph(rt, alloc, settled, times, settings, &FreeGate)? {
+//!         GraphAnswer::Graph { graph, .. } => text_of_graph(alloc, graph.rows()),
+//!         GraphAnswer::Overflow => text_of(alloc, "overflow"),
+//!     }
+//! }
+//! ```
+//!
+//! Main clauses: `grow_graph`.
 #![tactic(auto)]
 
 mod all_levels;

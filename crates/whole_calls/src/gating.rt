@@ -1,6 +1,5 @@
-//! What a gate sees of whole runs: lanes that are answered during growth, and pieces of growth.
-use crate::calls::shown;
-use rider_notices::Notifier;
+//! What a gate sees of whole runs: lanes that meet, a lane that is answered during growth, and pieces of growth.
+use crate::calls::{RUN, SMOOTH, Texts, shown_to};
 use std::alloc::{AllocError, Global};
 use std::sync::Wait;
 use std::sync::atomic::{AtomicU64, Ordering};
@@ -21,6 +20,10 @@ const SEAL_AND_ASK: &[u8] =
 const THREE_ROUNDS: &[u8] =
     b"round,lane,command,a,b,c,d\n0,0,submit,1,2,4,0\n0,0,submit,2,3,5,0\n1,0,seal,0,,,\n2,0,seal,0,,,\n";
 
+// Each of sixteen lanes asks once.
+const SIXTEEN: &[u8] =
+    b"round,lane,command,a,b,c,d\n0,0,submit,1,2,4,0\n0,1,submit,2,2,4,0\n0,2,submit,3,2,4,0\n0,3,submit,4,2,4,0\n0,4,submit,5,2,4,0\n0,5,submit,6,2,4,0\n0,6,submit,7,2,4,0\n0,7,submit,8,2,4,0\n0,8,submit,9,2,4,0\n0,9,submit,10,2,4,0\n0,10,submit,11,2,4,0\n0,11,submit,12,2,4,0\n0,12,submit,13,2,4,0\n0,13,submit,14,2,4,0\n0,14,submit,15,2,4,0\n0,15,submit,16,2,4,0\n";
+
 // For how many turns a gate holds at most.
 const TURNS: u32 = 1_000_000_000;
 
@@ -33,6 +36,22 @@ fn hold(count: &AtomicU64, least: u64, ran_out: &AtomicU64) {
         thread::yield_now();
     }
     ran_out.store(1, Ordering::SeqCst);
+}
+
+// Holds each lane's answer until sixteen answers were given.
+#[derive(Drop)]
+struct AllLanes {
+    answers: AtomicU64,
+    ran_out: AtomicU64,
+}
+
+impl Gate for AllLanes {
+    fn enter(&self, _piece: u32) {}
+
+    fn answered(&self, _lane: u8) {
+        self.answers.fetch_add(1, Ordering::SeqCst);
+        hold(&self.answers, 16, &self.ran_out);
+    }
 }
 
 // Holds lane 1's first answer until piece 0 was begun, and piece 0 until lane 1's second answer.
@@ -74,11 +93,11 @@ impl Gate for FirstPieces {
     fn answered(&self, _lane: u8) {}
 }
 
-// The text from the first place of a part on.
-fn from_part<'a>(text: &'a [u8], part: &[u8]) -> Option<&'a [u8]> {
+// The text behind the first place of a part.
+fn behind_part<'a>(text: &'a [u8], part: &[u8]) -> Option<&'a [u8]> {
     for at in 0..text.len() {
-        if text[at..].starts_with(part) {
-            return Some(&text[at..]);
+        if let Some(rest) = text[at..].strip_prefix(part) {
+            return Some(rest);
         }
     }
     None
@@ -88,23 +107,29 @@ fn from_part<'a>(text: &'a [u8], part: &[u8]) -> Option<&'a [u8]> {
 fn has_in_order(text: &[u8], parts: &[&[u8]]) -> bool {
     let mut rest = text;
     for part in parts {
-        match from_part(rest, part) {
-            Some(found) => rest = found,
+        match behind_part(rest, part) {
+            Some(behind) => rest = behind,
             None => return false,
         }
     }
     text.starts_with(b"|")
 }
 
-fn shown_to<G: Gate>(
+// What a run of this script by this fleet shows.
+fn ran<G: Gate>(
     rt: &(impl Threads + Wait + Sync),
     alloc: Global,
     fleet: &[u8],
     script: &[u8],
     gate: &G,
 ) -> Result<Vec<u8>, AllocError> {
-    let mut nobody: Vec<Box<dyn Notifier>> = Vec::new(alloc);
-    shown(rt, alloc, fleet, script, &mut nobody, gate)
+    let texts = Texts {
+        words: RUN,
+        fleet,
+        script,
+        report: b"",
+    };
+    shown_to(rt, alloc, &texts, SMOOTH, gate)
 }
 
 #[test]
@@ -114,7 +139,7 @@ fn a_lane_is_answered_during_growth(rt: HostRuntime) -> Result<(), Fail> {
         answers: AtomicU64::new(0),
         ran_out: AtomicU64::new(0),
     };
-    let text = shown_to(&rt, rt.alloc(), FOUR_SEATS, SEAL_AND_ASK, &gate)?;
+    let text = ran(&rt, rt.alloc(), FOUR_SEATS, SEAL_AND_ASK, &gate)?;
     assert!(rt;
         has_in_order(
             &text,
@@ -122,10 +147,23 @@ fn a_lane_is_answered_during_growth(rt: HostRuntime) -> Result<(), Fail> {
                 b" 1 submit 1 2 4 0 accepted\n",
                 b" 1 submit 2 3 5 0 accepted\n",
                 b" 0 close 1 closed\n",
-                b"\ndone 4\n",
+                b"done 4\n",
             ]
         )
     );
+    assert_eq!(rt; gate.ran_out.load(Ordering::SeqCst), 0);
+    Ok(())
+}
+
+#[test]
+fn sixteen_lanes_meet(rt: HostRuntime) -> Result<(), Fail> {
+    let gate = AllLanes {
+        answers: AtomicU64::new(0),
+        ran_out: AtomicU64::new(0),
+    };
+    let text = ran(&rt, rt.alloc(), FOUR_SEATS, SIXTEEN, &gate)?;
+    assert!(rt; has_in_order(&text, &[b" 2 4 0 accepted\n".as_slice(); 16]));
+    assert!(rt; text.ends_with(b"\ndone 16\n"));
     assert_eq!(rt; gate.ran_out.load(Ordering::SeqCst), 0);
     Ok(())
 }
@@ -136,7 +174,7 @@ fn each_size_is_grown_in_runs_of_its_own(rt: HostRuntime) -> Result<(), Fail> {
     let gate = FirstPieces {
         begun: AtomicU64::new(0),
     };
-    let text = shown_to(&rt, rt.alloc(), TWO_SEATS, THREE_ROUNDS, &gate)?;
+    let text = ran(&rt, rt.alloc(), TWO_SEATS, THREE_ROUNDS, &gate)?;
     assert!(rt; has_in_order(&text, &[b"\nround 2\n", b"\ndone 6\n"]));
     assert_eq!(rt; gate.begun.load(Ordering::SeqCst), 6);
     Ok(())

@@ -1,8 +1,9 @@
-//! Tests of batches and days, of reports that are read back, and of the top call over sources and sinks in memory, each
-//! call of which may fail.
+//! The top call over sources and a sink in memory, as a gate and notifiers see it; and of the crates that work on a whole
+//! batch, from `promise_check` up, each call once that takes memory. What a report shows of batches and days, and what an
+//! audit says of it, the cases and drawn inputs of tests/ compare on the whole program.
 //!
-//! It has tests alone, of the crates from `promise_check` up, so that a crate under test is proved once and not a second
-//! time with its tests, and the crates below are compiled for one crate of tests and not for three.
+//! It has tests alone, so that a crate under test is proved once and not a second time with its tests, and the crates below
+//! are compiled for one crate of tests.
 #![tactic(auto)]
 
 #[cfg(test)]

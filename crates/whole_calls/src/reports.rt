@@ -1,7 +1,3 @@
-//! Lines and texts of reports, as they are read back and judged. What an audit says of whole runs the cases of tests/
-//! compare.
+//! A report and a block of it, as they are judged.
 mod audits;
 mod blocks;
-mod entries;
-mod heads;
-mod lanes;

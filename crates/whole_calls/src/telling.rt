@@ -1,7 +1,7 @@
 //! What each of three notifiers is told, and which of them stay.
 ghost use Rattle.std.specs.Prelude.{None};
 
-use crate::calls::shown;
+use crate::calls::{RUN, SMOOTH, Texts, shown};
 use pool_base::{RiderId, VehicleId};
 use pool_io::Failed;
 use rider_notices::{Notice, Notifier};
@@ -87,7 +87,13 @@ fn left(
     for (name, fail) in [(1, None), (2, Some(1)), (3, None)] {
         notifiers.push(boxed(alloc, name, list, fail)?)?;
     }
-    let text = shown(rt, alloc, FLEET, TWO_BATCHES, &mut notifiers, &FreeGate)?;
+    let texts = Texts {
+        words: RUN,
+        fleet: FLEET,
+        script: TWO_BATCHES,
+        report: b"",
+    };
+    let text = shown(rt, alloc, &texts, SMOOTH, &mut notifiers, &FreeGate)?;
     Ok(
         text.as_slice()
             .ends_with(b"\ndone 7\n")

@@ -1,12 +1,19 @@
 //! What a caller may hook into the work.
 
-/// Hears of a piece as it begins, and of a lane that was answered. It answers nothing, and may wait.
+/// Hears of a piece as it begins, of a lane that was answered, and of how far long work is. It answers nothing, and
+/// may wait.
 pub trait Gate: Sync {
     /// A worker begins this piece.
     fn enter(&self, piece: u32);
 
     /// A lane has its receipt.
     fn answered(&self, lane: u8);
+
+    /// So many of all nodes are labelled, by labels of so many bytes.
+    fn labelled(&self, _nodes: usize, _all: usize, _bytes: u64) {}
+
+    /// So many of all rounds of a day are driven.
+    fn driven(&self, _rounds: usize, _all: usize) {}
 }
 
 /// A gate that lets all pass at once.

@@ -29,7 +29,7 @@ use Rattle.request_book.specs.declared.state.State.{State}
 use Rattle.rider_limits.specs.declared.settings.Settings.{Settings}
 use Rattle.road_network.specs.Roads.{Roads}
 use Rattle.seat_lock.specs.Values.{calls_of}
-use Rattle.seat_lock.specs.declared.logged.Entry.{Entry as Logged}
+use Rattle.seat_lock.specs.declared.logged.LoggedCall.{LoggedCall}
 use Rattle.shared_book.specs.declared.locked.LockedReply.{LockedReply}
 use Rattle.shared_book.specs.Locked.{calls_from, call_of, entry_of, sealed_by, snapshot_after}
 use Rattle.shared_book.specs.Shared.{BookPass, IsFinished}
@@ -189,7 +189,7 @@ module _ (settings : Settings) (roads : Roads) where
       (stands.0, stands.1, subst (λ (b : Batch). IsGoodOutcome settings roads b outcome) same good.2)
 
   -- one entry more
-  close-first : (s : State) (last : Option Batch) (e : Entry) (rest : List (Logged Command LockedReply)) (More : Type 0)
+  close-first : (s : State) (last : Option Batch) (e : Entry) (rest : List (LoggedCall Command LockedReply)) (More : Type 0)
       → IsLast s last → e.reply ≡ (step roads.nodes settings.wait s e.command).1 → IsInZero e
       → ((l : Option Batch) → IsLast (step roads.nodes settings.wait s e.command).0 l → LaneClosesAreGood settings roads l rest → More)
       → (here : Bool) → eqb e.lane 0 ≡ here
@@ -350,7 +350,7 @@ beyond-none n lane (e ∷ es) le all =
     by false h lt rest = rest
 
 -- the calls of a pass are those of its lane
-calls-cut : (lane n : ℕ) (calls : List (Logged Command LockedReply)) → map (λ p. p.1) (filter (λ p. p.1.lane == lane) (enumerate_from n calls)) ≡ calls_of_lane lane calls
+calls-cut : (lane n : ℕ) (calls : List (LoggedCall Command LockedReply)) → map (λ p. p.1) (filter (λ p. p.1.lane == lane) (enumerate_from n calls)) ≡ calls_of_lane lane calls
 calls-cut lane n [] = refl
 calls-cut lane n (c ∷ cs) = by (eqb c.lane lane) (calls-cut lane (n + 1) cs)
   where
@@ -359,7 +359,7 @@ calls-cut lane n (c ∷ cs) = by (eqb c.lane lane) (calls-cut lane (n + 1) cs)
     by true e = ap (λ l. c ∷ l) e
     by false e = e
 
-entries-cut : (lane : ℕ) (calls : List (Logged Command LockedReply)) → map entry_of (calls_of_lane lane calls) ≡ of_lane lane (map entry_of calls)
+entries-cut : (lane : ℕ) (calls : List (LoggedCall Command LockedReply)) → map entry_of (calls_of_lane lane calls) ≡ of_lane lane (map entry_of calls)
 entries-cut lane [] = refl
 entries-cut lane (c ∷ cs) = by (eqb c.lane lane) (entries-cut lane cs)
   where
@@ -380,7 +380,7 @@ module _ (settings : Settings) (roads : Roads) (lanes : ℕ → List Command) (s
   over : (P : List ℕ → ℕ → Type 0) → P start.nodes start.wait → P roads.nodes settings.wait
   over P p = subst (λ ns. P ns settings.wait) ready.nodes (subst (λ w. P start.nodes w) ready.wait p)
 
-  abbrev log : List (Logged Command LockedReply)
+  abbrev log : List (LoggedCall Command LockedReply)
   log = calls_from roads.nodes settings.wait start.state done.since
 
   replies : RepliesAreSteps roads.nodes settings.wait start.state done.since

@@ -5,7 +5,7 @@ use Rattle.request_book.specs.declared.journal.Entry.{Entry}
 use Rattle.request_book.specs.declared.state.State.{State}
 use Rattle.rider_limits.specs.declared.settings.Settings.{Settings}
 use Rattle.road_network.specs.Roads.{Roads}
-use Rattle.seat_lock.specs.declared.logged.Entry.{Entry as Logged}
+use Rattle.seat_lock.specs.declared.logged.LoggedCall.{LoggedCall}
 use Rattle.shared_book.specs.declared.locked.LockedReply.{LockedReply}
 use Rattle.shared_book.specs.Locked.{entry_of}
 use Rattle.shared_book.specs.Shared.{BookPass}
@@ -15,11 +15,11 @@ use Rattle.dispatch_engine.specs.lemmas.Lanes.{IsPlain}
 -- From what each lane did to the one history in which all of them stand.
 
 -- the calls of a lane in a log
-abbrev pub calls_of_lane : ℕ → List (Logged Command LockedReply) → List (Logged Command LockedReply)
+abbrev pub calls_of_lane : ℕ → List (LoggedCall Command LockedReply) → List (LoggedCall Command LockedReply)
 calls_of_lane lane calls = filter (λ c. c.lane == lane) calls
 
 -- the calls of a pass, without their positions
-abbrev pub calls_of_pass : BookPass → List (Logged Command LockedReply)
+abbrev pub calls_of_pass : BookPass → List (LoggedCall Command LockedReply)
 calls_of_pass p = map (λ c. c.1) p.calls
 
 -- each command is plain

@@ -3,7 +3,7 @@ use Rattle.pool_base.specs.TravelTime.{never}
 use Rattle.road_network.specs.declared.arc.Arc.{Arc}
 use Rattle.road_network.specs.declared.hop.Hop.{Hop}
 use Rattle.road_network.specs.Roads.{IsArcAmong}
-use Rattle.travel_times.specs.lemmas.Search.{waits}
+use Rattle.travel_times.specs.Search.{waits}
 use Rattle.hub_labels.specs.declared.hub.Hub.{Hub}
 use Rattle.hub_labels.specs.work.Hops.{AreNodeHops, turned}
 use Rattle.hub_labels.specs.work.Ranked.{AreLabelsBelow}

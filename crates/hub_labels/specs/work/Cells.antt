@@ -1,10 +1,8 @@
-use Rattle.std.specs.Prelude.{◌≡◌, ℕ, ◌+◌, ◌<◌, List, length, slice_index}
-use Rattle.road_network.specs.Roads.{Roads}
+use Rattle.std.specs.Prelude.{ℕ, ◌+◌, ◌<◌, ◌/◌, ◌%◌, List, length, slice_index}
+use Rattle.road_network.specs.declared.arc.Arc.{Arc}
 use Rattle.road_network.specs.Walk.{IsTimeBetween}
-use Rattle.hub_labels.specs.Labels.{NodeLabels, AreLabelsOf}
 
--- the cells have grown by the travel times from a node to the first of these points
-pub record PushesTimes (labels : NodeLabels) (from : ℕ) (points : List ℕ) (count : ℕ) (before after : List ℕ) : Type 0 where
-  pub longer : length after ≡ length before + count
-  pub kept : (k : ℕ) → k < length before → slice_index after k ≡ slice_index before k
-  pub times : (roads : Roads) → AreLabelsOf roads labels → (j : ℕ) → j < count → IsTimeBetween roads.arcs from (slice_index points j) (slice_index after (length before + j))
+-- the cells from `start` on of a table, row by row, have the travel times between its points
+abbrev pub AreCells : List Arc → List ℕ → ℕ → List ℕ → Type 0
+AreCells arcs points start cells =
+    (k : ℕ) → k < length cells → IsTimeBetween arcs (slice_index points ((start + k) / length points)) (slice_index points ((start + k) % length points)) (slice_index cells k)

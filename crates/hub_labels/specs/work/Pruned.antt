@@ -1,7 +1,8 @@
 use Rattle.std.specs.Prelude.{◌≡◌, ℕ, ◌+◌, ◌<◌, ◌≤◌, ◌⊎◌, Bool, true, false, List, [], length, slice_index, slice_index_or, Contains}
 use Rattle.pool_base.specs.TravelTime.{never, longest}
 use Rattle.road_network.specs.declared.arc.Arc.{Arc}
-use Rattle.travel_times.specs.lemmas.Search.{waits, HasWalkOf}
+use Rattle.travel_times.specs.Search.{waits}
+use Rattle.travel_times.specs.lemmas.Search.{HasWalkOf}
 use Rattle.hub_labels.specs.declared.hub.Hub.{Hub}
 
 -- a hub of the label, with the seconds to it that `via` has, tells of a way of at most so many seconds

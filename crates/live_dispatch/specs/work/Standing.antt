@@ -1,16 +1,16 @@
 -- What stands of a run between two rows, and what a row or a batch adds.
-use Rattle.std.specs.Prelude.{◌≡◌, ℕ, ◌<◌, ◌≤◌, ◌^◌, Bool, List, [], ◌∷◌, ◌++◌, Option, None, Some, Result, Ok, Err, OnErr, OnOk, MatchResult, ⊤, true}
+use Rattle.std.specs.Prelude.{◌≡◌, ℕ, ◌<◌, ◌≤◌, ◌^◌, Bool, List, [], ◌∷◌, ◌++◌, Option, None, Some, Result, Ok, Err, OnOk, MatchResult, ⊤, true}
 use Rattle.std.specs.Result.{IsErrOf}
 use Rattle.std.specs.Io.KnownBytes.{Appends}
 use Rattle.batch_snapshot.specs.Batch.{Batch}
-use Rattle.dispatch_engine.specs.Run.{IsReady, IsRun, journal_of, position_after_run}
+use Rattle.dispatch_engine.specs.Run.{IsReady, IsRun, position_after_run, state_after_run}
 use Rattle.dispatch_report.specs.Round.{entry_text}
 use Rattle.dispatch_report.specs.Written.{Change, SinkView}
 use Rattle.dispatch_report.specs.declared.fault.ReportFault.{ReportFault}
 use Rattle.dispatch_report.specs.declared.fault.ReportFault.TheVariants as report
 use Rattle.live_batch.specs.Phase.{HasRunOpen, desk_after}
 use Rattle.live_batch.specs.declared.read_on.Halt.{Halt}
-use Rattle.live_desk.specs.Desk.{desk_of}
+use Rattle.live_desk.specs.Desk.{desk_of, Outputs}
 use Rattle.live_rows.specs.Rows.{GivesRow, TakesRows}
 use Rattle.live_rows.specs.declared.lines.LineFault.{LineFault}
 use Rattle.live_rows.specs.declared.lines.LineFault.TheVariants as line
@@ -22,7 +22,6 @@ use Rattle.request_book.specs.declared.journal.Entry.{Entry}
 use Rattle.request_book.specs.declared.journal.Journal.{Journal}
 use Rattle.request_book.specs.declared.reply.Reply.{Reply}
 use Rattle.rider_limits.specs.declared.settings.Settings.{Settings}
-use Rattle.rider_notices.specs.Notices.{notices}
 use Rattle.rider_notices.specs.Told.{HaveHeard, NotifierView}
 use Rattle.road_network.specs.Roads.{Roads}
 use Rattle.script_rows.specs.Line.{IsBehind}
@@ -30,7 +29,7 @@ use Rattle.script_rows.specs.declared.line.Line.{Line}
 use Rattle.script_rows.specs.lemmas.Named.{rounds_of}
 use Rattle.shared_book.specs.Locked.{Fits}
 use Rattle.shared_book.specs.lemmas.Locked.{snapshot_before}
-use Rattle.live_dispatch.specs.Live.{BeginsRows, journals_notices, journals_text, RunsRows, state_after_all}
+use Rattle.live_dispatch.specs.Live.{BeginsRows, journals_notices, journals_text, RunsRows}
 use Rattle.live_dispatch.specs.declared.fault.LiveFault.{LiveFault}
 use Rattle.live_dispatch.specs.declared.fault.LiveFault.TheVariants as live
 use Rattle.live_dispatch.specs.work.Rows.{EndsIn, last_of, start_text}
@@ -46,9 +45,12 @@ pub record Moment : Type 0 where
   pub notifiers : List NotifierView
 
 -- by its parts
-abbrev pub moment : BookView → Option ℕ → Option (List Line) → ℕ → Option (List ℕ) → ℕ → List NotifierView → Moment
-moment book round rows reads written faults notifiers =
-    record { book = book; round = round; rows = rows; reads = reads; sink = record { written = written; faults = faults }; notifiers = notifiers }
+abbrev pub moment : BookView → Option ℕ → Option (List Line) → ℕ → Outputs → Moment
+moment book round rows reads outputs = record { book = book; round = round; rows = rows; reads = reads; sink = outputs.sink; notifiers = outputs.notifiers }
+
+-- where its report and its notices go
+abbrev pub outputs_of : Moment → Outputs
+outputs_of m = record { sink = m.sink; notifiers = m.notifiers }
 
 -- the rows were taken from those to come, but for one that is held
 abbrev pub HaveCome : Moment → Moment → Option Line → List Line → Type 0
@@ -111,13 +113,11 @@ pub record HasTaken (old : BookView) (lane : ℕ) (command : Command) (sealed : 
   pub fits : Fits old.nodes command (record { reply = reply; snapshot = sealed })
   pub shown : sealed ≡ snapshot_before old.wait old.state command
 
--- a batch was closed and written whole, and its journal was given up and its notices were told; or nobody was told anything
-pub record HasToldBatch (nodes : List ℕ) (wait : ℕ) (old new : BookView) (closed : Bool) (fault : Option ReportFault) (before after : List NotifierView) (result : Result (Unit {0}) LiveFault) : Type 0 where
-  pub told : OnOk result (HaveHeard (notices nodes wait (journal_of old)) before after)
+-- a batch was closed and written whole, and its journal was given up
+pub record HasCut (old new : BookView) (closed : Bool) (fault : Option ReportFault) (result : Result (Unit {0}) LiveFault) : Type 0 where
   pub is_closed : OnOk result (closed ≡ true)
   pub whole : OnOk result (fault ≡ None)
   pub cut : OnOk result (new ≡ record { nodes = old.nodes; wait = old.wait; first = next_position old.first old.entries; base = old.state; entries = []; state = old.state; spare = 0 })
-  pub untold : OnErr result (after ≡ before)
   pub write_fault : IsErrOf result live.WriteFault → fault ≡ Some report.WriteFault
   pub no_read : IsErrOf result live.ReadFault → ⊥
 
@@ -131,7 +131,7 @@ module _ (settings : Settings) (roads : Roads) where
     pub run : IsRun settings roads start.book.base start.book.first (rounds_of lines) journals
     pub text : Appends start.sink.written now.sink.written (journals_text settings.proof (rounds_of lines) journals)
     pub told : HaveHeard (journals_notices settings roads journals) start.notifiers now.notifiers
-    pub state : now.book.state ≡ state_after_all roads.nodes settings.wait start.book.base journals
+    pub state : now.book.state ≡ state_after_run settings roads start.book.base journals
     pub position : next_position now.book.first now.book.entries ≡ position_after_run start.book.first journals
     pub ready : IsReady settings roads now.book
     pub small : start.book.first < 2 ^ 64
@@ -149,22 +149,21 @@ module _ (settings : Settings) (roads : Roads) where
     pub same : (now.rows ≡ before.rows) × (now.reads ≡ before.reads) × (now.notifiers ≡ before.notifiers)
 
   -- and the batch was open, from a new journal on, while rows of other lanes were run
-  pub record HasRunOn (start : Moment) (b : Batch) (round : ℕ) (book : BookView) (rows : Option (List Line)) (sink : SinkView) (notifiers : List NotifierView) (closed : Bool) (stop : Halt) (fault : Option ReportFault) (reads : ℕ) : Type 0 where
+  pub record HasRunOn (start : Moment) (b : Batch) (round : ℕ) (book : BookView) (rows : Option (List Line)) (outputs : Outputs) (closed : Bool) (stop : Halt) (fault : Option ReportFault) (reads : ℕ) : Type 0 where
     pub row : Line
     pub number : row.round ≡ round
     pub sealed : Moment
     pub opens : Opens start row b sealed
-    pub told : notifiers ≡ sealed.notifiers
     pub reads_were : sealed.reads ≡ reads
     pub fresh : BookView
     pub fresh_is : fresh ≡ record { nodes = sealed.book.nodes; wait = sealed.book.wait; first = next_position sealed.book.first sealed.book.entries; base = sealed.book.state; entries = []; state = sealed.book.state; spare = 0 }
-    pub ran : HasRunOpen settings roads b round sealed.rows rows (desk_of fresh settings.proof sealed.sink) (desk_after fresh settings.proof sealed.sink book sink fault) closed stop
+    pub ran : HasRunOpen settings roads b round sealed.rows rows (desk_of fresh settings.proof (outputs_of sealed)) (desk_after fresh settings.proof (outputs_of sealed) book outputs fault) closed stop
 
   -- how a run ended, from its start
-  pub record HasEnded (start : Moment) (failed : ℕ) (sink : SinkView) (notifiers : List NotifierView) (ended : Result (Unit {0}) LiveFault) : Type 0 where
+  pub record HasEnded (start : Moment) (failed : ℕ) (outputs : Outputs) (ended : Result (Unit {0}) LiveFault) : Type 0 where
     pub run : MatchResult ended
-        (λ _. RunsRows settings roads start.book start.rows (record { before = start.sink; after = sink }) (record { before = start.notifiers; after = notifiers }))
-        (λ _. BeginsRows settings roads start.book start.rows (record { before = start.sink; after = sink }) (record { before = start.notifiers; after = notifiers }))
-    pub write_fault : IsErrOf ended live.WriteFault → Rose start.sink.faults sink.faults
+        (λ _. RunsRows settings roads start.book start.rows (record { before = start.sink; after = outputs.sink }) (record { before = start.notifiers; after = outputs.notifiers }))
+        (λ _. BeginsRows settings roads start.book start.rows (record { before = start.sink; after = outputs.sink }) (record { before = start.notifiers; after = outputs.notifiers }))
+    pub write_fault : IsErrOf ended live.WriteFault → Rose start.sink.faults outputs.sink.faults
     pub read_fault : IsErrOf ended live.ReadFault → Rose start.reads failed
-    pub writes : start.sink.faults ≤ sink.faults
+    pub writes : start.sink.faults ≤ outputs.sink.faults

@@ -26,6 +26,7 @@ pub record TakesClose (settings : Settings) (roads : Roads) (old : BookView) (ba
   pub outcome : Outcome
   pub good : BeginsWithGood settings roads batch after outcome rest
   pub only : (other : Outcome) (behind : List ℕ) → BeginsWithGood settings roads batch after other behind → (other ≡ outcome) × (behind ≡ rest)
+  pub unrefused : (refused : BlockRefusal) → refused ≢ refusal.OutOfMemory → Refuses settings roads batch after refused → ⊥
   pub applied : IsApplied old lane (Close batch.number outcome) Closed new
 
 -- no good outcome's block stands behind the line of the close

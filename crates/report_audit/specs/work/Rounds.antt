@@ -1,5 +1,5 @@
 -- The rounds of an audit.
-use Rattle.std.specs.Prelude.{◌≡◌, ◌≢◌, ℕ, ◌<◌, ◌^◌, true, List, [], ◌∷◌, ◌++◌, count_by, codes, Option, None}
+use Rattle.std.specs.Prelude.{◌≡◌, ◌≢◌, ℕ, ◌<◌, ◌^◌, true, List, [], ◌∷◌, ◌++◌, count_by, codes, Option, None, Some}
 use Rattle.batch_snapshot.specs.Batch.{Batch}
 use Rattle.dispatch_engine.specs.Run.{journal_of, IsRoundRun}
 use Rattle.dispatch_report.specs.Round.{round_text}
@@ -16,8 +16,8 @@ use Rattle.report_audit.specs.Report.{closes}
 use Rattle.report_audit.specs.Types.{AreTold}
 use Rattle.report_audit.specs.declared.stop.Stop.{Stop}
 use Rattle.report_audit.specs.declared.stop.Stop.TheVariants.{OutOfMemory}
-use Rattle.report_audit.specs.work.Rest.{IsRestOfRounds}
-use Rattle.report_audit.specs.work.Steps.{HasRead, IsBookOf, IsWithin, MayBegin, StopsAt, StopsBehind}
+use Rattle.report_audit.specs.work.Rest.{IsRestOfRounds, StopsAt}
+use Rattle.report_audit.specs.work.Steps.{HasRead, IsBookOf, IsWithin, MayBegin, StopsBehind}
 
 -- the book has no entries, and no batch of it waits for its close
 pub record IsRoundStart (settings : Settings) (roads : Roads) (b : BookView) : Type 0 where
@@ -66,13 +66,15 @@ pub record HasReadRound (settings : Settings) (roads : Roads) (round : NumberedL
   pub position : new.first ≡ position_behind journal
   pub printed : text ≡ round_text round.number true journal ++ rest
   pub counted : batches ≡ count_by (λ e. closes e.command e.reply) journal.entries
-  pub only : (later : List NumberedLanes) → IsRestOfRounds settings roads (round ∷ later) old.state old.first text → IsRestOfRounds settings roads later new.state new.first rest
+  pub only : (end : Option Stop) (passed later : List NumberedLanes) → IsRestOfRounds settings roads end passed (round ∷ later) old.state old.first text
+      → IsRestOfRounds settings roads end (passed ++ round ∷ []) later new.state new.first rest
 
--- an audit stops before a round or within it, and no run goes on with the text
+-- an audit stops before a round or within it, and a text that goes on from there stops so too
 pub data WhereRoundStops (settings : Settings) (roads : Roads) (round : NumberedLanes) (old : BookView) (text : List ℕ) (stop : Stop) : Type 0 where
   before : IsNoRoundLine text round.number stop → WhereRoundStops settings roads round old text stop
   behind : (after : List ℕ) → HasRoundLine text round.number after → StopsBehind settings roads round (journal_of old) after stop → WhereRoundStops settings roads round old text stop
 
 pub record RoundStops (settings : Settings) (roads : Roads) (round : NumberedLanes) (old : BookView) (text : List ℕ) (stop : Stop) : Type 0 where
   pub stops : WhereRoundStops settings roads round old text stop
-  pub none : stop ≢ OutOfMemory → (later : List NumberedLanes) → IsRestOfRounds settings roads (round ∷ later) old.state old.first text → ⊥
+  pub only : stop ≢ OutOfMemory → (end : Option Stop) (passed later : List NumberedLanes) → MayBegin passed text
+      → IsRestOfRounds settings roads end passed (round ∷ later) old.state old.first text → end ≡ Some stop

@@ -1,7 +1,6 @@
 -- The steps of an audit.
-use Rattle.std.specs.Prelude.{◌≡◌, ◌≢◌, ℕ, ◌<◌, ◌^◌, true, List, [], ◌++◌, length, Option, None, option_map}
+use Rattle.std.specs.Prelude.{◌≡◌, ◌≢◌, ℕ, ◌<◌, ◌^◌, true, List, [], ◌++◌, length, Option, None, Some, option_map}
 use Rattle.batch_snapshot.specs.Batch.{Batch}
-use Rattle.block_audit.specs.declared.refusal.BlockRefusal.TheVariants as refusal
 use Rattle.dispatch_engine.specs.Run.{journal_of}
 use Rattle.report_lines.specs.Next.{IsNextLine}
 use Rattle.report_lines.specs.declared.next.NextLine.{NextLine}
@@ -16,25 +15,11 @@ use Rattle.rider_limits.specs.declared.settings.Settings.{Settings}
 use Rattle.road_network.specs.Roads.{Roads}
 use Rattle.script_rows.specs.Round.{IsRound, NumberedLanes}
 use Rattle.report_lines.specs.Line.{IsFirstLine}
-use Rattle.report_audit.specs.Fault.{IsCut, IsOutOfForm, IsWrongLine, IsWrongBatch}
 use Rattle.report_audit.specs.Place.{Extent, BeginsRound, AreAtEnd, position_behind}
-use Rattle.report_audit.specs.declared.stop.LineFault.{LineFault}
 use Rattle.report_audit.specs.declared.stop.LineFault.TheVariants as wrong
 use Rattle.report_audit.specs.declared.stop.Stop.{Stop}
-use Rattle.report_audit.specs.declared.stop.Stop.TheVariants.{OutOfMemory, Line, Block}
-use Rattle.report_audit.specs.work.Rest.{IsRestOfRound, entries_text}
-
--- the line is wrong in this way
-abbrev pub IsWrong : Settings → Roads → Extent → List ℕ → LineFault → Type 0
-IsWrong settings roads place text wrong.Cut = IsCut place text
-IsWrong settings roads place text wrong.Form = IsOutOfForm place text
-IsWrong settings roads place text wrong.Entry = IsWrongLine settings roads place text
-
--- why an audit stops at a place before this text
-abbrev pub StopsAt : Settings → Roads → Extent → List ℕ → Stop → Type 0
-StopsAt settings roads place text OutOfMemory = Unit {0}
-StopsAt settings roads place text (Line left fault) = (left ≡ length text) × IsWrong settings roads place text fault
-StopsAt settings roads place text (Block left refused) = (left ≡ length text) × IsWrongBatch refused settings roads place text × (refused ≢ refusal.OutOfMemory)
+use Rattle.report_audit.specs.declared.stop.Stop.TheVariants.{OutOfMemory, Line}
+use Rattle.report_audit.specs.work.Rest.{GoesOn, StopsAt, entries_text}
 
 -- no line stands first, or one that is nothing between blocks
 abbrev pub HasNoNext : List ℕ → Stop → Type 0
@@ -72,14 +57,15 @@ pub record IsWithin (settings : Settings) (roads : Roads) (round : NumberedLanes
   pub waits : Waits lanes b.state.sealed
   pub is_open : open_batch ≡ b.state.sealed
 
--- entries were read: the text begins with theirs, and where it goes on with the rest of a run, so does what follows them
+-- entries were read: the text begins with theirs, and where it goes on with the rest of a run or up to a stop, so does what
+-- follows them
 pub record HasRead (settings : Settings) (roads : Roads) (round : NumberedLanes) (old new : Journal) (text rest : List ℕ) : Type 0 where
   pub read : List Entry
   pub first : new.first ≡ old.first
   pub base : new.base ≡ old.base
   pub entries : new.entries ≡ old.entries ++ read
   pub printed : text ≡ entries_text (position_behind old) read ++ rest
-  pub only : (later : List NumberedLanes) → IsRestOfRound settings roads round later old text → IsRestOfRound settings roads round later new rest
+  pub only : (end : Option Stop) (passed later : List NumberedLanes) → GoesOn settings roads end passed round later old text → GoesOn settings roads end passed round later new rest
 
 -- an entry was read, the text is shorter, and what an audit keeps within a round holds behind it
 pub record EntryRead (settings : Settings) (roads : Roads) (round : NumberedLanes) (old new : BookView) (lanes : List LaneStand) (open_batch : Option Batch) (text rest : List ℕ) : Type 0 where
@@ -93,10 +79,10 @@ pub record IsEntryOf (lane : ℕ) (text line after : List ℕ) : Type 0 where
   pub form : IsNextLine (EntryOf lane) line
   pub low : lane < 16
 
--- an audit stops within a round, and no run goes on with the text
+-- an audit stops within a round, and a text that goes on from there stops so too
 pub record StopsWithin (settings : Settings) (roads : Roads) (round : NumberedLanes) (j : Journal) (text : List ℕ) (stop : Stop) : Type 0 where
   pub stops : StopsAt settings roads (Extent.within round j) text stop
-  pub none : stop ≢ OutOfMemory → (later : List NumberedLanes) → IsRestOfRound settings roads round later j text → ⊥
+  pub only : stop ≢ OutOfMemory → (end : Option Stop) (passed later : List NumberedLanes) → GoesOn settings roads end passed round later j text → end ≡ Some stop
 
 -- an audit stops behind some entries
 pub record StopsBehind (settings : Settings) (roads : Roads) (round : NumberedLanes) (start : Journal) (text : List ℕ) (stop : Stop) : Type 0 where

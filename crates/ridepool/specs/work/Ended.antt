@@ -2,14 +2,14 @@
 use Rattle.std.specs.Prelude.{◌≡◌, ℕ, List, ◌⊎◌, ◌≢◌}
 use Rattle.pool_base.specs.declared.which.Which.{Which}
 use Rattle.report_audit.specs.Fault.{HasFault}
-use Rattle.report_audit.specs.Report.{IsReportOfRun, IsAudited}
+use Rattle.report_audit.specs.Report.{IsAudited}
 use Rattle.report_audit.specs.declared.fault.AuditFault.{AuditFault}
 use Rattle.report_audit.specs.declared.fault.Audited.{Audited}
-use Rattle.ridepool.specs.Explained.{AreGoodFor}
-use Rattle.ridepool.specs.Inputs.{Inputs, IsWithin, ReadsReport, ReadsSources}
+use Rattle.ridepool.specs.Audit.{IsRightReport}
+use Rattle.ridepool.specs.Inputs.{Inputs, IsWithin}
 use Rattle.ridepool.specs.Seen.{Sources, source_at}
 use Rattle.ridepool.specs.declared.status.RunStatus.{RunStatus}
-use Rattle.ridepool.specs.declared.status.RunStatus.TheVariants.{TooLong, Done, Network, Fleet, Script, OutOfMemory, TooLate, Report}
+use Rattle.ridepool.specs.declared.status.RunStatus.TheVariants.{TooLong, Network, Fleet, Script, Report}
 use Rattle.fleet_state.specs.declared.fault.FleetFault.TheVariants as fleet
 use Rattle.pool_io.specs.declared.input.Input.TheVariants.{Rows, Own}
 use Rattle.pool_io.specs.declared.records.RowFault.TheVariants as row
@@ -28,13 +28,6 @@ HidesNoMemory (Script (Own fault)) = fault ≢ script.OutOfMemory
 HidesNoMemory (Report fault) = fault ≢ audit.OutOfMemory
 HidesNoMemory _ = Unit {0}
 
--- all is done, or there is no memory, or a day comes too late
-abbrev pub IsFaultlessEnd : RunStatus → Type 0
-IsFaultlessEnd Done = Unit {0}
-IsFaultlessEnd OutOfMemory = Unit {0}
-IsFaultlessEnd (TooLate round made) = Unit {0}
-IsFaultlessEnd _ = ⊥
-
 -- the bytes are the report of a run of the script, with so many entries and batches
 abbrev pub IsRunReport : Inputs → List ℕ → Audited → Type 0
 IsRunReport i bytes audited = IsAudited i.roads i.vehicles i.rounds i.settings.workers bytes audited
@@ -42,19 +35,7 @@ IsRunReport i bytes audited = IsAudited i.roads i.vehicles i.rounds i.settings.w
 -- the bytes fail in this way, and are the report of no run of the script
 abbrev pub IsNoReport : Inputs → List ℕ → AuditFault → Type 0
 IsNoReport i bytes fault =
-    HasFault i.roads i.vehicles i.rounds i.settings.workers bytes fault × (IsReportOfRun i.roads i.vehicles i.rounds i.settings.workers bytes → ⊥)
-
--- the words are good for a call that reads its sources
-abbrev pub AreForSources : List (List ℕ) → Type 0
-AreForSources words = AreGoodFor ReadsSources words
-
--- the words are good for an audit
-abbrev pub AreForAudit : List (List ℕ) → Type 0
-AreForAudit words = AreGoodFor ReadsReport words
-
--- the words are good for a made workload
-abbrev pub AreForLoad : List (List ℕ) → Type 0
-AreForLoad words = AreGoodFor (λ mode. ReadsSources mode → ⊥) words
+    HasFault i.roads i.vehicles i.rounds i.settings.workers bytes fault × (IsRightReport i bytes → ⊥)
 
 -- no more bytes than may be were taken from each source, and one more only where it is answered as too long
 abbrev pub IsLimited : Sources → RunStatus → Type 0

@@ -1,5 +1,6 @@
 -- What the readers of sources and of bytes say.
-use Rattle.std.specs.Prelude.{◌≡◌, ℕ, List, Some, Result, Err, IfErr, MatchResult}
+use Rattle.std.specs.Prelude.{◌≡◌, ℕ, List, Some, Result, Err, IfErr, MatchResult, ◌⊎◌}
+use Rattle.load_maker.specs.Texts.{texts_of}
 use Rattle.pool_base.specs.declared.which.Which.{Which}
 use Rattle.pool_io.specs.Faults.{Rose}
 use Rattle.pool_io.specs.declared.input.Input.{Input}
@@ -11,13 +12,15 @@ use Rattle.route_drive.specs.declared.day.DayFault.{DayFault}
 use Rattle.script_rows.specs.Round.{NumberedLanes}
 use Rattle.script_rows.specs.declared.fault.ScriptFault.{ScriptFault}
 use Rattle.ridepool.specs.work.Ended.{HidesNoMemory}
-use Rattle.ridepool.specs.Inputs.{Inputs, IsWithin, IsSourceTooLong, Reads, AreInputs, AreReadFrom, AreUntouched, IsStop}
+use Rattle.ridepool.specs.Inputs.{Inputs, IsWithin, IsSourceTooLong, Reads, AreReadFrom, AreUntouched, IsStop}
+use Rattle.ridepool.specs.Load.{AreTexts}
 use Rattle.ridepool.specs.Reading.{network_in, vehicles_in}
 use Rattle.dispatch_report.specs.Written.{Change}
 use Rattle.ridepool.specs.Seen.{SourceView, Sources}
 use Rattle.ridepool.specs.declared.inputs.ReadInputs.{ReadInputs}
 use Rattle.ridepool.specs.declared.status.RunStatus.{RunStatus}
 use Rattle.ridepool.specs.declared.status.RunStatus.TheVariants.{Network, Fleet, Script, TooLong, ReadFault, OutOfMemory, Day}
+use Rattle.ridepool.specs.work.Writing.{IsDayFor}
 
 -- why a source wasn't read to its end
 pub data IsUnread (s : Change SourceView) (which : Which) : RunStatus → Type 0 where
@@ -57,10 +60,15 @@ pub record ReadSources (s : Sources) (result : Result ReadInputs RunStatus) : Ty
 abbrev pub IsReadAsNoDay : Sources → DayFault → Type 0
 IsReadAsNoDay s fault = (i : Inputs) × AreReadFrom s i × (day_fault i.rounds ≡ Some fault)
 
+-- the inputs by the command: of a made workload what its texts give, else what the sources were read as
+abbrev pub AreInputs : Mode → Sources → Inputs → Type 0
+AreInputs (Load shape) s i = AreTexts (texts_of shape) i × AreUntouched s
+AreInputs mode s i = AreReadFrom s i × IsDayFor mode i.rounds
+
 -- why there are no inputs, by the command
 abbrev pub IsNoInput : Mode → Sources → RunStatus → Type 0
 IsNoInput (Load shape) s status = AreUntouched s × (status ≡ OutOfMemory)
-IsNoInput Drive s (Day fault) = IsReadAsNoDay s fault
+IsNoInput Drive s status = IsStop s status ⊎ ((fault : DayFault) × (status ≡ Day fault) × IsReadAsNoDay s fault)
 IsNoInput mode s status = IsStop s status
 
 -- what came of the inputs

@@ -1,7 +1,7 @@
 -- Words give one command.
 use Rattle.std.proofs.Common.{◌≡◌, ℕ, List, [], ◌∷◌, Option, Some, None, refl, sym, ◌∙◌}
-use Rattle.rider_limits.specs.declared.command.Command.{Command}
-use Rattle.rider_limits.specs.declared.command.Command.TheVariants as command
+use Rattle.rider_limits.specs.declared.subcommand.Subcommand.{Subcommand}
+use Rattle.rider_limits.specs.declared.subcommand.Subcommand.TheVariants as command
 use Rattle.rider_limits.specs.declared.settings.Mode.{Mode}
 use Rattle.rider_limits.specs.declared.settings.Mode.TheVariants.{Run, Load, Drive, Audit}
 use Rattle.rider_limits.specs.declared.settings.Settings.{Settings}
@@ -9,13 +9,13 @@ use Rattle.rider_limits.specs.Key.{command_of}
 use Rattle.rider_limits.specs.Settings.{AreGiven, IsModeGiven}
 
 -- the command of a mode
-abbrev pub command_in : Mode → Command
+abbrev pub command_in : Mode → Subcommand
 command_in Run = command.Run
 command_in (Load shape) = command.Load
 command_in Drive = command.Drive
 command_in Audit = command.Audit
 
-mode_command : (c : Option Command) (words : List (List ℕ)) (m : Mode) → IsModeGiven c words m → c ≡ Some (command_in m)
+mode_command : (c : Option Subcommand) (words : List (List ℕ)) (m : Mode) → IsModeGiven c words m → c ≡ Some (command_in m)
 mode_command (Some command.Run) words Run given = refl
 mode_command (Some command.Run) words (Load shape) given = absurd given
 mode_command (Some command.Run) words Drive given = absurd given

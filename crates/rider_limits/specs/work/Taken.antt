@@ -1,13 +1,13 @@
 use Rattle.std.specs.Prelude.{ℕ, ◌≤◌, Bool, ◌&&◌, List}
 use Rattle.std.specs.Str.{bytes_eq}
-use Rattle.rider_limits.specs.declared.command.Command.{Command}
+use Rattle.rider_limits.specs.declared.subcommand.Subcommand.{Subcommand}
 use Rattle.rider_limits.specs.declared.key.Key.{Key}
 use Rattle.rider_limits.specs.declared.key.Takes.{Takes}
 use Rattle.rider_limits.specs.declared.key.Takes.TheVariants.{FileName, Number, Way}
 use Rattle.rider_limits.specs.Key.{about}
 
 -- a command has this key, and this is its name
-abbrev pub is_key : Command → List ℕ → Key → Bool
+abbrev pub is_key : Subcommand → List ℕ → Key → Bool
 is_key command name key = (about key).has command && bytes_eq (about key).name name
 
 -- a key takes a number

@@ -16,7 +16,7 @@ use Rattle.request_book.specs.declared.state.State.{State}
 use Rattle.request_book.proofs.lemmas.KeyedLemmas.{All-look_up}
 use Rattle.rider_limits.specs.declared.settings.Settings.{Settings}
 use Rattle.road_network.specs.Roads.{Roads, IsNetwork, has_node}
-use Rattle.route_drive.specs.declared.course.Place.{Place}
+use Rattle.route_drive.specs.declared.course.NodeAt.{NodeAt}
 use Rattle.route_drive.specs.Entering.{IsReported, due, goal_of, standing_after, stop_command, to_come}
 use Rattle.route_drive.specs.work.Serving.{AreReached, IsRightStop, IsServing, IsDayState, IsDone}
 use Rattle.route_drive.proofs.kept.Lists.{takes, skips, all_weaker, both}
@@ -27,7 +27,7 @@ use Rattle.route_drive.proofs.kept.Laws.{stops_are_answered, reports_are_served}
 
 -- what is to be entered of a vehicle: its stops that are due, and then its report; or nothing more
 pub data IsPending (settings : Settings) (roads : Roads) (now : ℕ) (riders : List BookRider) (v : Vehicle) (target : Option ℕ) (commands : List Command) (left : List PlannedStop) : Type 0 where
-  waits : (free : ℕ) (stops : List PlannedStop) (there : Place) → v.time ≤ free → IsServing settings roads riders v free stops
+  waits : (free : ℕ) (stops : List PlannedStop) (there : NodeAt) → v.time ≤ free → IsServing settings roads riders v free stops
       → IsReported roads now (standing_after settings.dwell (record { node = v.node; second = v.time; free = free }) (due now stops)) (goal_of target (to_come now stops)) there
       → commands ≡ map (stop_command v.id) (due now stops) ++ Report v.id there.node there.second ∷ [] → left ≡ to_come now stops
       → IsPending settings roads now riders v target commands left
@@ -80,7 +80,7 @@ module _ (settings : Settings) (roads : Roads) (net : IsNetwork roads) (now : �
     pub keeps : OneKeeps settings roads s command (step roads.nodes settings.wait s command).1
     pub pending : IsPending settings roads now done.t.riders done.own.v target commands left
 
-  report_next : (v : Vehicle) (free : ℕ) (target : Option ℕ) (stops : List PlannedStop) (there : Place) (command : Command) (commands : List Command) (left : List PlannedStop)
+  report_next : (v : Vehicle) (free : ℕ) (target : Option ℕ) (stops : List PlannedStop) (there : NodeAt) (command : Command) (commands : List Command) (left : List PlannedStop)
       → find_vehicle v.id s.vehicles ≡ Some v → v.time ≤ free → IsServing settings roads s.riders v free stops → AllByRecursion (λ stop. now < stop.second) stops
       → IsReported roads now (standing_after settings.dwell (record { node = v.node; second = v.time; free = free }) (due now stops)) (goal_of target (to_come now stops)) there
       → command ∷ commands ≡ map (stop_command v.id) (due now stops) ++ Report v.id there.node there.second ∷ [] → left ≡ to_come now stops

@@ -8,8 +8,8 @@ use Rattle.request_book.specs.declared.outcome.PlannedStop.{PlannedStop}
 use Rattle.road_network.specs.declared.arc.Arc.{Arc}
 use Rattle.road_network.specs.Roads.{Roads, IsNetwork, index_in, has_node}
 use Rattle.road_network.specs.Walk.{IsWalk, walk_seconds, IsLeastTime}
-use Rattle.route_drive.specs.declared.course.Place.{Place}
-use Rattle.route_drive.specs.declared.course.Standing.{Standing}
+use Rattle.route_drive.specs.declared.course.NodeAt.{NodeAt}
+use Rattle.route_drive.specs.declared.course.Stay.{Stay}
 use Rattle.route_drive.specs.declared.walk.WalkStep.{WalkStep}
 use Rattle.route_drive.specs.Entering.{IsReported, goal_of, walk_end}
 use Rattle.route_drive.specs.Walk.{steps_of}
@@ -65,13 +65,13 @@ end_is nodes from acc (arc ∷ next ∷ walk) =
     rest ∙ omega (arith, a)
 
 -- what a report leaves: the stops to come are reached from there
-pub record IsThere (roads : Roads) (dwell now : ℕ) (at : Standing) (stops : List PlannedStop) (there : Place) : Type 0 where
+pub record IsThere (roads : Roads) (dwell now : ℕ) (at : Stay) (stops : List PlannedStop) (there : NodeAt) : Type 0 where
   pub reached : AreReached roads dwell there.node there.second stops
   pub named : has_node roads.nodes there.node ≡ true
   pub by : now ≤ there.second
   pub later : at.second ≤ there.second
 
-module _ (roads : Roads) (net : IsNetwork roads) (dwell now : ℕ) (at : Standing) (here : has_node roads.nodes at.node ≡ true) (left : at.second ≤ at.free) (target : Option ℕ) (there : Place) where
+module _ (roads : Roads) (net : IsNetwork roads) (dwell now : ℕ) (at : Stay) (here : has_node roads.nodes at.node ≡ true) (left : at.second ≤ at.free) (target : Option ℕ) (there : NodeAt) where
   -- the steps of a walk from here are nodes
   step_named : (goal : ℕ) (walk : List Arc) (via : ℕ) → IsWalk roads.arcs (index_in roads.nodes at.node) walk via → via < length roads.nodes
   step_named goal walk via walks = ends_within roads.arcs walk (length roads.nodes) (index_in roads.nodes at.node) via net.arcs walks (has_index roads.nodes at.node here)

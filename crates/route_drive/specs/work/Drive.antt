@@ -11,20 +11,24 @@ use Rattle.script_rows.specs.Round.{NumberedLanes, lane_at, empty_round}
 use Rattle.dispatch_engine.specs.Run.{IsReady, IsRoundRun, position_after_run}
 use Rattle.route_drive.specs.declared.course.Course.{Course}
 use Rattle.route_drive.specs.declared.day_run.DayRound.{DayRound}
+use Rattle.route_drive.specs.declared.day_run.DayRun.{DayRun}
+use Rattle.route_drive.specs.declared.drive.Drive.{Drive}
 use Rattle.route_drive.specs.declared.day_run.DriveFault.{DriveFault}
 use Rattle.route_drive.specs.declared.day_run.DriveFault.TheVariants as fault
 use Rattle.route_drive.specs.declared.entering.Stopped.{Stopped}
 use Rattle.route_drive.specs.declared.entering.Stopped.TheVariants as stop
 use Rattle.route_drive.specs.Day.{seal_of, round_fault, latest_seal}
-use Rattle.route_drive.specs.Driven.{HasDriven, IsDrivenRound, courses_after, courses_from, number_after, state_left}
+use Rattle.route_drive.specs.Counts.{AreCounts, entries_of}
+use Rattle.route_drive.specs.Driven.{HasDriven, IsDrivenDay, IsDrivenRound, courses_after, courses_from, number_after, state_left}
+use Rattle.route_drive.specs.work.Counting.{AddsServed, AreServed}
 use Rattle.route_drive.specs.Entering.{EntersTooLate, IsInTime, IsTooLate, left_commands}
 use Rattle.route_drive.specs.declared.day.DayFault.{DayFault}
 use Rattle.batch_snapshot.specs.declared.vehicle.Vehicle.{Vehicle}
-use Rattle.route_drive.specs.declared.course.Standing.{Standing}
+use Rattle.route_drive.specs.declared.course.Stay.{Stay}
 use Rattle.route_drive.specs.declared.walk.WalkStep.{WalkStep}
 
 -- where a vehicle was reported, and from when on it can leave
-abbrev pub reported_place : Vehicle → Standing
+abbrev pub reported_place : Vehicle → Stay
 reported_place v = record { node = v.node; second = v.time; free = v.time }
 
 -- the first step that is reached by now or later, by a walk that is left at a second
@@ -50,13 +54,20 @@ pub record IsUnderWay (settings : Settings) (roads : Roads) (s : State) (rounds 
   pub courses_are : courses ≡ courses_from settings roads s rounds made
   pub each : length courses ≡ length book.state.vehicles
 
--- a round was run from a book, and stands last among those that were made
-pub record IsRoundMade (settings : Settings) (roads : Roads) (driven : NumberedLanes) (number : ℕ) (book : BookView) (made made' : List DayRound) : Type 0 where
-  pub journal : Journal
-  pub run : IsRoundRun settings roads driven journal
-  pub base : journal.base ≡ book.base
-  pub first : journal.first ≡ book.first
-  pub made_is : made' ≡ made ++ (record { number = number; journal = journal }) ∷ []
+-- whatever rounds were taken before, after it one more is
+abbrev pub Takes : (List DayRound → Type 0) → (List DayRound → Type 0) → DayRound → Type 0
+Takes Before After r = (made : List DayRound) → Before made → After (made ++ r ∷ [])
+
+-- whatever rounds were taken before, after it these are
+abbrev pub Stays : (List DayRound → Type 0) → (List DayRound → Type 0) → Type 0
+Stays Before After = (made : List DayRound) → Before made → After made
+
+-- rounds of a day were driven from a state, and were taken
+pub record HasCome (Took : List DayRound → Type 0) (settings : Settings) (roads : Roads) (s : State) (rounds : List NumberedLanes) (drive : Drive) : Type 0 where
+  pub made : List DayRound
+  pub taken : Took made
+  pub served : AreServed (entries_of made) drive.served
+  pub way : IsUnderWay settings roads s rounds drive.book drive.courses.items made
 
 -- a round was run from a book, and its journal taken
 pub record IsTaken (settings : Settings) (roads : Roads) (driven : NumberedLanes) (book book' : BookView) (journal : Journal) : Type 0 where
@@ -69,48 +80,65 @@ pub record IsTaken (settings : Settings) (roads : Roads) (driven : NumberedLanes
   pub state : book'.state ≡ state_after roads.nodes settings.wait book.base journal.entries
   pub next : book'.first ≡ next_position book.first journal.entries
 
--- a round was driven from a book, and leaves this one
-pub record IsRoundOn (settings : Settings) (roads : Roads) (round : NumberedLanes) (book : BookView) (courses : List Course) (made : List DayRound) (book' : BookView) (courses' : List Course) (made' : List DayRound) : Type 0 where
+-- a round was driven, and leaves the day as this
+pub record IsRoundOn (settings : Settings) (roads : Roads) (round : NumberedLanes) (drive : Drive) (Before After : List DayRound → Type 0) (drive' : Drive) : Type 0 where
   pub driven : NumberedLanes
-  pub is_driven : IsDrivenRound settings roads book.state courses round driven
-  pub round_made : IsRoundMade settings roads driven round.number book made made'
-  pub ready : IsReady settings roads book'
-  pub entries : book'.entries ≡ []
-  pub base_is : book'.base ≡ book'.state
-  pub state : book'.state ≡ state_after roads.nodes settings.wait book.base round_made.journal.entries
-  pub first : book'.first ≡ next_position book.first round_made.journal.entries
-  pub courses_are : courses' ≡ courses_after book'.state round round_made.journal.entries courses
+  pub is_driven : IsDrivenRound settings roads drive.book.state drive.courses.items round driven
+  pub journal : Journal
+  pub run : IsRoundRun settings roads driven journal
+  pub base : journal.base ≡ drive.book.base
+  pub first : journal.first ≡ drive.book.first
+  pub kept : Takes Before After (record { number = round.number; journal = journal })
+  pub served : AddsServed journal.entries drive.served drive'.served
+  pub ready : IsReady settings roads drive'.book
+  pub entries : drive'.book.entries ≡ []
+  pub base_is : drive'.book.base ≡ drive'.book.state
+  pub state : drive'.book.state ≡ state_after roads.nodes settings.wait drive.book.base journal.entries
+  pub next : drive'.book.first ≡ next_position drive.book.first journal.entries
+  pub courses_are : drive'.courses.items ≡ courses_after drive'.book.state round journal.entries drive.courses.items
 
 -- why a day stopped
-abbrev pub IsStoppedAt : Stopped → ℕ → List DayRound → DriveFault → Type 0
-IsStoppedAt stop.TooLate number made answer = answer ≡ fault.TooLate number made
-IsStoppedAt stop.OutOfMemory number made answer = answer ≡ fault.OutOfMemory
+abbrev pub IsStoppedAt : Stopped → ℕ → DriveFault → Type 0
+IsStoppedAt stop.TooLate number answer = answer ≡ fault.TooLate number
+IsStoppedAt stop.OutOfMemory number answer = answer ≡ fault.OutOfMemory
 
 -- a round is too late
-abbrev pub IsRoundLate : Settings → Roads → NumberedLanes → BookView → List Course → List DayRound → DriveFault → Type 0
-IsRoundLate settings roads round book courses made (fault.TooLate number rounds) =
-    (number ≡ round.number) × (rounds ≡ made) × ((now : ℕ) × (seal_of round ≡ Some now) × EntersTooLate roads settings.dwell now book.state.vehicles courses)
-IsRoundLate settings roads round book courses made fault.OutOfMemory = Unit {0}
+abbrev pub IsRoundLate : Settings → Roads → NumberedLanes → Drive → (List DayRound → Type 0) → (List DayRound → Type 0) → DriveFault → Type 0
+IsRoundLate settings roads round drive Before After (fault.TooLate number) =
+    (number ≡ round.number) × Stays Before After × ((now : ℕ) × (seal_of round ≡ Some now) × EntersTooLate roads settings.dwell now drive.book.state.vehicles drive.courses.items)
+IsRoundLate settings roads round drive Before After fault.OutOfMemory = Unit {0}
 
--- the last round was run from a book, and leaves this one
-pub record IsLastOn (settings : Settings) (roads : Roads) (number : ℕ) (book : BookView) (courses : List Course) (made : List DayRound) (book' : BookView) (made' : List DayRound) : Type 0 where
+-- the last round was run, and leaves the day as this
+pub record IsLastOn (settings : Settings) (roads : Roads) (number : ℕ) (drive : Drive) (Before After : List DayRound → Type 0) (drive' : Drive) : Type 0 where
   pub driven : NumberedLanes
-  pub own : lane_at driven 0 ≡ left_commands book.state.vehicles courses
+  pub own : lane_at driven 0 ≡ left_commands drive.book.state.vehicles drive.courses.items
   pub others : (lane : ℕ) → lane ≢ 0 → lane_at driven lane ≡ []
-  pub in_time : All IsInTime (left_commands book.state.vehicles courses)
-  pub round_made : IsRoundMade settings roads driven number book made made'
-  pub nodes : book'.nodes ≡ roads.nodes
-  pub state : book'.state ≡ state_after roads.nodes settings.wait book.base round_made.journal.entries
+  pub in_time : All IsInTime (left_commands drive.book.state.vehicles drive.courses.items)
+  pub journal : Journal
+  pub run : IsRoundRun settings roads driven journal
+  pub base : journal.base ≡ drive.book.base
+  pub first : journal.first ≡ drive.book.first
+  pub kept : Takes Before After (record { number = number; journal = journal })
+  pub served : AddsServed journal.entries drive.served drive'.served
+  pub nodes : drive'.book.nodes ≡ roads.nodes
+  pub state : drive'.book.state ≡ state_after roads.nodes settings.wait drive.book.base journal.entries
 
 -- a day whose rounds were driven came to its end: with its last round, unless it was empty
-abbrev pub IsEnd : Settings → Roads → List NumberedLanes → BookView → List Course → List DayRound → BookView → List DayRound → Type 0
-IsEnd settings roads [] book courses made book' made' = (book' ≡ book) × (made' ≡ made)
-IsEnd settings roads rounds book courses made book' made' = IsLastOn settings roads (number_after rounds) book courses made book' made'
+abbrev pub HasEnded : Settings → Roads → List NumberedLanes → Drive → (List DayRound → Type 0) → (List DayRound → Type 0) → Drive → Type 0
+HasEnded settings roads [] drive Before After end = (end ≡ drive) × Stays Before After
+HasEnded settings roads rounds drive Before After end = IsLastOn settings roads (number_after rounds) drive Before After end
 
 -- the last round is too late
-abbrev pub IsLastLate : ℕ → BookView → List Course → List DayRound → DriveFault → Type 0
-IsLastLate number book courses made (fault.TooLate round rounds) = (round ≡ number) × (rounds ≡ made) × Any IsTooLate (left_commands book.state.vehicles courses)
-IsLastLate number book courses made fault.OutOfMemory = Unit {0}
+abbrev pub IsLastLate : ℕ → Drive → (List DayRound → Type 0) → (List DayRound → Type 0) → DriveFault → Type 0
+IsLastLate number drive Before After (fault.TooLate round) = (round ≡ number) × Stays Before After × Any IsTooLate (left_commands drive.book.state.vehicles drive.courses.items)
+IsLastLate number drive Before After fault.OutOfMemory = Unit {0}
 
-abbrev pub IsEndLate : List NumberedLanes → BookView → List Course → List DayRound → DriveFault → Type 0
-IsEndLate rounds book courses made answer = IsLastLate (number_after rounds) book courses made answer
+abbrev pub IsEndLate : List NumberedLanes → Drive → (List DayRound → Type 0) → (List DayRound → Type 0) → DriveFault → Type 0
+IsEndLate rounds drive Before After answer = IsLastLate (number_after rounds) drive Before After answer
+
+-- the rounds that were taken are those of a driven day, and these are its counts
+pub record IsCounted (Took : List DayRound → Type 0) (settings : Settings) (roads : Roads) (s : State) (rounds : List NumberedLanes) (run : DayRun) : Type 0 where
+  pub made : List DayRound
+  pub taken : Took made
+  pub driven : IsDrivenDay settings roads s rounds made
+  pub counts : AreCounts roads (state_left settings roads s (map (λ r. r.journal) made)).riders (entries_of made) run.picked run.dropped run.worst_wait run.worst_delay

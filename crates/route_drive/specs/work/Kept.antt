@@ -23,7 +23,7 @@ use Rattle.request_book.specs.declared.state.State.{State}
 use Rattle.rider_limits.specs.declared.settings.Settings.{Settings}
 use Rattle.road_network.specs.Roads.{Roads, IsNetwork, has_node}
 use Rattle.route_drive.specs.declared.course.Course.{Course}
-use Rattle.route_drive.specs.declared.course.Place.{Place}
+use Rattle.route_drive.specs.declared.course.NodeAt.{NodeAt}
 use Rattle.route_drive.specs.Entering.{IsReported, goal_of, stop_command}
 use Rattle.route_drive.specs.Promises.{IsClosedInTime}
 use Rattle.route_drive.specs.work.Serving.{IsServing, IsDayState, IsKept, IsDone, KeepsBounds, ShowsRiders, chosen_stops}
@@ -47,7 +47,7 @@ AreLater roads now stops = AllByRecursion (λ stop. (has_node roads.nodes stop.n
 -- a vehicle's report before a seal is answered placed, not before the seal's second; from there it serves the stops that
 -- are still to come, each at its second
 abbrev pub ReportsAreServed : Type 0
-ReportsAreServed = (settings : Settings) (roads : Roads) (s : State) (v : Vehicle) (free now : ℕ) (target : Option ℕ) (stops : List PlannedStop) (there : Place)
+ReportsAreServed = (settings : Settings) (roads : Roads) (s : State) (v : Vehicle) (free now : ℕ) (target : Option ℕ) (stops : List PlannedStop) (there : NodeAt)
     → IsNetwork roads → IsDayState roads s → find_vehicle v.id s.vehicles ≡ Some v → has_node roads.nodes v.node ≡ true → v.time ≤ free
     → AreLater roads now stops → IsServing settings roads s.riders v free stops
     → IsReported roads now (record { node = v.node; second = v.time; free = free }) (goal_of target stops) there

@@ -1,7 +1,7 @@
 -- What each step at the lock's table tells its seat: of the step, the view and the slots held before, the number found, and the view and the slots after.
 use Rattle.std.specs.Prelude.{◌≡◌, ◌≢◌, ℕ, ◌%◌, ◌^◌, ◌<◌, ◌≤◌, List, [], ◌∷◌, length, drop, Option, Some, None}
 use Rattle.atomic_table.specs.Table.{Me, Step, rest}
-use Rattle.seat_lock.specs.declared.logged.Entry.{Entry}
+use Rattle.seat_lock.specs.declared.logged.LoggedCall.{LoggedCall}
 use Rattle.seat_lock.specs.declared.view.View.{View}
 use Rattle.seat_lock.specs.declared.view.Claim.{Claim}
 use Rattle.seat_lock.specs.declared.view.Stage.{Stage}
@@ -11,7 +11,7 @@ use Rattle.seat_lock.specs.work.Views.{with_stage, in_turn, lane_view}
 use Rattle.seat_lock.specs.work.Rule.{Sound, Claimed}
 
 -- the entries that the log of b has gained since the start
-abbrev pub since : {B C R : Type 0} → (B → List (Entry C R)) → B → B → List (Entry C R)
+abbrev pub since : {B C R : Type 0} → (B → List (LoggedCall C R)) → B → B → List (LoggedCall C R)
 since log start b = drop (length (log start)) (log b)
 
 -- the value of the slot that the seat holds
@@ -25,10 +25,10 @@ module _ {B C R : Type 0} where
   drew st m n m' = (x : ℕ) × (x % 2 ^ 64 ≡ n) × (m' ≡ (with_stage (Waiting x) m.0, m.1))
 
   -- the turn of the ticket x has come, and the seat holds the value
-  pub record TakesTurn {Root : Type 0} (root : B → Root) (log : B → List (Entry C R)) (spare : B → ℕ) (v : View B C R) (x : ℕ) (m' : Me (Option B) (View B C R)) : Type 0 where
+  pub record TakesTurn {Root : Type 0} (root : B → Root) (log : B → List (LoggedCall C R)) (spare : B → ℕ) (v : View B C R) (x : ℕ) (m' : Me (Option B) (View B C R)) : Type 0 where
     pub start : B
     pub value : B
-    pub entries : List (Entry C R)
+    pub entries : List (LoggedCall C R)
     pub opened : v.start ≡ Some start
     pub sound : Sound root log spare start entries value
     pub short : length entries < 2 ^ 63
@@ -36,7 +36,7 @@ module _ {B C R : Type 0} where
     pub claimed : Claimed entries v.claims
     pub now : m' ≡ (in_turn x entries (length entries) v, (0, Some value) ∷ [])
 
-  module _ {Root : Type 0} (root : B → Root) (log : B → List (Entry C R)) (spare : B → ℕ) where
+  module _ {Root : Type 0} (root : B → Root) (log : B → List (LoggedCall C R)) (spare : B → ℕ) where
     -- what a look tells at each stage of the seat
     abbrev pub LooksAt : Me (Option B) (View B C R) → ℕ → Me (Option B) (View B C R) → Stage C R → Type 0
     LooksAt m n m' Idle = Unit {0}
@@ -47,7 +47,7 @@ module _ {B C R : Type 0} where
     abbrev pub looked : Step (Option B) → Me (Option B) (View B C R) → ℕ → Me (Option B) (View B C R) → Type 0
     looked st m n m' = LooksAt m n m' m.0.stage
 
-  module _ (log : B → List (Entry C R)) where
+  module _ (log : B → List (LoggedCall C R)) where
     -- what a note tells, by the start, the value held, the claims and the stage
     abbrev pub NotesAt : Option B → Option B → List (Claim C R) → Stage C R → ℕ → Me (Option B) (View B C R) → Type 0
     NotesAt (Some start) (Some b) (c ∷ cs) (InTurn x entries) n m' =

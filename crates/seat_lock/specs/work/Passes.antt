@@ -2,7 +2,7 @@
 use Rattle.std.specs.Prelude.{◌≡◌, ℕ, List, [], ◌++◌, map, All, Option, Some}
 use Rattle.atomic_table.specs.Seated.{TableId}
 use Rattle.atomic_table.specs.Table.{Me}
-use Rattle.seat_lock.specs.declared.logged.Entry.{Entry}
+use Rattle.seat_lock.specs.declared.logged.LoggedCall.{LoggedCall}
 use Rattle.seat_lock.specs.declared.view.View.{View}
 use Rattle.seat_lock.specs.declared.view.Claim.{Claim}
 use Rattle.seat_lock.specs.declared.view.Stage.TheVariants.{Idle}
@@ -30,8 +30,8 @@ module _ {B C R : Type 0} where
     pub empty_handed : m.1 ≡ []
 
 -- the log of b has gained just the claimed calls since the start, of so many lanes, and its root is as it was
-pub record IsClosed {B C R Root : Type 0} (root : B → Root) (log : B → List (Entry C R)) (start : B) (lanes : ℕ) (claims : List (Claim C R)) (b : B) : Type 0 where
-  pub entries : List (Entry C R)
+pub record IsClosed {B C R Root : Type 0} (root : B → Root) (log : B → List (LoggedCall C R)) (start : B) (lanes : ℕ) (claims : List (Claim C R)) (b : B) : Type 0 where
+  pub entries : List (LoggedCall C R)
   pub rooted : root b ≡ root start
   pub logged : log b ≡ log start ++ entries
   pub claimed : Claimed entries claims

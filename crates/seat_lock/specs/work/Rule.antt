@@ -6,7 +6,7 @@ use mathlib.Core.Option as maybe
 use mathlib.Core.Option.{some, none}
 use lib.ListN.{get_elem?}
 use Rattle.atomic_table.specs.Table.{State}
-use Rattle.seat_lock.specs.declared.logged.Entry.{Entry}
+use Rattle.seat_lock.specs.declared.logged.LoggedCall.{LoggedCall}
 use Rattle.seat_lock.specs.declared.view.View.{View}
 use Rattle.seat_lock.specs.declared.view.Claim.{Claim}
 use Rattle.seat_lock.specs.declared.view.Stage.{Stage}
@@ -42,23 +42,23 @@ module _ {C R : Type 0} where
   IsInTurn (InTurn x entries) = Unit {0}
 
   -- the calls of each claim are those of its lane among these entries
-  abbrev pub Claimed : List (Entry C R) → List (Claim C R) → Type 0
+  abbrev pub Claimed : List (LoggedCall C R) → List (Claim C R) → Type 0
   Claimed entries [] = Unit {0}
   Claimed entries (c ∷ cs) = (c.calls ≡ calls_of c.lane entries) × Claimed entries cs
 
   -- each entry is of one of so many lanes
-  abbrev pub Laned : ℕ → List (Entry C R) → Type 0
+  abbrev pub Laned : ℕ → List (LoggedCall C R) → Type 0
   Laned lanes [] = Unit {0}
   Laned lanes (e ∷ es) = (e.lane < lanes) × Laned lanes es
 
   -- the seat whose turn it is has the number served, and knows the entries
-  abbrev pub Knows : ℕ → List (Entry C R) → Stage C R → Type 0
+  abbrev pub Knows : ℕ → List (LoggedCall C R) → Stage C R → Type 0
   Knows served entries Idle = Unit {0}
   Knows served entries (Waiting x) = Unit {0}
   Knows served entries (InTurn x known) = (x ≡ served) × (known ≡ entries)
 
 -- the view agrees with the entries so far. Only a seat with a claim has a ticket
-pub record Agrees {B C R : Type 0} (start : B) (served : ℕ) (entries : List (Entry C R)) (v : View B C R) : Type 0 where
+pub record Agrees {B C R : Type 0} (start : B) (served : ℕ) (entries : List (LoggedCall C R)) (v : View B C R) : Type 0 where
   pub opened : 0 < length v.claims → v.start ≡ Some start
   pub behind : v.seen ≤ length entries
   pub claimed : Claimed entries v.claims
@@ -66,13 +66,13 @@ pub record Agrees {B C R : Type 0} (start : B) (served : ℕ) (entries : List (E
   pub queued : ticket_weight (λ _. 1) v.stage ≤ length v.claims
 
 -- the value has the root that it had at the start, its log has gained just these entries, and its spare room has shrunk by one for each at most
-pub record Sound {B C R Root : Type 0} (root : B → Root) (log : B → List (Entry C R)) (spare : B → ℕ) (start : B) (entries : List (Entry C R)) (b : B) : Type 0 where
+pub record Sound {B C R Root : Type 0} (root : B → Root) (log : B → List (LoggedCall C R)) (spare : B → ℕ) (start : B) (entries : List (LoggedCall C R)) (b : B) : Type 0 where
   pub rooted : root b ≡ root start
   pub logged : log b ≡ log start ++ entries
   pub roomy : spare start ≤ spare b + length entries
 
 -- the slot has a sound value, and it is nobody's turn
-pub record IsHome {B C R Root : Type 0} (root : B → Root) (log : B → List (Entry C R)) (spare : B → ℕ) (start : B) (entries : List (Entry C R)) (homes : List (maybe.Option (Option B))) (views : List (View B C R)) : Type 0 where
+pub record IsHome {B C R Root : Type 0} (root : B → Root) (log : B → List (LoggedCall C R)) (spare : B → ℕ) (start : B) (entries : List (LoggedCall C R)) (homes : List (maybe.Option (Option B))) (views : List (View B C R)) : Type 0 where
   pub value : B
   pub lies : homes ≡ some (Some value) ∷ []
   pub sound : Sound root log spare start entries value
@@ -87,10 +87,10 @@ pub record IsOut {B C R : Type 0} (homes : List (maybe.Option (Option B))) (view
   pub turn : IsInTurn view.stage
 
 -- the whole rule, for a lock that was started with this value and so many lanes
-pub record Kept {B C R Root : Type 0} (root : B → Root) (log : B → List (Entry C R)) (spare : B → ℕ) (start : B) (lanes : ℕ) (s : State (Option B) (View B C R)) : Type 0 where
+pub record Kept {B C R Root : Type 0} (root : B → Root) (log : B → List (LoggedCall C R)) (spare : B → ℕ) (start : B) (lanes : ℕ) (s : State (Option B) (View B C R)) : Type 0 where
   pub drawn : ℕ
   pub served : ℕ
-  pub entries : List (Entry C R)
+  pub entries : List (LoggedCall C R)
   pub few : lanes ≤ 16
   pub words : s.words ≡ (drawn % 2 ^ 64) ∷ (served % 2 ^ 64) ∷ length entries ∷ []
   pub short : length entries < 2 ^ 63

@@ -1,7 +1,7 @@
 -- What a seat at the lock's table knows, and what its pass shows of it.
 use Rattle.std.specs.Prelude.{◌≡◌, ℕ, zero, suc, List, [], ◌∷◌, ◌++◌, Option, Some, None}
 use Rattle.atomic_table.specs.declared.shared.Seat.{Seat}
-use Rattle.seat_lock.specs.declared.logged.Entry.{Entry}
+use Rattle.seat_lock.specs.declared.logged.LoggedCall.{LoggedCall}
 use Rattle.seat_lock.specs.declared.view.View.{View}
 use Rattle.seat_lock.specs.declared.view.Claim.{Claim}
 use Rattle.seat_lock.specs.declared.view.Stage.{Stage}
@@ -10,11 +10,11 @@ use Rattle.seat_lock.specs.Values.{PassValue}
 
 module _ {C R : Type 0} where
   -- a lane with its calls
-  abbrev pub claim : ℕ → List (ℕ × Entry C R) → Claim C R
+  abbrev pub claim : ℕ → List (ℕ × LoggedCall C R) → Claim C R
   claim lane calls = record { lane = lane; calls = calls }
 
   -- the calls of the first claim
-  abbrev pub calls_in : List (Claim C R) → List (ℕ × Entry C R)
+  abbrev pub calls_in : List (Claim C R) → List (ℕ × LoggedCall C R)
   calls_in [] = []
   calls_in (c ∷ cs) = c.calls
 
@@ -42,11 +42,11 @@ module _ {B C R : Type 0} where
   with_claims claims v = record { start = v.start; claims = claims; seen = v.seen; stage = v.stage }
 
   -- the seat whose turn has come, at its ticket, and that knows all entries
-  abbrev pub in_turn : ℕ → List (Entry C R) → ℕ → View B C R → View B C R
+  abbrev pub in_turn : ℕ → List (LoggedCall C R) → ℕ → View B C R → View B C R
   in_turn ticket entries seen v = record { start = v.start; claims = v.claims; seen = seen; stage = InTurn ticket entries }
 
   -- the view of one lane's seat
-  abbrev pub lane_view : B → ℕ → List (ℕ × Entry C R) → ℕ → Stage C R → View B C R
+  abbrev pub lane_view : B → ℕ → List (ℕ × LoggedCall C R) → ℕ → Stage C R → View B C R
   lane_view start lane calls seen stage = record { start = Some start; claims = claim lane calls ∷ []; seen = seen; stage = stage }
 
   -- the view of the first seat, with so many lanes left from this one on

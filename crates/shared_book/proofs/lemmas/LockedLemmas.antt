@@ -18,7 +18,7 @@ use Rattle.request_book.specs.declared.reply.BookRefusal.{BookRefusal}
 use Rattle.request_book.specs.declared.reply.Reply.{Reply}
 use Rattle.request_book.specs.declared.reply.Reply.TheVariants.{Accepted, Cancelled, Placed, Picked, Dropped, Sealed, Closed}
 use Rattle.request_book.specs.declared.state.State.{State}
-use Rattle.seat_lock.specs.declared.logged.Entry.{Entry as Logged}
+use Rattle.seat_lock.specs.declared.logged.LoggedCall.{LoggedCall}
 use Rattle.shared_book.specs.Locked.{is_light, sealed_by, snapshot_after, call_of, calls_from, log_of, Fits}
 use Rattle.shared_book.specs.lemmas.Locked.{snapshot_before}
 
@@ -64,7 +64,7 @@ pub applied-call : (old new : BookView) (lane : ℕ) (command : Command) (reply 
     → log_of new ≡ log_of old ++ (record { lane = lane; call = command; reply = record { reply = reply; snapshot = snapshot } }) ∷ []
 applied-call old new lane command reply snapshot book applied is =
     let e : Entry = record { lane = lane; command = command; reply = reply } in
-    let call : Option Batch → Logged _ _ = λ o. record { lane = lane; call = command; reply = record { reply = reply; snapshot = o } } in
+    let call : Option Batch → LoggedCall _ _ = λ o. record { lane = lane; call = command; reply = record { reply = reply; snapshot = o } } in
     let after : State = state_after old.nodes old.wait old.base old.entries in
     let made : (new.state, reply) ≡ step old.nodes old.wait after command = applied.stepped ∙ ap (λ s. step old.nodes old.wait s command) book.state in
     let shown : snapshot_after reply (step old.nodes old.wait after command).0 ≡ snapshot =

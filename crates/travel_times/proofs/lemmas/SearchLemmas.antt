@@ -1,5 +1,5 @@
 use Rattle.std.proofs.Common.{◌≡◌, ◌≢◌, ℕ, zero, suc, ◌+◌, ◌*◌, ◌<◌, ◌≤◌, ◌⊎◌, Bool, true, false, cond, eqb, List, [], ◌∷◌, ◌++◌, length, get_or, slice_index, set, replicate, map, filter, sum, count_by, All, Contains, refl, sym, ap, ◌∙◌, inl, inr, ⊎_elim, arith}
-use Rattle.std.proofs.lemmas.Bool.{cases_eq, cases_lt, cond_both, eqb-true, eq-eqb, true≢false}
+use Rattle.std.proofs.lemmas.Bool.{cases_eq, cases_lt, cases_Bool, cond_both, eqb-true, eq-eqb, true≢false}
 use Rattle.std.proofs.lemmas.List.{length-set, get_or-set_same, get_or-set_other, get_or-map, length-map, get_or_default, get_or_past, get_or-replicate, length-replicate}
 use Rattle.std.proofs.lemmas.List.Elements.{All-cons, All-nil, All-contains, All-contains_itself, All-filter}
 use Rattle.std.proofs.lemmas.List.Sums.{sum_by-set, sum_by-cons}
@@ -8,7 +8,8 @@ use Rattle.road_network.specs.declared.arc.Arc.{Arc}
 use Rattle.road_network.specs.declared.hop.Hop.{Hop}
 use Rattle.road_network.specs.Walk.{IsWalk, walk_seconds, IsTimeBetween}
 use Rattle.road_network.specs.Roads.{IsArcAmong, hop_of, leaving}
-use Rattle.travel_times.specs.lemmas.Search.{waits, HasWalkOf, IsSearching, IsNextTaken, IsHopRelaxed, RelaxesHops}
+use Rattle.travel_times.specs.Search.{waits, IsNextTaken, IsHopRelaxed, RelaxesHops}
+use Rattle.travel_times.specs.lemmas.Search.{HasWalkOf, IsSearching}
 use Rattle.travel_times.proofs.lemmas.WalkLemmas.{IsWalk-push, walk_seconds-push, short_walk}
 
 -- what a filter keeps passes its test, and what passes is kept
@@ -252,3 +253,10 @@ none_waits n node = ⊎_elim
     (λ (h : node < n). get_or-replicate n node false false h)
     (λ (h : n ≤ node). get_or_past (replicate n false) node false (rw length-replicate h))
     (cases_lt node n)
+
+-- no node waits where each that does would be further than any time
+pub none_waits_near : (s : List ℕ) (w : List Bool) → ((node : ℕ) → waits w node ≡ true → slice_index s node ≤ longest) → ((node : ℕ) → waits w node ≡ true → never < slice_index s node) → (node : ℕ) → waits w node ≡ false
+none_waits_near s w near far node = ⊎_elim
+    (λ (h : waits w node ≡ true). let a : slice_index s node ≤ longest = near node h in let b : never < slice_index s node = far node h in absurd (omega arith))
+    (λ (h : waits w node ≡ false). h)
+    (cases_Bool (waits w node))

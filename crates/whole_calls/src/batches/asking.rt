@@ -1,5 +1,5 @@
 //! The batch of two riders on the line.
-use crate::batches::line::{TWO_SEATS, book_of, line, settings, two_submit};
+use crate::batches::line::{TWO_SEATS, book_of, line, two_submit};
 use batch_snapshot::Snapshot;
 use pool_base::Second;
 use request_book::Book;
@@ -14,9 +14,9 @@ pub fn sealed(book: &Book) -> Option<Snapshot> {
     }
 }
 
-/// The batch of a fleet that two riders ask for a ride.
-pub fn batch_on(alloc: Global, network: &Network, fleet: &[u8]) -> Option<Snapshot> {
-    match book_of(alloc, network, fleet, &settings(200_000, 0)) {
+/// The batch of a vehicle with two seats, which two riders ask for a ride.
+pub fn batch_on(alloc: Global, network: &Network) -> Option<Snapshot> {
+    match book_of(alloc, network, TWO_SEATS) {
         Some(mut book) => asked(&mut book),
         None => None,
     }
@@ -26,10 +26,10 @@ fn asked(book: &mut Book) -> Option<Snapshot> {
     if two_submit(book) { sealed(book) } else { None }
 }
 
-/// The batch of a vehicle with two seats. `None` for want of memory.
+/// The same on the line. `None` for want of memory.
 pub fn batch(alloc: Global) -> Option<Snapshot> {
     match line(alloc) {
-        Some(network) => batch_on(alloc, &network, TWO_SEATS),
+        Some(network) => batch_on(alloc, &network),
         None => None,
     }
 }

@@ -1,7 +1,4 @@
 //! A line of five nodes, books on it, and settings.
-ghost use Rattle.std.specs.Prelude.{◌≡◌, ◌≤◌, [], IfSome};
-ghost use Rattle.dispatch_engine.specs.Run.{IsReady};
-
 use fleet_state::{HEADER as FLEET_HEADER, read_fleet};
 use pool_base::{NodeId, Party, RiderId, Second};
 use pool_io::rows;
@@ -11,14 +8,11 @@ use road_network::{Network, read_network};
 use script_rows::{Script, ScriptVersion, read_script};
 use std::alloc::Global;
 
-/// Five nodes in a line, a minute between neighbours, and two apart, joined by arcs of no seconds.
+/// Five nodes in a line, a minute between neighbours.
 const LINE: &[u8] =
-    b"from,to,seconds\n1,2,60\n2,1,60\n2,3,60\n3,2,60\n3,4,60\n4,3,60\n4,5,60\n5,4,60\n6,7,0\n7,6,0\n";
+    b"from,to,seconds\n1,2,60\n2,1,60\n2,3,60\n3,2,60\n3,4,60\n4,3,60\n4,5,60\n5,4,60\n";
 
-/// Vehicle 1 with four seats at node 1, from second 0 on.
-pub const FOUR_SEATS: &[u8] = b"vehicle,seats,node,second\n1,4,1,0\n";
-
-/// The same with two seats.
+/// Vehicle 1 with two seats at node 1, from second 0 on.
 pub const TWO_SEATS: &[u8] = b"vehicle,seats,node,second\n1,2,1,0\n";
 
 pub fn line(alloc: Global) -> Option<Network> {
@@ -29,47 +23,29 @@ pub fn line(alloc: Global) -> Option<Network> {
 }
 
 /// The book of a fleet on the network, before its first round.
-pub fn book_of(alloc: Global, network: &Network, fleet: &[u8], settings: &Settings) -> Option<Book>
-    ensures empty { IfSome result (λ book. book.entries ≡ []) }
-    ensures ready { IfSome result (IsReady settings.now network.now) }
-{
+pub fn book_of(alloc: Global, network: &Network, fleet: &[u8]) -> Option<Book> {
     match rows(alloc, fleet, FLEET_HEADER) {
         Ok(table) => match read_fleet(alloc, &table, network) {
-            Ok(fleet) => Book::new(alloc, network, fleet, settings.wait).ok(),
+            Ok(fleet) => Book::new(alloc, network, fleet, 120).ok(),
             Err(_) => None,
         },
         Err(_) => None,
     }
 }
 
-/// The settings, with so many rows allowed and this dwell at each stop.
-pub fn settings(pairs: u32, dwell: u16) -> Settings
-    requires pairs_least { 1 ≤ pairs }
-    requires pairs_most { pairs ≤ 2000000 }
-    requires dwell { dwell ≤ 600 }
-{
-    settings_with(pairs, dwell, 200)
-}
-
-/// The same with a search tree of so many nodes at most.
-pub fn settings_with(pairs: u32, dwell: u16, budget: u32) -> Settings
-    requires pairs_least { 1 ≤ pairs }
-    requires pairs_most { pairs ≤ 2000000 }
-    requires dwell { dwell ≤ 600 }
-    requires budget_least { 1 ≤ budget }
-    requires budget_most { budget ≤ 50000 }
-{
+/// The settings that words without options give.
+pub fn settings() -> Settings {
     Settings {
         mode: Mode::Run,
         wait: 120,
         delay: 180,
         trip: 4,
         penalty: 10_000,
-        budget,
-        pairs,
+        budget: 200,
+        pairs: 200_000,
         workers: 4,
         proof: false,
-        dwell,
+        dwell: 0,
         times: TimesWay::Rows,
     }
 }

@@ -1,8 +1,8 @@
-//! What the solver finds of the batch on the line.
+//! The batch on the line, solved by ways that count how often they are asked.
 ghost use Rattle.std.specs.Prelude.{◌≡◌};
 
 use crate::batches::asking::batch_on;
-use crate::batches::line::{FOUR_SEATS, TWO_SEATS, line, settings};
+use crate::batches::line::{line, settings};
 use batch_snapshot::Snapshot;
 use batch_solver::solve_batch;
 use plan_drafts::RelaxationDrafter;
@@ -13,7 +13,7 @@ use road_network::Network;
 use std::alloc::Global;
 use std::sync::atomic::{AtomicU64, Ordering};
 use std::thread::Threads;
-use travel_times::{NetworkWays, Ways, are_known, times_between};
+use travel_times::{Ways, are_known, times_between};
 use worker_gate::FreeGate;
 
 // The travel times of a network, with a count of the tables that were asked for.
@@ -37,18 +37,7 @@ impl Ways for Counted<'_> {
     }
 }
 
-/// What the solver finds of a batch, where all nodes are known.
-pub fn solved(
-    rt: &(impl Threads + Sync),
-    alloc: Global,
-    snapshot: &Snapshot,
-    network: &Network,
-    settings: &Settings,
-) -> Option<Outcome> {
-    let ways = NetworkWays { network };
-    solved_by(rt, alloc, snapshot, network, &ways, settings)
-}
-
+// What the solver finds of a batch, where all nodes are known.
 fn solved_by<W: Ways>(
     rt: &(impl Threads + Sync),
     alloc: Global,
@@ -82,60 +71,35 @@ fn solved_by<W: Ways>(
     }
 }
 
-// How many tables of travel times the batch asks for.
-fn tables_asked(rt: &(impl Threads + Sync), alloc: Global, network: &Network) -> Option<u64> {
+// How many tables of travel times a batch asks for that is planned.
+fn tables_asked(
+    rt: &(impl Threads + Sync),
+    alloc: Global,
+    snapshot: &Snapshot,
+    network: &Network,
+) -> Option<u64> {
     let ways = Counted {
         network,
         tables: AtomicU64::new(0),
     };
-    match batch_on(alloc, network, FOUR_SEATS) {
-        Some(batch) => match solved_by(rt, alloc, &batch, network, &ways, &settings(200_000, 0)) {
-            Some(_) => Some(ways.tables.load(Ordering::SeqCst)),
-            None => None,
-        },
-        None => None,
+    match solved_by(rt, alloc, snapshot, network, &ways, &settings()) {
+        Some(
+            Outcome {
+                answer: Answer::Planned(_),
+                ..
+            },
+        ) => Some(ways.tables.load(Ordering::SeqCst)),
+        _ => None,
     }
 }
 
 fn tables_of_the_line(rt: &(impl Threads + Sync), alloc: Global) -> Option<u64> {
-    match line(alloc) {
-        Some(network) => tables_asked(rt, alloc, &network),
-        None => None,
-    }
-}
-
-// The answer of the batch, with so many rows allowed.
-fn answer_on(
-    rt: &(impl Threads + Sync),
-    alloc: Global,
-    network: &Network,
-    settings: &Settings,
-) -> Option<Answer> {
-    match batch_on(alloc, network, TWO_SEATS) {
-        Some(batch) => match solved(rt, alloc, &batch, network, settings) {
-            Some(outcome) => Some(outcome.answer),
-            None => None,
-        },
-        None => None,
-    }
-}
-
-fn answer_of(rt: &(impl Threads + Sync), alloc: Global, settings: &Settings) -> Option<Answer> {
-    match line(alloc) {
-        Some(network) => answer_on(rt, alloc, &network, settings),
-        None => None,
-    }
+    let network = line(alloc)?;
+    let batch = batch_on(alloc, &network)?;
+    tables_asked(rt, alloc, &batch, &network)
 }
 
 #[test]
 fn the_ways_are_asked_once(rt: HostRuntime) {
-    assert!(rt; tables_of_the_line(&rt, rt.alloc()) == Some(1));
-}
-
-#[test]
-fn answers_with_memory(rt: HostRuntime) {
-    let shared = answer_of(&rt, rt.alloc(), &settings(4, 0));
-    assert!(rt; matches!(shared, Some(Answer::Planned(_))));
-    let over = answer_of(&rt, rt.alloc(), &settings(3, 0));
-    assert!(rt; matches!(over, Some(Answer::Overflow)));
+    assert_eq!(rt; tables_of_the_line(&rt, rt.alloc()), Some(1));
 }

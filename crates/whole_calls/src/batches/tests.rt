@@ -10,22 +10,13 @@ fn tells(rt: &(impl Threads + Sync), alloc: Global, asked: Asked, text: &str) ->
     }
 }
 
-#[test]
-fn trips_of_one_vehicle_find_their_room(rt: HostRuntime) {
-    let alloc = rt.alloc();
-    assert!(rt; tells(&rt, alloc, Asked::Trips { room: 3 }, "too many"));
-    assert!(rt; tells(&rt, alloc, Asked::Singles { room: 1 }, "too many"));
-}
-
-/// Each public call that takes memory, on a batch for which it does: `settle`, `rider_vehicle`,
-/// `rider_rider`, `grow`, `empty_level`, `grow_level` and `grow_graph`.
+/// `settle`, `rider_vehicle`, `rider_rider`, `grow` and `grow_graph`.
 #[test]
 fn answers_with_memory(rt: HostRuntime) {
     let alloc = rt.alloc();
     assert!(rt; tells(&rt, alloc, Asked::Edges, "rv 0 0\nrv 0 1\nrr 0 1\n"));
     let all = "[] 0\n[0] 60\n[1] 120\n[0, 1] 180\n";
     assert!(rt; tells(&rt, alloc, Asked::Trips { room: 4 }, all));
-    let singles = "[0] 60\n[1] 120\n";
-    assert!(rt; tells(&rt, alloc, Asked::Singles { room: 2 }, singles));
+    assert!(rt; tells(&rt, alloc, Asked::Trips { room: 3 }, "too many"));
     assert!(rt; tells(&rt, alloc, Asked::Rows, all));
 }

@@ -19,7 +19,7 @@ use std::sync::ledger::{Blank, Ledger};
 use std::thread::Threads;
 use stop_orders::{PairList, Settled};
 use trip_graph::{GraphAnswer, grow_graph};
-use trip_growth::{Grown, Level, TripOf, empty_level, grow, grow_level};
+use trip_growth::{Grown, TripOf, grow};
 use worker_gate::FreeGate;
 
 /// What is asked of the batch.
@@ -29,8 +29,6 @@ pub enum Asked {
     Edges,
     /// The trips of the first vehicle, where there is room for so many.
     Trips { room: u64 },
-    /// Its trips of one rider alone, where there is room for so many.
-    Singles { room: u64 },
     /// The rows of the trip graph.
     Rows,
 }
@@ -64,7 +62,7 @@ pub fn told(
     asked: Asked,
 ) -> Result<String, OutOfMemory> {
     match batch(alloc) {
-        Some(batch) => told_of_batch(rt, alloc, &batch, &settings(200_000, 0), asked),
+        Some(batch) => told_of_batch(rt, alloc, &batch, &settings(), asked),
         None => Err(OutOfMemory),
     }
 }
@@ -123,7 +121,6 @@ fn told_of_settled(
     match asked {
         Asked::Edges => text_of_edges(alloc, settled, times),
         Asked::Trips { room } => text_of_trips(alloc, settled, times, room),
-        Asked::Singles { room } => text_of_singles(alloc, settled, times, room),
         Asked::Rows => text_of_rows(rt, alloc, settled, times, settings),
     }
 }
@@ -217,44 +214,6 @@ fn text_of_first<L: Ledger>(
     match grow(alloc, settled, times, pairs, 0, 4, room, &mut steps)? {
         Grown::All(trips) => text_of_grown(alloc, trips.rows()),
         Grown::TooMany => text_of(alloc, "too many"),
-    }
-}
-
-fn text_of_singles(
-    alloc: Global,
-    settled: &Settled,
-    times: &Times,
-    room: u64,
-) -> Result<String, OutOfMemory>
-    requires { IsSound 6 (point_count times.now) (travel_time times.now) settled.now }
-{
-    if settled.vehicles.as_slice().is_empty() {
-        return text_of(alloc, "no vehicle");
-    }
-    let pairs = rider_rider(alloc, settled, times)?;
-    text_of_level::<Brand>(alloc, settled, times, &pairs, room, Blank::new(1))
-}
-
-fn text_of_level<L: Ledger>(
-    alloc: Global,
-    settled: &Settled,
-    times: &Times,
-    pairs: &PairList,
-    room: u64,
-    blank: Blank,
-) -> Result<String, OutOfMemory>
-    requires sound { IsSound 6 (point_count times.now) (travel_time times.now) settled.now }
-    requires pairs { (a b : ℕ) → IsRrEdge (travel_time times.now) settled.now a b → Contains pairs.now (a, b) }
-    requires some { 0 < length settled.now.vehicles }
-    requires name { blank.name ≡ L.name }
-    requires parts { blank.parts ≡ L.parts }
-    requires share { 0 < blank.parts }
-{
-    let mut steps = Steps::<L>::new(blank);
-    let below = empty_level(alloc, settled, times, 0, &mut steps)?;
-    match grow_level(alloc, settled, times, pairs, 0, 1, &below, room, &mut steps)? {
-        Level::All(trips) => text_of_grown(alloc, trips.rows()),
-        Level::TooMany => text_of(alloc, "too many"),
     }
 }
 

@@ -9,7 +9,7 @@ use Rattle.block_audit.specs.Block.{BeginsWithGood, MeetsAs, FailsFirst}
 use Rattle.block_audit.specs.Judged.{CanBeTold, judged_outcome}
 use Rattle.block_audit.specs.Told.{Told, told_by}
 use Rattle.block_audit.specs.work.Judged.{HoldUpTo, IsRight}
-use Rattle.block_audit.proofs.AuditLemmas.{begins_good, fails_at_once, fails_first, fails_no_good, fault_no_good, good_is_judged, line_count, low_place}
+use Rattle.block_audit.proofs.lemmas.AuditLemmas.{begins_good, fails_at_once, fails_first, fails_no_good, fault_no_good, good_is_judged, line_count, low_place}
 use Rattle.block_audit.proofs.NumberedLemmas.{vehicle_ids}
 use Rattle.block_audit.proofs.audit.audit_block.Goals as goal
 

@@ -6,7 +6,7 @@ use Rattle.request_book.specs.declared.outcome.Outcome.{Outcome}
 use Rattle.block_audit.specs.Judged.{CanBeTold, judged_outcome}
 use Rattle.block_audit.specs.work.Judged.{HoldUpTo, IsRight, verdict_place}
 use Rattle.block_audit.specs.work.Told.{told_in}
-use Rattle.block_audit.proofs.AuditLemmas.{hold_both, verdict_holds}
+use Rattle.block_audit.proofs.lemmas.AuditLemmas.{hold_both, verdict_holds}
 use Rattle.block_audit.proofs.NumberedLemmas.{vehicle_ids}
 use Rattle.block_audit.proofs.audit.judged.Goals as goal
 

@@ -1,13 +1,16 @@
-use Rattle.std.proofs.Common.{arith}
+use Rattle.std.proofs.Common.{get_or, None, pos, sym, subst, arith}
+use Rattle.std.specs.Prelude.{unwrap_or}
 use Rattle.std.proofs.lemmas.Int.{ints}
-use Rattle.plan_rules.specs.Multipliers.{usable_of, vehicle_term}
+use Rattle.plan_rules.specs.Size.{IsSmall}
 use Rattle.plan_rules.proofs.lemmas.SumLemmas.{int_sum_more}
+use Rattle.bound_checker.proofs.LeafLemmas.{small_or}
 use Rattle.bound_checker.proofs.leaf.sum_of_vehicles.Goals as goal
 
-pub loop-vehicle-preserved : goal.loop-vehicle-preserved
-loop-vehicle-preserved c =
-    let more = int_sum_more c.loop-vehicle.vehicle (vehicle_term c.args.graph.now (usable_of c.args.allowed.now) c.args.multipliers.now) in
+pub loop-cost-preserved : goal.loop-cost-preserved
+loop-cost-preserved c =
+    let more = int_sum_more c.loop-cost.cost-index (λ v. unwrap_or (get_or c.args.least.now v None) (pos 0)) in
+    let small : IsSmall c.unwrap_or-sum.result = subst IsSmall (sym c.unwrap_or-sum.ensures) (small_or (get_or c.args.least.now c.loop-cost.cost-index None) (c.requires.small c.loop-cost.cost-index)) in
     record {
-      value = omega (arith, ints, more, c.least_of_vehicle-sum.ensures.value);
-      small = record { low = omega (arith, ints); high = omega (arith, ints) };
+      value = omega (arith, ints, more, c.unwrap_or-sum.ensures);
+      small = record { low = omega (arith, ints, small.low, small.high); high = omega (arith, ints, small.low, small.high) };
     }

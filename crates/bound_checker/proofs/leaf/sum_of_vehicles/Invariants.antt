@@ -1,11 +1,11 @@
-use Rattle.std.proofs.Common.{◌≡◌}
-use Rattle.plan_rules.specs.Sums.{int_sum_below}
-use Rattle.plan_rules.specs.Multipliers.{usable_of, vehicle_term}
+use Rattle.std.proofs.Common.{◌≡◌, None, pos}
+use Rattle.std.specs.Prelude.{unwrap_or, slice_index_or}
 use Rattle.plan_rules.specs.Size.{IsSmallSum}
+use Rattle.plan_rules.specs.Sums.{int_sum_below}
 use Rattle.bound_checker.proofs.leaf.sum_of_vehicles.Given as goal
 
-abbrev pub invariant-loop-vehicle : goal.invariant-loop-vehicle
-invariant-loop-vehicle l = record {
-  value : l.sum ≡ int_sum_below l.vehicle (vehicle_term l.graph (usable_of l.allowed) l.multipliers);
-  small : IsSmallSum l.vehicle l.sum;
+abbrev pub invariant-loop-cost : goal.invariant-loop-cost
+invariant-loop-cost l = record {
+  value : l.sum ≡ int_sum_below l.cost-index (λ v. unwrap_or (slice_index_or l.least v None) (pos 0));
+  small : IsSmallSum l.cost-index l.sum;
 }

@@ -6,12 +6,12 @@ use Rattle.dispatch_engine.proofs.crew.work.Goals as goal
 
 pub returns-clause-worked : goal.returns-clause-worked
 returns-clause-worked g c =
-    let new = c.run_commands-ran.new.pass in
-    let mine : c.from.result ≡ new.lane = (let a = c.lane.ensures in let b = c.from.ensures in let d = c.run_commands-ran.ensures.pass.1 in cc) in
+    let new = c.run_lane-ran.new.pass in
+    let mine : c.from.result ≡ new.lane = (let a = c.lane.ensures in let b = c.from.ensures in let d = c.run_lane-ran.ensures.pass.1 in cc) in
     let commands = c.lane-commands.ensures.commands ∙ ap (lane_at c.args.round.now) mine in
     record {
-      own = c.run_commands-ran.ensures.pass.0;
+      own = c.run_lane-ran.ensures.pass.0;
       ran = λ done.
           lane-run c.args.setup.now.settings.now c.args.setup.now.network.now (lane_at c.args.round.now new.lane) c.args.lane.now.pass new c.requires.fresh.fresh
-          (subst (λ cs. HasRun c.args.setup.now.settings.now c.args.setup.now.network.now cs c.args.lane.now.pass new) commands (when-ok c.run_commands-ran.result _ (sym c.is_ok-lane.ensures.value ∙ done) c.run_commands-ran.ensures.run));
+          (subst (λ cs. HasRun c.args.setup.now.settings.now c.args.setup.now.network.now cs c.args.lane.now.pass new) commands (when-ok c.run_lane-ran.result _ (sym c.is_ok-lane.ensures.value ∙ done) c.run_lane-ran.ensures.run));
     }

@@ -18,8 +18,8 @@ run_shared-requires-clause-kept g c κs within =
 
 pub run_shared-requires-clause-ready : goal.run_shared-requires-clause-ready
 run_shared-requires-clause-ready g c κs within =
-    let settings = c.args.settings.now in
-    let roads = c.args.network.now in
+    let settings = c.args.setup.now.settings.now in
+    let roads = c.args.setup.now.network.now in
     let is : c.in-Ok.shared.start ≡ c.in_ok-book.book = (let a = c.in-Ok.ensures.book.0 in let b = c.in-Ok.shared-is in cc) in
     subst (IsReady settings roads) (sym is) (same-ready settings roads c.args.book c.in_ok-book.book c.in_ok-book.ensures c.requires.ready)
 

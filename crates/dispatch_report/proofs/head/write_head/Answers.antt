@@ -9,26 +9,26 @@ pub returns-in_err-write_words : goal.returns-in_err-write_words
 unfolding head_text
 returns-in_err-write_words g c =
     let p = err_from_is_err_and c.from_residual.result c.from_residual.ensures.1 in
-    rw (p.1, p.2) (failed_text c.new-piece.ensures.items (fails (numbered (codes "fleet vehicles=") c.args.vehicles ∷ []) (fails ((numbered (codes "network nodes=") (length c.args.network.now.nodes) ++ numbered (codes " arcs=") (length c.args.network.now.arcs)) ∷ []) (fails (settings_line c.args.settings.now ∷ []) c.in_err-write_words.ensures))))
+    rw (p.1, p.2) (failed_text c.new-piece.ensures.items (fails (numbered (codes "fleet vehicles=") (length c.args.fleet.now) ∷ []) (fails ((numbered (codes "network nodes=") (length c.args.network.now.nodes) ++ numbered (codes " arcs=") (length c.args.network.now.arcs)) ∷ []) (fails (settings_line c.args.settings.now ∷ []) c.in_err-write_words.ensures))))
 
 pub returns-in_err-write_settings : goal.returns-in_err-write_settings
 unfolding head_text
 returns-in_err-write_settings g c =
     let p = err_from_is_err_and c.from_residual-in_err-write_settings.result c.from_residual-in_err-write_settings.ensures.1 in
-    rw (p.1, p.2) (failed_text c.new-piece.ensures.items (fails (numbered (codes "fleet vehicles=") c.args.vehicles ∷ []) (fails ((numbered (codes "network nodes=") (length c.args.network.now.nodes) ++ numbered (codes " arcs=") (length c.args.network.now.arcs)) ∷ []) (then c.in_ok-write_words.ensures c.in_err-write_settings.ensures))))
+    rw (p.1, p.2) (failed_text c.new-piece.ensures.items (fails (numbered (codes "fleet vehicles=") (length c.args.fleet.now) ∷ []) (fails ((numbered (codes "network nodes=") (length c.args.network.now.nodes) ++ numbered (codes " arcs=") (length c.args.network.now.arcs)) ∷ []) (then c.in_ok-write_words.ensures c.in_err-write_settings.ensures))))
 
 pub returns-in_err-write_network : goal.returns-in_err-write_network
 unfolding head_text
 returns-in_err-write_network g c =
     let p = err_from_is_err_and c.from_residual-in_err-write_network.result c.from_residual-in_err-write_network.ensures.1 in
-    rw (p.1, p.2) (failed_text c.new-piece.ensures.items (fails (numbered (codes "fleet vehicles=") c.args.vehicles ∷ []) (then (then c.in_ok-write_words.ensures c.in_ok-write_settings.ensures) c.in_err-write_network.ensures)))
+    rw (p.1, p.2) (failed_text c.new-piece.ensures.items (fails (numbered (codes "fleet vehicles=") (length c.args.fleet.now) ∷ []) (then (then c.in_ok-write_words.ensures c.in_ok-write_settings.ensures) c.in_err-write_network.ensures)))
 
-pub returns-in_err-write_number : goal.returns-in_err-write_number
+pub returns-in_err-write_fleet : goal.returns-in_err-write_fleet
 unfolding head_text
-returns-in_err-write_number g c =
-    let p = err_from_is_err_and c.from_residual-in_err-write_number.result c.from_residual-in_err-write_number.ensures.1 in
-    rw (p.1, p.2) (failed_text c.new-piece.ensures.items (then (then (then c.in_ok-write_words.ensures c.in_ok-write_settings.ensures) c.in_ok-write_network.ensures) c.in_err-write_number.ensures))
+returns-in_err-write_fleet g c =
+    let p = err_from_is_err_and c.from_residual-in_err-write_fleet.result c.from_residual-in_err-write_fleet.ensures.1 in
+    rw (p.1, p.2) (failed_text c.new-piece.ensures.items (then (then (then c.in_ok-write_words.ensures c.in_ok-write_settings.ensures) c.in_ok-write_network.ensures) c.in_err-write_fleet.ensures))
 
 pub returns : goal.returns
 unfolding head_text
-returns g c = as_text c.new-piece.ensures.items c.write_piece.ensures.empty (then (then (then c.in_ok-write_words.ensures c.in_ok-write_settings.ensures) c.in_ok-write_network.ensures) c.in_ok-write_number.ensures) c.write_piece.ensures.bytes
+returns g c = as_text c.new-piece.ensures.items c.write_piece.ensures.empty (then (then (then c.in_ok-write_words.ensures c.in_ok-write_settings.ensures) c.in_ok-write_network.ensures) c.in_ok-write_fleet.ensures) c.write_piece.ensures.bytes

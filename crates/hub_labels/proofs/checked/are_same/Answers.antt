@@ -1,6 +1,14 @@
-use Rattle.std.proofs.Common.{rules}
-use Rattle.std.proofs.lemmas.Slice.Eq.{slice_eq-Decides}
+use Rattle.std.proofs.Common.{◌≡◌, length, refl, ◌∙◌, arith}
+use Rattle.std.proofs.lemmas.List.{same_lists, get_or_default}
+use Rattle.hub_labels.proofs.Merging.{no_hub}
 use Rattle.hub_labels.proofs.checked.are_same.Goals as goal
 
 pub returns : goal.returns
-returns c = slice_eq-Decides (λ a b. search rules) c.args.label.now c.args.other.now c.eq.result c.eq.ensures
+returns c =
+    let label = c.args.label.now in
+    let other = c.args.other.now in
+    let ended : length c.args.label.now ≡ c.loop-place.place = omega (arith, c.loop-place-test.false, c.loop-place.auto.place-end) in
+    let long : length c.args.label.now ≡ length c.args.other.now = omega (arith, c.if-label-other.false) in (
+      λ _. same_lists label other long (λ k d h. get_or_default label k d no_hub h ∙ c.loop-place.invariant k (omega (arith, h, ended)) ∙ get_or_default other k no_hub d (omega (arith, h, long))),
+      λ _. refl,
+    )

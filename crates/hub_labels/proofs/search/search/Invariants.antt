@@ -1,7 +1,7 @@
 use Rattle.std.proofs.Common.{◌≡◌, ◌<◌, List, All, length}
 use Rattle.road_network.specs.declared.arc.Arc.{Arc}
 use Rattle.road_network.specs.Roads.{IsArcAmong}
-use Rattle.travel_times.specs.lemmas.Search.{work_left}
+use Rattle.travel_times.specs.Search.{work_left}
 use Rattle.hub_labels.specs.work.Hops.{AreNodeHops}
 use Rattle.hub_labels.specs.work.Pruned.{IsPruning}
 use Rattle.hub_labels.proofs.search.search.Given as goal

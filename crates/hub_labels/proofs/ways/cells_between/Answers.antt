@@ -1,11 +1,13 @@
-use Rattle.std.proofs.Common.{arith}
-use Rattle.hub_labels.proofs.CellLemmas.{rows_more}
+use Rattle.std.proofs.Common.{◌≡◌, ◌++◌, length, take, drop, sym, subst, arith}
+use Rattle.std.proofs.lemmas.List.{take_at}
+use Rattle.hub_labels.specs.work.Cells.{AreCells}
 use Rattle.hub_labels.proofs.ways.cells_between.Goals as goal
 
-pub loop-from-preserved : goal.loop-from-preserved
-loop-from-preserved c =
-    let pushed = c.in_ok-push_row.ensures in
-    record {
-      size = omega (arith, pushed.longer, c.loop-from.invariant.size);
-      times = rows_more c.args.labels.now c.args.points.now c.loop-from.from-index c.loop-from.cells.items c.push_row.new.cells.items c.loop-from.invariant.size c.loop-from.invariant.times pushed;
-    }
+pub returns-clause-times : goal.returns-clause-times
+returns-clause-times g c = λ roads of.
+    let new = c.write_table.new.cells in
+    let items = c.in_ok-cells.cells.items in
+    let held = c.in_ok-cells.cells.ok.0 in
+    let size = c.write_table.auto.cells in
+    let same : take c.in_ok-cells.cells.len (new ++ drop (length new) items) ≡ new = take_at new (drop (length new) items) c.in_ok-cells.cells.len (omega arith) in
+    subst (λ xs. AreCells roads.arcs c.args.points.now 0 xs) (sym same) (c.write_table.ensures roads of)

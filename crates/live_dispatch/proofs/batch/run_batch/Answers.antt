@@ -1,13 +1,11 @@
-use Rattle.std.proofs.Common.{refl, subst}
-use Rattle.live_batch.specs.Phase.{HasRunOpen, desk_after}
-use Rattle.live_desk.specs.Desk.{desk_of}
+use Rattle.std.proofs.Common.{refl}
 use Rattle.live_dispatch.proofs.EndLemmas.{if-err, if-ok, opened-ended}
 use Rattle.live_dispatch.proofs.batch.run_batch.Goals as goal
 
 pub returns-in-Err-clause-ended : goal.returns-in-Err-clause-ended
 returns-in-Err-clause-ended g c = λ start row is opens.
     opened-ended c.args.setup.now.settings.now c.args.setup.now.network.now start row c.args.snapshot.now _ opens
-    (g.L.RowSource.faults c.args.run.rows) _ _ _ refl refl refl
+    (g.L.RowSource.faults c.args.run.rows) _ _ refl refl
 
 pub returns-in-Ok-run_open-clause-goes_on : goal.returns-in-Ok-run_open-clause-goes_on
 returns-in-Ok-run_open-clause-goes_on g c =
@@ -16,14 +14,10 @@ returns-in-Ok-run_open-clause-goes_on g c =
       number = is;
       sealed = _;
       opens = opens;
-      told = refl;
       reads_were = refl;
       fresh = c.take_round.new.self;
       fresh_is = c.in-Ok.ensures.next;
-      ran = subst (λ p. HasRunOpen c.args.setup.now.settings.now c.args.setup.now.network.now c.args.snapshot.now c.args.round (g.L.RowSource.to_come c.args.run.rows) (g.L.RowSource.to_come c.in-Ok-run_open.opened.lines)
-          (desk_of c.take_round.new.self p (record { written = g.K.Sink.written c.args.run.sink; faults = g.K.Sink.faults c.args.run.sink }))
-          (desk_after c.take_round.new.self p (record { written = g.K.Sink.written c.args.run.sink; faults = g.K.Sink.faults c.args.run.sink }) c.in-Ok-run_open.opened.book (record { written = g.K.Sink.written c.in-Ok-run_open.opened.sink; faults = g.K.Sink.faults c.in-Ok-run_open.opened.sink }) c.in-Ok-run_open.opened.fault)
-          c.in-Ok-run_open.opened.closed c.in-Ok-run_open.opened.stop) c.requires.proof c.in-Ok-run_open.ensures.run;
+      ran = c.in-Ok-run_open.ensures.run;
     })) c.after_batch.ensures.goes_on
 
 pub returns-in-Ok-run_open-clause-ended : goal.returns-in-Ok-run_open-clause-ended
@@ -33,17 +27,14 @@ returns-in-Ok-run_open-clause-ended g c =
       number = is;
       sealed = _;
       opens = opens;
-      told = refl;
       reads_were = refl;
       fresh = c.take_round.new.self;
       fresh_is = c.in-Ok.ensures.next;
-      ran = subst (λ p. HasRunOpen c.args.setup.now.settings.now c.args.setup.now.network.now c.args.snapshot.now c.args.round (g.L.RowSource.to_come c.args.run.rows) (g.L.RowSource.to_come c.in-Ok-run_open.opened.lines)
-          (desk_of c.take_round.new.self p (record { written = g.K.Sink.written c.args.run.sink; faults = g.K.Sink.faults c.args.run.sink }))
-          (desk_after c.take_round.new.self p (record { written = g.K.Sink.written c.args.run.sink; faults = g.K.Sink.faults c.args.run.sink }) c.in-Ok-run_open.opened.book (record { written = g.K.Sink.written c.in-Ok-run_open.opened.sink; faults = g.K.Sink.faults c.in-Ok-run_open.opened.sink }) c.in-Ok-run_open.opened.fault)
-          c.in-Ok-run_open.opened.closed c.in-Ok-run_open.opened.stop) c.requires.proof c.in-Ok-run_open.ensures.run;
+      ran = c.in-Ok-run_open.ensures.run;
     })) c.after_batch.ensures.ended
 
 pub returns-in-Err-run_open-clause-ended : goal.returns-in-Err-run_open-clause-ended
 returns-in-Err-run_open-clause-ended g c = λ start row is opens.
     opened-ended c.args.setup.now.settings.now c.args.setup.now.network.now start row c.args.snapshot.now _ opens
-    (g.L.RowSource.faults c.in-Err-run_open.field-0.lines) _ _ _ refl (λ i. record { written = c.in-Err-run_open.ensures.kept.0 i; faults = c.in-Err-run_open.ensures.kept.1 i }) refl
+    (g.L.RowSource.faults c.in-Err-run_open.field-0.lines) _ _ refl
+    (λ i. record { sink = record { written = c.in-Err-run_open.ensures.kept.0 i; faults = c.in-Err-run_open.ensures.kept.1 i }; notifiers = c.in-Err-run_open.ensures.kept.3 i })

@@ -1,4 +1,5 @@
 use Rattle.std.proofs.Common.{refl}
+use Rattle.live_desk.specs.Desk.{outputs_seen}
 use Rattle.live_dispatch.proofs.TurnLemmas.{counted-ended, start-stands}
 use Rattle.live_dispatch.proofs.turns.dispatch.Goals as goal
 
@@ -37,9 +38,9 @@ loop-preserved g c = record {
 pub returns-clause-run : goal.returns-clause-run
 returns-clause-run g c =
     (counted-ended _ _ _ _ c.loop.held c.loop.invariant.stands (g.L.RowSource.faults c.stop.result.rows) _ c.stop.result.ended c.stop.ensures.ended
-    (λ i. record { written = g.K.Sink.written (c.stop.ensures.sink i); faults = g.K.Sink.faults (c.stop.ensures.sink i) })).run
+    (λ i. outputs_seen g.K.Sink.written g.K.Sink.faults g.N.Notifier.told g.N.Notifier.faults g.N.Notifier.steady (c.stop.ensures.sink i) (c.stop.ensures.notifiers i))).run
 
 pub returns-clause-never_falls : goal.returns-clause-never_falls
 returns-clause-never_falls g c =
     (counted-ended _ _ _ _ c.loop.held c.loop.invariant.stands (g.L.RowSource.faults c.stop.result.rows) _ c.stop.result.ended c.stop.ensures.ended
-    (λ i. record { written = g.K.Sink.written (c.stop.ensures.sink i); faults = g.K.Sink.faults (c.stop.ensures.sink i) })).writes
+    (λ i. outputs_seen g.K.Sink.written g.K.Sink.faults g.N.Notifier.told g.N.Notifier.faults g.N.Notifier.steady (c.stop.ensures.sink i) (c.stop.ensures.notifiers i))).writes

@@ -1,5 +1,6 @@
-use Rattle.std.proofs.Common.{ap}
+use Rattle.std.proofs.Common.{ap, subst}
 use Rattle.batch_snapshot.specs.Batch.{Batch}
+use Rattle.batch_snapshot.specs.Kept.{IsKept}
 use Rattle.request_book.specs.declared.outcome.Outcome.{Outcome}
 use Rattle.report_audit.proofs.ClosingLemmas.{batch_known, takes_close}
 use Rattle.report_audit.proofs.close.audit_close.Goals as goal
@@ -10,6 +11,7 @@ audit_block-found-requires-clause-nodes g c κs within =
 
 pub returns-in_ok-_reply-in-Ok-clause-takes : goal.returns-in_ok-_reply-in-Ok-clause-takes
 returns-in_ok-_reply-in-Ok-clause-takes g c =
+    let kept : IsKept c.args.snapshot.now = subst (λ (b : Batch). IsKept b) c.snapshot.view_is c.snapshot.invariant in
     let old = c.args.book.now in
     let new = c.apply.new.self in
     let n = c.snapshot.inside.batch in
@@ -18,5 +20,5 @@ returns-in_ok-_reply-in-Ok-clause-takes g c =
     takes_close c.args.setup.now.settings.now c.args.setup.now.network.now old new c.args.snapshot.now c.args.lane n c.next_position-position.result
     c.args.between.line.now c.args.between.after.now c.in-Ok.field-0.rest.now outcome reply
     (ap (λ (b : Batch). b.number) c.snapshot.view_is) c.is_close_line.ensures.low c.requires.sealed c.next_position-position.ensures
-    (c.in_ok-is_close_line.ensures.line.0 c.if-not-branch.false) c.in-Ok.ensures.good c.in-Ok.ensures.only
+    (c.in_ok-is_close_line.ensures.line.0 c.if-not-branch.false) kept c.in-Ok.ensures.good c.in-Ok.ensures.only
     c.in_ok-_reply-in-Ok.ensures.applied

@@ -1,6 +1,6 @@
 use Rattle.std.proofs.Common.{◌+◌, ℕ, drop, refl, sym, subst, take, ◌∙◌, arith}
 use Rattle.report_audit.specs.work.Whole.{HasComeTo}
-use Rattle.report_audit.proofs.WholeLemmas.{come_all, come_next, come_start, first_next, stops_at_end, stops_next}
+use Rattle.report_audit.proofs.WholeLemmas.{come_all, come_next, come_start, first_next, read_all, stops_at_end, stops_next}
 use Rattle.report_audit.proofs.rounds.audit_rounds.Goals as goal
 
 pub loop-round-init : goal.loop-round-init
@@ -24,3 +24,10 @@ returns-in-Err-audit_end g c =
     (omega arith) c.loop-round.invariant in
     stops_at_end c.args.setup.now.settings.now c.args.setup.now.network.now c.args.book.now.state c.args.rounds.now c.args.text.now c.loop-round.book c.loop-round.rest.now c.loop-round.batches c.next_position-entries.result
     all (c.next_position-entries.ensures ∙ first_next c.args.setup.now.settings.now c.args.setup.now.network.now c.loop-round.book all.start) c.in-Err-audit_end.stop c.in-Err-audit_end.ensures
+
+pub returns-in-Ok-audit_end : goal.returns-in-Ok-audit_end
+returns-in-Ok-audit_end g c =
+    let all = come_all c.args.setup.now.settings.now c.args.setup.now.network.now c.args.book.now.state c.args.rounds.now c.args.text.now c.loop-round.round-index c.loop-round.book c.loop-round.rest.now c.loop-round.batches
+    (omega arith) c.loop-round.invariant in
+    read_all c.args.setup.now.settings.now c.args.setup.now.network.now c.args.book.now.state c.args.rounds.now c.args.text.now c.loop-round.book c.loop-round.rest.now c.loop-round.batches c.next_position-entries.result
+    all (c.next_position-entries.ensures ∙ first_next c.args.setup.now.settings.now c.args.setup.now.network.now c.loop-round.book all.start) c.in-Ok-audit_end.ensures

@@ -3,7 +3,7 @@ use Rattle.std.proofs.lemmas.Result.{err_from_is_err_and}
 use Rattle.report_lines.specs.HeadFault.{TellsSizes, TellsSizesOf, LineFails}
 use Rattle.report_lines.specs.Line.{Passes}
 use Rattle.report_lines.specs.HeadLines.{settings_text}
-use Rattle.report_lines.proofs.WholeHead.{no_name, no_settings, no_sizes, no_fleet, head_only, head_read}
+use Rattle.report_lines.proofs.lemmas.WholeHead.{no_name, no_settings, no_sizes, no_fleet, head_only, head_read}
 use Rattle.report_lines.proofs.head.read_head.Goals as goal
 
 pub returns-in_err-after_name-clause-none : goal.returns-in_err-after_name-clause-none

@@ -35,8 +35,8 @@ returns-in-Ok g c =
     c.behind-rows.ensures.version c.behind-rows.ensures.last c.in-Ok.ensures.started.2 c.start_live.ensures.never_falls.0 (omega (arith, c.start_live.ensures.never_falls.1, c.over-lines.ensures.faults))
     c.dispatch-sink.ensures.run c.dispatch-sink.ensures.write_fault (λ is. omega (arith, c.dispatch-sink.ensures.read_fault is, c.into_source.ensures)) (ap (λ (s : Streamed). s.faults) c.behind-rows.ensures.lines)
 
-pub returns-in-Err : goal.returns-in-Err
-returns-in-Err g c =
+pub returns : goal.returns
+returns g c =
     let i : LiveInputs = record { settings = c.args.setup.now.settings.now; roads = c.args.setup.now.network.now; vehicles = c.args.fleet } in
     stopped-as i c.over-lines.result.to_come (g.S.Source.left c.args.script) c.over-lines.result.faults c.start_live.new.lines.faults (g.S.Source.faults c.args.script) (g.S.Source.faults c.into_source-in-Err.result)
     (sink_seen g.K.Sink.written g.K.Sink.faults c.args.out c.start_live.new.out) _ c.in-Err.status c.over-lines.ensures.to_come c.over-lines.ensures.faults (sym c.into_source-in-Err.ensures) (c.in-Err.ensures.stopped _)

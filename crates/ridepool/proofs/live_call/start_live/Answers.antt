@@ -1,6 +1,4 @@
-use Rattle.std.proofs.Common.{ℕ, length, Err, inl, refl, ap, subst, arith}
-use Rattle.std.specs.Io.KnownBytes.{Appends}
-use Rattle.dispatch_report.specs.Head.{head_text}
+use Rattle.std.proofs.Common.{Err, inl, refl, ap, arith}
 use Rattle.dispatch_report.specs.Written.{sink_seen}
 use Rattle.ridepool.specs.Live.{LiveInputs, LiveSeen}
 use Rattle.ridepool.proofs.LiveLemmas.{head-stops, start-stops}
@@ -8,7 +6,7 @@ use Rattle.ridepool.proofs.live_call.start_live.Goals as goal
 
 pub returns-in-Err-clause-stopped : goal.returns-in-Err-clause-stopped
 returns-in-Err-clause-stopped g c told =
-    let i : LiveInputs = record { settings = c.args.setup.now.settings.now; roads = c.args.setup.now.network.now; vehicles = c.args.fleet } in
+    let i : LiveInputs = record { settings = c.args.setup.now.settings.now; roads = c.args.setup.now.network.now; vehicles = c.args.fleet.now } in
     let seen : LiveSeen = record {
       script = c.args.lines.now.to_come;
       reads = record { before = c.args.lines.now.faults; after = c.read_start.new.lines.faults };
@@ -21,8 +19,8 @@ returns-in-Err-clause-stopped g c told =
 pub returns-in-Err-clause-never_falls : goal.returns-in-Err-clause-never_falls
 returns-in-Err-clause-never_falls g c = (omega arith, c.read_start.ensures.never_falls)
 
-pub new-requires : goal.new-requires
-new-requires g c = c.requires.named
+pub opened_book-opened-requires : goal.opened_book-opened-requires
+opened_book-opened-requires g c = c.requires.named
 
 pub returns-in_default-clause-stopped : goal.returns-in_default-clause-stopped
 returns-in_default-clause-stopped g c told = inl (record { out = refl; notifiers = refl })
@@ -32,23 +30,21 @@ returns-in_default-clause-never_falls g c = (omega arith, c.read_start.ensures.n
 
 pub returns-in-Ok-write_head-clause-started : goal.returns-in-Ok-write_head-clause-started
 returns-in-Ok-write_head-clause-started g c =
-    let P : ℕ → Type 0 = λ n. Appends (g.K.Sink.written c.args.out.now) (g.K.Sink.written c.write_head.new.sink) (head_text c.args.setup.now.settings.now c.args.setup.now.network.now n) in
-    (c.in-Ok-new.ensures, c.in-Ok.ensures.started, subst P (ap length c.vehicles-vehicles.ensures.vehicles) c.in-Ok-write_head.ensures.bytes)
+    (c.in-Ok-opened.ensures, c.in-Ok.ensures.started, c.in-Ok-write_head.ensures.bytes)
 
 pub returns-in-Ok-write_head-clause-never_falls : goal.returns-in-Ok-write_head-clause-never_falls
 returns-in-Ok-write_head-clause-never_falls g c = (c.write_head.ensures.never_falls, c.read_start.ensures.never_falls)
 
 pub returns-in-Err-write_head-clause-stopped : goal.returns-in-Err-write_head-clause-stopped
 returns-in-Err-write_head-clause-stopped g c told =
-    let i : LiveInputs = record { settings = c.args.setup.now.settings.now; roads = c.args.setup.now.network.now; vehicles = c.args.fleet } in
+    let i : LiveInputs = record { settings = c.args.setup.now.settings.now; roads = c.args.setup.now.network.now; vehicles = c.args.fleet.now } in
     let seen : LiveSeen = record {
       script = c.args.lines.now.to_come;
       reads = record { before = c.args.lines.now.faults; after = c.read_start.new.lines.faults };
       out = sink_seen g.K.Sink.written g.K.Sink.faults c.args.out.now c.write_head.new.sink;
       notifiers = record { before = told; after = told };
     } in
-    head-stops i seen c.in-Ok.version c.read_start.new.lines.to_come (length c.vehicles-vehicles.result.now) c.in-Err-write_head.fault c.head_status.result c.head_status.ensures c.in-Ok.ensures.started
-    (ap (λ n. head_text i.settings i.roads n) (ap length c.vehicles-vehicles.ensures.vehicles)) refl c.in-Err-write_head.ensures
+    head-stops i seen c.in-Ok.version c.read_start.new.lines.to_come c.in-Err-write_head.fault c.head_status.result c.head_status.ensures c.in-Ok.ensures.started refl c.in-Err-write_head.ensures
 
 pub returns-in-Err-write_head-clause-never_falls : goal.returns-in-Err-write_head-clause-never_falls
 returns-in-Err-write_head-clause-never_falls g c = (c.write_head.ensures.never_falls, c.read_start.ensures.never_falls)

@@ -1,6 +1,6 @@
 use Rattle.std.proofs.Common.{refl}
 use Rattle.ridepool.specs.Seen.{source_seen}
-use Rattle.ridepool.proofs.ExitLemmas.{words_answer, input_answer, done_answer, written_answer, yes_answer, no_answer, prints, got_is_day}
+use Rattle.ridepool.proofs.ExitLemmas.{words_answer, input_answer, done_answer, written_answer, yes_answer, no_answer, got_is_day}
 use Rattle.ridepool.proofs.run.ridepool.Goals as goal
 
 pub returns-in-Err : goal.returns-in-Err
@@ -25,12 +25,12 @@ returns-in-Err-write_audit g c =
 pub returns-in-Ok-write_report : goal.returns-in-Ok-write_report
 returns-in-Ok-write_report g c =
     done_answer _ c.in-Ok.settings c.in-Ok-inputs_from.inputs (record { faultless = c.in-Ok.ensures.accepted.0; given = c.in-Ok.ensures.accepted.1 })
-    (c.in-Ok-inputs_from.ensures.got _ refl) (prints c.in-Ok.settings.mode c.in_default.not-Audit) refl c.in-Ok-write_report.ensures.report
+    (c.in-Ok-inputs_from.ensures.got _ refl) c.in_default.not-Audit refl c.in-Ok-write_report.ensures.report
 
 pub returns-in-Err-write_report : goal.returns-in-Err-write_report
 returns-in-Err-write_report g c =
-    written_answer _ c.in-Ok.settings c.in-Ok-inputs_from.inputs c.in-Err-write_report.status (record { faultless = c.in-Ok.ensures.accepted.0; given = c.in-Ok.ensures.accepted.1 })
-    (c.in-Ok-inputs_from.ensures.got _ refl) (prints c.in-Ok.settings.mode c.in_default.not-Audit) refl c.in-Err-write_report.ensures.report
+    written_answer _ c.in-Ok.settings c.in-Ok-inputs_from.inputs (record { faultless = c.in-Ok.ensures.accepted.0; given = c.in-Ok.ensures.accepted.1 })
+    (c.in-Ok-inputs_from.ensures.got _ refl) c.in_default.not-Audit refl c.in-Err-write_report.status c.in-Err-write_report.ensures.report
 
 pub write_report-requires-clause-day : goal.write_report-requires-clause-day
 write_report-requires-clause-day g c κs within =

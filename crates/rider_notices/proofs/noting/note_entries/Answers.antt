@@ -10,8 +10,8 @@ loop-entry-preserved c =
       wait = c.run.ensures.wait ∙ h.wait;
       told =
           told-next c.args.replay.now.nodes c.args.replay.now.wait c.loop-entry.replay.nodes c.loop-entry.replay.wait c.loop-entry.replay.state c.run.new.self.state c.in_ok-run.field-0
-          c.args.entries.now c.loop-entry.entry-index c.entry-item.result c.loop-entry.told.items c.note_entry.new.told.items _
-          h.nodes h.wait c.loop-entry-test.true c.entry-item.is c.in_ok-note_entry.ensures c.in_ok-run.ensures.stepped h.told;
+          c.args.entries.now c.loop-entry.entry-index c.entry-item.result c.loop-entry.told.items c.note_step.new.told.items _
+          h.nodes h.wait c.loop-entry-test.true c.entry-item.is c.in_ok-note_step.ensures c.in_ok-run.ensures.stepped h.told;
     }
 
 pub returns : goal.returns

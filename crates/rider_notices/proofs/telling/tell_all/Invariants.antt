@@ -1,13 +1,13 @@
-use Rattle.std.proofs.Common.{◌-◌, ◌≤◌, length, map}
-use Rattle.rider_notices.specs.Seen.{notifier_seen}
+use Rattle.std.proofs.Common.{◌-◌, ◌≤◌, length}
+use Rattle.rider_notices.specs.Seen.{notifiers_seen}
 use Rattle.rider_notices.proofs.ToldLemmas.{HaveHeardUpTo}
 use Rattle.rider_notices.proofs.telling.tell_all.Given as goal
 
 abbrev pub invariant-loop-at : goal.invariant-loop-at
 invariant-loop-at g l = record {
   heard : HaveHeardUpTo l.notices l.at
-      (map (λ n. notifier_seen (goal.Notifier-dyn g (n.vtable, n.value)) n.value) l.initial.notifiers.items)
-      (map (λ n. notifier_seen (goal.Notifier-dyn g (n.vtable, n.value)) n.value) l.notifiers.items);
+      (notifiers_seen g.N.Notifier.told g.N.Notifier.faults g.N.Notifier.steady l.initial.notifiers.items)
+      (notifiers_seen g.N.Notifier.told g.N.Notifier.faults g.N.Notifier.steady l.notifiers.items);
   within : l.at ≤ length l.notifiers.items;
   fewer : length l.notifiers.items ≤ length l.initial.notifiers.items;
 }

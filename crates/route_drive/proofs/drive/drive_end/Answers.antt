@@ -11,12 +11,13 @@ returns-clause-run g c =
     let some : 0 < length c.args.rounds.now = first_of (omega arith, grind (arith, common_steps)) in
     let number : c.number-number.result + 1 ≡ number_after c.args.rounds.now =
     ap (λ (n : ℕ). n + 1) c.number-number.ensures.value ∙ number_after_is c.args.rounds.now c.index-rounds-rounds.result some c.index-rounds-rounds.is in
-    if_ok_map c.drive_last.result _ _ c.drive_last.ensures.run (λ end on. end_of c.args.setup.now.settings.now c.args.setup.now.network.now c.args.rounds.now (c.number-number.result + 1)
-    c.args.drive.book end.book c.args.drive.courses.items c.args.drive.made.items end.made.items some number on)
+    if_ok_map c.drive_last.result _ _ c.drive_last.ensures.run (λ end on first. end_of c.args.setup.now.settings.now c.args.setup.now.network.now c.args.rounds.now (c.number-number.result + 1)
+    c.args.drive end (g.K.RoundKeeper.took first c.args.keeper.now) (g.K.RoundKeeper.took first c.drive_last.new.keeper) some number (on first))
 
 pub returns-clause-late : goal.returns-clause-late
 returns-clause-late g c =
     let some : 0 < length c.args.rounds.now = first_of (omega arith, grind (arith, common_steps)) in
     let number : c.number-number.result + 1 ≡ number_after c.args.rounds.now =
     ap (λ (n : ℕ). n + 1) c.number-number.ensures.value ∙ number_after_is c.args.rounds.now c.index-rounds-rounds.result some c.index-rounds-rounds.is in
-    if_err_map c.drive_last.result _ _ c.drive_last.ensures.late (λ fault late. subst (λ (n : ℕ). IsLastLate n c.args.drive.book c.args.drive.courses.items c.args.drive.made.items fault) number late)
+    if_err_map c.drive_last.result _ _ c.drive_last.ensures.late (λ fault late first.
+    subst (λ (n : ℕ). IsLastLate n c.args.drive (g.K.RoundKeeper.took first c.args.keeper.now) (g.K.RoundKeeper.took first c.drive_last.new.keeper) fault) number (late first))

@@ -1,36 +1,37 @@
 use Rattle.std.proofs.Common.{◌≡◌, ◌<◌, ◌≤◌, ◌∷◌, [], ◌++◌, length, take, drop, suc, ◌+◌, sym, ap, ◌∙◌, subst, arith, List}
 use Rattle.std.proofs.lemmas.List.{take_more}
 use Rattle.script_rows.specs.Round.{NumberedLanes}
-use Rattle.route_drive.specs.work.Drive.{IsUnderWay}
+use Rattle.route_drive.specs.work.Drive.{HasCome}
 use Rattle.route_drive.proofs.EnterLemmas.{take_all}
-use Rattle.route_drive.proofs.DriveLemmas.{under_way_none, under_way_more, round_late, rounds_at}
+use Rattle.route_drive.proofs.DriveLemmas.{come_none, come_more, round_late, rounds_at}
 use Rattle.route_drive.proofs.drive.drive_rounds.Goals as goal
 
 pub loop-round-init : goal.loop-round-init
 loop-round-init g c =
-    under_way_none c.args.setup.now.settings.now c.args.setup.now.network.now c.args.book c.in-Ok.drive.book c.in-Ok.drive.courses.items c.in-Ok.drive.made.items
-    c.requires.new c.in-Ok.ensures.book c.in-Ok.ensures.courses c.in-Ok.ensures.made
+    come_none c.args.setup.now.settings.now c.args.setup.now.network.now (g.K.RoundKeeper.took c.args.keeper.now c.args.keeper.now) c.args.book c.in-Ok.drive
+    c.requires.fresh c.requires.new c.in-Ok.ensures.book c.in-Ok.ensures.courses c.in-Ok.ensures.served
 
 pub loop-round-preserved : goal.loop-round-preserved
 loop-round-preserved g c =
     let rounds = c.args.rounds.now in
     let i = c.loop-round.round-index in
+    let after = g.K.RoundKeeper.took c.args.keeper.now c.drive_round.new.keeper in
     let within : c.loop-round.round-index < length c.args.rounds.now = omega arith in
     let parts : take i rounds ++ c.round-item.result ∷ [] ≡ take (i + 1) rounds = ap (λ (r : NumberedLanes). take i rounds ++ r ∷ []) c.round-item.is ∙ sym (take_more rounds i c.round-item.result within) in
-    subst (λ (rs : List NumberedLanes). IsUnderWay c.args.setup.now.settings.now c.args.setup.now.network.now c.args.book.state rs c.in-Ok-drive_round.next.book c.in-Ok-drive_round.next.courses.items c.in-Ok-drive_round.next.made.items) parts
-    (under_way_more c.args.setup.now.settings.now c.args.setup.now.network.now c.args.book.state (take i rounds) c.loop-round.drive.book c.loop-round.drive.courses.items c.loop-round.drive.made.items c.loop-round.invariant
-    c.round-item.result c.in-Ok-drive_round.next.book c.in-Ok-drive_round.next.courses.items c.in-Ok-drive_round.next.made.items c.in-Ok-drive_round.ensures.run)
+    subst (λ (rs : List NumberedLanes). HasCome after c.args.setup.now.settings.now c.args.setup.now.network.now c.args.book.state rs c.in-Ok-drive_round.next) parts
+    (come_more c.args.setup.now.settings.now c.args.setup.now.network.now c.args.book.state (take i rounds) (g.K.RoundKeeper.took c.args.keeper.now c.loop-round.keeper) after c.loop-round.drive c.loop-round.invariant
+    c.round-item.result c.in-Ok-drive_round.next (c.in-Ok-drive_round.ensures.run c.args.keeper.now))
 
 pub returns-in-Err-drive_round-clause-late : goal.returns-in-Err-drive_round-clause-late
 returns-in-Err-drive_round-clause-late g c =
     let rounds = c.args.rounds.now in
     let i = c.loop-round.round-index in
     let within : c.loop-round.round-index < length c.args.rounds.now = omega arith in
-    round_late c.args.setup.now.settings.now c.args.setup.now.network.now c.args.book.state (take i rounds) c.loop-round.drive.book c.loop-round.drive.courses.items c.loop-round.drive.made.items c.loop-round.invariant
-    rounds (drop (suc i) rounds) c.round-item.result c.in-Err-drive_round.fault (rounds_at rounds i c.round-item.result within c.round-item.is) c.in-Err-drive_round.ensures.late
+    round_late c.args.setup.now.settings.now c.args.setup.now.network.now c.args.book.state (take i rounds) (g.K.RoundKeeper.took c.args.keeper.now c.loop-round.keeper) (g.K.RoundKeeper.took c.args.keeper.now c.drive_round.new.keeper)
+    c.loop-round.drive c.loop-round.invariant rounds (drop (suc i) rounds) c.round-item.result c.in-Err-drive_round.fault (rounds_at rounds i c.round-item.result within c.round-item.is) (c.in-Err-drive_round.ensures.late c.args.keeper.now)
 
 pub returns-clause-run : goal.returns-clause-run
 returns-clause-run g c =
     let all : length c.args.rounds.now ≤ c.loop-round.round-index = omega arith in
-    subst (λ (rs : List NumberedLanes). IsUnderWay c.args.setup.now.settings.now c.args.setup.now.network.now c.args.book.state rs c.loop-round.drive.book c.loop-round.drive.courses.items c.loop-round.drive.made.items)
+    subst (λ (rs : List NumberedLanes). HasCome (g.K.RoundKeeper.took c.args.keeper.now c.loop-round.keeper) c.args.setup.now.settings.now c.args.setup.now.network.now c.args.book.state rs c.loop-round.drive)
     (take_all c.args.rounds.now c.loop-round.round-index all) c.loop-round.invariant

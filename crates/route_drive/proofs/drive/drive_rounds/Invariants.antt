@@ -1,6 +1,6 @@
 use Rattle.std.proofs.Common.{take}
-use Rattle.route_drive.specs.work.Drive.{IsUnderWay}
+use Rattle.route_drive.specs.work.Drive.{HasCome}
 use Rattle.route_drive.proofs.drive.drive_rounds.Given as goal
 
 abbrev pub invariant-loop-round : goal.invariant-loop-round
-invariant-loop-round g l = IsUnderWay l.setup.settings.now l.setup.network.now l.fn.book.state (take l.round-index l.rounds) l.drive.book l.drive.courses.items l.drive.made.items
+invariant-loop-round g l = HasCome (g.K.RoundKeeper.took l.initial.keeper l.keeper) l.setup.settings.now l.setup.network.now l.fn.book.state (take l.round-index l.rounds) l.drive

@@ -3,8 +3,8 @@ use Rattle.std.specs.Vec.{with_item}
 use Rattle.std.proofs.lemmas.List.{with_items_is, get_or_read, get_or-replicate, length-replicate}
 use Rattle.pool_base.specs.TravelTime.{never}
 use Rattle.road_network.specs.Roads.{hop_of, leaving}
-use Rattle.travel_times.specs.lemmas.Search.{IsNextTaken, RelaxesHops}
-use Rattle.travel_times.proofs.lemmas.SearchLemmas.{IsSearching-start, IsSearching-step, IsTimeBetween-settled, IsNextTaken-set, hops_among, none_waits}
+use Rattle.travel_times.specs.Search.{IsNextTaken, RelaxesHops}
+use Rattle.travel_times.proofs.lemmas.SearchLemmas.{IsSearching-start, IsSearching-step, IsTimeBetween-settled, IsNextTaken-set, hops_among, none_waits, none_waits_near}
 use Rattle.travel_times.proofs.plain.seconds_from.Goals as goal
 
 pub loop-node-init : goal.loop-node-init
@@ -51,4 +51,4 @@ pub returns-clause-times : goal.returns-clause-times
 returns-clause-times c =
     let roads = c.args.network.now in
     IsTimeBetween-settled roads.arcs (length roads.nodes) c.args.start c.loop-node.seconds.items c.loop-node.waiting.items c.loop-node.invariant.1.arcs c.loop-node.invariant.1.few_nodes c.loop-node.invariant.0
-    (rw c.deref.ensures.value at c.in_default.ensures.none)
+    (none_waits_near c.loop-node.seconds.items c.loop-node.waiting.items c.loop-node.invariant.0.reached (rw (c.deref.ensures.value, c.deref-in-loop-node.ensures.value) at c.in_default.ensures.none))

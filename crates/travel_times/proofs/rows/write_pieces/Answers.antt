@@ -1,4 +1,4 @@
-use Rattle.std.proofs.Common.{◌≡◌, ◌*◌, length, subst, sym, arith}
+use Rattle.std.proofs.Common.{◌*◌, length, subst, arith}
 use Rattle.std.specs.Fork.{slice_chunk}
 use Rattle.travel_times.specs.work.Table.{IsPieceWritten}
 use Rattle.travel_times.proofs.Pieces.{piece_of_chunk, written_of_chunks}

@@ -1,4 +1,4 @@
-use Rattle.std.proofs.Common.{◌≡◌, ℕ, ◌+◌, arith}
+use Rattle.std.proofs.Common.{◌≡◌, ◌+◌, arith}
 use Rattle.travel_times.proofs.table.table_of_times.Goals as goal
 
 pub table_of-requires-clause-rows : goal.table_of-requires-clause-rows

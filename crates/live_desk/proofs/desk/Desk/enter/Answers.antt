@@ -1,10 +1,9 @@
-use Rattle.std.proofs.Common.{◌≡◌, None, Result, sym, subst, refl, ◌∙◌}
+use Rattle.std.proofs.Common.{◌≡◌, None, sym, subst, refl, ◌∙◌}
 use Rattle.request_book.specs.Book.{IsApplied, next_position}
 use Rattle.request_book.specs.declared.journal.Entry.{Entry}
-use Rattle.dispatch_report.specs.Written.{SinkView, WritesText}
-use Rattle.dispatch_report.specs.declared.fault.ReportFault.{ReportFault}
 use Rattle.dispatch_report.specs.Round.{entry_text}
-use Rattle.live_desk.specs.Desk.{DeskView, HasEntered, fault_in}
+use Rattle.live_desk.specs.Desk.{DeskView, HasEntered, Outputs, outputs_seen}
+use Rattle.live_desk.specs.work.Telling.{WroteLast}
 use Rattle.live_desk.proofs.DeskLemmas.{desk-entered, desk-replied, none_of}
 use Rattle.live_desk.proofs.desk.Desk.enter.Goals as goal
 
@@ -14,27 +13,28 @@ invariant_of-self g c =
       book = c.self.inside.book;
       proof = c.self.inside.proof;
       opened = g.J.Opening.opened;
-      now = record { written = g.K.Sink.written c.self.inside.sink; faults = g.K.Sink.faults c.self.inside.sink };
+      now = outputs_seen g.K.Sink.written g.K.Sink.faults g.N.Notifier.told g.N.Notifier.faults g.N.Notifier.steady c.self.inside.sink c.self.inside.notifiers.items;
       fault = c.self.inside.fault;
     } in
-    let now : SinkView = record { written = g.K.Sink.written c.write_last-self-inside.new.sink; faults = g.K.Sink.faults c.write_last-self-inside.new.sink } in
+    let now : Outputs = outputs_seen g.K.Sink.written g.K.Sink.faults g.N.Notifier.told g.N.Notifier.faults g.N.Notifier.steady c.write_last-self-inside.new.sink c.write_last-self-inside.new.notifiers.items in
     let e : Entry = record { lane = c.args.lane; command = c.args.command; reply = c.in-Ok-apply.reply } in
     let applied : IsApplied old.book c.args.lane c.args.command c.in-Ok-apply.reply c.apply.new.self = c.in-Ok-apply.ensures.applied in
     let whole : old.fault ≡ None = none_of old.fault (sym c.is_some.ensures ∙ c.if-is_some.false) in
     let wrote = c.write_last-self-inside.ensures.wrote old.book.entries e (c.entries.ensures.entries ∙ applied.entries) in
-    let at : (answer : Result (Unit {0}) ReportFault) × (c.write_last-self-inside.result ≡ fault_in answer)
-    × WritesText (record { before = old.now; after = now }) (entry_text old.proof (next_position old.book.first old.book.entries) e) answer =
+    let at : WroteLast c.write_last-self-inside.result (entry_text old.proof (next_position old.book.first old.book.entries) e) c.deref.result.now c.in-Ok-apply.reply old.now now =
     rw c.next_position-position.ensures at wrote in
-    desk-entered old c.args.lane c.args.command c.in-Ok-apply.reply c.apply.new.self now c.write_last-self-inside.result c.self.invariant whole c.entries.ensures.kept applied at
+    desk-entered old c.args.lane c.args.command c.in-Ok-apply.reply c.apply.new.self now c.self.invariant whole c.entries.ensures.kept applied
+    c.deref.result.now (c.deref.ensures.value ∙ c.in-Ok.ensures.notices) c.write_last-self-inside.ensures.never_falls c.write_last-self-inside.result at
 
 pub returns-in-Ok-apply-clause-entered : goal.returns-in-Ok-apply-clause-entered
 returns-in-Ok-apply-clause-entered g c =
-    let now : SinkView = record { written = g.K.Sink.written c.write_last-self-inside.new.sink; faults = g.K.Sink.faults c.write_last-self-inside.new.sink } in
-    let opened : SinkView = g.J.Opening.opened in
+    let now : Outputs = outputs_seen g.K.Sink.written g.K.Sink.faults g.N.Notifier.told g.N.Notifier.faults g.N.Notifier.steady c.write_last-self-inside.new.sink c.write_last-self-inside.new.notifiers.items in
+    let opened : Outputs = g.J.Opening.opened in
     let new : DeskView = record { book = c.apply.new.self; proof = c.self.inside.proof; opened = opened; now = now; fault = c.write_last-self-inside.result } in
+    let was : Outputs = outputs_seen g.K.Sink.written g.K.Sink.faults g.N.Notifier.told g.N.Notifier.faults g.N.Notifier.steady c.self.inside.sink c.self.inside.notifiers.items in
     subst (λ (old : DeskView). HasEntered old c.args.lane c.args.command (record { reply = c.in-Ok-apply.reply; snapshot = c.in-Ok.snapshot }) new) c.self.view_is
-    (desk-replied (record { book = c.self.inside.book; proof = c.self.inside.proof; opened = opened; now = record { written = g.K.Sink.written c.self.inside.sink; faults = g.K.Sink.faults c.self.inside.sink }; fault = c.self.inside.fault })
-    new c.args.lane c.args.command c.in-Ok-apply.reply c.in-Ok.snapshot c.self.invariant.book c.entries.ensures.kept c.in-Ok-apply.ensures.applied c.in-Ok.ensures refl refl)
+    (desk-replied (record { book = c.self.inside.book; proof = c.self.inside.proof; opened = opened; now = was; fault = c.self.inside.fault })
+    new c.args.lane c.args.command c.in-Ok-apply.reply c.in-Ok.snapshot c.self.invariant.book c.entries.ensures.kept c.in-Ok-apply.ensures.applied c.in-Ok.ensures.sealed refl refl)
 
 pub returns-in-Ok-apply-clause-kept : goal.returns-in-Ok-apply-clause-kept
 returns-in-Ok-apply-clause-kept g c = invariant_of-self g c

@@ -3,7 +3,7 @@ use Rattle.std.specs.Vec.{with_items}
 use Rattle.std.proofs.lemmas.List.{with_items_is, get_or_read, get_or-replicate, length-replicate}
 use Rattle.pool_base.specs.TravelTime.{never}
 use Rattle.road_network.specs.Roads.{hop_of, leaving}
-use Rattle.travel_times.specs.lemmas.Search.{IsNextTaken, RelaxesHops}
+use Rattle.travel_times.specs.Search.{IsNextTaken, RelaxesHops}
 use Rattle.travel_times.proofs.lemmas.SearchLemmas.{IsSearching-start, IsSearching-step, hops_among, none_waits}
 use Rattle.route_drive.proofs.NearLemmas.{AreTimesUpTo-settled}
 use Rattle.route_drive.proofs.search.Search.run.Goals as goal

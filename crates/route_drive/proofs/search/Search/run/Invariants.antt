@@ -1,6 +1,7 @@
 use Rattle.std.proofs.Common.{length}
 use Rattle.road_network.specs.Roads.{IsNetwork}
-use Rattle.travel_times.specs.lemmas.Search.{IsSearching, work_left}
+use Rattle.travel_times.specs.Search.{work_left}
+use Rattle.travel_times.specs.lemmas.Search.{IsSearching}
 use Rattle.route_drive.proofs.search.Search.run.Given as goal
 
 abbrev pub invariant-loop-node : goal.invariant-loop-node

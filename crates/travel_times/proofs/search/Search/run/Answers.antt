@@ -3,8 +3,8 @@ use Rattle.std.specs.Vec.{with_items}
 use Rattle.std.proofs.lemmas.List.{with_items_is, get_or_read, get_or-replicate, length-replicate}
 use Rattle.pool_base.specs.TravelTime.{never}
 use Rattle.road_network.specs.Roads.{hop_of, leaving}
-use Rattle.travel_times.specs.lemmas.Search.{IsNextTaken, RelaxesHops}
-use Rattle.travel_times.proofs.lemmas.SearchLemmas.{IsSearching-start, IsSearching-step, IsTimeBetween-settled, hops_among, none_waits}
+use Rattle.travel_times.specs.Search.{IsNextTaken, RelaxesHops}
+use Rattle.travel_times.proofs.lemmas.SearchLemmas.{IsSearching-start, IsSearching-step, IsTimeBetween-settled, hops_among, none_waits, none_waits_near}
 use Rattle.travel_times.proofs.search.Search.run.Goals as goal
 
 pub loop-node-init : goal.loop-node-init
@@ -20,7 +20,7 @@ loop-node-init c =
 
 pub relax-requires-clause-hops : goal.relax-requires-clause-hops
 relax-requires-clause-hops c =
-    let taken : IsNextTaken c.loop-node.self.waiting.items c.next_waiting.new.waiting c.in-Some.node = rw c.deref_mut.ensures.value at c.in-Some.ensures.some in
+    let taken : IsNextTaken c.loop-node.self.waiting.items c.next_near.new.waiting c.in-Some.node = rw c.deref_mut.ensures.value at c.in-Some.ensures.some in
     let below : c.in-Some.node < length c.args.network.now.nodes =
     let b : length c.loop-node.self.waiting.items ≡ length c.args.network.now.nodes = c.loop-node.invariant.0.waiting_length in
     let d : c.in-Some.node < length c.loop-node.self.waiting.items = taken.within in
@@ -35,8 +35,8 @@ loop-node-preserved c =
     let n = length roads.nodes in
     let inv = c.loop-node.invariant.0 in
     let node = c.in-Some.node in
-    let taken : IsNextTaken s.waiting.items c.next_waiting.new.waiting node = rw c.deref_mut.ensures.value at c.in-Some.ensures.some in
-    let waiting_length : length c.next_waiting.new.waiting ≡ s.waiting.len = omega (arith, taken.same_length, s.waiting.ok.0) in
+    let taken : IsNextTaken s.waiting.items c.next_near.new.waiting node = rw c.deref_mut.ensures.value at c.in-Some.ensures.some in
+    let waiting_length : length c.next_near.new.waiting ≡ s.waiting.len = omega (arith, taken.same_length, s.waiting.ok.0) in
     let below : c.in-Some.node < length c.args.network.now.nodes =
     let b : length c.loop-node.self.waiting.items ≡ length c.args.network.now.nodes = inv.waiting_length in
     let d : c.in-Some.node < length c.loop-node.self.waiting.items = taken.within in
@@ -47,13 +47,13 @@ loop-node-preserved c =
     let d : c.in-Some.node < length c.loop-node.self.waiting.items = taken.within in
     omega arith in
     let here : c.index-here.result.now ≡ slice_index s.seconds.items node = get_or_read s.seconds.items node c.index-here.result.now within c.index-here.ensures 0 in
-    let waiting_is : c.deref_mut-in-Some-2.result.now ≡ c.next_waiting.new.waiting = c.deref_mut-in-Some-2.ensures.value ∙ with_items_is s.waiting c.next_waiting.new.waiting waiting_length in
-    let relaxes : RelaxesHops (map hop_of (leaving node roads.arcs)) (length (map hop_of (leaving node roads.arcs))) (slice_index s.seconds.items node) s.seconds.items c.next_waiting.new.waiting c.relax.new.seconds c.relax.new.waiting =
+    let waiting_is : c.deref_mut-in-Some-2.result.now ≡ c.next_near.new.waiting = c.deref_mut-in-Some-2.ensures.value ∙ with_items_is s.waiting c.next_near.new.waiting waiting_length in
+    let relaxes : RelaxesHops (map hop_of (leaving node roads.arcs)) (length (map hop_of (leaving node roads.arcs))) (slice_index s.seconds.items node) s.seconds.items c.next_near.new.waiting c.relax.new.seconds c.relax.new.waiting =
     rw (c.leaving.ensures, c.requires.arcs.placed node below, here, c.deref_mut-in-Some.ensures.value, waiting_is) at c.in_ok-relax.ensures.relaxes in
     let seconds_length : length c.relax.new.seconds ≡ s.seconds.len = omega (arith, relaxes.seconds_length, s.seconds.ok.0) in
     let waiting_length' : length c.relax.new.waiting ≡ s.waiting.len = omega (arith, relaxes.waiting_length, waiting_length) in (
-      rw (with_items_is s.seconds c.relax.new.seconds seconds_length, with_items_is (with_items s.waiting c.next_waiting.new.waiting) c.relax.new.waiting waiting_length')
-          (IsSearching-step roads.arcs n c.args.start node s.seconds.items c.relax.new.seconds s.waiting.items c.next_waiting.new.waiting c.relax.new.waiting c.loop-node.invariant.1.arcs inv taken relaxes),
+      rw (with_items_is s.seconds c.relax.new.seconds seconds_length, with_items_is (with_items s.waiting c.next_near.new.waiting) c.relax.new.waiting waiting_length')
+          (IsSearching-step roads.arcs n c.args.start node s.seconds.items c.relax.new.seconds s.waiting.items c.next_near.new.waiting c.relax.new.waiting c.loop-node.invariant.1.arcs inv taken relaxes),
       c.loop-node.invariant.1,
     )
 
@@ -61,6 +61,6 @@ pub returns-clause-times : goal.returns-clause-times
 returns-clause-times c =
     let s = c.loop-node.self in
     let roads = c.args.network.now in
-    let same : c.next_waiting.new.waiting ≡ s.waiting.items = c.in_default.ensures.unchanged ∙ c.deref_mut.ensures.value in
+    let same : c.next_near.new.waiting ≡ s.waiting.items = c.in_default.ensures.unchanged ∙ c.deref_mut.ensures.value in
     IsTimeBetween-settled roads.arcs (length roads.nodes) c.args.start s.seconds.items s.waiting.items c.loop-node.invariant.1.arcs c.loop-node.invariant.1.few_nodes c.loop-node.invariant.0
-    (rw same at c.in_default.ensures.none)
+    (none_waits_near s.seconds.items s.waiting.items c.loop-node.invariant.0.reached (λ node waiting. rw c.deref.ensures.value at (c.in_default.ensures.none node (rw same waiting))))

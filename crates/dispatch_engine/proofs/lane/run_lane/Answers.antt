@@ -1,0 +1,43 @@
+use Rattle.std.proofs.Common.{◌≡◌, ◌+◌, ◌∷◌, ◌++◌, [], take, drop, length, ◌<◌, ◌∙◌, refl, ap, subst, arith}
+use Rattle.std.proofs.lemmas.List.{take-append-drop}
+use Rattle.dispatch_engine.specs.Lane.{HasRun, HasBegun}
+use Rattle.dispatch_engine.proofs.PassLemmas.{runs-none, runs-more, begun-after}
+use Rattle.dispatch_engine.proofs.RoundLemmas.{on-err, take_next}
+use Rattle.dispatch_engine.proofs.lane.run_lane.Goals as goal
+
+pub loop-command-init : goal.loop-command-init
+loop-command-init g c = record {
+  own = c.requires.own;
+  lane = refl;
+  ran = runs-none c.args.setup.now.settings.now c.args.setup.now.network.now c.args.pass.now;
+}
+
+pub loop-command-preserved : goal.loop-command-preserved
+loop-command-preserved g c =
+    let settings = c.args.setup.now.settings.now in
+    let roads = c.args.setup.now.network.now in
+    let commands = c.args.commands.now in
+    let i = c.loop-command.command-index in
+    let command = c.command-item.result in
+    let within : i < length commands = omega arith in
+    record {
+      own = c.run_command.ensures.pass.0;
+      lane = c.run_command.ensures.pass.1 ∙ c.loop-command.invariant.lane;
+      ran = subst (λ cs. HasRun settings roads cs c.args.pass.now c.run_command.new.pass) (take_next commands i command within c.command-item.is)
+          (runs-more settings roads c.args.pass.now c.loop-command.pass c.run_command.new.pass (take i commands) (command ∷ []) c.loop-command.invariant.ran c.in_ok-run_command.ensures.run);
+    }
+
+pub returns-in_err-run_command-clause-begun : goal.returns-in_err-run_command-clause-begun
+returns-in_err-run_command-clause-begun g c =
+    let settings = c.args.setup.now.settings.now in
+    let roads = c.args.setup.now.network.now in
+    let commands = c.args.commands.now in
+    let i = c.loop-command.command-index in
+    let command = c.command-item.result in
+    let within : i < length commands = omega arith in
+    let rest = drop (i + 1) commands in
+    let whole : (take i commands ++ command ∷ []) ++ rest ≡ commands =
+    ap (λ cs. cs ++ rest) (take_next commands i command within c.command-item.is) ∙ take-append-drop (i + 1) commands in
+    on-err c.from_residual.result _
+    (subst (λ cs. HasBegun settings roads cs c.args.pass.now c.run_command.new.pass) whole
+    (begun-after settings roads c.args.pass.now c.loop-command.pass c.run_command.new.pass (take i commands) (command ∷ []) rest c.loop-command.invariant.ran c.in_err-run_command.ensures.begun))

@@ -1,0 +1,58 @@
+-- What a call of `drive` answers.
+use Rattle.std.specs.Prelude.{◌≡◌, ℕ, ◌≤◌, List, ◌++◌, None, Some, length, ◌⊎◌}
+use Rattle.dispatch_engine.specs.Run.{position_after_run}
+use Rattle.dispatch_report.specs.Day.{day_end_text}
+use Rattle.dispatch_report.specs.Head.{head_text}
+use Rattle.dispatch_report.specs.Round.{round_text}
+use Rattle.dispatch_report.specs.declared.day.DayCounts.{DayCounts}
+use Rattle.request_book.specs.Book.{opening}
+use Rattle.rider_limits.specs.declared.settings.Settings.{Settings}
+use Rattle.route_drive.specs.Counts.{AreCounts, entries_of}
+use Rattle.route_drive.specs.Day.{day_fault}
+use Rattle.route_drive.specs.Driven.{IsDrivenDay, IsTooLateDay, state_left}
+use Rattle.route_drive.specs.Promises.{EntriesKeep}
+use Rattle.route_drive.specs.declared.day.DayFault.{DayFault}
+use Rattle.route_drive.specs.declared.day_run.DayRound.{DayRound}
+use Rattle.ridepool.specs.Inputs.{Inputs, TellInputs, HasNoWriteFault, StopsOrReads}
+use Rattle.ridepool.specs.Report.{EndsText, journals_of}
+use Rattle.ridepool.specs.Seen.{IsSilent, IsUntouched, Seen}
+use Rattle.ridepool.specs.declared.status.RunStatus.{RunStatus}
+use Rattle.ridepool.specs.declared.status.RunStatus.TheVariants.{Done, OutOfMemory, Day, TooLate}
+
+-- the rounds are the whole driven day, and they keep all promises: nobody is late, no promise lapses, and no vehicle is above
+-- its seats
+pub record IsKeptDay (i : Inputs) (made : List DayRound) : Type 0 where
+  pub driven : IsDrivenDay i.settings i.roads (opening i.vehicles) i.rounds made
+  pub keeps : EntriesKeep i.settings i.roads (opening i.vehicles) (entries_of made)
+
+-- some first rounds of such a day
+abbrev pub DrivesSome : Inputs → List DayRound → Type 0
+DrivesSome i made = (rest : List DayRound) × IsKeptDay i (made ++ rest)
+
+-- all rounds of such a day, and its last lines: its counts, of which the worst are within the limits, and then how many entries
+-- there were
+pub record DrivesDay (i : Inputs) (made : List DayRound) (text : List ℕ) : Type 0 where
+  pub day : IsKeptDay i made
+  pub counts : DayCounts
+  pub counted : AreCounts i.roads (state_left i.settings i.roads (opening i.vehicles) (journals_of made)).riders (entries_of made) counts.picked counts.dropped counts.worst_wait counts.worst_delay
+  pub in_wait : counts.worst_wait ≤ i.settings.wait
+  pub in_delay : counts.worst_delay ≤ i.settings.delay
+  pub text_is : text ≡ day_end_text counts (position_after_run 0 (journals_of made))
+
+-- the report of the day is written, or a beginning of it; or the script is no day; or something too late would be entered of a
+-- round, and these are the rounds before it
+pub data EndsDrive (i : Inputs) (seen : Seen) : RunStatus → Type 0 where
+  driven : (status : RunStatus) → day_fault i.rounds ≡ None
+      → EndsText i.settings i.roads (λ r. round_text r.number i.settings.proof r.journal) (head_text i.settings i.roads (length i.vehicles)) (DrivesSome i) (DrivesDay i) seen status
+      → EndsDrive i seen status
+  no_day : (fault : DayFault) → day_fault i.rounds ≡ Some fault → IsSilent seen → EndsDrive i seen (Day fault)
+  too_late : (round : ℕ) (made : List DayRound) → day_fault i.rounds ≡ None → IsTooLateDay i.settings i.roads (opening i.vehicles) i.rounds round made
+      → IsSilent seen → EndsDrive i seen (TooLate round)
+
+-- what a call of `drive` answers
+pub record AnswersDrive (settings : Settings) (seen : Seen) (status : RunStatus) : Type 0 where
+  -- it stopped at its sources, or they were read, and it ended so
+  pub explained : StopsOrReads settings seen status (λ i. IsUntouched seen.sources.report × EndsDrive i seen status)
+  -- where the sources tell a day, and no read and no write fails, all is done or there is no memory, or the day comes too late
+  pub complete : (i : Inputs) → TellInputs seen.sources i → day_fault i.rounds ≡ None → HasNoWriteFault seen
+      → (status ≡ Done) ⊎ (status ≡ OutOfMemory) ⊎ ((round : ℕ) × (status ≡ TooLate round))

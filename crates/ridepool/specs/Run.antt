@@ -1,0 +1,33 @@
+-- What a call of `run` answers.
+use Rattle.std.specs.Prelude.{◌≡◌, ℕ, List, length, take, ◌⊎◌}
+use Rattle.dispatch_engine.specs.Run.{position_after_run}
+use Rattle.dispatch_report.specs.Head.{head_text}
+use Rattle.dispatch_report.specs.Round.{round_text, end_text}
+use Rattle.rider_limits.specs.declared.settings.Settings.{Settings}
+use Rattle.route_drive.specs.declared.day_run.DayRound.{DayRound}
+use Rattle.ridepool.specs.Inputs.{Inputs, TellInputs, HasNoWriteFault, StopsOrReads}
+use Rattle.ridepool.specs.Report.{EndsText, Runs, journals_of}
+use Rattle.ridepool.specs.Seen.{IsUntouched, Seen}
+use Rattle.ridepool.specs.declared.status.RunStatus.{RunStatus}
+use Rattle.ridepool.specs.declared.status.RunStatus.TheVariants.{Done, OutOfMemory}
+
+-- some first rounds of the script were run
+abbrev pub RunsSome : Inputs → List DayRound → Type 0
+RunsSome i made = (count : ℕ) × Runs i (take count i.rounds) made
+
+-- all of them were run, and these are the last lines
+abbrev pub RunsScript : Inputs → List DayRound → List ℕ → Type 0
+RunsScript i made end = Runs i i.rounds made × (end ≡ end_text (position_after_run 0 (journals_of made)))
+
+-- the report of a run of the script is written, or a beginning of it
+abbrev pub EndsRun : Inputs → Seen → RunStatus → Type 0
+EndsRun i =
+    EndsText i.settings i.roads (λ r. round_text r.number i.settings.proof r.journal) (head_text i.settings i.roads (length i.vehicles))
+    (RunsSome i) (RunsScript i)
+
+-- what a call of `run` answers
+pub record AnswersRun (settings : Settings) (seen : Seen) (status : RunStatus) : Type 0 where
+  -- it stopped at its sources; or they were read, and the report of a run of the script is written, or a beginning of it
+  pub explained : StopsOrReads settings seen status (λ i. IsUntouched seen.sources.report × EndsRun i seen status)
+  -- where the sources tell inputs, and no read and no write fails, all is done or there is no memory
+  pub complete : (i : Inputs) → TellInputs seen.sources i → HasNoWriteFault seen → (status ≡ Done) ⊎ (status ≡ OutOfMemory)

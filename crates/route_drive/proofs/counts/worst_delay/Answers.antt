@@ -1,0 +1,35 @@
+use Rattle.std.proofs.Common.{◌≡◌, ◌+◌, ◌<◌, ◌≤◌, ◌∷◌, [], ◌++◌, max, length, take, refl, sym, ap, ◌∙◌, subst, arith}
+use Rattle.std.specs.Prelude.{List, ℕ}
+use Rattle.std.specs.List.{AllZip}
+use Rattle.std.proofs.lemmas.List.{take_more}
+use Rattle.stop_orders.specs.Settled.{greatest}
+use Rattle.route_drive.specs.declared.counts.ServedRider.{ServedRider}
+use Rattle.route_drive.specs.work.Counting.{IsDelayed}
+use Rattle.route_drive.proofs.EnterLemmas.{take_all}
+use Rattle.route_drive.proofs.EntryLemmas.{greatest-push, zip-push}
+use Rattle.route_drive.proofs.counts.worst_delay.Goals as goal
+
+pub loop-served-init : goal.loop-served-init
+loop-served-init c = ([], tt, refl)
+
+pub loop-served-preserved : goal.loop-served-preserved
+loop-served-preserved c =
+    let R = IsDelayed c.args.network.now c.args.riders.now in
+    let i = c.loop-served.served-index in
+    let dropped = c.args.dropped.now in
+    let delay = c.in-Ok.delay in
+    let within : c.loop-served.served-index < length c.args.dropped.now = omega arith in
+    let greater : c.max-worst.result ≡ max c.loop-served.worst c.in-Ok.delay = c.max-worst.ensures in
+    let parts : take i dropped ++ c.served-item.result ∷ [] ≡ take (i + 1) dropped = ap (λ (x : ServedRider). take i dropped ++ x ∷ []) c.served-item.is ∙ sym (take_more dropped i c.served-item.result within) in (
+      c.loop-served.invariant.0 ++ delay ∷ [],
+      subst (λ (l : List ServedRider). AllZip R l (c.loop-served.invariant.0 ++ delay ∷ [])) parts (zip-push R (take i dropped) c.loop-served.invariant.0 c.served-item.result delay c.loop-served.invariant.1 c.in-Ok.ensures),
+      greater ∙ ap (λ (w : ℕ). max w delay) c.loop-served.invariant.2 ∙ sym (greatest-push c.loop-served.invariant.0 delay),
+    )
+
+pub returns : goal.returns
+returns c =
+    let all : length c.args.dropped.now ≤ c.loop-served.served-index = omega arith in (
+      c.loop-served.invariant.0,
+      subst (λ (l : List ServedRider). AllZip (IsDelayed c.args.network.now c.args.riders.now) l c.loop-served.invariant.0) (take_all c.args.dropped.now c.loop-served.served-index all) c.loop-served.invariant.1,
+      c.loop-served.invariant.2,
+    )

@@ -1,0 +1,12 @@
+use Rattle.std.proofs.Common.{take}
+use Rattle.std.specs.List.{All}
+use Rattle.route_drive.specs.Entering.{IsInTime}
+use Rattle.route_drive.specs.work.Places.{told_by}
+use Rattle.route_drive.specs.work.Rounds.{Adds}
+use Rattle.route_drive.proofs.entering.enter_places.Given as goal
+
+abbrev pub invariant-loop-k : goal.invariant-loop-k
+invariant-loop-k l = record {
+  entered : Adds 0 (told_by l.now (take l.k l.vehicles) (take l.k l.courses) (take l.k l.places)) l.initial.round l.round;
+  in_time : All IsInTime (told_by l.now (take l.k l.vehicles) (take l.k l.courses) (take l.k l.places));
+}

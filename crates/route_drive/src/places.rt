@@ -1,0 +1,245 @@
+//! Where vehicles are at a seal.
+ghost use Rattle.std.specs.Prelude.{◌≡◌, ◌+◌, ◌<◌, ◌≤◌, Some, Contains, IfOk, IfSome, MatchOption, length, max};
+ghost use Rattle.std.specs.List.{AllZip};
+ghost use Rattle.pool_base.specs.TravelTime.{longest};
+ghost use Rattle.road_network.specs.Roads.{index_in};
+ghost use Rattle.road_network.specs.Walk.{HasNoWalk};
+ghost use Rattle.route_drive.specs.Entering.{IsReported, due, goal_of, standing_after, to_come, walk_end};
+ghost use Rattle.route_drive.specs.work.Drive.{reported_place, step_from};
+ghost use Rattle.route_drive.specs.work.Places.{ArePlaced, IsPlaced, heading_of, headings_of};
+ghost use Rattle.route_drive.specs.Walk.{IsShortestWalk};
+ghost use Rattle.route_drive.specs.declared.walk.WalkStep.{WalkStep};
+
+use crate::course::{Course, Heading, NodeAt, Stay};
+use crate::search::Search;
+use crate::walk::{WalkStep, shortest_walk_with};
+use batch_snapshot::Vehicle;
+use pool_base::{NodeId, OutOfMemory, Second};
+use rayon::prelude::*;
+use request_book::PlannedStop;
+use rider_limits::Settings;
+use road_network::Network;
+use std::alloc::Global;
+use std::thread::Threads;
+
+/// Where all vehicles are at a seal. The workers share the walks, each of which is a function of the network alone.
+pub(crate) fn places_at(
+    rt: &(impl Threads + Sync),
+    alloc: Global,
+    network: &Network,
+    settings: &Settings,
+    now: Second,
+    vehicles: &[Vehicle],
+    courses: &[Course],
+) -> Result<Vec<NodeAt>, OutOfMemory>
+    requires same { length courses.now ≡ length vehicles.now }
+    ensures { IfOk result (λ places. ArePlaced network.now settings.now.dwell now vehicles.now courses.now places.items) }
+{
+    let headings = headings_of(alloc, settings.dwell, now, vehicles, courses)?;
+    walked(rt, alloc, network, now, &headings, settings.workers)
+}
+
+/// Where each vehicle stands when its due stops are done, and where it goes from there.
+fn headings_of(
+    alloc: Global,
+    dwell: u16,
+    now: Second,
+    vehicles: &[Vehicle],
+    courses: &[Course],
+) -> Result<Vec<Heading>, OutOfMemory>
+    requires same { length courses.now ≡ length vehicles.now }
+    ensures { IfOk result (λ headings. headings.items ≡ headings_of dwell now vehicles.now courses.now) }
+{
+    let mut headings = Vec::with_capacity(alloc, vehicles.len())?;
+    for k in 0..vehicles.len() {
+        let vehicle = &vehicles[k];
+        let course = &courses[k];
+        headings.push(heading_of(dwell, now, vehicle, course))?;
+    }
+    Ok(headings)
+}
+
+fn heading_of(dwell: u16, now: Second, vehicle: &Vehicle, course: &Course) -> Heading
+    ensures { result ≡ heading_of dwell now vehicle.now course.now }
+{
+    Heading {
+        from: standing(dwell, now, vehicle, course.stops.as_slice()),
+        goal: next_goal(now, course),
+    }
+}
+
+/// Where each vehicle is that heads so. No more threads than workers walk at a time, each with one room for its searches.
+fn walked(
+    rt: &(impl Threads + Sync),
+    alloc: Global,
+    network: &Network,
+    now: Second,
+    headings: &[Heading],
+    workers: u8,
+) -> Result<Vec<NodeAt>, OutOfMemory>
+    requires some { 1 ≤ workers }
+    ensures { IfOk result (λ places. AllZip (IsPlaced network.now now) headings.now places.items) }
+{
+    let least = headings.len() / workers as usize;
+    let places = headings
+        .par_iter()
+        .with_min_len(least)
+        .map_init(
+            || Search::new(alloc).ok(),
+            |search: &mut Option<Search>, heading: &Heading| -> Result<NodeAt, OutOfMemory>
+                ensures { IfOk result (λ there. IsPlaced network.entry.now now heading.entry.now there) }
+            { place_of(search, network, now, heading) },
+        )
+        .collect::<Result<Vec<NodeAt>, OutOfMemory>>(rt, alloc);
+    match places {
+        Ok(places) => places,
+        Err(_) => Err(OutOfMemory),
+    }
+}
+
+/// Where a vehicle is that heads so, if there is room for a search.
+fn place_of(
+    search: &mut Option<Search>,
+    network: &Network,
+    now: Second,
+    heading: &Heading,
+) -> Result<NodeAt, OutOfMemory>
+    ensures { IfOk result (λ there. IsPlaced network.now now heading.now there) }
+{
+    match search {
+        Some(search) => reported(search, network, now, heading.from, heading.goal),
+        None => Err(OutOfMemory),
+    }
+}
+
+/// Where a vehicle is after the stops that are due.
+fn standing(dwell: u16, now: Second, vehicle: &Vehicle, stops: &[PlannedStop]) -> Stay
+    ensures after { result ≡ standing_after dwell (reported_place vehicle.now) (due now stops.now) }
+    ensures short { result.free ≤ longest + dwell }
+{
+    let time = vehicle.time.get() as u64;
+    let mut at = Stay {
+        node: vehicle.node,
+        second: time,
+        free: time,
+    };
+    let now = now.get() as u64;
+    for stop in stops {
+        if stop.second <= now {
+            at = Stay {
+                node: stop.node,
+                second: stop.second,
+                free: stop.second + dwell as u64,
+            };
+        }
+    }
+    at
+}
+
+/// Where a vehicle goes: to its next stop, or else where its move leads.
+fn next_goal(now: Second, course: &Course) -> Option<NodeId>
+    ensures { result ≡ goal_of course.now.target (to_come now course.now.stops.items) }
+{
+    let now = now.get() as u64;
+    for stop in course.stops.as_slice() {
+        if now < stop.second {
+            return Some(stop.node);
+        }
+    }
+    course.target
+}
+
+/// A shortest walk, where both are nodes of the network.
+fn walk_between(
+    search: &mut Search,
+    network: &Network,
+    from: NodeId,
+    to: NodeId,
+) -> Result<Option<Vec<WalkStep>>, OutOfMemory>
+    ensures { IfOk result (λ walk. MatchOption walk
+        (Contains network.now.nodes from → Contains network.now.nodes to → HasNoWalk network.now.arcs (index_in network.now.nodes from) (index_in network.now.nodes to))
+        (λ steps. IsShortestWalk network.now from to steps.items)) }
+{
+    if network.has_node(from) && network.has_node(to) {
+        shortest_walk_with(search, network, from, to)
+    } else {
+        Ok(None)
+    }
+}
+
+/// The seconds of the last step.
+fn last_seconds(steps: &[WalkStep]) -> u32
+    ensures { result ≡ walk_end steps.now }
+{
+    let mut end = 0;
+    for step in steps {
+        end = step.seconds;
+    }
+    end
+}
+
+/// The first step that is reached by now or later.
+fn first_step(now: u64, left: u64, steps: &[WalkStep]) -> Option<WalkStep>
+    requires left { left ≤ now }
+    requires now { now ≤ longest }
+    ensures { result ≡ step_from now left steps.now }
+{
+    for step in steps {
+        if now <= left + step.seconds as u64 {
+            return Some(*step);
+        }
+    }
+    None
+}
+
+/// Where a vehicle is reported.
+fn reported(
+    search: &mut Search,
+    network: &Network,
+    now: Second,
+    at: Stay,
+    goal: Option<NodeId>,
+) -> Result<NodeAt, OutOfMemory>
+    ensures { IfOk result (IsReported network.now now at goal) }
+{
+    let now = now.get() as u64;
+    if now < at.free {
+        return Ok(NodeAt {
+            node: at.node,
+            second: at.free,
+        });
+    }
+    let rest = NodeAt {
+        node: at.node,
+        second: now.max(at.second),
+    };
+    let Some(to) = goal else {
+        return Ok(rest);
+    };
+    let Some(steps) = walk_between(search, network, at.node, to)? else {
+        return Ok(rest);
+    };
+    Ok(on_walk(now, at, to, &steps))
+}
+
+/// Where a vehicle is reported on a walk that it left for.
+fn on_walk(now: u64, at: Stay, to: NodeId, steps: &[WalkStep]) -> NodeAt
+    requires free { at.free ≤ now }
+    requires now { now ≤ longest }
+    ensures walks { now < at.free + walk_end steps.now → (step : WalkStep) × (step_from now at.free steps.now ≡ Some step) × (result ≡ record { node = step.node; second = at.free + step.seconds }) }
+    ensures arrived { at.free + walk_end steps.now ≤ now → result ≡ record { node = to; second = max now at.second } }
+{
+    let end = at.free + last_seconds(steps) as u64;
+    if now < end {
+        let step = first_step(now, at.free, steps).unwrap();
+        NodeAt {
+            node: step.node,
+            second: at.free + step.seconds as u64,
+        }
+    } else {
+        NodeAt {
+            node: to,
+            second: now.max(at.second),
+        }
+    }
+}
