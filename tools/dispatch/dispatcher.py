@@ -276,23 +276,23 @@ class Dispatcher:
             waiting.fail(Refused(text))
 
     def on_end(self, text):
-        """`live` has ended: nobody who waits is answered any more, and it is started again."""
+        """`live` has ended: nobody who waits is answered any more. It is started again, three times in all."""
         for waiting in self.numbers.values():
             waiting.fail(Unavailable("the dispatcher ended before it answered; look before you ask again"))
         self.numbers.clear()
-        was_ready = self.status == "ready"
-        self.set_status("ended", text)
         asyncio.ensure_future(self.notify())
-        if was_ready and not self.stopping:
-            asyncio.ensure_future(self.start_again())
+        if self.status != "ready" or self.stopping:
+            return self.set_status("ended", text)
+        print(f"desk: {text}", file=sys.stderr)
+        if self.restarts == MOST_RESTARTS:
+            return self.set_status("ended", f"{text}; it was started again {MOST_RESTARTS} times already")
+        self.set_status("starting", f"{text}; it is started again")
+        asyncio.ensure_future(self.start_again())
 
     async def start_again(self):
-        """Starts `live` again from the folder, three times in all."""
-        print(f"desk: {self.why}", file=sys.stderr)
+        """Starts `live` again from the folder."""
         if self.syncing is not None:
             await asyncio.wait([self.syncing])
-        if self.restarts == MOST_RESTARTS:
-            return self.set_status("ended", f"{self.why}; it was started again {MOST_RESTARTS} times already")
         self.restarts += 1
         try:
             found = await self.begin()

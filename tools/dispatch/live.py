@@ -1,6 +1,7 @@
 """A started `ridepool live`: rows go in, whole lines of the transcript come out."""
 
 import asyncio
+import contextlib
 import re
 
 from dispatch.rows import HEADER
@@ -45,6 +46,8 @@ class Live:
         await errors
         status = await self.child.wait()
         self.child.stdin.close()
+        with contextlib.suppress(OSError):
+            await self.child.stdin.wait_closed()
         how = f"was ended by signal {-status}" if status < 0 else f"ended with status {status}"
         self.on_end(f"ridepool live {how}" + (f": {self.told}" if self.told else ""))
 
