@@ -132,7 +132,7 @@ fn cells_between(
     }
     let is_small = count.saturating_mul(network.node_count()) < SMALL;
     let rows = rows_of_a_piece(count, threads, is_small);
-    write_pieces(rt, alloc, network, &arcs, points, rows, &mut cells);
+    write_pieces(rt, alloc, &arcs, points, rows, &mut cells);
     if !are_computed(count, &cells) {
         return Err(OutOfMemory);
     }
