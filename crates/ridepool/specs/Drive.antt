@@ -1,5 +1,5 @@
 -- What a call of `drive` answers.
-use Rattle.std.specs.Prelude.{◌≡◌, ℕ, ◌≤◌, List, ◌++◌, None, Some, length, ◌⊎◌}
+use Rattle.std.specs.Prelude.{◌≡◌, ℕ, List, ◌++◌, None, Some, length, ◌⊎◌}
 use Rattle.dispatch_engine.specs.Run.{position_after_run}
 use Rattle.dispatch_report.specs.Day.{day_end_text}
 use Rattle.dispatch_report.specs.Head.{head_text}
@@ -7,10 +7,9 @@ use Rattle.dispatch_report.specs.Round.{round_text}
 use Rattle.dispatch_report.specs.declared.day.DayCounts.{DayCounts}
 use Rattle.request_book.specs.Book.{opening}
 use Rattle.rider_limits.specs.declared.settings.Settings.{Settings}
-use Rattle.route_drive.specs.Counts.{AreCounts, entries_of}
 use Rattle.route_drive.specs.Day.{day_fault}
-use Rattle.route_drive.specs.Driven.{IsDrivenDay, IsTooLateDay, state_left}
-use Rattle.route_drive.specs.Promises.{EntriesKeep}
+use Rattle.route_drive.specs.Driven.{IsTooLateDay}
+use Rattle.route_drive.specs.Promises.{IsKeptDay, IsRunOfDay}
 use Rattle.route_drive.specs.declared.day.DayFault.{DayFault}
 use Rattle.route_drive.specs.declared.day_run.DayRound.{DayRound}
 use Rattle.ridepool.specs.Inputs.{Inputs, TellInputs, HasNoWriteFault, StopsOrReads}
@@ -19,24 +18,14 @@ use Rattle.ridepool.specs.Seen.{IsSilent, IsUntouched, Seen}
 use Rattle.ridepool.specs.declared.status.RunStatus.{RunStatus}
 use Rattle.ridepool.specs.declared.status.RunStatus.TheVariants.{Done, OutOfMemory, Day, TooLate}
 
--- the rounds are the whole driven day, and they keep all promises: nobody is late, no promise lapses, and no vehicle is above
--- its seats
-pub record IsKeptDay (i : Inputs) (made : List DayRound) : Type 0 where
-  pub driven : IsDrivenDay i.settings i.roads (opening i.vehicles) i.rounds made
-  pub keeps : EntriesKeep i.settings i.roads (opening i.vehicles) (entries_of made)
-
--- some first rounds of such a day
+-- some first rounds of a driven day that keeps its promises
 abbrev pub DrivesSome : Inputs → List DayRound → Type 0
-DrivesSome i made = (rest : List DayRound) × IsKeptDay i (made ++ rest)
+DrivesSome i made = (rest : List DayRound) × IsKeptDay i.settings i.roads (opening i.vehicles) i.rounds (made ++ rest)
 
--- all rounds of such a day, and its last lines: its counts, of which the worst are within the limits, and then how many entries
--- there were
+-- all rounds of such a day, and its last lines: its counts, and then how many entries there were
 pub record DrivesDay (i : Inputs) (made : List DayRound) (text : List ℕ) : Type 0 where
-  pub day : IsKeptDay i made
   pub counts : DayCounts
-  pub counted : AreCounts i.roads (state_left i.settings i.roads (opening i.vehicles) (journals_of made)).riders (entries_of made) counts.picked counts.dropped counts.worst_wait counts.worst_delay
-  pub in_wait : counts.worst_wait ≤ i.settings.wait
-  pub in_delay : counts.worst_delay ≤ i.settings.delay
+  pub day : IsRunOfDay i.settings i.roads (opening i.vehicles) i.rounds made counts
   pub text_is : text ≡ day_end_text counts (position_after_run 0 (journals_of made))
 
 -- the report of the day is written, or a beginning of it; or the script is no day; or something too late would be entered of a

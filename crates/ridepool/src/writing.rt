@@ -8,7 +8,7 @@ ghost use Rattle.ridepool.specs.Inputs.{Inputs};
 ghost use Rattle.ridepool.specs.Report.{IsWhole};
 ghost use Rattle.ridepool.specs.work.Held.{HoldsRounds};
 ghost use Rattle.route_drive.specs.declared.day_run.DayRound.{DayRound as RoundValue};
-ghost use Rattle.ridepool.specs.work.Writing.{BeginsRounds, EndsRounds, IsWritingFault, IsReportFault, IsRoundFault, IsUnput, PutsRound, RunsAll, RunsFirst, WritesRound, IsDayFor, IsReportWhole, added_by, added_text, first_text, day_counts, day_ending, late_status, status_of};
+ghost use Rattle.ridepool.specs.work.Writing.{BeginsRounds, EndsRounds, IsWritingFault, IsReportFault, IsRoundFault, IsUnput, PutsRound, RunsAll, RunsFirst, WritesRound, IsDayFor, IsReportWhole, added_by, added_text, first_text, day_ending, late_status, status_of};
 
 use crate::held_day::{HeldDay, write_held};
 use crate::inputs::ReadInputs;
@@ -27,7 +27,7 @@ use request_book::Book;
 use rider_limits::{Mode, Settings, TimesWay};
 use rider_notices::{Notifier, tell_journal};
 use road_network::Network;
-use route_drive::{DayRound, DayRun, DriveFault, drive_day};
+use route_drive::{DayRound, DriveFault, drive_day};
 use row_tables::Drafter;
 use script_rows::{Round, Script};
 use std::alloc::Global;
@@ -188,7 +188,7 @@ fn write_day<K: Sink>(
     out: &mut K,
     fleet: &Fleet,
     day: &HeldDay<'_>,
-    run: &DayRun,
+    run: &DayCounts,
     notifiers: &mut Vec<Box<dyn Notifier>>,
 ) -> Result<(), RunStatus>
     requires { day.now.told ≡ false → length notifiers.old.items ≡ 0 }
@@ -321,7 +321,7 @@ fn write_driven<K: Sink>(
     alloc: Global,
     out: &mut K,
     day: &HeldDay<'_>,
-    run: &DayRun,
+    run: &DayCounts,
     notifiers: &mut Vec<Box<dyn Notifier>>,
 ) -> Result<(), RunStatus>
     requires { day.now.told ≡ false → length notifiers.old.items ≡ 0 }
@@ -339,21 +339,9 @@ fn write_driven<K: Sink>(
         Ok(position) => position,
         Err(status) => return Err(status),
     };
-    let counts = counts_of(run);
-    match write_day_end(alloc, out, &counts, position) {
+    match write_day_end(alloc, out, run, position) {
         Ok(()) => Ok(()),
         Err(fault) => Err(status_of(fault)),
-    }
-}
-
-fn counts_of(run: &DayRun) -> DayCounts
-    ensures { result ≡ day_counts run.now }
-{
-    DayCounts {
-        picked: run.picked,
-        dropped: run.dropped,
-        worst_wait: run.worst_wait,
-        worst_delay: run.worst_delay,
     }
 }
 

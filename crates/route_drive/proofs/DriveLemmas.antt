@@ -15,16 +15,17 @@ use Rattle.request_book.specs.declared.state.State.{State}
 use Rattle.rider_limits.specs.declared.settings.Settings.{Settings}
 use Rattle.road_network.specs.Roads.{Roads}
 use Rattle.script_rows.specs.Round.{NumberedLanes, empty_round, lane_at}
-use Rattle.dispatch_engine.specs.Run.{IsReady, IsRoundRun, IsRun, IsSameRun, journal_of, position_after_run}
+use Rattle.dispatch_engine.specs.Run.{IsReady, IsRoundRun, IsRun, IsSameRun, journal_of, position_after_run, state_after_run}
+use Rattle.dispatch_engine.proofs.lemmas.RunLemmas.{position-more, run-more, state-more}
 use Rattle.route_drive.proofs.CountLemmas.{vehicles-count}
 use Rattle.route_drive.proofs.EntryLemmas.{map-push, served_more}
 use Rattle.route_drive.specs.declared.course.Course.{Course}
 use Rattle.route_drive.specs.declared.day_run.DayRound.{DayRound}
-use Rattle.route_drive.specs.declared.day_run.DayRun.{DayRun}
+use Rattle.dispatch_report.specs.declared.day.DayCounts.{DayCounts}
 use Rattle.route_drive.specs.declared.day_run.DriveFault.{DriveFault}
 use Rattle.route_drive.specs.declared.day_run.DriveFault.TheVariants as fault
 use Rattle.route_drive.specs.declared.drive.Drive.{Drive}
-use Rattle.route_drive.specs.Driven.{AreDriven, HasDrivenToTheEnd, IsDrivenRound, IsLateAnswer, IsTooLateDay, IsNewBook, courses_after, courses_from, courses_left, first_courses, left_course, left_state, number_after, plan_in, planned_course, state_left}
+use Rattle.route_drive.specs.Driven.{AreDriven, HasDrivenToTheEnd, IsDrivenRound, IsLateAnswer, IsTooLateDay, IsNewBook, courses_after, courses_from, courses_left, first_courses, left_course, left_state, number_after, plan_in, planned_course}
 use Rattle.route_drive.specs.Counts.{AreCounts, entries_of}
 use Rattle.route_drive.specs.Day.{seal_of}
 use Rattle.route_drive.specs.Entering.{EntersTooLate, IsInTime, IsTooLate, left_commands}
@@ -61,24 +62,6 @@ number_after_is (x ∷ y ∷ rounds) r h is =
     number_after_is (y ∷ rounds) r (omega arith) (is ∙ ap (λ (k : ℕ). get_or (x ∷ y ∷ rounds) k r) e)
 
 module _ (settings : Settings) (roads : Roads) where
-  run-more : (s : State) (position : ℕ) (rs : List NumberedLanes) (js : List Journal) (r : NumberedLanes) (j : Journal)
-      → IsRun settings roads s position rs js → j.base ≡ state_left settings roads s js → j.first ≡ position_after_run position js → IsRoundRun settings roads r j
-      → IsRun settings roads s position (rs ++ r ∷ []) (js ++ j ∷ [])
-  run-more s position [] [] r j run base first round = (base, first, round, tt)
-  run-more s position [] (k ∷ js) r j run base first round = absurd run
-  run-more s position (q ∷ rs) [] r j run base first round = absurd run
-  run-more s position (q ∷ rs) (k ∷ js) r j run base first round =
-      let same : left_state settings roads k ≡ state_after roads.nodes settings.wait s k.entries = ap (λ (t : State). state_after roads.nodes settings.wait t k.entries) run.0 in
-      (run.0, run.1, run.2, run-more (state_after roads.nodes settings.wait s k.entries) (next_position position k.entries) rs js r j run.3 (base ∙ ap (λ (t : State). state_left settings roads t js) same) first round)
-
-  state_left-more : (s : State) (js : List Journal) (j : Journal) → state_left settings roads s (js ++ j ∷ []) ≡ left_state settings roads j
-  state_left-more s [] j = refl
-  state_left-more s (k ∷ js) j = state_left-more (left_state settings roads k) js j
-
-  position-more : (position : ℕ) (js : List Journal) (j : Journal) → position_after_run position (js ++ j ∷ []) ≡ next_position (position_after_run position js) j.entries
-  position-more position [] j = refl
-  position-more position (k ∷ js) j = position-more (next_position position k.entries) js j
-
   driven-more : (courses : List Course) (rs ds : List NumberedLanes) (js : List Journal) (r d : NumberedLanes) (j : Journal)
       → AreDriven settings roads courses rs ds js → IsDrivenRound settings roads j.base (courses_left settings roads courses rs js) r d
       → AreDriven settings roads courses (rs ++ r ∷ []) (ds ++ d ∷ []) (js ++ j ∷ [])
@@ -128,7 +111,7 @@ module _ (settings : Settings) (roads : Roads) where
     numbers_more number j = map-push (λ (r : DayRound). r.number) made (record { number = number; journal = j }) ∙ ap (λ (l : List ℕ). l ++ number ∷ []) way.driven.numbers
 
     run_on : (driven : NumberedLanes) (j : Journal) → IsRoundRun settings roads driven j → j.base ≡ drive.book.base → j.first ≡ drive.book.first → IsRun settings roads s 0 (way.driven.script ++ driven ∷ []) (js ++ j ∷ [])
-    run_on driven j run base first = run-more s 0 way.driven.script js driven j way.driven.run (base ∙ way.base ∙ way.state) (first ∙ way.first) run
+    run_on driven j run base first = run-more settings roads s 0 way.driven.script js driven j way.driven.run (base ∙ way.base ∙ way.state) (first ∙ way.first) run
 
     way_more : (round : NumberedLanes) (Before After : List DayRound → Type 0) (drive' : Drive) (on : IsRoundOn settings roads round drive Before After drive')
         → IsUnderWay settings roads s (rounds ++ round ∷ []) drive'.book drive'.courses.items (made ++ (record { number = round.number; journal = on.journal }) ∷ [])
@@ -152,7 +135,7 @@ module _ (settings : Settings) (roads : Roads) where
           ready = on.ready;
           entries = on.entries;
           base = on.base_is;
-          state = left ∙ sym (state_left-more s js j) ∙ sym (ap (state_left settings roads s) more);
+          state = on.state ∙ ap (λ (t : State). state_after roads.nodes settings.wait t j.entries) (way.base ∙ way.state) ∙ sym (state-more settings roads s js j) ∙ sym (ap (state_after_run settings roads s) more);
           first = on.next ∙ ap (λ (p : ℕ). next_position p j.entries) way.first ∙ sym (position-more 0 js j) ∙ sym (ap (position_after_run 0) more);
           courses_are = on.courses_are ∙ ap (λ (t : State). courses_after t round j.entries drive.courses.items) left ∙ ap (courses_after (left_state settings roads j) round j.entries) way.courses_are
               ∙ sym (courses-more (first_courses settings roads s) rounds way.driven.script js round j way.driven.driven) ∙ sym (ap (courses_left settings roads (first_courses settings roads s) (rounds ++ round ∷ [])) more);
@@ -190,10 +173,10 @@ module _ (settings : Settings) (roads : Roads) where
 
     -- the book is left in the state that the journals lead to
     state_done : (Before After : List DayRound → Type 0) (drive' : Drive) (on : IsLastOn settings roads (number_after rounds) drive Before After drive')
-        → drive'.book.state ≡ state_left settings roads s (map (λ (r : DayRound). r.journal) (made ++ (record { number = number_after rounds; journal = on.journal }) ∷ []))
+        → drive'.book.state ≡ state_after_run settings roads s (map (λ (r : DayRound). r.journal) (made ++ (record { number = number_after rounds; journal = on.journal }) ∷ []))
     state_done Before After drive' on =
-        on.state ∙ ap (λ (t : State). state_after roads.nodes settings.wait t on.journal.entries) (sym on.base) ∙ sym (state_left-more s js on.journal)
-        ∙ sym (ap (state_left settings roads s) (made_more (number_after rounds) on.journal))
+        on.state ∙ ap (λ (t : State). state_after roads.nodes settings.wait t on.journal.entries) (way.base ∙ way.state) ∙ sym (state-more settings roads s js on.journal)
+        ∙ sym (ap (state_after_run settings roads s) (made_more (number_after rounds) on.journal))
 
     -- the last round is too late
     last_late : (n : ℕ) → n ≡ number_after rounds → Any IsTooLate (left_commands drive.book.state.vehicles drive.courses.items) → IsTooLateDay settings roads s rounds n made
@@ -249,16 +232,16 @@ no_map [] none = refl
 no_map (r ∷ made) none = absurd (let e : suc (length (map (λ (r : DayRound). r.number) made)) ≡ 0 = ap length none in omega (arith, e))
 
 -- a day came to its end, and its counts are taken
-pub day_ends : (settings : Settings) (roads : Roads) (s : State) (rounds : List NumberedLanes) (Before After : List DayRound → Type 0) (drive end : Drive) (run : DayRun)
+pub day_ends : (settings : Settings) (roads : Roads) (s : State) (rounds : List NumberedLanes) (Before After : List DayRound → Type 0) (drive end : Drive) (run : DayCounts)
     → HasCome Before settings roads s rounds drive → HasEnded settings roads rounds drive Before After end
-    → ((entries : List Entry) → AreServed entries end.served → AreCounts roads end.book.state.riders entries run.picked run.dropped run.worst_wait run.worst_delay)
+    → ((entries : List Entry) → AreServed entries end.served → AreCounts roads end.book.state.riders entries run)
     → IsCounted After settings roads s rounds run
 day_ends settings roads s [] Before After drive end run come ended counts =
     let same = sym ended.0 in record {
       made = come.made;
       taken = ended.1 come.made come.taken;
       driven = no_map come.made come.way.driven.numbers;
-      counts = subst (λ (t : State). AreCounts roads t.riders (entries_of come.made) run.picked run.dropped run.worst_wait run.worst_delay) (ap (λ (d : Drive). d.book.state) ended.0 ∙ come.way.state)
+      counts = subst (λ (t : State). AreCounts roads t.riders (entries_of come.made) run) (ap (λ (d : Drive). d.book.state) ended.0 ∙ come.way.state)
           (counts (entries_of come.made) (subst (λ (d : Drive). AreServed (entries_of come.made) d.served) same come.served));
     }
 day_ends settings roads s (q ∷ rounds) Before After drive end run come on counts =
@@ -267,7 +250,7 @@ day_ends settings roads s (q ∷ rounds) Before After drive end run come on coun
       made = made;
       taken = on.kept come.made come.taken;
       driven = day_done settings roads s (q ∷ rounds) drive come.made come.way Before After end on;
-      counts = subst (λ (t : State). AreCounts roads t.riders (entries_of made) run.picked run.dropped run.worst_wait run.worst_delay) (state_done settings roads s (q ∷ rounds) drive come.made come.way Before After end on)
+      counts = subst (λ (t : State). AreCounts roads t.riders (entries_of made) run) (state_done settings roads s (q ∷ rounds) drive come.made come.way Before After end on)
           (counts (entries_of made) (served_more come.made r drive.served end.served come.served on.served));
     }
 

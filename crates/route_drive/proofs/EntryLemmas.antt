@@ -101,7 +101,7 @@ count_is n served es is small are =
 pub counts_are : (roads : Roads) (riders : List BookRider) (served : Served) (es : List Entry) (picked dropped wait delay : ℕ) (delays : List ℕ)
     → picked ≡ length served.picked.items → picked < 2 ^ 64 → dropped ≡ length served.dropped.items → dropped < 2 ^ 64
     → wait ≡ greatest (map (waited riders) served.picked.items) → AllZip (IsDelayed roads riders) served.dropped.items delays → delay ≡ greatest delays
-    → AreServed es served → AreCounts roads riders es picked dropped wait delay
+    → AreServed es served → AreCounts roads riders es (record { picked = picked; dropped = dropped; worst_wait = wait; worst_delay = delay })
 counts_are roads riders served es picked dropped wait delay delays picks few drops less waits are worst is = record {
   picked_is = count_is picked served.picked.items (picked_among es) picks few is.picked;
   dropped_is = count_is dropped served.dropped.items (dropped_among es) drops less is.dropped;
@@ -119,14 +119,14 @@ node_known nodes node found =
     (any.0, any.2, get_or_default nodes any.0 node any.1 any.2 ∙ any.3 ∙ same)
 
 -- what holds of all holds of what is found
-pub all_found : {X : Type 0} (P : X → Type 0) (p : X → Bool) (xs : List X) (x : X) → All P xs → find p xs ≡ Some x → P x
+all_found : {X : Type 0} (P : X → Type 0) (p : X → Bool) (xs : List X) (x : X) → All P xs → find p xs ≡ Some x → P x
 all_found P p [] x all found = absurd cc
 all_found P p (y ∷ ys) x all found = elim (cases_Bool (p y)) [
   | inl holds ↦ let is : Some y ≡ Some x = sym (cond-true (p y) (Some y) (find p ys) holds) ∙ found in let same : y ≡ x = cc in subst P same (All-head P y ys all)
   | inr other ↦ all_found P p ys x (All-tail P y ys all) (sym (cond-false (p y) (Some y) (find p ys) other) ∙ found)
 ]
 
--- what is found of a rider
-pub found_as : (riders : List BookRider) (id : ℕ) (o : Option BookRider) → find (λ (x : BookRider). x.id == id) riders ≡ o → find_rider id riders ≡ o
+-- what holds of all riders holds of one who is found
+pub found_rider : (P : BookRider → Type 0) (riders : List BookRider) (id : ℕ) (r : BookRider) → All P riders → find_rider id riders ≡ Some r → P r
 unfolding look_up
-found_as riders id o found = found
+found_rider P riders id r all found = all_found P (λ (x : BookRider). x.id == id) riders r all found

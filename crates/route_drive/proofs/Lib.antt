@@ -1,5 +1,4 @@
 pub mod RestLemmas
-pub mod NearLemmas
 pub mod TreeLemmas
 pub mod DayLemmas
 pub mod EnterLemmas

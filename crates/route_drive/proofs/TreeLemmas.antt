@@ -18,7 +18,7 @@ use Rattle.travel_times.proofs.lemmas.SearchLemmas.{arc_of_hop, hop_of_arc, hops
 use Rattle.route_drive.specs.declared.tree.Found.{Found}
 use Rattle.route_drive.specs.declared.walk.WalkStep.{WalkStep}
 use Rattle.route_drive.specs.Walk.{IsShortestWalk}
-use Rattle.route_drive.specs.work.Near.{AreTimesUpTo}
+use Rattle.travel_times.specs.Near.{AreTimesUpTo}
 use Rattle.route_drive.specs.work.Tree.{no_found, found_at, is_seen, IsTight, IsTree, AreHopsOpened, IsOpened, Grows, IsGrowing, IsFullTree, IsWalkBack}
 
 -- one more is marked and found
@@ -187,7 +187,7 @@ IsGrowing-start arcs times start most n size within near =
     }
 
 -- the times from a start as far as a goal
-module _ (arcs : List Arc) (n start goal : ℕ) (times : List ℕ) (among : All (IsArcAmong n) arcs) (few : n ≤ 100000) (inside : start < n) (within : goal < n) (timed : AreTimesUpTo arcs n start goal times) where
+module _ (arcs : List Arc) (n start goal : ℕ) (times : List ℕ) (among : All (IsArcAmong n) arcs) (few : n ≤ 100000) (inside : start < n) (within : goal < n) (timed : AreTimesUpTo arcs n start (slice_index times goal) times) where
   -- a node that is no further than the goal is no nearer by way of another one
   no_nearer : (via node : ℕ) (walk : List Arc) → via < n → node < n → slice_index times goal < never → IsWalk arcs via walk node → slice_index times via + walk_seconds walk ≤ slice_index times goal
       → slice_index times node ≤ slice_index times via + walk_seconds walk
@@ -280,7 +280,7 @@ IsWalkBack-more roads times from via to steps tight back =
 
 -- what is told of a walk between two indexes, told of the nodes' names
 pub walk_told : (roads : Roads) (from to start goal : ℕ) (times : List ℕ) → All (IsArcAmong (length roads.nodes)) roads.arcs → length roads.nodes ≤ 100000 → index_in roads.nodes from ≡ start → index_in roads.nodes to ≡ goal
-    → start < length roads.nodes → goal < length roads.nodes → AreTimesUpTo roads.arcs (length roads.nodes) start goal times
+    → start < length roads.nodes → goal < length roads.nodes → AreTimesUpTo roads.arcs (length roads.nodes) start (slice_index times goal) times
     → {V E : Type 0} (items : V → List WalkStep) (answer : Result (Option V) E) → IfOk answer (λ walk. MatchOption walk (HasNoWalk roads.arcs start goal) (λ steps. IsWalkBack roads times start goal (items steps)))
     → IfOk answer (λ walk. MatchOption walk (HasNoWalk roads.arcs (index_in roads.nodes from) (index_in roads.nodes to)) (λ steps. IsShortestWalk roads from to (items steps)))
 walk_told roads from to start goal times among few is_start is_goal inside within timed items (Err fault) told = tt

@@ -39,13 +39,13 @@ use Rattle.road_network.specs.Roads.{Roads, index_in}
 use Rattle.road_network.specs.declared.arc.Arc.{Arc}
 use Rattle.road_network.specs.Walk.{IsTimeBetween}
 use Rattle.script_rows.specs.Round.{NumberedLanes}
-use Rattle.dispatch_engine.specs.Run.{IsRun}
+use Rattle.dispatch_report.specs.declared.day.DayCounts.{DayCounts}
+use Rattle.dispatch_engine.specs.Run.{IsRun, state_after_run}
 use Rattle.route_drive.specs.declared.day_run.DayRound.{DayRound}
-use Rattle.route_drive.specs.Driven.{IsDrivenDay, state_left}
 use Rattle.stop_orders.specs.Settled.{greatest}
 use Rattle.route_drive.specs.Counts.{AreCounts, entries_of, IsDelayOf, dropped_among, ideal_dropoff, is_dropped, is_picked, picked_among, rider_of, wait_of}
 use Rattle.route_drive.specs.Entering.{second_of}
-use Rattle.route_drive.specs.Promises.{EntriesKeep, EntryKeeps, IsDroppedInTime}
+use Rattle.route_drive.specs.Promises.{EntriesKeep, EntryKeeps, IsDroppedInTime, IsKeptDay, IsRunOfDay}
 
 -- a rider of whatever status
 pub record IsSame (r t : BookRider) : Type 0 where
@@ -369,7 +369,7 @@ module _ (settings : Settings) (roads : Roads) where
   replies-join s (e ∷ es) later first second = (first.0, replies-join (step roads.nodes settings.wait s e.command).0 es later first.1 second)
 
   -- the replies of a run, one journal after the other, and the state that it leaves
-  pub run_replies : (s : State) (position : ℕ) (rounds : List NumberedLanes) (made : List DayRound) → IsRun settings roads s position rounds (map (λ (r : DayRound). r.journal) made)
+  run_replies : (s : State) (position : ℕ) (rounds : List NumberedLanes) (made : List DayRound) → IsRun settings roads s position rounds (map (λ (r : DayRound). r.journal) made)
       → RepliesAreSteps roads.nodes settings.wait s (entries_of made)
   unfolding RepliesAreSteps
   run_replies s position [] [] run = tt
@@ -379,33 +379,31 @@ module _ (settings : Settings) (roads : Roads) where
       replies-join s m.journal.entries (entries_of made) (subst (λ (t : State). RepliesAreSteps roads.nodes settings.wait t m.journal.entries) run.0 run.2.replies)
       (run_replies (state_after roads.nodes settings.wait s m.journal.entries) (next_position position m.journal.entries) rounds made run.3)
 
-  pub run_state : (s : State) (position : ℕ) (rounds : List NumberedLanes) (made : List DayRound) → IsRun settings roads s position rounds (map (λ (r : DayRound). r.journal) made)
-      → state_after roads.nodes settings.wait s (entries_of made) ≡ state_left settings roads s (map (λ (r : DayRound). r.journal) made)
+  run_state : (s : State) (made : List DayRound) → state_after roads.nodes settings.wait s (entries_of made) ≡ state_after_run settings roads s (map (λ (r : DayRound). r.journal) made)
   unfolding state_after
-  run_state s position [] [] run = refl
-  run_state s position [] (m ∷ made) run = absurd run
-  run_state s position (r ∷ rounds) [] run = absurd run
-  run_state s position (r ∷ rounds) (m ∷ made) run =
-      rounds-join roads.nodes settings.wait s m.journal.entries (entries_of made)
-      ∙ run_state (state_after roads.nodes settings.wait s m.journal.entries) (next_position position m.journal.entries) rounds made run.3
-      ∙ ap (λ (t : State). state_left settings roads (state_after roads.nodes settings.wait t m.journal.entries) (map (λ (x : DayRound). x.journal) made)) (sym run.0)
+  run_state s [] = refl
+  run_state s (m ∷ made) = rounds-join roads.nodes settings.wait s m.journal.entries (entries_of made) ∙ run_state (state_after roads.nodes settings.wait s m.journal.entries) made
 
-  run_in_time : (s : State) (position : ℕ) (script : List NumberedLanes) (made : List DayRound) (picked dropped wait delay : ℕ) → IsRun settings roads s position script (map (λ (r : DayRound). r.journal) made)
-      → EntriesKeep settings roads s (entries_of made) → AreCounts roads (state_left settings roads s (map (λ (r : DayRound). r.journal) made)).riders (entries_of made) picked dropped wait delay
-      → (wait ≤ settings.wait) × (delay ≤ settings.delay)
-  run_in_time s position script made picked dropped wait delay run kept counts =
-      let later : List BookRider = (state_left settings roads s (map (λ (r : DayRound). r.journal) made)).riders in
+  run_in_time : (s : State) (position : ℕ) (script : List NumberedLanes) (made : List DayRound) (run : DayCounts) → IsRun settings roads s position script (map (λ (r : DayRound). r.journal) made)
+      → EntriesKeep settings roads s (entries_of made) → AreCounts roads (state_after_run settings roads s (map (λ (r : DayRound). r.journal) made)).riders (entries_of made) run
+      → (run.worst_wait ≤ settings.wait) × (run.worst_delay ≤ settings.delay)
+  run_in_time s position script made run ran kept counts =
+      let later : List BookRider = (state_after_run settings roads s (map (λ (r : DayRound). r.journal) made)).riders in
       let keeps : Keeps (state_after roads.nodes settings.wait s (entries_of made)).riders later =
-      subst (λ (t : State). Keeps t.riders later) (sym (run_state s position script made run)) (keeps_self later) in
-      let replies = run_replies s position script made run in
+      subst (λ (t : State). Keeps t.riders later) (sym (run_state s made)) (keeps_self later) in
+      let replies = run_replies s position script made ran in
       let waits = waits_within s (entries_of made) later replies kept keeps in
       let delays = delays_within s (entries_of made) later counts.delays replies kept keeps counts.delays_are in
       let wait_is = counts.wait_is in
       let delay_is = counts.delay_is in
       (omega (arith, waits, wait_is), omega (arith, delays, delay_is))
 
-  -- the waits and delays of a day that keeps its promises
-  pub day_in_time : (s : State) (rounds : List NumberedLanes) (made : List DayRound) (picked dropped wait delay : ℕ) → IsDrivenDay settings roads s rounds made → EntriesKeep settings roads s (entries_of made)
-      → AreCounts roads (state_left settings roads s (map (λ (r : DayRound). r.journal) made)).riders (entries_of made) picked dropped wait delay → (wait ≤ settings.wait) × (delay ≤ settings.delay)
-  day_in_time s [] made picked dropped wait delay none kept counts = run_in_time s 0 [] made picked dropped wait delay (rw none tt) kept counts
-  day_in_time s (r ∷ rounds) made picked dropped wait delay day kept counts = run_in_time s 0 (day.script ++ day.end ∷ []) made picked dropped wait delay day.run kept counts
+  -- a day that keeps its promises, with its counts
+  pub day_in_time : (s : State) (rounds : List NumberedLanes) (made : List DayRound) (run : DayCounts) → IsKeptDay settings roads s rounds made
+      → AreCounts roads (state_after_run settings roads s (map (λ (r : DayRound). r.journal) made)).riders (entries_of made) run → IsRunOfDay settings roads s rounds made run
+  day_in_time s [] made run day counts =
+      let worst = run_in_time s 0 [] made run (rw day.driven tt) day.keeps counts in
+      record { day = day; counts = counts; in_wait = worst.0; in_delay = worst.1 }
+  day_in_time s (r ∷ rounds) made run day counts =
+      let worst = run_in_time s 0 (day.driven.script ++ day.driven.end ∷ []) made run day.driven.run day.keeps counts in
+      record { day = day; counts = counts; in_wait = worst.0; in_delay = worst.1 }

@@ -2,6 +2,7 @@
 use Rattle.std.specs.Prelude.{◌≡◌, ℕ, ◌+◌, ◌-◌, ◌^◌, Bool, true, false, min, nat_lt, if◌then◌else◌, List, MatchOption, length, map, filter}
 use Rattle.std.specs.List.{AllZip, flat_map}
 use Rattle.std.specs.Option.{option_map_or}
+use Rattle.dispatch_report.specs.declared.day.DayCounts.{DayCounts}
 use Rattle.pool_base.specs.TravelTime.{never}
 use Rattle.request_book.specs.State.{find_rider}
 use Rattle.request_book.specs.declared.command.Command.{Command}
@@ -64,10 +65,10 @@ IsDelayOf roads riders e delay =
     × (delay ≡ second_of e.command - ideal_dropoff r.time seconds))
 
 -- the counts of entries, where these are the riders whom they name
-pub record AreCounts (roads : Roads) (riders : List BookRider) (entries : List Entry) (picked dropped worst_wait worst_delay : ℕ) : Type 0 where
-  pub picked_is : picked ≡ count_of (picked_among entries)
-  pub dropped_is : dropped ≡ count_of (dropped_among entries)
-  pub wait_is : worst_wait ≡ greatest (map (wait_of riders) (picked_among entries))
+pub record AreCounts (roads : Roads) (riders : List BookRider) (entries : List Entry) (counts : DayCounts) : Type 0 where
+  pub picked_is : counts.picked ≡ count_of (picked_among entries)
+  pub dropped_is : counts.dropped ≡ count_of (dropped_among entries)
+  pub wait_is : counts.worst_wait ≡ greatest (map (wait_of riders) (picked_among entries))
   pub delays : List ℕ
   pub delays_are : AllZip (IsDelayOf roads riders) (dropped_among entries) delays
-  pub delay_is : worst_delay ≡ greatest delays
+  pub delay_is : counts.worst_delay ≡ greatest delays

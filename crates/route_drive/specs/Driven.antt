@@ -1,5 +1,5 @@
 -- The driven script of a day: its rounds with what is entered before each seal, and a last round of the stops left.
-use Rattle.std.specs.Prelude.{◌≡◌, ◌≢◌, ℕ, ◌+◌, List, [], ◌∷◌, ◌++◌, Option, None, Some, MatchOption, All, map, option_map, option_and_then, fold}
+use Rattle.std.specs.Prelude.{◌≡◌, ◌≢◌, ℕ, ◌+◌, List, [], ◌∷◌, ◌++◌, Option, None, Some, MatchOption, All, map, option_map, option_and_then}
 use Rattle.std.specs.List.{Any}
 use Rattle.std.specs.Option.{option_or, option_map_or}
 use Rattle.batch_snapshot.specs.Kept.{IsFleet}
@@ -22,7 +22,7 @@ use Rattle.request_book.specs.declared.state.State.{State}
 use Rattle.rider_limits.specs.declared.settings.Settings.{Settings}
 use Rattle.road_network.specs.Roads.{Roads}
 use Rattle.script_rows.specs.Round.{NumberedLanes, empty_round, lane_at}
-use Rattle.dispatch_engine.specs.Run.{IsRun}
+use Rattle.dispatch_engine.specs.Run.{IsRun, state_after_run}
 use Rattle.route_drive.specs.declared.course.Course.{Course}
 use Rattle.route_drive.specs.declared.day_run.DayRound.{DayRound}
 use Rattle.route_drive.specs.declared.day_run.DriveFault.{DriveFault}
@@ -112,10 +112,6 @@ module _ (settings : Settings) (roads : Roads) where
   abbrev pub first_courses : State → List Course
   first_courses s = map (λ v. record { stops = record { items = [] }; target = None }) s.vehicles
 
-  -- the state that journals leave
-  abbrev pub state_left : State → List Journal → State
-  state_left s journals = fold (λ _ j. left_state j) s journals
-
   -- what is on its way after journals of rounds, from a state
   abbrev pub courses_from : State → List NumberedLanes → List DayRound → List Course
   courses_from s rounds made = courses_left (first_courses s) rounds (map (λ r. r.journal) made)
@@ -157,7 +153,7 @@ module _ (settings : Settings) (roads : Roads) where
     pub rest : List NumberedLanes
     pub parts : rounds ≡ before ++ rest
     pub driven : HasDriven s before made
-    pub late : ComesTooLate (state_left s (map (λ r. r.journal) made)).vehicles (courses_from s before made) rest number
+    pub late : ComesTooLate (state_after_run settings roads s (map (λ r. r.journal) made)).vehicles (courses_from s before made) rest number
     pub end : rest ≡ [] → number ≡ number_after rounds
 
   -- why a day isn't driven to its end, by the rounds that were taken

@@ -7,6 +7,7 @@ use Rattle.batch_snapshot.specs.Kept.{IsFleet}
 use Rattle.batch_snapshot.specs.Vehicle.{HasSeats}
 use Rattle.batch_snapshot.specs.declared.promise.Promise.{Promise}
 use Rattle.batch_snapshot.specs.declared.vehicle.Vehicle.{Vehicle}
+use Rattle.dispatch_engine.specs.Run.{state_after_run}
 use Rattle.promise_check.specs.Settling.{IsSettled}
 use Rattle.request_book.specs.Book.{opening}
 use Rattle.request_book.specs.Consistent.{IsNode}
@@ -29,10 +30,10 @@ use Rattle.script_rows.specs.Round.{IsRound, NumberedLanes}
 use Rattle.stop_orders.specs.declared.settled.Settled.{Settled}
 use Rattle.travel_times.specs.Table.{AreTravelTimes}
 use Rattle.route_drive.specs.declared.day_run.DayRound.{DayRound}
-use Rattle.route_drive.specs.declared.day_run.DayRun.{DayRun}
+use Rattle.dispatch_report.specs.declared.day.DayCounts.{DayCounts}
 use Rattle.route_drive.specs.Counts.{AreCounts, entries_of, ideal_dropoff}
 use Rattle.route_drive.specs.Day.{day_fault}
-use Rattle.route_drive.specs.Driven.{IsDrivenDay, state_left}
+use Rattle.route_drive.specs.Driven.{IsDrivenDay}
 
 -- a drop-off at a second is at most so much later than the ideal one
 pub record IsDroppedInTime (roads : Roads) (delay : ℕ) (r : BookRider) (second : ℕ) : Type 0 where
@@ -94,11 +95,16 @@ module _ (settings : Settings) (roads : Roads) where
   EntriesKeep s [] = StateKeeps s []
   EntriesKeep s (e ∷ es) = EntryKeeps s e.command e.reply × StateKeeps s (e ∷ es) × EntriesKeep (step roads.nodes settings.wait s e.command).0 es
 
-  -- rounds are those of a driven day that keeps its promises, and these are its counts; the worst are within the limits
-  pub record IsRunOfDay (s : State) (rounds : List NumberedLanes) (made : List DayRound) (run : DayRun) : Type 0 where
+  -- rounds are those of a driven day, and it keeps all promises: nobody is late, no promise lapses, and no vehicle is above its
+  -- seats
+  pub record IsKeptDay (s : State) (rounds : List NumberedLanes) (made : List DayRound) : Type 0 where
     pub driven : IsDrivenDay settings roads s rounds made
-    pub counts : AreCounts roads (state_left settings roads s (map (λ r. r.journal) made)).riders (entries_of made) run.picked run.dropped run.worst_wait run.worst_delay
     pub keeps : EntriesKeep s (entries_of made)
+
+  -- rounds are those of such a day, and these are its counts, of which the worst are within the limits
+  pub record IsRunOfDay (s : State) (rounds : List NumberedLanes) (made : List DayRound) (run : DayCounts) : Type 0 where
+    pub day : IsKeptDay s rounds made
+    pub counts : AreCounts roads (state_after_run settings roads s (map (λ r. r.journal) made)).riders (entries_of made) run
     pub in_wait : run.worst_wait ≤ settings.wait
     pub in_delay : run.worst_delay ≤ settings.delay
 

@@ -1,4 +1,3 @@
-pub mod Near
 pub mod Tree
 pub mod Places
 pub mod Rounds

@@ -1,5 +1,5 @@
 //! What is counted of a driven day.
-ghost use Rattle.std.specs.Prelude.{◌≡◌, ◌==◌, ◌∷◌, [], ℕ, List, All, IfOk, IfSome, IfNone, None, OnOk, Some, find, map};
+ghost use Rattle.std.specs.Prelude.{◌≡◌, ◌∷◌, [], ℕ, List, All, IfOk, OnOk, map};
 ghost use Rattle.std.specs.List.{AllZip};
 ghost use Rattle.request_book.specs.Consistent.{IsNode};
 ghost use Rattle.request_book.specs.declared.journal.Entry.{Entry as EntryValue};
@@ -9,12 +9,12 @@ ghost use Rattle.route_drive.specs.Counts.{AreCounts, ideal_dropoff};
 ghost use Rattle.route_drive.specs.work.Counting.{AddsServed, AreServed, IsDelayed, served_by, waited};
 ghost use Rattle.stop_orders.specs.Settled.{greatest};
 
-use crate::day_run::DayRun;
-use crate::search::Search;
+use dispatch_report::DayCounts;
 use pool_base::{NodeId, OutOfMemory, RiderId, Second, Times};
-use request_book::{Book, BookRider, Command, Entry, Reply};
+use request_book::{Book, Command, Entry, Reply};
 use road_network::Network;
 use std::alloc::Global;
+use travel_times::{Arcs, Search};
 
 /// A rider who was picked up or dropped, and when.
 #[derive(Clone, Copy)]
@@ -94,44 +94,29 @@ pub(crate) fn counts_of(
     book: &Book,
     served: &Served,
     network: &Network,
-) -> Result<DayRun, OutOfMemory>
+) -> Result<DayCounts, OutOfMemory>
     requires nodes { book.now.nodes ≡ network.now.nodes }
-    ensures { IfOk result (λ run. (entries : List EntryValue) → AreServed entries served.now → AreCounts network.now book.now.state.riders entries run.picked run.dropped run.worst_wait run.worst_delay) }
+    ensures { IfOk result (λ run. (entries : List EntryValue) → AreServed entries served.now → AreCounts network.now book.now.state.riders entries run) }
 {
     let _named = book.entries();
+    let arcs = Arcs::of(alloc, network)?;
     let mut search = Search::new(alloc)?;
-    match book.state() {
-        Ok(state) => counts_among(&mut search, state.riders.as_slice(), served, network),
-        Err(_) => Err(OutOfMemory),
-    }
-}
-
-/// The counts, where these are the riders.
-fn counts_among(
-    search: &mut Search,
-    riders: &[BookRider],
-    served: &Served,
-    network: &Network,
-) -> Result<DayRun, OutOfMemory>
-    requires named { All (λ r. IsNode network.now.nodes r.origin × IsNode network.now.nodes r.destination) riders.now }
-    ensures { IfOk result (λ run. (entries : List EntryValue) → AreServed entries served.now → AreCounts network.now riders.now entries run.picked run.dropped run.worst_wait run.worst_delay) }
-{
-    let delay = worst_delay(search, riders, &served.dropped, network)?;
-    Ok(DayRun {
+    let delay = worst_delay(&mut search, book, &served.dropped, &arcs)?;
+    Ok(DayCounts {
         picked: served.picked.len() as u64,
         dropped: served.dropped.len() as u64,
-        worst_wait: worst_wait(riders, &served.picked),
+        worst_wait: worst_wait(book, &served.picked),
         worst_delay: delay,
     })
 }
 
 /// The longest wait of those who were picked up.
-fn worst_wait(riders: &[BookRider], picked: &[ServedRider]) -> u64
-    ensures { result ≡ greatest (map (waited riders.now) picked.now) }
+fn worst_wait(book: &Book, picked: &[ServedRider]) -> u64
+    ensures { result ≡ greatest (map (waited book.now.state.riders) picked.now) }
 {
     let mut worst = 0u64;
     for served in picked {
-        worst = worst.max(wait_of(riders, *served));
+        worst = worst.max(wait_of(book, *served));
     }
     worst
 }
@@ -139,16 +124,16 @@ fn worst_wait(riders: &[BookRider], picked: &[ServedRider]) -> u64
 /// The longest delay of those who were dropped.
 fn worst_delay(
     search: &mut Search,
-    riders: &[BookRider],
+    book: &Book,
     dropped: &[ServedRider],
-    network: &Network,
+    arcs: &Arcs<'_>,
 ) -> Result<u64, OutOfMemory>
-    requires named { All (λ r. IsNode network.now.nodes r.origin × IsNode network.now.nodes r.destination) riders.now }
-    ensures { IfOk result (λ worst. (delays : List ℕ) × AllZip (IsDelayed network.now riders.now) dropped.now delays × (worst ≡ greatest delays)) }
+    requires named { All (λ r. IsNode arcs.now.network.now.nodes r.origin × IsNode arcs.now.network.now.nodes r.destination) book.now.state.riders }
+    ensures { IfOk result (λ worst. (delays : List ℕ) × AllZip (IsDelayed arcs.now.network.now book.now.state.riders) dropped.now delays × (worst ≡ greatest delays)) }
 {
     let mut worst = 0u64;
     for served in dropped {
-        match delay_of(search, riders, *served, network) {
+        match delay_of(search, book, *served, arcs) {
             Ok(delay) => worst = worst.max(delay),
             Err(_) => return Err(OutOfMemory),
         }
@@ -156,25 +141,12 @@ fn worst_delay(
     Ok(worst)
 }
 
-/// The rider of this id.
-fn rider_in(riders: &[BookRider], id: RiderId) -> Option<&BookRider>
-    ensures some { IfSome result (λ rider. find (λ r. r.id == id) riders.now ≡ Some rider.now) }
-    ensures none { IfNone result (find (λ r. r.id == id) riders.now ≡ None) }
-{
-    for rider in riders {
-        if rider.id == id {
-            return Some(rider);
-        }
-    }
-    None
-}
-
 /// How long a rider who was picked up had waited.
-fn wait_of(riders: &[BookRider], served: ServedRider) -> u64
-    ensures { result ≡ waited riders.now served }
+fn wait_of(book: &Book, served: ServedRider) -> u64
+    ensures { result ≡ waited book.now.state.riders served }
 {
-    match rider_in(riders, served.rider) {
-        Some(rider) => (served.second.get() as u64).saturating_sub(rider.time.get() as u64),
+    match book.rider(served.rider) {
+        Some(found) => (served.second.get() as u64).saturating_sub(found.time.get() as u64),
         None => 0,
     }
 }
@@ -182,19 +154,17 @@ fn wait_of(riders: &[BookRider], served: ServedRider) -> u64
 /// How long after the ideal second a rider was dropped.
 fn delay_of(
     search: &mut Search,
-    riders: &[BookRider],
+    book: &Book,
     served: ServedRider,
-    network: &Network,
+    arcs: &Arcs<'_>,
 ) -> Result<u64, OutOfMemory>
-    requires named { All (λ r. IsNode network.now.nodes r.origin × IsNode network.now.nodes r.destination) riders.now }
-    ensures { IfOk result (IsDelayed network.now riders.now served) }
+    requires named { All (λ r. IsNode arcs.now.network.now.nodes r.origin × IsNode arcs.now.network.now.nodes r.destination) book.now.state.riders }
+    ensures { IfOk result (IsDelayed arcs.now.network.now book.now.state.riders served) }
 {
-    match rider_in(riders, served.rider) {
-        Some(rider) => {
-            let from = rider.origin;
-            let to = rider.destination;
-            let seconds = seconds_between(search, from, to, network)?;
-            let ideal = ideal_of(rider.time, seconds);
+    match book.rider(served.rider) {
+        Some(found) => {
+            let seconds = seconds_between(search, found.origin, found.destination, arcs)?;
+            let ideal = ideal_of(found.time, seconds);
             Ok((served.second.get() as u64).saturating_sub(ideal))
         }
         None => Ok(0),
@@ -218,14 +188,14 @@ fn seconds_between(
     search: &mut Search,
     from: NodeId,
     to: NodeId,
-    network: &Network,
+    arcs: &Arcs<'_>,
 ) -> Result<u32, OutOfMemory>
-    requires from { IsNode network.now.nodes from }
-    requires to { IsNode network.now.nodes to }
-    ensures { IfOk result (IsTimeBetween network.now.arcs (index_in network.now.nodes from) (index_in network.now.nodes to)) }
+    requires from { IsNode arcs.now.network.now.nodes from }
+    requires to { IsNode arcs.now.network.now.nodes to }
+    ensures { IfOk result (IsTimeBetween arcs.now.network.now.arcs (index_in arcs.now.network.now.nodes from) (index_in arcs.now.network.now.nodes to)) }
 {
-    let start = network.index_of(from).unwrap();
-    let goal = network.index_of(to).unwrap();
-    search.run(network, start, goal)?;
+    let start = arcs.network.index_of(from).unwrap();
+    let goal = arcs.network.index_of(to).unwrap();
+    search.run(arcs, start, Some(goal))?;
     Ok(search.seconds[goal])
 }

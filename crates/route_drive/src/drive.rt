@@ -16,12 +16,13 @@ ghost use Rattle.route_drive.specs.work.Drive.{HasCome, HasEnded, IsCounted, IsE
 
 use crate::counts::{Served, counts_of, note_entries};
 use crate::course::Course;
-use crate::day_run::{DayRound, DayRun, DriveFault};
+use crate::day_run::{DayRound, DriveFault};
 use crate::entering::Stopped;
 use crate::keeper::RoundKeeper;
 use crate::plan::{courses_after, first_courses};
 use crate::rounds::{driven_round, last_round};
 use dispatch_engine::{Setup, run_round};
+use dispatch_report::DayCounts;
 use pool_base::OutOfMemory;
 use request_book::{Book, Journal};
 use road_network::Network;
@@ -50,7 +51,7 @@ pub(crate) fn driven_day<W: Ways, D: Drafter, G: Gate, K: RoundKeeper>(
     day: &Script,
     setup: &Setup<'_, W, D, G>,
     keeper: &mut K,
-) -> Result<DayRun, DriveFault>
+) -> Result<DayCounts, DriveFault>
     requires new { IsNewBook setup.now.settings.now setup.now.network.now book }
     requires day { day_fault day.now ≡ None }
     requires fresh { K.took keeper.old keeper.old [] }
@@ -435,9 +436,9 @@ fn run_last<W: Ways, D: Drafter, G: Gate, K: RoundKeeper>(
 }
 
 /// What is counted of a day that was driven to its end.
-fn counted(alloc: Global, end: Drive, network: &Network) -> Result<DayRun, DriveFault>
+fn counted(alloc: Global, end: Drive, network: &Network) -> Result<DayCounts, DriveFault>
     requires nodes { end.book.nodes ≡ network.now.nodes }
-    ensures counts { IfOk result (λ run. (entries : List EntryValue) → AreServed entries end.served → AreCounts network.now end.book.state.riders entries run.picked run.dropped run.worst_wait run.worst_delay) }
+    ensures counts { IfOk result (λ run. (entries : List EntryValue) → AreServed entries end.served → AreCounts network.now end.book.state.riders entries run) }
     ensures late { IfErr result (λ fault. fault ≡ NoMemory) }
 {
     match counts_of(alloc, &end.book, &end.served, network) {

@@ -41,12 +41,11 @@ mod places;
 mod plan;
 mod promised;
 mod rounds;
-mod search;
 mod tree;
 mod walk;
 
 pub use day::{DayFault, is_day};
-pub use day_run::{DayRound, DayRun, DriveFault};
+pub use day_run::{DayRound, DriveFault};
 pub use keeper::RoundKeeper;
 pub use promised::drive_day;
 pub use walk::{WalkStep, shortest_walk};

@@ -11,7 +11,6 @@ ghost use Rattle.route_drive.specs.Walk.{IsShortestWalk};
 ghost use Rattle.route_drive.specs.declared.walk.WalkStep.{WalkStep};
 
 use crate::course::{Course, Heading, NodeAt, Stay};
-use crate::search::Search;
 use crate::walk::{WalkStep, shortest_walk_with};
 use batch_snapshot::Vehicle;
 use pool_base::{NodeId, OutOfMemory, Second};
@@ -21,6 +20,7 @@ use rider_limits::Settings;
 use road_network::Network;
 use std::alloc::Global;
 use std::thread::Threads;
+use travel_times::{Arcs, Search};
 
 /// Where all vehicles are at a seal. The workers share the walks, each of which is a function of the network alone.
 pub(crate) fn places_at(
@@ -36,7 +36,8 @@ pub(crate) fn places_at(
     ensures { IfOk result (λ places. ArePlaced network.now settings.now.dwell now vehicles.now courses.now places.items) }
 {
     let headings = headings_of(alloc, settings.dwell, now, vehicles, courses)?;
-    walked(rt, alloc, network, now, &headings, settings.workers)
+    let arcs = Arcs::of(alloc, network)?;
+    walked(rt, alloc, &arcs, now, &headings, settings.workers)
 }
 
 /// Where each vehicle stands when its due stops are done, and where it goes from there.
@@ -72,13 +73,13 @@ fn heading_of(dwell: u16, now: Second, vehicle: &Vehicle, course: &Course) -> He
 fn walked(
     rt: &(impl Threads + Sync),
     alloc: Global,
-    network: &Network,
+    arcs: &Arcs<'_>,
     now: Second,
     headings: &[Heading],
     workers: u8,
 ) -> Result<Vec<NodeAt>, OutOfMemory>
     requires some { 1 ≤ workers }
-    ensures { IfOk result (λ places. AllZip (IsPlaced network.now now) headings.now places.items) }
+    ensures { IfOk result (λ places. AllZip (IsPlaced arcs.now.network.now now) headings.now places.items) }
 {
     let least = headings.len() / workers as usize;
     let places = headings
@@ -87,8 +88,8 @@ fn walked(
         .map_init(
             || Search::new(alloc).ok(),
             |search: &mut Option<Search>, heading: &Heading| -> Result<NodeAt, OutOfMemory>
-                ensures { IfOk result (λ there. IsPlaced network.entry.now now heading.entry.now there) }
-            { place_of(search, network, now, heading) },
+                ensures { IfOk result (λ there. IsPlaced arcs.entry.now.network.now now heading.entry.now there) }
+            { place_of(search, arcs, now, heading) },
         )
         .collect::<Result<Vec<NodeAt>, OutOfMemory>>(rt, alloc);
     match places {
@@ -100,14 +101,14 @@ fn walked(
 /// Where a vehicle is that heads so, if there is room for a search.
 fn place_of(
     search: &mut Option<Search>,
-    network: &Network,
+    arcs: &Arcs<'_>,
     now: Second,
     heading: &Heading,
 ) -> Result<NodeAt, OutOfMemory>
-    ensures { IfOk result (λ there. IsPlaced network.now now heading.now there) }
+    ensures { IfOk result (λ there. IsPlaced arcs.now.network.now now heading.now there) }
 {
     match search {
-        Some(search) => reported(search, network, now, heading.from, heading.goal),
+        Some(search) => reported(search, arcs, now, heading.from, heading.goal),
         None => Err(OutOfMemory),
     }
 }
@@ -152,16 +153,16 @@ fn next_goal(now: Second, course: &Course) -> Option<NodeId>
 /// A shortest walk, where both are nodes of the network.
 fn walk_between(
     search: &mut Search,
-    network: &Network,
+    arcs: &Arcs<'_>,
     from: NodeId,
     to: NodeId,
 ) -> Result<Option<Vec<WalkStep>>, OutOfMemory>
     ensures { IfOk result (λ walk. MatchOption walk
-        (Contains network.now.nodes from → Contains network.now.nodes to → HasNoWalk network.now.arcs (index_in network.now.nodes from) (index_in network.now.nodes to))
-        (λ steps. IsShortestWalk network.now from to steps.items)) }
+        (Contains arcs.now.network.now.nodes from → Contains arcs.now.network.now.nodes to → HasNoWalk arcs.now.network.now.arcs (index_in arcs.now.network.now.nodes from) (index_in arcs.now.network.now.nodes to))
+        (λ steps. IsShortestWalk arcs.now.network.now from to steps.items)) }
 {
-    if network.has_node(from) && network.has_node(to) {
-        shortest_walk_with(search, network, from, to)
+    if arcs.network.has_node(from) && arcs.network.has_node(to) {
+        shortest_walk_with(search, arcs, from, to)
     } else {
         Ok(None)
     }
@@ -195,12 +196,12 @@ fn first_step(now: u64, left: u64, steps: &[WalkStep]) -> Option<WalkStep>
 /// Where a vehicle is reported.
 fn reported(
     search: &mut Search,
-    network: &Network,
+    arcs: &Arcs<'_>,
     now: Second,
     at: Stay,
     goal: Option<NodeId>,
 ) -> Result<NodeAt, OutOfMemory>
-    ensures { IfOk result (IsReported network.now now at goal) }
+    ensures { IfOk result (IsReported arcs.now.network.now now at goal) }
 {
     let now = now.get() as u64;
     if now < at.free {
@@ -216,7 +217,7 @@ fn reported(
     let Some(to) = goal else {
         return Ok(rest);
     };
-    let Some(steps) = walk_between(search, network, at.node, to)? else {
+    let Some(steps) = walk_between(search, arcs, at.node, to)? else {
         return Ok(rest);
     };
     Ok(on_walk(now, at, to, &steps))

@@ -8,10 +8,11 @@ ghost use Rattle.route_drive.specs.Promises.{IsRunOfDay};
 ghost use Rattle.route_drive.specs.declared.day_run.DayRound.{DayRound};
 ghost use Rattle.script_rows.specs.Round.{IsRound};
 
-use crate::day_run::{DayRun, DriveFault};
+use crate::day_run::DriveFault;
 use crate::drive::driven_day;
 use crate::keeper::RoundKeeper;
 use dispatch_engine::Setup;
+use dispatch_report::DayCounts;
 use request_book::Book;
 use road_network::Network;
 use row_tables::Drafter;
@@ -43,7 +44,7 @@ pub fn drive_day<W: Ways, D: Drafter, G: Gate, K: RoundKeeper>(
     day: &Script,
     setup: &Setup<'_, W, D, G>,
     keeper: &mut K,
-) -> Result<DayRun, DriveFault>
+) -> Result<DayCounts, DriveFault>
     requires new { IsNewBook setup.now.settings.now setup.now.network.now book }
     requires day { day_fault day.now ≡ None }
     requires fresh { K.took keeper.old keeper.old [] }

@@ -1,7 +1,7 @@
 //! The nodes that shortest walks from a start come to, found by a breadth-first search.
 ghost use Rattle.std.specs.Prelude.{◌≡◌, ◌≢◌, ℕ, ◌<◌, false, true, IfOk, IfSome, IfNone, OnOk, length, replicate, slice_index, slice_set, ◌++◌, ◌∷◌, []};
 ghost use Rattle.pool_base.specs.TravelTime.{never};
-ghost use Rattle.route_drive.specs.work.Near.{AreTimesUpTo};
+ghost use Rattle.travel_times.specs.Near.{AreTimesUpTo};
 ghost use Rattle.route_drive.specs.work.Tree.{Grows, IsOpened, IsTree, found_at, is_seen};
 
 use pool_base::OutOfMemory;
@@ -70,7 +70,7 @@ pub(crate) fn shortest_tree(
     requires start { start < length network.now.nodes }
     requires goal { goal < length network.now.nodes }
     requires size { length times.now ≡ length network.now.nodes }
-    requires times { AreTimesUpTo network.now.arcs (length network.now.nodes) start goal times.now }
+    requires times { AreTimesUpTo network.now.arcs (length network.now.nodes) start (slice_index times.now goal) times.now }
     requires near { slice_index times.now goal < never }
     ensures tree { IfOk result (λ tree. IsTree network.now.arcs times.now tree.seen.items tree.found.items) }
     ensures first { IfOk result (λ tree. (found_at tree.found.items 0).node ≡ start) }

@@ -1,15 +1,15 @@
 ghost use Rattle.std.specs.Prelude.{◌≡◌, ◌<◌, Contains, IfOk, MatchOption, length, slice_index};
 ghost use Rattle.road_network.specs.Roads.{index_in};
 ghost use Rattle.road_network.specs.Walk.{HasNoWalk};
+ghost use Rattle.travel_times.specs.Near.{AreTimesUpTo};
 ghost use Rattle.route_drive.specs.Walk.{IsShortestWalk};
-ghost use Rattle.route_drive.specs.work.Near.{AreTimesUpTo};
 ghost use Rattle.route_drive.specs.work.Tree.{IsTree, IsWalkBack, found_at};
 
-use crate::search::Search;
 use crate::tree::{Tree, shortest_tree};
 use pool_base::{NodeId, OutOfMemory, Times};
 use road_network::Network;
 use std::alloc::Global;
+use travel_times::{Arcs, Search};
 
 /// A node that a walk comes to, and the seconds since its start.
 #[derive(Clone, Copy)]
@@ -35,27 +35,29 @@ pub fn shortest_walk(
         (HasNoWalk network.now.arcs (index_in network.now.nodes from) (index_in network.now.nodes to))
         (λ steps. IsShortestWalk network.now from to steps.items)) }
 {
+    let arcs = Arcs::of(alloc, network)?;
     let mut search = Search::new(alloc)?;
-    shortest_walk_with(&mut search, network, from, to)
+    shortest_walk_with(&mut search, &arcs, from, to)
 }
 
 /// `shortest_walk` in the room of earlier searches.
 pub(crate) fn shortest_walk_with(
     search: &mut Search,
-    network: &Network,
+    arcs: &Arcs<'_>,
     from: NodeId,
     to: NodeId,
 ) -> Result<Option<Vec<WalkStep>>, OutOfMemory>
-    requires from { Contains network.now.nodes from }
-    requires to { Contains network.now.nodes to }
+    requires from { Contains arcs.now.network.now.nodes from }
+    requires to { Contains arcs.now.network.now.nodes to }
     ensures { IfOk result (λ walk. MatchOption walk
-        (HasNoWalk network.now.arcs (index_in network.now.nodes from) (index_in network.now.nodes to))
-        (λ steps. IsShortestWalk network.now from to steps.items)) }
+        (HasNoWalk arcs.now.network.now.arcs (index_in arcs.now.network.now.nodes from) (index_in arcs.now.network.now.nodes to))
+        (λ steps. IsShortestWalk arcs.now.network.now from to steps.items)) }
 {
+    let network = arcs.network;
     let _kept = network.node_count();
     let start = network.index_of(from).unwrap();
     let goal = network.index_of(to).unwrap();
-    search.run(network, start, goal)?;
+    search.run(arcs, start, Some(goal))?;
     walk_by(search.alloc, network, &search.seconds, start, goal)
 }
 
@@ -70,7 +72,7 @@ fn walk_by(
     requires start { start < length network.now.nodes }
     requires goal { goal < length network.now.nodes }
     requires size { length times.now ≡ length network.now.nodes }
-    requires times { AreTimesUpTo network.now.arcs (length network.now.nodes) start goal times.now }
+    requires times { AreTimesUpTo network.now.arcs (length network.now.nodes) start (slice_index times.now goal) times.now }
     ensures { IfOk result (λ walk. MatchOption walk (HasNoWalk network.now.arcs start goal) (λ steps. IsWalkBack network.now times.now start goal steps.items)) }
 {
     let _kept = network.node_count();

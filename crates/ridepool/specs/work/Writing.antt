@@ -21,7 +21,6 @@ use Rattle.road_network.specs.Roads.{Roads}
 use Rattle.route_drive.specs.Day.{day_fault}
 use Rattle.route_drive.specs.Driven.{IsTooLateDay}
 use Rattle.route_drive.specs.declared.day_run.DayRound.{DayRound}
-use Rattle.route_drive.specs.declared.day_run.DayRun.{DayRun}
 use Rattle.route_drive.specs.declared.day_run.DriveFault.{DriveFault}
 use Rattle.route_drive.specs.declared.day_run.DriveFault.TheVariants as drive
 use Rattle.script_rows.specs.Round.{NumberedLanes}
@@ -85,12 +84,9 @@ abbrev pub late_status : DriveFault → RunStatus
 late_status (drive.TooLate round) = TooLate round
 late_status drive.OutOfMemory = OutOfMemory
 
--- the counts of a day, and its last lines
-abbrev pub day_counts : DayRun → DayCounts
-day_counts run = record { picked = run.picked; dropped = run.dropped; worst_wait = run.worst_wait; worst_delay = run.worst_delay }
-
-abbrev pub day_ending : DayRun → List DayRound → List ℕ
-day_ending run made = day_end_text (day_counts run) (position_after_run 0 (journals_of made))
+-- the last lines of a day
+abbrev pub day_ending : DayCounts → List DayRound → List ℕ
+day_ending run made = day_end_text run (position_after_run 0 (journals_of made))
 
 -- a beginning of a text is written that isn't the whole: a write failed, or there was no memory
 pub data IsTextFault (text : List ℕ) (before after : Option (List ℕ)) (low high : ℕ) : RunStatus → Type 0 where

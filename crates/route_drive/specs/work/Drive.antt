@@ -8,10 +8,10 @@ use Rattle.request_book.specs.declared.state.State.{State}
 use Rattle.rider_limits.specs.declared.settings.Settings.{Settings}
 use Rattle.road_network.specs.Roads.{Roads}
 use Rattle.script_rows.specs.Round.{NumberedLanes, lane_at, empty_round}
-use Rattle.dispatch_engine.specs.Run.{IsReady, IsRoundRun, position_after_run}
+use Rattle.dispatch_engine.specs.Run.{IsReady, IsRoundRun, position_after_run, state_after_run}
 use Rattle.route_drive.specs.declared.course.Course.{Course}
 use Rattle.route_drive.specs.declared.day_run.DayRound.{DayRound}
-use Rattle.route_drive.specs.declared.day_run.DayRun.{DayRun}
+use Rattle.dispatch_report.specs.declared.day.DayCounts.{DayCounts}
 use Rattle.route_drive.specs.declared.drive.Drive.{Drive}
 use Rattle.route_drive.specs.declared.day_run.DriveFault.{DriveFault}
 use Rattle.route_drive.specs.declared.day_run.DriveFault.TheVariants as fault
@@ -19,7 +19,7 @@ use Rattle.route_drive.specs.declared.entering.Stopped.{Stopped}
 use Rattle.route_drive.specs.declared.entering.Stopped.TheVariants as stop
 use Rattle.route_drive.specs.Day.{seal_of, round_fault, latest_seal}
 use Rattle.route_drive.specs.Counts.{AreCounts, entries_of}
-use Rattle.route_drive.specs.Driven.{HasDriven, IsDrivenDay, IsDrivenRound, courses_after, courses_from, number_after, state_left}
+use Rattle.route_drive.specs.Driven.{HasDriven, IsDrivenDay, IsDrivenRound, courses_after, courses_from, number_after}
 use Rattle.route_drive.specs.work.Counting.{AddsServed, AreServed}
 use Rattle.route_drive.specs.Entering.{EntersTooLate, IsInTime, IsTooLate, left_commands}
 use Rattle.route_drive.specs.declared.day.DayFault.{DayFault}
@@ -49,7 +49,7 @@ pub record IsUnderWay (settings : Settings) (roads : Roads) (s : State) (rounds 
   pub ready : IsReady settings roads book
   pub entries : book.entries ≡ []
   pub base : book.base ≡ book.state
-  pub state : book.state ≡ state_left settings roads s (map (λ r. r.journal) made)
+  pub state : book.state ≡ state_after_run settings roads s (map (λ r. r.journal) made)
   pub first : book.first ≡ position_after_run 0 (map (λ r. r.journal) made)
   pub courses_are : courses ≡ courses_from settings roads s rounds made
   pub each : length courses ≡ length book.state.vehicles
@@ -137,8 +137,8 @@ abbrev pub IsEndLate : List NumberedLanes → Drive → (List DayRound → Type 
 IsEndLate rounds drive Before After answer = IsLastLate (number_after rounds) drive Before After answer
 
 -- the rounds that were taken are those of a driven day, and these are its counts
-pub record IsCounted (Took : List DayRound → Type 0) (settings : Settings) (roads : Roads) (s : State) (rounds : List NumberedLanes) (run : DayRun) : Type 0 where
+pub record IsCounted (Took : List DayRound → Type 0) (settings : Settings) (roads : Roads) (s : State) (rounds : List NumberedLanes) (run : DayCounts) : Type 0 where
   pub made : List DayRound
   pub taken : Took made
   pub driven : IsDrivenDay settings roads s rounds made
-  pub counts : AreCounts roads (state_left settings roads s (map (λ r. r.journal) made)).riders (entries_of made) run.picked run.dropped run.worst_wait run.worst_delay
+  pub counts : AreCounts roads (state_after_run settings roads s (map (λ r. r.journal) made)).riders (entries_of made) run

@@ -1,10 +1,8 @@
-use Rattle.std.proofs.Common.{Err, List, ap, refl, subst, sym, ◌∙◌}
-use Rattle.std.specs.Prelude.{ℕ}
+use Rattle.std.proofs.Common.{Err, List, ap, refl, subst, sym}
 use Rattle.dispatch_report.specs.Day.{day_end_text}
-use Rattle.dispatch_report.specs.declared.day.DayCounts.{DayCounts}
 use Rattle.ridepool.specs.declared.held_day.HeldRound.{HeldRound}
 use Rattle.ridepool.specs.work.Held.{HoldsRounds}
-use Rattle.ridepool.specs.work.Writing.{BeginsRounds, EndsRounds, day_counts, day_ending}
+use Rattle.ridepool.specs.work.Writing.{BeginsRounds, EndsRounds, day_ending}
 use Rattle.ridepool.proofs.WriteLemmas.{stops_fault, written_all, end_unwritten}
 use Rattle.ridepool.proofs.writing.write_driven.Goals as goal
 
@@ -21,7 +19,7 @@ returns-in-Ok-write_day_end-clause-rounds g c = λ made holds.
     let roads = c.args.day.now.network.now in
     let end = day_ending c.args.run.now made in
     let h = c.in-Ok.ensures.rounds s roads c.args.day.now.told made (subst (λ (l : List HeldRound). HoldsRounds s roads c.args.day.now.told made l) (sym c.as_slice.ensures.value) holds) c.requires in
-    let is = ap (λ (k : DayCounts). day_end_text k c.in-Ok.position) c.counts_of-counts.ensures ∙ ap (λ (p : ℕ). day_end_text (day_counts c.args.run.now) p) h.1 in
+    let is = ap (day_end_text c.args.run.now) h.1 in
     written_all s roads (BeginsRounds made) (EndsRounds made end) made end (g.K.Sink.written c.args.out.now) (g.K.Sink.written c.write_held.new.out) (g.K.Sink.written c.write_day_end.new.sink) _ _
     (refl, refl) h.0 (rw (sym is) c.in-Ok-write_day_end.ensures.bytes)
 
@@ -31,7 +29,7 @@ returns-in-Err-write_day_end-clause-rounds g c = λ made holds.
     let roads = c.args.day.now.network.now in
     let end = day_ending c.args.run.now made in
     let h = c.in-Ok.ensures.rounds s roads c.args.day.now.told made (subst (λ (l : List HeldRound). HoldsRounds s roads c.args.day.now.told made l) (sym c.as_slice.ensures.value) holds) c.requires in
-    let is = ap (λ (k : DayCounts). day_end_text k c.in-Ok.position) c.counts_of-counts.ensures ∙ ap (λ (p : ℕ). day_end_text (day_counts c.args.run.now) p) h.1 in
+    let is = ap (day_end_text c.args.run.now) h.1 in
     end_unwritten s roads (BeginsRounds made) (EndsRounds made end) made end (g.K.Sink.written c.args.out.now) (g.K.Sink.written c.write_held.new.out) (g.K.Sink.written c.write_day_end.new.sink) _ _
     (g.K.Sink.faults c.args.out.now) (g.K.Sink.faults c.write_held.new.out) (g.K.Sink.faults c.write_day_end.new.sink)
     c.in-Err-write_day_end.fault c.status_of.result c.status_of.ensures

@@ -1,40 +1,38 @@
-use Rattle.std.proofs.Common.{◌≡◌, ◌-◌, refl, sym, subst, arith}
-use Rattle.std.specs.Prelude.{◌==◌, ℕ, Option, Some, None, MatchOption}
+use Rattle.std.proofs.Common.{◌≡◌, ◌-◌, refl, sym, ◌∙◌, subst, arith}
+use Rattle.std.specs.Prelude.{ℕ, Option, Some, None, MatchOption}
 use Rattle.request_book.specs.Consistent.{IsNode}
 use Rattle.request_book.specs.declared.rider.BookRider.{BookRider}
 use Rattle.road_network.specs.Roads.{index_in}
 use Rattle.road_network.specs.Walk.{IsTimeBetween}
 use Rattle.route_drive.specs.Counts.{ideal_dropoff}
-use Rattle.route_drive.proofs.EntryLemmas.{all_found, found_as}
+use Rattle.route_drive.proofs.EntryLemmas.{found_rider}
 use Rattle.route_drive.proofs.counts.delay_of.Goals as goal
 
 pub seconds_between-requires-clause-from : goal.seconds_between-requires-clause-from
 seconds_between-requires-clause-from c =
-    let named = all_found (λ (r : BookRider). IsNode c.args.network.now.nodes r.origin × IsNode c.args.network.now.nodes r.destination) (λ (r : BookRider). r.id == c.args.served.rider)
-    c.args.riders.now c.in-Some.rider.now c.requires.named c.in-Some.ensures.some in
-    named.0
+    let nodes = c.args.arcs.now.network.now.nodes in
+    (found_rider (λ (r : BookRider). IsNode nodes r.origin × IsNode nodes r.destination) c.args.book.now.state.riders c.args.served.rider c.in-Some.found c.requires (sym c.rider.ensures ∙ c.in-Some.is)).0
 
 pub seconds_between-requires-clause-to : goal.seconds_between-requires-clause-to
 seconds_between-requires-clause-to c =
-    let named = all_found (λ (r : BookRider). IsNode c.args.network.now.nodes r.origin × IsNode c.args.network.now.nodes r.destination) (λ (r : BookRider). r.id == c.args.served.rider)
-    c.args.riders.now c.in-Some.rider.now c.requires.named c.in-Some.ensures.some in
-    named.1
+    let nodes = c.args.arcs.now.network.now.nodes in
+    (found_rider (λ (r : BookRider). IsNode nodes r.origin × IsNode nodes r.destination) c.args.book.now.state.riders c.args.served.rider c.in-Some.found c.requires (sym c.rider.ensures ∙ c.in-Some.is)).1
 
 pub returns-in_ok-seconds-in-Some : goal.returns-in_ok-seconds-in-Some
 returns-in_ok-seconds-in-Some c =
-    let roads = c.args.network.now in
+    let roads = c.args.arcs.now.network.now in
     let second = c.get.ensures.value in
     let ideal = c.ideal_of-ideal.ensures in
     let less : c.saturating_sub.result ≡ c.get.result - c.ideal_of-ideal.result = c.saturating_sub.ensures in
-    let is : c.saturating_sub.result ≡ c.args.served.second - ideal_dropoff c.in-Some.rider.now.time c.in_ok-seconds-in-Some.seconds = omega (arith, second, ideal, less) in
+    let is : c.saturating_sub.result ≡ c.args.served.second - ideal_dropoff c.in-Some.found.time c.in_ok-seconds-in-Some.seconds = omega (arith, second, ideal, less) in
     subst (λ (o : Option BookRider). MatchOption o (c.saturating_sub.result ≡ 0)
     (λ (r : BookRider). (s : ℕ) × IsTimeBetween roads.arcs (index_in roads.nodes r.origin) (index_in roads.nodes r.destination) s × (c.saturating_sub.result ≡ c.args.served.second - ideal_dropoff r.time s)))
-    (sym (found_as c.args.riders.now c.args.served.rider (Some c.in-Some.rider.now) c.in-Some.ensures.some)) (c.in_ok-seconds-in-Some.seconds, c.in_ok-seconds-in-Some.ensures, is)
+    (sym c.in-Some.is ∙ c.rider.ensures) (c.in_ok-seconds-in-Some.seconds, c.in_ok-seconds-in-Some.ensures, is)
 
 pub returns-in-None : goal.returns-in-None
 returns-in-None c =
-    let roads = c.args.network.now in
+    let roads = c.args.arcs.now.network.now in
     let none : ℕ = 0 in
     subst (λ (o : Option BookRider). MatchOption o (none ≡ 0)
     (λ (r : BookRider). (s : ℕ) × IsTimeBetween roads.arcs (index_in roads.nodes r.origin) (index_in roads.nodes r.destination) s × (none ≡ c.args.served.second - ideal_dropoff r.time s)))
-    (sym (found_as c.args.riders.now c.args.served.rider None c.in-None.ensures.none)) refl
+    (sym c.in-None.is ∙ c.rider.ensures) refl

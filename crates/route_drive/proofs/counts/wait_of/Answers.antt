@@ -1,15 +1,14 @@
 use Rattle.std.proofs.Common.{◌≡◌, ◌-◌, ap, sym, ◌∙◌, arith}
-use Rattle.std.specs.Prelude.{Option, Some, None}
+use Rattle.std.specs.Prelude.{Option}
 use Rattle.std.specs.Option.{option_map_or}
 use Rattle.request_book.specs.declared.rider.BookRider.{BookRider}
 use Rattle.route_drive.specs.work.Counting.{waited}
-use Rattle.route_drive.proofs.EntryLemmas.{found_as}
 use Rattle.route_drive.proofs.counts.wait_of.Goals as goal
 
 pub returns-in-Some : goal.returns-in-Some
 returns-in-Some c =
-    let found = found_as c.args.riders.now c.args.served.rider (Some c.in-Some.rider.now) c.in-Some.ensures.some in
-    let told : waited c.args.riders.now c.args.served ≡ c.args.served.second - c.in-Some.rider.now.time = ap (λ (o : Option BookRider). option_map_or (λ (r : BookRider). c.args.served.second - r.time) o 0) found in
+    let found = sym c.rider.ensures ∙ c.in-Some.is in
+    let told : waited c.args.book.now.state.riders c.args.served ≡ c.args.served.second - c.in-Some.found.time = ap (λ (o : Option BookRider). option_map_or (λ (r : BookRider). c.args.served.second - r.time) o 0) found in
     let second = c.get.ensures.value in
     let time = c.get-in-Some.ensures.value in
     let less : c.saturating_sub.result ≡ c.get.result - c.get-in-Some.result = c.saturating_sub.ensures in
@@ -17,4 +16,4 @@ returns-in-Some c =
 
 pub returns-in-None : goal.returns-in-None
 returns-in-None c =
-    sym (ap (λ (o : Option BookRider). option_map_or (λ (r : BookRider). c.args.served.second - r.time) o 0) (found_as c.args.riders.now c.args.served.rider None c.in-None.ensures.none))
+    sym (ap (λ (o : Option BookRider). option_map_or (λ (r : BookRider). c.args.served.second - r.time) o 0) (sym c.rider.ensures ∙ c.in-None.is))

@@ -14,7 +14,7 @@ loop-served-init c = ([], tt, refl)
 
 pub loop-served-preserved : goal.loop-served-preserved
 loop-served-preserved c =
-    let R = IsDelayed c.args.network.now c.args.riders.now in
+    let R = IsDelayed c.args.arcs.now.network.now c.args.book.now.state.riders in
     let i = c.loop-served.served-index in
     let dropped = c.args.dropped.now in
     let delay = c.in-Ok.delay in
@@ -30,6 +30,6 @@ pub returns : goal.returns
 returns c =
     let all : length c.args.dropped.now ≤ c.loop-served.served-index = omega arith in (
       c.loop-served.invariant.0,
-      subst (λ (l : List ServedRider). AllZip (IsDelayed c.args.network.now c.args.riders.now) l c.loop-served.invariant.0) (take_all c.args.dropped.now c.loop-served.served-index all) c.loop-served.invariant.1,
+      subst (λ (l : List ServedRider). AllZip (IsDelayed c.args.arcs.now.network.now c.args.book.now.state.riders) l c.loop-served.invariant.0) (take_all c.args.dropped.now c.loop-served.served-index all) c.loop-served.invariant.1,
       c.loop-served.invariant.2,
     )

@@ -6,4 +6,4 @@ use Rattle.route_drive.specs.work.Counting.{IsDelayed}
 use Rattle.route_drive.proofs.counts.worst_delay.Given as goal
 
 abbrev pub invariant-loop-served : goal.invariant-loop-served
-invariant-loop-served l = (delays : List ℕ) × AllZip (IsDelayed l.network l.riders) (take l.served-index l.dropped) delays × (l.worst ≡ greatest delays)
+invariant-loop-served l = (delays : List ℕ) × AllZip (IsDelayed l.arcs.network.now l.book.state.riders) (take l.served-index l.dropped) delays × (l.worst ≡ greatest delays)

@@ -10,7 +10,7 @@ use Rattle.route_drive.proofs.places.walked.Goals as goal
 
 pub returns-in-Ok : goal.returns-in-Ok
 returns-in-Ok g c =
-    let roads = c.args.network.now in
+    let roads = c.args.arcs.now.network.now in
     let given = rw (c.map_init.ensures.f) at c.in-Ok.ensures.1 in
     let slice = ap (λ it. it.base.slice.now) c.map_init.ensures.base ∙ ap (λ it. it.slice.now) c.with_min_len.ensures.base ∙ c.par_iter.ensures in
     all-ok OutOfMemory (λ v. v.items) (IsPlaced roads c.args.now) c.args.headings.now c.in-Ok.places c.in-Ok.ensures.0 c.in-Ok.ensures.2

@@ -18,5 +18,4 @@ returns-clause-run g c =
     if_ok_map c.driven_day.result _ _ c.driven_day.ensures.run (λ run counted.
     let keeps : EntriesKeep settings roads s (entries_of counted.made) =
     new_book_keeps settings roads c.args.book rounds counted.made c.requires.new c.inputs_hold.ensures.book c.inputs_hold.ensures.network whole c.requires.day counted.driven in
-    let worst = day_in_time settings roads s rounds counted.made run.picked run.dropped run.worst_wait run.worst_delay counted.driven keeps counted.counts in
-    (counted.made, counted.taken, record { driven = counted.driven; counts = counted.counts; keeps = keeps; in_wait = worst.0; in_delay = worst.1 }))
+    (counted.made, counted.taken, day_in_time settings roads s rounds counted.made run (record { driven = counted.driven; keeps = keeps }) counted.counts))
