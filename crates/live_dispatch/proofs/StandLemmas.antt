@@ -24,7 +24,8 @@ use Rattle.road_network.specs.Roads.{Roads}
 use Rattle.script_rows.specs.Script.{round_of}
 use Rattle.script_rows.specs.declared.line.Line.{Line}
 use Rattle.script_rows.specs.lemmas.Named.{rounds_of}
-use Rattle.live_dispatch.specs.Live.{AreWhole, BeginsRows, BeginWithRows, ButLast, HasAppended, IsBegunRun, journals_notices, journals_text, rows_text}
+use Rattle.live_batch.specs.Phase.{BeginWithRows}
+use Rattle.live_dispatch.specs.Live.{AreWhole, BeginsRows, ButLast, HasAppended, IsBegunRun, journals_notices, journals_text, rows_text}
 use Rattle.live_dispatch.specs.work.Rows.{EndsIn, in_lane, last_of, start_text}
 use Rattle.live_dispatch.specs.work.Standing.{Moment, Stands}
 use Rattle.live_dispatch.proofs.RowLemmas.{AreMore, AreOf, rows-more}
