@@ -36,5 +36,5 @@ pub use plain::times_by_repeated_relaxation;
 pub use ring::Ring;
 pub use search::{next_near, relax};
 pub use short_hop::ShortHop;
-pub use table::{are_known, indexes_of, table_of_times, times_between};
+pub use table::{are_known, indexes_of, rows_of_a_piece, table_of_times, times_between};
 pub use ways::{NetworkWays, Ways};
