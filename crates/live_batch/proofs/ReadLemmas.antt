@@ -1,13 +1,9 @@
 -- Rows that are read one by one.
-use Rattle.std.proofs.Common.{◌≡◌, ℕ, List, [], ◌∷◌, ◌++◌, map, Option, None, Some, refl, sym, ap, subst, ◌∙◌, append_assoc, append-nil}
-use Rattle.std.specs.Prelude.{Bool, Result, Ok, Err, IfOk, IsTrue, IsFalse, false}
-use Rattle.batch_snapshot.specs.Batch.{Batch}
+use Rattle.std.proofs.Common.{◌≡◌, ℕ, List, [], ◌∷◌, ◌++◌, map, Option, sym, ap, ◌∙◌}
+use Rattle.std.specs.Prelude.{Bool, Result, Ok, Err, IfOk, false}
 use Rattle.dispatch_report.specs.declared.fault.ReportFault.{ReportFault}
 use Rattle.request_book.specs.Book.{BookView}
-use Rattle.rider_limits.specs.declared.settings.Settings.{Settings}
-use Rattle.road_network.specs.Roads.{Roads}
-use Rattle.seat_lock.specs.Values.{GainsCalls}
-use Rattle.live_desk.specs.Desk.{desk_log, desk_root, DeskView, IsDesk, Outputs}
+use Rattle.live_desk.specs.Desk.{DeskView, Outputs}
 use Rattle.live_batch.specs.Phase.{desk_after}
 use Rattle.std.specs.Result.{is_err}
 use Rattle.std.proofs.lemmas.Bool.{false≢true}

@@ -45,8 +45,8 @@ use Rattle.live_dispatch.specs.Live.{BeginsRows}
 use Rattle.live_dispatch.specs.work.Rows.{in_lane, last_of, start_text}
 use Rattle.live_dispatch.specs.work.Standing.{AppendsSome, HasRunOn, HasTaken, HaveCome, Moment, Stands, entry_for, outputs_of, row_text}
 use Rattle.live_dispatch.proofs.BatchLemmas.{batch-begun, batch-closes, batch-ended, batch-lanes, batch-others, batch-unclosed, close-run, none-left, row-lanes, rows-of, some_close, stands-good, stands-silent, told, zero-commands}
-use Rattle.live_dispatch.proofs.RunLemmas.{entries-append, next-append, next-low}
-use Rattle.live_dispatch.proofs.StandLemmas.{Gives, begins-broken, begins-one, begins-whole, one-text, stands-after}
+use Rattle.live_desk.proofs.lemmas.EntryLemmas.{entries-append, next-append, next-low, one-text}
+use Rattle.live_dispatch.proofs.StandLemmas.{Gives, begins-broken, begins-one, begins-whole, stands-after}
 use Rattle.live_dispatch.proofs.WriteLemmas.{some-part, some-whole}
 
 -- a row's entry begins its lane's run, or is one with a close
