@@ -74,7 +74,6 @@ module _ (nodes : List ℕ) (wait : ℕ) where
   replies-append s [] ys p q = q
   replies-append s (e ∷ es) ys p q = (p.0, replies-append (step nodes wait s e.command).0 es ys p.1 q)
 
-
 module _ (settings : Settings) (roads : Roads) where
   closes-append : (s : State) (xs ys : List Entry) → ClosesAreGood settings roads s xs → ClosesAreGood settings roads (state_after roads.nodes settings.wait s xs) ys → ClosesAreGood settings roads s (xs ++ ys)
   unfolding ClosesAreGood state_after
