@@ -8,8 +8,8 @@ use Rattle.batch_snapshot.specs.Batch.{Batch}
 use Rattle.dispatch_engine.specs.Lane.{of_lane, IsLaneRun, IsLaneRunFrom, IsLaneBeginning, last_sealed}
 use Rattle.dispatch_engine.proofs.lemmas.LaneLemmas.{plain-quiet}
 use Rattle.dispatch_engine.proofs.lemmas.StandLemmas.{stands-plain}
-use Rattle.lane_progress.specs.declared.stand.LaneStand.{LaneStand}
-use Rattle.lane_progress.specs.Stand.{at_start, stand_at, IsRest, IsNext, IsNextFrom, stand_after, HaveCome, AreDone}
+use Rattle.dispatch_engine.specs.declared.stand.LaneStand.{LaneStand}
+use Rattle.dispatch_engine.specs.Progress.{at_start, stand_at, IsRest, IsNext, IsNextFrom, stand_after, HaveCome, AreDone}
 use Rattle.request_book.specs.Command.{IsNoClose}
 use Rattle.request_book.specs.Step.{step}
 use Rattle.request_book.specs.declared.command.Command.{Command}

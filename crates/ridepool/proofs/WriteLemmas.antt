@@ -24,7 +24,6 @@ use Rattle.pool_io.specs.Faults.{Rose}
 use Rattle.request_book.specs.Book.{BookView, IsBook, next_position, opening}
 use Rattle.request_book.specs.Replay.{state_after}
 use Rattle.request_book.specs.declared.journal.Journal.{Journal}
-use Rattle.request_book.specs.declared.state.State.{State}
 use Rattle.dispatch_report.specs.declared.day.DayCounts.{DayCounts}
 use Rattle.rider_limits.specs.declared.settings.Mode.{Mode}
 use Rattle.rider_limits.specs.declared.settings.Mode.TheVariants.{Run, Load, Drive, Audit}

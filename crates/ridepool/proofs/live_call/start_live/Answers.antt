@@ -44,7 +44,7 @@ returns-in-Err-write_head-clause-stopped g c told =
       out = sink_seen g.K.Sink.written g.K.Sink.faults c.args.out.now c.write_head.new.sink;
       notifiers = record { before = told; after = told };
     } in
-    head-stops i seen c.in-Ok.version c.read_start.new.lines.to_come c.in-Err-write_head.fault c.head_status.result c.head_status.ensures c.in-Ok.ensures.started refl c.in-Err-write_head.ensures
+    head-stops i seen c.in-Ok.version c.read_start.new.lines.to_come c.in-Err-write_head.fault c.status_of.result c.status_of.ensures c.in-Ok.ensures.started refl c.in-Err-write_head.ensures
 
 pub returns-in-Err-write_head-clause-never_falls : goal.returns-in-Err-write_head-clause-never_falls
 returns-in-Err-write_head-clause-never_falls g c = (c.write_head.ensures.never_falls, c.read_start.ensures.never_falls)
