@@ -4,19 +4,18 @@ use Rattle.std.specs.List.{Any}
 use Rattle.std.specs.Option.{option_or, option_map_or}
 use Rattle.batch_snapshot.specs.Kept.{IsFleet}
 use Rattle.batch_snapshot.specs.declared.vehicle.Vehicle.{Vehicle}
+use Rattle.request_book.specs.Command.{closed_outcome}
 use Rattle.request_book.specs.Book.{BookView, opening}
 use Rattle.request_book.specs.Keyed.{look_up}
 use Rattle.request_book.specs.Replay.{state_after}
 use Rattle.request_book.specs.State.{find_rider}
 use Rattle.request_book.specs.declared.command.Command.{Command}
-use Rattle.request_book.specs.declared.command.Command.TheVariants.{Close}
 use Rattle.request_book.specs.declared.journal.Entry.{Entry}
 use Rattle.request_book.specs.declared.journal.Journal.{Journal}
 use Rattle.request_book.specs.declared.outcome.Answer.{Answer}
 use Rattle.request_book.specs.declared.outcome.Answer.TheVariants as answer
 use Rattle.request_book.specs.declared.outcome.Planned.{Planned}
 use Rattle.request_book.specs.declared.reply.Reply.{Reply}
-use Rattle.request_book.specs.declared.reply.Reply.TheVariants.{Closed}
 use Rattle.request_book.specs.declared.rider.BookRider.{BookRider}
 use Rattle.request_book.specs.declared.state.State.{State}
 use Rattle.rider_limits.specs.declared.settings.Settings.{Settings}
@@ -43,8 +42,7 @@ planned_in (answer.Planned planned) = Some planned
 
 -- the plan with which a close ended its batch, if it did with one
 abbrev pub plan_of : Command → Reply → Option Planned
-plan_of (Close batch outcome) Closed = planned_in outcome.answer
-plan_of command reply = None
+plan_of command reply = option_and_then (λ closed. planned_in closed.1.answer) (closed_outcome command reply)
 
 -- the first plan among entries, if a batch was closed with one
 abbrev pub plan_in : List Entry → Option Planned
