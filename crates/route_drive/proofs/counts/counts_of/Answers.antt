@@ -6,9 +6,10 @@ use Rattle.route_drive.proofs.EntryLemmas.{counts_are}
 use Rattle.route_drive.proofs.counts.counts_of.Goals as goal
 
 pub worst_delay-requires : goal.worst_delay-requires
-worst_delay-requires c =
-    subst (λ (nodes : List ℕ). All (λ r. IsNode nodes r.origin × IsNode nodes r.destination) c.args.book.now.state.riders)
-    (c.requires ∙ sym (ap (λ (roads : Roads). roads.nodes) c.in_ok-arcs.ensures)) c.entries-named.ensures.kept.named.riders
+worst_delay-requires c = record {
+  named = subst (λ (nodes : List ℕ). All (λ r. IsNode nodes r.origin × IsNode nodes r.destination) c.args.book.now.state.riders)
+      (c.requires.nodes ∙ sym (ap (λ (roads : Roads). roads.nodes) c.in_ok-arcs.ensures)) c.entries-named.ensures.kept.named.riders;
+}
 
 pub returns : goal.returns
 returns c = λ entries are.

@@ -1,4 +1,4 @@
-use Rattle.std.proofs.Common.{◌≡◌, ◌-◌, refl, sym, ◌∙◌, subst, arith}
+use Rattle.std.proofs.Common.{◌≡◌, ◌-◌, refl, sym, subst, arith}
 use Rattle.std.specs.Prelude.{ℕ, Option, Some, None, MatchOption}
 use Rattle.request_book.specs.Consistent.{IsNode}
 use Rattle.request_book.specs.declared.rider.BookRider.{BookRider}
@@ -11,12 +11,12 @@ use Rattle.route_drive.proofs.counts.delay_of.Goals as goal
 pub seconds_between-requires-clause-from : goal.seconds_between-requires-clause-from
 seconds_between-requires-clause-from c =
     let nodes = c.args.arcs.now.network.now.nodes in
-    (found_rider (λ (r : BookRider). IsNode nodes r.origin × IsNode nodes r.destination) c.args.book.now.state.riders c.args.served.rider c.in-Some.found c.requires (sym c.rider.ensures ∙ c.in-Some.is)).0
+    (found_rider (λ (r : BookRider). IsNode nodes r.origin × IsNode nodes r.destination) c.args.book.now.state.riders c.args.served.rider c.in-Some.found c.requires.named (sym c.in-Some.ensures)).0
 
 pub seconds_between-requires-clause-to : goal.seconds_between-requires-clause-to
 seconds_between-requires-clause-to c =
     let nodes = c.args.arcs.now.network.now.nodes in
-    (found_rider (λ (r : BookRider). IsNode nodes r.origin × IsNode nodes r.destination) c.args.book.now.state.riders c.args.served.rider c.in-Some.found c.requires (sym c.rider.ensures ∙ c.in-Some.is)).1
+    (found_rider (λ (r : BookRider). IsNode nodes r.origin × IsNode nodes r.destination) c.args.book.now.state.riders c.args.served.rider c.in-Some.found c.requires.named (sym c.in-Some.ensures)).1
 
 pub returns-in_ok-seconds-in-Some : goal.returns-in_ok-seconds-in-Some
 returns-in_ok-seconds-in-Some c =
@@ -27,7 +27,7 @@ returns-in_ok-seconds-in-Some c =
     let is : c.saturating_sub.result ≡ c.args.served.second - ideal_dropoff c.in-Some.found.time c.in_ok-seconds-in-Some.seconds = omega (arith, second, ideal, less) in
     subst (λ (o : Option BookRider). MatchOption o (c.saturating_sub.result ≡ 0)
     (λ (r : BookRider). (s : ℕ) × IsTimeBetween roads.arcs (index_in roads.nodes r.origin) (index_in roads.nodes r.destination) s × (c.saturating_sub.result ≡ c.args.served.second - ideal_dropoff r.time s)))
-    (sym c.in-Some.is ∙ c.rider.ensures) (c.in_ok-seconds-in-Some.seconds, c.in_ok-seconds-in-Some.ensures, is)
+    c.in-Some.ensures (c.in_ok-seconds-in-Some.seconds, c.in_ok-seconds-in-Some.ensures, is)
 
 pub returns-in-None : goal.returns-in-None
 returns-in-None c =
@@ -35,4 +35,4 @@ returns-in-None c =
     let none : ℕ = 0 in
     subst (λ (o : Option BookRider). MatchOption o (none ≡ 0)
     (λ (r : BookRider). (s : ℕ) × IsTimeBetween roads.arcs (index_in roads.nodes r.origin) (index_in roads.nodes r.destination) s × (none ≡ c.args.served.second - ideal_dropoff r.time s)))
-    (sym c.in-None.is ∙ c.rider.ensures) refl
+    c.in-None.ensures refl

@@ -7,7 +7,7 @@ use Rattle.route_drive.proofs.counts.wait_of.Goals as goal
 
 pub returns-in-Some : goal.returns-in-Some
 returns-in-Some c =
-    let found = sym c.rider.ensures ∙ c.in-Some.is in
+    let found = sym c.in-Some.ensures in
     let told : waited c.args.book.now.state.riders c.args.served ≡ c.args.served.second - c.in-Some.found.time = ap (λ (o : Option BookRider). option_map_or (λ (r : BookRider). c.args.served.second - r.time) o 0) found in
     let second = c.get.ensures.value in
     let time = c.get-in-Some.ensures.value in
@@ -16,4 +16,4 @@ returns-in-Some c =
 
 pub returns-in-None : goal.returns-in-None
 returns-in-None c =
-    sym (ap (λ (o : Option BookRider). option_map_or (λ (r : BookRider). c.args.served.second - r.time) o 0) (sym c.rider.ensures ∙ c.in-None.is))
+    sym (ap (λ (o : Option BookRider). option_map_or (λ (r : BookRider). c.args.served.second - r.time) o 0) (sym c.in-None.ensures))
