@@ -1,7 +1,5 @@
 //! Whether no lawful plan is left at a place in a tree, as is seen at once.
-ghost use Rattle.std.specs.Prelude.{◌≡◌, ◌+◌, ◌<◌, ◌≤◌, ◌↔◌, ℕ, IsTrue, IfSome, IfNone, MatchBool, All, length, slice_index_or, false, true, ◌||◌, ◌==◌};
-ghost use Rattle.std.specs.List.{list_any};
-ghost use Rattle.plan_rules.specs.Graph.{has_rider};
+ghost use Rattle.std.specs.Prelude.{◌≡◌, ◌+◌, ◌<◌, ◌≤◌, ◌↔◌, ℕ, IsTrue, IfSome, IfNone, MatchBool, length, slice_index_or, false, true};
 ghost use Rattle.plan_rules.specs.Multipliers.{usable_of};
 ghost use Rattle.plan_rules.specs.Tree.{IsSoleRow, IsClash, IsStranded, IsDeadEnd};
 ghost use Rattle.plan_rules.specs.work.DeadEnd.{MarksSomeUsable, StandsInUsable, StandsInNone, MarksSole};
