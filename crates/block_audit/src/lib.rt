@@ -7,7 +7,7 @@
 //!
 //! ```
 //! let gate = FreeGate;
-//! let ways = NetworkWays { network };
+//! let ways = NetworkWays { network, workers: 4 };
 //! match audit_block(rt, alloc, text, snapshot, network, &ways, &settings(), &gate) {
 //!     Ok(found) => Said::Good(found.lines, found.rest.len()),
 //!     Err(refusal) => Said::Refused(refusal),

@@ -50,10 +50,13 @@ fn measure_on(
     println!(rt; "threads {}", available_parallelism(threads)?)?;
     if wish.by_labels {
         let labels = labels_of(rt, network)?;
-        let ways = LabelWays::of(network, labels);
+        let ways = LabelWays::of(network, labels, 4);
         measure_tables(rt, threads, network, &ways, &nodes, wish.repeats)
     } else {
-        let ways = NetworkWays { network };
+        let ways = NetworkWays {
+            network,
+            workers: 4,
+        };
         measure_tables(rt, threads, network, &ways, &nodes, wish.repeats)
     }
 }

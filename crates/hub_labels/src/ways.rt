@@ -11,16 +11,18 @@ use road_network::Network;
 use std::alloc::Global;
 use std::marker::Model;
 use std::thread::Threads;
-use travel_times::{Ways, indexes_of, table_of_times};
+use travel_times::{Ways, indexes_of, rows_of_a_piece, table_of_times};
 
 /// A table of fewer cells stays on one thread.
 const FEW: usize = 4_096;
 
-/// The travel times of a network by its labels: each cell of a table is looked up. Contracts see it as the network.
+/// The travel times of a network by its labels: each cell of a table is looked up, on as many threads at a time as there
+/// are workers. Contracts see it as the network.
 #[derive(Drop)]
 pub struct LabelWays<'a> {
     network: &'a Network,
     labels: Labels,
+    workers: u8,
 }
 
 impl<'a> Model for LabelWays<'a> {
@@ -36,11 +38,15 @@ impl<'a> Model for LabelWays<'a> {
 
 impl<'a> LabelWays<'a> {
     /// The travel times of a network by labels of this network.
-    pub fn of(network: &'a Network, labels: Labels) -> LabelWays<'a>
+    pub fn of(network: &'a Network, labels: Labels, workers: u8) -> LabelWays<'a>
         requires { AreLabelsOf network.now labels }
         ensures { result ≡ network.entry.now }
     {
-        LabelWays { network, labels }
+        LabelWays {
+            network,
+            labels,
+            workers,
+        }
     }
 }
 
@@ -54,17 +60,18 @@ impl Ways for LabelWays<'_> {
         nodes: &[NodeId],
     ) -> Result<Times, OutOfMemory> {
         let points = indexes_of(alloc, self.network, nodes)?;
-        let cells = cells_between(rt, alloc, &self.labels, &points)?;
+        let cells = cells_between(rt, alloc, &self.labels, &points, self.workers)?;
         Ok(table_of_times(self.network, &points, cells))
     }
 }
 
-/// The cells of the table, row by row, each written where it stays. The rows are shared among threads.
+/// The cells of the table, row by row, each written where it stays. The workers share the rows.
 fn cells_between(
     rt: &(impl Threads + Sync),
     alloc: Global,
     labels: &Labels,
     points: &[usize],
+    workers: u8,
 ) -> Result<Vec<u32>, OutOfMemory>
     requires known { All (λ point. point < length labels.now.forward) points.now }
     requires few { length points.now ≤ 12500 }
@@ -73,8 +80,8 @@ fn cells_between(
 {
     let count = points.len() * points.len();
     let mut cells = vec![in alloc; Times::NEVER; count]?;
-    let piece = if count < FEW { FEW } else { points.len() };
-    write_table(rt, labels, points, piece, &mut cells);
+    let rows = rows_of_a_piece(points.len(), workers as usize, count < FEW);
+    write_table(rt, labels, points, (rows * points.len()).max(1), &mut cells);
     Ok(cells)
 }
 

@@ -5,7 +5,7 @@
 //! A caller, as `ridepool` runs a script behind its header:
 //!
 //! ```
-//! let ways = NetworkWays { network };
+//! let ways = NetworkWays { network, workers: settings.workers };
 //! let setup = Setup {
 //!     network,
 //!     ways: &ways,

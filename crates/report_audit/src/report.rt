@@ -88,7 +88,10 @@ fn audit_behind<G: Gate>(
         Err(_) => return Err(Stop::OutOfMemory),
     };
     let _entries = book.entries();
-    let ways = NetworkWays { network };
+    let ways = NetworkWays {
+        network,
+        workers: settings.workers,
+    };
     let setup = Setup {
         network,
         ways: &ways,

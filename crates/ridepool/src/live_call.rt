@@ -185,7 +185,10 @@ fn live_in<
 {
     match settings.times {
         TimesWay::Rows => {
-            let ways = NetworkWays { network };
+            let ways = NetworkWays {
+                network,
+                workers: settings.workers,
+            };
             let setup = Setup {
                 network,
                 ways: &ways,
@@ -206,7 +209,7 @@ fn live_in<
                     status: RunStatus::OutOfMemory,
                 };
             };
-            let ways = LabelWays::of(network, labels);
+            let ways = LabelWays::of(network, labels, settings.workers);
             let setup = Setup {
                 network,
                 ways: &ways,

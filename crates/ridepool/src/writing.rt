@@ -98,7 +98,10 @@ fn write_in<K: Sink, G: Gate>(
 {
     match settings.times {
         TimesWay::Rows => {
-            let ways = NetworkWays { network };
+            let ways = NetworkWays {
+                network,
+                workers: settings.workers,
+            };
             let setup = Setup {
                 network,
                 ways: &ways,
@@ -112,7 +115,7 @@ fn write_in<K: Sink, G: Gate>(
             let Ok(labels) = Labels::build_watched(alloc, network, gate) else {
                 return Err(RunStatus::OutOfMemory);
             };
-            let ways = LabelWays::of(network, labels);
+            let ways = LabelWays::of(network, labels, settings.workers);
             let setup = Setup {
                 network,
                 ways: &ways,

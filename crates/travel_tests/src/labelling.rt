@@ -151,7 +151,7 @@ fn by_labels(
     nodes: &[NodeId],
 ) -> Option<Times> {
     let labels = Labels::build(alloc, network).ok()?;
-    let ways = LabelWays::of(network, labels);
+    let ways = LabelWays::of(network, labels, 4);
     if nodes.len() <= 12_500 && are_known(network, nodes) {
         ways.table(rt, alloc, nodes).ok()
     } else {

@@ -1,4 +1,5 @@
 pub mod Table
+pub mod Near
 pub mod Search
 pub mod lemmas
 pub mod work

@@ -8,21 +8,23 @@ use pool_base::OutOfMemory;
 use road_network::{Hop, Network};
 use std::alloc::Global;
 
-/// The arcs of a network by starting node, each in half the room that the network gives it: on a large one a
+/// A network, with its arcs by starting node, each in half the room that the network gives it: on a large one a
 /// search waits for memory.
 #[derive(Drop)]
-pub struct Arcs {
+pub struct Arcs<'a> {
+    pub network: &'a Network,
     /// By node: where its hops end.
     pub ends: Vec<usize>,
     pub hops: Vec<ShortHop>,
     ghost rising: { (node : ℕ) → node < length ends.items → start_at ends.items node ≤ slice_index ends.items node },
     ghost within: { (node : ℕ) → node < length ends.items → slice_index ends.items node ≤ length hops.items },
+    pub ghost copied: { AreArcsOf network.now.arcs (length network.now.nodes) ends.items hops.items },
 }
 
-impl Arcs {
-    /// A copy of the network's arcs.
-    pub(crate) fn of(alloc: Global, network: &Network) -> Result<Arcs, OutOfMemory>
-        ensures { IfOk result (λ copy. AreArcsOf network.now.arcs (length network.now.nodes) copy.ends.items copy.hops.items) }
+impl<'a> Arcs<'a> {
+    /// A network with a copy of its arcs.
+    pub fn of(alloc: Global, network: &'a Network) -> Result<Arcs<'a>, OutOfMemory>
+        ensures { IfOk result (λ copy. copy.network.now ≡ network.entry.now) }
     {
         let nodes = network.node_count();
         let mut ends = Vec::with_capacity(alloc, nodes)?;
@@ -31,7 +33,11 @@ impl Arcs {
             push_hops(&mut hops, network.arcs_from(node))?;
             ends.push(hops.len())?;
         }
-        Ok(Arcs { ends, hops })
+        Ok(Arcs {
+            network,
+            ends,
+            hops,
+        })
     }
 
     /// The arcs that leave a node.

@@ -32,9 +32,10 @@ mod short_hop;
 mod table;
 mod ways;
 
+pub use arcs::Arcs;
 pub use plain::times_by_repeated_relaxation;
 pub use ring::Ring;
-pub use search::{next_near, relax};
+pub use search::{Search, next_near, relax};
 pub use short_hop::ShortHop;
-pub use table::{are_known, indexes_of, table_of_times, times_between};
+pub use table::{are_known, indexes_of, rows_of_a_piece, table_of_times, times_between};
 pub use ways::{NetworkWays, Ways};

@@ -1,13 +1,11 @@
 ghost use Rattle.std.specs.Prelude.{◌≡◌, ℕ, ◌+◌, ◌*◌, ◌<◌, ◌≤◌, ◌++◌, All, IsTrue, OnOk, length, map, slice_index};
 ghost use Rattle.pool_base.specs.TravelTime.{never};
-ghost use Rattle.travel_times.specs.work.Arcs.{AreArcsOf};
 ghost use Rattle.travel_times.specs.work.Table.{AreWritten, IsPiece, IsPieceWritten, WritesRow};
 
 use crate::arcs::Arcs;
 use crate::search::Search;
 use pool_base::{OutOfMemory, Times};
 use rayon::prelude::*;
-use road_network::Network;
 use std::alloc::Global;
 use std::thread::Threads;
 
@@ -16,55 +14,45 @@ use std::thread::Threads;
 pub(crate) fn write_pieces(
     rt: &(impl Threads + Sync),
     alloc: Global,
-    network: &Network,
-    arcs: &Arcs,
+    arcs: &Arcs<'_>,
     points: &[usize],
     rows: usize,
     cells: &mut [u32],
 )
-    requires arcs { AreArcsOf network.now.arcs (length network.now.nodes) arcs.now.ends.items arcs.now.hops.items }
-    requires known { All (λ point. point < length network.now.nodes) points.now }
+    requires known { All (λ point. point < length arcs.now.network.now.nodes) points.now }
     requires few { length points.now ≤ 12500 }
     requires rows { 0 < rows }
     requires most { rows ≤ length points.now }
     requires size { length cells.old ≡ length points.now * length points.now }
     requires unwritten { All (λ cell. cell ≡ never) cells.old }
-    ensures { AreWritten network.entry.now.arcs points.entry.now 0 (length points.entry.now) cells.new }
+    ensures { AreWritten arcs.entry.now.network.now.arcs points.entry.now 0 (length points.entry.now) cells.new }
 {
     par_chunks_mut_for_each(
         rt,
         cells,
         rows * points.len(),
         |start: usize, piece: &mut [u32]|
-            requires { AreArcsOf network.now.arcs (length network.now.nodes) arcs.now.ends.items arcs.now.hops.items × All (λ point. point < length network.now.nodes) points.now × (length points.now ≤ 12500) × (0 < length points.now) × IsPiece (length points.now) start piece.now }
-            ensures { IsPieceWritten network.entry.now.arcs points.entry.now start piece.old piece.new }
-        { write_rows(alloc, network, arcs, points, start, piece) },
+            requires { All (λ point. point < length arcs.now.network.now.nodes) points.now × (length points.now ≤ 12500) × (0 < length points.now) × IsPiece (length points.now) start piece.now }
+            ensures { IsPieceWritten arcs.entry.now.network.now.arcs points.entry.now start piece.old piece.new }
+        { write_rows(alloc, arcs, points, start, piece) },
     );
 }
 
 /// Writes the rows of a piece of a table that begins at cell `start`, with one work space.
-fn write_rows(
-    alloc: Global,
-    network: &Network,
-    arcs: &Arcs,
-    points: &[usize],
-    start: usize,
-    cells: &mut [u32],
-)
-    requires arcs { AreArcsOf network.now.arcs (length network.now.nodes) arcs.now.ends.items arcs.now.hops.items }
-    requires known { All (λ point. point < length network.now.nodes) points.now }
+fn write_rows(alloc: Global, arcs: &Arcs<'_>, points: &[usize], start: usize, cells: &mut [u32])
+    requires known { All (λ point. point < length arcs.now.network.now.nodes) points.now }
     requires few { length points.now ≤ 12500 }
     requires some { 0 < length points.now }
     requires piece { IsPiece (length points.now) start cells.old }
-    ensures { IsPieceWritten network.now.arcs points.now start cells.old cells.new }
+    ensures { IsPieceWritten arcs.now.network.now.arcs points.now start cells.old cells.new }
 {
-    let Ok(mut search) = Search::new(alloc, network.node_count()) else {
+    let Ok(mut search) = Search::new(alloc) else {
         return;
     };
     let from = start / points.len();
     let count = cells.len() / points.len();
     for row in 0..count {
-        let Ok(()) = search.run(network, arcs, points[from + row]) else {
+        let Ok(()) = search.run(arcs, points[from + row], None) else {
             return;
         };
         write_row(cells, row * points.len(), points, &search.seconds);

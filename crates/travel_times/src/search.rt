@@ -1,7 +1,6 @@
 ghost use Rattle.std.specs.Prelude.{◌≡◌, ℕ, ◌+◌, ◌<◌, ◌≤◌, true, false, All, IfOk, IfSome, IfNone, OnOk, length, replicate, slice_index};
 ghost use Rattle.pool_base.specs.TravelTime.{longest};
-ghost use Rattle.road_network.specs.Walk.{IsTimeBetween};
-ghost use Rattle.travel_times.specs.work.Arcs.{AreArcsOf};
+ghost use Rattle.travel_times.specs.Near.{AreTimesUpTo, reach};
 ghost use Rattle.travel_times.specs.Search.{IsNextTaken, RelaxesHops, waits};
 
 use crate::arcs::Arcs;
@@ -14,9 +13,10 @@ use std::alloc::Global;
 /// No travel time is longer: a shortest walk has at most 99,999 arcs of 10,000 seconds.
 pub const LONGEST: u32 = 1_000_000_000;
 
-/// The work space of a search, made once for a piece of work and used for each of its rows.
+/// The room that searches need, made once and handed from one to the next.
 #[derive(Drop)]
 pub struct Search {
+    pub alloc: Global,
     /// By node: the least seconds found so far, `NEVER` where no walk was found.
     pub seconds: Vec<u32>,
     /// By node: whether its seconds fell since its arcs were relaxed.
@@ -26,44 +26,46 @@ pub struct Search {
 }
 
 impl Search {
-    pub(crate) fn new(alloc: Global, nodes: usize) -> Result<Search, OutOfMemory>
-        ensures seconds { IfOk result (λ s. length s.seconds.items ≡ nodes) }
-        ensures waiting { IfOk result (λ s. length s.waiting.items ≡ nodes) }
-    {
+    /// Room that grows with the first search.
+    pub fn new(alloc: Global) -> Result<Search, OutOfMemory> {
         Ok(Search {
-            seconds: vec![in alloc; Times::NEVER; nodes]?,
-            waiting: vec![in alloc; false; nodes]?,
+            alloc,
+            seconds: Vec::new(alloc),
+            waiting: Vec::new(alloc),
             ring: Ring::new(alloc)?,
         })
     }
 
-    /// Forgets what was found.
-    fn reset(&mut self)
-        ensures seconds { self.new.seconds.items ≡ replicate (length self.old.seconds.items) u32.MAX }
-        ensures waiting { self.new.waiting.items ≡ replicate (length self.old.waiting.items) false }
+    /// Forgets what was found, and has room for so many nodes.
+    fn begin(&mut self, nodes: usize) -> Result<(), OutOfMemory>
+        ensures seconds { OnOk result (self.new.seconds.items ≡ replicate nodes u32.MAX) }
+        ensures waiting { OnOk result (self.new.waiting.items ≡ replicate nodes false) }
     {
-        self.seconds.fill(Times::NEVER);
-        self.waiting.fill(false);
+        if self.seconds.len() == nodes && self.waiting.len() == nodes {
+            self.seconds.fill(Times::NEVER);
+            self.waiting.fill(false);
+            return Ok(());
+        }
+        self.seconds = vec![in self.alloc; Times::NEVER; nodes]?;
+        self.waiting = vec![in self.alloc; false; nodes]?;
+        Ok(())
     }
 
-    /// Finds the least seconds from one node to every node (Dijkstra 1959, with a ring of buckets by Dial 1969).
-    /// The arcs are the network's.
-    pub(crate) fn run(
+    /// Finds the least seconds from one node to every node that is no further than the goal, or to every node where
+    /// there is no goal (Dijkstra 1959, with a ring of buckets by Dial 1969).
+    pub fn run(
         &mut self,
-        network: &Network,
-        arcs: &Arcs,
+        arcs: &Arcs<'_>,
         start: usize,
+        goal: Option<usize>,
     ) -> Result<(), OutOfMemory>
-        requires arcs { AreArcsOf network.now.arcs (length network.now.nodes) arcs.now.ends.items arcs.now.hops.items }
-        requires seconds { length self.old.seconds.items ≡ length network.now.nodes }
-        requires waiting { length self.old.waiting.items ≡ length network.now.nodes }
-        requires start { start < length network.now.nodes }
-        ensures seconds { OnOk result (length self.new.seconds.items ≡ length network.now.nodes) }
-        ensures waiting { OnOk result (length self.new.waiting.items ≡ length network.now.nodes) }
-        ensures times { OnOk result ((goal : ℕ) → goal < length network.now.nodes → IsTimeBetween network.now.arcs start goal (slice_index self.new.seconds.items goal)) }
+        requires start { start < length arcs.now.network.now.nodes }
+        requires goal { IfSome goal (λ goal. goal < length arcs.now.network.now.nodes) }
+        ensures size { OnOk result (length self.new.seconds.items ≡ length arcs.now.network.now.nodes) }
+        ensures times { OnOk result (AreTimesUpTo arcs.now.network.now.arcs (length arcs.now.network.now.nodes) start (reach goal self.new.seconds.items) self.new.seconds.items) }
     {
-        let _nodes = network.node_count();
-        self.reset();
+        let nodes = arcs.network.node_count();
+        self.begin(nodes)?;
         self.seconds[start] = 0;
         self.waiting[start] = true;
         self.ring.push(start as u32, 0)?;
@@ -71,7 +73,7 @@ impl Search {
             &mut self.ring,
             &mut self.waiting,
             &self.seconds,
-            Times::NEVER,
+            reach(goal, &self.seconds),
         ) {
             let here = self.seconds[node];
             relax(
@@ -83,6 +85,17 @@ impl Search {
             )?;
         }
         Ok(())
+    }
+}
+
+/// How far a search goes: as far as its goal, if there is one.
+fn reach(goal: Option<usize>, seconds: &[u32]) -> u32
+    requires { IfSome goal (λ goal. goal < length seconds.now) }
+    ensures { result ≡ reach goal seconds.now }
+{
+    match goal {
+        Some(goal) => seconds[goal],
+        None => Times::NEVER,
     }
 }
 

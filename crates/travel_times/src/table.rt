@@ -18,7 +18,7 @@ const SMALL: usize = 50_000;
 /// The table of shortest times between nodes of the network: cell (i, j) is the least seconds over all walks from node i
 /// to node j, and `Times::NEVER` exactly where there is no walk.
 ///
-/// One search for each node; the rows are shared among as many threads as there are processors.
+/// One search for each node, on as many threads as there are processors.
 pub fn times_between(
     rt: &(impl Threads + Sync),
     alloc: Global,
@@ -29,8 +29,24 @@ pub fn times_between(
     requires few { length nodes.now ≤ 12500 }
     ensures { IfOk result (AreTravelTimes network.now.arcs (map (index_in network.now.nodes) nodes.now)) }
 {
+    let threads = rayon::current_num_threads(rt);
+    times_shared(rt, alloc, network, nodes, threads)
+}
+
+/// The same table, on so many threads at most.
+pub(crate) fn times_shared(
+    rt: &(impl Threads + Sync),
+    alloc: Global,
+    network: &Network,
+    nodes: &[NodeId],
+    threads: usize,
+) -> Result<Times, OutOfMemory>
+    requires known { All (λ node. Contains network.now.nodes node) nodes.now }
+    requires few { length nodes.now ≤ 12500 }
+    ensures { IfOk result (AreTravelTimes network.now.arcs (map (index_in network.now.nodes) nodes.now)) }
+{
     let points = indexes_of(alloc, network, nodes)?;
-    let cells = cells_between(rt, alloc, network, &points)?;
+    let cells = cells_between(rt, alloc, network, &points, threads)?;
     Ok(table_of(network, &points, cells))
 }
 
@@ -84,16 +100,15 @@ pub fn indexes_of(
     Ok(points)
 }
 
-/// How many rows one thread computes.
-fn rows_of_a_piece(rt: &impl Threads, points: usize, nodes: usize) -> usize
-    requires { 0 < points }
-    ensures some { 0 < result }
+/// How many rows of a table one thread computes, where so many threads share it. Work that is small stays on one.
+pub fn rows_of_a_piece(points: usize, threads: usize, is_small: bool) -> usize
+    ensures some { 0 < points → 0 < result }
     ensures most { result ≤ points }
 {
-    if points.saturating_mul(nodes) < SMALL {
+    if is_small || threads == 0 {
         points
     } else {
-        points.div_ceil(rayon::current_num_threads(rt))
+        points.div_ceil(threads)
     }
 }
 
@@ -103,6 +118,7 @@ fn cells_between(
     alloc: Global,
     network: &Network,
     points: &[usize],
+    threads: usize,
 ) -> Result<Vec<u32>, OutOfMemory>
     requires known { All (λ point. point < length network.now.nodes) points.now }
     requires few { length points.now ≤ 12500 }
@@ -114,8 +130,9 @@ fn cells_between(
     if count == 0 {
         return Ok(cells);
     }
-    let rows = rows_of_a_piece(rt, count, network.node_count());
-    write_pieces(rt, alloc, network, &arcs, points, rows, &mut cells);
+    let is_small = count.saturating_mul(network.node_count()) < SMALL;
+    let rows = rows_of_a_piece(count, threads, is_small);
+    write_pieces(rt, alloc, &arcs, points, rows, &mut cells);
     if !are_computed(count, &cells) {
         return Err(OutOfMemory);
     }

@@ -3,7 +3,7 @@ ghost use Rattle.std.specs.Thread.{IsSync};
 ghost use Rattle.road_network.specs.Roads.{Roads, index_in};
 ghost use Rattle.travel_times.specs.Table.{AreTravelTimes};
 
-use crate::table::times_between;
+use crate::table::times_shared;
 use pool_base::{NodeId, OutOfMemory, Times};
 use road_network::Network;
 use std::alloc::Global;
@@ -30,10 +30,12 @@ pub trait Ways: Sync {
         ensures { IfOk result (AreTravelTimes (roads self.now).arcs (map (index_in (roads self.now).nodes) nodes.now)) };
 }
 
-/// The travel times of a network by one search for each node, as `times_between` makes them.
+/// The travel times of a network by one search for each node, as `times_between` makes them, on as many threads at a
+/// time as there are workers.
 #[derive(Clone, Copy)]
 pub struct NetworkWays<'a> {
     pub network: &'a Network,
+    pub workers: u8,
 }
 
 impl Ways for NetworkWays<'_> {
@@ -45,6 +47,6 @@ impl Ways for NetworkWays<'_> {
         alloc: Global,
         nodes: &[NodeId],
     ) -> Result<Times, OutOfMemory> {
-        times_between(rt, alloc, self.network, nodes)
+        times_shared(rt, alloc, self.network, nodes, self.workers as usize)
     }
 }

@@ -1,4 +1,4 @@
-use Rattle.std.proofs.Common.{◌≡◌, ◌≢◌, ℕ, zero, suc, ◌+◌, ◌*◌, ◌<◌, ◌≤◌, ◌⊎◌, Bool, true, false, cond, eqb, List, [], ◌∷◌, ◌++◌, length, get_or, slice_index, set, replicate, map, filter, sum, count_by, All, Contains, refl, sym, ap, ◌∙◌, inl, inr, ⊎_elim, arith}
+use Rattle.std.proofs.Common.{◌≡◌, ◌≢◌, ℕ, zero, suc, ◌+◌, ◌*◌, ◌<◌, ◌≤◌, ◌⊎◌, Bool, true, false, cond, eqb, Option, None, Some, IfSome, List, [], ◌∷◌, ◌++◌, length, get_or, slice_index, set, replicate, map, filter, sum, count_by, All, Contains, refl, sym, ap, ◌∙◌, inl, inr, ⊎_elim, arith}
 use Rattle.std.proofs.lemmas.Bool.{cases_eq, cases_lt, cases_Bool, cond_both, eqb-true, eq-eqb, true≢false}
 use Rattle.std.proofs.lemmas.List.{length-set, get_or-set_same, get_or-set_other, get_or-map, length-map, get_or_default, get_or_past, get_or-replicate, length-replicate}
 use Rattle.std.proofs.lemmas.List.Elements.{All-cons, All-nil, All-contains, All-contains_itself, All-filter}
@@ -8,6 +8,7 @@ use Rattle.road_network.specs.declared.arc.Arc.{Arc}
 use Rattle.road_network.specs.declared.hop.Hop.{Hop}
 use Rattle.road_network.specs.Walk.{IsWalk, walk_seconds, IsTimeBetween}
 use Rattle.road_network.specs.Roads.{IsArcAmong, hop_of, leaving}
+use Rattle.travel_times.specs.Near.{AreTimesUpTo, reach}
 use Rattle.travel_times.specs.Search.{waits, IsNextTaken, IsHopRelaxed, RelaxesHops}
 use Rattle.travel_times.specs.lemmas.Search.{HasWalkOf, IsSearching}
 use Rattle.travel_times.proofs.lemmas.WalkLemmas.{IsWalk-push, walk_seconds-push, short_walk}
@@ -186,39 +187,77 @@ IsSearching-step arcs n start node s s' w w' w'' among inv taken relaxes =
           (relaxes.from other);
     }
 
--- where nothing waits, no walk within the longest time is shorter than the number of its goal
-no_shorter : (arcs : List Arc) (n start : ℕ) (s : List ℕ) (w : List Bool) → All (IsArcAmong n) arcs → IsSearching arcs n start s w → ((node : ℕ) → waits w node ≡ false)
-    → (walk : List Arc) (node goal x : ℕ) → node < n → IsWalk arcs node walk goal → slice_index s node ≤ x → x + walk_seconds walk ≤ longest → slice_index s goal ≤ x + walk_seconds walk
-no_shorter arcs n start s w among inv settled [] node goal x hn walks le short = rw (← walks) (omega arith)
-no_shorter arcs n start s w among inv settled (arc ∷ rest) node goal x hn walks le short =
-    let more : walk_seconds (arc ∷ rest) ≡ arc.seconds + walk_seconds rest = sum_by-cons (λ (a : Arc). a.seconds) arc rest in
-    let next : slice_index s arc.to ≤ x + arc.seconds = ⊎_elim
-    (λ (h : slice_index s arc.to ≤ slice_index s node + arc.seconds). omega arith)
-    (λ (h : longest < slice_index s node + arc.seconds). absurd (omega arith))
-    (inv.relaxed node arc hn (settled node) (omega arith) walks.0 walks.1) in
-    let onward : slice_index s goal ≤ x + arc.seconds + walk_seconds rest = no_shorter arcs n start s w among inv settled rest arc.to goal (x + arc.seconds) ((All-contains (IsArcAmong n) arcs arc among walks.0).1) walks.2 next (omega arith) in
-    omega arith
+module _ (arcs : List Arc) (n start most : ℕ) (s : List ℕ) (w : List Bool) (among : All (IsArcAmong n) arcs) (few : n ≤ 100000) (inv : IsSearching arcs n start s w)
+    (short : most < never → most ≤ longest) (over : (node : ℕ) → waits w node ≡ true → most < slice_index s node) where
+  -- no walk as far as so many seconds is shorter than the number of its end
+  no_shorter : (walk : List Arc) (node end x : ℕ) → node < n → IsWalk arcs node walk end → slice_index s node ≤ x → x + walk_seconds walk ≤ longest → x + walk_seconds walk ≤ most
+      → slice_index s end ≤ x + walk_seconds walk
+  no_shorter [] node end x hn walks le long near = rw (← walks) (omega arith)
+  no_shorter (arc ∷ rest) node end x hn walks le long near =
+      let more : walk_seconds (arc ∷ rest) ≡ arc.seconds + walk_seconds rest = sum_by-cons (λ (a : Arc). a.seconds) arc rest in
+      let settled : waits w node ≡ false = elim (cases_Bool (waits w node)) [
+        | inl waiting ↦ let beyond = over node waiting in absurd (omega (arith, beyond))
+        | inr still ↦ still
+      ] in
+      let next : slice_index s arc.to ≤ x + arc.seconds = elim (inv.relaxed node arc hn settled (omega arith) walks.0 walks.1) [
+        | inl h ↦ omega (arith, h)
+        | inr h ↦ absurd (omega (arith, h, more))
+      ] in
+      let onward : slice_index s end ≤ x + arc.seconds + walk_seconds rest = no_shorter rest arc.to end (x + arc.seconds) ((All-contains (IsArcAmong n) arcs arc among walks.0).1) walks.2 next (omega (arith, more)) (omega (arith, more)) in
+      omega (arith, more, onward)
+
+  -- a walk is no shorter than the number of its end, where that is no further than so many seconds
+  least : (node : ℕ) → node < n → slice_index s node ≤ most → (walk : List Arc) → IsWalk arcs start walk node → (slice_index s node ≤ walk_seconds walk) × (slice_index s node ≤ longest)
+  least node hn near walk walks =
+      let other = short_walk arcs walk n start node among few inv.start_within walks in
+      let top = other.3 in
+      let less = other.2 in
+      let zero_at = inv.start_zero in
+      elim (cases_lt (walk_seconds other.0) (slice_index s node)) [
+        | inl below ↦
+            let bound = no_shorter other.0 start node 0 inv.start_within other.1 (omega (arith, zero_at)) (omega (arith, top)) (omega (arith, below)) in
+            absurd (omega (arith, bound, below))
+        | inr le ↦ (omega (arith, le, less), omega (arith, le, top))
+      ]
+
+  -- where nothing waits that is as near, each number as near is the travel time
+  pub AreTimesUpTo-settled : AreTimesUpTo arcs n start most s
+  AreTimesUpTo-settled = record {
+    near = λ node hn there. elim (inv.sound node hn) [
+      | inl far ↦ inr (λ walk walks. let bound = (least node hn there walk walks).1 in omega (arith, bound, far), far)
+      | inr found ↦ inl (record {
+        walk = found.1.0;
+        walks = found.1.1;
+        takes = found.1.2;
+        least = λ other walks. (least node hn there other walks).0;
+      })
+    ];
+    far = λ node hn beyond walk walks. elim (cases_lt most (walk_seconds walk)) [
+      | inl longer ↦ longer
+      | inr le ↦
+          let zero_at = inv.start_zero in
+          let top : most < never = elim (inv.sound node hn) [ inl e ↦ omega (arith, e, beyond) | inr found ↦ let f = found.0 in omega (arith, f, beyond) ] in
+          let small = short top in
+          let bound = no_shorter walk start node 0 inv.start_within walks (omega (arith, zero_at)) (omega (arith, le, small)) (omega (arith, le)) in
+          absurd (omega (arith, bound, le, beyond))
+    ];
+    bounded = λ node hn. elim (inv.sound node hn) [ inl e ↦ omega (arith, e) | inr found ↦ let f = found.0 in omega (arith, f) ];
+  }
+
+-- a goal's number is `never` or at most the longest time
+pub reach_short : (arcs : List Arc) (n start : ℕ) (s : List ℕ) (w : List Bool) (goal : Option ℕ) → IsSearching arcs n start s w → IfSome goal (λ g. g < n) → reach goal s < never → reach goal s ≤ longest
+reach_short arcs n start s w None inv within near = absurd (omega arith)
+reach_short arcs n start s w (Some goal) inv within near = elim (inv.sound goal within) [
+  | inl far ↦ absurd (omega (arith, far))
+  | inr found ↦ found.0
+]
 
 -- where nothing waits, each number is the travel time
 pub IsTimeBetween-settled : (arcs : List Arc) (n start : ℕ) (s : List ℕ) (w : List Bool) → All (IsArcAmong n) arcs → n ≤ 100000 → IsSearching arcs n start s w → ((node : ℕ) → waits w node ≡ false)
     → (goal : ℕ) → goal < n → IsTimeBetween arcs start goal (slice_index s goal)
 IsTimeBetween-settled arcs n start s w among few inv settled goal hg =
-    let least : (walk : List Arc) → IsWalk arcs start walk goal → slice_index s goal ≤ walk_seconds walk × (slice_index s goal ≤ longest) = λ walk walks.
-    let other = short_walk arcs walk n start goal among few inv.start_within walks in
-    let short : walk_seconds other.0 ≤ 999990000 = other.3 in
-    let less : walk_seconds other.0 ≤ walk_seconds walk = other.2 in
-    let zero_at : slice_index s start ≡ 0 = inv.start_zero in
-    let bound : slice_index s goal ≤ 0 + walk_seconds other.0 = no_shorter arcs n start s w among inv settled other.0 start goal 0 inv.start_within other.1 (omega arith) (omega arith) in
-    (omega arith, omega arith) in
-    ⊎_elim
-    (λ (far : slice_index s goal ≡ never). inr (λ walk walks. let short : slice_index s goal ≤ longest = (least walk walks).1 in omega arith, far))
-    (λ (found : (slice_index s goal ≤ longest) × HasWalkOf arcs start goal (slice_index s goal)). inl (record {
-      walk = found.1.0;
-      walks = found.1.1;
-      takes = found.1.2;
-      least = λ other walks. (least other walks).0;
-    }))
-    (inv.sound goal hg)
+    let all = AreTimesUpTo-settled arcs n start never s w among few inv (λ near. absurd (omega arith)) (λ node waiting. absurd (true≢false (sym waiting ∙ settled node))) in
+    all.near goal hg (all.bounded goal hg)
 
 -- the search begins at its start
 pub IsSearching-start : (arcs : List Arc) (n start : ℕ) (s : List ℕ) (w : List Bool) → length s ≡ n → length w ≡ n → start < n

@@ -35,7 +35,10 @@ fn said_of(
         return Said::Nothing;
     }
     let gate = FreeGate;
-    let ways = NetworkWays { network };
+    let ways = NetworkWays {
+        network,
+        workers: 4,
+    };
     let limits = settings();
     match audit_block(rt, alloc, text, snapshot, network, &ways, &limits, &gate) {
         Ok(found) => Said::Good(found.lines, found.rest.len()),

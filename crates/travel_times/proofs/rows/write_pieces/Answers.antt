@@ -8,7 +8,7 @@ pub par_chunks_mut_for_each-requires-clause-accepts : goal.par_chunks_mut_for_ea
 par_chunks_mut_for_each-requires-clause-accepts g c κs within = λ start p is.
     let some = c.requires.rows in
     let most = c.requires.most in
-    (c.requires.arcs, c.requires.known, c.requires.few, omega arith, piece_of_chunk (length c.args.points.now) c.args.rows start c.args.cells.now p.now c.requires.rows (omega arith) c.requires.size c.requires.unwritten is)
+    (c.requires.known, c.requires.few, omega arith, piece_of_chunk (length c.args.points.now) c.args.rows start c.args.cells.now p.now c.requires.rows (omega arith) c.requires.size c.requires.unwritten is)
 
 pub returns : goal.returns
 returns g c =
@@ -19,7 +19,7 @@ returns g c =
     let after = c.par_chunks_mut_for_each.new.s in
     let size = c.args.rows * length points in
     let keeps = c.par_chunks_mut_for_each.auto.s in
-    written_of_chunks c.args.network.now.arcs points c.args.rows before after c.requires.rows (omega arith) c.requires.size (omega arith) (λ p lt.
+    written_of_chunks c.args.arcs.now.network.now.arcs points c.args.rows before after c.requires.rows (omega arith) c.requires.size (omega arith) (λ p lt.
     let at = c.par_chunks_mut_for_each.ensures.chunks p lt in
-    subst (λ x. IsPieceWritten c.args.network.now.arcs points (p * size) x (slice_chunk after size p)) at.argument_is
-    (subst (λ y. IsPieceWritten c.args.network.now.arcs points (p * size) at.argument.now y) at.left at.call))
+    subst (λ x. IsPieceWritten c.args.arcs.now.network.now.arcs points (p * size) x (slice_chunk after size p)) at.argument_is
+    (subst (λ y. IsPieceWritten c.args.arcs.now.network.now.arcs points (p * size) at.argument.now y) at.left at.call))

@@ -18,4 +18,4 @@ returns g c =
     let same : take c.in_ok-cells.cells.len (new ++ drop (length new) items) ≡ new = take_at new (drop (length new) items) c.in_ok-cells.cells.len (omega arith) in
     let read = c.deref.ensures.value ∙ same in
     let all = subst (λ xs. (i : ℕ) → i < n → slice_index xs (i * n + i) ≡ never → ⊥) read (c.are_computed.ensures c.if-not-are_computed.false) in
-    subst (λ xs. AreRows arcs points 0 n xs) (sym same) (rows_of_written arcs points new c.write_pieces.ensures all)
+    subst (λ xs. AreRows arcs points 0 n xs) (sym same) (rows_of_written arcs points new (rw c.in_ok-arcs.ensures at c.write_pieces.ensures) all)
