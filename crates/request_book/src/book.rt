@@ -8,7 +8,7 @@ use crate::command::Command;
 use crate::journal::{Entry, Journal};
 use crate::register::Register;
 use crate::reply::Reply;
-use crate::rider::Status;
+use crate::rider::{BookRider, Status};
 use crate::state::State;
 use batch_snapshot::{Fleet, Snapshot, Vehicle, copied_vehicles};
 use indexmap::IndexSet;
@@ -184,6 +184,13 @@ impl Book {
                 Err(fault)
             }
         }
+    }
+
+    /// The rider of this id.
+    pub fn rider(&self, rider: RiderId) -> Option<BookRider>
+        ensures { result ≡ find_rider rider self.now.state.riders }
+    {
+        self.register.rider(rider)
     }
 
     /// A rider's status.
