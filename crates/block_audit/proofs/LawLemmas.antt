@@ -5,8 +5,8 @@ use Rattle.std.proofs.lemmas.Bool.{cases_lt}
 use Rattle.std.proofs.lemmas.List.Elements.{All-contains}
 use Rattle.batch_snapshot.specs.Batch.{Batch}
 use Rattle.outcome_check.specs.Verdict.{point_place}
-use Rattle.outcome_check.specs.declared.verdict.Point.{Point}
-use Rattle.outcome_check.specs.declared.verdict.Point.TheVariants as point
+use Rattle.batch_solver.specs.declared.point.Point.{Point}
+use Rattle.batch_solver.specs.declared.point.Point.TheVariants as point
 use Rattle.report_lines.specs.Outcome.{lines_of}
 use Rattle.report_lines.specs.declared.block_line.BlockLine.{BlockLine}
 use Rattle.report_lines.specs.declared.block_line.BlockLine.TheVariants.{Row, Trip, Late}

@@ -4,7 +4,7 @@ use Rattle.batch_solver.specs.Outcome.{IsGoodOutcome}
 use Rattle.dispatch_report.specs.Block.{block_lines}
 use Rattle.dispatch_report.specs.Lines.{lines_text}
 use Rattle.outcome_check.specs.Verdict.{Meets, IsVerdictOf, point_place}
-use Rattle.outcome_check.specs.declared.verdict.Point.{Point}
+use Rattle.batch_solver.specs.declared.point.Point.{Point}
 use Rattle.outcome_check.specs.declared.verdict.Verdict.TheVariants.{Fails}
 use Rattle.report_lines.specs.Block.{IsBlock, BlockFails}
 use Rattle.report_lines.specs.declared.block.BlockFault.TheVariants as fault

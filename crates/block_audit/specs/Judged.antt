@@ -4,8 +4,8 @@ use Rattle.std.specs.List.{All, position_or_len}
 use Rattle.arrayvec.specs.ArrayVec.{ArrayVec}
 use Rattle.plan_rules.specs.declared.node.Node.{Node}
 use Rattle.plan_rules.specs.declared.node.Node.TheVariants as node
-use Rattle.outcome_check.specs.declared.verdict.Point.{Point}
-use Rattle.outcome_check.specs.declared.verdict.Point.TheVariants as point
+use Rattle.batch_solver.specs.declared.point.Point.{Point}
+use Rattle.batch_solver.specs.declared.point.Point.TheVariants as point
 use Rattle.report_lines.specs.declared.block_line.BlockLine.{BlockLine}
 use Rattle.report_lines.specs.declared.block_line.BlockLine.TheVariants.{Branch, Leaf, Dead}
 use Rattle.report_lines.specs.declared.late.LateText.{LateText}

@@ -2,7 +2,7 @@
 use Rattle.std.specs.Prelude.{◌≡◌, ℕ, ◌<◌, map}
 use Rattle.batch_snapshot.specs.Batch.{Batch}
 use Rattle.outcome_check.specs.Verdict.{Meets, point_place}
-use Rattle.outcome_check.specs.declared.verdict.Point.{Point}
+use Rattle.batch_solver.specs.declared.point.Point.{Point}
 use Rattle.outcome_check.specs.declared.verdict.Verdict.{Verdict}
 use Rattle.outcome_check.specs.declared.verdict.Verdict.TheVariants.{Good, Fails}
 use Rattle.rider_limits.specs.declared.settings.Settings.{Settings}

@@ -1,7 +1,7 @@
 -- The state after a close with a good plan on a driven day.
 use Rattle.std.proofs.Common.{◌≡◌, ◌⊎◌, ℕ, zero, suc, ◌+◌, ◌<◌, ◌≤◌, Bool, true, false, cond, List, [], ◌∷◌, length, get_or, map, Option, Some, None, refl, sym, ap, ◌∙◌, subst, arith, inl, inr}
-use Rattle.std.specs.Prelude.{slice_get, is_some}
-use Rattle.std.proofs.lemmas.Bool.{eq-eqb}
+use Rattle.std.specs.Prelude.{slice_get, is_some, option_map, ◌&&◌, min, Contains}
+use Rattle.std.proofs.lemmas.Bool.{eq-eqb, false≢true, true≢false, lt-ltb, and_from, and_parts, MatchBool-at_false}
 use Rattle.std.proofs.lemmas.List.{get_or_default}
 use Rattle.pool_base.specs.Times.{travel_time}
 use Rattle.pool_base.specs.declared.times.Times.{Times}
@@ -9,57 +9,46 @@ use Rattle.batch_snapshot.specs.Batch.{Batch}
 use Rattle.batch_snapshot.specs.declared.promise.Promise.{Promise}
 use Rattle.batch_snapshot.specs.declared.rider.Rider.{Rider}
 use Rattle.batch_snapshot.specs.declared.vehicle.Vehicle.{Vehicle}
-use Rattle.batch_solver.specs.Outcome.{IsGoodPlan}
+use Rattle.batch_solver.specs.Outcome.{HasGraphsWith}
+use Rattle.batch_solver.specs.work.Outcome.{IsGoodPlan}
+use Rattle.batch_solver.specs.declared.point.Point.TheVariants as point
 use Rattle.promise_check.specs.Requests.{request_at}
-use Rattle.promise_check.specs.Promised.{is_promised_to, IsLive}
-use Rattle.promise_check.specs.Settling.{IsSettled, HasRightLimit}
-use Rattle.request_book.specs.Rider.{shown}
+use Rattle.promise_check.specs.Promised.{is_promised_to, IsLive, promised_limit, promised_to}
+use Rattle.promise_check.specs.Settling.{IsSettled, HasRightLimit, HoldsPromised}
+use Rattle.request_book.specs.Rider.{shown, with_status, is_active}
 use Rattle.request_book.specs.State.{find_rider, find_vehicle}
 use Rattle.request_book.specs.declared.outcome.PlannedStop.{PlannedStop}
 use Rattle.request_book.specs.declared.outcome.Planned.{Planned}
 use Rattle.request_book.specs.declared.state.State.{State}
 use Rattle.rider_limits.specs.declared.settings.Settings.{Settings}
-use Rattle.road_network.specs.Roads.{Roads, index_in}
+use Rattle.road_network.specs.Roads.{Roads, index_in, has_node}
 use Rattle.stop_orders.specs.declared.settled.Settled.{Settled}
 use Rattle.stop_orders.specs.Settled.{vehicle_at, rider_at}
 use Rattle.travel_times.specs.Table.{AreTravelTimes}
-use Rattle.route_drive.specs.work.Serving.{IsKept}
+use Rattle.route_drive.specs.work.Serving.{IsKept, calls_of, IsRightDropoff, IsServing, IsPromiseKept, chosen_stops}
 use Rattle.route_drive.proofs.kept.Batches.{found_at}
-use Rattle.route_drive.proofs.kept.Sealing.{ShowsRiders}
-use Rattle.route_drive.proofs.kept.States.{vehicle_id}
-use Rattle.std.specs.Prelude.{option_map, ◌&&◌, min}
+use Rattle.route_drive.proofs.kept.Sealing.{ShowsRiders, first_call}
+use Rattle.route_drive.proofs.kept.States.{vehicle_id, IsBoundBy, IsBound, KeepsBounds}
 use Rattle.std.specs.Option.{option_map_or}
-use Rattle.std.proofs.lemmas.Bool.{false≢true, true≢false}
 use Rattle.plan_rules.proofs.lemmas.GraphLemmas.{times_served_some, times_served_found, in_choice}
-use Rattle.plan_rules.specs.Graph.{choice_at, riders_at, is_in}
+use Rattle.plan_rules.specs.Graph.{choice_at, riders_at, is_in, must_be_served}
 use Rattle.promise_check.specs.lemmas.Named.{no_request}
 use Rattle.request_book.specs.Closing.{picks, after_plan}
 use Rattle.request_book.specs.lemmas.Named.{in_batch, planned_status}
 use Rattle.request_book.specs.Keyed.{look_up}
-use Rattle.request_book.specs.Rider.{with_status, is_active}
 use Rattle.request_book.specs.declared.outcome.ChosenTrip.{ChosenTrip}
 use Rattle.request_book.specs.declared.rider.BookRider.{BookRider}
 use Rattle.request_book.specs.declared.rider.Status.{Status}
 use Rattle.request_book.specs.declared.rider.Status.TheVariants.{Waiting, Promised, Aboard, Cancelled, Delivered, Expired}
-use Rattle.request_book.proofs.lemmas.KeyedLemmas.{look_up-at, KeysDiffer-from_rise}
-use Rattle.road_network.specs.Roads.{has_node}
-use Rattle.route_drive.specs.work.Serving.{calls_of}
-use Rattle.route_drive.proofs.kept.Lapse.{vehicle_of_number, not_late, number_of_vehicle}
+use Rattle.request_book.proofs.lemmas.KeyedLemmas.{look_up-at, KeysDiffer-from_rise, look_up-key, look_up-here, look_up-there}
+use Rattle.route_drive.proofs.kept.Lapse.{vehicle_of_number, not_late, number_of_vehicle, promise_is_live}
 use Rattle.route_drive.proofs.kept.Served.{vehicle_found}
 use Rattle.route_drive.proofs.kept.Walks.{is_node_at}
 use Rattle.route_drive.proofs.kept.Trips.{trip_back, trip_is, other_id}
-use Rattle.std.proofs.lemmas.Bool.{lt-ltb, and_from, and_parts, MatchBool-at_false}
-use Rattle.plan_rules.specs.Graph.{must_be_served}
 use Rattle.plan_rules.specs.lemmas.Plan.{times_chosen}
-use Rattle.promise_check.specs.Promised.{promised_limit, promised_to}
 use Rattle.promise_check.proofs.lemmas.Promises.{filter_range_has}
-use Rattle.request_book.proofs.lemmas.KeyedLemmas.{look_up-key}
-use Rattle.route_drive.specs.work.Serving.{IsRightDropoff, IsServing, IsPromiseKept}
 use Rattle.route_drive.proofs.kept.Lists.{both}
-use Rattle.route_drive.proofs.kept.Lapse.{promise_is_live}
 use Rattle.route_drive.proofs.kept.Riders.{found_id}
-use Rattle.route_drive.proofs.kept.Sealing.{first_call}
-use Rattle.route_drive.proofs.kept.States.{IsBoundBy, IsBound}
 use Rattle.route_drive.proofs.kept.Chosen.{member_calls}
 use Rattle.request_book.specs.Consistent.{IsConsistent, NamesNodes}
 use Rattle.request_book.specs.Step.{step}
@@ -67,12 +56,7 @@ use Rattle.request_book.specs.declared.command.Command.{Command}
 use Rattle.request_book.specs.declared.reply.Reply.{Reply}
 use Rattle.request_book.proofs.lemmas.ConsistentLemmas.{step-consistent}
 use Rattle.request_book.proofs.lemmas.NamedLemmas.{step-named}
-use Rattle.request_book.proofs.lemmas.KeyedLemmas.{look_up-here, look_up-there}
-use Rattle.std.specs.Prelude.{Contains}
-use Rattle.promise_check.specs.Settling.{HoldsPromised}
 use Rattle.trip_graph.specs.Answer.{IsRowWith}
-use Rattle.route_drive.proofs.kept.States.{KeepsBounds}
-use Rattle.route_drive.specs.work.Serving.{chosen_stops}
 use Rattle.route_drive.proofs.kept.Made.{HasTrip, has_trip, find_planned, planned_rider, member_promised, member_status, left_status, IsPlaced', where_is, serves_chosen, items_told, trip_vehicle, one_number, IsMemberPickup, after_is, after_stays}
 
 -- the element of a key, where no other has it
@@ -84,7 +68,7 @@ look_up_only key (y ∷ ys) (suc i) x at only = look_up-there key (key x) y ys (
 module _ (settings : Settings) (roads : Roads) (s : State) (stops : ℕ → List PlannedStop) (b : Batch) (settled : Settled) (points : List ℕ) (times : Times)
     (kept : IsKept settings roads s stops) (shows : ShowsRiders s b) (early : (id : ℕ) (v : Vehicle) → find_vehicle id s.vehicles ≡ Some v → b.sealed_at ≤ v.time)
     (limits : IsSettled settings points (travel_time times) b settled) (table : AreTravelTimes roads.arcs (map (index_in roads.nodes) points) times)
-    (planned : Planned) (good : IsGoodPlan settings points (travel_time times) settled planned) where
+    (planned : Planned) (good : HasGraphsWith settings points (travel_time times) settled (IsGoodPlan settings planned)) where
   abbrev riders' : List BookRider
   riders' = map (after_plan b.riders (picks planned.chosen)) s.riders
 
@@ -179,7 +163,7 @@ module _ (settings : Settings) (roads : Roads) (s : State) (stops : ℕ → List
   }
 
   -- a promise is planned again, not later
-  kept_in_plan : (n : ℕ) (p : Promise) → n < length b.riders → (request_at b.riders n).promise ≡ Some p → 1 ≤ times_chosen good.graph good.chosen n
+  kept_in_plan : (n : ℕ) (p : Promise) → n < length b.riders → (request_at b.riders n).promise ≡ Some p → 1 ≤ times_chosen good.graph (good.holds point.Plan).chosen n
   kept_in_plan n p low e =
       let to : is_promised_to p.vehicle (request_at b.riders n) ≡ true = rw e (eq-eqb p.vehicle p.vehicle refl) in
       let live = promise_is_live settings roads s stops b settled points times kept shows early limits table n p.vehicle low to in
@@ -195,7 +179,7 @@ module _ (settings : Settings) (roads : Roads) (s : State) (stops : ℕ → List
       let l = live.within in
       let served = times_served_some good.graph good.graph.held good.graph.vehicles n live.vehicle (omega (arith, c, l)) (ap (λ o. is_in good.graph o n) row.1 ∙ has) in
       let must : must_be_served good.graph n ≡ true = lt-ltb 0 _ (omega (arith, served)) in
-      let one : times_chosen good.graph good.chosen n ≡ 1 = good.found.plan.lawful.kept n must in
+      let one : times_chosen good.graph (good.holds point.Plan).chosen n ≡ 1 = (good.holds point.Plan).holds.lawful.kept n must in
       omega (arith, one)
     where
       holds : (k : ℕ) → IsLive settings (travel_time times) b.riders settled.riders (vehicle_at settled k) → HoldsPromised settings (travel_time times) b.riders settled.riders (vehicle_at settled k) → Contains (promised_to (vehicle_at settled k).id b.riders) n
@@ -216,10 +200,10 @@ module _ (settings : Settings) (roads : Roads) (s : State) (stops : ℕ → List
           → IsPlaced' settings roads s stops b settled points times kept shows early limits table planned good n → IsBound planned_state z limit
       again p t le n low name promise (IsPlaced'.stays out) = absurd (
           let one = kept_in_plan n p low promise in
-          let some = times_served_found good.graph good.chosen good.graph.vehicles n one in
+          let some = times_served_found good.graph (good.holds point.Plan).chosen good.graph.vehicles n one in
           let c = good.exact.vehicle_total in
           let l = some.1 in
-          let choice = in_choice good.graph (choice_at good.chosen some.0) n some.2 in
+          let choice = in_choice good.graph (choice_at (good.holds point.Plan).chosen some.0) n some.2 in
           out some.0 choice.0 (omega (arith, c, l)) choice.1 choice.2)
       again p t le n low name promise (IsPlaced'.rides j other i l at) =
           let id : (request_at b.riders (get_or (riders_at good.graph other.is.row) i 0)).id ≡ was.of.id = ap (λ m. (request_at b.riders m).id) at ∙ name in

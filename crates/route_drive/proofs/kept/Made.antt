@@ -1,8 +1,8 @@
 -- A close with a good plan on a driven day: the chosen trips are what the vehicles now serve.
-use Rattle.std.proofs.Common.{◌≡◌, ◌⊎◌, ℕ, ◌+◌, ◌<◌, ◌≤◌, Bool, true, false, cond, List, [], ◌∷◌, length, get_or, map, Option, Some, None, refl, sym, ap, ◌∙◌, subst, arith, inl, inr}
-use Rattle.std.specs.Prelude.{slice_get, is_some}
-use Rattle.std.specs.List.{AllByRecursion}
-use Rattle.std.proofs.lemmas.Bool.{cases_Bool, eq-eqb}
+use Rattle.std.proofs.Common.{◌≡◌, ◌⊎◌, ℕ, ◌+◌, ◌<◌, ◌≤◌, Bool, true, false, cond, List, [], ◌∷◌, length, get_or, map, Option, Some, None, refl, sym, ap, ◌∙◌, subst, arith, inl, inr, nat_eq, ◌-◌, ◌*◌, max}
+use Rattle.std.specs.Prelude.{slice_get, is_some, option_map, option_and_then, unwrap_or, ◌&&◌, min, MatchBool}
+use Rattle.std.specs.List.{AllByRecursion, IsDistinct}
+use Rattle.std.proofs.lemmas.Bool.{cases_Bool, eq-eqb, cases_lt, false≢true, true≢false, and_from, and_parts, cond-true}
 use Rattle.std.proofs.lemmas.Option.{slice_get_within, get_or_from_slice_get, slice_get-get_or}
 use Rattle.pool_base.specs.Times.{travel_time}
 use Rattle.pool_base.specs.declared.times.Times.{Times}
@@ -10,28 +10,26 @@ use Rattle.batch_snapshot.specs.Batch.{Batch}
 use Rattle.batch_snapshot.specs.declared.promise.Promise.{Promise}
 use Rattle.batch_snapshot.specs.declared.rider.Rider.{Rider}
 use Rattle.batch_snapshot.specs.declared.vehicle.Vehicle.{Vehicle}
-use Rattle.batch_solver.specs.Outcome.{IsGoodPlan}
-use Rattle.promise_check.specs.Requests.{request_at}
-use Rattle.promise_check.specs.Settling.{IsSettled, HasRightLimit}
-use Rattle.request_book.specs.Rider.{shown}
-use Rattle.request_book.specs.State.{find_rider, find_vehicle}
+use Rattle.batch_solver.specs.Outcome.{HasGraphsWith}
+use Rattle.batch_solver.specs.work.Outcome.{IsGoodPlan}
+use Rattle.batch_solver.specs.declared.point.Point.TheVariants as point
+use Rattle.promise_check.specs.Requests.{request_at, IsLegOf, ideal_second}
+use Rattle.promise_check.specs.Settling.{IsSettled, HasRightLimit, IsPlaced}
+use Rattle.request_book.specs.Rider.{shown, with_status, passenger_of, is_active}
+use Rattle.request_book.specs.State.{find_rider, find_vehicle, find_passenger}
 use Rattle.request_book.specs.declared.outcome.PlannedStop.{PlannedStop}
 use Rattle.request_book.specs.declared.outcome.Planned.{Planned}
 use Rattle.request_book.specs.declared.state.State.{State}
 use Rattle.rider_limits.specs.declared.settings.Settings.{Settings}
-use Rattle.road_network.specs.Roads.{Roads, index_in}
+use Rattle.road_network.specs.Roads.{Roads, index_in, has_node}
 use Rattle.stop_orders.specs.declared.settled.Settled.{Settled}
-use Rattle.stop_orders.specs.Settled.{vehicle_at, rider_at}
+use Rattle.stop_orders.specs.Settled.{vehicle_at, rider_at, trip_task}
 use Rattle.travel_times.specs.Table.{AreTravelTimes}
-use Rattle.route_drive.specs.work.Serving.{IsKept}
-use Rattle.route_drive.proofs.kept.Batches.{found_at}
+use Rattle.route_drive.specs.work.Serving.{IsKept, calls_of, AreReached, party_at, HasSeatsFor, IsRightPickup, IsRightDropoff, IsRightStop, IsOfVehicle, HasCalls, IsServing}
+use Rattle.route_drive.proofs.kept.Batches.{found_at, distinct_from_differ, IsAsking, IsRiderAboard, same_persons}
 use Rattle.route_drive.proofs.kept.Sealing.{ShowsRiders}
-use Rattle.route_drive.proofs.kept.Served.{request_rider}
-use Rattle.std.specs.Prelude.{option_map, option_and_then, unwrap_or, ◌&&◌, min}
-use Rattle.std.specs.List.{IsDistinct}
+use Rattle.route_drive.proofs.kept.Served.{request_rider, vehicle_found}
 use Rattle.std.specs.Option.{option_map_or}
-use Rattle.std.proofs.Common.{nat_eq, ◌-◌, ◌*◌}
-use Rattle.std.proofs.lemmas.Bool.{cases_lt, false≢true, true≢false}
 use Rattle.std.proofs.lemmas.List.{get_or-map, length-map}
 use Rattle.batch_snapshot.specs.Vehicle.{persons_aboard}
 use Rattle.batch_snapshot.specs.declared.passenger.Passenger.{Passenger}
@@ -39,56 +37,36 @@ use Rattle.batch_solver.specs.Told.{rider_id, told_stop}
 use Rattle.batch_solver.specs.Trips.{IsTripOf}
 use Rattle.plan_rules.proofs.lemmas.GraphLemmas.{times_served_some, times_served_found, in_choice}
 use Rattle.plan_rules.specs.Graph.{choice_at, riders_at, is_in}
-use Rattle.promise_check.specs.Requests.{IsLegOf}
 use Rattle.promise_check.specs.lemmas.Named.{no_request}
-use Rattle.promise_check.specs.Settling.{IsPlaced}
-use Rattle.request_book.specs.Closing.{picks, trip_picks, after_plan}
+use Rattle.request_book.specs.Closing.{picks, trip_picks, after_plan, Pick as PlanPick}
 use Rattle.request_book.specs.lemmas.Named.{in_batch, planned_status}
 use Rattle.request_book.specs.Keyed.{look_up, KeysDiffer}
-use Rattle.request_book.specs.Rider.{with_status, passenger_of, is_active}
 use Rattle.request_book.specs.declared.outcome.ChosenTrip.{ChosenTrip}
 use Rattle.request_book.specs.declared.rider.BookRider.{BookRider}
 use Rattle.request_book.specs.declared.rider.Status.{Status}
 use Rattle.request_book.specs.declared.rider.Status.TheVariants.{Waiting, Promised, Aboard, Cancelled, Delivered, Expired}
-use Rattle.request_book.proofs.lemmas.KeyedLemmas.{look_up-at, KeysDiffer-from_rise}
-use Rattle.road_network.specs.Roads.{has_node}
+use Rattle.request_book.proofs.lemmas.KeyedLemmas.{look_up-at, KeysDiffer-from_rise, look_up-map, look_up-key}
 use Rattle.stop_orders.specs.declared.leg.Leg.{Leg}
 use Rattle.stop_orders.specs.declared.stop.Stop.{Stop}
 use Rattle.stop_orders.specs.declared.stop.Stop.TheVariants.{Pick, Drop, Alight}
 use Rattle.stop_orders.specs.Order.{IsKnown}
-use Rattle.stop_orders.specs.Settled.{trip_task}
-use Rattle.stop_orders.specs.Task.{no_leg, leg_at, visit_at, free_seats}
-use Rattle.route_drive.specs.work.Serving.{calls_of}
-use Rattle.route_drive.proofs.kept.Batches.{distinct_from_differ, IsAsking, IsRiderAboard}
+use Rattle.stop_orders.specs.Task.{no_leg, leg_at, visit_at, free_seats, persons}
 use Rattle.route_drive.proofs.kept.Lapse.{vehicle_of_number}
-use Rattle.route_drive.proofs.kept.Served.{vehicle_found}
-use Rattle.route_drive.proofs.kept.Told.{told_from, none_promised, one_promised, IsPickPromised, found_among, none_among}
+use Rattle.route_drive.proofs.kept.Told.{told_from, none_promised, one_promised, IsPickPromised, found_among, none_among, IsTold, told_reached, told_seats, told_all, told_length}
 use Rattle.route_drive.proofs.kept.Walks.{has_index, index_at, name_at, is_node_at}
-use Rattle.request_book.specs.State.{find_passenger}
-use Rattle.route_drive.proofs.kept.Trips.{trip_of, trip_back, trip_is, one_trip, told_id}
-use Rattle.std.specs.Prelude.{MatchBool}
-use Rattle.std.proofs.lemmas.Bool.{and_from, and_parts, cond-true}
+use Rattle.route_drive.proofs.kept.Trips.{trip_of, trip_back, trip_is, one_trip, told_id, row_of}
 use Rattle.plan_rules.specs.lemmas.Plan.{times_chosen}
-use Rattle.promise_check.specs.Requests.{ideal_second}
 use Rattle.stop_orders.specs.declared.task.Task.{Task}
-use Rattle.request_book.specs.Closing.{Pick as PlanPick}
 use Rattle.request_book.proofs.lemmas.CloseLemmas.{after_plan-id}
-use Rattle.request_book.proofs.lemmas.KeyedLemmas.{look_up-map, look_up-key}
 use Rattle.stop_orders.proofs.lemmas.DoneLemmas.{length-IsOrder}
 use Rattle.stop_orders.specs.Visit.{latest_of}
 use Rattle.stop_orders.specs.declared.visit.Visit.{Visit}
 use Rattle.route_drive.specs.Counts.{ideal_dropoff}
 use Rattle.route_drive.specs.Promises.{IsDroppedInTime}
-use Rattle.route_drive.specs.work.Serving.{AreReached, party_at, HasSeatsFor, IsRightPickup, IsRightDropoff, IsRightStop, IsOfVehicle, HasCalls, IsServing}
 use Rattle.route_drive.proofs.kept.Lists.{all_weaker, both}
-use Rattle.route_drive.proofs.kept.Batches.{same_persons}
-use Rattle.std.proofs.Common.{max}
 use Rattle.request_book.specs.Consistent.{seat_in}
-use Rattle.stop_orders.specs.Task.{persons}
-use Rattle.route_drive.proofs.kept.Trips.{row_of}
 use Rattle.route_drive.proofs.kept.Riders.{found_id}
 use Rattle.route_drive.proofs.kept.Tables.{time_between}
-use Rattle.route_drive.proofs.kept.Told.{IsTold, told_reached, told_seats, told_all, told_length}
 use Rattle.route_drive.proofs.kept.Chosen.{rider_aboard, known, member_calls, passenger_calls, other_calls}
 
 all_each : {A X : Type 0} (P : A → X → Type 0) (xs : List X) → ((a : A) → AllByRecursion (P a) xs) → AllByRecursion (λ x. (a : A) → P a x) xs
@@ -108,7 +86,7 @@ after_stays batch ps r active = rw active refl
 module _ (settings : Settings) (roads : Roads) (s : State) (stops : ℕ → List PlannedStop) (b : Batch) (settled : Settled) (points : List ℕ) (times : Times)
     (kept : IsKept settings roads s stops) (shows : ShowsRiders s b) (early : (id : ℕ) (v : Vehicle) → find_vehicle id s.vehicles ≡ Some v → b.sealed_at ≤ v.time)
     (limits : IsSettled settings points (travel_time times) b settled) (table : AreTravelTimes roads.arcs (map (index_in roads.nodes) points) times)
-    (planned : Planned) (good : IsGoodPlan settings points (travel_time times) settled planned) where
+    (planned : Planned) (good : HasGraphsWith settings points (travel_time times) settled (IsGoodPlan settings planned)) where
   abbrev pub ps : List PlanPick
   ps = picks planned.chosen
 
@@ -141,7 +119,7 @@ module _ (settings : Settings) (roads : Roads) (s : State) (stops : ℕ → List
     pub at : slice_get b.vehicles k ≡ Some x
     pub t : ChosenTrip
     pub chosen : slice_get planned.chosen k ≡ Some t
-    pub is : IsTripOf points (travel_time times) settled good.graph good.chosen k t
+    pub is : IsTripOf points (travel_time times) settled good.graph (good.holds point.Plan).chosen k t
 
   pub has_trip : (k : ℕ) → k < length settled.vehicles → HasTrip k
   has_trip k h =
@@ -161,7 +139,7 @@ module _ (settings : Settings) (roads : Roads) (s : State) (stops : ℕ → List
   member_low k own i h = (trip_is settings roads s stops b settled points times kept shows early limits table planned good k own.is.row own.within own.is.chooses).0.within i 0 h
 
   -- a request that isn't in a trip has no pickup in it
-  out_of_trip : (j : ℕ) (u : ChosenTrip) (r : ℕ) → slice_get planned.chosen j ≡ Some u → r < length b.riders → ((row : ℕ) → choice_at good.chosen j ≡ Some row → has_node (riders_at good.graph row) r ≡ true → ⊥)
+  out_of_trip : (j : ℕ) (u : ChosenTrip) (r : ℕ) → slice_get planned.chosen j ≡ Some u → r < length b.riders → ((row : ℕ) → choice_at (good.holds point.Plan).chosen j ≡ Some row → has_node (riders_at good.graph row) r ≡ true → ⊥)
       → look_up (λ (p : PlanPick). p.rider) (request_at b.riders r).id (trip_picks u.vehicle u.stops.items) ≡ None
   out_of_trip j u r e low out =
       let back = trip_back settings roads s stops b settled points times kept shows early limits table planned good j u e in
@@ -189,7 +167,7 @@ module _ (settings : Settings) (roads : Roads) (s : State) (stops : ℕ → List
       ap (λ o. unwrap_or (option_map (λ (p : PlanPick). Promised p.promise) o) Waiting) found
       ∙ ap (λ v. Promised (record { vehicle = v; pickup = (member_promised k own i h).second })) (trip_vehicle k own)
 
-  pub left_status : (r : ℕ) → r < length b.riders → ((k row : ℕ) → k < length settled.vehicles → choice_at good.chosen k ≡ Some row → has_node (riders_at good.graph row) r ≡ true → ⊥)
+  pub left_status : (r : ℕ) → r < length b.riders → ((k row : ℕ) → k < length settled.vehicles → choice_at (good.holds point.Plan).chosen k ≡ Some row → has_node (riders_at good.graph row) r ≡ true → ⊥)
       → planned_status (picks planned.chosen) (request_at b.riders r).id ≡ Waiting
   unfolding picks
   left_status r low out =
@@ -200,25 +178,25 @@ module _ (settings : Settings) (roads : Roads) (s : State) (stops : ℕ → List
   -- where a request is: in a trip, or in none
   pub data IsPlaced' (r : ℕ) : Type 0 where
     rides : (k : ℕ) (own : HasTrip k) (i : ℕ) → i < length (riders_at good.graph own.is.row) → get_or (riders_at good.graph own.is.row) i 0 ≡ r → IsPlaced' r
-    stays : ((k row : ℕ) → k < length settled.vehicles → choice_at good.chosen k ≡ Some row → has_node (riders_at good.graph row) r ≡ true → ⊥) → IsPlaced' r
+    stays : ((k row : ℕ) → k < length settled.vehicles → choice_at (good.holds point.Plan).chosen k ≡ Some row → has_node (riders_at good.graph row) r ≡ true → ⊥) → IsPlaced' r
 
-  pub rides_once : (r : ℕ) → 1 ≤ times_chosen good.graph good.chosen r → IsPlaced' r
+  pub rides_once : (r : ℕ) → 1 ≤ times_chosen good.graph (good.holds point.Plan).chosen r → IsPlaced' r
   rides_once r h =
-      let some = times_served_found good.graph good.chosen good.graph.vehicles r h in
+      let some = times_served_found good.graph (good.holds point.Plan).chosen good.graph.vehicles r h in
       let c = good.exact.vehicle_total in
       let l = some.1 in
       let own = has_trip some.0 (omega (arith, c, l)) in
-      let choice = in_choice good.graph (choice_at good.chosen some.0) r some.2 in
+      let choice = in_choice good.graph (choice_at (good.holds point.Plan).chosen some.0) r some.2 in
       let same : choice.0 ≡ own.is.row = (let e : Some choice.0 ≡ Some own.is.row = sym choice.1 ∙ own.is.chooses in cc) in
       let has : has_node (riders_at good.graph own.is.row) r ≡ true = subst (λ row. has_node (riders_at good.graph row) r ≡ true) same choice.2 in
       rides some.0 own (index_in (riders_at good.graph own.is.row) r) (has_index (riders_at good.graph own.is.row) r has) (name_at (riders_at good.graph own.is.row) r (has_index (riders_at good.graph own.is.row) r has))
 
   pub where_is : (r : ℕ) → IsPlaced' r
-  where_is r = elim (cases_lt 0 (times_chosen good.graph good.chosen r)) [
+  where_is r = elim (cases_lt 0 (times_chosen good.graph (good.holds point.Plan).chosen r)) [
     | inl some ↦ rides_once r (omega (arith, some))
     | inr none ↦ stays (λ k row h choose has.
         let c = good.exact.vehicle_total in
-        let one = times_served_some good.graph good.chosen good.graph.vehicles r k (omega (arith, c, h)) (ap (λ o. is_in good.graph o r) choose ∙ has) in
+        let one = times_served_some good.graph (good.holds point.Plan).chosen good.graph.vehicles r k (omega (arith, c, h)) (ap (λ o. is_in good.graph o r) choose ∙ has) in
         omega (arith, one, none))
   ]
 
