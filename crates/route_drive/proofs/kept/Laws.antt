@@ -4,7 +4,7 @@ use Rattle.pool_base.specs.Times.{travel_time}
 use Rattle.batch_solver.specs.Outcome.{AnswersWith}
 use Rattle.batch_solver.specs.work.Outcome.{IsGoodPlan}
 use Rattle.request_book.specs.Closing.{after_answer, after_plan, picks}
-use Rattle.request_book.specs.Consistent.{IsConsistent, NamesNodes, IsNode}
+use Rattle.request_book.specs.Consistent.{IsConsistent, NamesNodes}
 use Rattle.request_book.specs.Step.{step}
 use Rattle.request_book.specs.declared.command.Command.TheVariants.{Pickup, Dropoff, Close}
 use Rattle.request_book.specs.declared.outcome.Answer.{Answer}
@@ -18,6 +18,7 @@ use Rattle.request_book.proofs.lemmas.ConsistentLemmas.{step-consistent}
 use Rattle.request_book.proofs.lemmas.NamedLemmas.{step-named}
 use Rattle.request_book.proofs.lemmas.KeyedLemmas.{look_up-nil}
 use Rattle.request_book.proofs.lemmas.LawLemmas.{reached-consistent}
+use Rattle.request_book.specs.Consistent.{IsNode}
 use Rattle.request_book.specs.Replay.{state_after}
 use Rattle.request_book.specs.declared.rider.BookRider.{BookRider}
 use Rattle.std.proofs.lemmas.List.Elements.{All-nil}

@@ -1,8 +1,8 @@
 -- The trips that a good plan chooses on a driven day: whose stops they are, and what they promise.
-use Rattle.std.proofs.Common.{◌≡◌, ℕ, zero, suc, ◌+◌, ◌<◌, ◌≤◌, Bool, true, not, eqb, List, [], ◌∷◌, length, get_or, map, filter, Some, refl, sym, ap, ◌∙◌, subst, arith, inl, inr, nat_eq}
+use Rattle.std.proofs.Common.{◌≡◌, ℕ, zero, suc, ◌+◌, ◌<◌, ◌≤◌, Bool, true, not, eqb, List, [], ◌∷◌, length, get_or, map, filter, Some, refl, sym, ap, ◌∙◌, subst, arith, inl, inr}
 use Rattle.std.specs.Prelude.{slice_get}
-use Rattle.std.specs.List.{AllByRecursion, AllZip, range_with_len, IsDistinct, zip}
-use Rattle.std.proofs.lemmas.Bool.{eq-eqb, cases_eq, cases_lt, ne_eqb}
+use Rattle.std.specs.List.{AllByRecursion, AllZip, range_with_len}
+use Rattle.std.proofs.lemmas.Bool.{eq-eqb}
 use Rattle.std.proofs.lemmas.List.FromFn.{length-range_with_len, get_or-range_with_len}
 use Rattle.std.proofs.lemmas.Option.{slice_get_within, get_or_from_slice_get, slice_get-get_or}
 use Rattle.pool_base.specs.Times.{travel_time}
@@ -20,12 +20,15 @@ use Rattle.request_book.specs.declared.outcome.PlannedStop.{PlannedStop}
 use Rattle.request_book.specs.declared.outcome.Planned.{Planned}
 use Rattle.request_book.specs.declared.state.State.{State}
 use Rattle.rider_limits.specs.declared.settings.Settings.{Settings}
-use Rattle.road_network.specs.Roads.{Roads, index_in, has_node}
+use Rattle.road_network.specs.Roads.{Roads, index_in}
 use Rattle.stop_orders.specs.declared.settled.Settled.{Settled}
-use Rattle.stop_orders.specs.Settled.{vehicle_at, IsTrip}
+use Rattle.stop_orders.specs.Settled.{vehicle_at}
 use Rattle.travel_times.specs.Table.{AreTravelTimes}
 use Rattle.route_drive.specs.work.Serving.{IsKept}
 use Rattle.route_drive.proofs.kept.Sealing.{ShowsRiders}
+use Rattle.std.specs.List.{IsDistinct, zip}
+use Rattle.std.proofs.Common.{nat_eq}
+use Rattle.std.proofs.lemmas.Bool.{cases_eq, cases_lt, ne_eqb}
 use Rattle.std.proofs.lemmas.List.{get_or-map, length-map}
 use Rattle.batch_solver.specs.Told.{rider_id}
 use Rattle.batch_solver.specs.Trips.{IsTripOf}
@@ -38,6 +41,8 @@ use Rattle.promise_check.specs.lemmas.Named.{no_request}
 use Rattle.request_book.specs.declared.outcome.ChosenTrip.{ChosenTrip}
 use Rattle.request_book.proofs.lemmas.BatchLemmas.{increasing_from_rise}
 use Rattle.request_book.proofs.lemmas.KeyedLemmas.{KeysDiffer-from_rise}
+use Rattle.road_network.specs.Roads.{has_node}
+use Rattle.stop_orders.specs.Settled.{IsTrip}
 use Rattle.route_drive.proofs.kept.Batches.{rising_far, distinct_from_rising}
 use Rattle.route_drive.proofs.kept.Lapse.{along_range, not_late}
 use Rattle.route_drive.proofs.kept.Lists.{takes}
