@@ -8,7 +8,7 @@ use Rattle.batch_snapshot.specs.Kept.{IsKept}
 use Rattle.batch_solver.specs.Outcome.{IsGoodOutcome}
 use Rattle.dispatch_report.specs.Block.{block_lines}
 use Rattle.dispatch_report.specs.Lines.{lines_text}
-use Rattle.outcome_check.specs.Verdict.{Meets, IsVerdictOf, point_place}
+use Rattle.outcome_check.specs.Verdict.{Meets, IsVerdictOf}
 use Rattle.batch_solver.specs.declared.point.Point.{Point}
 use Rattle.batch_solver.specs.declared.point.Point.TheVariants as point
 use Rattle.outcome_check.specs.declared.verdict.Verdict.{Verdict}
@@ -26,11 +26,11 @@ use Rattle.report_lines.proofs.lemmas.OutcomeLemmas.{outcome_block, outcome_text
 use Rattle.request_book.specs.declared.outcome.Outcome.{Outcome}
 use Rattle.rider_limits.specs.declared.settings.Settings.{Settings}
 use Rattle.road_network.specs.Roads.{Roads}
-use Rattle.block_audit.specs.Block.{BeginsWithGood, BeginsWithWrong, MeetsAs, FailsFirst, Refuses}
+use Rattle.block_audit.specs.Block.{BeginsWithGood, BeginsWithWrong, MeetsAs, Refuses}
 use Rattle.block_audit.specs.Judged.{judged_outcome, CanBeTold}
 use Rattle.block_audit.specs.Told.{Told, told_by}
 use Rattle.block_audit.specs.work.Block.{refusal_for}
-use Rattle.block_audit.specs.work.Judged.{HoldUpTo, IsRight, verdict_place}
+use Rattle.block_audit.specs.work.Judged.{FailsFirst, HoldUpTo, IsRight, verdict_place}
 use Rattle.block_audit.specs.declared.refusal.BlockRefusal.{BlockRefusal}
 use Rattle.block_audit.specs.declared.refusal.BlockRefusal.TheVariants.{OutOfMemory, Cut, Form, Wrong}
 use Rattle.block_audit.proofs.NumberedLemmas.{vehicle_ids, few_ids, outcome_numbered, outcome_trips}
@@ -124,6 +124,10 @@ fault_no_good settings roads batch text found refusal fails is some other behind
     in
     block_no_fault text (lines_of batch.number other) behind printed found (λ (e : found ≡ fault.OutOfMemory). some (is ∙ ap refusal_for e)) fails
 
+-- the first point that fails of a block
+first_of : (settings : Settings) (roads : Roads) (batch : Batch) (text : List ℕ) (place : ℕ) (wrong : BeginsWithWrong settings roads batch text place) → FailsFirst (MeetsAs settings roads batch (told_by wrong.lines)) place
+first_of settings roads batch text place wrong = record { point = wrong.point; at = wrong.at; first = wrong.fails }
+
 -- a text that begins with a good block isn't refused
 pub good_not_refused : (settings : Settings) (roads : Roads) (batch : Batch) → IsKept batch → (text : List ℕ) (outcome : Outcome) (rest : List ℕ) → BeginsWithGood settings roads batch text outcome rest
     → (refusal : BlockRefusal) → refusal ≢ OutOfMemory → Refuses settings roads batch text refusal → ⊥
@@ -131,7 +135,7 @@ good_not_refused settings roads batch kept text outcome rest good OutOfMemory so
 good_not_refused settings roads batch kept text outcome rest good (Cut n) some is = fault_no_good settings roads batch text (fault.Cut n) (Cut n) is refl some outcome rest good
 good_not_refused settings roads batch kept text outcome rest good (Form n) some is = fault_no_good settings roads batch text (fault.Form n) (Form n) is refl some outcome rest good
 good_not_refused settings roads batch kept text outcome rest good (Wrong place) some wrong =
-    fails_no_good settings roads batch kept text wrong.lines wrong.rest wrong.block place wrong.fails outcome rest good
+    fails_no_good settings roads batch kept text wrong.lines wrong.rest wrong.block place (first_of settings roads batch text place wrong) outcome rest good
 
 -- of points the first that fails is one
 one_first : (P : Point → Type 0) (p q : ℕ) → FailsFirst P p → FailsFirst P q → p ≡ q
@@ -146,7 +150,7 @@ one_first P p q a b = ⊎_elim
 one_wrong : (settings : Settings) (roads : Roads) (batch : Batch) (text : List ℕ) (n m : ℕ) → BeginsWithWrong settings roads batch text n → BeginsWithWrong settings roads batch text m → n ≡ m
 one_wrong settings roads batch text n m one two =
     let e = (block_of_one text one.lines two.lines one.rest two.rest one.block two.block).0 in
-    one_first (MeetsAs settings roads batch (told_by two.lines)) n m (subst (λ (ls : List BlockLine). FailsFirst (MeetsAs settings roads batch (told_by ls)) n) e one.fails) two.fails
+    one_first (MeetsAs settings roads batch (told_by two.lines)) n m (subst (λ (ls : List BlockLine). FailsFirst (MeetsAs settings roads batch (told_by ls)) n) e (first_of settings roads batch text n one)) (first_of settings roads batch text m two)
 
 -- a text is refused for one cause
 fault_and_wrong : (settings : Settings) (roads : Roads) (batch : Batch) (text : List ℕ) (f : BlockFault) (place : ℕ) → f ≢ fault.OutOfMemory → BlockFails text f → BeginsWithWrong settings roads batch text place → ⊥

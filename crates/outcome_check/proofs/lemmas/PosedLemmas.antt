@@ -1,5 +1,5 @@
 -- A batch poses one problem.
-use Rattle.std.proofs.Common.{◌≡◌, ◌↔◌, ℕ, List, map, refl, sym, ◌∙◌, subst}
+use Rattle.std.proofs.Common.{◌≡◌, ◌↔◌, ℕ, List, map, refl, subst}
 use Rattle.batch_snapshot.specs.Batch.{Batch}
 use Rattle.batch_snapshot.specs.Points.{ArePoints}
 use Rattle.batch_laws.proofs.lemmas.EdgeLemmas.{one_rr_graph, one_rv_graph}

@@ -1,4 +1,4 @@
-use Rattle.std.proofs.Common.{◌≡◌, List, Option, ℕ, sym, ap, ◌∙◌, subst, to_z, of_z}
+use Rattle.std.proofs.Common.{◌≡◌, List, Option, ℕ, ◌∙◌, subst, to_z, of_z}
 use mir.Syntax.{w128}
 use Rattle.std.proofs.lemmas.Int.{to_z-of_z}
 use Rattle.pool_base.specs.Times.{travel_time}

@@ -5,7 +5,7 @@ use Rattle.batch_solver.specs.Outcome.{IsGoodOutcome}
 use Rattle.dispatch_report.specs.Block.{block_lines}
 use Rattle.batch_solver.specs.declared.point.Point.{Point}
 use Rattle.request_book.specs.declared.outcome.Outcome.{Outcome}
-use Rattle.block_audit.specs.Block.{BeginsWithGood, MeetsAs, FailsFirst}
+use Rattle.block_audit.specs.Block.{BeginsWithGood}
 use Rattle.block_audit.specs.Judged.{CanBeTold, judged_outcome}
 use Rattle.block_audit.specs.Told.{Told, told_by}
 use Rattle.block_audit.specs.work.Judged.{HoldUpTo, IsRight}
@@ -32,12 +32,8 @@ pub returns-then-told-snapshot-clause-fault : goal.returns-then-told-snapshot-cl
 returns-then-told-snapshot-clause-fault g c =
     let other : (told_by c.in-Ok.block.0).batch ≢ c.args.snapshot.now.number =
     λ h. c.if-told-snapshot.true (ap (λ (t : Told). t.batch) c.in_ok-told.ensures ∙ h ∙ sym (ap (λ (b : Batch). b.number) c.snapshot.view_is)) in
-    record {
-      lines = c.in-Ok.block.0;
-      rest = c.in-Ok.block.1.now;
-      block = c.in-Ok.ensures;
-      fails = fails_at_once c.args.settings.now c.args.network.now c.args.snapshot.now (told_by c.in-Ok.block.0) other;
-    }
+    let first = fails_at_once c.args.settings.now c.args.network.now c.args.snapshot.now (told_by c.in-Ok.block.0) other in
+    record { lines = c.in-Ok.block.0; rest = c.in-Ok.block.1.now; block = c.in-Ok.ensures; point = first.point; at = first.at; fails = first.first }
 
 pub returns-then-place-lt9-clause-none : goal.returns-then-place-lt9-clause-none
 returns-then-place-lt9-clause-none g c =
@@ -54,12 +50,8 @@ returns-then-place-lt9-clause-fault g c =
     let number : (told_by c.in-Ok.block.0).batch ≡ c.args.snapshot.now.number =
     sym (ap (λ (t : Told). t.batch) c.in_ok-told.ensures) ∙ c.if-told-snapshot.false ∙ ap (λ (b : Batch). b.number) c.snapshot.view_is in
     let points = subst (λ (t : Told). HoldUpTo (IsRight c.args.settings.now c.args.network.now c.args.snapshot.now t) c.in_ok-outcome.place) c.in_ok-told.ensures c.in_ok-outcome.ensures.points in
-    record {
-      lines = c.in-Ok.block.0;
-      rest = c.in-Ok.block.1.now;
-      block = c.in-Ok.ensures;
-      fails = fails_first c.args.settings.now c.args.network.now c.args.snapshot.now (told_by c.in-Ok.block.0) c.in_ok-outcome.place number c.if-place-lt9.true points;
-    }
+    let first = fails_first c.args.settings.now c.args.network.now c.args.snapshot.now (told_by c.in-Ok.block.0) c.in_ok-outcome.place number c.if-place-lt9.true points in
+    record { lines = c.in-Ok.block.0; rest = c.in-Ok.block.1.now; block = c.in-Ok.ensures; point = first.point; at = first.at; fails = first.first }
 
 pub returns-clause-good : goal.returns-clause-good
 returns-clause-good g c =
