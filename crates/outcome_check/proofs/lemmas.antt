@@ -8,3 +8,4 @@ pub mod IdleLemmas
 pub mod VerdictLemmas
 pub mod IdLemmas
 pub mod PosedLemmas
+pub mod ChosenLemmas

@@ -1,12 +1,9 @@
 -- Points, asked one after the other.
-use Rattle.std.proofs.Common.{◌≡◌, ℕ, zero, suc, ◌+◌, ◌<◌, ◌≤◌, List, Option, refl, sym, ap, ◌∙◌, subst, ⊎_elim, arith}
+use Rattle.std.proofs.Common.{◌≡◌, ℕ, zero, suc, ◌+◌, ◌<◌, ◌≤◌, refl, sym, ap, ◌∙◌, subst, ⊎_elim, arith}
 use Rattle.std.proofs.lemmas.Bool.{cases_lt}
-use Rattle.request_book.specs.declared.outcome.Planned.{Planned}
-use Rattle.batch_solver.specs.Points.{GivesPlanWith, Posed}
 use Rattle.outcome_check.specs.Verdict.{point_place, IsVerdictOf}
 use Rattle.batch_solver.specs.declared.point.Point.{Point}
 use Rattle.batch_solver.specs.declared.point.Point.TheVariants as point
-use Rattle.outcome_check.specs.work.Trips.{GivesTrips}
 use Rattle.outcome_check.specs.declared.verdict.Verdict.{Verdict}
 use Rattle.outcome_check.specs.declared.verdict.Verdict.TheVariants.{Good, Fails}
 
@@ -64,10 +61,3 @@ module _ (P : Point → Type 0) where
 pub verdict_of_same : (P Q : Point → Type 0) → ((q : Point) → P q → Q q) → ((q : Point) → Q q → P q) → (v : Verdict) → IsVerdictOf P v → IsVerdictOf Q v
 verdict_of_same P Q there back' Good is = λ q. there q (is q)
 verdict_of_same P Q there back' (Fails p) is = (λ q h. there q (is.0 q h), λ holds. is.1 (back' p holds))
-
--- the trips give this plan
-pub plan_with : (p : Posed) (planned : Planned) (P : List (Option ℕ) → Type 0) (chosen : List (Option ℕ)) → GivesTrips p.points p.tau p.settled p.graph chosen planned.chosen → P chosen → GivesPlanWith p planned P
-plan_with p planned P chosen gives is = record { chosen = chosen; plan = gives.plan; trips = gives.trips_given; holds = is }
-
-pub gives_of : (p : Posed) (planned : Planned) (P : List (Option ℕ) → Type 0) (with : GivesPlanWith p planned P) → GivesTrips p.points p.tau p.settled p.graph with.chosen planned.chosen
-gives_of p planned P with = record { plan = with.plan; trips_given = with.trips }
