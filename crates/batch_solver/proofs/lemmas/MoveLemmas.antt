@@ -52,7 +52,7 @@ module _ (tau : ℕ → ℕ → ℕ) (settled : Settled) (idle left : List ℕ) 
   moves_told pairs best rising moves told = record { pairs = pairs; best = best; rising = rising; told = told }
 
 -- there is nothing to match without vehicles
-none_matched : (tau : ℕ → ℕ → ℕ) (to : List ℕ) (pairs : List (ℕ × ℕ)) → IsMatching tau [] to pairs → pairs ≡ []
+pub none_matched : (tau : ℕ → ℕ → ℕ) (to : List ℕ) (pairs : List (ℕ × ℕ)) → IsMatching tau [] to pairs → pairs ≡ []
 none_matched tau to [] m = refl
 none_matched tau to (p ∷ ps) m = let w = m.within 0 p (omega arith) in absurd (omega (arith, w.0))
 
