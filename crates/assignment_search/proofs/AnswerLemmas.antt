@@ -1,15 +1,15 @@
 -- What a search finds.
-use Rattle.std.proofs.Common.{◌≡◌, ◌⊎◌, ℕ, suc, ◌+◌, ◌*◌, ◌<◌, ◌≤◌, Bool, true, List, [], ◌∷◌, ◌++◌, length, get_or, set, take, drop, Option, Result, Ok, Err, ℤ, pos, negsuc, ◌≤ℤ◌, ◌<ℤ◌, FitsSigned, to_z, of_z, All, refl, sym, ap, ◌∙◌, subst, inl, inr, arith}
+use Rattle.std.proofs.Common.{◌≡◌, ℕ, suc, ◌+◌, ◌*◌, ◌<◌, ◌≤◌, Bool, true, List, [], ◌∷◌, ◌++◌, length, get_or, set, take, drop, Option, Result, Ok, Err, ℤ, pos, negsuc, ◌≤ℤ◌, ◌<ℤ◌, FitsSigned, to_z, of_z, All, refl, sym, ap, ◌∙◌, subst, arith}
 use mir.Syntax.{w128}
 use Rattle.std.specs.Result.{IfOk}
 use Rattle.std.proofs.lemmas.Int.{ints, to_z-of_z}
 use Rattle.std.proofs.lemmas.List.Elements.{All-from_recursion}
 use Rattle.plan_rules.specs.Graph.{Graph, IsGoodGraph}
-use Rattle.plan_rules.specs.Plan.{IsLawful, cost_of}
+use Rattle.plan_rules.specs.Plan.{IsBound, IsLawful, cost_of}
 use Rattle.plan_rules.specs.Greedy.{IsGreedy}
 use Rattle.plan_rules.specs.Multipliers.{Usable, usable_of, leaf_value, first_fit_value}
 use Rattle.plan_rules.specs.Tree.{every_row, only_row, without_row, CanBranch, IsDeadEnd, Place, rounded_up}
-use Rattle.plan_rules.specs.lemmas.Tree.{places, places_read, value_read}
+use Rattle.plan_rules.specs.lemmas.Tree.{places, places_read}
 use Rattle.plan_rules.specs.Reading.{ReadsTo}
 use Rattle.plan_rules.specs.declared.node.Node.{Node}
 use Rattle.plan_rules.specs.declared.node.Node.TheVariants.{Branch, Leaf, Dead}
@@ -22,11 +22,11 @@ use Rattle.plan_rules.specs.Size.{IsSmallSum}
 use Rattle.assignment_search.specs.work.Growth.{IsWorthBranching, IsGoodLeaf, IsGoodNode, IsGrown, HasUsable, IsFixed, IsSolePlan, IsLowest, HasLeaf, IsNewEnd, IsJudged}
 use Rattle.assignment_search.specs.Growth.{choice_count}
 use Rattle.assignment_search.specs.declared.found.Found.{Found}
-use Rattle.assignment_search.specs.Found.{IsAtLeastFirstFit, IsBranchJustified, IsRightPlan, IsSearchAnswer, Shows}
+use Rattle.assignment_search.specs.Found.{IsBestNear, IsFairNode, IsSearchAnswer}
 use Rattle.assignment_search.specs.work.Found.{IsTreeSoFar}
 use Rattle.assignment_search.specs.work.Next.{IsParting, IsPartedAt}
 use Rattle.assignment_search.specs.declared.parting.Ends.{Ends}
-use Rattle.assignment_search.proofs.GrowthLemmas.{IsSplit, grown_split, grown_reads, grown_length, branched, raised, lowest_above, lowest_floor, value_is, leaves_fit, branches_justified, usable_here, usable_only, usable_without, reads_unique, rounded_up_mono}
+use Rattle.assignment_search.proofs.GrowthLemmas.{IsSplit, grown_split, grown_reads, grown_length, branched, raised, lowest_above, lowest_floor, value_is, nodes_fair, usable_here, usable_only, usable_without, reads_unique, rounded_up_mono}
 use Rattle.assignment_search.proofs.RiseLemmas.{value_rises, only_fewer, without_fewer}
 use Rattle.assignment_search.proofs.CountLemmas.{tree_short}
 use Rattle.assignment_search.proofs.FixedLemmas.{sole_is_lawful, sole_reaches}
@@ -204,89 +204,64 @@ module _ (g : Graph) (limit place : ℕ) (nodes : List Node) (values : List ℤ)
 
 -- ---- the answer
 
--- a plan that costs no more than any lawful one is right
-pub right_from_least : (g : Graph) (plan : List (Option ℕ)) (cost : ℕ) (low : ℤ) → IsGoodGraph g → IsLawful g plan → cost ≡ cost_of g plan → pos cost ≤ℤ low → ((chosen : List (Option ℕ)) → IsLawful g chosen → low ≤ℤ pos (cost_of g chosen)) → IsRightPlan g plan cost
-right_from_least g plan cost low good lawful costs most bound =
-    record {
-      lawful = lawful;
-      costs = costs;
-      held = least g.held (held_is_lawful g good);
-      greedy = λ chosen is fair. least chosen fair;
-      change = λ v other fair. subst (λ (n : ℕ). n ≤ cost_of g (set plan v other)) costs (least (set plan v other) fair);
-    }
+-- a plan that costs no more than a bound is the best near it
+best_from_least : (g : Graph) (plan : List (Option ℕ)) (low : ℤ) → IsGoodGraph g → pos (cost_of g plan) ≤ℤ low → IsBound g low → IsBestNear g plan
+best_from_least g plan low good most bound =
+    record { held = least g.held (held_is_lawful g good); greedy = λ chosen is fair. least chosen fair; change = λ v other fair. least (set plan v other) fair }
   where
-    least : (chosen : List (Option ℕ)) → IsLawful g chosen → cost ≤ cost_of g chosen
+    least : (chosen : List (Option ℕ)) → IsLawful g chosen → cost_of g plan ≤ cost_of g chosen
     least chosen fair =
         let above : low ≤ℤ pos (cost_of g chosen) = bound chosen fair in
         omega (arith, ints, above, most)
 
--- the tree's value is a bound
-pub low_is_bound : (g : Graph) (limit place : ℕ) (nodes : List Node) (values : List ℤ) → IsGoodGraph g → IsGrown g (rounded_up (get_or values place (pos 0))) limit (every_row ∷ []) nodes values [] → IsLowest nodes values place → (chosen : List (Option ℕ)) → IsLawful g chosen → rounded_up (get_or values place (pos 0)) ≤ℤ pos (cost_of g chosen)
-low_is_bound g limit place nodes values good grown lowest chosen fair =
-    subst (λ (z : ℤ). z ≤ℤ pos (cost_of g chosen)) (value_is g limit nodes values place grown lowest)
-    (tree_value_bounds g nodes good (grown_reads g (rounded_up (get_or values place (pos 0))) limit nodes values (every_row ∷ []) [] grown) chosen fair)
+module _ (g : Graph) (budget limit place : ℕ) (nodes : List Node) (values : List ℤ) (good : IsGoodGraph g) (so_far : IsTreeSoFar g budget limit nodes values) (lowest : IsLowest nodes values place)
+    (held : limit ≤ cost_of g g.held) (greedy : (chosen : List (Option ℕ)) → IsGreedy g chosen → IsLawful g chosen → limit ≤ cost_of g chosen) (plan : List (Option ℕ)) (lawful : IsLawful g plan) where
+  abbrev low : ℤ
+  low = rounded_up (get_or values place (pos 0))
 
--- a grown tree shows its value
-shown_of : (g : Graph) (low : ℤ) (limit : ℕ) (nodes : List Node) (values : List ℤ) → limit ≤ cost_of g g.held
-    → ((chosen : List (Option ℕ)) → IsGreedy g chosen → IsLawful g chosen → limit ≤ cost_of g chosen) → low ≡ value_read g nodes
-    → IsGrown g low limit (every_row ∷ []) nodes values [] → Shows g low nodes
-shown_of g low limit nodes values held greedy is grown =
-    let t = tree_of_reads g nodes (grown_reads g low limit nodes values (every_row ∷ []) [] grown) in
-    let same : places_read g nodes ≡ places g (t.0) = places_are g nodes (t.0) (t.1) in
-    record {
-      tree = t.0;
-      shape = t.1;
-      value = is ∙ value_is_read g nodes (t.0) (t.1);
-      leaves = subst (λ (ps : List Place). All (λ p. IsAtLeastFirstFit g p.usable p.node) ps) same
-          (All-from_recursion (λ (p : Place). IsAtLeastFirstFit g p.usable p.node) (places_read g nodes) (leaves_fit g low limit nodes values (every_row ∷ []) [] grown));
-      branches = subst (λ (ps : List Place). All (λ p. IsBranchJustified g low p.usable p.node) ps) same
-          (All-from_recursion (λ (p : Place). IsBranchJustified g low p.usable p.node) (places_read g nodes) (branches_justified g low limit held greedy nodes values (every_row ∷ []) [] grown));
-    }
+  grown : IsGrown g low limit (every_row ∷ []) nodes values []
+  grown = so_far_raised g budget limit nodes values place so_far lowest
 
-answer_of : (g : Graph) (budget limit place : ℕ) (plan : List (Option ℕ)) (cost : ℕ) (nodes : List Node) (values : List ℤ) → IsGoodGraph g → IsTreeSoFar g budget limit nodes values → IsLowest nodes values place
-    → limit ≤ cost_of g g.held → ((chosen : List (Option ℕ)) → IsGreedy g chosen → IsLawful g chosen → limit ≤ cost_of g chosen) → IsRightPlan g plan cost
-    → (pos cost ≤ℤ rounded_up (get_or values place (pos 0))) ⊎ ((budget < length nodes + 2) × (budget < 2 * choice_count g every_row))
-    → IsSearchAnswer g budget (record { plan = plan; cost = cost; bound = rounded_up (get_or values place (pos 0)); tree = nodes })
-answer_of g budget limit place plan cost nodes values good t lowest held greedy right done =
-    let low = rounded_up (get_or values place (pos 0)) in
-    let grown : IsGrown g low limit (every_row ∷ []) nodes values [] = so_far_raised g budget limit nodes values place t lowest in
-    let rises : t.low ≤ℤ low = lowest_floor g t.low limit nodes values place t.grown lowest in
-    let root : rounded_up (first_fit_value g every_row) ≤ℤ t.low = t.root in
-    record {
-      plan = right;
-      nodes = t.short;
-      shown = shown_of g low limit nodes values held greedy (sym (value_is g limit nodes values place grown lowest)) grown;
-      root = omega (arith, ints);
-      limited = λ below. limited_from done below;
-      closed = λ enough. closed_from done enough;
-    }
-  where
-    limited_from : (pos cost ≤ℤ rounded_up (get_or values place (pos 0))) ⊎ ((budget < length nodes + 2) × (budget < 2 * choice_count g every_row)) → rounded_up (get_or values place (pos 0)) <ℤ pos cost → budget < length nodes + 2
-    limited_from (inl met) below = absurd (omega (arith, ints, met, below))
-    limited_from (inr full) below = full.0
+  -- the tree's value is a bound
+  low_is_bound : IsBound g low
+  low_is_bound chosen fair =
+      subst (λ (z : ℤ). z ≤ℤ pos (cost_of g chosen)) (value_is g limit nodes values place grown lowest)
+      (tree_value_bounds g nodes good (grown_reads g low limit nodes values (every_row ∷ []) [] grown) chosen fair)
 
-    closed_from : (pos cost ≤ℤ rounded_up (get_or values place (pos 0))) ⊎ ((budget < length nodes + 2) × (budget < 2 * choice_count g every_row)) → 2 * choice_count g every_row ≤ budget → rounded_up (get_or values place (pos 0)) ≡ pos cost
-    closed_from (inl met) enough =
-        let grown = so_far_raised g budget limit nodes values place t lowest in
-        let above : rounded_up (get_or values place (pos 0)) ≤ℤ pos (cost_of g plan) = low_is_bound g limit place nodes values good grown lowest plan right.lawful in
-        let costs : cost ≡ cost_of g plan = right.costs in
-        omega (arith, ints, met, above, costs)
-    closed_from (inr full) enough = absurd (omega (arith, full.1, enough))
+  answer_of : IsBestNear g plan → (low <ℤ pos (cost_of g plan) → budget < length nodes + 2) → (2 * choice_count g every_row ≤ budget → low ≡ pos (cost_of g plan))
+      → IsSearchAnswer g budget (record { plan = plan; cost = cost_of g plan; bound = low; tree = nodes })
+  answer_of best limited closed =
+      let t = tree_of_reads g nodes (grown_reads g low limit nodes values (every_row ∷ []) [] grown) in
+      let same : places_read g nodes ≡ places g (t.0) = places_are g nodes (t.0) (t.1) in
+      let rises : so_far.low ≤ℤ low = lowest_floor g so_far.low limit nodes values place so_far.grown lowest in
+      let root : rounded_up (first_fit_value g every_row) ≤ℤ so_far.low = so_far.root in
+      record {
+        lawful = lawful;
+        costs = refl;
+        shown = record { few = so_far.short; tree = (t.0, t.1, sym (value_is g limit nodes values place grown lowest) ∙ value_is_read g nodes (t.0) (t.1)); least = low_is_bound };
+        close = record { root = omega (arith, ints); limited = limited; closed = closed };
+        fair = record {
+          tree = t.0;
+          shape = t.1;
+          fair = subst (λ (ps : List Place). All (λ p. IsFairNode g low p.usable p.node) ps) same
+              (All-from_recursion (λ (p : Place). IsFairNode g low p.usable p.node) (places_read g nodes) (nodes_fair g low limit held greedy nodes values (every_row ∷ []) [] grown));
+        };
+        best = best;
+      }
 
-pub answer : (g : Graph) (budget limit place : ℕ) (plan : List (Option ℕ)) (cost : ℕ) (nodes : List Node) (values : List ℤ) (bound : ℤ) (tree : List Node) → IsGoodGraph g → IsTreeSoFar g budget limit nodes values → IsLowest nodes values place
-    → limit ≤ cost_of g g.held → ((chosen : List (Option ℕ)) → IsGreedy g chosen → IsLawful g chosen → limit ≤ cost_of g chosen) → IsRightPlan g plan cost
-    → (pos cost ≤ℤ rounded_up (get_or values place (pos 0))) ⊎ ((budget < length nodes + 2) × (budget < 2 * choice_count g every_row))
-    → bound ≡ rounded_up (get_or values place (pos 0)) → tree ≡ nodes → IsSearchAnswer g budget (record { plan = plan; cost = cost; bound = bound; tree = tree })
-answer g budget limit place plan cost nodes values bound tree good t lowest held greedy right done is same =
-    subst (λ (z : ℤ). IsSearchAnswer g budget (record { plan = plan; cost = cost; bound = z; tree = tree })) (sym is)
-    (subst (λ (ns : List Node). IsSearchAnswer g budget (record { plan = plan; cost = cost; bound = rounded_up (get_or values place (pos 0)); tree = ns })) (sym same)
-    (answer_of g budget limit place plan cost nodes values good t lowest held greedy right done))
+  module _ (found : Found) (of : found.plan ≡ plan) (costs : found.cost ≡ cost_of g plan) (is : found.bound ≡ low) (same : found.tree ≡ nodes) where
+    answer_found : IsSearchAnswer g budget (record { plan = plan; cost = cost_of g plan; bound = low; tree = nodes }) → IsSearchAnswer g budget found
+    answer_found answer =
+        subst (λ (chosen : List (Option ℕ)). IsSearchAnswer g budget (record { plan = chosen; cost = found.cost; bound = found.bound; tree = found.tree })) (sym of)
+        (subst (λ (cost : ℕ). IsSearchAnswer g budget (record { plan = plan; cost = cost; bound = found.bound; tree = found.tree })) (sym costs)
+        (subst (λ (bound : ℤ). IsSearchAnswer g budget (record { plan = plan; cost = cost_of g plan; bound = bound; tree = found.tree })) (sym is)
+        (subst (λ (tree : List Node). IsSearchAnswer g budget (record { plan = plan; cost = cost_of g plan; bound = low; tree = tree })) (sym same) answer)))
 
--- the same of what is found, by its parts
-pub answer_found : (g : Graph) (budget limit place : ℕ) (plan : List (Option ℕ)) (nodes : List Node) (values : List ℤ) (found : Found) → IsGoodGraph g → IsTreeSoFar g budget limit nodes values → IsLowest nodes values place
-    → limit ≤ cost_of g g.held → ((chosen : List (Option ℕ)) → IsGreedy g chosen → IsLawful g chosen → limit ≤ cost_of g chosen) → IsRightPlan g plan found.cost
-    → (pos found.cost ≤ℤ rounded_up (get_or values place (pos 0))) ⊎ ((budget < length nodes + 2) × (budget < 2 * choice_count g every_row))
-    → found.plan ≡ plan → found.bound ≡ rounded_up (get_or values place (pos 0)) → found.tree ≡ nodes → IsSearchAnswer g budget found
-answer_found g budget limit place plan nodes values found good t lowest held greedy right done of is same =
-    answer g budget limit place found.plan found.cost nodes values found.bound found.tree good t lowest held greedy
-    (subst (λ (chosen : List (Option ℕ)). IsRightPlan g chosen found.cost) (sym of) right) done is same
+    -- the plan costs no more than the tree shows
+    pub answer_met : pos (cost_of g plan) ≤ℤ low → IsSearchAnswer g budget found
+    answer_met met = answer_found (answer_of (best_from_least g plan low good met low_is_bound) (λ below. absurd (omega (arith, ints, met, below)))
+        (λ enough. let above : low ≤ℤ pos (cost_of g plan) = low_is_bound plan lawful in omega (arith, ints, met, above)))
+
+    -- the budget is spent
+    pub answer_full : IsBestNear g plan → (budget < length nodes + 2) × (budget < 2 * choice_count g every_row) → IsSearchAnswer g budget found
+    answer_full best full = answer_found (answer_of best (λ below. full.0) (λ enough. absurd (omega (arith, full.1, enough))))

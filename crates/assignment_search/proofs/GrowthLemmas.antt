@@ -15,7 +15,7 @@ use Rattle.plan_rules.specs.Greedy.{IsGreedy}
 use Rattle.plan_rules.specs.declared.node.Node.{Node}
 use Rattle.plan_rules.specs.declared.node.Node.TheVariants.{Branch, Leaf, Dead}
 use Rattle.assignment_search.specs.work.Growth.{IsWorthBranching, IsGoodLeaf, IsGoodNode, IsGrown, HasUsable, IsLowest, IsNewEnd}
-use Rattle.assignment_search.specs.Found.{IsAtLeastFirstFit, IsBranchJustified}
+use Rattle.assignment_search.specs.Found.{IsFairNode}
 
 -- ---- grown trees are sound
 
@@ -212,30 +212,18 @@ value_is g limit nodes values i grown lowest =
 
 -- ---- what the leaves and branches of a grown tree are
 
-pub leaves_fit : (g : Graph) (low : ℤ) (limit : ℕ) (nodes : List Node) (values : List ℤ) (coming rest : List Usable) → IsGrown g low limit coming nodes values rest → ByRecursion (λ p. IsAtLeastFirstFit g p.usable p.node) (places_from g coming nodes)
-leaves_fit g low limit [] [] coming rest h = tt
-leaves_fit g low limit [] (z ∷ values) coming rest h = absurd h
-leaves_fit g low limit (n ∷ nodes) [] coming rest h = absurd h
-leaves_fit g low limit (n ∷ nodes) (z ∷ values) [] rest h = absurd h
-leaves_fit g low limit (n ∷ nodes) (z ∷ values) (u ∷ us) rest h = (fits n (h.0), leaves_fit g low limit nodes values (coming_after g u n us) rest (h.1))
+pub nodes_fair : (g : Graph) (low : ℤ) (limit : ℕ) → limit ≤ cost_of g g.held → ((chosen : List (Option ℕ)) → IsGreedy g chosen → IsLawful g chosen → limit ≤ cost_of g chosen)
+    → (nodes : List Node) (values : List ℤ) (coming rest : List Usable) → IsGrown g low limit coming nodes values rest → ByRecursion (λ p. IsFairNode g low p.usable p.node) (places_from g coming nodes)
+nodes_fair g low limit held greedy [] [] coming rest h = tt
+nodes_fair g low limit held greedy [] (z ∷ values) coming rest h = absurd h
+nodes_fair g low limit held greedy (n ∷ nodes) [] coming rest h = absurd h
+nodes_fair g low limit held greedy (n ∷ nodes) (z ∷ values) [] rest h = absurd h
+nodes_fair g low limit held greedy (n ∷ nodes) (z ∷ values) (u ∷ us) rest h = (fair n (h.0), nodes_fair g low limit held greedy nodes values (coming_after g u n us) rest (h.1))
   where
-    fits : (m : Node) → IsGoodNode g low limit u m z → IsAtLeastFirstFit g u m
-    fits (Leaf ms) leaf = subst (λ (y : ℤ). first_fit_value g u ≤ℤ y) leaf.judged leaf.first_fit
-    fits Dead h = tt
-    fits (Branch v k) h = tt
-
-pub branches_justified : (g : Graph) (low : ℤ) (limit : ℕ) → limit ≤ cost_of g g.held → ((chosen : List (Option ℕ)) → IsGreedy g chosen → IsLawful g chosen → limit ≤ cost_of g chosen)
-    → (nodes : List Node) (values : List ℤ) (coming rest : List Usable) → IsGrown g low limit coming nodes values rest → ByRecursion (λ p. IsBranchJustified g low p.usable p.node) (places_from g coming nodes)
-branches_justified g low limit held greedy [] [] coming rest h = tt
-branches_justified g low limit held greedy [] (z ∷ values) coming rest h = absurd h
-branches_justified g low limit held greedy (n ∷ nodes) [] coming rest h = absurd h
-branches_justified g low limit held greedy (n ∷ nodes) (z ∷ values) [] rest h = absurd h
-branches_justified g low limit held greedy (n ∷ nodes) (z ∷ values) (u ∷ us) rest h = (just n (h.0), branches_justified g low limit held greedy nodes values (coming_after g u n us) rest (h.1))
-  where
-    just : (m : Node) → IsGoodNode g low limit u m z → IsBranchJustified g low u m
-    just (Leaf ms) h = tt
-    just Dead h = tt
-    just (Branch v k) h =
+    fair : (m : Node) → IsGoodNode g low limit u m z → IsFairNode g low u m
+    fair (Leaf ms) leaf = subst (λ (y : ℤ). first_fit_value g u ≤ℤ y) leaf.judged leaf.first_fit
+    fair Dead h = tt
+    fair (Branch v k) h =
         let worth = h.1 in
         let below : rounded_up (first_fit_value g u) <ℤ pos limit = worth.below in
         record {

@@ -1,15 +1,12 @@
 //! Branch and bound (Land and Doig, 1960), best bound first.
-ghost use Rattle.std.specs.Prelude.{◌≡◌, ◌≤◌, ◌<◌, ◌+◌, ◌*◌, ℕ, pos, ◌≤ℤ◌, ◌<ℤ◌, IfOk, All, List, Option, length};
+ghost use Rattle.std.specs.Prelude.{◌≡◌, ◌≤◌, ℕ, IfOk, List, Option};
 ghost use Rattle.plan_rules.specs.Plan.{IsLawful, cost_of};
 ghost use Rattle.plan_rules.specs.Greedy.{IsGreedy};
-ghost use Rattle.plan_rules.specs.Multipliers.{first_fit_value};
 ghost use Rattle.plan_rules.specs.Tree.{every_row, rounded_up};
 ghost use Rattle.plan_rules.specs.Graph.{IsGoodGraph};
 ghost use Rattle.assignment_search.specs.work.Lookups.{AreLookupsOf};
-ghost use Rattle.assignment_search.specs.Change.{HasNoBetterChange};
-ghost use Rattle.assignment_search.specs.Found.{Shows, IsSearchAnswer};
+ghost use Rattle.assignment_search.specs.Found.{IsSearchAnswer};
 ghost use Rattle.assignment_search.specs.work.Growth.{IsGoodLeaf};
-ghost use Rattle.assignment_search.specs.Growth.{choice_count};
 
 use crate::child::Judged;
 use crate::exchange::exchange;
@@ -34,16 +31,7 @@ use std::thread::Threads;
 /// the held plan, and multipliers by an ascent from the first-fit ones.
 pub fn search(alloc: Global, graph: &TripGraph, budget: u32) -> Result<Found, OutOfMemory>
     requires { 1 ≤ budget }
-    ensures lawful { IfOk result (λ found. IsLawful graph.now found.plan) }
-    ensures cost { IfOk result (λ found. found.cost ≡ cost_of graph.now found.plan) }
-    ensures held { IfOk result (λ found. found.cost ≤ cost_of graph.now graph.now.held) }
-    ensures greedy { IfOk result (λ found. (chosen : List (Option ℕ)) → IsGreedy graph.now chosen → IsLawful graph.now chosen → found.cost ≤ cost_of graph.now chosen) }
-    ensures change { IfOk result (λ found. HasNoBetterChange graph.now found.plan) }
-    ensures nodes { IfOk result (λ found. length found.tree ≤ budget) }
-    ensures shown { IfOk result (λ found. Shows graph.now found.bound found.tree) }
-    ensures root { IfOk result (λ found. rounded_up (first_fit_value graph.now every_row) ≤ℤ found.bound) }
-    ensures limited { IfOk result (λ found. found.bound <ℤ pos found.cost → budget < length found.tree + 2) }
-    ensures closed { IfOk result (λ found. 2 * choice_count graph.now every_row ≤ budget → found.bound ≡ pos found.cost) }
+    ensures { IfOk result (IsSearchAnswer graph.now budget) }
 {
     run(alloc, graph, budget, Guide::plain(alloc, graph)?)
 }
@@ -59,16 +47,7 @@ pub fn search_by<R: Threads + Sync, D: Drafter>(
     drafter: &D,
 ) -> Result<Found, OutOfMemory>
     requires { 1 ≤ budget }
-    ensures lawful { IfOk result (λ found. IsLawful graph.now found.plan) }
-    ensures cost { IfOk result (λ found. found.cost ≡ cost_of graph.now found.plan) }
-    ensures held { IfOk result (λ found. found.cost ≤ cost_of graph.now graph.now.held) }
-    ensures greedy { IfOk result (λ found. (chosen : List (Option ℕ)) → IsGreedy graph.now chosen → IsLawful graph.now chosen → found.cost ≤ cost_of graph.now chosen) }
-    ensures change { IfOk result (λ found. HasNoBetterChange graph.now found.plan) }
-    ensures nodes { IfOk result (λ found. length found.tree ≤ budget) }
-    ensures shown { IfOk result (λ found. Shows graph.now found.bound found.tree) }
-    ensures root { IfOk result (λ found. rounded_up (first_fit_value graph.now every_row) ≤ℤ found.bound) }
-    ensures limited { IfOk result (λ found. found.bound <ℤ pos found.cost → budget < length found.tree + 2) }
-    ensures closed { IfOk result (λ found. 2 * choice_count graph.now every_row ≤ budget → found.bound ≡ pos found.cost) }
+    ensures { IfOk result (IsSearchAnswer graph.now budget) }
 {
     let guide = Guide::by(rt, alloc, graph, budget as usize, workers, drafter)?;
     run(alloc, graph, budget, guide)

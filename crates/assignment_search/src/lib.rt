@@ -15,8 +15,7 @@
 //! }
 //! ```
 //!
-//! Main clauses: `search`: `lawful`, `cost`, `held`, `greedy`, `change`, `nodes`, `shown`, `root`,
-//! `limited`, `closed`. README.md quotes them.
+//! Main clauses: of `search` its one clause, `IsSearchAnswer`. README.md quotes it.
 #![tactic(auto)]
 
 mod branch_and_bound;

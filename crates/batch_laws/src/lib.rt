@@ -9,10 +9,10 @@
 //!
 //! ```
 //! -- what holds with some graphs of these limits holds with others
-//! of_graphs q with =
+//! of_graphs with =
 //!     let same_graph : with.graph ≡ graph =
-//!         one_trip_graph settings tau settled with.graph graph with.graphs.trips graphs.trips in
-//!     subst (λ (x : Graph). Holds settings (posed_with x) planned q) same_graph with.holds
+//!         one_trip_graph settings tau settled with.graph graph with.exact exact in
+//!     subst (λ (x : Graph). P (posed_with x)) same_graph with.holds
 //! ```
 //!
 //! Main clauses: `a_batch_settles_in_one_way`; `a_batch_has_one_graph_of_each_kind`: `vehicles`, `riders`,

@@ -1,5 +1,6 @@
 pub mod Told
 pub mod Trips
 pub mod Moves
+pub mod Points
 pub mod Outcome
 pub mod work

@@ -1,11 +1,10 @@
 -- The trips that a plan gives, and the orders of late vehicles.
-use Rattle.std.specs.Prelude.{◌≡◌, ℕ, ◌≤◌, not, List, [], Option, Some, MatchOption, length, filter}
-use Rattle.std.specs.List.{AllZip, range_with_len}
+use Rattle.std.specs.Prelude.{◌≡◌, ℕ, ◌≤◌, List, [], Option, Some, MatchOption}
 use Rattle.plan_rules.specs.Graph.{Graph, choice_at, riders_at, cost_at}
 use Rattle.request_book.specs.declared.outcome.ChosenTrip.{ChosenTrip}
 use Rattle.request_book.specs.declared.outcome.LateVehicle.{LateVehicle}
 use Rattle.request_book.specs.declared.outcome.PlannedStop.{PlannedStop}
-use Rattle.stop_orders.specs.Settled.{vehicle_at, trip_task}
+use Rattle.stop_orders.specs.Settled.{trip_task}
 use Rattle.stop_orders.specs.Task.{Serves, IsOrderOf, ReachesAll, order_delay}
 use Rattle.stop_orders.specs.declared.settled.Settled.{Settled}
 use Rattle.stop_orders.specs.declared.stop.Stop.{Stop}
@@ -21,11 +20,6 @@ pub record IsTripOf (points : List ℕ) (tau : ℕ → ℕ → ℕ) (settled : S
   pub serves : Serves tau (trip_task settled v (riders_at graph row)) stops
   pub delay : order_delay tau (trip_task settled v (riders_at graph row)) stops ≡ trip.cost
   pub told : trip.stops.items ≡ told_stops points tau settled v (riders_at graph row) stops
-
--- one trip for each vehicle that isn't late, by rising id
-abbrev pub AreTrips : List ℕ → (ℕ → ℕ → ℕ) → Settled → Graph → List (Option ℕ) → List ChosenTrip → Type 0
-AreTrips points tau settled graph chosen trips =
-    AllZip (IsTripOf points tau settled graph chosen) (filter (λ v. not (vehicle_at settled v).late) (range_with_len 0 (length settled.vehicles))) trips
 
 -- an order of the passengers that reaches all their places, with the least delay of such orders
 pub record IsLateOrder (points : List ℕ) (tau : ℕ → ℕ → ℕ) (settled : Settled) (v delay : ℕ) (lines : List PlannedStop) : Type 0 where
@@ -43,7 +37,3 @@ pub record IsLate (points : List ℕ) (tau : ℕ → ℕ → ℕ) (settled : Set
   pub stops : MatchOption late.stops
       (((others : List Stop) → IsOrderOf (trip_task settled v []) others → ReachesAll tau (trip_task settled v []) others → ⊥) × (late.delay ≡ 0))
       (λ lines. IsLateOrder points tau settled v late.delay lines.items)
-
--- one for each late vehicle
-abbrev pub AreLate : List ℕ → (ℕ → ℕ → ℕ) → Settled → List LateVehicle → Type 0
-AreLate points tau settled late = AllZip (IsLate points tau settled) (filter (λ v. (vehicle_at settled v).late) (range_with_len 0 (length settled.vehicles))) late

@@ -1,4 +1,5 @@
 pub mod Left
 pub mod Moves
-pub mod Told
+pub mod Trips
+pub mod Outcome
 pub mod Lists

@@ -26,12 +26,14 @@ mod late;
 mod left;
 mod lines;
 mod moves;
+mod point;
 mod solving;
 mod told;
 mod trips;
 
 pub use left::left_riders;
-pub use lines::{rider_ids, row_lines, rr_lines, rv_lines};
-pub use moves::idle_vehicles;
+pub use lines::{lapsed_ids, rider_ids, row_lines, rr_lines, rv_lines};
+pub use moves::{idle_vehicles, origins_of, starts_of};
+pub use point::Point;
 pub use solving::solve_batch;
 pub use told::tell_stops;

@@ -1,6 +1,5 @@
-ghost use Rattle.std.specs.Prelude.{◌≡◌, ◌<◌, ◌≤◌, ℕ, All, IfOk, length, map};
+ghost use Rattle.std.specs.Prelude.{◌≡◌, ◌<◌, ◌≤◌, ℕ, All, IfOk, filter, length, map};
 ghost use Rattle.batch_solver.specs.Told.{rider_id, rr_line, rv_line, row_line};
-ghost use Rattle.batch_solver.specs.work.Told.{lapsed_ids};
 
 use arrayvec::ArrayVec;
 use pair_graph::RvEdge;
@@ -11,8 +10,8 @@ use std::alloc::Global;
 use stop_orders::Settled;
 
 /// The ids of riders whose promise has lapsed, in the batch's order.
-pub(crate) fn lapsed_ids(alloc: Global, settled: &Settled) -> Result<Vec<RiderId>, OutOfMemory>
-    ensures { IfOk result (λ ids. ids.items ≡ lapsed_ids settled.entry.now) }
+pub fn lapsed_ids(alloc: Global, settled: &Settled) -> Result<Vec<RiderId>, OutOfMemory>
+    ensures { IfOk result (λ ids. ids.items ≡ map (λ r. r.id) (filter (λ r. r.lapsed) settled.entry.now.riders)) }
 {
     let mut ids = Vec::new(alloc);
     for rider in settled.riders.as_slice() {

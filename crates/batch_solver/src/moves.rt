@@ -3,9 +3,10 @@ ghost use Rattle.std.specs.Option.{option_map_or};
 ghost use Rattle.plan_rules.specs.Graph.{riders_at};
 ghost use Rattle.plan_rules.specs.Plan.{IsPlan};
 ghost use Rattle.pool_base.specs.Times.{point_count, travel_time};
+ghost use Rattle.stop_orders.specs.Settled.{rider_at, vehicle_at};
 ghost use Rattle.stop_orders.specs.Sound.{IsSound};
-ghost use Rattle.batch_solver.specs.Moves.{AreMoves, idle_vehicles, is_idle, move_line};
-ghost use Rattle.batch_solver.specs.work.Moves.{HasPlaces, move_from_to, origins_of, starts_of};
+ghost use Rattle.batch_solver.specs.Moves.{AreMoves, idle_vehicles};
+ghost use Rattle.batch_solver.specs.work.Moves.{is_idle, move_line, HasPlaces, move_from_to};
 ghost use Rattle.batch_solver.specs.Told.{left_riders};
 
 use plan_rules::TripGraph;
@@ -111,13 +112,13 @@ fn best_moves(
 }
 
 /// Where the vehicles are.
-fn starts_of(
+pub fn starts_of(
     alloc: Global,
     settled: &Settled,
     vehicles: &[usize],
 ) -> Result<Vec<usize>, OutOfMemory>
     requires { All (λ v. v < length settled.now.vehicles) vehicles.now }
-    ensures { IfOk result (λ starts. starts.items ≡ starts_of settled.entry.now vehicles.now) }
+    ensures { IfOk result (λ starts. starts.items ≡ map (λ v. (vehicle_at settled.entry.now v).start) vehicles.now) }
 {
     let mut starts = Vec::with_capacity(alloc, vehicles.len())?;
     for &vehicle in vehicles {
@@ -127,9 +128,13 @@ fn starts_of(
 }
 
 /// Where the riders wait.
-fn origins_of(alloc: Global, settled: &Settled, riders: &[usize]) -> Result<Vec<usize>, OutOfMemory>
+pub fn origins_of(
+    alloc: Global,
+    settled: &Settled,
+    riders: &[usize],
+) -> Result<Vec<usize>, OutOfMemory>
     requires { All (λ r. r < length settled.now.riders) riders.now }
-    ensures { IfOk result (λ origins. origins.items ≡ origins_of settled.entry.now riders.now) }
+    ensures { IfOk result (λ origins. origins.items ≡ map (λ r. (rider_at settled.entry.now r).leg.origin) riders.now) }
 {
     let mut origins = Vec::with_capacity(alloc, riders.len())?;
     for &rider in riders {

@@ -1,15 +1,14 @@
-ghost use Rattle.std.specs.Prelude.{◌≡◌, ◌≤◌, ℕ, All, Contains, IfOk, OnOk, length};
-ghost use Rattle.assignment_search.specs.Found.{IsSearchAnswer};
+ghost use Rattle.std.specs.Prelude.{◌≡◌, ℕ, All, Contains, IfOk, OnOk, length};
 ghost use Rattle.batch_snapshot.specs.Points.{named_nodes};
 ghost use Rattle.pair_graph.specs.RrGraph.{IsRrGraph};
 ghost use Rattle.pair_graph.specs.RvGraph.{IsRvGraph};
-ghost use Rattle.plan_rules.specs.Graph.{IsGoodGraph};
-ghost use Rattle.plan_rules.specs.Plan.{IsBound, IsLawful};
+ghost use Rattle.plan_rules.specs.Plan.{IsLawful};
 ghost use Rattle.pool_base.specs.Times.{point_count, travel_time};
 ghost use Rattle.stop_orders.specs.Sound.{IsSound};
 ghost use Rattle.trip_graph.specs.Answer.{IsTripGraphOf};
 ghost use Rattle.rider_limits.specs.declared.settings.Settings.{Settings as SettingsValue};
-ghost use Rattle.batch_solver.specs.Outcome.{IsGoodAnswer, IsGoodOutcome, IsGoodPlan};
+ghost use Rattle.batch_solver.specs.Outcome.{AnswersWith, HasGraphsWith, IsGoodOutcome};
+ghost use Rattle.batch_solver.specs.work.Outcome.{IsGoodPlan};
 ghost use Rattle.batch_solver.specs.work.Lists.{AreLists};
 
 use crate::late::late_lines;
@@ -20,7 +19,7 @@ use crate::trips::chosen_trips;
 use assignment_search::{Found, search_by};
 use batch_snapshot::{Points, Snapshot};
 use pair_graph::RvEdge;
-use plan_rules::{Tree, TripGraph, tree_value_is_a_bound};
+use plan_rules::{Tree, TripGraph};
 use pool_base::{OutOfMemory, Sequence, Times};
 use promise_check::settle;
 use request_book::{Answer, Outcome, Planned};
@@ -80,7 +79,7 @@ fn answer_of<D: Drafter, G: Gate>(
 ) -> Result<Answer, OutOfMemory>
     requires table { point_count times.now ≡ length points.now }
     requires sound { IsSound settings.now.trip (point_count times.now) (travel_time times.now) settled.now }
-    ensures { IfOk result (IsGoodAnswer settings.now points.now (travel_time times.now) settled.entry.now) }
+    ensures { IfOk result (AnswersWith settings.now points.now (travel_time times.now) settled.entry.now (IsGoodPlan settings.now)) }
 {
     match grow_graph(rt, alloc, settled, times, settings, gate)? {
         GraphAnswer::Overflow => Ok(Answer::Overflow),
@@ -120,9 +119,9 @@ fn planned_of<D: Drafter>(
     requires graph { IsTripGraphOf settings.now (travel_time times.now) settled.now graph.now }
     requires rv { IsRvGraph (travel_time times.now) settled.now rv.now }
     requires rr { IsRrGraph (travel_time times.now) settled.now rr.now }
-    ensures { IfOk result (IsGoodPlan settings.now points.now (travel_time times.now) settled.entry.now) }
+    ensures { IfOk result (λ planned. HasGraphsWith settings.now points.now (travel_time times.now) settled.entry.now (IsGoodPlan settings.now planned)) }
 {
-    let found = bounded_plan(rt, alloc, graph, settings.budget, settings.workers, drafter)?;
+    let found = search_by(rt, alloc, graph, settings.budget, settings.workers, drafter)?;
     let bound = bound_of(&found);
     let mut planned = unlisted(alloc, found.cost, bound, found.tree);
     let chosen = found.plan.chosen();
@@ -211,24 +210,6 @@ fn put<T: Drop>(list: &mut Sequence<T>, items: Vec<T>)
     ensures { list.new ≡ items.items }
 {
     *list = Sequence::of(items);
-}
-
-/// A plan of the graph, and a bound below which no lawful plan costs.
-fn bounded_plan<D: Drafter>(
-    rt: &(impl Threads + Sync),
-    alloc: Global,
-    graph: &TripGraph,
-    budget: u32,
-    workers: u8,
-    drafter: &D,
-) -> Result<Found, OutOfMemory>
-    requires budget { 1 ≤ budget }
-    requires good { IsGoodGraph graph.now }
-    ensures plan { IfOk result (IsSearchAnswer graph.now budget) }
-    ensures bound { IfOk result (λ found. IsBound graph.now found.bound) }
-{
-    tree_value_is_a_bound();
-    search_by(rt, alloc, graph, budget, workers, drafter)
 }
 
 /// The bound. It is a call, so that a caller knows that it is within its type's range.

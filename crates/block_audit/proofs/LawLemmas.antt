@@ -5,8 +5,8 @@ use Rattle.std.proofs.lemmas.Bool.{cases_lt}
 use Rattle.std.proofs.lemmas.List.Elements.{All-contains}
 use Rattle.batch_snapshot.specs.Batch.{Batch}
 use Rattle.outcome_check.specs.Verdict.{point_place}
-use Rattle.outcome_check.specs.declared.verdict.Point.{Point}
-use Rattle.outcome_check.specs.declared.verdict.Point.TheVariants as point
+use Rattle.batch_solver.specs.declared.point.Point.{Point}
+use Rattle.batch_solver.specs.declared.point.Point.TheVariants as point
 use Rattle.report_lines.specs.Outcome.{lines_of}
 use Rattle.report_lines.specs.declared.block_line.BlockLine.{BlockLine}
 use Rattle.report_lines.specs.declared.block_line.BlockLine.TheVariants.{Row, Trip, Late}
@@ -26,7 +26,7 @@ use Rattle.block_audit.proofs.ToldLemmas.{OfRow, OfTrip, OfLate, all_rows, all_t
 module _ (settings : Settings) (roads : Roads) (batch : Batch) (text : List ℕ) (place : ℕ) (wrong : BeginsWithWrong settings roads batch text place) where
   -- what the points before the one that fails ask for can be told
   told_before : (q : Point) → point_place q < place → CanBeTold q (told_by wrong.lines)
-  told_before q less = (wrong.fails.first.0 q (subst (λ (n : ℕ). point_place q < n) (sym wrong.fails.at) less)).2
+  told_before q less = (wrong.fails.0 q (subst (λ (n : ℕ). point_place q < n) (sym wrong.at) less)).2
 
   pub untold_fails : ((n : ℕ) (outcome : Outcome) → HasTrips outcome.answer → wrong.lines ≢ lines_of n outcome) → place ≤ 5
   untold_fails none = ⊎_elim

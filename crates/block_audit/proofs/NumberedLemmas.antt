@@ -10,7 +10,9 @@ use Rattle.std.proofs.lemmas.Option.{slice_get-get_or, slice_get-map}
 use Rattle.batch_snapshot.specs.Batch.{Batch}
 use Rattle.batch_snapshot.specs.Kept.{IsKept}
 use Rattle.batch_snapshot.specs.declared.vehicle.Vehicle.{Vehicle}
-use Rattle.batch_solver.specs.Outcome.{IsGoodPlan, IsGoodAnswer, IsGoodOutcome}
+use Rattle.batch_solver.specs.Outcome.{AnswersWith, HasGraphsWith, IsGoodOutcome}
+use Rattle.batch_solver.specs.work.Outcome.{IsGoodPlan}
+use Rattle.batch_solver.specs.declared.point.Point.TheVariants as point
 use Rattle.batch_solver.specs.Told.{vehicle_id, rider_id, row_line}
 use Rattle.block_audit.specs.Judged.{HasTrips, number_among}
 use Rattle.plan_rules.specs.Graph.{Graph, IsGoodGraph, IsRowOf, row_at, row_vehicle, no_row}
@@ -108,13 +110,13 @@ module _ (settings : Settings) (points : List ℕ) (tau : ℕ → ℕ → ℕ) (
     tree_numbered (Bounded ms) usable sound = All-cons (IsNumbered (vehicle_ids batch) rows) (Leaf ms) [] tt (λ k d within. absurd (omega arith))
     tree_numbered Closed usable sound = All-cons (IsNumbered (vehicle_ids batch) rows) Dead [] tt (λ k d within. absurd (omega arith))
 
-  plan_numbered : (plan : Planned) → IsGoodPlan settings points tau settled plan → All (IsNumbered (vehicle_ids batch) plan.rows) plan.tree
+  plan_numbered : (plan : Planned) → HasGraphsWith settings points tau settled (IsGoodPlan settings plan) → All (IsNumbered (vehicle_ids batch) plan.rows) plan.tree
   plan_numbered plan good =
-      let shape = good.found.shown.shape in
-      subst (λ (nodes : List Node). All (IsNumbered (vehicle_ids batch) plan.rows) nodes) (sym (nodes_are _ _ _ shape))
-      (tree_numbered good.graph good.exact.good good.exact.vehicle_total plan.rows good.rows good.found.shown.tree every_row shape.sound)
+      let tree = (good.holds point.Bound).tree in
+      subst (λ (nodes : List Node). All (IsNumbered (vehicle_ids batch) plan.rows) nodes) (sym (nodes_are _ _ _ tree.1))
+      (tree_numbered good.graph good.exact.good good.exact.vehicle_total plan.rows (good.holds point.Graphs).rows tree.0 every_row tree.1.sound)
 
-  pub answer_numbered : (answer : Answer) → IsGoodAnswer settings points tau settled answer → AreNumbered (vehicle_ids batch) answer
+  pub answer_numbered : (answer : Answer) → AnswersWith settings points tau settled (IsGoodPlan settings) answer → AreNumbered (vehicle_ids batch) answer
   answer_numbered Overflow good = tt
   answer_numbered (Plan plan) good = plan_numbered plan good
 
@@ -125,10 +127,10 @@ rows_few settled rows few =
     (All-from_get_or (λ (row : TripRow). length (row_line settled row).riders.items ≤ 6) rows no_row
     (λ k h. let e = length-map (get_or rows k no_row).riders.items (λ (r : ℕ). rider_id settled r) in let n = few k h in omega (arith, e, n)))
 
-pub good_trips : (settings : Settings) (points : List ℕ) (tau : ℕ → ℕ → ℕ) (settled : Settled) (answer : Answer) → IsGoodAnswer settings points tau settled answer → HasTrips answer
+pub good_trips : (settings : Settings) (points : List ℕ) (tau : ℕ → ℕ → ℕ) (settled : Settled) (answer : Answer) → AnswersWith settings points tau settled (IsGoodPlan settings) answer → HasTrips answer
 good_trips settings points tau settled Overflow good = tt
 good_trips settings points tau settled (Plan plan) good =
-    subst (λ (rows : List RowLine). All (λ (row : RowLine). length row.riders.items ≤ 6) rows) (sym good.rows)
+    subst (λ (rows : List RowLine). All (λ (row : RowLine). length row.riders.items ≤ 6) rows) (sym (good.holds point.Graphs).rows)
     (rows_few settled good.graph.rows (λ k h. (good.exact.good.rows k h).few))
 
 pub outcome_numbered : (settings : Settings) (roads : Roads) (batch : Batch) (outcome : Outcome) → IsKept batch → IsGoodOutcome settings roads batch outcome → AreNumbered (vehicle_ids batch) outcome.answer

@@ -6,8 +6,8 @@ use Rattle.std.proofs.lemmas.List.{length-map}
 use Rattle.std.proofs.lemmas.List.Elements.{All-cons, All-head, All-tail, All-map}
 use Rattle.std.proofs.lemmas.Option.{slice_get-map}
 use Rattle.arrayvec.specs.ArrayVec.{ArrayVec}
-use Rattle.outcome_check.specs.declared.verdict.Point.{Point}
-use Rattle.outcome_check.specs.declared.verdict.Point.TheVariants as point
+use Rattle.batch_solver.specs.declared.point.Point.{Point}
+use Rattle.batch_solver.specs.declared.point.Point.TheVariants as point
 use Rattle.plan_rules.specs.declared.node.Node.{Node}
 use Rattle.plan_rules.specs.declared.node.Node.TheVariants as node
 use Rattle.report_lines.specs.Order.{follow_on, last_place}
@@ -26,7 +26,8 @@ use Rattle.request_book.specs.declared.outcome.Planned.{Planned}
 use Rattle.request_book.specs.declared.outcome.PlannedStop.{PlannedStop}
 use Rattle.request_book.specs.declared.outcome.RowLine.{RowLine}
 use Rattle.block_audit.specs.Fits.{HasFewStops}
-use Rattle.block_audit.specs.Judged.{at_most, stops_of, row_of, trip_of, late_of, node_of, number_among, judged_plan, judged_outcome, NamesRow, CanBeTold, HasTrips}
+use Rattle.block_audit.specs.Judged.{at_most, row_of, trip_of, late_of, node_of, number_among, judged_plan, judged_outcome, NamesRow, CanBeTold, HasTrips}
+use Rattle.block_audit.specs.work.Judged.{stops_of}
 use Rattle.block_audit.specs.Told.{Told, told_by}
 use Rattle.block_audit.proofs.NumberedLemmas.{AreNumbered, IsNumbered}
 use Rattle.block_audit.proofs.ShapeLemmas.{HasShape, IsNodeLine, Parts, has_shape, nest, overflow_block, plan_block}

@@ -5,8 +5,9 @@ use Rattle.std.proofs.Math.Seq.{take-suc}
 use Rattle.std.proofs.lemmas.List.{take_all}
 use Rattle.std.proofs.lemmas.List.Elements.{All-append, All-cons}
 use Rattle.outcome_check.specs.Verdict.{point_place}
-use Rattle.outcome_check.specs.declared.verdict.Point.{Point}
-use Rattle.outcome_check.specs.declared.verdict.Point.TheVariants as point
+use Rattle.outcome_check.proofs.lemmas.VerdictLemmas.{HoldBelow, hold_none, hold_more}
+use Rattle.batch_solver.specs.declared.point.Point.{Point}
+use Rattle.batch_solver.specs.declared.point.Point.TheVariants as point
 use Rattle.block_audit.specs.Judged.{CanBeTold}
 use Rattle.block_audit.specs.Told.{Told}
 use Rattle.block_audit.specs.work.Judged.{HoldUpTo}
@@ -24,50 +25,39 @@ module _ {X : Type 0} (P : X → Type 0) (xs : List X) where
   one_fails i x within is refuted all = refuted (subst P (sym is) (all i x within))
 
 module _ (t : Told) where
-  pub untold_rows : (CanBeTold point.Graphs t → ⊥) → HoldUpTo (λ q. CanBeTold q t) 1
-  untold_rows refuted = record { before = by; there = λ less. (point.Graphs, refl, refuted) }
-    where
-      by : (q : Point) → point_place q < 1 → CanBeTold q t
-      by point.Answer less = tt
-      by q less = absurd (omega (arith, less))
+  abbrev Can : Point → Type 0
+  Can q = CanBeTold q t
 
-  module _ (rows : CanBeTold point.Graphs t) where
-    pub untold_late : (CanBeTold point.Late t → ⊥) → HoldUpTo (λ q. CanBeTold q t) 2
-    untold_late refuted = record { before = by; there = λ less. (point.Late, refl, refuted) }
-      where
-        by : (q : Point) → point_place q < 2 → CanBeTold q t
-        by point.Answer less = tt
-        by point.Graphs less = rows
-        by q less = absurd (omega (arith, less))
+  fails_at : (p : Point) → HoldBelow Can (point_place p) → (Can p → ⊥) → HoldUpTo Can (point_place p)
+  fails_at p before refuted = record { before = before; there = λ less. (p, refl, refuted) }
 
-    module _ (late : CanBeTold point.Late t) where
-      pub untold_trips : (CanBeTold point.Trips t → ⊥) → HoldUpTo (λ q. CanBeTold q t) 3
-      untold_trips refuted = record { before = by; there = λ less. (point.Trips, refl, refuted) }
-        where
-          by : (q : Point) → point_place q < 3 → CanBeTold q t
-          by point.Answer less = tt
-          by point.Graphs less = rows
-          by point.Late less = late
-          by q less = absurd (omega (arith, less))
+  first : HoldBelow Can 1
+  first = hold_more Can point.Answer (hold_none Can) tt
 
-      module _ (trips : CanBeTold point.Trips t) where
-        pub untold_tree : (CanBeTold point.Bound t → ⊥) → HoldUpTo (λ q. CanBeTold q t) 5
-        untold_tree refuted = record { before = by; there = λ less. (point.Bound, refl, refuted) }
-          where
-            by : (q : Point) → point_place q < 5 → CanBeTold q t
-            by point.Answer less = tt
-            by point.Graphs less = rows
-            by point.Late less = late
-            by point.Trips less = trips
-            by point.Plan less = tt
-            by q less = absurd (omega (arith, less))
+  pub untold_rows : (Can point.Graphs → ⊥) → HoldUpTo Can 1
+  untold_rows refuted = fails_at point.Graphs first refuted
 
-        pub all_told : CanBeTold point.Bound t → HoldUpTo (λ q. CanBeTold q t) 9
-        all_told tree = record { before = by; there = λ less. absurd (omega (arith, less)) }
-          where
-            by : (q : Point) → point_place q < 9 → CanBeTold q t
-            by point.Graphs less = rows
-            by point.Late less = late
-            by point.Trips less = trips
-            by point.Bound less = tree
-            by q less = tt
+  module _ (rows : Can point.Graphs) where
+    second : HoldBelow Can 2
+    second = hold_more Can point.Graphs first rows
+
+    pub untold_late : (Can point.Late → ⊥) → HoldUpTo Can 2
+    untold_late refuted = fails_at point.Late second refuted
+
+    module _ (late : Can point.Late) where
+      third : HoldBelow Can 3
+      third = hold_more Can point.Late second late
+
+      pub untold_trips : (Can point.Trips → ⊥) → HoldUpTo Can 3
+      untold_trips refuted = fails_at point.Trips third refuted
+
+      module _ (trips : Can point.Trips) where
+        fifth : HoldBelow Can 5
+        fifth = hold_more Can point.Plan (hold_more Can point.Trips third trips) tt
+
+        pub untold_tree : (Can point.Bound → ⊥) → HoldUpTo Can 5
+        untold_tree refuted = fails_at point.Bound fifth refuted
+
+        pub all_told : Can point.Bound → HoldUpTo Can 9
+        all_told tree =
+            record { before = hold_more Can point.Moves (hold_more Can point.Best (hold_more Can point.Tree (hold_more Can point.Bound fifth tree) tt) tt) tt; there = λ less. absurd (omega (arith, less)) }

@@ -4,7 +4,7 @@ use Rattle.batch_solver.specs.Outcome.{IsGoodOutcome}
 use Rattle.dispatch_report.specs.Block.{block_lines}
 use Rattle.dispatch_report.specs.Lines.{lines_text}
 use Rattle.outcome_check.specs.Verdict.{Meets, IsVerdictOf, point_place}
-use Rattle.outcome_check.specs.declared.verdict.Point.{Point}
+use Rattle.batch_solver.specs.declared.point.Point.{Point}
 use Rattle.outcome_check.specs.declared.verdict.Verdict.TheVariants.{Fails}
 use Rattle.report_lines.specs.Block.{IsBlock, BlockFails}
 use Rattle.report_lines.specs.declared.block.BlockFault.TheVariants as fault
@@ -30,18 +30,14 @@ pub record BeginsWithGood (settings : Settings) (roads : Roads) (batch : Batch) 
 abbrev pub MeetsAs : Settings → Roads → Batch → Told → Point → Type 0
 MeetsAs settings roads batch told q = (told.batch ≡ batch.number) × Meets settings roads batch (judged_outcome (map (λ v. v.id) batch.vehicles) told) q × CanBeTold q told
 
--- the point of this place is the first that fails
-pub record FailsFirst (Holds' : Point → Type 0) (place : ℕ) : Type 0 where
-  pub point : Point
-  pub at : point_place point ≡ place
-  pub first : IsVerdictOf Holds' (Fails point)
-
--- the text begins with a block, and this is the first point that fails of what its lines tell
+-- the text begins with a block, and the point of this place is the first that fails of what its lines tell
 pub record BeginsWithWrong (settings : Settings) (roads : Roads) (batch : Batch) (text : List ℕ) (place : ℕ) : Type 0 where
   pub lines : List BlockLine
   pub rest : List ℕ
   pub block : IsBlock text lines rest
-  pub fails : FailsFirst (MeetsAs settings roads batch (told_by lines)) place
+  pub point : Point
+  pub at : point_place point ≡ place
+  pub fails : IsVerdictOf (MeetsAs settings roads batch (told_by lines)) (Fails point)
 
 -- why a text begins with no block of a good outcome
 abbrev pub Refuses : Settings → Roads → Batch → List ℕ → BlockRefusal → Type 0

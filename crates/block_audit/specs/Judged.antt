@@ -1,11 +1,10 @@
 -- The outcome as which a block is judged, and what no outcome can tell.
 use Rattle.std.specs.Prelude.{◌≡◌, ℕ, ◌==◌, ◌≤◌, ◌-◌, ◌^◌, min, List, [], length, map, nat_le, IfSome, if◌then◌else◌, option_map, unwrap_or, slice_get}
 use Rattle.std.specs.List.{All, position_or_len}
-use Rattle.arrayvec.specs.ArrayVec.{ArrayVec}
 use Rattle.plan_rules.specs.declared.node.Node.{Node}
 use Rattle.plan_rules.specs.declared.node.Node.TheVariants as node
-use Rattle.outcome_check.specs.declared.verdict.Point.{Point}
-use Rattle.outcome_check.specs.declared.verdict.Point.TheVariants as point
+use Rattle.batch_solver.specs.declared.point.Point.{Point}
+use Rattle.batch_solver.specs.declared.point.Point.TheVariants as point
 use Rattle.report_lines.specs.declared.block_line.BlockLine.{BlockLine}
 use Rattle.report_lines.specs.declared.block_line.BlockLine.TheVariants.{Branch, Leaf, Dead}
 use Rattle.report_lines.specs.declared.late.LateText.{LateText}
@@ -17,17 +16,12 @@ use Rattle.request_book.specs.declared.outcome.ChosenTrip.{ChosenTrip}
 use Rattle.request_book.specs.declared.outcome.LateVehicle.{LateVehicle}
 use Rattle.request_book.specs.declared.outcome.Outcome.{Outcome}
 use Rattle.request_book.specs.declared.outcome.Planned.{Planned}
-use Rattle.request_book.specs.declared.outcome.PlannedStop.{PlannedStop}
 use Rattle.request_book.specs.declared.outcome.RowLine.{RowLine}
 use Rattle.block_audit.specs.Told.{Told}
 
--- a list of at most so many, and nothing in place of a longer one; the same of stops
+-- a list of at most so many, and nothing in place of a longer one
 abbrev pub at_most : {X : Type 0} → ℕ → List X → List X
 at_most most items = if nat_le (length items) most then items else []
-
--- at most so many stops, and none in place of more
-abbrev pub stops_of : ℕ → List PlannedStop → ArrayVec PlannedStop
-stops_of most stops = record { items = at_most most stops }
 
 -- a row, as one of at most six riders
 abbrev pub row_of : RowText → RowLine
@@ -35,11 +29,11 @@ row_of row = record { vehicle = row.vehicle; riders = record { items = at_most 6
 
 -- a chosen trip, as one of at most 22 stops
 abbrev pub trip_of : TripText → ChosenTrip
-trip_of trip = record { vehicle = trip.vehicle; cost = trip.cost; stops = stops_of 22 trip.stops }
+trip_of trip = record { vehicle = trip.vehicle; cost = trip.cost; stops = record { items = at_most 22 trip.stops } }
 
 -- a late vehicle, as one of at most ten stops
 abbrev pub late_of : LateText → LateVehicle
-late_of late = record { vehicle = late.vehicle; delay = late.delay; stops = option_map (stops_of 10) late.stops }
+late_of late = record { vehicle = late.vehicle; delay = late.delay; stops = option_map (λ stops. record { items = at_most 10 stops }) late.stops }
 
 -- the first place of an id among others, or their number; counted up to the greatest number of 32 bits
 abbrev pub number_among : List ℕ → ℕ → ℕ

@@ -3,7 +3,8 @@ ghost use Rattle.block_audit.specs.declared.refusal.BlockRefusal.TheVariants.{Ou
 ghost use Rattle.block_audit.specs.work.Block.{refusal_for};
 ghost use Rattle.block_audit.specs.work.Judged.{verdict_place};
 
-use outcome_check::{Point, Verdict};
+use batch_solver::Point;
+use outcome_check::Verdict;
 use pool_base::OutOfMemory;
 use report_lines::BlockFault;
 

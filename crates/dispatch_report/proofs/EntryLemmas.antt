@@ -6,11 +6,11 @@ use Rattle.dispatch_report.specs.Entry.{entry_line}
 use Rattle.dispatch_report.specs.Round.{entry_block, entries_lines}
 use Rattle.pool_io.specs.Faults.{one_more}
 use Rattle.request_book.specs.declared.command.Command.{Command}
-use Rattle.request_book.specs.declared.command.Command.TheVariants.{Submit, Cancel, Report, Pickup, Dropoff, Seal, Close}
+use Rattle.request_book.specs.declared.command.Command.TheVariants.{Close}
 use Rattle.request_book.specs.declared.journal.Entry.{Entry}
 use Rattle.request_book.specs.declared.outcome.Outcome.{Outcome}
 use Rattle.request_book.specs.declared.reply.Reply.{Reply}
-use Rattle.request_book.specs.declared.reply.Reply.TheVariants.{Accepted, Cancelled, Placed, Picked, Dropped, Sealed, Closed, Refused}
+use Rattle.request_book.specs.declared.reply.Reply.TheVariants.{Closed}
 
 -- the lines of one entry
 abbrev pub entry_lines : Bool → ℕ → Entry → List (List ℕ)
@@ -31,21 +31,10 @@ entries_lines-end proof position es i past = ap (λ xs. entries_lines proof posi
 
 -- only a close has a block
 pub entry_block-other : (proof : Bool) (command : Command) (reply : Reply) → ((batch : ℕ) (outcome : Outcome) → command ≡ Close batch outcome → ⊥) → entry_block proof command reply ≡ []
-entry_block-other proof (Submit rider origin destination time party) reply other = refl
-entry_block-other proof (Cancel rider) reply other = refl
-entry_block-other proof (Report vehicle node time) reply other = refl
-entry_block-other proof (Pickup vehicle rider time) reply other = refl
-entry_block-other proof (Dropoff vehicle rider time) reply other = refl
-entry_block-other proof (Seal now) reply other = refl
 entry_block-other proof (Close batch outcome) reply other = absurd (other batch outcome refl)
+entry_block-other proof _ reply other = refl
 
 -- only where it was answered `closed`
 pub closed_block-other : (proof : Bool) (batch : ℕ) (outcome : Outcome) (reply : Reply) → (reply ≡ Closed → ⊥) → entry_block proof (Close batch outcome) reply ≡ []
 closed_block-other proof batch outcome Closed other = absurd (other refl)
-closed_block-other proof batch outcome Accepted other = refl
-closed_block-other proof batch outcome Cancelled other = refl
-closed_block-other proof batch outcome Placed other = refl
-closed_block-other proof batch outcome Picked other = refl
-closed_block-other proof batch outcome Dropped other = refl
-closed_block-other proof batch outcome (Sealed b) other = refl
-closed_block-other proof batch outcome (Refused refusal) other = refl
+closed_block-other proof batch outcome _ other = refl

@@ -7,7 +7,6 @@
 ghost use Rattle.std.specs.Prelude.{◌≡◌, IfOk, length};
 
 mod basis;
-mod climb;
 mod dual;
 mod elimination;
 mod factors;
@@ -20,7 +19,6 @@ use crate::relaxation::basis::Basis;
 use crate::relaxation::elimination::reset;
 use crate::relaxation::pool::{Candidate, Pool};
 use crate::relaxation::sparse::Sparse;
-pub use climb::first_multipliers;
 pub use dual::Ended;
 use pool_base::OutOfMemory;
 use row_tables::fixed_point::{ONE, at, copy, item, set_at, times};

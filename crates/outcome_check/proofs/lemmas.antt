@@ -6,6 +6,6 @@ pub mod MatchLemmas
 pub mod GivenLemmas
 pub mod IdleLemmas
 pub mod VerdictLemmas
-pub mod GoodLemmas
 pub mod IdLemmas
 pub mod PosedLemmas
+pub mod ChosenLemmas

@@ -1,4 +1,2 @@
-pub mod Points
-pub mod Posed
 pub mod Verdict
 pub mod work

@@ -2,4 +2,3 @@
 pub mod Orders
 pub mod Trips
 pub mod Moves
-pub mod Answers

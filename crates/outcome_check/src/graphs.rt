@@ -1,8 +1,8 @@
 //! What is told of the graphs.
-ghost use Rattle.std.specs.Prelude.{◌≡◌, ◌↔◌, ◌<◌, ◌≤◌, ℕ, All, IfOk, IsTrue, filter, length, map};
-ghost use Rattle.outcome_check.specs.Points.{TellsGraphs};
+ghost use Rattle.std.specs.Prelude.{◌≡◌, ◌↔◌, ◌<◌, ◌≤◌, ℕ, All, IfOk, IsTrue, length};
+ghost use Rattle.batch_solver.specs.Points.{TellsGraphs};
 
-use batch_solver::{row_lines, rr_lines, rv_lines};
+use batch_solver::{lapsed_ids, row_lines, rr_lines, rv_lines};
 use pair_graph::RvEdge;
 use plan_rules::TripGraph;
 use pool_base::{OutOfMemory, RiderId, VehicleId};
@@ -42,19 +42,6 @@ pub(crate) fn tells_graphs(
     }
     let rows = row_lines(alloc, settled, graph.rows())?;
     Ok(are_same_rows(&rows, planned.rows.as_slice()))
-}
-
-/// The ids of riders whose promise has lapsed, in the batch's order.
-fn lapsed_ids(alloc: Global, settled: &Settled) -> Result<Vec<RiderId>, OutOfMemory>
-    ensures { IfOk result (λ ids. ids.items ≡ map (λ r. r.id) (filter (λ r. r.lapsed) settled.entry.now.riders)) }
-{
-    let mut ids = Vec::new(alloc);
-    for rider in settled.riders.as_slice() {
-        if rider.lapsed {
-            ids.push(rider.id)?;
-        }
-    }
-    Ok(ids)
 }
 
 pub(crate) fn are_same_riders(riders: &[RiderId], others: &[RiderId]) -> bool

@@ -1,28 +1,28 @@
 //! The judge of an outcome.
 ghost use Rattle.std.specs.Prelude.{◌≡◌, ◌↔◌, ◌<◌, ℕ, All, Contains, IfOk, IsTrue, length};
 ghost use Rattle.batch_snapshot.specs.Points.{named_nodes};
-ghost use Rattle.batch_solver.specs.Outcome.{IsGoodOutcome};
+ghost use Rattle.batch_solver.specs.Outcome.{AnswersWith, IsGoodOutcome};
+ghost use Rattle.batch_solver.specs.Points.{Holds};
+ghost use Rattle.batch_solver.specs.declared.point.Point.{Point as OnePoint};
 ghost use Rattle.pair_graph.specs.RrGraph.{IsRrGraph};
 ghost use Rattle.pair_graph.specs.RvGraph.{IsRvGraph};
 ghost use Rattle.pool_base.specs.Times.{point_count, travel_time};
-ghost use Rattle.search_check.specs.Points.{HasValue, IsClose, IsFair};
+ghost use Rattle.assignment_search.specs.Found.{ShowsBound, IsClose, IsFair};
 ghost use Rattle.stop_orders.specs.Sound.{IsSound};
 ghost use Rattle.trip_graph.specs.Answer.{IsTripGraphOf};
-ghost use Rattle.outcome_check.specs.Points.{GivesTrips};
-ghost use Rattle.outcome_check.specs.Verdict.{Holds, IsVerdictOf, Meets, point_place};
-ghost use Rattle.outcome_check.specs.declared.verdict.Point.{Point as OnePoint};
+ghost use Rattle.outcome_check.specs.Verdict.{IsVerdictOf, Meets, point_place};
 ghost use Rattle.outcome_check.specs.declared.verdict.Verdict.TheVariants.{Good};
-ghost use Rattle.outcome_check.specs.work.Answers.{AnswersBy};
 ghost use Rattle.outcome_check.specs.work.Orders.{HasOwnIds};
+ghost use Rattle.outcome_check.specs.work.Trips.{GivesTrips};
 
 use crate::graphs::{are_same_riders, tells_graphs};
 use crate::late::are_late;
 use crate::moves::are_moves;
 use crate::plan::tells_plan;
 use crate::trips::plan_of_trips;
-use crate::verdict::{Point, Verdict};
+use crate::verdict::Verdict;
 use batch_snapshot::{Points, Snapshot};
-use batch_solver::left_riders;
+use batch_solver::{Point, left_riders};
 use pair_graph::RvEdge;
 use plan_rules::{Plan, TripGraph};
 use pool_base::{OutOfMemory, Times};
@@ -89,7 +89,7 @@ fn judge_answer<G: Gate>(
     requires table { point_count times.now ≡ length points.now }
     requires sound { IsSound settings.now.trip (point_count times.now) (travel_time times.now) settled.now }
     requires ids { HasOwnIds settled.now }
-    ensures { IfOk result (IsVerdictOf (AnswersBy settings.entry.now points.entry.now (travel_time times.entry.now) settled.entry.now answer.entry.now)) }
+    ensures { IfOk result (IsVerdictOf (λ q. AnswersWith settings.entry.now points.entry.now (travel_time times.entry.now) settled.entry.now (Holds settings.entry.now q) answer.entry.now)) }
 {
     match grow_graph(rt, alloc, settled, times, settings, gate)? {
         GraphAnswer::Overflow => match answer {
@@ -133,7 +133,7 @@ fn judge_plan(
     requires graph { IsTripGraphOf settings.now (travel_time times.now) settled.now graph.now }
     requires rv { IsRvGraph (travel_time times.now) settled.now rv.now }
     requires rr { IsRrGraph (travel_time times.now) settled.now rr.now }
-    ensures { IfOk result (IsVerdictOf (Holds settings.entry.now (record { points = points.entry.now; tau = travel_time times.entry.now; settled = settled.entry.now; graph = graph.entry.now; edges = rv.entry.now; pairs = rr.entry.now }) planned.entry.now)) }
+    ensures { IfOk result (IsVerdictOf (λ q. Holds settings.entry.now q planned.entry.now (record { points = points.entry.now; tau = travel_time times.entry.now; settled = settled.entry.now; graph = graph.entry.now; edges = rv.entry.now; pairs = rr.entry.now }))) }
 {
     if !tells_graphs(alloc, settled, graph, rv, rr, planned)? {
         return Ok(Verdict::Fails(Point::Graphs));
@@ -173,8 +173,8 @@ fn judge_chosen(
     requires ids { HasOwnIds settled.now }
     requires graph { IsTripGraphOf settings.now (travel_time times.now) settled.now graph.now }
     requires gives { GivesTrips points.now (travel_time times.now) settled.now graph.now plan.now planned.now.chosen }
-    requires before { (q : OnePoint) → point_place q < 4 → Holds settings.now (record { points = points.now; tau = travel_time times.now; settled = settled.now; graph = graph.now; edges = rv.now; pairs = rr.now }) planned.now q }
-    ensures { IfOk result (IsVerdictOf (Holds settings.entry.now (record { points = points.entry.now; tau = travel_time times.entry.now; settled = settled.entry.now; graph = graph.entry.now; edges = rv.entry.now; pairs = rr.entry.now }) planned.entry.now)) }
+    requires before { (q : OnePoint) → point_place q < 4 → Holds settings.now q planned.now (record { points = points.now; tau = travel_time times.now; settled = settled.now; graph = graph.now; edges = rv.now; pairs = rr.now }) }
+    ensures { IfOk result (IsVerdictOf (λ q. Holds settings.entry.now q planned.entry.now (record { points = points.entry.now; tau = travel_time times.entry.now; settled = settled.entry.now; graph = graph.entry.now; edges = rv.entry.now; pairs = rr.entry.now }))) }
 {
     if !tells_plan(alloc, settled, graph, plan, planned)? {
         return Ok(Verdict::Fails(Point::Plan));
@@ -210,7 +210,7 @@ fn is_well_shown(
     budget: u32,
     planned: &Planned,
 ) -> Result<bool, OutOfMemory>
-    requires { HasValue graph.now budget planned.now.bound planned.now.tree }
+    requires { ShowsBound graph.now budget planned.now.bound planned.now.tree }
     ensures { IfOk result (λ yes. IsTrue yes ↔ (IsClose graph.entry.now budget planned.entry.now.cost planned.entry.now.bound planned.entry.now.tree × IsFair graph.entry.now planned.entry.now.bound planned.entry.now.tree)) }
 {
     if !is_close(

@@ -30,4 +30,4 @@ mod vehicles;
 mod verdict;
 
 pub use judging::judge;
-pub use verdict::{Point, Verdict};
+pub use verdict::Verdict;

@@ -1,16 +1,15 @@
 //! Moves of idle vehicles.
-ghost use Rattle.std.specs.Prelude.{◌≡◌, ◌↔◌, ◌<◌, ◌≤◌, ℕ, All, IfOk, IsTrue, List, MatchOption, length};
-ghost use Rattle.batch_solver.specs.Moves.{AreMoves, idle_vehicles, move_line};
+ghost use Rattle.std.specs.Prelude.{◌≡◌, ◌↔◌, ◌<◌, ◌≤◌, ℕ, All, IfOk, IsTrue, List, MatchOption, length, slice_index};
+ghost use Rattle.batch_solver.specs.Moves.{AreMoves, idle_vehicles};
+ghost use Rattle.batch_solver.specs.work.Moves.{move_line};
 ghost use Rattle.batch_solver.specs.Told.{left_riders, rider_id, vehicle_id};
 ghost use Rattle.plan_rules.specs.Plan.{IsPlan};
 ghost use Rattle.pool_base.specs.Times.{point_count, travel_time};
 ghost use Rattle.rebalancing.specs.Matching.{IsBestMatching, IsMatching, total_of};
-ghost use Rattle.stop_orders.specs.Settled.{rider_at, vehicle_at};
 ghost use Rattle.stop_orders.specs.Sound.{IsSound};
-ghost use Rattle.std.specs.Prelude.{map, slice_index};
 ghost use Rattle.outcome_check.specs.work.Moves.{HaveOwnPlaces, IsRisingMatching, IsWithin, TellsMoves};
 
-use batch_solver::idle_vehicles;
+use batch_solver::{idle_vehicles, origins_of, starts_of};
 use plan_rules::TripGraph;
 use pool_base::{OutOfMemory, Times};
 use rebalancing::rebalance;
@@ -166,34 +165,6 @@ fn place_of_rider(settled: &Settled, left: &[usize], step: &MoveLine) -> Option<
         }
     }
     None
-}
-
-/// Where the vehicles are.
-fn starts_of(
-    alloc: Global,
-    settled: &Settled,
-    vehicles: &[usize],
-) -> Result<Vec<usize>, OutOfMemory>
-    requires { All (λ v. v < length settled.now.vehicles) vehicles.now }
-    ensures { IfOk result (λ starts. starts.items ≡ map (λ v. (vehicle_at settled.entry.now v).start) vehicles.now) }
-{
-    let mut starts = Vec::with_capacity(alloc, vehicles.len())?;
-    for &vehicle in vehicles {
-        starts.push(settled.vehicles.as_slice()[vehicle].start)?;
-    }
-    Ok(starts)
-}
-
-/// Where the riders wait.
-fn origins_of(alloc: Global, settled: &Settled, riders: &[usize]) -> Result<Vec<usize>, OutOfMemory>
-    requires { All (λ r. r < length settled.now.riders) riders.now }
-    ensures { IfOk result (λ origins. origins.items ≡ map (λ r. (rider_at settled.entry.now r).leg.origin) riders.now) }
-{
-    let mut origins = Vec::with_capacity(alloc, riders.len())?;
-    for &rider in riders {
-        origins.push(settled.riders.as_slice()[rider].leg.origin)?;
-    }
-    Ok(origins)
 }
 
 /// Whether the pairs, by rising first place, join each place at most once and only where there is a way.

@@ -7,9 +7,8 @@ ghost use Rattle.pool_base.specs.Times.{point_count, travel_time};
 ghost use Rattle.rider_limits.specs.declared.settings.Settings.{Settings};
 ghost use Rattle.stop_orders.specs.Sound.{IsSound};
 ghost use Rattle.trip_graph.specs.Answer.{IsTripGraphOf};
-ghost use Rattle.outcome_check.specs.Points.{GivesTrips};
 ghost use Rattle.outcome_check.specs.work.Orders.{HasOwnIds};
-ghost use Rattle.outcome_check.specs.work.Trips.{HasNoRowFor, GiveRows, TellsRow};
+ghost use Rattle.outcome_check.specs.work.Trips.{GivesTrips, HasNoRowFor, GiveRows, TellsRow};
 
 use crate::orders::told_order;
 use crate::vehicles::timely_vehicles;

@@ -1,12 +1,11 @@
 //! Whether no lawful plan is left at a place in a tree, as is seen at once.
-ghost use Rattle.std.specs.Prelude.{◌≡◌, ◌+◌, ◌<◌, ◌≤◌, ◌↔◌, ℕ, IsTrue, IfSome, IfNone, MatchBool, All, length, slice_index_or, false, true, ◌||◌, ◌==◌};
-ghost use Rattle.std.specs.List.{list_any};
-ghost use Rattle.plan_rules.specs.Graph.{has_rider};
+ghost use Rattle.std.specs.Prelude.{◌≡◌, ◌+◌, ◌<◌, ◌≤◌, ◌↔◌, ℕ, IsTrue, IfSome, IfNone, MatchBool, length, slice_index_or, false, true};
 ghost use Rattle.plan_rules.specs.Multipliers.{usable_of};
 ghost use Rattle.plan_rules.specs.Tree.{IsSoleRow, IsClash, IsStranded, IsDeadEnd};
 ghost use Rattle.plan_rules.specs.work.DeadEnd.{MarksSomeUsable, StandsInUsable, StandsInNone, MarksSole};
 
 use crate::graph::TripGraph;
+use crate::marks::{is_any_marked, mark_riders};
 
 /// Whether some rider stands in the sole allowed rows of two vehicles, or some rider who must be served
 /// in no allowed row. The marks are work space.
@@ -126,26 +125,4 @@ fn stands(graph: &TripGraph, allowed: &[bool], rider: usize) -> bool
         }
     }
     false
-}
-
-fn is_any_marked(riders: &[usize], marks: &[bool]) -> bool
-    requires { All (λ r. r < length marks.now) riders.now }
-    ensures { result ≡ list_any (λ r. slice_index_or marks.now r false) riders.now }
-{
-    for rider in riders {
-        if marks[*rider] {
-            return true;
-        }
-    }
-    false
-}
-
-fn mark_riders(riders: &[usize], marks: &mut [bool])
-    requires { All (λ r. r < length marks.old) riders.now }
-    ensures len { length marks.new ≡ length marks.old }
-    ensures marked { (r : ℕ) → r < length marks.old → slice_index_or marks.new r false ≡ (slice_index_or marks.old r false || list_any (λ x. x == r) riders.now) }
-{
-    for rider in riders {
-        marks[*rider] = true;
-    }
 }

@@ -2,4 +2,3 @@ pub mod FaultLemmas
 pub mod ChoiceLemmas
 pub mod NodeLemmas
 pub mod LimitLemmas
-pub mod FoundLemmas

@@ -1,7 +1,7 @@
 //! Plans near the chosen one.
 ghost use Rattle.std.specs.Prelude.{◌↔◌, IfOk, IsTrue};
 ghost use Rattle.plan_rules.specs.Plan.{IsLawful};
-ghost use Rattle.search_check.specs.Points.{IsBestNear};
+ghost use Rattle.assignment_search.specs.Found.{IsBestNear};
 
 use crate::limit::limit_of;
 use assignment_search::better_change;

@@ -1,6 +1,6 @@
 //! The value of a tree.
 ghost use Rattle.std.specs.Prelude.{◌≡◌, ◌↔◌, false, IfOk, IsTrue};
-ghost use Rattle.search_check.specs.Points.{HasValue};
+ghost use Rattle.assignment_search.specs.Found.{ShowsBound};
 ghost use Rattle.search_check.specs.work.Refusals.{IsRefusal};
 
 use bound_checker::{CheckFault, check};
@@ -16,7 +16,7 @@ pub fn shows_bound(
     bound: &i128,
     tree: &Tree,
 ) -> Result<bool, OutOfMemory>
-    ensures { IfOk result (λ yes. IsTrue yes ↔ HasValue graph.now budget bound.now tree.now) }
+    ensures { IfOk result (λ yes. IsTrue yes ↔ ShowsBound graph.now budget bound.now tree.now) }
 {
     if tree.nodes().len() > budget as usize {
         return Ok(false);

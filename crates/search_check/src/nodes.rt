@@ -7,8 +7,8 @@ ghost use Rattle.plan_rules.specs.Multipliers.{usable_of};
 ghost use Rattle.plan_rules.specs.Path.{IsPathOf, standing_of};
 ghost use Rattle.plan_rules.specs.Reading.{IsSoundNode, coming_after};
 ghost use Rattle.plan_rules.specs.Tree.{IsTreeOfValue};
-ghost use Rattle.search_check.specs.Points.{IsFair};
-ghost use Rattle.search_check.specs.work.Nodes.{HasMultipliers, IsFairNode, IsLimit};
+ghost use Rattle.assignment_search.specs.Found.{IsFair, IsFairNode};
+ghost use Rattle.search_check.specs.work.Nodes.{HasMultipliers, IsLimit};
 
 use crate::limit::limit_of;
 use crate::tight::{first_seconds, first_value, index_of};

@@ -4,7 +4,7 @@ ghost use Rattle.dual_bound.specs.Index.{IsIndexOf};
 ghost use Rattle.plan_rules.specs.Multipliers.{first_fit_value, usable_of};
 ghost use Rattle.plan_rules.specs.Size.{IsSmallSum};
 ghost use Rattle.plan_rules.specs.Tree.{every_row, rounded_up};
-ghost use Rattle.search_check.specs.Points.{IsClose};
+ghost use Rattle.assignment_search.specs.Found.{IsClose};
 
 use crate::choices::is_closable;
 use dual_bound::{RiderIndex, first_fit_by};

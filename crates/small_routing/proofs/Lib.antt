@@ -1,5 +1,6 @@
 pub mod AheadLemmas
 pub mod CandidateLemmas
+mod CostLemmas
 pub mod LabelLemmas
 pub mod SearchLemmas
 pub mod UnlimitedLemmas

@@ -17,7 +17,7 @@ use Rattle.stop_orders.proofs.lemmas.DoneLemmas.{IsAllDone-from_nil, Completes-n
 use Rattle.stop_orders.proofs.lemmas.PlainLemmas.{MakesOrders-all, rest_of_all}
 use Rattle.small_routing.specs.declared.label.Label.{Label}
 use Rattle.small_routing.specs.declared.candidate.Candidate.{Candidate}
-use Rattle.small_routing.specs.work.Label.{IsRoutable, task_riders, task_passengers, next_label, GoesOn, rest_delay}
+use Rattle.small_routing.specs.work.Label.{IsRoutable, task_riders, task_passengers, CanVisit, next_label, GoesOn, rest_delay}
 use Rattle.small_routing.specs.work.Ahead.{RiderCan, PassengerCan, least_ahead}
 use Rattle.small_routing.specs.work.Kept.{no_label, IsDominated}
 use Rattle.small_routing.specs.work.Search.{LeadsTo, IsExhausted, IsTried, IsLabelDone, AreCandidates, Searched}
@@ -30,7 +30,7 @@ NoneBetter-more None a b h n = n
 NoneBetter-more (Some route) a b h n = omega arith
 
 -- a better route stays good
-good_better : (best : Option Route) (route : Route) → (NoneBetter best route.delay → ⊥) → StaysGood best (Some route)
+pub good_better : (best : Option Route) (route : Route) → (NoneBetter best route.delay → ⊥) → StaysGood best (Some route)
 good_better None route worse = λ d n. absurd n
 good_better (Some old) route worse = λ d n. elim (cases_lt route.delay old.delay) [ inl less ↦ omega arith | inr more ↦ absurd (worse more) ]
 
@@ -43,7 +43,7 @@ settled_good points tau task old new labels good = All-weaker (IsLabelDone point
 
 module _ (points : ℕ) (tau : ℕ → ℕ → ℕ) (t : IsTravelTime points tau) (task : Task) (valid : IsRoutable points task) where
   -- where all are dropped, the delay is that of the label
-  exhausted_all : (label : Label) (best : Option Route) → IsAllDone (task_riders task) (task_passengers task) label.done → NoneBetter best label.delay → IsExhausted tau task best label
+  pub exhausted_all : (label : Label) (best : Option Route) → IsAllDone (task_riders task) (task_passengers task) label.done → NoneBetter best label.delay → IsExhausted tau task best label
   exhausted_all label best all none = λ rest way.
       let e : rest ≡ [] = rest_of_all (task_riders task) (task_passengers task) label.done valid.rider_count all rest way.completes in
       let same : label.delay ≡ label.delay + rest_delay tau task label [] = omega arith in
@@ -95,14 +95,22 @@ module _ (points : ℕ) (tau : ℕ → ℕ → ℕ) (t : IsTravelTime points tau
       let there : GoesOn tau task kept rest = record { completes = subst (λ n. Completes (task_riders task) (task_passengers task) n rest) (sym d.done) way.completes; serves = same.0 } in
       NoneBetter-more best (kept.delay + rest_delay tau task kept rest) (label.delay + rest_delay tau task label rest) (omega (arith, same.1, d.delay)) ((settled dominated.0 no_label dominated.1).exhausted rest there)
 
-  -- a stop whose next label was searched was tried
-  pub tried_searched : (label next : Label) (s : Stop) (old new : Option Route) (labels : List Label) → next ≡ next_label tau task label s → Searched points tau task next old new labels → IsTried tau task new label s
-  tried_searched label next s old new labels e searched = λ rest way.
+  -- a stop was tried where no way on from its next label is better
+  pub tried_exhausted : (label next : Label) (s : Stop) (best : Option Route) → next ≡ next_label tau task label s → IsExhausted tau task best next → IsTried tau task best label s
+  tried_exhausted label next s best e exhausted = λ rest way.
       let on = goes_on_next points tau t task valid.rider_count label s rest way in
-      let there = searched.exhausted rest (subst (λ n. GoesOn tau task n rest) (sym e) on.2) in
-      let here = subst (λ n. NoneBetter new (n.delay + rest_delay tau task n rest)) e there in
+      let there = exhausted rest (subst (λ n. GoesOn tau task n rest) (sym e) on.2) in
+      let here = subst (λ n. NoneBetter best (n.delay + rest_delay tau task n rest)) e there in
       let same : (next_label tau task label s).delay + rest_delay tau task (next_label tau task label s) rest ≡ label.delay + rest_delay tau task label (s ∷ rest) = omega arith in
-      subst (λ d. NoneBetter new d) same here
+      subst (λ d. NoneBetter best d) same here
+
+  -- .. or where it can't be made
+  pub tried_never : (label : Label) (s : Stop) (best : Option Route) → (CanVisit tau task label s → ⊥) → IsTried tau task best label s
+  tried_never label s best never = λ rest way. absurd (never (goes_on_next points tau t task valid.rider_count label s rest way).1)
+
+  -- .. or after a search
+  pub tried_searched : (label next : Label) (s : Stop) (old new : Option Route) (labels : List Label) → next ≡ next_label tau task label s → Searched points tau task next old new labels → IsTried tau task new label s
+  tried_searched label next s old new labels e searched = tried_exhausted label next s new e searched.exhausted
 
   -- where all candidates were tried
   pub exhausted_tried : (label : Label) (best : Option Route) (candidates : List Candidate) → (IsAllDone (task_riders task) (task_passengers task) label.done → ⊥) → AreCandidates tau task label (task_riders task) (task_passengers task) candidates

@@ -4,3 +4,4 @@ pub mod Kept
 pub mod Search
 pub mod Unlimited
 pub mod Apart
+pub mod Cost

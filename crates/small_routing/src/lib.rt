@@ -27,6 +27,7 @@
 mod ahead;
 mod apart;
 mod candidate;
+mod cost;
 mod kept;
 mod label;
 mod least;
@@ -34,6 +35,7 @@ mod search;
 mod unlimited;
 
 pub use apart::are_apart;
+pub use cost::least_cost_with;
 pub use kept::Workspace;
 pub use least::{least_delay, least_delay_with};
 pub use stop_orders::Route;

@@ -9,8 +9,8 @@ use Rattle.stop_orders.specs.Settled.{IsTrip, vehicle_at, rider_at}
 use Rattle.stop_orders.specs.Sound.{IsSound}
 use Rattle.stop_orders.specs.Task.{no_leg}
 use Rattle.stop_orders.specs.declared.settled.Settled.{Settled}
-use Rattle.batch_solver.specs.Moves.{AreMoves, move_line}
-use Rattle.batch_solver.specs.work.Moves.{HasPlaces, origins_of, starts_of}
+use Rattle.batch_solver.specs.Moves.{AreMoves}
+use Rattle.batch_solver.specs.work.Moves.{move_line, HasPlaces, origins_of, starts_of}
 
 -- the places of a sound batch that has vehicles
 pub has_places : (k points : ℕ) (tau : ℕ → ℕ → ℕ) (settled : Settled) → IsSound k points tau settled → 0 < length settled.vehicles → HasPlaces points settled
@@ -52,7 +52,7 @@ module _ (tau : ℕ → ℕ → ℕ) (settled : Settled) (idle left : List ℕ) 
   moves_told pairs best rising moves told = record { pairs = pairs; best = best; rising = rising; told = told }
 
 -- there is nothing to match without vehicles
-none_matched : (tau : ℕ → ℕ → ℕ) (to : List ℕ) (pairs : List (ℕ × ℕ)) → IsMatching tau [] to pairs → pairs ≡ []
+pub none_matched : (tau : ℕ → ℕ → ℕ) (to : List ℕ) (pairs : List (ℕ × ℕ)) → IsMatching tau [] to pairs → pairs ≡ []
 none_matched tau to [] m = refl
 none_matched tau to (p ∷ ps) m = let w = m.within 0 p (omega arith) in absurd (omega (arith, w.0))
 

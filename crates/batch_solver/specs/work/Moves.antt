@@ -1,4 +1,7 @@
-use Rattle.std.specs.Prelude.{ℕ, ◌<◌, List, length, map}
+use Rattle.std.specs.Prelude.{◌==◌, ℕ, ◌<◌, Bool, false, ◌&&◌, not, List, Option, length, map, slice_index}
+use Rattle.std.specs.Option.{option_map_or}
+use Rattle.plan_rules.specs.Graph.{Graph, choice_at, riders_at}
+use Rattle.rebalancing.specs.Matching.{pair_seconds}
 use Rattle.request_book.specs.declared.outcome.MoveLine.{MoveLine}
 use Rattle.stop_orders.specs.Settled.{vehicle_at, rider_at}
 use Rattle.stop_orders.specs.declared.settled.Settled.{Settled}
@@ -11,6 +14,20 @@ starts_of settled vehicles = map (λ v. (vehicle_at settled v).start) vehicles
 -- where riders wait
 abbrev pub origins_of : Settled → List ℕ → List ℕ
 origins_of settled riders = map (λ r. (rider_at settled r).leg.origin) riders
+
+-- a vehicle is idle where nobody is aboard, it isn't late, and its chosen trip has no rider
+abbrev pub is_idle : Settled → Graph → List (Option ℕ) → ℕ → Bool
+is_idle settled graph chosen v =
+    (length (vehicle_at settled v).aboard.items == 0) && not (vehicle_at settled v).late
+    && option_map_or (λ row. length (riders_at graph row) == 0) (choice_at chosen v) false
+
+-- a pair of an idle vehicle and a rider who was left out
+abbrev pub move_line : (ℕ → ℕ → ℕ) → Settled → List ℕ → List ℕ → ℕ × ℕ → MoveLine
+move_line tau settled idle left pair = record {
+  vehicle = vehicle_id settled (slice_index idle pair.0);
+  rider = rider_id settled (slice_index left pair.1);
+  seconds = pair_seconds tau (starts_of settled idle) (origins_of settled left) pair;
+}
 
 -- the move of a vehicle to a rider
 abbrev pub move_from_to : (ℕ → ℕ → ℕ) → Settled → ℕ → ℕ → MoveLine

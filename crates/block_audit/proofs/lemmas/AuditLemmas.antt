@@ -5,17 +5,16 @@ use Rattle.std.proofs.lemmas.Bool.{cases_lt}
 use Rattle.std.proofs.lemmas.List.{length-map}
 use Rattle.batch_snapshot.specs.Batch.{Batch}
 use Rattle.batch_snapshot.specs.Kept.{IsKept}
-use Rattle.batch_solver.specs.Outcome.{IsGoodAnswer, IsGoodOutcome}
+use Rattle.batch_solver.specs.Outcome.{IsGoodOutcome}
 use Rattle.dispatch_report.specs.Block.{block_lines}
 use Rattle.dispatch_report.specs.Lines.{lines_text}
-use Rattle.outcome_check.specs.Posed.{AreLimitsOf}
-use Rattle.outcome_check.specs.Verdict.{Meets, AnswersAt, IsVerdictOf, point_place}
-use Rattle.outcome_check.specs.declared.verdict.Point.{Point}
-use Rattle.outcome_check.specs.declared.verdict.Point.TheVariants as point
+use Rattle.outcome_check.specs.Verdict.{Meets, IsVerdictOf}
+use Rattle.batch_solver.specs.declared.point.Point.{Point}
+use Rattle.batch_solver.specs.declared.point.Point.TheVariants as point
 use Rattle.outcome_check.specs.declared.verdict.Verdict.{Verdict}
 use Rattle.outcome_check.specs.declared.verdict.Verdict.TheVariants.{Good, Fails}
-use Rattle.outcome_check.proofs.lemmas.GoodLemmas.{posed_of, good_graphs, good_holds}
-use Rattle.pool_base.specs.Times.{travel_time}
+use Rattle.outcome_check.proofs.lemmas.PosedLemmas.{good_meets}
+use Rattle.outcome_check.proofs.lemmas.VerdictLemmas.{last_place}
 use Rattle.report_lines.specs.Block.{IsBlock, BlockFails}
 use Rattle.report_lines.specs.BlockLine.{block_line_text, IsBlockLine}
 use Rattle.report_lines.specs.Outcome.{lines_of}
@@ -24,31 +23,18 @@ use Rattle.report_lines.specs.declared.block.BlockFault.TheVariants as fault
 use Rattle.report_lines.specs.declared.block_line.BlockLine.{BlockLine}
 use Rattle.report_lines.proofs.lemmas.OneBlock.{block_of_one, block_no_fault, one_fault}
 use Rattle.report_lines.proofs.lemmas.OutcomeLemmas.{outcome_block, outcome_texts}
-use Rattle.request_book.specs.declared.outcome.Answer.{Answer}
-use Rattle.request_book.specs.declared.outcome.Answer.TheVariants.{Overflow as TooMany, Planned as Plan}
 use Rattle.request_book.specs.declared.outcome.Outcome.{Outcome}
 use Rattle.rider_limits.specs.declared.settings.Settings.{Settings}
 use Rattle.road_network.specs.Roads.{Roads}
-use Rattle.block_audit.specs.Block.{BeginsWithGood, BeginsWithWrong, MeetsAs, FailsFirst, Refuses}
+use Rattle.block_audit.specs.Block.{BeginsWithGood, BeginsWithWrong, MeetsAs, Refuses}
 use Rattle.block_audit.specs.Judged.{judged_outcome, CanBeTold}
 use Rattle.block_audit.specs.Told.{Told, told_by}
 use Rattle.block_audit.specs.work.Block.{refusal_for}
-use Rattle.block_audit.specs.work.Judged.{HoldUpTo, IsRight, verdict_place}
+use Rattle.block_audit.specs.work.Judged.{FailsFirst, HoldUpTo, IsRight, verdict_place}
 use Rattle.block_audit.specs.declared.refusal.BlockRefusal.{BlockRefusal}
 use Rattle.block_audit.specs.declared.refusal.BlockRefusal.TheVariants.{OutOfMemory, Cut, Form, Wrong}
 use Rattle.block_audit.proofs.NumberedLemmas.{vehicle_ids, few_ids, outcome_numbered, outcome_trips}
 use Rattle.block_audit.proofs.OutcomeLemmas.{IsToldAs, judged_few, lines_are, outcome_is_told}
-
-pub low_place : (q : Point) → point_place q < 9
-low_place point.Answer = omega arith
-low_place point.Graphs = omega arith
-low_place point.Late = omega arith
-low_place point.Trips = omega arith
-low_place point.Plan = omega arith
-low_place point.Bound = omega arith
-low_place point.Tree = omega arith
-low_place point.Best = omega arith
-low_place point.Moves = omega arith
 
 -- two lists of points, one beside the other
 pub hold_both : (P Q : Point → Type 0) (m n : ℕ) → HoldUpTo P m → HoldUpTo Q n → HoldUpTo (λ q. P q × Q q) (min m n)
@@ -66,22 +52,7 @@ verdict_holds P (Fails p) first = record { before = first.0; there = λ less. (p
 
 pub is_good : (verdict : Verdict) → 9 ≤ verdict_place verdict → verdict ≡ Good
 is_good Good high = refl
-is_good (Fails p) high = let low = low_place p in absurd (omega (arith, low, high))
-
--- all points hold of a good outcome
-pub good_meets : (settings : Settings) (roads : Roads) (batch : Batch) (outcome : Outcome) → IsGoodOutcome settings roads batch outcome → (q : Point) → Meets settings roads batch outcome q
-good_meets settings roads batch outcome good q = (good.expired, answers outcome.answer good.answer)
-  where
-    limits : AreLimitsOf settings roads batch good.points (travel_time good.times) good.settled
-    limits = record { nodes = good.nodes; times = good.times; table = good.table; told = refl; limits = good.limits }
-
-    answers : (a : Answer) → IsGoodAnswer settings good.points (travel_time good.times) good.settled a → AnswersAt settings roads batch a q
-    answers TooMany more = record { points = good.points; tau = travel_time good.times; settled = good.settled; limits = limits; more = more }
-    answers (Plan planned) is = (
-      posed_of settings good.points (travel_time good.times) good.settled planned is,
-      record { limits = limits; graphs = good_graphs settings good.points (travel_time good.times) good.settled planned is },
-      good_holds settings good.points (travel_time good.times) good.settled planned is q,
-    )
+is_good (Fails p) high = let low = last_place p in absurd (omega (arith, low, high))
 
 -- the first point that fails
 pub fails_first : (settings : Settings) (roads : Roads) (batch : Batch) (t : Told) (place : ℕ) → t.batch ≡ batch.number → place < 9 → HoldUpTo (IsRight settings roads batch t) place → FailsFirst (MeetsAs settings roads batch t) place
@@ -153,6 +124,10 @@ fault_no_good settings roads batch text found refusal fails is some other behind
     in
     block_no_fault text (lines_of batch.number other) behind printed found (λ (e : found ≡ fault.OutOfMemory). some (is ∙ ap refusal_for e)) fails
 
+-- the first point that fails of a block
+first_of : (settings : Settings) (roads : Roads) (batch : Batch) (text : List ℕ) (place : ℕ) (wrong : BeginsWithWrong settings roads batch text place) → FailsFirst (MeetsAs settings roads batch (told_by wrong.lines)) place
+first_of settings roads batch text place wrong = record { point = wrong.point; at = wrong.at; first = wrong.fails }
+
 -- a text that begins with a good block isn't refused
 pub good_not_refused : (settings : Settings) (roads : Roads) (batch : Batch) → IsKept batch → (text : List ℕ) (outcome : Outcome) (rest : List ℕ) → BeginsWithGood settings roads batch text outcome rest
     → (refusal : BlockRefusal) → refusal ≢ OutOfMemory → Refuses settings roads batch text refusal → ⊥
@@ -160,7 +135,7 @@ good_not_refused settings roads batch kept text outcome rest good OutOfMemory so
 good_not_refused settings roads batch kept text outcome rest good (Cut n) some is = fault_no_good settings roads batch text (fault.Cut n) (Cut n) is refl some outcome rest good
 good_not_refused settings roads batch kept text outcome rest good (Form n) some is = fault_no_good settings roads batch text (fault.Form n) (Form n) is refl some outcome rest good
 good_not_refused settings roads batch kept text outcome rest good (Wrong place) some wrong =
-    fails_no_good settings roads batch kept text wrong.lines wrong.rest wrong.block place wrong.fails outcome rest good
+    fails_no_good settings roads batch kept text wrong.lines wrong.rest wrong.block place (first_of settings roads batch text place wrong) outcome rest good
 
 -- of points the first that fails is one
 one_first : (P : Point → Type 0) (p q : ℕ) → FailsFirst P p → FailsFirst P q → p ≡ q
@@ -175,7 +150,7 @@ one_first P p q a b = ⊎_elim
 one_wrong : (settings : Settings) (roads : Roads) (batch : Batch) (text : List ℕ) (n m : ℕ) → BeginsWithWrong settings roads batch text n → BeginsWithWrong settings roads batch text m → n ≡ m
 one_wrong settings roads batch text n m one two =
     let e = (block_of_one text one.lines two.lines one.rest two.rest one.block two.block).0 in
-    one_first (MeetsAs settings roads batch (told_by two.lines)) n m (subst (λ (ls : List BlockLine). FailsFirst (MeetsAs settings roads batch (told_by ls)) n) e one.fails) two.fails
+    one_first (MeetsAs settings roads batch (told_by two.lines)) n m (subst (λ (ls : List BlockLine). FailsFirst (MeetsAs settings roads batch (told_by ls)) n) e (first_of settings roads batch text n one)) (first_of settings roads batch text m two)
 
 -- a text is refused for one cause
 fault_and_wrong : (settings : Settings) (roads : Roads) (batch : Batch) (text : List ℕ) (f : BlockFault) (place : ℕ) → f ≢ fault.OutOfMemory → BlockFails text f → BeginsWithWrong settings roads batch text place → ⊥

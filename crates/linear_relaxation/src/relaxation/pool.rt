@@ -1,7 +1,6 @@
 //! The rows over which a solution is sought.
 use crate::relaxation::basis::Basis;
 use crate::relaxation::elimination::reset;
-use crate::relaxation::pricing::reduced_cost;
 use pool_base::OutOfMemory;
 use row_tables::RowTable;
 use row_tables::fixed_point::{at, item, set_at};
@@ -134,7 +133,7 @@ impl Pool {
         for place in 0..self.rows.len() {
             let row = item(&self.rows, place, u32::MAX);
             let number = row as usize;
-            let above = reduced_cost(table, multipliers, number).saturating_sub(item(
+            let above = table.reduced_cost(multipliers, number).saturating_sub(item(
                 least,
                 table.vehicle(number),
                 0,

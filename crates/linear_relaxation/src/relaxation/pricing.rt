@@ -32,7 +32,7 @@ impl Relaxation {
     /// puts up to so many rows of each vehicle into the pool. How many.
     pub fn pass(&mut self, table: &RowTable, most_rows: usize) -> Result<usize, OutOfMemory> {
         let before = self.pool.len();
-        let mut value = value_of_riders(table, &self.tried);
+        let mut value = table.value_of_riders(&self.tried);
         for vehicle in 0..table.vehicle_count() {
             let price = self.in_multipliers(at(&self.prices, vehicle));
             let bar = price.saturating_sub(LEAST_GAIN);
@@ -60,7 +60,7 @@ impl Relaxation {
             if item(&self.is_forbidden, row, true) {
                 continue;
             }
-            let cost = reduced_cost(table, &self.tried, row);
+            let cost = table.reduced_cost(&self.tried, row);
             least = least.min(cost);
             if cost < bar && !self.pool.has(row) {
                 offer(&mut self.offers, most_rows, (cost, short(row)))?;
@@ -87,7 +87,7 @@ impl Relaxation {
     ) -> Result<(), OutOfMemory> {
         self.offers.clear();
         for row in table.rows_of(vehicle) {
-            let cost = reduced_cost(table, multipliers, row);
+            let cost = table.reduced_cost(multipliers, row);
             if cost < bar && !self.pool.has(row) {
                 offer(&mut self.offers, most_rows, (cost, short(row)))?;
             }
@@ -110,36 +110,11 @@ impl Relaxation {
         let mut least = i64::MAX;
         for row in table.rows_of(vehicle) {
             if !item(&self.is_forbidden, row, true) {
-                least = least.min(reduced_cost(table, multipliers, row));
+                least = least.min(table.reduced_cost(multipliers, row));
             }
         }
         least
     }
-}
-
-/// What a row costs, less the multipliers of its riders, in 1/1024 second.
-pub fn reduced_cost(table: &RowTable, multipliers: &[i64], row: usize) -> i64 {
-    let mut cost = table.cost(row).wrapping_mul(1024);
-    for rider in table.riders_of(row) {
-        cost = cost.wrapping_sub(at(multipliers, *rider as usize));
-    }
-    cost
-}
-
-/// What the riders add to the value of multipliers.
-pub fn value_of_riders(table: &RowTable, multipliers: &[i64]) -> i64 {
-    let most = table.penalty().wrapping_mul(1024);
-    let mut value: i64 = 0;
-    for rider in 0..multipliers.len() {
-        let multiplier = at(multipliers, rider);
-        let part = if table.must(rider) {
-            multiplier
-        } else {
-            multiplier.min(most)
-        };
-        value = value.wrapping_add(part);
-    }
-    value
 }
 
 /// Puts a row among the least ones, of which there are this many at most.

@@ -1,20 +1,20 @@
 -- Idle vehicles and riders who are left out stand at places of the table, each once.
-use Rattle.std.proofs.Common.{◌≡◌, ℕ, ◌<◌, ◌≤◌, Bool, List, [], ◌∷◌, length, get_or, map, filter, All, refl, sym, ap, ◌∙◌, subst, arith}
+use Rattle.std.proofs.Common.{◌≡◌, ℕ, ◌<◌, ◌≤◌, Bool, List, [], length, get_or, map, filter, All, sym, ap, ◌∙◌, subst, arith}
 use Rattle.std.specs.List.{range_with_len}
 use Rattle.std.specs.List.Sorted.{IsStrictlyIncreasing}
 use Rattle.std.proofs.lemmas.List.{length-map, get_or-map}
 use Rattle.std.proofs.lemmas.List.FromFn.{length-range_with_len}
 use Rattle.std.proofs.lemmas.List.Sums.{length-filter, count_by-le-length}
-use Rattle.rebalancing.specs.Matching.{IsMatching}
 use Rattle.request_book.specs.declared.outcome.MoveLine.{MoveLine}
 use Rattle.stop_orders.specs.declared.settled.Settled.{Settled}
 use Rattle.stop_orders.specs.declared.settled_rider.SettledRider.{SettledRider}
 use Rattle.stop_orders.specs.declared.settled_vehicle.SettledVehicle.{SettledVehicle}
 use Rattle.stop_orders.specs.Settled.{rider_at, no_rider, no_vehicle}
 use Rattle.stop_orders.specs.Sound.{IsSound}
-use Rattle.batch_solver.specs.Moves.{AreMoves, move_line}
+use Rattle.batch_solver.specs.Moves.{AreMoves}
+use Rattle.batch_solver.specs.work.Moves.{move_line}
 use Rattle.batch_solver.specs.Told.{rider_id, vehicle_id}
-use Rattle.batch_solver.proofs.lemmas.MoveLemmas.{has_places}
+use Rattle.batch_solver.proofs.lemmas.MoveLemmas.{has_places, none_matched}
 use Rattle.outcome_check.specs.work.Moves.{HaveOwnPlaces}
 use Rattle.outcome_check.proofs.lemmas.OrderLemmas.{rising_once}
 
@@ -49,10 +49,6 @@ pub kept_few : (p : ℕ → Bool) (n : ℕ) → length (filter p (range_with_len
 kept_few p n = let e = length-range_with_len 0 n in let few = count_by-le-length p (range_with_len 0 n) in rw (length-filter p (range_with_len 0 n)) (omega arith)
 
 -- without vehicles there is no move
-none_matched : (tau : ℕ → ℕ → ℕ) (to : List ℕ) (pairs : List (ℕ × ℕ)) → IsMatching tau [] to pairs → pairs ≡ []
-none_matched tau to [] m = refl
-none_matched tau to (p ∷ ps) m = let w = m.within 0 p (omega arith) in absurd (omega (arith, w.0))
-
 pub none_move : (tau : ℕ → ℕ → ℕ) (settled : Settled) (idle left : List ℕ) (moves : List MoveLine) → idle ≡ [] → AreMoves tau settled idle left moves → moves ≡ []
 none_move tau settled idle left moves none are =
     let same : AreMoves tau settled [] left moves = subst (λ (vs : List ℕ). AreMoves tau settled vs left moves) none are in

@@ -22,9 +22,8 @@ use Rattle.batch_solver.specs.Told.{rider_id, told_stop, told_stops}
 use Rattle.batch_solver.specs.Trips.{IsTripOf}
 use Rattle.batch_laws.proofs.lemmas.SortedLemmas.{has_head, has_later, head_or_tail, same_rising}
 use Rattle.batch_laws.proofs.lemmas.GraphLemmas.{graph_in_order, one_place}
-use Rattle.outcome_check.specs.Points.{GivesTrips}
 use Rattle.outcome_check.specs.work.Orders.{HasOwnIds}
-use Rattle.outcome_check.specs.work.Trips.{TellsRow, HasNoRowFor, GiveRows, no_chosen}
+use Rattle.outcome_check.specs.work.Trips.{GivesTrips, TellsRow, HasNoRowFor, GiveRows, no_chosen}
 use Rattle.outcome_check.proofs.lemmas.OrderLemmas.{known_at, told_here, told_long, map_long}
 
 -- between lists in pairs and their places

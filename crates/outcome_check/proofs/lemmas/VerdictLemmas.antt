@@ -1,12 +1,9 @@
 -- Points, asked one after the other.
-use Rattle.std.proofs.Common.{◌≡◌, ℕ, zero, suc, ◌+◌, ◌<◌, ◌≤◌, List, Option, refl, sym, ap, ◌∙◌, subst, ⊎_elim, arith}
+use Rattle.std.proofs.Common.{◌≡◌, ℕ, zero, suc, ◌+◌, ◌<◌, ◌≤◌, refl, sym, ap, ◌∙◌, subst, ⊎_elim, arith}
 use Rattle.std.proofs.lemmas.Bool.{cases_lt}
-use Rattle.request_book.specs.declared.outcome.Planned.{Planned}
-use Rattle.outcome_check.specs.Points.{GivesTrips}
-use Rattle.outcome_check.specs.Posed.{Posed}
-use Rattle.outcome_check.specs.Verdict.{point_place, GivesPlanWith, IsVerdictOf}
-use Rattle.outcome_check.specs.declared.verdict.Point.{Point}
-use Rattle.outcome_check.specs.declared.verdict.Point.TheVariants as point
+use Rattle.outcome_check.specs.Verdict.{point_place, IsVerdictOf}
+use Rattle.batch_solver.specs.declared.point.Point.{Point}
+use Rattle.batch_solver.specs.declared.point.Point.TheVariants as point
 use Rattle.outcome_check.specs.declared.verdict.Verdict.{Verdict}
 use Rattle.outcome_check.specs.declared.verdict.Verdict.TheVariants.{Good, Fails}
 
@@ -36,7 +33,7 @@ back point.Tree = refl
 back point.Best = refl
 back point.Moves = refl
 
-last_place : (q : Point) → point_place q < 9
+pub last_place : (q : Point) → point_place q < 9
 last_place point.Answer = omega arith
 last_place point.Graphs = omega arith
 last_place point.Late = omega arith
@@ -64,7 +61,3 @@ module _ (P : Point → Type 0) where
 pub verdict_of_same : (P Q : Point → Type 0) → ((q : Point) → P q → Q q) → ((q : Point) → Q q → P q) → (v : Verdict) → IsVerdictOf P v → IsVerdictOf Q v
 verdict_of_same P Q there back' Good is = λ q. there q (is q)
 verdict_of_same P Q there back' (Fails p) is = (λ q h. there q (is.0 q h), λ holds. is.1 (back' p holds))
-
--- the trips give this plan
-pub plan_with : (p : Posed) (planned : Planned) (P : List (Option ℕ) → Type 0) (chosen : List (Option ℕ)) → GivesTrips p.points p.tau p.settled p.graph chosen planned.chosen → P chosen → GivesPlanWith p planned P
-plan_with p planned P chosen gives is = record { chosen = chosen; gives = gives; holds = is }

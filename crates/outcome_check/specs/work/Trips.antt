@@ -1,7 +1,9 @@
 -- The row of which a trip tells.
-use Rattle.std.specs.Prelude.{◌≡◌, ℕ, ◌<◌, ◌≤◌, List, [], length, slice_index, slice_index_or}
+use Rattle.std.specs.Prelude.{◌≡◌, ℕ, ◌<◌, ◌≤◌, List, [], Option, length, slice_index, slice_index_or}
 use Rattle.batch_solver.specs.Told.{vehicle_id, told_stops}
+use Rattle.batch_solver.specs.work.Trips.{AreTrips}
 use Rattle.plan_rules.specs.Graph.{Graph, IsRowOf, riders_at, cost_at}
+use Rattle.plan_rules.specs.Plan.{IsPlan}
 use Rattle.request_book.specs.declared.outcome.ChosenTrip.{ChosenTrip}
 use Rattle.stop_orders.specs.Settled.{trip_task}
 use Rattle.stop_orders.specs.Task.{Serves, IsOrderOf, ReachesAll, order_delay}
@@ -25,6 +27,11 @@ pub record TellsRow (points : List ℕ) (tau : ℕ → ℕ → ℕ) (settled : S
 -- no order of the task that reaches all its places has less delay
 abbrev pub IsLeast : (ℕ → ℕ → ℕ) → Task → ℕ → Type 0
 IsLeast tau task delay = (others : List Stop) → IsOrderOf task others → ReachesAll tau task others → delay ≤ order_delay tau task others
+
+-- each vehicle that isn't late has a trip, that of the row of its own that the plan gives it
+pub record GivesTrips (points : List ℕ) (tau : ℕ → ℕ → ℕ) (settled : Settled) (graph : Graph) (chosen : List (Option ℕ)) (trips : List ChosenTrip) : Type 0 where
+  pub plan : IsPlan graph chosen
+  pub trips_given : AreTrips points tau settled graph chosen trips
 
 -- some trip tells of no row of its vehicle
 pub record HasNoRowFor (points : List ℕ) (tau : ℕ → ℕ → ℕ) (settled : Settled) (graph : Graph) (vehicles : List ℕ) (trips : List ChosenTrip) : Type 0 where

@@ -6,7 +6,9 @@ use Rattle.pool_base.specs.Times.{travel_time}
 use Rattle.pool_base.specs.declared.times.Times.{Times}
 use Rattle.batch_snapshot.specs.Batch.{Batch}
 use Rattle.batch_snapshot.specs.declared.vehicle.Vehicle.{Vehicle}
-use Rattle.batch_solver.specs.Outcome.{IsGoodPlan}
+use Rattle.batch_solver.specs.Outcome.{HasGraphsWith}
+use Rattle.batch_solver.specs.work.Outcome.{IsGoodPlan}
+use Rattle.batch_solver.specs.declared.point.Point.TheVariants as point
 use Rattle.promise_check.specs.Requests.{request_at}
 use Rattle.promise_check.specs.Settling.{IsSettled}
 use Rattle.request_book.specs.State.{find_rider, find_vehicle}
@@ -56,8 +58,8 @@ none_filtered (x ∷ xs) = none_filtered xs
 module _ (settings : Settings) (roads : Roads) (s : State) (stops : ℕ → List PlannedStop) (b : Batch) (settled : Settled) (points : List ℕ) (times : Times)
     (kept : IsKept settings roads s stops) (shows : ShowsRiders s b) (early : (id : ℕ) (v : Vehicle) → find_vehicle id s.vehicles ≡ Some v → b.sealed_at ≤ v.time)
     (limits : IsSettled settings points (travel_time times) b settled) (table : AreTravelTimes roads.arcs (map (index_in roads.nodes) points) times)
-    (planned : Planned) (good : IsGoodPlan settings points (travel_time times) settled planned)
-    (k : ℕ) (lk : k < length settled.vehicles) (x : Vehicle) (at : slice_get b.vehicles k ≡ Some x) (t : ChosenTrip) (is : IsTripOf points (travel_time times) settled good.graph good.chosen k t) where
+    (planned : Planned) (good : HasGraphsWith settings points (travel_time times) settled (IsGoodPlan settings planned))
+    (k : ℕ) (lk : k < length settled.vehicles) (x : Vehicle) (at : slice_get b.vehicles k ≡ Some x) (t : ChosenTrip) (is : IsTripOf points (travel_time times) settled good.graph (good.holds point.Plan).chosen k t) where
   abbrev pub trip : List ℕ
   trip = riders_at good.graph is.row
 

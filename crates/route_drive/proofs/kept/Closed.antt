@@ -9,7 +9,9 @@ use Rattle.batch_snapshot.specs.Batch.{Batch}
 use Rattle.batch_snapshot.specs.declared.promise.Promise.{Promise}
 use Rattle.batch_snapshot.specs.declared.rider.Rider.{Rider}
 use Rattle.batch_snapshot.specs.declared.vehicle.Vehicle.{Vehicle}
-use Rattle.batch_solver.specs.Outcome.{IsGoodPlan}
+use Rattle.batch_solver.specs.Outcome.{HasGraphsWith}
+use Rattle.batch_solver.specs.work.Outcome.{IsGoodPlan}
+use Rattle.batch_solver.specs.declared.point.Point.TheVariants as point
 use Rattle.promise_check.specs.Requests.{request_at}
 use Rattle.promise_check.specs.Promised.{is_promised_to, IsLive}
 use Rattle.promise_check.specs.Settling.{IsSettled, HasRightLimit}
@@ -84,7 +86,7 @@ look_up_only key (y ∷ ys) (suc i) x at only = look_up-there key (key x) y ys (
 module _ (settings : Settings) (roads : Roads) (s : State) (stops : ℕ → List PlannedStop) (b : Batch) (settled : Settled) (points : List ℕ) (times : Times)
     (kept : IsKept settings roads s stops) (shows : ShowsRiders s b) (early : (id : ℕ) (v : Vehicle) → find_vehicle id s.vehicles ≡ Some v → b.sealed_at ≤ v.time)
     (limits : IsSettled settings points (travel_time times) b settled) (table : AreTravelTimes roads.arcs (map (index_in roads.nodes) points) times)
-    (planned : Planned) (good : IsGoodPlan settings points (travel_time times) settled planned) where
+    (planned : Planned) (good : HasGraphsWith settings points (travel_time times) settled (IsGoodPlan settings planned)) where
   abbrev riders' : List BookRider
   riders' = map (after_plan b.riders (picks planned.chosen)) s.riders
 
@@ -179,7 +181,7 @@ module _ (settings : Settings) (roads : Roads) (s : State) (stops : ℕ → List
   }
 
   -- a promise is planned again, not later
-  kept_in_plan : (n : ℕ) (p : Promise) → n < length b.riders → (request_at b.riders n).promise ≡ Some p → 1 ≤ times_chosen good.graph good.chosen n
+  kept_in_plan : (n : ℕ) (p : Promise) → n < length b.riders → (request_at b.riders n).promise ≡ Some p → 1 ≤ times_chosen good.graph (good.holds point.Plan).chosen n
   kept_in_plan n p low e =
       let to : is_promised_to p.vehicle (request_at b.riders n) ≡ true = rw e (eq-eqb p.vehicle p.vehicle refl) in
       let live = promise_is_live settings roads s stops b settled points times kept shows early limits table n p.vehicle low to in
@@ -195,7 +197,7 @@ module _ (settings : Settings) (roads : Roads) (s : State) (stops : ℕ → List
       let l = live.within in
       let served = times_served_some good.graph good.graph.held good.graph.vehicles n live.vehicle (omega (arith, c, l)) (ap (λ o. is_in good.graph o n) row.1 ∙ has) in
       let must : must_be_served good.graph n ≡ true = lt-ltb 0 _ (omega (arith, served)) in
-      let one : times_chosen good.graph good.chosen n ≡ 1 = good.found.plan.lawful.kept n must in
+      let one : times_chosen good.graph (good.holds point.Plan).chosen n ≡ 1 = (good.holds point.Plan).holds.lawful.kept n must in
       omega (arith, one)
     where
       holds : (k : ℕ) → IsLive settings (travel_time times) b.riders settled.riders (vehicle_at settled k) → HoldsPromised settings (travel_time times) b.riders settled.riders (vehicle_at settled k) → Contains (promised_to (vehicle_at settled k).id b.riders) n
@@ -216,10 +218,10 @@ module _ (settings : Settings) (roads : Roads) (s : State) (stops : ℕ → List
           → IsPlaced' settings roads s stops b settled points times kept shows early limits table planned good n → IsBound planned_state z limit
       again p t le n low name promise (IsPlaced'.stays out) = absurd (
           let one = kept_in_plan n p low promise in
-          let some = times_served_found good.graph good.chosen good.graph.vehicles n one in
+          let some = times_served_found good.graph (good.holds point.Plan).chosen good.graph.vehicles n one in
           let c = good.exact.vehicle_total in
           let l = some.1 in
-          let choice = in_choice good.graph (choice_at good.chosen some.0) n some.2 in
+          let choice = in_choice good.graph (choice_at (good.holds point.Plan).chosen some.0) n some.2 in
           out some.0 choice.0 (omega (arith, c, l)) choice.1 choice.2)
       again p t le n low name promise (IsPlaced'.rides j other i l at) =
           let id : (request_at b.riders (get_or (riders_at good.graph other.is.row) i 0)).id ≡ was.of.id = ap (λ m. (request_at b.riders m).id) at ∙ name in

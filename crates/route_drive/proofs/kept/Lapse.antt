@@ -11,7 +11,9 @@ use Rattle.pool_base.specs.declared.times.Times.{Times}
 use Rattle.batch_snapshot.specs.Batch.{Batch}
 use Rattle.batch_snapshot.specs.declared.promise.Promise.{Promise}
 use Rattle.batch_snapshot.specs.declared.vehicle.Vehicle.{Vehicle}
-use Rattle.batch_solver.specs.Outcome.{IsGoodPlan}
+use Rattle.batch_solver.specs.Outcome.{HasGraphsWith}
+use Rattle.batch_solver.specs.work.Outcome.{IsGoodPlan}
+use Rattle.batch_solver.specs.declared.point.Point.TheVariants as point
 use Rattle.batch_solver.specs.Trips.{IsLate}
 use Rattle.promise_check.specs.Requests.{request_at}
 use Rattle.promise_check.specs.Promised.{is_promised_to, IsLive}
@@ -125,10 +127,10 @@ module _ (settings : Settings) (roads : Roads) (s : State) (stops : ℕ → List
   pub all_in_time : All (λ v. v.late ≡ false) settled.vehicles × All (λ r. r.lapsed ≡ false) settled.riders
   all_in_time = (All-from_get_or (λ v. v.late ≡ false) settled.vehicles no_vehicle not_late, All-from_get_or (λ r. r.lapsed ≡ false) settled.riders no_rider not_lapsed)
 
-  pub nothing_lapses : (planned : Planned) → IsGoodPlan settings points (travel_time times) settled planned → (planned.late ≡ []) × (planned.lapsed ≡ [])
+  pub nothing_lapses : (planned : Planned) → HasGraphsWith settings points (travel_time times) settled (IsGoodPlan settings planned) → (planned.late ≡ []) × (planned.lapsed ≡ [])
   nothing_lapses planned good = (
     none_zip (IsLate points (travel_time times) settled) (filter (λ v. (vehicle_at settled v).late) (range_with_len 0 (length settled.vehicles))) planned.late
-        (filter_none (λ v. (vehicle_at settled v).late) (range_with_len 0 (length settled.vehicles)) (along_range (λ v. (vehicle_at settled v).late ≡ false) (length settled.vehicles) not_late)) good.late,
-    good.lapsed ∙ ap (map (λ r. r.id)) (filter_none (λ r. r.lapsed) settled.riders
+        (filter_none (λ v. (vehicle_at settled v).late) (range_with_len 0 (length settled.vehicles)) (along_range (λ v. (vehicle_at settled v).late ≡ false) (length settled.vehicles) not_late)) (good.holds point.Late),
+    (good.holds point.Graphs).lapsed ∙ ap (map (λ r. r.id)) (filter_none (λ r. r.lapsed) settled.riders
         (recursion_from_All (λ r. r.lapsed ≡ false) settled.riders (All-from_get_or (λ r. r.lapsed ≡ false) settled.riders no_rider not_lapsed))),
   )

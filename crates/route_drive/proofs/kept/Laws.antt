@@ -1,7 +1,8 @@
 -- The laws of driven days.
 use Rattle.std.proofs.Common.{[], arith, ◌≡◌, ◌+◌, ◌<◌, Bool, true, false, cond, map, None, refl, sym, ap, ◌∙◌, subst}
 use Rattle.pool_base.specs.Times.{travel_time}
-use Rattle.batch_solver.specs.Outcome.{IsGoodAnswer}
+use Rattle.batch_solver.specs.Outcome.{AnswersWith}
+use Rattle.batch_solver.specs.work.Outcome.{IsGoodPlan}
 use Rattle.request_book.specs.Closing.{after_answer, after_plan, picks}
 use Rattle.request_book.specs.Consistent.{IsConsistent, NamesNodes}
 use Rattle.request_book.specs.Step.{step}
@@ -63,7 +64,7 @@ no_promise_lapses settings roads s stops b outcome kept shows early sealed good 
   tells = by outcome.answer good.answer;
 }
   where
-    by : (a : Answer) → IsGoodAnswer settings good.points (travel_time good.times) good.settled a → TellsNothingLate a
+    by : (a : Answer) → AnswersWith settings good.points (travel_time good.times) good.settled (IsGoodPlan settings) a → TellsNothingLate a
     by answer.Overflow is = tt
     by (answer.Planned planned) is = nothing_lapses settings roads s stops b good.settled good.points good.times kept shows early good.limits good.table planned is
 
@@ -80,7 +81,7 @@ closes_keep settings roads s stops b outcome kept shows early sealed good = by o
     plan : (planned : Planned) → outcome.answer ≡ answer.Planned planned → closed s b outcome ≡ record s { riders = map (after_plan b.riders (picks planned.chosen)) s.riders; sealed = None }
     plan planned e = ap (λ a. record s { riders = after_answer b.riders a s.riders; sealed = None }) e
 
-    by : (a : Answer) → outcome.answer ≡ a → IsGoodAnswer settings good.points (travel_time good.times) good.settled a → IsClosedOn settings roads s stops b outcome
+    by : (a : Answer) → outcome.answer ≡ a → AnswersWith settings good.points (travel_time good.times) good.settled (IsGoodPlan settings) a → IsClosedOn settings roads s stops b outcome
     by answer.Overflow e good_answer = record {
       is = is;
       kept = subst (λ a. IsKept settings roads (closed s b outcome) (stops_after a stops)) (sym e)

@@ -10,7 +10,9 @@ use Rattle.batch_snapshot.specs.Batch.{Batch}
 use Rattle.batch_snapshot.specs.declared.promise.Promise.{Promise}
 use Rattle.batch_snapshot.specs.declared.rider.Rider.{Rider}
 use Rattle.batch_snapshot.specs.declared.vehicle.Vehicle.{Vehicle}
-use Rattle.batch_solver.specs.Outcome.{IsGoodPlan}
+use Rattle.batch_solver.specs.Outcome.{HasGraphsWith}
+use Rattle.batch_solver.specs.work.Outcome.{IsGoodPlan}
+use Rattle.batch_solver.specs.declared.point.Point.TheVariants as point
 use Rattle.promise_check.specs.Requests.{request_at}
 use Rattle.promise_check.specs.Settling.{IsSettled, HasRightLimit}
 use Rattle.request_book.specs.Rider.{shown}
@@ -108,7 +110,7 @@ after_stays batch ps r active = rw active refl
 module _ (settings : Settings) (roads : Roads) (s : State) (stops : ℕ → List PlannedStop) (b : Batch) (settled : Settled) (points : List ℕ) (times : Times)
     (kept : IsKept settings roads s stops) (shows : ShowsRiders s b) (early : (id : ℕ) (v : Vehicle) → find_vehicle id s.vehicles ≡ Some v → b.sealed_at ≤ v.time)
     (limits : IsSettled settings points (travel_time times) b settled) (table : AreTravelTimes roads.arcs (map (index_in roads.nodes) points) times)
-    (planned : Planned) (good : IsGoodPlan settings points (travel_time times) settled planned) where
+    (planned : Planned) (good : HasGraphsWith settings points (travel_time times) settled (IsGoodPlan settings planned)) where
   abbrev pub ps : List PlanPick
   ps = picks planned.chosen
 
@@ -141,7 +143,7 @@ module _ (settings : Settings) (roads : Roads) (s : State) (stops : ℕ → List
     pub at : slice_get b.vehicles k ≡ Some x
     pub t : ChosenTrip
     pub chosen : slice_get planned.chosen k ≡ Some t
-    pub is : IsTripOf points (travel_time times) settled good.graph good.chosen k t
+    pub is : IsTripOf points (travel_time times) settled good.graph (good.holds point.Plan).chosen k t
 
   pub has_trip : (k : ℕ) → k < length settled.vehicles → HasTrip k
   has_trip k h =
@@ -161,7 +163,7 @@ module _ (settings : Settings) (roads : Roads) (s : State) (stops : ℕ → List
   member_low k own i h = (trip_is settings roads s stops b settled points times kept shows early limits table planned good k own.is.row own.within own.is.chooses).0.within i 0 h
 
   -- a request that isn't in a trip has no pickup in it
-  out_of_trip : (j : ℕ) (u : ChosenTrip) (r : ℕ) → slice_get planned.chosen j ≡ Some u → r < length b.riders → ((row : ℕ) → choice_at good.chosen j ≡ Some row → has_node (riders_at good.graph row) r ≡ true → ⊥)
+  out_of_trip : (j : ℕ) (u : ChosenTrip) (r : ℕ) → slice_get planned.chosen j ≡ Some u → r < length b.riders → ((row : ℕ) → choice_at (good.holds point.Plan).chosen j ≡ Some row → has_node (riders_at good.graph row) r ≡ true → ⊥)
       → look_up (λ (p : PlanPick). p.rider) (request_at b.riders r).id (trip_picks u.vehicle u.stops.items) ≡ None
   out_of_trip j u r e low out =
       let back = trip_back settings roads s stops b settled points times kept shows early limits table planned good j u e in
@@ -189,7 +191,7 @@ module _ (settings : Settings) (roads : Roads) (s : State) (stops : ℕ → List
       ap (λ o. unwrap_or (option_map (λ (p : PlanPick). Promised p.promise) o) Waiting) found
       ∙ ap (λ v. Promised (record { vehicle = v; pickup = (member_promised k own i h).second })) (trip_vehicle k own)
 
-  pub left_status : (r : ℕ) → r < length b.riders → ((k row : ℕ) → k < length settled.vehicles → choice_at good.chosen k ≡ Some row → has_node (riders_at good.graph row) r ≡ true → ⊥)
+  pub left_status : (r : ℕ) → r < length b.riders → ((k row : ℕ) → k < length settled.vehicles → choice_at (good.holds point.Plan).chosen k ≡ Some row → has_node (riders_at good.graph row) r ≡ true → ⊥)
       → planned_status (picks planned.chosen) (request_at b.riders r).id ≡ Waiting
   unfolding picks
   left_status r low out =
@@ -200,25 +202,25 @@ module _ (settings : Settings) (roads : Roads) (s : State) (stops : ℕ → List
   -- where a request is: in a trip, or in none
   pub data IsPlaced' (r : ℕ) : Type 0 where
     rides : (k : ℕ) (own : HasTrip k) (i : ℕ) → i < length (riders_at good.graph own.is.row) → get_or (riders_at good.graph own.is.row) i 0 ≡ r → IsPlaced' r
-    stays : ((k row : ℕ) → k < length settled.vehicles → choice_at good.chosen k ≡ Some row → has_node (riders_at good.graph row) r ≡ true → ⊥) → IsPlaced' r
+    stays : ((k row : ℕ) → k < length settled.vehicles → choice_at (good.holds point.Plan).chosen k ≡ Some row → has_node (riders_at good.graph row) r ≡ true → ⊥) → IsPlaced' r
 
-  pub rides_once : (r : ℕ) → 1 ≤ times_chosen good.graph good.chosen r → IsPlaced' r
+  pub rides_once : (r : ℕ) → 1 ≤ times_chosen good.graph (good.holds point.Plan).chosen r → IsPlaced' r
   rides_once r h =
-      let some = times_served_found good.graph good.chosen good.graph.vehicles r h in
+      let some = times_served_found good.graph (good.holds point.Plan).chosen good.graph.vehicles r h in
       let c = good.exact.vehicle_total in
       let l = some.1 in
       let own = has_trip some.0 (omega (arith, c, l)) in
-      let choice = in_choice good.graph (choice_at good.chosen some.0) r some.2 in
+      let choice = in_choice good.graph (choice_at (good.holds point.Plan).chosen some.0) r some.2 in
       let same : choice.0 ≡ own.is.row = (let e : Some choice.0 ≡ Some own.is.row = sym choice.1 ∙ own.is.chooses in cc) in
       let has : has_node (riders_at good.graph own.is.row) r ≡ true = subst (λ row. has_node (riders_at good.graph row) r ≡ true) same choice.2 in
       rides some.0 own (index_in (riders_at good.graph own.is.row) r) (has_index (riders_at good.graph own.is.row) r has) (name_at (riders_at good.graph own.is.row) r (has_index (riders_at good.graph own.is.row) r has))
 
   pub where_is : (r : ℕ) → IsPlaced' r
-  where_is r = elim (cases_lt 0 (times_chosen good.graph good.chosen r)) [
+  where_is r = elim (cases_lt 0 (times_chosen good.graph (good.holds point.Plan).chosen r)) [
     | inl some ↦ rides_once r (omega (arith, some))
     | inr none ↦ stays (λ k row h choose has.
         let c = good.exact.vehicle_total in
-        let one = times_served_some good.graph good.chosen good.graph.vehicles r k (omega (arith, c, h)) (ap (λ o. is_in good.graph o r) choose ∙ has) in
+        let one = times_served_some good.graph (good.holds point.Plan).chosen good.graph.vehicles r k (omega (arith, c, h)) (ap (λ o. is_in good.graph o r) choose ∙ has) in
         omega (arith, one, none))
   ]
 

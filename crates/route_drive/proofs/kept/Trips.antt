@@ -10,7 +10,9 @@ use Rattle.pool_base.specs.declared.times.Times.{Times}
 use Rattle.batch_snapshot.specs.Batch.{Batch}
 use Rattle.batch_snapshot.specs.declared.rider.Rider.{Rider}
 use Rattle.batch_snapshot.specs.declared.vehicle.Vehicle.{Vehicle}
-use Rattle.batch_solver.specs.Outcome.{IsGoodPlan}
+use Rattle.batch_solver.specs.Outcome.{HasGraphsWith}
+use Rattle.batch_solver.specs.work.Outcome.{IsGoodPlan}
+use Rattle.batch_solver.specs.declared.point.Point.TheVariants as point
 use Rattle.promise_check.specs.Requests.{request_at}
 use Rattle.promise_check.specs.Settling.{IsSettled}
 use Rattle.request_book.specs.State.{find_vehicle}
@@ -87,44 +89,44 @@ same_number names q i distinct lq li = elim (cases_eq q i) [
 module _ (settings : Settings) (roads : Roads) (s : State) (stops : ℕ → List PlannedStop) (b : Batch) (settled : Settled) (points : List ℕ) (times : Times)
     (kept : IsKept settings roads s stops) (shows : ShowsRiders s b) (early : (id : ℕ) (v : Vehicle) → find_vehicle id s.vehicles ≡ Some v → b.sealed_at ≤ v.time)
     (limits : IsSettled settings points (travel_time times) b settled) (table : AreTravelTimes roads.arcs (map (index_in roads.nodes) points) times)
-    (planned : Planned) (good : IsGoodPlan settings points (travel_time times) settled planned) where
-  trips : AllZip (IsTripOf points (travel_time times) settled good.graph good.chosen) (range_with_len 0 (length settled.vehicles)) planned.chosen
-  trips = subst (λ xs. AllZip (IsTripOf points (travel_time times) settled good.graph good.chosen) xs planned.chosen)
+    (planned : Planned) (good : HasGraphsWith settings points (travel_time times) settled (IsGoodPlan settings planned)) where
+  trips : AllZip (IsTripOf points (travel_time times) settled good.graph (good.holds point.Plan).chosen) (range_with_len 0 (length settled.vehicles)) planned.chosen
+  trips = subst (λ xs. AllZip (IsTripOf points (travel_time times) settled good.graph (good.holds point.Plan).chosen) xs planned.chosen)
       (filter_all (λ v. not (vehicle_at settled v).late) (range_with_len 0 (length settled.vehicles)) (along_range (λ v. not (vehicle_at settled v).late ≡ true) (length settled.vehicles)
       (λ k h. ap not (not_late settings roads s stops b settled points times kept shows early limits table k h))))
-      good.trips
+      (good.holds point.Plan).trips
 
-  pub trip_of : (k : ℕ) → k < length settled.vehicles → (t : ChosenTrip) × (slice_get planned.chosen k ≡ Some t) × IsTripOf points (travel_time times) settled good.graph good.chosen k t
-  trip_of k h = zip_get (IsTripOf points (travel_time times) settled good.graph good.chosen) (range_with_len 0 (length settled.vehicles)) planned.chosen k k trips (range_get (length settled.vehicles) k h)
+  pub trip_of : (k : ℕ) → k < length settled.vehicles → (t : ChosenTrip) × (slice_get planned.chosen k ≡ Some t) × IsTripOf points (travel_time times) settled good.graph (good.holds point.Plan).chosen k t
+  trip_of k h = zip_get (IsTripOf points (travel_time times) settled good.graph (good.holds point.Plan).chosen) (range_with_len 0 (length settled.vehicles)) planned.chosen k k trips (range_get (length settled.vehicles) k h)
 
-  pub trip_back : (i : ℕ) (t : ChosenTrip) → slice_get planned.chosen i ≡ Some t → (i < length settled.vehicles) × IsTripOf points (travel_time times) settled good.graph good.chosen i t
+  pub trip_back : (i : ℕ) (t : ChosenTrip) → slice_get planned.chosen i ≡ Some t → (i < length settled.vehicles) × IsTripOf points (travel_time times) settled good.graph (good.holds point.Plan).chosen i t
   trip_back i t e =
-      let back = zip_back (IsTripOf points (travel_time times) settled good.graph good.chosen) (range_with_len 0 (length settled.vehicles)) planned.chosen i t trips e in
+      let back = zip_back (IsTripOf points (travel_time times) settled good.graph (good.holds point.Plan).chosen) (range_with_len 0 (length settled.vehicles)) planned.chosen i t trips e in
       let at = range_within (length settled.vehicles) i back.0 back.1 in
-      (at.0, subst (λ a. IsTripOf points (travel_time times) settled good.graph good.chosen a t) at.1 back.2)
+      (at.0, subst (λ a. IsTripOf points (travel_time times) settled good.graph (good.holds point.Plan).chosen a t) at.1 back.2)
 
-  lawful : IsLawful good.graph good.chosen
-  lawful = good.found.plan.lawful
+  lawful : IsLawful good.graph (good.holds point.Plan).chosen
+  lawful = (good.holds point.Plan).holds.lawful
 
-  pub row_of : (k row : ℕ) → k < length settled.vehicles → choice_at good.chosen k ≡ Some row → IsRowOf good.graph k row
-  row_of k row h e = let c = good.exact.vehicle_total in plan_choice good.graph good.chosen k row lawful.plan (omega (arith, c, h)) e
+  pub row_of : (k row : ℕ) → k < length settled.vehicles → choice_at (good.holds point.Plan).chosen k ≡ Some row → IsRowOf good.graph k row
+  row_of k row h e = let c = good.exact.vehicle_total in plan_choice good.graph (good.holds point.Plan).chosen k row lawful.plan (omega (arith, c, h)) e
 
-  pub trip_is : (k row : ℕ) → k < length settled.vehicles → choice_at good.chosen k ≡ Some row → IsTrip (length b.riders) (riders_at good.graph row) × (length (riders_at good.graph row) ≤ settings.trip)
+  pub trip_is : (k row : ℕ) → k < length settled.vehicles → choice_at (good.holds point.Plan).chosen k ≡ Some row → IsTrip (length b.riders) (riders_at good.graph row) × (length (riders_at good.graph row) ≤ settings.trip)
   trip_is k row h e =
       let own = row_of k row h e in
       let right = good.exact.right row no_row own.within in
       (subst (λ n. IsTrip n (riders_at good.graph row)) limits.rider_count right.served.riders, right.served.size)
 
   -- no rider is in two trips
-  pub one_trip : (k j row other r : ℕ) → k < length settled.vehicles → j < length settled.vehicles → choice_at good.chosen k ≡ Some row → choice_at good.chosen j ≡ Some other
+  pub one_trip : (k j row other r : ℕ) → k < length settled.vehicles → j < length settled.vehicles → choice_at (good.holds point.Plan).chosen k ≡ Some row → choice_at (good.holds point.Plan).chosen j ≡ Some other
       → has_node (riders_at good.graph row) r ≡ true → has_node (riders_at good.graph other) r ≡ true → k ≡ j
   one_trip k j row other r lk lj ek ej hk hj = elim (cases_eq k j) [
     | inl e ↦ e
     | inr ne ↦ absurd (
         let c = good.exact.vehicle_total in
-        let two = count_below_two good.graph.vehicles (λ v. is_in good.graph (choice_at good.chosen v) r) k j (omega (arith, c, lk)) (omega (arith, c, lj)) ne
+        let two = count_below_two good.graph.vehicles (λ v. is_in good.graph (choice_at (good.holds point.Plan).chosen v) r) k j (omega (arith, c, lk)) (omega (arith, c, lj)) ne
         (ap (λ o. is_in good.graph o r) ek ∙ hk) (ap (λ o. is_in good.graph o r) ej ∙ hj) in
-        let count = times_served_as_count good.graph good.chosen good.graph.vehicles r in
+        let count = times_served_as_count good.graph (good.holds point.Plan).chosen good.graph.vehicles r in
         let once = lawful.once r in
         omega (arith, two, count, once))
   ]

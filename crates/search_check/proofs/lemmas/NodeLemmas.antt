@@ -13,8 +13,8 @@ use Rattle.plan_rules.specs.declared.node.Node.{Node}
 use Rattle.plan_rules.specs.declared.node.Node.TheVariants.{Branch, Leaf, Dead}
 use Rattle.plan_rules.proofs.lemmas.ReadLemmas.{places_append, places_push}
 use Rattle.plan_rules.proofs.lemmas.UsableLemmas.{Agree, leaf_value_agrees, first_fit_value_agrees}
-use Rattle.assignment_search.specs.Found.{IsAtLeastFirstFit, IsBranchJustified, IsJustified}
-use Rattle.search_check.specs.work.Nodes.{HasMultipliers, IsFairNode, IsLimit}
+use Rattle.assignment_search.specs.Found.{IsFairNode, IsJustified}
+use Rattle.search_check.specs.work.Nodes.{HasMultipliers, IsLimit}
 use Rattle.search_check.proofs.lemmas.FaultLemmas.{reads_rest}
 
 pub has_multipliers : (g : Graph) (usable : Usable) (n : Node) → IsSoundNode g usable n → HasMultipliers g n
@@ -23,24 +23,16 @@ has_multipliers g usable Dead sound = tt
 has_multipliers g usable (Branch v k) sound = tt
 
 -- what is fair at some rows is fair at rows that agree
-leaf_agrees : (g : Graph) (u w : Usable) (n : Node) → Agree g u w → IsAtLeastFirstFit g u n → IsAtLeastFirstFit g w n
-leaf_agrees g u w (Leaf ms) agree h = subst (λ (z : ℤ). z ≤ℤ leaf_value g w ms) (first_fit_value_agrees g u w agree) (subst (λ (z : ℤ). first_fit_value g u ≤ℤ z) (leaf_value_agrees g u w ms agree) h)
-leaf_agrees g u w Dead agree h = tt
-leaf_agrees g u w (Branch v k) agree h = tt
-
-branch_agrees : (g : Graph) (bound : ℤ) (u w : Usable) (n : Node) → Agree g u w → IsBranchJustified g bound u n → IsBranchJustified g bound w n
-branch_agrees g bound u w (Leaf ms) agree h = tt
-branch_agrees g bound u w Dead agree h = tt
-branch_agrees g bound u w (Branch v k) agree h =
+pub fair_agrees : (g : Graph) (bound : ℤ) (u w : Usable) (n : Node) → Agree g u w → IsFairNode g bound u n → IsFairNode g bound w n
+fair_agrees g bound u w (Leaf ms) agree h = subst (λ (z : ℤ). z ≤ℤ leaf_value g w ms) (first_fit_value_agrees g u w agree) (subst (λ (z : ℤ). first_fit_value g u ≤ℤ z) (leaf_value_agrees g u w ms agree) h)
+fair_agrees g bound u w Dead agree h = tt
+fair_agrees g bound u w (Branch v k) agree h =
     let e = first_fit_value_agrees g u w agree in
     record {
       at_most = subst (λ (z : ℤ). rounded_up z ≤ℤ bound) e h.at_most;
       below_held = subst (λ (z : ℤ). rounded_up z <ℤ pos (cost_of g g.held)) e h.below_held;
       below_greedy = λ chosen is lawful. subst (λ (z : ℤ). rounded_up z <ℤ pos (cost_of g chosen)) e (h.below_greedy chosen is lawful);
     }
-
-pub fair_agrees : (g : Graph) (bound : ℤ) (u w : Usable) (n : Node) → Agree g u w → IsFairNode g bound u n → IsFairNode g bound w n
-fair_agrees g bound u w n agree fair = record { leaf = leaf_agrees g u w n agree fair.leaf; branch = branch_agrees g bound u w n agree fair.branch }
 
 pub below_limit : (g : Graph) (bound : ℤ) (usable : Usable) (limit : ℕ) → IsLimit g limit → IsJustified g bound usable → rounded_up (first_fit_value g usable) <ℤ pos limit
 below_limit g bound usable limit is just = ⊎_elim

@@ -1,8 +1,6 @@
-use Rattle.std.specs.Prelude.{◌≡◌, ◌⊎◌, ℕ, ◌≤◌, ℤ, List, Option, length}
-use Rattle.assignment_search.specs.Found.{IsAtLeastFirstFit, IsBranchJustified}
+use Rattle.std.specs.Prelude.{◌≡◌, ◌⊎◌, ℕ, ◌≤◌, List, Option, length}
 use Rattle.plan_rules.specs.Graph.{Graph}
 use Rattle.plan_rules.specs.Greedy.{IsGreedy}
-use Rattle.plan_rules.specs.Multipliers.{Usable}
 use Rattle.plan_rules.specs.Plan.{IsLawful, cost_of}
 use Rattle.plan_rules.specs.declared.node.Node.{Node}
 use Rattle.plan_rules.specs.declared.node.Node.TheVariants.{Branch, Leaf, Dead}
@@ -12,11 +10,6 @@ abbrev pub HasMultipliers : Graph → Node → Type 0
 HasMultipliers g (Leaf ms) = length ms ≡ g.riders
 HasMultipliers g Dead = Unit {0}
 HasMultipliers g (Branch v k) = Unit {0}
-
--- a leaf's value is at least the first-fit one, and a branch was worth making
-pub record IsFairNode (g : Graph) (bound : ℤ) (usable : Usable) (node : Node) : Type 0 where
-  pub leaf : IsAtLeastFirstFit g usable node
-  pub branch : IsBranchJustified g bound usable node
 
 -- the lesser of the cost of the held plan and of that of the greedy one, where that is lawful
 pub record IsLimit (g : Graph) (limit : ℕ) : Type 0 where

@@ -1,4 +1,4 @@
-use Rattle.std.proofs.Common.{◌≡◌, ◌+◌, ◌-◌, ◌<◌, ◌≤◌, ℕ, suc, take, drop, List, [], ◌∷◌, ◌++◌, length, get_or, Option, ℤ, pos, ◌≤ℤ◌, ◌<ℤ◌, sym, ap, ◌∙◌, subst, inl, inr, arith, to_z, of_z}
+use Rattle.std.proofs.Common.{◌≡◌, ◌+◌, ◌-◌, ◌<◌, ◌≤◌, ℕ, suc, take, drop, List, [], ◌∷◌, ◌++◌, length, get_or, Option, ℤ, pos, ◌≤ℤ◌, ◌<ℤ◌, sym, ap, ◌∙◌, subst, arith, to_z, of_z}
 use mir.Syntax.{w128}
 use Rattle.std.proofs.lemmas.Int.{ints, to_z-of_z}
 use Rattle.plan_rules.specs.Plan.{cost_of}
@@ -6,14 +6,14 @@ use Rattle.plan_rules.specs.Tree.{every_row, rounded_up}
 use Rattle.plan_rules.specs.declared.node.Node.{Node}
 use Rattle.plan_rules.specs.declared.node.Node.TheVariants.{Branch, Leaf}
 use Rattle.plan_rules.specs.Size.{IsSmallSum}
-use Rattle.assignment_search.specs.Found.{IsRightPlan}
+use Rattle.assignment_search.specs.Found.{IsBestNear}
 use Rattle.assignment_search.specs.work.Growth.{IsGrown, IsLowest}
 use Rattle.assignment_search.specs.work.OpenLeaves.{AreOpen}
 use Rattle.assignment_search.specs.work.Next.{IsNext}
 use Rattle.assignment_search.specs.declared.step.Outcome.{Outcome}
 use Rattle.assignment_search.specs.declared.step.Outcome.TheVariants.{Full, Fixed, Parted}
 use Rattle.assignment_search.proofs.EditLemmas.{edit_length}
-use Rattle.assignment_search.proofs.AnswerLemmas.{small_back, new_end_small, so_far_start, so_far_leaf, so_far_raised, so_far_grow, lowest_small, right_from_least, low_is_bound, answer_found}
+use Rattle.assignment_search.proofs.AnswerLemmas.{small_back, new_end_small, so_far_start, so_far_leaf, so_far_raised, so_far_grow, lowest_small, answer_met, answer_full}
 use Rattle.assignment_search.proofs.OpenLemmas.{lowest_at}
 use Rattle.assignment_search.proofs.branch_and_bound.branch.Goals as goal
 
@@ -170,13 +170,10 @@ returns-in-Fixed c =
     let said : IsNext g nodes values p now budget c.in_ok-ends.field-0 = subst (λ (ns : List Node). IsNext g ns values p now budget c.in_ok-ends.field-0) c.deref-in-loop-values.ensures.value
     (subst (λ (zs : List ℤ). IsNext g c.deref-in-loop-values.result.now zs p now budget c.in_ok-ends.field-0) c.deref-in-loop-values-2.ensures.value c.in_ok-ends.ensures) in
     let fixed : IsNext g nodes values p now budget (Fixed best) = subst (IsNext g nodes values p now budget) c.in-Fixed.is said in
-    let found = c.found_of-in-Fixed.result in
-    let costs : found.cost ≡ cost_of g best = c.found_of-in-Fixed.ensures.cost in
-    let met : pos found.cost ≤ℤ low = subst (λ (n : ℕ). pos n ≤ℤ low) (sym costs) (fixed.1) in
-    let right = right_from_least g best found.cost low good (fixed.0) costs met (low_is_bound g limit p nodes values good (so_far_raised g budget limit nodes values p tree lowest) lowest) in
     let back : to_z w128 (of_z w128 c.bound_at-bound.result) ≡ c.bound_at-bound.result = to_z-of_z w128 c.bound_at-bound.result (record { sfits = c.bound_at-bound.type_inv }) in
-    answer_found g budget limit p best nodes values found good tree lowest c.loop-values.invariant.held c.loop-values.invariant.greedy right (inl met) c.found_of-in-Fixed.ensures.plan
-    (c.found_of-in-Fixed.ensures.bound ∙ back ∙ c.bound_at-bound.ensures ∙ ap (λ (zs : List ℤ). rounded_up (get_or zs p (pos 0))) c.deref.ensures.value) c.found_of-in-Fixed.ensures.tree
+    let made = c.found_of-in-Fixed.ensures in
+    answer_met g budget limit p nodes values c.requires.good tree lowest c.loop-values.invariant.held c.loop-values.invariant.greedy best (fixed.0) c.found_of-in-Fixed.result made.plan made.cost
+    (made.bound ∙ back ∙ c.bound_at-bound.ensures ∙ ap (λ (zs : List ℤ). rounded_up (get_or zs p (pos 0))) c.deref.ensures.value) made.tree (fixed.1)
 
 pub returns-in-Met : goal.returns-in-Met
 returns-in-Met c =
@@ -195,13 +192,11 @@ returns-in-Met c =
     let said : IsNext g nodes values p now budget c.in_ok-ends.field-0 = subst (λ (ns : List Node). IsNext g ns values p now budget c.in_ok-ends.field-0) c.deref-in-loop-values.ensures.value
     (subst (λ (zs : List ℤ). IsNext g c.deref-in-loop-values.result.now zs p now budget c.in_ok-ends.field-0) c.deref-in-loop-values-2.ensures.value c.in_ok-ends.ensures) in
     let reached : pos now ≤ℤ low = subst (IsNext g nodes values p now budget) c.in-Met.is said in
-    let found = c.found_of.result in
-    let costs : found.cost ≡ cost_of g plan = c.found_of.ensures.cost in
-    let met : pos found.cost ≤ℤ low = subst (λ (n : ℕ). pos n ≤ℤ low) (c.loop-values.invariant.costs ∙ sym costs) reached in
-    let right = right_from_least g plan found.cost low good c.loop-values.invariant.lawful costs met (low_is_bound g limit p nodes values good (so_far_raised g budget limit nodes values p tree lowest) lowest) in
     let back : to_z w128 (of_z w128 c.bound_at-bound.result) ≡ c.bound_at-bound.result = to_z-of_z w128 c.bound_at-bound.result (record { sfits = c.bound_at-bound.type_inv }) in
-    answer_found g budget limit p plan nodes values found good tree lowest c.loop-values.invariant.held c.loop-values.invariant.greedy right (inl met) c.found_of.ensures.plan
-    (c.found_of.ensures.bound ∙ back ∙ c.bound_at-bound.ensures ∙ ap (λ (zs : List ℤ). rounded_up (get_or zs p (pos 0))) c.deref.ensures.value) c.found_of.ensures.tree
+    let made = c.found_of.ensures in
+    answer_met g budget limit p nodes values c.requires.good tree lowest c.loop-values.invariant.held c.loop-values.invariant.greedy plan c.loop-values.invariant.lawful c.found_of.result made.plan made.cost
+    (made.bound ∙ back ∙ c.bound_at-bound.ensures ∙ ap (λ (zs : List ℤ). rounded_up (get_or zs p (pos 0))) c.deref.ensures.value) made.tree
+    (subst (λ (n : ℕ). pos n ≤ℤ low) c.loop-values.invariant.costs reached)
 
 pub returns-in-Full : goal.returns-in-Full
 returns-in-Full c =
@@ -215,21 +210,18 @@ returns-in-Full c =
     let good = c.requires.good in
     let tree = c.loop-values.invariant.tree in
     let best : List (Option ℕ) = c.in_ok-best-in-Full.best in
-    let found = c.found_of-in-Full.result in
     let lowest : IsLowest nodes values p = lowest_at c.args.graph.now c.args.budget c.cost_of-limit.result c.loop-values.leaves nodes values p c.requires.good c.loop-values.invariant.tree c.loop-values.invariant.open_leaves c.first-place.ensures.lowest in
     let said : IsNext g nodes values p now budget c.in_ok-ends.field-0 = subst (λ (ns : List Node). IsNext g ns values p now budget c.in_ok-ends.field-0) c.deref-in-loop-values.ensures.value
     (subst (λ (zs : List ℤ). IsNext g c.deref-in-loop-values.result.now zs p now budget c.in_ok-ends.field-0) c.deref-in-loop-values-2.ensures.value c.in_ok-ends.ensures) in
     let spent : IsNext g nodes values p now budget Full = subst (IsNext g nodes values p now budget) c.in-Full.is said in
-    let costs : found.cost ≡ cost_of g best = c.found_of-in-Full.ensures.cost in
     let less = c.in_ok-best-in-Full.ensures.cost in
     let inv = c.loop-values.invariant in
-    let right : IsRightPlan g best found.cost = record {
-      lawful = c.in_ok-best-in-Full.ensures.lawful;
-      costs = costs;
-      held = omega (arith, costs, less, inv.costs, inv.under, inv.held);
-      greedy = λ chosen is fair. let least = inv.greedy chosen is fair in omega (arith, costs, less, inv.costs, inv.under, least);
+    let near : IsBestNear g best = record {
+      held = omega (arith, less, inv.costs, inv.under, inv.held);
+      greedy = λ chosen is fair. let least = inv.greedy chosen is fair in omega (arith, less, inv.costs, inv.under, least);
       change = c.in_ok-best-in-Full.ensures.best;
     } in
     let back : to_z w128 (of_z w128 c.bound_at-bound.result) ≡ c.bound_at-bound.result = to_z-of_z w128 c.bound_at-bound.result (record { sfits = c.bound_at-bound.type_inv }) in
-    answer_found g budget limit p best nodes values found good tree lowest inv.held inv.greedy right (inr spent) c.found_of-in-Full.ensures.plan
-    (c.found_of-in-Full.ensures.bound ∙ back ∙ c.bound_at-bound.ensures ∙ ap (λ (zs : List ℤ). rounded_up (get_or zs p (pos 0))) c.deref.ensures.value) c.found_of-in-Full.ensures.tree
+    let made = c.found_of-in-Full.ensures in
+    answer_full g budget limit p nodes values c.requires.good tree lowest inv.held inv.greedy best c.in_ok-best-in-Full.ensures.lawful c.found_of-in-Full.result made.plan made.cost
+    (made.bound ∙ back ∙ c.bound_at-bound.ensures ∙ ap (λ (zs : List ℤ). rounded_up (get_or zs p (pos 0))) c.deref.ensures.value) made.tree near spent

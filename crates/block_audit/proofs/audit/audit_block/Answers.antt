@@ -3,13 +3,14 @@ use Rattle.batch_snapshot.specs.Batch.{Batch}
 use Rattle.batch_snapshot.specs.Kept.{IsKept}
 use Rattle.batch_solver.specs.Outcome.{IsGoodOutcome}
 use Rattle.dispatch_report.specs.Block.{block_lines}
-use Rattle.outcome_check.specs.declared.verdict.Point.{Point}
+use Rattle.batch_solver.specs.declared.point.Point.{Point}
 use Rattle.request_book.specs.declared.outcome.Outcome.{Outcome}
-use Rattle.block_audit.specs.Block.{BeginsWithGood, MeetsAs, FailsFirst}
+use Rattle.block_audit.specs.Block.{BeginsWithGood}
 use Rattle.block_audit.specs.Judged.{CanBeTold, judged_outcome}
 use Rattle.block_audit.specs.Told.{Told, told_by}
 use Rattle.block_audit.specs.work.Judged.{HoldUpTo, IsRight}
-use Rattle.block_audit.proofs.lemmas.AuditLemmas.{begins_good, fails_at_once, fails_first, fails_no_good, fault_no_good, good_is_judged, line_count, low_place}
+use Rattle.block_audit.proofs.lemmas.AuditLemmas.{begins_good, fails_at_once, fails_first, fails_no_good, fault_no_good, good_is_judged, line_count}
+use Rattle.outcome_check.proofs.lemmas.VerdictLemmas.{last_place}
 use Rattle.block_audit.proofs.NumberedLemmas.{vehicle_ids}
 use Rattle.block_audit.proofs.audit.audit_block.Goals as goal
 
@@ -31,12 +32,8 @@ pub returns-then-told-snapshot-clause-fault : goal.returns-then-told-snapshot-cl
 returns-then-told-snapshot-clause-fault g c =
     let other : (told_by c.in-Ok.block.0).batch ≢ c.args.snapshot.now.number =
     λ h. c.if-told-snapshot.true (ap (λ (t : Told). t.batch) c.in_ok-told.ensures ∙ h ∙ sym (ap (λ (b : Batch). b.number) c.snapshot.view_is)) in
-    record {
-      lines = c.in-Ok.block.0;
-      rest = c.in-Ok.block.1.now;
-      block = c.in-Ok.ensures;
-      fails = fails_at_once c.args.settings.now c.args.network.now c.args.snapshot.now (told_by c.in-Ok.block.0) other;
-    }
+    let first = fails_at_once c.args.settings.now c.args.network.now c.args.snapshot.now (told_by c.in-Ok.block.0) other in
+    record { lines = c.in-Ok.block.0; rest = c.in-Ok.block.1.now; block = c.in-Ok.ensures; point = first.point; at = first.at; fails = first.first }
 
 pub returns-then-place-lt9-clause-none : goal.returns-then-place-lt9-clause-none
 returns-then-place-lt9-clause-none g c =
@@ -53,12 +50,8 @@ returns-then-place-lt9-clause-fault g c =
     let number : (told_by c.in-Ok.block.0).batch ≡ c.args.snapshot.now.number =
     sym (ap (λ (t : Told). t.batch) c.in_ok-told.ensures) ∙ c.if-told-snapshot.false ∙ ap (λ (b : Batch). b.number) c.snapshot.view_is in
     let points = subst (λ (t : Told). HoldUpTo (IsRight c.args.settings.now c.args.network.now c.args.snapshot.now t) c.in_ok-outcome.place) c.in_ok-told.ensures c.in_ok-outcome.ensures.points in
-    record {
-      lines = c.in-Ok.block.0;
-      rest = c.in-Ok.block.1.now;
-      block = c.in-Ok.ensures;
-      fails = fails_first c.args.settings.now c.args.network.now c.args.snapshot.now (told_by c.in-Ok.block.0) c.in_ok-outcome.place number c.if-place-lt9.true points;
-    }
+    let first = fails_first c.args.settings.now c.args.network.now c.args.snapshot.now (told_by c.in-Ok.block.0) c.in_ok-outcome.place number c.if-place-lt9.true points in
+    record { lines = c.in-Ok.block.0; rest = c.in-Ok.block.1.now; block = c.in-Ok.ensures; point = first.point; at = first.at; fails = first.first }
 
 pub returns-clause-good : goal.returns-clause-good
 returns-clause-good g c =
@@ -68,7 +61,7 @@ returns-clause-good g c =
     let points = subst (λ (t : Told). HoldUpTo (IsRight c.args.settings.now c.args.network.now c.args.snapshot.now t) c.in_ok-outcome.place) c.in_ok-told.ensures c.in_ok-outcome.ensures.points in
     let is : c.in_ok-outcome.outcome ≡ judged_outcome (vehicle_ids c.args.snapshot.now) (told_by c.in-Ok.block.0) =
     c.in_ok-outcome.ensures.outcome ∙ ap (λ (t : Told). judged_outcome (vehicle_ids c.args.snapshot.now) t) c.in_ok-told.ensures in
-    let can : (q : Point) → CanBeTold q (told_by c.in-Ok.block.0) = λ q. (points.before q (let low = low_place q in omega (arith, low, c.if-place-lt9.false))).1 in
+    let can : (q : Point) → CanBeTold q (told_by c.in-Ok.block.0) = λ q. (points.before q (let low = last_place q in omega (arith, low, c.if-place-lt9.false))).1 in
     let good = c.in_ok-outcome.ensures.good (omega (arith, c.if-place-lt9.false)) in
     subst (λ (o : Outcome). BeginsWithGood c.args.settings.now c.args.network.now c.args.snapshot.now c.args.text.now o c.in-Ok.block.1.now) (sym is)
     (begins_good c.args.settings.now c.args.network.now c.args.snapshot.now kept c.args.text.now c.in-Ok.block.0 c.in-Ok.block.1.now c.in-Ok.ensures number can
@@ -91,7 +84,7 @@ returns-clause-lines g c =
     let points = subst (λ (t : Told). HoldUpTo (IsRight c.args.settings.now c.args.network.now c.args.snapshot.now t) c.in_ok-outcome.place) c.in_ok-told.ensures c.in_ok-outcome.ensures.points in
     let is : c.in_ok-outcome.outcome ≡ judged_outcome (vehicle_ids c.args.snapshot.now) (told_by c.in-Ok.block.0) =
     c.in_ok-outcome.ensures.outcome ∙ ap (λ (t : Told). judged_outcome (vehicle_ids c.args.snapshot.now) t) c.in_ok-told.ensures in
-    let can : (q : Point) → CanBeTold q (told_by c.in-Ok.block.0) = λ q. (points.before q (let low = low_place q in omega (arith, low, c.if-place-lt9.false))).1 in
+    let can : (q : Point) → CanBeTold q (told_by c.in-Ok.block.0) = λ q. (points.before q (let low = last_place q in omega (arith, low, c.if-place-lt9.false))).1 in
     c.len-count.ensures
     ∙ line_count c.args.settings.now c.args.network.now c.args.snapshot.now kept c.args.text.now c.in-Ok.block.0 c.in-Ok.block.1.now c.in-Ok.ensures number can
     ∙ ap (λ (o : Outcome). length (block_lines true c.args.snapshot.now.number o)) (sym is)

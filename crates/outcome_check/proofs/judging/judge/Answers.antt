@@ -1,4 +1,4 @@
-use Rattle.std.proofs.Common.{◌≡◌, ℕ, List, All, Contains, map, refl, sym, ap, ◌∙◌, subst}
+use Rattle.std.proofs.Common.{◌≡◌, ℕ, List, All, Contains, map, sym, ap, ◌∙◌, subst}
 use Rattle.std.proofs.lemmas.Result.{IfOk-weaker}
 use Rattle.batch_snapshot.specs.Batch.{Batch}
 use Rattle.batch_snapshot.specs.Kept.{IsKept}
@@ -6,12 +6,8 @@ use Rattle.pool_base.specs.Times.{point_count, travel_time}
 use Rattle.road_network.specs.Roads.{Roads, index_in}
 use Rattle.travel_times.specs.Table.{AreTravelTimes}
 use Rattle.batch_solver.proofs.lemmas.PointLemmas.{points_known}
-use Rattle.outcome_check.specs.Posed.{AreLimitsOf}
-use Rattle.outcome_check.specs.Verdict.{Meets}
-use Rattle.outcome_check.specs.work.Answers.{AnswersBy}
 use Rattle.outcome_check.proofs.lemmas.IdLemmas.{own_ids}
-use Rattle.outcome_check.proofs.lemmas.PosedLemmas.{meets_of, of_meets, verdict_good, good_verdict}
-use Rattle.outcome_check.proofs.lemmas.VerdictLemmas.{verdict_of_same}
+use Rattle.outcome_check.proofs.lemmas.PosedLemmas.{meets_of, verdict_good}
 use Rattle.outcome_check.proofs.judging.judge.Goals as goal
 
 pub table-requires-clause-known : goal.table-requires-clause-known
@@ -29,37 +25,19 @@ judge_answer-requires-clause-ids g c =
 pub returns-clause-points : goal.returns-clause-points
 returns-clause-points g c =
     let settings = c.args.settings.now in let roads = c.args.network.now in let batch = c.args.snapshot.now in let outcome = c.args.outcome.now in
-    let points = c.in_ok-points.points in let times = c.in_ok-times.times in let tau = travel_time times in let settled = c.in_ok-settled.settled in
+    let points = c.in_ok-points.points in let times = c.in_ok-times.times in let settled = c.in_ok-settled.settled in
     let found = subst (λ (of : Roads). AreTravelTimes of.arcs (map (index_in of.nodes) c.nodes.result.now) times) c.requires.ways c.in_ok-times.ensures in
-    let limits : AreLimitsOf settings roads batch points tau settled = record {
-      nodes = c.in_ok-points.ensures.points;
-      times = times;
-      table = subst (λ (ps : List ℕ). AreTravelTimes roads.arcs (map (index_in roads.nodes) ps) times) c.nodes.ensures.nodes found;
-      told = refl;
-      limits = c.in_ok-settled.ensures.settled;
-    } in
+    let table = subst (λ (ps : List ℕ). AreTravelTimes roads.arcs (map (index_in roads.nodes) ps) times) c.nodes.ensures.nodes found in
     let expired : outcome.expired ≡ batch.expired = sym c.as_slice.ensures ∙ c.are_same_riders.ensures.0 c.if-not-are_same_riders.false ∙ c.as_slice-2.ensures ∙ ap (λ (b : Batch). b.expired) c.snapshot.view_is in
-    IfOk-weaker c.judge_answer.result _ _
-    (λ verdict is. verdict_of_same (AnswersBy settings points tau settled outcome.answer) (Meets settings roads batch outcome)
-    (λ q by. (expired, meets_of settings roads batch points tau settled limits outcome.answer q by))
-    (λ q meets. of_meets settings roads batch points tau settled limits outcome.answer q meets.1) verdict is)
-    c.judge_answer.ensures
+    IfOk-weaker c.judge_answer.result _ _ (meets_of settings roads batch outcome points times settled c.in_ok-points.ensures.points table c.in_ok-settled.ensures.settled expired) c.judge_answer.ensures
 
 pub returns-clause-good : goal.returns-clause-good
 returns-clause-good g c =
     let settings = c.args.settings.now in let roads = c.args.network.now in let batch = c.args.snapshot.now in let outcome = c.args.outcome.now in
-    let points = c.in_ok-points.points in let times = c.in_ok-times.times in let tau = travel_time times in let settled = c.in_ok-settled.settled in
+    let points = c.in_ok-points.points in let times = c.in_ok-times.times in let settled = c.in_ok-settled.settled in
     let found = subst (λ (of : Roads). AreTravelTimes of.arcs (map (index_in of.nodes) c.nodes.result.now) times) c.requires.ways c.in_ok-times.ensures in
-    let limits : AreLimitsOf settings roads batch points tau settled = record {
-      nodes = c.in_ok-points.ensures.points;
-      times = times;
-      table = subst (λ (ps : List ℕ). AreTravelTimes roads.arcs (map (index_in roads.nodes) ps) times) c.nodes.ensures.nodes found;
-      told = refl;
-      limits = c.in_ok-settled.ensures.settled;
-    } in
-    let own = own_ids settings points settings.trip (point_count times) tau batch settled (subst (λ (b : Batch). IsKept b) c.snapshot.view_is c.snapshot.invariant) c.in_ok-settled.ensures.settled c.in_ok-settled.ensures.sound in
+    let table = subst (λ (ps : List ℕ). AreTravelTimes roads.arcs (map (index_in roads.nodes) ps) times) c.nodes.ensures.nodes found in
     let expired : outcome.expired ≡ batch.expired = sym c.as_slice.ensures ∙ c.are_same_riders.ensures.0 c.if-not-are_same_riders.false ∙ c.as_slice-2.ensures ∙ ap (λ (b : Batch). b.expired) c.snapshot.view_is in
     IfOk-weaker c.judge_answer.result _ _
-    (λ verdict is.
-    (λ e. verdict_good settings roads batch points tau settled limits own outcome expired verdict is e, λ good. good_verdict settings roads batch points tau settled limits own outcome expired verdict is good))
+    (λ verdict is. verdict_good settings roads batch outcome verdict (meets_of settings roads batch outcome points times settled c.in_ok-points.ensures.points table c.in_ok-settled.ensures.settled expired verdict is))
     c.judge_answer.ensures

@@ -9,10 +9,10 @@ use Rattle.request_book.specs.declared.outcome.Answer.{Answer}
 use Rattle.trip_graph.specs.Answer.{HasMoreRows, IsAnswer}
 use Rattle.trip_graph.specs.declared.answer.GraphAnswer.{GraphAnswer}
 use Rattle.trip_graph.specs.declared.answer.GraphAnswer.TheVariants.{Graph as Grown}
-use Rattle.outcome_check.specs.Posed.{Posed, AreGraphsOf}
-use Rattle.outcome_check.specs.Verdict.{Holds, IsVerdictOf}
-use Rattle.outcome_check.specs.work.Answers.{AnswersBy, HoldsWithGraphs}
-use Rattle.outcome_check.specs.declared.verdict.Point.TheVariants as point
+use Rattle.batch_solver.specs.Outcome.{AnswersWith, HasGraphsWith}
+use Rattle.batch_solver.specs.Points.{Posed, Holds}
+use Rattle.outcome_check.specs.Verdict.{IsVerdictOf}
+use Rattle.batch_solver.specs.declared.point.Point.TheVariants as point
 use Rattle.outcome_check.proofs.lemmas.PosedLemmas.{with_graphs, of_graphs}
 use Rattle.outcome_check.proofs.lemmas.VerdictLemmas.{verdict_of_same}
 use Rattle.outcome_check.proofs.judging.judge_answer.Goals as goal
@@ -23,8 +23,8 @@ returns-in-Overflow g c =
     let more : HasMoreRows tau settled settings.trip settings.pairs = subst (λ (a : GraphAnswer). IsAnswer settings tau settled a) c.in-Overflow.is c.in_ok-grow_graph.ensures in (
       λ q h. absurd (omega arith),
       λ by.
-          let with : HoldsWithGraphs settings points tau settled c.in-Planned._planned point.Answer = subst (λ (a : Answer). AnswersBy settings points tau settled a point.Answer) c.in-Planned.is by in
-          graph_or_overflow settings tau settled with.graph with.graphs.trips more,
+          let with = subst (λ (a : Answer). AnswersWith settings points tau settled (Holds settings point.Answer) a) c.in-Planned.is by in
+          graph_or_overflow settings tau settled with.graph with.exact more,
     )
 
 pub returns-in-Overflow-answer-2 : goal.returns-in-Overflow-answer-2
@@ -32,7 +32,7 @@ returns-in-Overflow-answer-2 g c =
     let settings = c.args.settings.now in let points = c.args.points.now in let tau = travel_time c.args.times.now in let settled = c.args.settled.now in
     let grown : IsAnswer settings tau settled (Grown c.in-Graph.graph c.in-Graph.rv c.in-Graph.rr) = subst (λ (a : GraphAnswer). IsAnswer settings tau settled a) c.in-Graph.is c.in_ok-grow_graph.ensures in (
       λ q h. absurd (omega arith),
-      λ by. graph_or_overflow settings tau settled c.in-Graph.graph grown.0 (subst (λ (a : Answer). AnswersBy settings points tau settled a point.Answer) c.in-Overflow-answer-2.is by),
+      λ by. graph_or_overflow settings tau settled c.in-Graph.graph grown.0 (subst (λ (a : Answer). AnswersWith settings points tau settled (Holds settings point.Answer) a) c.in-Overflow-answer-2.is by),
     )
 
 pub returns : goal.returns
@@ -41,14 +41,11 @@ returns g c =
     let planned = c.in-Planned-answer.planned in
     let grown : IsAnswer settings tau settled (Grown c.in-Graph.graph c.in-Graph.rv c.in-Graph.rr) = subst (λ (a : GraphAnswer). IsAnswer settings tau settled a) c.in-Graph.is c.in_ok-grow_graph.ensures in
     let p : Posed = record { points = points; tau = tau; settled = settled; graph = c.in-Graph.graph; edges = c.as_slice.result.now; pairs = c.all.result.now } in
-    let graphs : AreGraphsOf settings p = record {
-      trips = grown.0;
-      vehicles = subst (λ (es : List RvEdge). IsRvGraph tau settled es) (sym c.as_slice.ensures) grown.1;
-      riders = subst (λ (ps : List (ℕ × ℕ)). IsRrGraph tau settled ps) (sym c.all.ensures) grown.2;
-    } in
+    let vehicles = subst (λ (es : List RvEdge). IsRvGraph tau settled es) (sym c.as_slice.ensures) grown.1 in
+    let riders = subst (λ (ps : List (ℕ × ℕ)). IsRrGraph tau settled ps) (sym c.all.ensures) grown.2 in
     IfOk-weaker c.judge_plan.result _ _
-    (λ verdict is. subst (λ (a : Answer). IsVerdictOf (AnswersBy settings points tau settled a) verdict) (sym c.in-Planned-answer.is)
-    (verdict_of_same (Holds settings p planned) (HoldsWithGraphs settings points tau settled planned)
-    (with_graphs settings points tau settled planned c.in-Graph.graph c.as_slice.result.now c.all.result.now graphs)
-    (of_graphs settings points tau settled planned c.in-Graph.graph c.as_slice.result.now c.all.result.now graphs) verdict is))
+    (λ verdict is. subst (λ (a : Answer). IsVerdictOf (λ q. AnswersWith settings points tau settled (Holds settings q) a) verdict) (sym c.in-Planned-answer.is)
+    (verdict_of_same (λ q. Holds settings q planned p) (λ q. HasGraphsWith settings points tau settled (Holds settings q planned))
+    (λ q. with_graphs settings points tau settled p.graph p.edges p.pairs grown.0 vehicles riders (Holds settings q planned))
+    (λ q. of_graphs settings points tau settled p.graph p.edges p.pairs grown.0 vehicles riders (Holds settings q planned)) verdict is))
     c.judge_plan.ensures

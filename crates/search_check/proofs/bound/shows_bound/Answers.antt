@@ -1,6 +1,6 @@
 use Rattle.std.proofs.Common.{◌≡◌, ◌↔◌, Bool, true, false, IsTrue, Result, Ok, Err, IfOk, sym, ap, ◌∙◌, of_z}
 use mir.Syntax.{w128}
-use Rattle.search_check.specs.Points.{HasValue}
+use Rattle.assignment_search.specs.Found.{ShowsBound}
 use Rattle.search_check.proofs.lemmas.FaultLemmas.{one_value, whole_of_value, no_tree}
 use Rattle.search_check.specs.work.Refusals.{IsRefusal}
 use Rattle.pool_base.specs.declared.memory.OutOfMemory.{OutOfMemory as NoMemory}
@@ -15,7 +15,7 @@ returns-then-value-bound c = (
 pub returns-in-Err : goal.returns-in-Err
 returns-in-Err c = by c.refused.result c.refused.ensures
   where
-    by : (r : Result Bool NoMemory) → IfOk r (λ told. (told ≡ false) × IsRefusal c.in-Err.fault) → IfOk r (λ told. IsTrue told ↔ HasValue c.args.graph.now c.args.budget c.args.bound.now c.args.tree.now)
+    by : (r : Result Bool NoMemory) → IfOk r (λ told. (told ≡ false) × IsRefusal c.in-Err.fault) → IfOk r (λ told. IsTrue told ↔ ShowsBound c.args.graph.now c.args.budget c.args.bound.now c.args.tree.now)
     by (Err e) h = tt
     by (Ok told) h = (
       λ is. absurd (let no : true ≡ false = sym is ∙ h.0 in cc),

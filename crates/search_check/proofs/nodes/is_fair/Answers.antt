@@ -10,10 +10,9 @@ use Rattle.plan_rules.specs.declared.node.Node.{Node}
 use Rattle.plan_rules.proofs.lemmas.ReadLemmas.{reads_push}
 use Rattle.plan_rules.proofs.lemmas.SearchTreeLemmas.{places_are}
 use Rattle.plan_rules.proofs.lemmas.UsableLemmas.{Agree, agree_back}
-use Rattle.assignment_search.specs.Found.{IsAtLeastFirstFit, IsBranchJustified}
+use Rattle.assignment_search.specs.Found.{IsFairNode}
 use Rattle.bound_checker.specs.lemmas.Visit.{coming_of}
 use Rattle.bound_checker.proofs.lemmas.WalkLemmas.{coming_start, path_none}
-use Rattle.search_check.specs.work.Nodes.{IsFairNode}
 use Rattle.search_check.proofs.lemmas.FaultLemmas.{whole_of_value}
 use Rattle.search_check.proofs.lemmas.NodeLemmas.{has_multipliers, fair_agrees, fair_at, sound_at, places_more}
 use Rattle.search_check.proofs.nodes.is_fair.Goals as goal
@@ -75,10 +74,7 @@ returns-then-not-branch c =
       λ no. absurd (let f : false ≡ true = no in cc),
       λ fair.
           let read = sym (places_are g nodes fair.tree fair.shape) in
-          let own : IsFairNode g bound u node = record {
-            leaf = fair_at g (λ (p : Place). IsAtLeastFirstFit g p.usable p.node) nodes i u later node low here reads (subst (λ (ps : List Place). All (λ (p : Place). IsAtLeastFirstFit g p.usable p.node) ps) read fair.leaves);
-            branch = fair_at g (λ (p : Place). IsBranchJustified g bound p.usable p.node) nodes i u later node low here reads (subst (λ (ps : List Place). All (λ (p : Place). IsBranchJustified g bound p.usable p.node) ps) read fair.branches);
-          } in
+          let own : IsFairNode g bound u node = fair_at g (λ (p : Place). IsFairNode g bound p.usable p.node) nodes i u later node low here reads (subst (λ (ps : List Place). All (λ (p : Place). IsFairNode g bound p.usable p.node) ps) read fair.fair) in
           absurd (both_ways _ c.if-not-branch.true (c.in_ok-is_fair_node.ensures.1 (fair_agrees g bound u (usable_of c.deref.result.now) node (agree_back g (usable_of c.deref.result.now) u agree) own))),
     )
 
@@ -122,4 +118,4 @@ returns c =
     let fair : All (λ p. IsFairNode g c.args.bound.now p.usable p.node) (places_read g nodes) = subst (λ (xs : List Node). All (λ p. IsFairNode g c.args.bound.now p.usable p.node) (places_read g xs)) whole c.loop-node.invariant.fair in
     let made = c.requires in
     let placed = subst (λ (ps : List Place). All (λ (p : Place). IsFairNode g c.args.bound.now p.usable p.node) ps) (places_are g nodes made.0 made.1) fair in
-    (λ t. record { tree = made.0; shape = made.1; leaves = λ k d l. (placed k d l).leaf; branches = λ k d l. (placed k d l).branch }, λ f. search rules)
+    (λ t. record { tree = made.0; shape = made.1; fair = placed }, λ f. search rules)

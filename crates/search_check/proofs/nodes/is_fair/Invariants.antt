@@ -4,7 +4,7 @@ use Rattle.plan_rules.specs.Path.{IsPathOf}
 use Rattle.plan_rules.specs.Reading.{ReadsTo}
 use Rattle.plan_rules.specs.lemmas.Tree.{places_read}
 use Rattle.bound_checker.specs.lemmas.Visit.{coming_of}
-use Rattle.search_check.specs.work.Nodes.{IsFairNode}
+use Rattle.assignment_search.specs.Found.{IsFairNode}
 use Rattle.search_check.proofs.nodes.is_fair.Given as goal
 
 abbrev pub invariant-loop-node : goal.invariant-loop-node

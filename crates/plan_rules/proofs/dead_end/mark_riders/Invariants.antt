@@ -1,6 +1,0 @@
-use Rattle.std.proofs.Common.{take}
-use Rattle.plan_rules.proofs.lemmas.MarkLemmas.{IsMarking}
-use Rattle.plan_rules.proofs.dead_end.mark_riders.Given as goal
-
-abbrev pub invariant-loop-rider : goal.invariant-loop-rider
-invariant-loop-rider l = IsMarking l.initial.marks l.marks (take l.rider-index l.riders)
