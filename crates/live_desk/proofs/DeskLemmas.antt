@@ -27,7 +27,7 @@ use Rattle.dispatch_report.specs.Round.{entries_lines, entry_text}
 use Rattle.dispatch_report.specs.declared.fault.ReportFault.{ReportFault}
 use Rattle.dispatch_report.specs.declared.fault.ReportFault.TheVariants.{WriteFault}
 use Rattle.batch_snapshot.specs.Batch.{Batch}
-use Rattle.shared_book.specs.lemmas.Locked.{snapshot_before}
+use Rattle.shared_book.specs.Locked.{snapshot_before}
 use Rattle.shared_book.proofs.lemmas.LockedLemmas.{applied-call, applied-fits}
 use Rattle.live_desk.proofs.lemmas.EntryLemmas.{entries-append, notices-append, one-notices, one-text}
 use Rattle.live_desk.specs.Desk.{HasEntered, entries_text, text_of, notices_in, DeskView, IsDesk, IsPassedOn, Outputs}

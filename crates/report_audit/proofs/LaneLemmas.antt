@@ -21,8 +21,7 @@ use Rattle.request_book.specs.declared.reply.Reply.{Reply}
 use Rattle.request_book.specs.declared.reply.Reply.TheVariants.{Accepted, Closed}
 use Rattle.request_book.specs.declared.state.State.{State}
 use Rattle.script_rows.specs.Round.{NumberedLanes, IsRound, MayStand, lane_at}
-use Rattle.shared_book.specs.Locked.{sealed_by}
-use Rattle.shared_book.specs.lemmas.Locked.{snapshot_before}
+use Rattle.shared_book.specs.Locked.{sealed_by, snapshot_before}
 use Rattle.shared_book.proofs.lemmas.LockedLemmas.{step-sealed}
 use Rattle.report_audit.specs.work.Steps.{Waits}
 use Rattle.report_audit.proofs.JournalLemmas.{sealed-after}

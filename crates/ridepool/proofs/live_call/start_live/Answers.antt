@@ -1,6 +1,6 @@
 use Rattle.std.proofs.Common.{Err, inl, refl, ap, arith}
 use Rattle.dispatch_report.specs.Written.{sink_seen}
-use Rattle.ridepool.specs.Live.{LiveInputs, LiveSeen}
+use Rattle.ridepool.specs.Live.{EndsLive, LiveInputs, LiveSeen}
 use Rattle.ridepool.proofs.LiveLemmas.{head-stops, start-stops}
 use Rattle.ridepool.proofs.live_call.start_live.Goals as goal
 
@@ -23,7 +23,7 @@ pub opened_book-opened-requires : goal.opened_book-opened-requires
 opened_book-opened-requires g c = c.requires.named
 
 pub returns-in_default-clause-stopped : goal.returns-in_default-clause-stopped
-returns-in_default-clause-stopped g c told = inl (record { out = refl; notifiers = refl })
+returns-in_default-clause-stopped g c told = EndsLive.unstored (inl (record { out = refl; notifiers = refl }))
 
 pub returns-in_default-clause-never_falls : goal.returns-in_default-clause-never_falls
 returns-in_default-clause-never_falls g c = (omega arith, c.read_start.ensures.never_falls)
