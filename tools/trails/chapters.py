@@ -28,7 +28,7 @@ CHAPTERS = (
      "route_drive/src/day_run", "ridepool/src/status", "ridepool/specs/Seen", "ridepool/specs/Reading", "ridepool/specs/Inputs", "ridepool/specs/Report", "ridepool/specs/Run"),
     ("The day", "What vehicles do that follow their plans, and what a call of `drive` answers: `AnswersDrive`.", "route_drive", "ridepool/specs/Drive"),
     ("The audit", "How a report is read back, what is wrong with one, and what a call of `audit` answers: `AnswersAudit`.",
-     "lane_progress", "report_lines", "block_audit", "report_audit", "ridepool/specs/Audit"),
+     "dispatch_engine/specs/Progress", "dispatch_engine/src/stand", "report_lines", "block_audit", "report_audit", "ridepool/specs/Audit"),
     ("The made workload", "What is made of a seed, and what a call of `load` answers: `AnswersLoad`.", "load_maker", "made_inputs", "ridepool/specs/Load"),
     ("The call", "What the program answers, by its command. The headline's clause is `Answers`.", "ridepool"),
     ("The live session", "What is read, answered and written while requests come in, and what a call of `live` answers: `AnswersLive`.",

@@ -1,2 +1,4 @@
 pub mod LaneLemmas
 pub mod StandLemmas
+pub mod RunLemmas
+pub mod ProgressLemmas

@@ -1,13 +1,13 @@
 -- What a lane did: its commands, each once, in their order, and the closes of the batches that it sealed.
-use Rattle.std.specs.Prelude.{◌≡◌, ℕ, ◌≤◌, ◌==◌, List, [], ◌∷◌, ◌++◌, Option, None, Some, All, filter, map}
+use Rattle.std.specs.Prelude.{◌≡◌, ℕ, ◌≤◌, ◌==◌, List, [], ◌∷◌, ◌++◌, Option, None, Some, IfSome, All, filter, map}
 use Rattle.batch_snapshot.specs.Batch.{Batch}
 use Rattle.batch_solver.specs.Outcome.{IsGoodOutcome}
+use Rattle.request_book.specs.Command.{closed_outcome}
 use Rattle.request_book.specs.Step.{step}
 use Rattle.request_book.specs.declared.command.Command.{Command}
 use Rattle.request_book.specs.declared.command.Command.TheVariants.{Close}
 use Rattle.request_book.specs.declared.journal.Entry.{Entry}
 use Rattle.request_book.specs.declared.reply.Reply.{Reply}
-use Rattle.request_book.specs.declared.reply.Reply.TheVariants.{Closed}
 use Rattle.request_book.specs.declared.state.State.{State}
 use Rattle.rider_limits.specs.declared.settings.Settings.{Settings}
 use Rattle.road_network.specs.Roads.{Roads}
@@ -55,8 +55,7 @@ pub record HasGained (more : List (ℕ × LoggedCall Command LockedReply)) (old 
 module _ (settings : Settings) (roads : Roads) where
   -- where a close was answered `closed`, its outcome is good for the batch that is sealed in the state before it
   abbrev pub IsGoodClose : State → Command → Reply → Type 0
-  IsGoodClose s (Close batch outcome) Closed = (b : Batch) × (s.sealed ≡ Some b) × IsGoodOutcome settings roads b outcome
-  IsGoodClose s _ _ = Unit {0}
+  IsGoodClose s command reply = IfSome (closed_outcome command reply) (λ closed. (b : Batch) × (s.sealed ≡ Some b) × IsGoodOutcome settings roads b closed.1)
 
   -- every close is good in the state that the entries before it leave
   unfoldable pub ClosesAreGood : State → List Entry → Type 0

@@ -1,5 +1,6 @@
 pub mod Lane
 pub mod Run
 pub mod Same
+pub mod Progress
 pub mod lemmas
 pub mod work

@@ -24,19 +24,28 @@
 //! };
 //! ```
 //!
-//! Main clauses: `run_round`: `run`, `same`, `ready`.
+//! `Progress` says how far the lanes of a round have come, as its entries are read one after the other: which command a
+//! lane's next entry has follows from the commands and the replies so far, and at the end the entries are a run of every
+//! lane exactly where each lane is at its end.
+//!
+//! Main clauses: `run_round`: `run`, `same`, `ready`; `Progress::at_start`: `come`; `Progress::take`: `come`;
+//! `Progress::are_done`.
 #![tactic(auto)]
 
 mod crew;
 mod lane;
 mod laws;
 mod opening;
+mod progress;
 mod round;
 mod setup;
+mod stand;
 
 pub use batch_solver::solve_batch;
 pub use lane::run_lane;
 pub use laws::commands_follow_from_the_input;
 pub use opening::opened_book;
+pub use progress::Progress;
 pub use round::run_round;
 pub use setup::Setup;
+pub use stand::LaneStand;

@@ -1,6 +1,6 @@
 -- From what two passes called to the entries of the journal.
-use Rattle.std.proofs.Common.{◌≡◌, ℕ, ◌+◌, Bool, true, false, eqb, List, [], ◌∷◌, ◌++◌, map, refl, sym, ap, ◌∙◌, arith}
-use Rattle.std.specs.Prelude.{IsTrue, IsFalse, Option, Result, Ok, Err, IfOk, filter}
+use Rattle.std.proofs.Common.{◌≡◌, ℕ, ◌+◌, Bool, true, false, eqb, List, [], ◌∷◌, ◌++◌, map, refl, sym, ap, subst, ◌∙◌, arith}
+use Rattle.std.specs.Prelude.{Option, filter}
 use Rattle.std.specs.List.{enumerate_from}
 use Rattle.batch_snapshot.specs.Batch.{Batch}
 use Rattle.request_book.specs.declared.journal.Entry.{Entry}
@@ -12,9 +12,9 @@ use Rattle.script_rows.specs.declared.line.Line.{Line}
 use Rattle.seat_lock.specs.Values.{calls_of, GainsCalls, PassValue}
 use Rattle.shared_book.specs.Locked.{calls_from}
 use Rattle.shared_book.specs.declared.locked.LockedReply.{LockedReply}
-use Rattle.live_desk.specs.Desk.{desk_call, desk_log, pass_of, DeskView}
+use Rattle.live_desk.specs.Desk.{desk_call, desk_log, desk_root, pass_of, DeskView, IsDesk}
 use Rattle.live_desk.specs.declared.desk.LaneCommand.{LaneCommand}
-use Rattle.live_batch.specs.Phase.{entry_command, commands_in, commands_of_pass, ClosesBatch, HasClosed, HasRunOpen, IsOpenRun}
+use Rattle.live_batch.specs.Phase.{entry_command, commands_in, commands_of_pass, ClosesBatch, HasRunOpen, RanRows, TakesRun}
 use Rattle.live_batch.specs.declared.read_on.Halt.{Halt}
 
 module _ (nodes : List ℕ) (wait : ℕ) where
@@ -38,34 +38,24 @@ pass-commands d before passes k p gains none is =
     let log : gains.since ≡ desk_log d = sym (gains.gained ∙ ap (λ l. l ++ gains.since) none) in
     ap (λ cs. map (λ c. c.1.call) cs) (is ∙ ap (calls_of k) log) ∙ commands-cut d.book.nodes d.book.wait k 0 d.book.base d.book.entries
 
-pub has-run-open : (settings : Settings) (roads : Roads) (b : Batch) (round : ℕ) (old new : Option (List Line)) (start after : DeskView) (closed : Bool) (end : Halt)
-    → desk_log start ≡ [] → IsOpenRun settings roads b round old new start after closed end → HasRunOpen settings roads b round old new start after closed end
-has-run-open settings roads b round old new start after closed end none run =
-    let first = pass-commands after (desk_log start) (run.first ∷ run.second ∷ []) 0 run.first run.gains none (run.gains.cut 0 run.first (omega arith)) in
-    let second = pass-commands after (desk_log start) (run.first ∷ run.second ∷ []) 1 run.second run.gains none (run.gains.cut 1 run.second (omega arith)) in
+-- what came of an open batch, from what its two passes called
+pub open-run : (settings : Settings) (roads : Roads) (b : Batch) (round : ℕ) (old new : Option (List Line)) (got after held start : DeskView) (closed : Bool) (end : Halt)
+    (first second : PassValue DeskView LaneCommand LockedReply)
+    → got ≡ after → held ≡ start → after.opened ≡ start.now → IsDesk got → desk_root got ≡ desk_root held → GainsCalls (desk_log held) (desk_log got) (first ∷ second ∷ [])
+    → desk_log start ≡ [] → ClosesBatch settings roads b closed (commands_in first) → RanRows round (commands_in second) (TakesRun end old new)
+    → HasRunOpen settings roads b round old new start after closed end
+open-run settings roads b round old new got after held start closed end first second is was opened kept root gains none close rows =
+    let commands : (k : ℕ) (p : PassValue DeskView LaneCommand LockedReply) → p.calls ≡ calls_of k gains.since → commands_in p ≡ commands_of_pass k after.book.entries =
+    λ k p calls. pass-commands got (desk_log held) (first ∷ second ∷ []) k p gains (ap desk_log was ∙ none) calls ∙ ap (λ (d : DeskView). commands_of_pass k d.book.entries) is in
     record {
-      desk = run.desk;
-      root = run.root;
-      opened = run.opened;
-      close = closes closed run.close run.left first;
-      rows = record {
-        run = run.read.run;
-        going = run.read.going;
-        called = sym second ∙ run.read.called;
-        taken = run.read.taken;
-      };
+      desk = subst IsDesk is kept;
+      root = sym (ap desk_root is) ∙ root ∙ ap desk_root was;
+      opened = opened;
+      close = subst (ClosesBatch settings roads b closed) (commands 0 first (gains.cut 0 first (omega arith))) close;
+      rows = subst (λ cs. RanRows round cs (TakesRun end old new)) (commands 1 second (gains.cut 1 second (omega arith))) rows;
     }
-  where
-    closes : (c : Bool) → (IsTrue c → HasClosed settings roads b run.first) → (IsFalse c → run.first.calls ≡ []) → commands_in run.first ≡ commands_of_pass 0 after.book.entries
-        → ClosesBatch settings roads b c (commands_of_pass 0 after.book.entries)
-    closes true close left is = let did = close refl in (did.outcome, did.good, sym is ∙ did.called)
-    closes false close left is = sym is ∙ ap (λ cs. map (λ c. c.1.call) cs) (left refl)
 
 -- a desk whose journal is empty has no call
 pub no-log : (d : DeskView) → d.book.entries ≡ [] → desk_log d ≡ []
 unfolding calls_from
 no-log d none = ap (λ es. map desk_call (calls_from d.book.nodes d.book.wait d.book.base es)) none
-
-pub if-ok : {A E : Type 0} {P Q : A → Type 0} (r : Result A E) → ((x : A) → P x → Q x) → IfOk r P → IfOk r Q
-if-ok (Ok x) gives h = gives x h
-if-ok (Err e) gives h = h

@@ -1,6 +1,6 @@
 -- What the two threads do while a batch is open.
-use Rattle.live_desk.specs.Desk.{desk_log, desk_root, pass_of, DeskView, IsDesk, Outputs}
-use Rattle.std.specs.Prelude.{◌≡◌, ◌≢◌, ℕ, ◌≤◌, ◌==◌, Bool, true, false, filter, IsTrue, IsFalse, List, [], ◌∷◌, ◌++◌, map, Option, None, Some, All, ⊤}
+use Rattle.live_desk.specs.Desk.{desk_root, pass_of, DeskView, IsDesk, Outputs}
+use Rattle.std.specs.Prelude.{◌≡◌, ◌≢◌, ℕ, ◌≤◌, ◌==◌, Bool, true, false, filter, List, [], ◌∷◌, ◌++◌, map, Option, None, Some, All, ⊤}
 use Rattle.batch_snapshot.specs.Batch.{Batch}
 use Rattle.pool_io.specs.Faults.{Rose}
 use Rattle.batch_solver.specs.Outcome.{IsGoodOutcome}
@@ -9,7 +9,7 @@ use Rattle.request_book.specs.declared.journal.Entry.{Entry}
 use Rattle.request_book.specs.declared.outcome.Outcome.{Outcome}
 use Rattle.rider_limits.specs.declared.settings.Settings.{Settings}
 use Rattle.road_network.specs.Roads.{Roads}
-use Rattle.seat_lock.specs.Values.{PassValue, GainsCalls}
+use Rattle.seat_lock.specs.Values.{PassValue}
 use Rattle.dispatch_report.specs.declared.fault.ReportFault.{ReportFault}
 use Rattle.request_book.specs.Book.{BookView}
 use Rattle.shared_book.specs.declared.locked.LockedReply.{LockedReply}
@@ -28,12 +28,6 @@ row_command line = record { lane = line.lane; command = line.command }
 abbrev pub commands_in : {B : Type 0} → PassValue B LaneCommand LockedReply → List LaneCommand
 commands_in p = map (λ c. c.1.call) p.calls
 
--- the pass closed the batch, with an outcome that is good for it
-pub record HasClosed {B : Type 0} (settings : Settings) (roads : Roads) (b : Batch) (p : PassValue B LaneCommand LockedReply) : Type 0 where
-  pub outcome : Outcome
-  pub good : IsGoodOutcome settings roads b outcome
-  pub called : commands_in p ≡ (record { lane = 0; command = Close b.number outcome }) ∷ []
-
 -- a row may be run while the batch of this round is open
 abbrev pub MayGoOn : ℕ → Line → Type 0
 MayGoOn round line = (line.lane ≢ 0) × (line.round ≡ round)
@@ -42,21 +36,21 @@ MayGoOn round line = (line.lane ≢ 0) × (line.round ≡ round)
 abbrev pub GoesOn : ℕ → Line → Type 0
 GoesOn round line = IsBehind round line × MayGoOn round line
 
--- the rows to come begin with these
-abbrev pub StartsWith : Option (List Line) → List Line → Type 0
-StartsWith None run = ⊤
-StartsWith (Some all) run = (rest : List Line) × (all ≡ run ++ rest)
+-- the rows to come, where they are told, are these
+abbrev pub AreRows : Option (List Line) → List Line → Type 0
+AreRows None rows = ⊤
+AreRows (Some all) rows = all ≡ rows
 
--- these are the rows to come
-abbrev pub AllLines : Option (List Line) → List Line → Type 0
-AllLines None run = ⊤
-AllLines (Some all) run = all ≡ run
+-- they begin with these
+abbrev pub BeginWithRows : Option (List Line) → List Line → Type 0
+BeginWithRows None rows = ⊤
+BeginWithRows (Some all) rows = (rest : List Line) × (all ≡ rows ++ rest)
 
 -- the rows run are those read, but for one that is held back; after a fault they begin those to come
 abbrev pub TakesRun : Halt → Option (List Line) → Option (List Line) → List Line → Type 0
 TakesRun (stop.Held line) old new run = TakesRows old new (run ++ line ∷ [])
-TakesRun stop.Ended old new run = AllLines old run
-TakesRun _ old new run = StartsWith old run
+TakesRun stop.Ended old new run = AreRows old run
+TakesRun _ old new run = BeginWithRows old run
 
 -- a row is held back because it may not be run yet; it stands behind the round, and is the last that came
 abbrev pub IsHeldBack : ℕ → ℕ → Halt → Type 0
@@ -68,32 +62,12 @@ abbrev pub FaultsFrom : Halt → ℕ → ℕ → Type 0
 FaultsFrom stop.ReadFault before now = Rose before now
 FaultsFrom _ before now = before ≤ now
 
--- the rows read are those run, each called once and in order, and the one held back
-pub record HasReadOn {B : Type 0} (round : ℕ) (old new : Option (List Line)) (p : PassValue B LaneCommand LockedReply) (end : Halt) : Type 0 where
+-- rows of other lanes and of this round were run, each once and in order, and this holds of them
+pub record RanRows (round : ℕ) (commands : List LaneCommand) (Are : List Line → Type 0) : Type 0 where
   pub run : List Line
   pub going : All (GoesOn round) run
-  pub called : commands_in p ≡ map row_command run
-  pub taken : TakesRun end old new run
-
--- rows were run so far
-pub record HasRun {B : Type 0} (round : ℕ) (old now : Option (List Line)) (p : PassValue B LaneCommand LockedReply) : Type 0 where
-  pub run : List Line
-  pub going : All (GoesOn round) run
-  pub called : commands_in p ≡ map row_command run
-  pub taken : TakesRows old now run
-
--- what came of a book, a sink and notifiers while a batch was open: what two passes called, in one history, which is
--- written and whose notices were told
-pub record IsOpenRun (settings : Settings) (roads : Roads) (b : Batch) (round : ℕ) (old new : Option (List Line)) (start after : DeskView) (closed : Bool) (end : Halt) : Type 0 where
-  pub desk : IsDesk after
-  pub root : desk_root after ≡ desk_root start
-  pub opened : after.opened ≡ start.now
-  pub first : PassValue DeskView LaneCommand LockedReply
-  pub second : PassValue DeskView LaneCommand LockedReply
-  pub gains : GainsCalls (desk_log start) (desk_log after) (first ∷ second ∷ [])
-  pub close : IsTrue closed → HasClosed settings roads b first
-  pub left : IsFalse closed → first.calls ≡ []
-  pub read : HasReadOn round old new second end
+  pub called : commands ≡ map row_command run
+  pub taken : Are run
 
 -- a desk after a batch
 abbrev pub desk_after : BookView → Bool → Outputs → BookView → Outputs → Option ReportFault → DeskView
@@ -113,13 +87,6 @@ ClosesBatch settings roads b true commands =
     (outcome : Outcome) × IsGoodOutcome settings roads b outcome × (commands ≡ (record { lane = 0; command = Close b.number outcome }) ∷ [])
 ClosesBatch settings roads b false commands = commands ≡ []
 
--- rows of other lanes and of this round were run, those read but for one that is held back, each once and in order
-pub record RanRows (round : ℕ) (old new : Option (List Line)) (commands : List LaneCommand) (end : Halt) : Type 0 where
-  pub run : List Line
-  pub going : All (GoesOn round) run
-  pub called : commands ≡ map row_command run
-  pub taken : TakesRun end old new run
-
 -- what came of a book, a sink and notifiers while a batch was open, in one history, which is written and whose notices
 -- were told: lane 0 closed it, and the rows of other lanes were run
 pub record HasRunOpen (settings : Settings) (roads : Roads) (b : Batch) (round : ℕ) (old new : Option (List Line)) (start after : DeskView) (closed : Bool) (end : Halt) : Type 0 where
@@ -127,4 +94,4 @@ pub record HasRunOpen (settings : Settings) (roads : Roads) (b : Batch) (round :
   pub root : desk_root after ≡ desk_root start
   pub opened : after.opened ≡ start.now
   pub close : ClosesBatch settings roads b closed (commands_of_pass 0 after.book.entries)
-  pub rows : RanRows round old new (commands_of_pass 1 after.book.entries) end
+  pub rows : RanRows round (commands_of_pass 1 after.book.entries) (TakesRun end old new)

@@ -1,7 +1,7 @@
-ghost use Rattle.std.specs.Prelude.{◌≡◌, [], All, Contains, IsTrue, IsFalse};
+ghost use Rattle.std.specs.Prelude.{◌≡◌, [], All, Contains};
 ghost use Rattle.batch_snapshot.specs.Points.{named_nodes};
 ghost use Rattle.seat_lock.specs.Values.{IsPassOf};
-ghost use Rattle.live_batch.specs.Phase.{HasClosed};
+ghost use Rattle.live_batch.specs.Phase.{ClosesBatch, commands_in};
 
 use batch_snapshot::Snapshot;
 use batch_solver::solve_batch;
@@ -32,8 +32,7 @@ pub(crate) fn close_batch<K: Sink, N: Notifier, J: Opening, W: Ways, D: Drafter,
     requires nodes { All (λ node. Contains setup.now.network.now.nodes node) (named_nodes snapshot.now) }
     ensures own { IsPassOf lock.now result.0 }
     ensures lane { result.0.lane ≡ 0 }
-    ensures closed { IsTrue result.1 → HasClosed setup.now.settings.now setup.now.network.now snapshot.entry.now result.0 }
-    ensures none { IsFalse result.1 → result.0.calls ≡ [] }
+    ensures closed { ClosesBatch setup.now.settings.now setup.now.network.now snapshot.entry.now result.1 (commands_in result.0) }
 {
     let Setup {
         network,
@@ -54,6 +53,8 @@ pub(crate) fn close_batch<K: Sink, N: Notifier, J: Opening, W: Ways, D: Drafter,
             outcome,
         },
     };
-    let closed = lock.with_turn(rt, alloc, &mut pass, close).is_ok();
-    (pass, closed)
+    match lock.with_turn(rt, alloc, &mut pass, close) {
+        Ok(_) => (pass, true),
+        Err(_) => (pass, false),
+    }
 }

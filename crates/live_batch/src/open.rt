@@ -1,8 +1,8 @@
-ghost use Rattle.std.specs.Prelude.{◌≡◌, ◌<◌, [], ◌∷◌, All, Contains, IsTrue, IsFalse, vec_capacity};
+ghost use Rattle.std.specs.Prelude.{◌≡◌, ◌<◌, [], ◌∷◌, All, Contains, vec_capacity};
 ghost use Rattle.live_desk.specs.Desk.{desk_log, desk_root};
 ghost use Rattle.batch_snapshot.specs.Points.{named_nodes};
 ghost use Rattle.seat_lock.specs.Values.{AreAllPasses, GainsCalls, IsNew, IsPassOf};
-ghost use Rattle.live_batch.specs.Phase.{FaultsFrom, HasClosed, HasReadOn, IsHeldBack};
+ghost use Rattle.live_batch.specs.Phase.{ClosesBatch, FaultsFrom, IsHeldBack, RanRows, TakesRun, commands_in};
 
 use crate::close::close_batch;
 use crate::read_on::{Halt, read_on};
@@ -41,7 +41,7 @@ fn read_lines<K: Sink, N: Notifier, J: Opening, L: RowSource>(
     requires last { L.last lines ≡ round }
     ensures own { IsPassOf lock.now result.pass }
     ensures lane { result.pass.lane ≡ 1 }
-    ensures read { HasReadOn round (L.to_come lines) (L.to_come result.lines) result.pass result.stop }
+    ensures read { RanRows round (commands_in result.pass) (TakesRun result.stop (L.to_come lines) (L.to_come result.lines)) }
     ensures held { IsHeldBack round (L.last result.lines) result.stop }
     ensures faults { FaultsFrom result.stop (L.faults lines) (L.faults result.lines) }
 {
@@ -74,9 +74,8 @@ pub(crate) fn work_both<
     requires nodes { All (λ node. Contains setup.now.network.now.nodes node) (named_nodes snapshot.now) }
     ensures own { IsPassOf lock.now result.0.0 × IsPassOf lock.now result.1.pass }
     ensures lanes { (result.0.0.lane ≡ 0) × (result.1.pass.lane ≡ 1) }
-    ensures closed { IsTrue result.0.1 → HasClosed setup.now.settings.now setup.now.network.now snapshot.entry.now result.0.0 }
-    ensures none { IsFalse result.0.1 → result.0.0.calls ≡ [] }
-    ensures read { HasReadOn round (L.to_come lines) (L.to_come result.1.lines) result.1.pass result.1.stop }
+    ensures closed { ClosesBatch setup.now.settings.now setup.now.network.now snapshot.entry.now result.0.1 (commands_in result.0.0) }
+    ensures read { RanRows round (commands_in result.1.pass) (TakesRun result.1.stop (L.to_come lines) (L.to_come result.1.lines)) }
     ensures held { IsHeldBack round (L.last result.1.lines) result.1.stop }
     ensures faults { FaultsFrom result.1.stop (L.faults lines) (L.faults result.1.lines) }
 {
@@ -85,11 +84,11 @@ pub(crate) fn work_both<
         rt,
         move || -> (Pass<Desk<K, N, J>>, bool)
             requires { IsPassOf lock.now first × (first.lane ≡ 0) × (first.calls ≡ []) × All (λ node. Contains setup.now.network.now.nodes node) (named_nodes snapshot.now) }
-            ensures { IsPassOf lock.entry.now result.0 × (result.0.lane ≡ 0) × (IsTrue result.1 → HasClosed setup.entry.now.settings.now setup.entry.now.network.now snapshot.entry.now result.0) × (IsFalse result.1 → result.0.calls ≡ []) }
+            ensures { IsPassOf lock.entry.now result.0 × (result.0.lane ≡ 0) × ClosesBatch setup.entry.now.settings.now setup.entry.now.network.now snapshot.entry.now result.1 (commands_in result.0) }
         { close_batch(rt, alloc, lock, first, snapshot, setup) },
         move || -> Reading<K, N, J, L>
             requires { IsPassOf lock.now second × (second.lane ≡ 1) × (second.calls ≡ []) × (L.last lines ≡ round) }
-            ensures { IsPassOf lock.entry.now result.pass × (result.pass.lane ≡ 1) × HasReadOn round (L.to_come lines) (L.to_come result.lines) result.pass result.stop × IsHeldBack round (L.last result.lines) result.stop × FaultsFrom result.stop (L.faults lines) (L.faults result.lines) }
+            ensures { IsPassOf lock.entry.now result.pass × (result.pass.lane ≡ 1) × RanRows round (commands_in result.pass) (TakesRun result.stop (L.to_come lines) (L.to_come result.lines)) × IsHeldBack round (L.last result.lines) result.stop × FaultsFrom result.stop (L.faults lines) (L.faults result.lines) }
         { read_lines(rt, alloc, lock, second, lines, round) },
     )
 }

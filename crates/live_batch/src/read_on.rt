@@ -1,6 +1,6 @@
 ghost use Rattle.std.specs.Prelude.{◌≡◌, []};
 ghost use Rattle.seat_lock.specs.Values.{IsPassOf};
-ghost use Rattle.live_batch.specs.Phase.{FaultsFrom, HasReadOn, IsHeldBack};
+ghost use Rattle.live_batch.specs.Phase.{FaultsFrom, IsHeldBack, RanRows, TakesRun, commands_in};
 
 use live_desk::{Desk, LaneCommand, Opening};
 use live_rows::{LineFault, RowSource};
@@ -38,7 +38,7 @@ pub(crate) fn read_on<K: Sink, N: Notifier, J: Opening, L: RowSource>(
     requires last { L.last lines.old ≡ round }
     ensures own { IsPassOf lock.now pass.new }
     ensures lane { pass.new.lane ≡ 1 }
-    ensures read { HasReadOn round (L.to_come lines.old) (L.to_come lines.new) pass.new result }
+    ensures read { RanRows round (commands_in pass.new) (TakesRun result (L.to_come lines.old) (L.to_come lines.new)) }
     ensures held { IsHeldBack round (L.last lines.new) result }
     ensures faults { FaultsFrom result (L.faults lines.old) (L.faults lines.new) }
 {

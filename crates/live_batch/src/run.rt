@@ -3,7 +3,7 @@ ghost use Rattle.std.specs.Prelude.{◌≡◌, ◌<◌, ◌^◌, [], All, Contai
 ghost use Rattle.batch_snapshot.specs.Points.{named_nodes};
 ghost use Rattle.live_desk.specs.Desk.{desk_of, outputs_seen};
 ghost use Rattle.rider_notices.specs.Seen.{notifiers_seen};
-ghost use Rattle.live_batch.specs.Phase.{FaultsFrom, HasRunOpen, IsHeldBack, IsOpenRun, desk_after};
+ghost use Rattle.live_batch.specs.Phase.{FaultsFrom, HasRunOpen, IsHeldBack, desk_after};
 
 use crate::open::{Reading, finish, two_of, work_both};
 use crate::read_on::Halt;
@@ -110,7 +110,7 @@ fn run_in<
     requires last { L.last batch.lines ≡ round }
     requires nodes { All (λ node. Contains setup.now.network.now.nodes node) (named_nodes snapshot.now) }
     ensures run { let opened = outputs_seen K.written K.faults N.told N.faults N.steady batch.sink batch.notifiers.items in
-        IfOk result (λ o. IsOpenRun setup.now.settings.now setup.now.network.now snapshot.entry.now round (L.to_come batch.lines) (L.to_come o.lines)
+        IfOk result (λ o. HasRunOpen setup.now.settings.now setup.now.network.now snapshot.entry.now round (L.to_come batch.lines) (L.to_come o.lines)
         (desk_of batch.book setup.now.settings.now.proof opened)
         (desk_after batch.book setup.now.settings.now.proof opened o.book (outputs_seen K.written K.faults N.told N.faults N.steady o.sink o.notifiers.items) o.fault) o.closed o.stop) }
     ensures held { IfOk result (λ o. IsHeldBack round (L.last o.lines) o.stop) }

@@ -1,7 +1,6 @@
 -- One more entry, and what is written with it.
-use Rattle.std.proofs.Common.{◌≡◌, ℕ, suc, ◌+◌, ◌-◌, ◌<◌, ◌≤◌, ◌^◌, Bool, List, [], ◌∷◌, ◌++◌, length, take, Option, None, Some, Result, Ok, Err, min, arith, refl, sym, ap, subst, ◌∙◌, append_assoc, append-nil}
+use Rattle.std.proofs.Common.{◌≡◌, ℕ, ◌<◌, ◌≤◌, ◌^◌, Bool, List, [], ◌∷◌, ◌++◌, length, take, Option, None, Some, Result, Ok, Err, arith, refl, sym, ap, subst, ◌∙◌}
 use Rattle.std.proofs.KnownBytes.{Appends-nil, Appends-trans}
-use Rattle.std.proofs.lemmas.Grind.{flat_map-append}
 use Rattle.std.specs.Io.KnownBytes.{Appends}
 use Rattle.std.proofs.lemmas.Bool.{false≢true}
 use Rattle.std.specs.Prelude.{is_some, true, false, cond, OnOk}
@@ -9,11 +8,10 @@ use Rattle.std.proofs.lemmas.List.{length-map}
 use Rattle.shared_book.specs.Locked.{log_of}
 use Rattle.shared_book.proofs.lemmas.LockedLemmas.{calls-length}
 use Rattle.live_desk.specs.Desk.{desk_call, desk_log}
-use Rattle.pool_io.specs.Faults.{one_more, Rose}
+use Rattle.pool_io.specs.Faults.{Rose}
 use Rattle.pool_io.specs.Sink.{AppendsPart}
 use Rattle.request_book.specs.Book.{BookView, next_position, IsApplied, IsBook}
 use Rattle.request_book.specs.Replay.{state_after}
-use Rattle.request_book.specs.Step.{step}
 use Rattle.request_book.specs.declared.command.Command.TheVariants.{Submit, Cancel, Report, Pickup, Dropoff, Seal, Close}
 use Rattle.request_book.specs.declared.command.Command.{Command}
 use Rattle.request_book.specs.declared.journal.Entry.{Entry}
@@ -25,49 +23,15 @@ use Rattle.rider_notices.specs.Told.{HaveHeard, NotifierView}
 use Rattle.rider_notices.specs.declared.notice.Notice.{Notice}
 use Rattle.rider_notices.proofs.lemmas.HeardLemmas.{all-heard-more, all-heard-nothing}
 use Rattle.dispatch_report.specs.Lines.{lines_text}
-use Rattle.dispatch_report.specs.Entry.{entry_line}
-use Rattle.dispatch_report.specs.Round.{entries_lines, entry_block, entry_text}
+use Rattle.dispatch_report.specs.Round.{entries_lines, entry_text}
 use Rattle.dispatch_report.specs.declared.fault.ReportFault.{ReportFault}
 use Rattle.dispatch_report.specs.declared.fault.ReportFault.TheVariants.{WriteFault}
 use Rattle.batch_snapshot.specs.Batch.{Batch}
-use Rattle.shared_book.specs.lemmas.Locked.{snapshot_before}
+use Rattle.shared_book.specs.Locked.{snapshot_before}
 use Rattle.shared_book.proofs.lemmas.LockedLemmas.{applied-call, applied-fits}
+use Rattle.live_desk.proofs.lemmas.EntryLemmas.{entries-append, notices-append, one-notices, one-text}
 use Rattle.live_desk.specs.Desk.{HasEntered, entries_text, text_of, notices_in, DeskView, IsDesk, IsPassedOn, Outputs}
 use Rattle.live_desk.specs.work.Telling.{TellsClose, WroteLast, is_closed}
-
-pub lines_text-append : (xs ys : List (List ℕ)) → lines_text (xs ++ ys) ≡ lines_text xs ++ lines_text ys
-unfolding lines_text
-lines_text-append xs ys = flat_map-append (λ line. line ++ 10 ∷ []) xs ys
-
--- the lines of one entry
-abbrev entry_lines : Bool → ℕ → Entry → List (List ℕ)
-entry_lines proof position e = (entry_line position e ∷ []) ++ entry_block proof e.command e.reply
-
--- the position behind the first entry, and then the rest
-position-after : (first n : ℕ) → min (one_more first + n) (2 ^ 64 - 1) ≡ min (first + suc n) (2 ^ 64 - 1)
-position-after first n = omega arith
-
-pub entries_lines-push : (proof : Bool) (first : ℕ) (es : List Entry) (e : Entry) → first < 2 ^ 64
-    → entries_lines proof first (es ++ e ∷ []) ≡ entries_lines proof first es ++ entry_lines proof (next_position first es) e
-unfolding entries_lines
-entries_lines-push proof first [] e small =
-    let same : first ≡ min (first + 0) (2 ^ 64 - 1) = omega (arith, small) in
-    append-nil (entry_lines proof first e) ∙ ap (λ n. entry_lines proof n e) same
-entries_lines-push proof first (f ∷ es) e small =
-    let head = entry_lines proof first f in
-    let next : one_more first < 2 ^ 64 = omega arith in
-    ap (λ ls. head ++ ls) (entries_lines-push proof (one_more first) es e next)
-    ∙ sym (append_assoc head (entries_lines proof (one_more first) es) (entry_lines proof (next_position (one_more first) es) e))
-    ∙ ap (λ n. (head ++ entries_lines proof (one_more first) es) ++ entry_lines proof n e) (position-after first (length es))
-
--- the notices of entries, and of one more
-module _ (nodes : List ℕ) (wait : ℕ) where
-  notices-push : (s : State) (es : List Entry) (e : Entry) → notices_from nodes wait s (es ++ e ∷ []) ≡ notices_from nodes wait s es ++ entry_notices (state_after nodes wait s es) e.command e.reply
-  unfolding notices_from state_after
-  notices-push s [] e = append-nil (entry_notices s e.command e.reply)
-  notices-push s (f ∷ es) e =
-      ap (λ ns. entry_notices s f.command f.reply ++ ns) (notices-push (step nodes wait s f.command).0 es e)
-      ∙ sym (append_assoc (entry_notices s f.command f.reply) (notices_from nodes wait (step nodes wait s f.command).0 es) (entry_notices (state_after nodes wait (step nodes wait s f.command).0 es) e.command e.reply))
 
 no-notices : (b : Bool) (none : List Notice) → none ≡ [] → cond b none [] ≡ none
 no-notices true none is = refl
@@ -100,8 +64,8 @@ pub entries_text-push : (proof : Bool) (old new : BookView) (lane : ℕ) (comman
 entries_text-push proof old new lane command reply small applied =
     let e : Entry = record { lane = lane; command = command; reply = reply } in
     (λ i. lines_text (entries_lines proof (applied.first i) (applied.entries i)))
-    ∙ ap lines_text (entries_lines-push proof old.first old.entries e small)
-    ∙ lines_text-append (entries_lines proof old.first old.entries) (entry_lines proof (next_position old.first old.entries) e)
+    ∙ entries-append proof old.first old.entries (e ∷ []) small
+    ∙ ap (λ t. entries_text proof old ++ t) (one-text proof (next_position old.first old.entries) e)
 
 -- a desk with nothing written
 pub desk-opened : (book : BookView) (proof : Bool) (outputs : Outputs) → IsBook book → book.entries ≡ [] → book.first < 2 ^ 64
@@ -139,7 +103,7 @@ module _ (old : DeskView) (lane : ℕ) (command : Command) (reply : Reply) (book
       subst (λ ns. HaveHeard ns old.now.notifiers now.notifiers) (ap (λ ns. cond (is_closed reply) ns []) is ∙ close-notices old.book.state command reply) told in
       let all : notices_in old.book old.book.entries ++ mine ≡ notices_in book book.entries =
       ap (λ s. notices_in old.book old.book.entries ++ entry_notices s command reply) desk.book.state
-      ∙ sym (notices-push old.book.nodes old.book.wait old.book.base old.book.entries e)
+      ∙ sym (notices-append old.book.nodes old.book.wait old.book.base old.book.entries (e ∷ []) ∙ ap (λ ns. notices_in old.book old.book.entries ++ ns) (one-notices old.book.nodes old.book.wait (state_after old.book.nodes old.book.wait old.book.base old.book.entries) e))
       ∙ (λ i. notices_from (sym applied.nodes i) (sym applied.wait i) (sym applied.base i) (sym applied.entries i)) in
       record {
         book = kept;

@@ -4,7 +4,7 @@ ghost use Rattle.request_book.specs.declared.journal.Entry.{Entry};
 ghost use Rattle.request_book.specs.declared.reply.Reply.TheVariants.{Closed};
 ghost use Rattle.rider_notices.specs.Notices.{entry_notices};
 ghost use Rattle.rider_notices.specs.Seen.{notifiers_seen};
-ghost use Rattle.shared_book.specs.lemmas.Locked.{snapshot_before};
+ghost use Rattle.shared_book.specs.Locked.{snapshot_before};
 ghost use Rattle.dispatch_report.specs.Round.{entry_text};
 ghost use Rattle.live_desk.specs.Desk.{IsDesk, DeskView, HasEntered, IsSameDesk, desk_of, outputs_seen};
 ghost use Rattle.live_desk.specs.work.Telling.{TellsClose, WroteLast, is_closed};
@@ -15,7 +15,7 @@ use pool_base::{NodeId, OutOfMemory, Sequence};
 use pool_io::Sink;
 use request_book::{Book, Command, Entry, Reply, State};
 use rider_notices::{Notice, Notifier, notices_of_close, tell_all};
-use shared_book::LockedReply;
+use shared_book::{LockedReply, sealed_by_command};
 use std::alloc::Global;
 use std::marker::{Brand, Model, PhantomData};
 
@@ -175,7 +175,7 @@ fn shown_by(
     ensures sealed { IfOk result (λ shown. shown.0 ≡ snapshot_before book.now.wait book.now.state command.now) }
     ensures notices { IfOk result (λ shown. shown.1.items ≡ entry_notices book.now.state command.now Closed) }
 {
-    match sealed_by(book, command) {
+    match sealed_by_command(book, command) {
         Ok(snapshot) => match notices_of_close(alloc, book, command) {
             Ok(notices) => Ok((snapshot, notices)),
             Err(fault) => {
@@ -200,16 +200,6 @@ fn is_closed(reply: &Reply) -> bool
     ensures { result ≡ is_closed reply.now }
 {
     matches!(reply, Reply::Closed)
-}
-
-// The batch that a command would seal, if it is a seal.
-fn sealed_by(book: &Book, command: &Command) -> Result<Option<Sealed>, OutOfMemory>
-    ensures { IfOk result (λ snapshot. snapshot ≡ snapshot_before book.now.wait book.now.state command.now) }
-{
-    match command {
-        Command::Seal { now } => book.would_seal(*now),
-        _ => Ok(None),
-    }
 }
 
 // Writes the text of the last entry, and then tells these notices if it is a close. It answers the fault that kept the

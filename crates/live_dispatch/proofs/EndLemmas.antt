@@ -7,7 +7,8 @@ use Rattle.dispatch_report.specs.Round.{end_text}
 use Rattle.dispatch_report.specs.Written.{SinkView, WritesText}
 use Rattle.dispatch_report.specs.declared.fault.ReportFault.{ReportFault}
 use Rattle.dispatch_report.specs.declared.fault.ReportFault.TheVariants as report
-use Rattle.live_batch.specs.Phase.{FaultsFrom}
+use Rattle.live_batch.specs.Phase.{AreRows, BeginWithRows, FaultsFrom, TakesRun}
+use Rattle.live_batch.proofs.lemmas.RowLemmas.{all-begin}
 use Rattle.live_batch.specs.declared.read_on.Halt.{Halt}
 use Rattle.live_batch.specs.declared.read_on.Halt.TheVariants as stop
 use Rattle.live_desk.specs.Desk.{IsPassedOn, Outputs}
@@ -17,12 +18,12 @@ use Rattle.rider_limits.specs.declared.settings.Settings.{Settings}
 use Rattle.road_network.specs.Roads.{Roads}
 use Rattle.script_rows.specs.declared.line.Line.{Line}
 use Rattle.script_rows.specs.lemmas.Named.{rounds_of}
-use Rattle.live_dispatch.specs.Live.{AreRows, BeginWithRows, BeginsRows, journals_text}
+use Rattle.live_dispatch.specs.Live.{BeginsRows, journals_text}
 use Rattle.live_dispatch.specs.declared.fault.LiveFault.{LiveFault}
 use Rattle.live_dispatch.specs.declared.fault.LiveFault.TheVariants as live
 use Rattle.live_dispatch.specs.work.Standing.{HasCut, HasEnded, HasRunOn, HaveCome, Moment, Opens, Stands, ended_by, of_report, outputs_of, row_text}
 use Rattle.live_dispatch.proofs.StandLemmas.{begins-here, begins-last}
-use Rattle.live_dispatch.proofs.StepLemmas.{Behind, all-begin, batch-begins, batch-stands, lines-behind, row-begins}
+use Rattle.live_dispatch.proofs.StepLemmas.{batch-begins, batch-stands, lines-behind, row-begins}
 use Rattle.live_dispatch.proofs.WriteLemmas.{whole-some}
 
 pub if-ok : {T E : Type 0} (P Q : T → Type 0) (r : Result T E) → ((x : T) → P x → Q x) → IfOk r P → IfOk r Q
@@ -166,21 +167,21 @@ module _ (settings : Settings) (roads : Roads) (start : Moment) where
         → Stands settings roads start (behind_it count) (HaveCome start (behind_it count) (Some row))
     batch-held done row count has_cut is failed =
         batch-stood done count (HaveCome start (behind_it count) (Some row)) has_cut (faults-kept end row reads count is failed)
-        (subst (λ e. Behind e start.rows rows lines) is (lines-behind settings roads start b round book rows outputs closed end fault reads on))
+        (subst (λ e. TakesRun e start.rows rows lines) is (lines-behind settings roads start b round book rows outputs closed end fault reads on))
 
     pub batch-last : (done : Unit {0}) (failed : ℕ) (last : Outputs) (ended : Result (Unit {0}) LiveFault) → HasCut book cut closed fault (Ok done) → end ≡ stop.Ended
         → last.notifiers ≡ outputs.notifiers
         → (answer : Result (Unit {0}) ReportFault) × (ended ≡ ended_by answer) × WritesText (record { before = outputs.sink; after = last.sink }) (end_text (next_position cut.first cut.entries)) answer
         → HasEnded settings roads start failed last ended
     batch-last done failed last ended has_cut is same wrote =
-        let are : AreRows start.rows lines = subst (λ e. Behind e start.rows rows lines) is (lines-behind settings roads start b round book rows outputs closed end fault reads on) in
+        let are : AreRows start.rows lines = subst (λ e. TakesRun e start.rows rows lines) is (lines-behind settings roads start b round book rows outputs closed end fault reads on) in
         let stands = batch-stood done reads (AreRows start.rows) has_cut (omega arith) are in
         all-ended (behind_it reads) (AreRows start.rows) stands stands.are failed last.sink last ended (λ i. record { sink = last.sink; notifiers = same i }) wrote
 
     pub batch-unread : (done : Unit {0}) (failed : ℕ) (last : Outputs) (ended : Result (Unit {0}) LiveFault) → HasCut book cut closed fault (Ok done) → end ≡ stop.ReadFault
         → FaultsFrom end reads failed → ended ≡ Err live.ReadFault → last ≡ outputs → HasEnded settings roads start failed last ended
     batch-unread done failed last ended has_cut is from ended_is last_is =
-        let are : BeginWithRows start.rows lines = subst (λ e. Behind e start.rows rows lines) is (lines-behind settings roads start b round book rows outputs closed end fault reads on) in
+        let are : BeginWithRows start.rows lines = subst (λ e. TakesRun e start.rows rows lines) is (lines-behind settings roads start b round book rows outputs closed end fault reads on) in
         let stands = batch-stood done reads (BeginWithRows start.rows) has_cut (omega arith) are in
         let rose : Rose reads failed = subst (λ e. FaultsFrom e reads failed) is from in
         let were = start-reads in
@@ -189,6 +190,6 @@ module _ (settings : Settings) (roads : Roads) (start : Moment) where
     pub batch-out : (done : Unit {0}) (failed : ℕ) (last : Outputs) (ended : Result (Unit {0}) LiveFault) → HasCut book cut closed fault (Ok done) → end ≡ stop.OutOfMemory
         → ended ≡ Err live.OutOfMemory → last ≡ outputs → HasEnded settings roads start failed last ended
     batch-out done failed last ended has_cut is ended_is last_is =
-        let are : BeginWithRows start.rows lines = subst (λ e. Behind e start.rows rows lines) is (lines-behind settings roads start b round book rows outputs closed end fault reads on) in
+        let are : BeginWithRows start.rows lines = subst (λ e. TakesRun e start.rows rows lines) is (lines-behind settings roads start b round book rows outputs closed end fault reads on) in
         let stands = batch-stood done reads (BeginWithRows start.rows) has_cut (omega arith) are in
         stood-ended (behind_it reads) (BeginWithRows start.rows) stands stands.are failed last live.OutOfMemory ended ended_is last_is (λ e. absurd cc) (λ e. absurd cc)

@@ -1,15 +1,14 @@
 -- A run of the rounds of rows, with some more rows of one round and the entries that they gave.
-use Rattle.std.proofs.Common.{◌≡◌, ℕ, ◌<◌, ◌^◌, Bool, List, [], ◌∷◌, ◌++◌, map, Option, None, Some, codes, refl, sym, ap, subst, ◌∙◌, append_assoc, append-nil, length-append, arith}
+use Rattle.std.proofs.Common.{◌≡◌, ℕ, ◌<◌, ◌^◌, Bool, List, [], ◌∷◌, ◌++◌, map, Option, None, Some, codes, refl, sym, ap, subst, ◌∙◌, append_assoc, append-nil}
 use Rattle.std.proofs.lemmas.Grind.{flat_map-append}
 use Rattle.std.proofs.lemmas.List.{map-append}
 use Rattle.std.proofs.lemmas.List.Elements.{filter-append}
 use Rattle.dispatch_engine.specs.Lane.{of_lane, IsLaneRunFrom, IsLaneRun, IsLaneBeginning, ClosesAreGood}
 use Rattle.dispatch_engine.specs.Run.{IsRoundRun, IsRun, position_after_run, state_after_run}
-use Rattle.dispatch_report.specs.Entry.{entry_line}
+use Rattle.dispatch_engine.proofs.lemmas.RunLemmas.{position-more, state-more}
 use Rattle.dispatch_report.specs.Lines.{lines_text}
-use Rattle.dispatch_report.specs.Round.{entries_lines, entry_block, round_line, round_text}
+use Rattle.dispatch_report.specs.Round.{entries_lines, round_line, round_text}
 use Rattle.dispatch_report.specs.Words.{numbered}
-use Rattle.pool_io.specs.Faults.{one_more}
 use Rattle.request_book.specs.Book.{next_position}
 use Rattle.request_book.specs.Replay.{state_after, RepliesAreSteps}
 use Rattle.request_book.specs.Step.{step}
@@ -18,7 +17,7 @@ use Rattle.request_book.specs.declared.journal.Entry.{Entry}
 use Rattle.request_book.specs.declared.journal.Journal.{Journal}
 use Rattle.request_book.specs.declared.state.State.{State}
 use Rattle.rider_limits.specs.declared.settings.Settings.{Settings}
-use Rattle.rider_notices.specs.Notices.{entry_notices, notices_from}
+use Rattle.rider_notices.specs.Notices.{notices_from}
 use Rattle.rider_notices.specs.declared.notice.Notice.{Notice}
 use Rattle.road_network.specs.Roads.{Roads}
 use Rattle.script_rows.specs.Round.{NumberedLanes, lane_at}
@@ -28,6 +27,7 @@ use Rattle.script_rows.specs.lemmas.Named.{rounds_of}
 use Rattle.shared_book.specs.Locked.{sealed_by}
 use Rattle.live_dispatch.specs.Live.{ButLast, IsBegunRun, IsRoundBeginning, journals_notices, journals_text}
 use Rattle.live_dispatch.specs.work.Rows.{EndsIn, in_lane, start_text}
+use Rattle.live_desk.proofs.lemmas.EntryLemmas.{entries-append, lines-append, next-append, next-low, notices-append, state-append}
 use Rattle.live_dispatch.proofs.RowLemmas.{AreOf, RoundsGrow, lane-grows}
 
 -- a lane's run, and one more
@@ -46,48 +46,11 @@ lane-entries : (lane : ℕ) (xs ys : List Entry) → of_lane lane (xs ++ ys) ≡
 lane-entries lane xs ys = filter-append _ xs ys
 
 -- positions
-next-none : (p : ℕ) → p < 2 ^ 64 → next_position p [] ≡ p
-next-none p low = omega arith
-
-next-more : (p : ℕ) (e : Entry) (es : List Entry) → next_position (one_more p) es ≡ next_position p (e ∷ es)
-next-more p e es = omega arith
-
-pub next-append : (p : ℕ) (xs ys : List Entry) → next_position p (xs ++ ys) ≡ next_position (next_position p xs) ys
-next-append p xs ys = omega (arith, length-append xs ys)
-
-pub next-low : (p : ℕ) (es : List Entry) → next_position p es < 2 ^ 64
-next-low p es = omega arith
-
 position-low : (p : ℕ) (js : List Journal) → p < 2 ^ 64 → position_after_run p js < 2 ^ 64
 position-low p [] low = low
 position-low p (j ∷ js) low = position-low (next_position p j.entries) js (next-low p j.entries)
 
-position-push : (p : ℕ) (js : List Journal) (j : Journal) → position_after_run p (js ++ j ∷ []) ≡ next_position (position_after_run p js) j.entries
-position-push p [] j = refl
-position-push p (k ∷ js) j = position-push (next_position p k.entries) js j
-
 -- texts
-lines-append : (xs ys : List (List ℕ)) → lines_text (xs ++ ys) ≡ lines_text xs ++ lines_text ys
-unfolding lines_text
-lines-append xs ys = flat_map-append (λ line. line ++ 10 ∷ []) xs ys
-
-lines-none : lines_text [] ≡ []
-unfolding lines_text
-lines-none = refl
-
-pub entries-append : (proof : Bool) (p : ℕ) (xs ys : List Entry) → p < 2 ^ 64
-    → lines_text (entries_lines proof p (xs ++ ys)) ≡ lines_text (entries_lines proof p xs) ++ lines_text (entries_lines proof (next_position p xs) ys)
-unfolding entries_lines
-entries-append proof p [] ys low =
-    ap (λ (k : ℕ). lines_text (entries_lines proof k ys)) (sym (next-none p low)) ∙ ap (λ (t : List ℕ). t ++ lines_text (entries_lines proof (next_position p []) ys)) (sym lines-none)
-entries-append proof p (e ∷ es) ys low =
-    let block : List (List ℕ) = (entry_line p e ∷ []) ++ entry_block proof e.command e.reply in
-    lines-append block (entries_lines proof (one_more p) (es ++ ys))
-    ∙ ap (λ (t : List ℕ). lines_text block ++ t) (entries-append proof (one_more p) es ys (omega arith))
-    ∙ ap (λ (k : ℕ). lines_text block ++ (lines_text (entries_lines proof (one_more p) es) ++ lines_text (entries_lines proof k ys))) (next-more p e es)
-    ∙ sym (append_assoc (lines_text block) (lines_text (entries_lines proof (one_more p) es)) (lines_text (entries_lines proof (next_position p (e ∷ es)) ys)))
-    ∙ ap (λ (t : List ℕ). t ++ lines_text (entries_lines proof (next_position p (e ∷ es)) ys)) (sym (lines-append block (entries_lines proof (one_more p) es)))
-
 round-begins : (number : ℕ) (proof : Bool) (j : Journal) → round_text number proof j ≡ round_line number ++ lines_text (entries_lines proof j.first j.entries)
 unfolding round_text
 round-begins number proof j = lines-append (numbered (codes "round ") number ∷ []) (entries_lines proof j.first j.entries)
@@ -104,24 +67,12 @@ round-grows number proof j es low =
     ∙ sym (append_assoc (round_line number) (lines_text (entries_lines proof j.first j.entries)) (lines_text (entries_lines proof (next_position j.first j.entries) es)))
     ∙ ap (λ t. t ++ lines_text (entries_lines proof (next_position j.first j.entries) es)) (sym (round-begins number proof j))
 
--- states, replies and notices
+-- replies
 module _ (nodes : List ℕ) (wait : ℕ) where
-  pub state-append : (s : State) (xs ys : List Entry) → state_after nodes wait s (xs ++ ys) ≡ state_after nodes wait (state_after nodes wait s xs) ys
-  unfolding state_after
-  state-append s [] ys = refl
-  state-append s (e ∷ es) ys = state-append (step nodes wait s e.command).0 es ys
-
   replies-append : (s : State) (xs ys : List Entry) → RepliesAreSteps nodes wait s xs → RepliesAreSteps nodes wait (state_after nodes wait s xs) ys → RepliesAreSteps nodes wait s (xs ++ ys)
   unfolding RepliesAreSteps state_after
   replies-append s [] ys p q = q
   replies-append s (e ∷ es) ys p q = (p.0, replies-append (step nodes wait s e.command).0 es ys p.1 q)
-
-  pub notices-append : (s : State) (xs ys : List Entry) → notices_from nodes wait s (xs ++ ys) ≡ notices_from nodes wait s xs ++ notices_from nodes wait (state_after nodes wait s xs) ys
-  unfolding notices_from state_after
-  notices-append s [] ys = refl
-  notices-append s (e ∷ es) ys =
-      ap (λ t. entry_notices s e.command e.reply ++ t) (notices-append (step nodes wait s e.command).0 es ys)
-      ∙ sym (append_assoc (entry_notices s e.command e.reply) (notices_from nodes wait (step nodes wait s e.command).0 es) (notices_from nodes wait (state_after nodes wait (step nodes wait s e.command).0 es) ys))
 
 module _ (settings : Settings) (roads : Roads) where
   closes-append : (s : State) (xs ys : List Entry) → ClosesAreGood settings roads s xs → ClosesAreGood settings roads (state_after roads.nodes settings.wait s xs) ys → ClosesAreGood settings roads s (xs ++ ys)
@@ -132,19 +83,6 @@ module _ (settings : Settings) (roads : Roads) where
   -- the state and the position behind journals
   abbrev after : State → List Journal → State
   after s js = state_after_run settings roads s js
-
-  state-push : (s : State) (js : List Journal) (j : Journal) → after s (js ++ j ∷ []) ≡ state_after roads.nodes settings.wait (after s js) j.entries
-  state-push s [] j = refl
-  state-push s (k ∷ js) j = state-push (state_after roads.nodes settings.wait s k.entries) js j
-
-  -- one more round
-  pub run-push : (s : State) (p : ℕ) (rs : List NumberedLanes) (js : List Journal) (r : NumberedLanes) (j : Journal) → IsRun settings roads s p rs js
-      → j.base ≡ after s js → j.first ≡ position_after_run p js → IsRoundRun settings roads r j → IsRun settings roads s p (rs ++ r ∷ []) (js ++ j ∷ [])
-  run-push s p [] [] r j run base first is = (base, first, is, tt)
-  run-push s p [] (k ∷ js) r j run base first is = absurd run
-  run-push s p (q ∷ rs) [] r j run base first is = absurd run
-  run-push s p (q ∷ rs) (k ∷ js) r j run base first is =
-      (run.0, run.1, run.2, run-push (state_after roads.nodes settings.wait s k.entries) (next_position p k.entries) rs js r j run.3 base first is)
 
   text-push : (s : State) (p : ℕ) (rs : List NumberedLanes) (js : List Journal) (r : NumberedLanes) (j : Journal) → IsRun settings roads s p rs js
       → journals_text settings.proof (rs ++ r ∷ []) (js ++ j ∷ []) ≡ journals_text settings.proof rs js ++ round_text r.number settings.proof j
@@ -231,8 +169,8 @@ module _ (settings : Settings) (roads : Roads) where
         let own : NumberedLanes = round_of lines number in
         let grown : NumberedLanes = round_of (lines ++ rows) number in
         let here : State = state_after roads.nodes settings.wait j.base j.entries in
-        let state : after s (done ++ j ∷ []) ≡ here = state-push s done j ∙ ap (λ t. state_after roads.nodes settings.wait t j.entries) (sym base) in
-        let position : position_after_run p (done ++ j ∷ []) ≡ next_position j.first j.entries = position-push p done j ∙ ap (λ n. next_position n j.entries) (sym first) in
+        let state : after s (done ++ j ∷ []) ≡ here = state-more settings roads s done j ∙ ap (λ t. state_after roads.nodes settings.wait t j.entries) (sym base) in
+        let position : position_after_run p (done ++ j ∷ []) ≡ next_position j.first j.entries = position-more p done j ∙ ap (λ n. next_position n j.entries) (sym first) in
         let small : j.first < 2 ^ 64 = subst (λ (n : ℕ). n < 2 ^ 64) (sym first) (position-low p done low) in
         let all_replies : RepliesAreSteps roads.nodes settings.wait j.base (j.entries ++ es) =
         replies-append roads.nodes settings.wait j.base j.entries es is.replies (subst (λ t. RepliesAreSteps roads.nodes settings.wait t es) state replies) in
@@ -283,12 +221,12 @@ module _ (settings : Settings) (roads : Roads) where
               ∙ sym (append_assoc (journals_notices settings roads done) (own_notices j) (notices_from roads.nodes settings.wait here fs))
               ∙ (λ i. sym (notices-push done j) i ++ notices_from roads.nodes settings.wait (sym state i) fs);
           state =
-              state-push s done k
+              state-more settings roads s done k
               ∙ ap (λ t. state_after roads.nodes settings.wait t (j.entries ++ es)) (sym base)
               ∙ state-append roads.nodes settings.wait j.base j.entries es
               ∙ ap (λ t. state_after roads.nodes settings.wait t es) (sym state);
           position =
-              position-push p done k
+              position-more p done k
               ∙ ap (λ n. next_position n (j.entries ++ es)) (sym first)
               ∙ next-append j.first j.entries es
               ∙ ap (λ n. next_position n es) (sym position);
@@ -332,8 +270,8 @@ module _ (settings : Settings) (roads : Roads) where
               ∙ ap (λ t. before ++ (t ++ lines_text (entries_lines settings.proof (position_after_run p journals) fs))) (sym starts);
           old_text = text-short s p (rounds_of lines) journals grown run;
           notices = λ fs. notices-push journals (with_more none_yet fs);
-          state = state-push s journals k;
-          position = position-push p journals k;
+          state = state-more settings roads s journals k;
+          position = position-more p journals k;
         }
 
     grown-joins : (front : List NumberedLanes) (journals : List Journal) → LastOf s p front (round_of lines number) journals → start_text round number ≡ []

@@ -1,10 +1,11 @@
 -- What stands of a run after more rows.
-use Rattle.std.proofs.Common.{◌≡◌, ℕ, ◌+◌, ◌<◌, ◌≤◌, Bool, List, [], ◌∷◌, ◌++◌, codes, length, take, drop, Option, Some, refl, sym, ap, subst, ◌∙◌, append_assoc, append-nil, take-append-drop, length-append, inl, inr, arith}
+use Rattle.std.proofs.Common.{◌≡◌, ℕ, ◌+◌, ◌<◌, ◌≤◌, List, [], ◌∷◌, ◌++◌, codes, length, take, drop, Option, Some, refl, sym, ap, subst, ◌∙◌, append_assoc, append-nil, take-append-drop, length-append, inl, inr, arith}
 use Rattle.std.specs.Io.KnownBytes.{Appends}
 use Rattle.std.proofs.KnownBytes.{Appends-trans}
 use Rattle.std.proofs.Math.Seq.{take-append-add}
 use Rattle.dispatch_engine.specs.Lane.{of_lane, IsLaneRun, IsLaneBeginning, ClosesAreGood}
 use Rattle.dispatch_engine.specs.Run.{IsReady, IsRun, position_after_run}
+use Rattle.dispatch_engine.proofs.lemmas.RunLemmas.{run-more}
 use Rattle.dispatch_report.specs.Lines.{lines_text}
 use Rattle.dispatch_report.specs.Round.{end_text, entries_lines, entry_text}
 use Rattle.dispatch_report.specs.Written.{Change, SinkView}
@@ -24,11 +25,13 @@ use Rattle.road_network.specs.Roads.{Roads}
 use Rattle.script_rows.specs.Script.{round_of}
 use Rattle.script_rows.specs.declared.line.Line.{Line}
 use Rattle.script_rows.specs.lemmas.Named.{rounds_of}
-use Rattle.live_dispatch.specs.Live.{AreWhole, BeginsRows, BeginWithRows, ButLast, HasAppended, IsBegunRun, journals_notices, journals_text, rows_text}
+use Rattle.live_batch.specs.Phase.{BeginWithRows}
+use Rattle.live_dispatch.specs.Live.{AreWhole, BeginsRows, ButLast, HasAppended, IsBegunRun, journals_notices, journals_text, rows_text}
 use Rattle.live_dispatch.specs.work.Rows.{EndsIn, in_lane, last_of, start_text}
 use Rattle.live_dispatch.specs.work.Standing.{Moment, Stands}
 use Rattle.live_dispatch.proofs.RowLemmas.{AreMore, AreOf, rows-more}
-use Rattle.live_dispatch.proofs.RunLemmas.{HasGrown, entries-append, has-grown, next-low, run-begins, run-push, with_more}
+use Rattle.live_desk.proofs.lemmas.EntryLemmas.{entries-append, next-low, one-text}
+use Rattle.live_dispatch.proofs.RunLemmas.{HasGrown, has-grown, run-begins, with_more}
 
 -- bytes that were written are a part of them and some more
 pub part-of : (old new : Option (List ℕ)) (bytes rest : List ℕ) → Appends old new bytes → 0 < length rest → AppendsPart old new (bytes ++ rest)
@@ -48,11 +51,6 @@ part-behind old new front text k short written = (
 
 some-append : (xs ys : List ℕ) → 0 < length ys → 0 < length (xs ++ ys)
 some-append xs ys some = omega (arith, length-append xs ys, some)
-
--- one entry's text
-pub one-text : (proof : Bool) (p : ℕ) (e : Entry) → lines_text (entries_lines proof p (e ∷ [])) ≡ entry_text proof p e
-unfolding entries_lines
-one-text proof p e = ap lines_text (append-nil _)
 
 pub end-some : (n : ℕ) → 0 < length (end_text n)
 unfolding end_text lines_text
@@ -128,7 +126,7 @@ module _ (settings : Settings) (roads : Roads) (start before : Moment) (Before :
     ends = subst (EndsIn all) (sym round) more.ends;
     journals = journals;
     run = subst (λ rs. IsRun settings roads start.book.base start.book.first rs journals) (sym grown.rounds)
-        (run-push settings roads start.book.base start.book.first grown.fronts grown.done (round_of all number) grown.journal grown.run grown.base grown.first (grown.whole lanes));
+        (run-more settings roads start.book.base start.book.first grown.fronts grown.done (round_of all number) grown.journal grown.run grown.base grown.first (grown.whole lanes));
     text = subst (λ (t : List ℕ). Appends start.sink.written now.sink.written t) (sym unfold-text)
         (Appends-trans start.sink.written before.sink.written now.sink.written old_text (more_of es) stands.text text);
     told = subst (λ (ns : List Notice). HaveHeard ns start.notifiers now.notifiers) (sym notices-are)

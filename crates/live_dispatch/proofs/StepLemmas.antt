@@ -14,13 +14,13 @@ use Rattle.dispatch_engine.proofs.lemmas.StandLemmas.{stands-plain}
 use Rattle.dispatch_report.specs.Lines.{lines_text}
 use Rattle.dispatch_report.specs.Round.{entries_lines, entry_text}
 use Rattle.dispatch_report.specs.declared.fault.ReportFault.{ReportFault}
-use Rattle.live_batch.specs.Phase.{AllLines, ClosesBatch, StartsWith, TakesRun, commands_of_pass, desk_after}
+use Rattle.live_batch.specs.Phase.{BeginWithRows, ClosesBatch, TakesRun, commands_of_pass, desk_after}
+use Rattle.live_batch.proofs.lemmas.RowLemmas.{runs-begin, runs-more, takes-start}
 use Rattle.live_batch.specs.declared.read_on.Halt.{Halt}
 use Rattle.live_batch.specs.declared.read_on.Halt.TheVariants as stop
 use Rattle.live_desk.specs.Desk.{IsPassedOn, Outputs, desk_of, desk_root, entries_text, notices_in, text_of}
 use Rattle.live_desk.specs.declared.desk.DeskRoot.{DeskRoot}
 use Rattle.live_desk.specs.declared.desk.LaneCommand.{LaneCommand}
-use Rattle.live_rows.specs.Rows.{TakesRows}
 use Rattle.request_book.specs.Book.{BookView, next_position}
 use Rattle.request_book.specs.Consistent.{IsNode}
 use Rattle.request_book.specs.Replay.{state_after, RepliesAreSteps}
@@ -41,68 +41,13 @@ use Rattle.script_rows.specs.Round.{MayStand}
 use Rattle.script_rows.specs.declared.line.Line.{Line}
 use Rattle.shared_book.specs.Locked.{is_light, sealed_by}
 use Rattle.shared_book.proofs.lemmas.LockedLemmas.{step-seals}
-use Rattle.live_dispatch.specs.Live.{AreRows, BeginWithRows, BeginsRows}
+use Rattle.live_dispatch.specs.Live.{BeginsRows}
 use Rattle.live_dispatch.specs.work.Rows.{in_lane, last_of, start_text}
 use Rattle.live_dispatch.specs.work.Standing.{AppendsSome, HasRunOn, HasTaken, HaveCome, Moment, Stands, entry_for, outputs_of, row_text}
 use Rattle.live_dispatch.proofs.BatchLemmas.{batch-begun, batch-closes, batch-ended, batch-lanes, batch-others, batch-unclosed, close-run, none-left, row-lanes, rows-of, some_close, stands-good, stands-silent, told, zero-commands}
-use Rattle.live_dispatch.proofs.RunLemmas.{entries-append, next-append, next-low}
-use Rattle.live_dispatch.proofs.StandLemmas.{Gives, begins-broken, begins-one, begins-whole, one-text, stands-after}
+use Rattle.live_desk.proofs.lemmas.EntryLemmas.{entries-append, next-append, next-low, one-text}
+use Rattle.live_dispatch.proofs.StandLemmas.{Gives, begins-broken, begins-one, begins-whole, stands-after}
 use Rattle.live_dispatch.proofs.WriteLemmas.{some-part, some-whole}
-
--- rows that were taken
-pub takes-begin : (old new : Option (List Line)) (rows : List Line) → TakesRows old new rows → BeginWithRows old rows
-takes-begin None new rows takes = tt
-takes-begin (Some all) None rows takes = absurd takes
-takes-begin (Some all) (Some rest) rows takes = (rest, takes)
-
-pub takes-all : (old new : Option (List Line)) (rows : List Line) → TakesRows old new rows → (new ≡ None → old ≡ None) → ((rest : List Line) → new ≡ Some rest → rest ≡ []) → AreRows old rows
-takes-all None new rows takes none ends = tt
-takes-all (Some all) None rows takes none ends = absurd takes
-takes-all (Some all) (Some rest) rows takes none ends = takes ∙ ap (λ l. rows ++ l) (ends rest refl) ∙ append-nil rows
-
-pub takes-more : (a b c : Option (List Line)) (xs ys : List Line) → TakesRows a b xs → TakesRows b c ys → TakesRows a c (xs ++ ys)
-takes-more None b c xs ys p q = tt
-takes-more (Some a) None c xs ys p q = absurd p
-takes-more (Some a) (Some b) None xs ys p q = absurd q
-takes-more (Some a) (Some b) (Some c) xs ys p q = p ∙ ap (λ l. xs ++ l) q ∙ sym (append_assoc xs ys c)
-
-takes-last : (a b : Option (List Line)) (xs ys : List Line) → TakesRows a b xs → AllLines b ys → AreRows a (xs ++ ys)
-takes-last None b xs ys p q = tt
-takes-last (Some a) None xs ys p q = absurd p
-takes-last (Some a) (Some b) xs ys p q = p ∙ ap (λ l. xs ++ l) q
-
-takes-start : (a b : Option (List Line)) (xs ys : List Line) → TakesRows a b xs → StartsWith b ys → BeginWithRows a (xs ++ ys)
-takes-start None b xs ys p q = tt
-takes-start (Some a) None xs ys p q = absurd p
-takes-start (Some a) (Some b) xs ys p q = (q.0, p ∙ ap (λ l. xs ++ l) q.1 ∙ sym (append_assoc xs ys q.0))
-
-pub all-begin : (old : Option (List Line)) (rows : List Line) → AreRows old rows → BeginWithRows old rows
-all-begin None rows are = tt
-all-begin (Some all) rows are = ([], are ∙ sym (append-nil rows))
-
--- the rows behind a batch, by why no more came
-abbrev pub Behind : Halt → Option (List Line) → Option (List Line) → List Line → Type 0
-Behind (stop.Held row) old new lines = TakesRows old new (lines ++ row ∷ [])
-Behind stop.Ended old new lines = AreRows old lines
-Behind stop.ReadFault old new lines = BeginWithRows old lines
-Behind stop.OutOfMemory old new lines = BeginWithRows old lines
-
-come-behind : (end : Halt) (a b c : Option (List Line)) (xs ys : List Line) → TakesRows a b xs → TakesRun end b c ys → Behind end a c (xs ++ ys)
-come-behind (stop.Held row) a b c xs ys p q = subst (TakesRows a c) (sym (append_assoc xs ys (row ∷ []))) (takes-more a b c xs (ys ++ row ∷ []) p q)
-come-behind stop.Ended a b c xs ys p q = takes-last a b xs ys p q
-come-behind stop.ReadFault a b c xs ys p q = takes-start a b xs ys p q
-come-behind stop.OutOfMemory a b c xs ys p q = takes-start a b xs ys p q
-
-pub behind-begin : (end : Halt) (old new : Option (List Line)) (lines : List Line) → Behind end old new lines → BeginWithRows old lines
-behind-begin (stop.Held row) old new lines behind = cut old new lines (row ∷ []) behind
-  where
-    cut : (old new : Option (List Line)) (xs ys : List Line) → TakesRows old new (xs ++ ys) → BeginWithRows old xs
-    cut None new xs ys takes = tt
-    cut (Some all) None xs ys takes = absurd takes
-    cut (Some all) (Some rest) xs ys takes = (ys ++ rest, takes ∙ append_assoc xs ys rest)
-behind-begin stop.Ended old new lines behind = all-begin old lines behind
-behind-begin stop.ReadFault old new lines behind = behind
-behind-begin stop.OutOfMemory old new lines behind = behind
 
 -- a row's entry begins its lane's run, or is one with a close
 row-begun : (row : Line) (reply : Reply) (lane : ℕ) → IsLaneBeginning (in_lane (row ∷ []) lane) (of_lane lane ((record { lane = row.lane; command = row.command; reply = reply }) ∷ []))
@@ -236,12 +181,12 @@ module _ (settings : Settings) (roads : Roads) where
         → BeginsRows settings roads start.book start.rows (record { before = start.sink; after = record { written = written; faults = faults } }) (record { before = start.notifiers; after = before.notifiers })
     row-begins-by written faults some [] is =
         begins-whole settings roads start before (HaveCome start before (Some row)) stands row [] row.round (mine ∷ []) behind.round (own-gives book row stands.ready row.round (last_of before.round) refl behind)
-        written faults (takes-begin start.rows before.rows (stands.lines ++ row ∷ []) stands.are) (row-begun row mine.reply) before.notifiers
+        written faults (takes-start start.rows before.rows (stands.lines ++ row ∷ []) stands.are) (row-begun row mine.reply) before.notifiers
         (some-whole before.sink.written written mine_text some is)
         (subst (λ (ns : List Notice). HaveHeard ns before.notifiers before.notifiers) (sym (own-silent book row stands.ready row.round (last_of before.round) refl behind)) (all-heard-nothing before.notifiers))
     row-begins-by written faults some (x ∷ xs) is =
         begins-one settings roads start before (HaveCome start before (Some row)) stands row [] row.round (mine ∷ []) behind.round (own-gives book row stands.ready row.round (last_of before.round) refl behind)
-        written faults (takes-begin start.rows before.rows (stands.lines ++ row ∷ []) stands.are) (row-begun row mine.reply) mine refl
+        written faults (takes-start start.rows before.rows (stands.lines ++ row ∷ []) stands.are) (row-begun row mine.reply) mine refl
         (some-part before.sink.written written mine_text some x xs is)
 
     pub row-begins : (written : Option (List ℕ)) (faults : ℕ) → AppendsSome before.sink.written written (row_text settings.proof before.round book row)
@@ -385,8 +330,8 @@ module _ (settings : Settings) (roads : Roads) where
     all-are : (on.opens.stands.lines ++ row ∷ []) ++ run ≡ on.opens.stands.lines ++ (row ∷ run)
     all-are = append_assoc on.opens.stands.lines (row ∷ []) run
 
-    pub lines-behind : Behind end start.rows rows (on.opens.stands.lines ++ (row ∷ run))
-    lines-behind = subst (Behind end start.rows rows) all-are (come-behind end start.rows before.rows rows (on.opens.stands.lines ++ row ∷ []) run on.opens.stands.are
+    pub lines-behind : TakesRun end start.rows rows (on.opens.stands.lines ++ (row ∷ run))
+    lines-behind = subst (TakesRun end start.rows rows) all-are (runs-more end start.rows before.rows rows (on.opens.stands.lines ++ row ∷ []) run on.opens.stands.are
         (subst (λ r. TakesRun end r rows run) on.opens.same.0 on.ran.rows.taken))
 
     low : last ≤ round
@@ -424,7 +369,7 @@ module _ (settings : Settings) (roads : Roads) where
     batch-begins = by fault on.ran.desk.told
       where
         begin : BeginWithRows start.rows (on.opens.stands.lines ++ (row ∷ run))
-        begin = behind-begin end start.rows rows (on.opens.stands.lines ++ (row ∷ run)) lines-behind
+        begin = runs-begin end start.rows rows (on.opens.stands.lines ++ (row ∷ run)) lines-behind
 
         by : (f : Option ReportFault) → IsPassedOn f settings.proof book (outputs_of on.sealed) outputs
             → BeginsRows settings roads start.book start.rows (record { before = start.sink; after = outputs.sink }) (record { before = start.notifiers; after = outputs.notifiers })

@@ -1,5 +1,5 @@
 -- From one row to the next.
-use Rattle.std.proofs.Common.{◌≡◌, ℕ, ◌<◌, ◌≤◌, ◌^◌, Bool, List, [], ◌∷◌, ◌++◌, Option, None, Some, Result, Ok, Err, refl, sym, ap, subst, ◌∙◌, append_assoc, append-nil, arith}
+use Rattle.std.proofs.Common.{◌≡◌, ℕ, ◌<◌, ◌≤◌, ◌^◌, Bool, List, [], ◌∷◌, ◌++◌, Option, None, Some, Result, Ok, Err, refl, sym, ap, subst, ◌∙◌, arith}
 use Rattle.std.specs.Io.KnownBytes.{Appends}
 use Rattle.std.proofs.KnownBytes.{Appends-nil}
 use Rattle.batch_snapshot.specs.Batch.{Batch}
@@ -8,7 +8,9 @@ use Rattle.dispatch_report.specs.Written.{SinkView}
 use Rattle.live_desk.specs.Desk.{Outputs}
 use Rattle.dispatch_report.specs.declared.fault.ReportFault.{ReportFault}
 use Rattle.dispatch_report.specs.declared.fault.ReportFault.TheVariants as report
-use Rattle.live_rows.specs.Rows.{NoRows, TakesRows}
+use Rattle.live_batch.specs.Phase.{AreRows, BeginWithRows}
+use Rattle.live_batch.proofs.lemmas.RowLemmas.{takes-all, takes-begin, takes-more, takes-none, takes-start}
+use Rattle.live_rows.specs.Rows.{TakesRows}
 use Rattle.live_rows.specs.declared.lines.LineFault.{LineFault}
 use Rattle.live_rows.specs.declared.lines.LineFault.TheVariants as line
 use Rattle.pool_io.specs.Faults.{Rose}
@@ -22,13 +24,13 @@ use Rattle.road_network.specs.Roads.{Roads}
 use Rattle.script_rows.specs.Line.{IsBehind}
 use Rattle.script_rows.specs.declared.line.Line.{Line}
 use Rattle.script_rows.specs.lemmas.Named.{rounds_of}
-use Rattle.live_dispatch.specs.Live.{AreRows, BeginWithRows, journals_notices, journals_text}
+use Rattle.live_dispatch.specs.Live.{journals_notices, journals_text}
 use Rattle.live_dispatch.specs.declared.fault.LiveFault.{LiveFault}
 use Rattle.live_dispatch.specs.declared.fault.LiveFault.TheVariants as live
 use Rattle.live_dispatch.specs.work.Rows.{EndsIn, last_of}
 use Rattle.live_dispatch.specs.work.Standing.{AppendsSome, Awaits, GivesNext, HasEnded, HasTaken, HaveCome, Moment, Opens, Stands, WritesSome, of_line, of_report, outputs_of, row_text}
 use Rattle.live_dispatch.proofs.EndLemmas.{begun-ended, stood-ended}
-use Rattle.live_dispatch.proofs.StepLemmas.{row-begins, takes-begin, takes-more}
+use Rattle.live_dispatch.proofs.StepLemmas.{row-begins}
 
 -- what holds between two rows
 pub record IsBetween (settings : Settings) (roads : Roads) (start now : Moment) (came : ℕ) (held : Option Line) (proof : Bool) : Type 0 where
@@ -43,23 +45,13 @@ next-held start now (Some held) rows row lines come gives =
     let same : held ≡ row = (let both : Some row ≡ Some held = gives.0 in cc) in
     subst (λ r. TakesRows start.rows r (lines ++ row ∷ [])) (sym gives.1) (subst (λ r. TakesRows start.rows now.rows (lines ++ r ∷ [])) same come)
 
-all-come : (old new : Option (List Line)) (rows : List Line) → TakesRows old new rows → NoRows new → AreRows old rows
-all-come None new rows takes none = tt
-all-come (Some all) None rows takes none = absurd takes
-all-come (Some all) (Some rest) rows takes none = takes ∙ ap (λ l. rows ++ l) none ∙ append-nil rows
-
 next-none : (start now : Moment) (held : Option Line) (rows : Option (List Line)) (lines : List Line) → HaveCome start now held lines → GivesNext held now.rows rows None → AreRows start.rows lines
-next-none start now None rows lines come gives = all-come start.rows now.rows lines come gives
+next-none start now None rows lines come gives = takes-all start.rows now.rows lines come gives
 next-none start now (Some held) rows lines come gives = (let both : None ≡ Some held = gives.0 in absurd cc)
 
 come-begin : (start now : Moment) (held : Option Line) (lines : List Line) → HaveCome start now held lines → BeginWithRows start.rows lines
-come-begin start now None lines come = takes-begin start.rows now.rows lines come
-come-begin start now (Some row) lines come = cut start.rows now.rows lines (row ∷ []) come
-  where
-    cut : (old new : Option (List Line)) (xs ys : List Line) → TakesRows old new (xs ++ ys) → BeginWithRows old xs
-    cut None new xs ys takes = tt
-    cut (Some all) None xs ys takes = absurd takes
-    cut (Some all) (Some rest) xs ys takes = (ys ++ rest, takes ∙ append_assoc xs ys rest)
+come-begin start now None lines come = takes-start start.rows now.rows lines come
+come-begin start now (Some row) lines come = takes-begin start.rows now.rows lines (row ∷ []) come
 
 line-write : (fault : LineFault) → of_line fault ≡ live.WriteFault → ⊥
 line-write line.ReadFault e = absurd cc
@@ -151,7 +143,7 @@ module _ (settings : Settings) (roads : Roads) (start : Moment) where
   unfolding state_after
   start-stands round kept empty low ready = record {
     lines = [];
-    are = nothing start.rows;
+    are = takes-none start.rows;
     ends = subst (EndsIn []) (sym round) (EndsIn.in_none refl);
     journals = [];
     run = tt;
@@ -165,9 +157,5 @@ module _ (settings : Settings) (roads : Roads) (start : Moment) where
     reads = omega arith;
   }
     where
-      nothing : (rows : Option (List Line)) → TakesRows rows rows []
-      nothing None = tt
-      nothing (Some all) = refl
-
       at : (p : ℕ) → p < 2 ^ 64 → next_position p [] ≡ p
       at p low = omega arith

@@ -1,5 +1,5 @@
 -- What stands of a run whose rows come one by one.
-use Rattle.std.specs.Prelude.{◌≡◌, ℕ, Bool, List, [], ◌∷◌, ◌++◌, map, Option, None, Some, ◌⊎◌}
+use Rattle.std.specs.Prelude.{◌≡◌, ℕ, Bool, List, [], ◌∷◌, ◌++◌, map, Option, ◌⊎◌}
 use Rattle.std.specs.Io.KnownBytes.{Appends}
 use Rattle.std.specs.List.{flat_map}
 use Rattle.pool_base.specs.Distinct.{distinct}
@@ -8,6 +8,7 @@ use Rattle.dispatch_engine.specs.Lane.{ClosesAreGood, IsLaneBeginning, of_lane}
 use Rattle.dispatch_engine.specs.Run.{IsRun, position_after_run, state_after_run}
 use Rattle.dispatch_report.specs.Round.{end_text, round_text}
 use Rattle.dispatch_report.specs.Written.{Change, SinkView}
+use Rattle.live_batch.specs.Phase.{AreRows, BeginWithRows}
 use Rattle.request_book.specs.Book.{BookView}
 use Rattle.request_book.specs.Replay.{RepliesAreSteps}
 use Rattle.request_book.specs.declared.journal.Entry.{Entry}
@@ -21,16 +22,6 @@ use Rattle.road_network.specs.Roads.{Roads}
 use Rattle.script_rows.specs.Round.{NumberedLanes, lane_at}
 use Rattle.script_rows.specs.Script.{round_of}
 use Rattle.script_rows.specs.declared.line.Line.{Line}
-
--- the rows to come, where they are told, are these
-abbrev pub AreRows : Option (List Line) → List Line → Type 0
-AreRows None rows = Unit {0}
-AreRows (Some all) rows = all ≡ rows
-
--- they begin with these
-abbrev pub BeginWithRows : Option (List Line) → List Line → Type 0
-BeginWithRows None rows = Unit {0}
-BeginWithRows (Some all) rows = (rest : List Line) × (all ≡ rows ++ rest)
 
 -- the rounds of rows, one for each number
 abbrev pub rows_rounds : List Line → List NumberedLanes

@@ -4,7 +4,6 @@ ghost use Rattle.dispatch_report.specs.Round.{entry_text};
 ghost use Rattle.dispatch_report.specs.Written.{sink_seen, WritesText};
 ghost use Rattle.request_book.specs.Book.{next_position};
 ghost use Rattle.request_book.specs.declared.journal.Entry.{Entry};
-ghost use Rattle.shared_book.specs.lemmas.Locked.{snapshot_before};
 ghost use Rattle.live_dispatch.specs.work.Rows.{start_text};
 ghost use Rattle.live_dispatch.specs.work.Standing.{HasTaken, WritesSome, entry_for, row_text};
 
@@ -14,6 +13,7 @@ use pool_base::OutOfMemory;
 use pool_io::Sink;
 use request_book::{Book, Command, Entry};
 use script_rows::Line;
+use shared_book::sealed_by_command;
 
 /// Runs a row and writes its line, behind the line of its round where the last row was of another. It gives the batch
 /// that the row sealed. `line` is room for a line.
@@ -71,7 +71,7 @@ fn run_command<K: Sink>(
     ensures taken { IfOk result (λ sealed. HasTaken book.old lane command sealed book.new) }
 {
     let position = book.next_position();
-    match sealed_by(book, &command) {
+    match sealed_by_command(book, &command) {
         Ok(sealed) => match book.apply(lane, command) {
             Ok(_reply) => match write_last(sink, line, position, book.entries(), proof) {
                 Ok(()) => Ok(sealed),
@@ -89,16 +89,6 @@ fn run_command<K: Sink>(
             drop(command);
             Err(ReportFault::OutOfMemory)
         }
-    }
-}
-
-/// The batch that a command would seal, if it is a seal.
-fn sealed_by(book: &Book, command: &Command) -> Result<Option<Snapshot>, OutOfMemory>
-    ensures { IfOk result (λ snapshot. snapshot ≡ snapshot_before book.now.wait book.now.state command.now) }
-{
-    match command {
-        Command::Seal { now } => book.would_seal(*now),
-        _ => Ok(None),
     }
 }
 

@@ -5,12 +5,13 @@ ghost use Rattle.pool_io.specs.Faults.{Rose};
 ghost use Rattle.dispatch_engine.specs.Run.{IsReady};
 ghost use Rattle.dispatch_report.specs.Written.{Change, sink_seen};
 ghost use Rattle.live_desk.specs.Desk.{outputs_seen};
+ghost use Rattle.live_rows.specs.Rows.{ComesBehind};
 ghost use Rattle.rider_notices.specs.Seen.{notifiers_seen};
 ghost use Rattle.rider_notices.specs.Told.{NotifierView};
 ghost use Rattle.script_rows.specs.Line.{IsBehind};
 ghost use Rattle.live_dispatch.specs.Live.{BeginsRows, RunsRows};
 ghost use Rattle.live_dispatch.specs.work.Rows.{last_of};
-ghost use Rattle.live_dispatch.specs.work.Standing.{Awaits, GivesNext, HasEnded, HaveCome, IsNext, Moment, Stands, moment};
+ghost use Rattle.live_dispatch.specs.work.Standing.{Awaits, GivesNext, HasEnded, HaveCome, Moment, Stands, moment};
 
 use crate::batch::run_batch;
 use crate::fault::{LiveFault, fault_of_line, fault_of_text};
@@ -126,7 +127,7 @@ fn run_next<
 /// The row that is held, or the next that comes.
 fn next_row<L: RowSource>(rows: &mut L, held: Option<Line>) -> Result<Option<Line>, LineFault>
     ensures row { IfOk result (GivesNext held (L.to_come rows.old) (L.to_come rows.new)) }
-    ensures behind { (last : ℕ) → Awaits last (L.last rows.old) held → IfOk result (IsNext last (L.last rows.new)) }
+    ensures behind { (last : ℕ) → Awaits last (L.last rows.old) held → IfOk result (ComesBehind last (L.last rows.new)) }
     ensures fault { IsErrOf result LineFault.ReadFault → Rose (L.faults rows.old) (L.faults rows.new) }
     ensures never_falls { L.faults rows.old ≤ L.faults rows.new }
 {

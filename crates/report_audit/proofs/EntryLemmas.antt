@@ -18,9 +18,9 @@ use Rattle.report_lines.specs.Next.{IsEntry, IsNextLine}
 use Rattle.report_lines.specs.declared.next.NextLine.{NextLine}
 use Rattle.report_lines.specs.declared.next.NextLine.TheVariants.{Entry as EntryOf}
 use Rattle.report_lines.proofs.lemmas.NextLemmas.{one_kind}
-use Rattle.lane_progress.specs.declared.stand.LaneStand.{LaneStand}
-use Rattle.lane_progress.specs.Stand.{stand_at, stand_after, HaveCome, AreDone, IsNext, IsNextFrom}
-use Rattle.lane_progress.proofs.lemmas.LaneLemmas.{come_more}
+use Rattle.dispatch_engine.specs.declared.stand.LaneStand.{LaneStand}
+use Rattle.dispatch_engine.specs.Progress.{stand_at, stand_after, HaveCome, AreDone, IsNext, IsNextFrom}
+use Rattle.dispatch_engine.proofs.lemmas.ProgressLemmas.{come_more}
 use Rattle.request_book.specs.Book.{BookView}
 use Rattle.request_book.specs.Command.{IsNoClose}
 use Rattle.request_book.specs.Step.{step}

@@ -24,7 +24,7 @@ use Rattle.request_book.specs.lemmas.Table.{answer, seal_refusal, seal_step, tab
 use Rattle.request_book.proofs.lemmas.StepTable.{by-table, would_seal-table}
 use Rattle.rider_limits.specs.declared.settings.Settings.{Settings}
 use Rattle.road_network.specs.Roads.{Roads}
-use Rattle.shared_book.specs.lemmas.Locked.{snapshot_before}
+use Rattle.shared_book.specs.Locked.{snapshot_before}
 use Rattle.report_audit.specs.Types.{IsTold, AreTold}
 use Rattle.report_audit.proofs.TextLemmas.{next-none, next-more}
 

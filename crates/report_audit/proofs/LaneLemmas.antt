@@ -8,8 +8,8 @@ use Rattle.batch_snapshot.specs.Batch.{Batch}
 use Rattle.dispatch_engine.specs.Lane.{of_lane, IsLaneRun, IsLaneRunFrom, IsLaneBeginning, last_sealed}
 use Rattle.dispatch_engine.proofs.lemmas.LaneLemmas.{plain-quiet}
 use Rattle.dispatch_engine.proofs.lemmas.StandLemmas.{stands-plain}
-use Rattle.lane_progress.specs.declared.stand.LaneStand.{LaneStand}
-use Rattle.lane_progress.specs.Stand.{at_start, stand_at, IsRest, IsNext, IsNextFrom, stand_after, HaveCome, AreDone}
+use Rattle.dispatch_engine.specs.declared.stand.LaneStand.{LaneStand}
+use Rattle.dispatch_engine.specs.Progress.{at_start, stand_at, IsRest, IsNext, IsNextFrom, stand_after, HaveCome, AreDone}
 use Rattle.request_book.specs.Command.{IsNoClose}
 use Rattle.request_book.specs.Step.{step}
 use Rattle.request_book.specs.declared.command.Command.{Command}
@@ -21,8 +21,7 @@ use Rattle.request_book.specs.declared.reply.Reply.{Reply}
 use Rattle.request_book.specs.declared.reply.Reply.TheVariants.{Accepted, Closed}
 use Rattle.request_book.specs.declared.state.State.{State}
 use Rattle.script_rows.specs.Round.{NumberedLanes, IsRound, MayStand, lane_at}
-use Rattle.shared_book.specs.Locked.{sealed_by}
-use Rattle.shared_book.specs.lemmas.Locked.{snapshot_before}
+use Rattle.shared_book.specs.Locked.{sealed_by, snapshot_before}
 use Rattle.shared_book.proofs.lemmas.LockedLemmas.{step-sealed}
 use Rattle.report_audit.specs.work.Steps.{Waits}
 use Rattle.report_audit.proofs.JournalLemmas.{sealed-after}

@@ -16,9 +16,9 @@ use Rattle.report_lines.specs.Next.{IsNextLine}
 use Rattle.report_lines.specs.declared.next.NextLine.{NextLine}
 use Rattle.report_lines.specs.declared.next.NextLine.TheVariants.{Round as RoundOf, Done as DoneOf, Entry as EntryOf}
 use Rattle.report_lines.proofs.lemmas.NextLemmas.{one_kind}
-use Rattle.lane_progress.specs.declared.stand.LaneStand.{LaneStand}
-use Rattle.lane_progress.specs.Stand.{stand_at, stand_after, HaveCome, IsNext, IsNextFrom}
-use Rattle.lane_progress.proofs.lemmas.LaneLemmas.{come_more}
+use Rattle.dispatch_engine.specs.declared.stand.LaneStand.{LaneStand}
+use Rattle.dispatch_engine.specs.Progress.{stand_at, stand_after, HaveCome, IsNext, IsNextFrom}
+use Rattle.dispatch_engine.proofs.lemmas.ProgressLemmas.{come_more}
 use Rattle.pool_io.specs.Faults.{one_more}
 use Rattle.report_lines.specs.Cut.{is_one_line}
 use Rattle.report_lines.proofs.lemmas.OneBlock.{cut_once}

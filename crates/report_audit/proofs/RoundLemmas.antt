@@ -12,8 +12,8 @@ use Rattle.report_lines.specs.Next.{IsNextLine}
 use Rattle.report_lines.specs.declared.next.NextLine.{NextLine}
 use Rattle.report_lines.specs.declared.next.NextLine.TheVariants.{Round as RoundOf}
 use Rattle.report_lines.proofs.lemmas.NextLemmas.{one_kind}
-use Rattle.lane_progress.specs.declared.stand.LaneStand.{LaneStand}
-use Rattle.lane_progress.specs.Stand.{at_start, stand_at, HaveCome, AreDone}
+use Rattle.dispatch_engine.specs.declared.stand.LaneStand.{LaneStand}
+use Rattle.dispatch_engine.specs.Progress.{at_start, stand_at, HaveCome, AreDone}
 use Rattle.report_lines.proofs.lemmas.OneBlock.{cut_once}
 use Rattle.request_book.specs.Book.{BookView, next_position}
 use Rattle.request_book.specs.Replay.{state_after, RepliesAreSteps}

@@ -6,7 +6,7 @@ ghost use Rattle.report_lines.specs.Reply.{IsReply};
 ghost use Rattle.request_book.specs.Book.{IsApplied, next_position};
 ghost use Rattle.request_book.specs.Command.{IsNoClose};
 ghost use Rattle.request_book.specs.declared.reply.Reply.{Reply as OneReply};
-ghost use Rattle.shared_book.specs.lemmas.Locked.{snapshot_before};
+ghost use Rattle.shared_book.specs.Locked.{snapshot_before};
 
 use crate::line::is_entry_line;
 use crate::numbers::fits_reply;

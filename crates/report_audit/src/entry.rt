@@ -1,7 +1,7 @@
 //! An entry of a report.
 ghost use Rattle.std.specs.Prelude.{◌≡◌, ◌<◌, ℕ, IfErr, IfOk, MatchResult, None, Some};
 ghost use Rattle.dispatch_engine.specs.Run.{journal_of};
-ghost use Rattle.lane_progress.specs.Stand.{AreDone, stand_at};
+ghost use Rattle.dispatch_engine.specs.Progress.{AreDone, stand_at};
 ghost use Rattle.script_rows.specs.Round.{IsRound};
 ghost use Rattle.report_audit.specs.work.Taking.{CommandStops, TakesCommand};
 ghost use Rattle.report_audit.specs.work.Steps.{EntryRead, IsEntryOf, IsWithin, StopsWithin};
@@ -12,7 +12,7 @@ use crate::numbers::fits_command;
 use crate::setup::Setup;
 use crate::stop::{Between, Stop, line_between, wrong_line};
 use batch_snapshot::Snapshot;
-use lane_progress::Progress;
+use dispatch_engine::Progress;
 use report_lines::NextLine;
 use request_book::{Book, Reply};
 use script_rows::Round;

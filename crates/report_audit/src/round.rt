@@ -7,7 +7,7 @@ ghost use Rattle.report_audit.specs.work.Rounds.{IsRoundStart, HasRoundLine, IsN
 use crate::entry::audit_entry;
 use crate::setup::Setup;
 use crate::stop::{Stop, line_between, wrong_line};
-use lane_progress::Progress;
+use dispatch_engine::Progress;
 use report_lines::NextLine;
 use request_book::{Book, Command, Entry, Reply};
 use script_rows::Round;

@@ -19,8 +19,6 @@ use Rattle.pool_base.specs.declared.which.Which.{Which}
 use Rattle.pool_base.specs.declared.which.Which.TheVariants as file
 use Rattle.pool_io.specs.Faults.{Rose}
 use Rattle.pool_io.specs.declared.input.Input.{Input}
-use Rattle.pool_io.specs.declared.input.Input.TheVariants.{Rows, Own}
-use Rattle.pool_io.specs.declared.records.RowFault.TheVariants as row
 use Rattle.request_book.specs.Book.{BookView}
 use Rattle.rider_limits.specs.Words.{fault_of}
 use Rattle.rider_limits.specs.declared.settings.Settings.{Settings}
@@ -29,7 +27,7 @@ use Rattle.road_network.specs.Roads.{Roads}
 use Rattle.script_rows.specs.declared.line.Line.{Line}
 use Rattle.script_rows.specs.declared.version.ScriptVersion.{ScriptVersion}
 use Rattle.ridepool.specs.Inputs.{AreGood, IsWithin, Reads}
-use Rattle.ridepool.specs.Live.{AnswersLive, AreLimited, AreRowsOf, BeginsLive, EndsBehind, EndsLive, ExplainsLive, HasHead, IsFaultlessLive, IsLiveStop, IsSilentCall, LiveCall, LiveInputs, LiveSeen, StopsLive, live_head, opened_book, words_of_run}
+use Rattle.ridepool.specs.Live.{AnswersLive, AreLimited, AreRowsOf, BeginsLive, EndsLive, ExplainsLive, HasHead, IsFaultlessLive, IsLiveStop, IsSilentCall, LiveCall, LiveInputs, LiveSeen, live_head, opened_book, words_of_run}
 use Rattle.ridepool.specs.Reading.{network_in, vehicles_in}
 use Rattle.ridepool.specs.Seen.{IsUntouched, SourceView}
 use Rattle.ridepool.proofs.ReadingLemmas.{reads_within}
@@ -55,17 +53,17 @@ ready-live i book is = record { nodes = ap (λ b. b.nodes) is; wait = ap (λ b. 
 pub start-stops : (i : LiveInputs) (seen : LiveSeen) (fault : StartFault) (status : RunStatus) → status ≡ status_of_start fault → IsSilentCall seen
     → ((fields : ℕ) → fault ≡ start.Header fields → HasOtherStart seen.script fields) → (fault ≡ start.ReadFault → Rose seen.reads.before seen.reads.after)
     → EndsLive i seen status
-start-stops i seen (start.Header fields) status is silent other rose = subst (EndsLive i seen) (sym is) (other fields refl, silent)
-start-stops i seen start.ReadFault status is silent other rose = subst (EndsLive i seen) (sym is) (inl silent, rose refl)
-start-stops i seen start.OutOfMemory status is silent other rose = subst (EndsLive i seen) (sym is) (inl silent)
+start-stops i seen (start.Header fields) status is silent other rose = subst (EndsLive i seen) (sym is) (EndsLive.headless fields (other fields refl) silent)
+start-stops i seen start.ReadFault status is silent other rose = subst (EndsLive i seen) (sym is) (EndsLive.unread (inl silent) (rose refl))
+start-stops i seen start.OutOfMemory status is silent other rose = subst (EndsLive i seen) (sym is) (EndsLive.unstored (inl silent))
 
 -- a call whose head isn't written whole
 pub head-stops : (i : LiveInputs) (seen : LiveSeen) (version : ScriptVersion) (next : Option (List ℕ)) (fault : ReportFault) (status : RunStatus) → status ≡ status_of fault
     → HasStarted seen.script next version → IsUntouched seen.notifiers → WritesText seen.out (live_head i) (Err fault) → EndsLive i seen status
 head-stops i seen version next report.WriteFault status is started untold wrote =
-    subst (EndsLive i seen) (sym is) (inl (rows_to_come version 0 next, rows-of version seen.script next started, wrote.bytes, untold), wrote.fault refl)
+    subst (EndsLive i seen) (sym is) (EndsLive.failed (inl (rows_to_come version 0 next, rows-of version seen.script next started, wrote.bytes, untold)) (wrote.fault refl))
 head-stops i seen version next report.OutOfMemory status is started untold wrote =
-    subst (EndsLive i seen) (sym is) (inr (inl (rows_to_come version 0 next, rows-of version seen.script next started, wrote.bytes, untold)))
+    subst (EndsLive i seen) (sym is) (EndsLive.unstored (inr (inl (rows_to_come version 0 next, rows-of version seen.script next started, wrote.bytes, untold))))
 
 -- a call whose rows were begun
 module _ (i : LiveInputs) (seen : LiveSeen) (version : ScriptVersion) (next : Option (List ℕ)) (book : BookView) (behind : SinkView) (reads : ℕ) where
@@ -87,19 +85,19 @@ module _ (i : LiveInputs) (seen : LiveSeen) (version : ScriptVersion) (next : Op
       → (IsErrOf ended live.WriteFault → Rose behind.faults seen.out.after.faults) → (IsErrOf ended live.ReadFault → Rose reads seen.reads.after)
       → EndsLive i seen status
   rows-end (Ok done) status named is started wrote falls reads_fall runs write_fault read_fault =
-      subst (EndsLive i seen) (sym named) (head started wrote (subst (λ (b : BookView). RunsRows i.settings i.roads b (rows_to_come version 0 next) Rest seen.notifiers) is runs))
+      subst (EndsLive i seen) (sym named) (EndsLive.done (head started wrote (subst (λ (b : BookView). RunsRows i.settings i.roads b (rows_to_come version 0 next) Rest seen.notifiers) is runs)))
   rows-end (Err live.ReadFault) status named is started wrote falls reads_fall begins write_fault read_fault =
-      subst (EndsLive i seen) (sym named) (inr (begun is started wrote begins), omega (arith, reads_fall, read_fault refl))
+      subst (EndsLive i seen) (sym named) (EndsLive.unread (inr (begun is started wrote begins)) (omega (arith, reads_fall, read_fault refl)))
   rows-end (Err live.WriteFault) status named is started wrote falls reads_fall begins write_fault read_fault =
-      subst (EndsLive i seen) (sym named) (begun is started wrote begins, omega (arith, falls, write_fault refl))
+      subst (EndsLive i seen) (sym named) (EndsLive.failed (begun is started wrote begins) (omega (arith, falls, write_fault refl)))
   rows-end (Err live.OutOfMemory) status named is started wrote falls reads_fall begins write_fault read_fault =
-      subst (EndsLive i seen) (sym named) (inr (begun is started wrote begins))
+      subst (EndsLive i seen) (sym named) (EndsLive.unstored (inr (begun is started wrote begins)))
 
 -- why a call ended before its rows
 module _ (call : LiveCall) (silent : IsSilentCall call.rest) where
   pub words-stop : (status : RunStatus) → IsUntouched call.network → IsUntouched call.fleet → RefusesWords (words_of_run call.words) status → ExplainsLive call status
-  words-stop (Words fault) network fleet why = (why, network, fleet, silent)
-  words-stop OutOfMemory network fleet why = inl silent
+  words-stop (Words fault) network fleet why = ExplainsLive.refused fault why network fleet silent
+  words-stop OutOfMemory network fleet why = ExplainsLive.unstored silent
   words-stop Done network fleet why = absurd why
   words-stop (Network fault) network fleet why = absurd why
   words-stop (Fleet fault) network fleet why = absurd why
@@ -112,66 +110,39 @@ module _ (call : LiveCall) (silent : IsSilentCall call.rest) where
   words-stop (Report fault) network fleet why = absurd why
 
   network-unread : (settings : Settings) (status : RunStatus) → AreGood (words_of_run call.words) settings → IsUntouched call.fleet → IsUnread call.network file.Network status → ExplainsLive call status
-  network-unread settings _ good fleet (IsUnread.long why) = inl (good.faultless, (why, fleet), silent)
-  network-unread settings _ good fleet (IsUnread.failed within rose) = inl (good.faultless, (within, rose, fleet), silent)
-  network-unread settings _ good fleet (IsUnread.memory within) = inl silent
+  network-unread settings _ good fleet (IsUnread.long why) = ExplainsLive.stopped _ (good.faultless, IsLiveStop.network_long why fleet, silent)
+  network-unread settings _ good fleet (IsUnread.failed within rose) = ExplainsLive.stopped _ (good.faultless, IsLiveStop.network_unread within rose fleet, silent)
+  network-unread settings _ good fleet (IsUnread.memory within) = ExplainsLive.unstored silent
 
   pub network-stops : (settings : Settings) (status : RunStatus) → AreGood (words_of_run call.words) settings → IsUntouched call.fleet
       → StopsAt call.network file.Network Network network_in status → ExplainsLive call status
   network-stops settings _ good fleet (StopsAt.unread status why) = network-unread settings status good fleet why
-  network-stops settings _ good fleet (StopsAt.refused fault reads hides) = inl (good.faultless, (reads, fleet), silent)
+  network-stops settings _ good fleet (StopsAt.refused fault reads hides) = ExplainsLive.stopped _ (good.faultless, IsLiveStop.network_refused fault reads fleet, silent)
 
   fleet-unread : (settings : Settings) (roads : Roads) (status : RunStatus) → AreGood (words_of_run call.words) settings → Reads file.Network call.network (λ bytes. network_in bytes ≡ Ok roads)
       → IsUnread call.fleet file.Fleet status → ExplainsLive call status
-  fleet-unread settings roads _ good network (IsUnread.long why) = inl (good.faultless, (roads, network, why), silent)
-  fleet-unread settings roads _ good network (IsUnread.failed within rose) = inl (good.faultless, (roads, network, (within, rose)), silent)
-  fleet-unread settings roads _ good network (IsUnread.memory within) = inl silent
+  fleet-unread settings roads _ good network (IsUnread.long why) = ExplainsLive.stopped _ (good.faultless, IsLiveStop.fleet_long (roads, network, why), silent)
+  fleet-unread settings roads _ good network (IsUnread.failed within rose) = ExplainsLive.stopped _ (good.faultless, IsLiveStop.fleet_unread (roads, network, (within, rose)), silent)
+  fleet-unread settings roads _ good network (IsUnread.memory within) = ExplainsLive.unstored silent
 
   pub fleet-stops : (settings : Settings) (roads : Roads) (status : RunStatus) → AreGood (words_of_run call.words) settings → Reads file.Network call.network (λ bytes. network_in bytes ≡ Ok roads)
       → StopsAt call.fleet file.Fleet Fleet (vehicles_in roads.nodes) status → ExplainsLive call status
   fleet-stops settings roads _ good network (StopsAt.unread status why) = fleet-unread settings roads status good network why
-  fleet-stops settings roads _ good network (StopsAt.refused fault reads hides) = inl (good.faultless, (roads, network, reads), silent)
-
--- a call that ended behind its inputs
-pub ends-behind : (call : LiveCall) (status : RunStatus) → EndsBehind call status → ExplainsLive call status
-ends-behind call (Words fault) ends = absurd ends.2
-ends-behind call OutOfMemory ends = inr ends
-ends-behind call Done ends = inr ends
-ends-behind call (Network fault) ends = inr ends
-ends-behind call (Fleet fault) ends = inr ends
-ends-behind call (Script fault) ends = inr ends
-ends-behind call (TooLong w) ends = inr ends
-ends-behind call (ReadFault w) ends = inr ends
-ends-behind call WriteFault ends = inr ends
-ends-behind call (Day fault) ends = inr ends
-ends-behind call (TooLate round) ends = inr ends
-ends-behind call (Report fault) ends = inr ends
+  fleet-stops settings roads _ good network (StopsAt.refused fault reads hides) = ExplainsLive.stopped _ (good.faultless, IsLiveStop.fleet_refused fault (roads, network, reads), silent)
 
 -- where nothing is wrong, a call is done or out of memory
 no-stop : (call : LiveCall) (status : RunStatus) → IsFaultlessLive call → IsLiveStop call.network call.fleet status → ⊥
-no-stop call (Network fault) f why =
-    ok_is_no_err (network_in f.network_text) f.inputs.roads fault f.roads (read_of call.network f.network_text (λ b. network_in b ≡ Err fault) f.network why.0)
-no-stop call (TooLong file.Network) f why = not_long file.Network call.network f.network_text f.network why.0
-no-stop call (ReadFault file.Network) f why = f.network.faultless why.1
-no-stop call (Fleet fault) f why =
+no-stop call _ f (IsLiveStop.network_refused fault why fleet) =
+    ok_is_no_err (network_in f.network_text) f.inputs.roads fault f.roads (read_of call.network f.network_text (λ b. network_in b ≡ Err fault) f.network why)
+no-stop call _ f (IsLiveStop.network_long why fleet) = not_long file.Network call.network f.network_text f.network why
+no-stop call _ f (IsLiveStop.network_unread within rose fleet) = f.network.faultless rose
+no-stop call _ f (IsLiveStop.fleet_refused fault why) =
     let same : why.0 ≡ f.inputs.roads = same_value (network_in f.network_text) why.0 f.inputs.roads (read_of call.network f.network_text (λ b. network_in b ≡ Ok why.0) f.network why.1) f.roads in
     let refused = read_of call.fleet f.fleet_text (λ b. vehicles_in why.0.nodes b ≡ Err fault) f.fleet why.2 in
     let P : Roads → Type 0 = λ r. vehicles_in r.nodes f.fleet_text ≡ Err fault in
     ok_is_no_err (vehicles_in f.inputs.roads.nodes f.fleet_text) f.vehicles.vehicles fault f.vehicles.read (subst P same refused)
-no-stop call (TooLong file.Fleet) f why = not_long file.Fleet call.fleet f.fleet_text f.fleet why.2
-no-stop call (ReadFault file.Fleet) f why = f.fleet.faultless why.2.1
-no-stop call (TooLong file.Script) f why = why
-no-stop call (TooLong file.Report) f why = why
-no-stop call (ReadFault file.Script) f why = why
-no-stop call (ReadFault file.Report) f why = why
-no-stop call Done f why = why
-no-stop call (Words fault) f why = why
-no-stop call (Script fault) f why = why
-no-stop call WriteFault f why = why
-no-stop call OutOfMemory f why = why
-no-stop call (Day fault) f why = why
-no-stop call (TooLate round) f why = why
-no-stop call (Report fault) f why = why
+no-stop call _ f (IsLiveStop.fleet_long why) = not_long file.Fleet call.fleet f.fleet_text f.fleet why.2
+no-stop call _ f (IsLiveStop.fleet_unread why) = f.fleet.faultless why.2.1
 
 has-header : (script : Option (List ℕ)) (text : List ℕ) (rows : List Line) (fields : ℕ) → script ≡ Some text → live_rows (lines_in text) ≡ Ok rows → HasOtherStart script fields → ⊥
 has-header script text rows fields told header other =
@@ -179,44 +150,18 @@ has-header script text rows fields told header other =
 
 no-end : (call : LiveCall) (i : LiveInputs) (status : RunStatus) → IsFaultlessLive call → (Rose call.rest.out.before.faults call.rest.out.after.faults → ⊥) → EndsLive i call.rest status
     → (status ≡ Done) ⊎ (status ≡ OutOfMemory)
-no-end call i Done f writes ends = inl refl
-no-end call i OutOfMemory f writes ends = inr refl
-no-end call i WriteFault f writes ends = absurd (writes ends.1)
-no-end call i (ReadFault file.Script) f writes ends = absurd (f.faultless ends.1)
-no-end call i (ReadFault file.Network) f writes ends = absurd ends
-no-end call i (ReadFault file.Fleet) f writes ends = absurd ends
-no-end call i (ReadFault file.Report) f writes ends = absurd ends
-no-end call i (Script (Rows (row.Header fields))) f writes ends = absurd (has-header call.rest.script f.text f.rows fields f.told f.header ends.0)
-no-end call i (Script (Rows (row.UnequalLength n))) f writes ends = absurd ends
-no-end call i (Script (Rows row.OutOfMemory)) f writes ends = absurd ends
-no-end call i (Script (Own fault)) f writes ends = absurd ends
-no-end call i (Words fault) f writes ends = absurd ends
-no-end call i (Network fault) f writes ends = absurd ends
-no-end call i (Fleet fault) f writes ends = absurd ends
-no-end call i (TooLong w) f writes ends = absurd ends
-no-end call i (Day fault) f writes ends = absurd ends
-no-end call i (TooLate round) f writes ends = absurd ends
-no-end call i (Report fault) f writes ends = absurd ends
-
-stop-or-end : (call : LiveCall) (status : RunStatus) → IsFaultlessLive call → (Rose call.rest.out.before.faults call.rest.out.after.faults → ⊥) → StopsLive call status ⊎ EndsBehind call status
-    → (status ≡ Done) ⊎ (status ≡ OutOfMemory)
-stop-or-end call status f writes (inl stop) = absurd (no-stop call status f stop.1)
-stop-or-end call status f writes (inr ends) = no-end call ends.0 status f writes ends.2
+no-end call i _ f writes (EndsLive.done runs) = inl refl
+no-end call i _ f writes (EndsLive.headless fields other silent) = absurd (has-header call.rest.script f.text f.rows fields f.told f.header other)
+no-end call i _ f writes (EndsLive.unread begun rose) = absurd (f.faultless rose)
+no-end call i _ f writes (EndsLive.failed begun rose) = absurd (writes rose)
+no-end call i _ f writes (EndsLive.unstored begun) = inr refl
 
 complete-live : (call : LiveCall) (status : RunStatus) → IsFaultlessLive call → (Rose call.rest.out.before.faults call.rest.out.after.faults → ⊥) → ExplainsLive call status
     → (status ≡ Done) ⊎ (status ≡ OutOfMemory)
-complete-live call (Words fault) f writes why = absurd (none_is_no_some (fault_of (words_of_run call.words)) fault f.words.faultless why.0)
-complete-live call OutOfMemory f writes why = inr refl
-complete-live call Done f writes why = inl refl
-complete-live call (Network fault) f writes why = stop-or-end call (Network fault) f writes why
-complete-live call (Fleet fault) f writes why = stop-or-end call (Fleet fault) f writes why
-complete-live call (Script fault) f writes why = stop-or-end call (Script fault) f writes why
-complete-live call (TooLong w) f writes why = stop-or-end call (TooLong w) f writes why
-complete-live call (ReadFault w) f writes why = stop-or-end call (ReadFault w) f writes why
-complete-live call WriteFault f writes why = stop-or-end call WriteFault f writes why
-complete-live call (Day fault) f writes why = stop-or-end call (Day fault) f writes why
-complete-live call (TooLate round) f writes why = stop-or-end call (TooLate round) f writes why
-complete-live call (Report fault) f writes why = stop-or-end call (Report fault) f writes why
+complete-live call _ f writes (ExplainsLive.refused fault why network fleet silent) = absurd (none_is_no_some (fault_of (words_of_run call.words)) fault f.words.faultless why)
+complete-live call _ f writes (ExplainsLive.unstored silent) = inr refl
+complete-live call _ f writes (ExplainsLive.stopped status stop) = absurd (no-stop call status f stop.1)
+complete-live call _ f writes (ExplainsLive.ended status ends) = no-end call ends.0 status f writes ends.2
 
 pub answers-live : (call : LiveCall) (status : RunStatus) → ExplainsLive call status → AreLimited call.network call.fleet status → HidesNoMemory status → AnswersLive call status
 answers-live call status why limited hides =
@@ -236,21 +181,11 @@ answers-live call status why limited hides =
 
 -- the end of a call behind its inputs hides no want of memory
 pub ends-hide : (i : LiveInputs) (seen : LiveSeen) (status : RunStatus) → EndsLive i seen status → HidesNoMemory status
-ends-hide i seen Done ends = tt
-ends-hide i seen OutOfMemory ends = tt
-ends-hide i seen WriteFault ends = tt
-ends-hide i seen (ReadFault w) ends = tt
-ends-hide i seen (Script (Rows (row.Header fields))) ends = λ is. absurd cc
-ends-hide i seen (Script (Rows (row.UnequalLength n))) ends = absurd ends
-ends-hide i seen (Script (Rows row.OutOfMemory)) ends = absurd ends
-ends-hide i seen (Script (Own fault)) ends = absurd ends
-ends-hide i seen (Words fault) ends = tt
-ends-hide i seen (Network fault) ends = absurd ends
-ends-hide i seen (Fleet fault) ends = absurd ends
-ends-hide i seen (TooLong w) ends = tt
-ends-hide i seen (Day fault) ends = tt
-ends-hide i seen (TooLate round) ends = tt
-ends-hide i seen (Report fault) ends = absurd ends
+ends-hide i seen _ (EndsLive.done runs) = tt
+ends-hide i seen _ (EndsLive.headless fields other silent) = λ is. absurd cc
+ends-hide i seen _ (EndsLive.unread begun rose) = tt
+ends-hide i seen _ (EndsLive.failed begun rose) = tt
+ends-hide i seen _ (EndsLive.unstored begun) = tt
 
 -- words that are refused hide none
 pub words-hide : (words : List (List ℕ)) (status : RunStatus) → RefusesWords words status → HidesNoMemory status

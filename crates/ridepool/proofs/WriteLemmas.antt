@@ -11,6 +11,7 @@ use Rattle.std.proofs.Math.Seq.{take-suc, take-length}
 use Rattle.batch_snapshot.specs.Kept.{IsFleet}
 use Rattle.pool_io.specs.Sink.{AppendsPart}
 use Rattle.dispatch_engine.specs.Run.{IsReady, IsRoundRun, IsRun, IsSameRun, journal_of, position_after_run, state_after_run}
+use Rattle.dispatch_engine.proofs.lemmas.RunLemmas.{position-more, run-more, state-more}
 use Rattle.dispatch_report.specs.Head.{head_text}
 use Rattle.dispatch_report.specs.Lines.{lines_text}
 use Rattle.dispatch_report.specs.Round.{end_text}
@@ -23,7 +24,6 @@ use Rattle.pool_io.specs.Faults.{Rose}
 use Rattle.request_book.specs.Book.{BookView, IsBook, next_position, opening}
 use Rattle.request_book.specs.Replay.{state_after}
 use Rattle.request_book.specs.declared.journal.Journal.{Journal}
-use Rattle.request_book.specs.declared.state.State.{State}
 use Rattle.rider_limits.specs.declared.settings.Mode.{Mode}
 use Rattle.rider_limits.specs.declared.settings.Mode.TheVariants.{Run, Load, Drive, Audit}
 use Rattle.rider_limits.specs.declared.settings.Settings.{Settings}
@@ -46,11 +46,6 @@ use Rattle.ridepool.specs.work.Writing.{AreAllWith, AreFirst, IsReportWhole, add
 use Rattle.ridepool.specs.declared.status.RunStatus.{RunStatus}
 use Rattle.ridepool.specs.declared.status.RunStatus.TheVariants.{WriteFault, OutOfMemory}
 
--- positions of runs
-pub position_after_run-more : (position : ℕ) (js : List Journal) (j : Journal) → position_after_run position (js ++ j ∷ []) ≡ next_position (position_after_run position js) j.entries
-position_after_run-more position [] j = refl
-position_after_run-more position (k ∷ js) j = position_after_run-more (next_position position k.entries) js j
-
 -- positions stay below 2 ^ 64
 pub position_after_run-most : (position : ℕ) (js : List Journal) → position ≤ 2 ^ 64 - 1 → position_after_run position js ≤ 2 ^ 64 - 1
 position_after_run-most position [] most = most
@@ -68,20 +63,6 @@ flat_more : {X A : Type 0} (f : X → List A) (xs : List X) (x : X) → flat_map
 flat_more f xs x = flat_map-append f xs (x ∷ []) ∙ ap (λ t. flat_map f xs ++ t) (append-nil (f x))
 
 module _ (settings : Settings) (roads : Roads) where
-  -- a run of rounds, and a run of one more
-  run-more : (s : State) (position : ℕ) (rs : List NumberedLanes) (js : List Journal) (r : NumberedLanes) (j : Journal)
-      → IsRun settings roads s position rs js → j.base ≡ state_after_run settings roads s js → j.first ≡ position_after_run position js → IsRoundRun settings roads r j
-      → IsRun settings roads s position (rs ++ r ∷ []) (js ++ j ∷ [])
-  run-more s position [] [] r j run base first round = (base, first, round, tt)
-  run-more s position [] (k ∷ js) r j run base first round = absurd run
-  run-more s position (q ∷ rs) [] r j run base first round = absurd run
-  run-more s position (q ∷ rs) (k ∷ js) r j run base first round =
-      (run.0, run.1, run.2, run-more (state_after roads.nodes settings.wait s k.entries) (next_position position k.entries) rs js r j run.3 base first round)
-
-  pub state_after_run-more : (s : State) (js : List Journal) (j : Journal) → state_after_run settings roads s (js ++ j ∷ []) ≡ state_after roads.nodes settings.wait (state_after_run settings roads s js) j.entries
-  state_after_run-more s [] j = refl
-  state_after_run-more s (k ∷ js) j = state_after_run-more (state_after roads.nodes settings.wait s k.entries) js j
-
   -- no round, and one round more
   pub put_none : (a : Option (List ℕ)) (n : List NotifierView) → HasPut settings roads [] a a n n
   put_none a n = record { text = Appends-nil a; told = all-heard-nothing n }
@@ -121,7 +102,7 @@ module _ (settings : Settings) (roads : Roads) where
   pub position_next : (rounds : List DayRound) (i : ℕ) (r : DayRound) (p q : ℕ) → i < length rounds → r ≡ get_or rounds i r
       → p ≡ position_after_run 0 (journals_of (take i rounds)) → q ≡ next_position p r.journal.entries → q ≡ position_after_run 0 (journals_of (take (i + 1) rounds))
   position_next rounds i r p q within is at step =
-      step ∙ ap (λ x. next_position x r.journal.entries) at ∙ sym (position_after_run-more 0 (journals_of (take i rounds)) r.journal)
+      step ∙ ap (λ x. next_position x r.journal.entries) at ∙ sym (position-more 0 (journals_of (take i rounds)) r.journal)
       ∙ ap (position_after_run 0) (sym (journals_more (take i rounds) r)) ∙ ap (λ rs. position_after_run 0 (journals_of rs)) (take_next rounds i r within is)
 
   -- all rounds are put out
@@ -157,7 +138,7 @@ module _ (settings : Settings) (roads : Roads) where
             ∙ ap (λ ns. ns ++ r.number ∷ []) w.runs.numbers ∙ sym (map-append (λ (x : NumberedLanes). x.number) rounds (r ∷ []));
         run =
             subst (IsRun settings roads book.base book.first (rounds ++ r ∷ [])) (sym (journals_more w.made (made_of settings roads r j)))
-            (run-more book.base book.first rounds (journals_of w.made) r j w.runs.run (is.base ∙ w.base) (is.first ∙ w.first) is.run);
+            (run-more settings roads book.base book.first rounds (journals_of w.made) r j w.runs.run (is.base ∙ w.base) (is.first ∙ w.first) is.run);
       }
 
   written_more : (book current next : BookView) (rounds : List NumberedLanes) (r : NumberedLanes) (a b c : Option (List ℕ)) (n m k : List NotifierView)
@@ -173,10 +154,10 @@ module _ (settings : Settings) (roads : Roads) where
         base =
             x.base
             ∙ ap (λ s. state_after roads.nodes settings.wait s x.journal.entries) w.base
-            ∙ sym (state_after_run-more book.base js x.journal)
+            ∙ sym (state-more settings roads book.base js x.journal)
             ∙ ap (state_after_run settings roads book.base) (sym (journals_more w.made made));
         first =
-            x.first ∙ ap (λ p. next_position p x.journal.entries) w.first ∙ sym (position_after_run-more book.first js x.journal)
+            x.first ∙ ap (λ p. next_position p x.journal.entries) w.first ∙ sym (position-more book.first js x.journal)
             ∙ ap (position_after_run book.first) (sym (journals_more w.made made));
         entries = x.entries;
       }

@@ -4,6 +4,7 @@ use Rattle.std.specs.Io.KnownBytes.{Appends}
 use Rattle.batch_snapshot.specs.declared.vehicle.Vehicle.{Vehicle}
 use Rattle.dispatch_report.specs.Head.{head_text}
 use Rattle.dispatch_report.specs.Written.{Change, SinkView}
+use Rattle.fleet_state.specs.declared.fault.FleetFault.{FleetFault}
 use Rattle.fleet_state.specs.declared.fault.FleetFault.TheVariants as fleet
 use Rattle.live_dispatch.specs.Live.{BeginsRows, RunsRows}
 use Rattle.live_rows.specs.Lines.{lines_in}
@@ -11,13 +12,16 @@ use Rattle.live_rows.specs.Start.{live_rows, HasOtherStart}
 use Rattle.pool_base.specs.declared.which.Which.TheVariants as file
 use Rattle.pool_io.specs.Faults.{Rose}
 use Rattle.pool_io.specs.Sink.{AppendsPart}
+use Rattle.pool_io.specs.declared.input.Input.{Input}
 use Rattle.pool_io.specs.declared.input.Input.TheVariants.{Rows, Own}
 use Rattle.pool_io.specs.declared.records.RowFault.TheVariants as row
 use Rattle.request_book.specs.Book.{BookView, opening}
 use Rattle.rider_limits.specs.Words.{fault_of, text_given}
 use Rattle.rider_limits.specs.declared.settings.Settings.{Settings}
+use Rattle.rider_limits.specs.declared.word_fault.WordFault.{WordFault}
 use Rattle.rider_notices.specs.Told.{NotifierView}
 use Rattle.road_network.specs.Roads.{Roads}
+use Rattle.road_network.specs.declared.fault.NetworkFault.{NetworkFault}
 use Rattle.road_network.specs.declared.fault.NetworkFault.TheVariants as network
 use Rattle.script_rows.specs.declared.fault.ScriptFault.TheVariants as script
 use Rattle.script_rows.specs.declared.line.Line.{Line}
@@ -89,13 +93,12 @@ abbrev pub BeginsLive : LiveInputs → LiveSeen → Type 0
 BeginsLive i seen = CutsHead i seen ⊎ HasHead i seen (λ rows sink. BeginsRows i.settings i.roads (opened_book i) rows sink seen.notifiers)
 
 -- why a call whose network and fleet pass ended as it did, what is written, and who was told what
-abbrev pub EndsLive : LiveInputs → LiveSeen → RunStatus → Type 0
-EndsLive i seen Done = RunsLive i seen
-EndsLive i seen (Script (Rows (row.Header fields))) = HasOtherStart seen.script fields × IsSilentCall seen
-EndsLive i seen (ReadFault file.Script) = (IsSilentCall seen ⊎ BeginsLive i seen) × Rose seen.reads.before seen.reads.after
-EndsLive i seen WriteFault = BeginsLive i seen × Rose seen.out.before.faults seen.out.after.faults
-EndsLive i seen OutOfMemory = IsSilentCall seen ⊎ BeginsLive i seen
-EndsLive i seen _ = ⊥
+pub data EndsLive (i : LiveInputs) (seen : LiveSeen) : RunStatus → Type 0 where
+  done : RunsLive i seen → EndsLive i seen Done
+  headless : (fields : ℕ) → HasOtherStart seen.script fields → IsSilentCall seen → EndsLive i seen (Script (Rows (row.Header fields)))
+  unread : IsSilentCall seen ⊎ BeginsLive i seen → Rose seen.reads.before seen.reads.after → EndsLive i seen (ReadFault file.Script)
+  failed : BeginsLive i seen → Rose seen.out.before.faults seen.out.after.faults → EndsLive i seen WriteFault
+  unstored : IsSilentCall seen ⊎ BeginsLive i seen → EndsLive i seen OutOfMemory
 
 -- a call with its words and the sources of its network and fleet
 pub record LiveCall : Type 0 where
@@ -115,14 +118,13 @@ abbrev pub ReadsNetwork : Change SourceView → (List ℕ → Type 0) → Type 0
 ReadsNetwork network Holds = (roads : Roads) × Reads file.Network network (λ bytes. network_in bytes ≡ Ok roads) × Holds roads.nodes
 
 -- why network or fleet stopped a call: it is refused, or longer than may be, or a read failed; the one behind is untouched
-abbrev pub IsLiveStop : Change SourceView → Change SourceView → RunStatus → Type 0
-IsLiveStop network fleet (Network fault) = Reads file.Network network (λ bytes. network_in bytes ≡ Err fault) × IsUntouched fleet
-IsLiveStop network fleet (TooLong file.Network) = IsSourceTooLong file.Network network × IsUntouched fleet
-IsLiveStop network fleet (ReadFault file.Network) = IsWithin file.Network network × Rose network.before.faults network.after.faults × IsUntouched fleet
-IsLiveStop network fleet (Fleet fault) = ReadsNetwork network (λ nodes. Reads file.Fleet fleet (λ bytes. vehicles_in nodes bytes ≡ Err fault))
-IsLiveStop network fleet (TooLong file.Fleet) = ReadsNetwork network (λ nodes. IsSourceTooLong file.Fleet fleet)
-IsLiveStop network fleet (ReadFault file.Fleet) = ReadsNetwork network (λ nodes. IsWithin file.Fleet fleet × Rose fleet.before.faults fleet.after.faults)
-IsLiveStop network fleet _ = ⊥
+pub data IsLiveStop (network fleet : Change SourceView) : RunStatus → Type 0 where
+  network_refused : (fault : Input NetworkFault) → Reads file.Network network (λ bytes. network_in bytes ≡ Err fault) → IsUntouched fleet → IsLiveStop network fleet (Network fault)
+  network_long : IsSourceTooLong file.Network network → IsUntouched fleet → IsLiveStop network fleet (TooLong file.Network)
+  network_unread : IsWithin file.Network network → Rose network.before.faults network.after.faults → IsUntouched fleet → IsLiveStop network fleet (ReadFault file.Network)
+  fleet_refused : (fault : Input FleetFault) → ReadsNetwork network (λ nodes. Reads file.Fleet fleet (λ bytes. vehicles_in nodes bytes ≡ Err fault)) → IsLiveStop network fleet (Fleet fault)
+  fleet_long : ReadsNetwork network (λ nodes. IsSourceTooLong file.Fleet fleet) → IsLiveStop network fleet (TooLong file.Fleet)
+  fleet_unread : ReadsNetwork network (λ nodes. IsWithin file.Fleet fleet × Rose fleet.before.faults fleet.after.faults) → IsLiveStop network fleet (ReadFault file.Fleet)
 
 -- the words are good, and network or fleet stopped the call
 abbrev pub StopsLive : LiveCall → RunStatus → Type 0
@@ -133,11 +135,12 @@ abbrev pub EndsBehind : LiveCall → RunStatus → Type 0
 EndsBehind call status = (i : LiveInputs) × AreLiveInputs call i × EndsLive i call.rest status
 
 -- why a call ended as it did, what is written, and who was told what
-abbrev pub ExplainsLive : LiveCall → RunStatus → Type 0
-ExplainsLive call (Words fault) =
-    (fault_of (words_of_run call.words) ≡ Some fault) × IsUntouched call.network × IsUntouched call.fleet × IsSilentCall call.rest
-ExplainsLive call OutOfMemory = IsSilentCall call.rest ⊎ EndsBehind call OutOfMemory
-ExplainsLive call status = StopsLive call status ⊎ EndsBehind call status
+pub data ExplainsLive (call : LiveCall) : RunStatus → Type 0 where
+  refused : (fault : WordFault) → fault_of (words_of_run call.words) ≡ Some fault → IsUntouched call.network → IsUntouched call.fleet → IsSilentCall call.rest
+      → ExplainsLive call (Words fault)
+  unstored : IsSilentCall call.rest → ExplainsLive call OutOfMemory
+  stopped : (status : RunStatus) → StopsLive call status → ExplainsLive call status
+  ended : (status : RunStatus) → EndsBehind call status → ExplainsLive call status
 
 -- the words are good, the sources of network and fleet tell texts that give inputs, the script tells its bytes and has a
 -- header, and no read fails

@@ -8,7 +8,7 @@ use Rattle.pool_io.specs.Table.{Table, table_of}
 use Rattle.pool_io.specs.declared.input.Input.{Input}
 use Rattle.pool_io.specs.declared.input.Input.TheVariants.{Rows, Own}
 use Rattle.pool_io.specs.declared.records.RowFault.{RowFault}
-use Rattle.pool_io.specs.declared.records.RowFault.TheVariants.{Header, UnequalLength, OutOfMemory as NoMemoryForRows}
+use Rattle.pool_io.specs.declared.records.RowFault.TheVariants.{Header}
 use Rattle.road_network.specs.Reading.{network_of}
 use Rattle.road_network.specs.Roads.{Roads}
 use Rattle.road_network.specs.declared.fault.NetworkFault.{NetworkFault}
@@ -43,10 +43,8 @@ pub record IsFleetIn (nodes bytes : List ℕ) (fleet : List Vehicle) : Type 0 wh
 
 -- the rounds, by what the first header gave
 abbrev pub first_version : List ℕ → Result Table RowFault → Result (List NumberedLanes) (Input ScriptFault)
-first_version bytes (Ok t) = own_fault (script_of One t.records)
 first_version bytes (Err (Header fields)) = in_rows (table_of party_header bytes) (λ t. script_of Two t.records)
-first_version bytes (Err (UnequalLength row)) = Err (Rows (UnequalLength row))
-first_version bytes (Err NoMemoryForRows) = Err (Rows NoMemoryForRows)
+first_version bytes read = in_rows read (λ t. script_of One t.records)
 
 -- the rounds that bytes give: by the first header, and where that isn't theirs, by the second
 unfoldable pub script_in : List ℕ → Result (List NumberedLanes) (Input ScriptFault)

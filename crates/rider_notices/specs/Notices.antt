@@ -1,11 +1,12 @@
 -- The notices of a journal.
-use Rattle.std.specs.Prelude.{ℕ, Bool, false, ◌==◌, ◌&&◌, not, List, [], ◌∷◌, ◌++◌, Option, None, Some, map, filter, find, option_map, unwrap_or}
+use Rattle.std.specs.Prelude.{ℕ, Bool, false, ◌==◌, ◌&&◌, not, List, [], ◌∷◌, ◌++◌, Option, map, filter, find, option_map, unwrap_or}
+use Rattle.std.specs.Option.{option_map_or}
 use Rattle.batch_snapshot.specs.Batch.{Batch}
+use Rattle.request_book.specs.Command.{closed_outcome}
 use Rattle.request_book.specs.Consistent.{status_in}
 use Rattle.request_book.specs.Rider.{is_active}
 use Rattle.request_book.specs.Step.{step}
 use Rattle.request_book.specs.declared.command.Command.{Command}
-use Rattle.request_book.specs.declared.command.Command.TheVariants.{Close}
 use Rattle.request_book.specs.declared.journal.Entry.{Entry}
 use Rattle.request_book.specs.declared.journal.Journal.{Journal}
 use Rattle.request_book.specs.declared.outcome.Answer.{Answer}
@@ -13,7 +14,6 @@ use Rattle.request_book.specs.declared.outcome.Answer.TheVariants.{Overflow, Pla
 use Rattle.request_book.specs.declared.outcome.ChosenTrip.{ChosenTrip}
 use Rattle.request_book.specs.declared.outcome.PlannedStop.{PlannedStop}
 use Rattle.request_book.specs.declared.reply.Reply.{Reply}
-use Rattle.request_book.specs.declared.reply.Reply.TheVariants.{Closed}
 use Rattle.request_book.specs.declared.state.State.{State}
 use Rattle.rider_notices.specs.declared.notice.Notice.{Notice}
 use Rattle.rider_notices.specs.declared.notice.Notice.TheVariants.{Promised, Unserved}
@@ -45,15 +45,10 @@ abbrev pub batch_notices : State → Batch → Answer → List Notice
 batch_notices s b Overflow = []
 batch_notices s b (Planned plan) = map (λ r. notice_of b.number plan.chosen r.id) (filter (λ r. is_asking s r.id) b.riders)
 
--- the notices of the batch that stands sealed, if one does
-abbrev pub sealed_notices : State → Option Batch → Answer → List Notice
-sealed_notices s None answer = []
-sealed_notices s (Some b) answer = batch_notices s b answer
-
 -- the notices of an entry, in the state before it: a close that was answered `closed` has those of its batch
 abbrev pub entry_notices : State → Command → Reply → List Notice
-entry_notices s (Close batch outcome) Closed = sealed_notices s s.sealed outcome.answer
-entry_notices s _ _ = []
+entry_notices s command reply =
+    option_map_or (λ closed. option_map_or (λ b. batch_notices s b closed.1.answer) s.sealed []) (closed_outcome command reply) []
 
 -- the notices of entries, one after the other, from the state before them
 unfoldable pub notices_from : List ℕ → ℕ → State → List Entry → List Notice

@@ -1,3 +1,2 @@
 pub mod Locked
 pub mod Shared
-pub mod lemmas

@@ -2,7 +2,7 @@
 use Rattle.std.specs.Prelude.{◌≡◌, ℕ, Bool, true, false, List, [], ◌∷◌, All, Option, None, Some, option_map}
 use Rattle.batch_snapshot.specs.Batch.{Batch}
 use Rattle.batch_snapshot.specs.Points.{named_nodes}
-use Rattle.request_book.specs.Book.{BookView}
+use Rattle.request_book.specs.Book.{BookView, would_seal}
 use Rattle.request_book.specs.Consistent.{IsNode}
 use Rattle.request_book.specs.Step.{step}
 use Rattle.request_book.specs.declared.command.Command.{Command}
@@ -24,6 +24,11 @@ is_light _ = true
 abbrev pub sealed_by : Reply → Option ℕ
 sealed_by (Sealed batch) = Some batch
 sealed_by _ = None
+
+-- the batch that a command would seal
+abbrev pub snapshot_before : ℕ → State → Command → Option Batch
+snapshot_before wait s (Seal now) = would_seal wait s now
+snapshot_before wait s _ = None
 
 -- the batch that stands sealed in the state after a reply which says so; none after any other reply
 abbrev pub snapshot_after : Reply → State → Option Batch

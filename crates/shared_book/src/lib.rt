@@ -28,11 +28,11 @@
 //! ```
 //!
 //! Main clauses: `SharedBook::call`: `pass`, `call`, `refused`, `light`; `SharedBook::finish`: `finished`,
-//! `calls`, `kept`.
+//! `calls`, `kept`; `sealed_by_command`: `snapshot`.
 #![tactic(auto)]
 
 mod locked;
 mod shared;
 
-pub use locked::{BookRoot, LockedBook, LockedReply};
+pub use locked::{BookRoot, LockedBook, LockedReply, sealed_by_command};
 pub use shared::{Pass, Receipt, SealReceipt, SharedBook, UnfinishedBook};

@@ -1,8 +1,7 @@
 //! A book as the lock plays it.
 ghost use Rattle.std.specs.Prelude.{◌≡◌, ◌^◌, ◌<◌, IfOk, IsOk, IsTrue, length};
 ghost use Rattle.request_book.specs.Book.{IsBook};
-ghost use Rattle.shared_book.specs.Locked.{is_light};
-ghost use Rattle.shared_book.specs.lemmas.Locked.{snapshot_before};
+ghost use Rattle.shared_book.specs.Locked.{is_light, snapshot_before};
 
 use batch_snapshot::Snapshot;
 use pool_base::{NodeId, OutOfMemory, Sequence};
@@ -62,7 +61,7 @@ impl Logged for LockedBook {
     ghost fits = { λ root command reply. Fits root.nodes command reply };
 
     fn play(&mut self, alloc: Global, lane: u8, call: Command) -> Result<LockedReply, OutOfMemory> {
-        let snapshot = self.snapshot_for(&call)?;
+        let snapshot = sealed_by_command(&self.book, &call)?;
         let reply = self.book.apply(lane, call)?;
         let _count = count_entries(self.book.entries());
         Ok(LockedReply { reply, snapshot })
@@ -84,16 +83,16 @@ impl LockedBook {
         let LockedBook { book } = self;
         book
     }
+}
 
-    // The batch that the command would seal, if it is a seal.
-    fn snapshot_for(&self, command: &Command) -> Result<Option<Snapshot>, OutOfMemory>
-        ensures snapshot { IfOk result (λ snapshot. snapshot ≡ snapshot_before self.now.wait self.now.state command.now) }
-        ensures light { IsTrue (is_light command.now) → IsOk result }
-    {
-        match command {
-            Command::Seal { now } => self.book.would_seal(*now),
-            _ => Ok(None),
-        }
+/// The batch that a command would seal now, if it is a seal.
+pub fn sealed_by_command(book: &Book, command: &Command) -> Result<Option<Snapshot>, OutOfMemory>
+    ensures snapshot { IfOk result (λ snapshot. snapshot ≡ snapshot_before book.now.wait book.now.state command.now) }
+    ensures light { IsTrue (is_light command.now) → IsOk result }
+{
+    match command {
+        Command::Seal { now } => book.would_seal(*now),
+        _ => Ok(None),
     }
 }
 

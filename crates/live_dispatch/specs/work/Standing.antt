@@ -1,5 +1,5 @@
 -- What stands of a run between two rows, and what a row or a batch adds.
-use Rattle.std.specs.Prelude.{◌≡◌, ℕ, ◌<◌, ◌≤◌, ◌^◌, Bool, List, [], ◌∷◌, ◌++◌, Option, None, Some, Result, Ok, Err, OnOk, MatchResult, ⊤, true}
+use Rattle.std.specs.Prelude.{◌≡◌, ℕ, ◌<◌, ◌≤◌, ◌^◌, Bool, List, [], ◌∷◌, ◌++◌, Option, None, Some, Result, Ok, Err, OnOk, MatchResult, true}
 use Rattle.std.specs.Result.{IsErrOf}
 use Rattle.std.specs.Io.KnownBytes.{Appends}
 use Rattle.batch_snapshot.specs.Batch.{Batch}
@@ -27,8 +27,7 @@ use Rattle.road_network.specs.Roads.{Roads}
 use Rattle.script_rows.specs.Line.{IsBehind}
 use Rattle.script_rows.specs.declared.line.Line.{Line}
 use Rattle.script_rows.specs.lemmas.Named.{rounds_of}
-use Rattle.shared_book.specs.Locked.{Fits}
-use Rattle.shared_book.specs.lemmas.Locked.{snapshot_before}
+use Rattle.shared_book.specs.Locked.{Fits, snapshot_before}
 use Rattle.live_dispatch.specs.Live.{BeginsRows, journals_notices, journals_text, RunsRows}
 use Rattle.live_dispatch.specs.declared.fault.LiveFault.{LiveFault}
 use Rattle.live_dispatch.specs.declared.fault.LiveFault.TheVariants as live
@@ -66,11 +65,6 @@ Awaits last came (Some row) = IsBehind last row × (came ≡ row.round)
 abbrev pub GivesNext : Option Line → Option (List Line) → Option (List Line) → Option Line → Type 0
 GivesNext None old new row = GivesRow old new row
 GivesNext (Some held) old new row = (row ≡ Some held) × (new ≡ old)
-
--- it stands behind the last, and is the last that came
-abbrev pub IsNext : ℕ → ℕ → Option Line → Type 0
-IsNext last came None = ⊤
-IsNext last came (Some row) = IsBehind last row × (came ≡ row.round)
 
 -- the fault of a report, of a line, and how writing ended
 abbrev pub of_report : ReportFault → LiveFault

@@ -4,7 +4,7 @@ use Rattle.batch_snapshot.specs.Batch.{Batch}
 use Rattle.dispatch_engine.specs.Run.{journal_of, IsRoundRun}
 use Rattle.dispatch_report.specs.Round.{round_text}
 use Rattle.dispatch_report.specs.Words.{numbered}
-use Rattle.lane_progress.specs.declared.stand.LaneStand.{LaneStand}
+use Rattle.dispatch_engine.specs.declared.stand.LaneStand.{LaneStand}
 use Rattle.request_book.specs.Book.{BookView}
 use Rattle.request_book.specs.declared.journal.Journal.{Journal}
 use Rattle.rider_limits.specs.declared.settings.Settings.{Settings}

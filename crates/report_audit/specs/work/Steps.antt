@@ -5,8 +5,8 @@ use Rattle.dispatch_engine.specs.Run.{journal_of}
 use Rattle.report_lines.specs.Next.{IsNextLine}
 use Rattle.report_lines.specs.declared.next.NextLine.{NextLine}
 use Rattle.report_lines.specs.declared.next.NextLine.TheVariants.{Entry as EntryOf}
-use Rattle.lane_progress.specs.Stand.{HaveCome, stand_at}
-use Rattle.lane_progress.specs.declared.stand.LaneStand.{LaneStand}
+use Rattle.dispatch_engine.specs.Progress.{HaveCome, stand_at}
+use Rattle.dispatch_engine.specs.declared.stand.LaneStand.{LaneStand}
 use Rattle.report_lines.specs.Cut.{is_one_line}
 use Rattle.request_book.specs.Book.{BookView, IsBook}
 use Rattle.request_book.specs.declared.journal.Entry.{Entry}

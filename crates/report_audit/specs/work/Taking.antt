@@ -4,8 +4,8 @@ use Rattle.batch_snapshot.specs.Batch.{Batch}
 use Rattle.dispatch_report.specs.Entry.{entry_line}
 use Rattle.report_lines.specs.Command.{IsCommand}
 use Rattle.report_lines.specs.Reply.{IsEnded, IsReply}
-use Rattle.lane_progress.specs.Stand.{IsNext, stand_at}
-use Rattle.lane_progress.specs.declared.stand.LaneStand.{LaneStand}
+use Rattle.dispatch_engine.specs.Progress.{IsNext, stand_at}
+use Rattle.dispatch_engine.specs.declared.stand.LaneStand.{LaneStand}
 use Rattle.request_book.specs.Book.{BookView, IsApplied, next_position}
 use Rattle.request_book.specs.Step.{step}
 use Rattle.request_book.specs.declared.command.Command.{Command}
@@ -13,7 +13,7 @@ use Rattle.request_book.specs.declared.reply.BookRefusal.TheVariants.{Ended}
 use Rattle.request_book.specs.declared.reply.Reply.{Reply}
 use Rattle.request_book.specs.declared.reply.Reply.TheVariants.{Refused}
 use Rattle.script_rows.specs.Round.{NumberedLanes, lane_at}
-use Rattle.shared_book.specs.lemmas.Locked.{snapshot_before}
+use Rattle.shared_book.specs.Locked.{snapshot_before}
 use Rattle.report_audit.specs.declared.stop.LineFault.TheVariants as wrong
 use Rattle.report_audit.specs.declared.stop.Stop.{Stop}
 use Rattle.report_audit.specs.declared.stop.Stop.TheVariants.{OutOfMemory, Line, Block}

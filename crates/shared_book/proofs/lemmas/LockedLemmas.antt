@@ -19,8 +19,7 @@ use Rattle.request_book.specs.declared.reply.Reply.{Reply}
 use Rattle.request_book.specs.declared.reply.Reply.TheVariants.{Accepted, Cancelled, Placed, Picked, Dropped, Sealed, Closed}
 use Rattle.request_book.specs.declared.state.State.{State}
 use Rattle.seat_lock.specs.declared.logged.LoggedCall.{LoggedCall}
-use Rattle.shared_book.specs.Locked.{is_light, sealed_by, snapshot_after, call_of, calls_from, log_of, Fits}
-use Rattle.shared_book.specs.lemmas.Locked.{snapshot_before}
+use Rattle.shared_book.specs.Locked.{is_light, sealed_by, snapshot_after, call_of, calls_from, log_of, Fits, snapshot_before}
 
 module _ (nodes : List ℕ) (wait : ℕ) where
   -- one more entry is one more call

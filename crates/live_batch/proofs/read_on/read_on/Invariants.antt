@@ -1,6 +1,6 @@
 use Rattle.std.proofs.Common.{◌≡◌, ◌≤◌}
 use Rattle.seat_lock.specs.Values.{IsPassOf}
-use Rattle.live_batch.specs.Phase.{HasRun}
+use Rattle.live_batch.proofs.ReadLemmas.{HasRun}
 use Rattle.live_batch.proofs.read_on.read_on.Given as goal
 
 abbrev pub invariant-rows : goal.invariant-rows

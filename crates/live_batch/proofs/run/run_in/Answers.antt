@@ -2,7 +2,8 @@ use Rattle.std.proofs.Common.{◌≡◌, refl, ap, ◌∙◌}
 use Rattle.live_desk.specs.Desk.{desk_of, DeskView, Outputs, outputs_seen}
 use Rattle.live_desk.specs.declared.desk.DeskRoot.{DeskRoot}
 use Rattle.live_batch.specs.Phase.{desk_after}
-use Rattle.live_batch.proofs.ReadLemmas.{desk-is, open-run}
+use Rattle.live_batch.proofs.CutLemmas.{no-log, open-run}
+use Rattle.live_batch.proofs.ReadLemmas.{desk-is}
 use Rattle.live_batch.proofs.run.run_in.Goals as goal
 
 pub returns-in-Ok-start-clause-run : goal.returns-in-Ok-start-clause-run
@@ -19,4 +20,4 @@ returns-in-Ok-start-clause-run g c =
     c.finish-desk.result (desk_after c.args.batch.book settings.proof outputs parts.0 now parts.3) c.in-Ok-start.lock.start start c.work_both-first.result.0.1 c.work_both-first.result.1.stop
     c.work_both-first.result.0.0 c.work_both-first.result.1.pass
     (desk-is c.finish-desk.result c.args.batch.book parts.0 settings.proof g.J.Opening.opened outputs now parts.3 c.into_parts-book.ensures.parts proof c.requires.opened)
-    held refl c.into_parts-book.ensures.kept c.finish-desk.ensures.root c.finish-desk.ensures.log both.closed both.none both.read
+    held refl c.into_parts-book.ensures.kept c.finish-desk.ensures.root c.finish-desk.ensures.log (no-log start c.requires.empty) both.closed both.read

@@ -10,8 +10,8 @@ returns-in-Ok-write_last-clause-taken g c =
     record {
       reply = c.in-Ok-apply._reply;
       applied = applied;
-      fits = applied-fits c.args.book.now c.apply.new.self c.args.lane c.args.command c.in-Ok-apply._reply c.in-Ok.sealed c.entries.ensures.kept applied c.in-Ok.ensures;
-      shown = c.in-Ok.ensures;
+      fits = applied-fits c.args.book.now c.apply.new.self c.args.lane c.args.command c.in-Ok-apply._reply c.in-Ok.sealed c.entries.ensures.kept applied c.in-Ok.ensures.snapshot;
+      shown = c.in-Ok.ensures.snapshot;
     }
 
 pub returns-in-Err-write_last-clause-wrote : goal.returns-in-Err-write_last-clause-wrote

@@ -4,16 +4,17 @@ use Rattle.pool_io.specs.Faults.{Rose}
 use Rattle.rider_notices.specs.Seen.{notifiers_seen}
 use Rattle.script_rows.specs.Line.{IsBehind}
 use Rattle.live_dispatch.specs.work.Rows.{last_of}
-use Rattle.live_dispatch.specs.work.Standing.{GivesNext, IsNext, moment}
-use Rattle.live_dispatch.specs.Live.{AreRows}
+use Rattle.live_batch.specs.Phase.{AreRows}
+use Rattle.live_rows.specs.Rows.{ComesBehind}
+use Rattle.live_dispatch.specs.work.Standing.{GivesNext, moment}
 use Rattle.live_dispatch.proofs.EndLemmas.{all-ended, if-err, if-ok}
 use Rattle.live_dispatch.proofs.TurnLemmas.{next-stands, none-stands, unread-ended}
 use Rattle.live_dispatch.proofs.turns.run_next.Goals as goal
 
 pub run_one-requires-clause-behind : goal.run_one-requires-clause-behind
 run_one-requires-clause-behind g c κs within =
-    let next : IsNext (last_of c.args.run.round) (g.L.RowSource.last c.next_row.new.rows) (Some c.in-Ok-Some.row) =
-    subst (IsNext (last_of c.args.run.round) (g.L.RowSource.last c.next_row.new.rows)) c.in-Ok-Some.field-0-is (c.in-Ok-Some.ensures.behind (last_of c.args.run.round) c.requires.awaits.0) in
+    let next : ComesBehind (last_of c.args.run.round) (g.L.RowSource.last c.next_row.new.rows) (Some c.in-Ok-Some.row) =
+    subst (ComesBehind (last_of c.args.run.round) (g.L.RowSource.last c.next_row.new.rows)) c.in-Ok-Some.field-0-is (c.in-Ok-Some.ensures.behind (last_of c.args.run.round) c.requires.awaits.0) in
     let all : IsBehind (last_of c.args.run.round) c.in-Ok-Some.row × (g.L.RowSource.last c.next_row.new.rows ≡ c.in-Ok-Some.row.round) × (c.args.run.proof ≡ c.args.setup.now.settings.now.proof) =
     (next.0, next.1, c.requires.awaits.1) in
     all

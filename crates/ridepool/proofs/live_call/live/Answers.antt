@@ -1,5 +1,6 @@
 use Rattle.std.proofs.Common.{inl, refl}
-use Rattle.ridepool.proofs.LiveLemmas.{answers-live, ends-behind, ends-hide}
+use Rattle.ridepool.specs.Live.{ExplainsLive}
+use Rattle.ridepool.proofs.LiveLemmas.{answers-live, ends-hide}
 use Rattle.ridepool.proofs.live_call.live.Goals as goal
 
 pub live_in-answer-requires-clause-named : goal.live_in-answer-requires-clause-named
@@ -8,7 +9,7 @@ live_in-answer-requires-clause-named g c κs within = c.in-Ok.ensures.named
 pub returns-in-Ok : goal.returns-in-Ok
 returns-in-Ok g c =
     answers-live _ _
-    (ends-behind _ _ (record { settings = c.in-Ok.settings; roads = c.in-Ok.network; vehicles = c.in-Ok.fleet }, c.in-Ok.ensures.got _, c.live_in-answer.ensures))
+    (ExplainsLive.ended _ (record { settings = c.in-Ok.settings; roads = c.in-Ok.network; vehicles = c.in-Ok.fleet }, c.in-Ok.ensures.got _, c.live_in-answer.ensures))
     (inl c.in-Ok.ensures.limited.0, inl c.in-Ok.ensures.limited.1)
     (ends-hide _ _ c.live_in-answer.result.status c.live_in-answer.ensures)
 

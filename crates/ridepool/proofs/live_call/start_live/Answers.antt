@@ -1,6 +1,6 @@
 use Rattle.std.proofs.Common.{Err, inl, refl, ap, arith}
 use Rattle.dispatch_report.specs.Written.{sink_seen}
-use Rattle.ridepool.specs.Live.{LiveInputs, LiveSeen}
+use Rattle.ridepool.specs.Live.{EndsLive, LiveInputs, LiveSeen}
 use Rattle.ridepool.proofs.LiveLemmas.{head-stops, start-stops}
 use Rattle.ridepool.proofs.live_call.start_live.Goals as goal
 
@@ -23,7 +23,7 @@ pub opened_book-opened-requires : goal.opened_book-opened-requires
 opened_book-opened-requires g c = c.requires.named
 
 pub returns-in_default-clause-stopped : goal.returns-in_default-clause-stopped
-returns-in_default-clause-stopped g c told = inl (record { out = refl; notifiers = refl })
+returns-in_default-clause-stopped g c told = EndsLive.unstored (inl (record { out = refl; notifiers = refl }))
 
 pub returns-in_default-clause-never_falls : goal.returns-in_default-clause-never_falls
 returns-in_default-clause-never_falls g c = (omega arith, c.read_start.ensures.never_falls)
@@ -44,7 +44,7 @@ returns-in-Err-write_head-clause-stopped g c told =
       out = sink_seen g.K.Sink.written g.K.Sink.faults c.args.out.now c.write_head.new.sink;
       notifiers = record { before = told; after = told };
     } in
-    head-stops i seen c.in-Ok.version c.read_start.new.lines.to_come c.in-Err-write_head.fault c.head_status.result c.head_status.ensures c.in-Ok.ensures.started refl c.in-Err-write_head.ensures
+    head-stops i seen c.in-Ok.version c.read_start.new.lines.to_come c.in-Err-write_head.fault c.status_of.result c.status_of.ensures c.in-Ok.ensures.started refl c.in-Err-write_head.ensures
 
 pub returns-in-Err-write_head-clause-never_falls : goal.returns-in-Err-write_head-clause-never_falls
 returns-in-Err-write_head-clause-never_falls g c = (c.write_head.ensures.never_falls, c.read_start.ensures.never_falls)

@@ -1,5 +1,6 @@
 use Rattle.std.proofs.Common.{◌≡◌, subst, sym, ap, ◌∙◌, arith}
 use Rattle.request_book.specs.Book.{BookView, IsApplied, IsBook}
+use Rattle.shared_book.specs.Locked.{snapshot_before}
 use Rattle.shared_book.proofs.lemmas.LockedLemmas.{calls-length, applied-call, applied-fits}
 use Rattle.shared_book.proofs.locked.LockedBookLogged.play.Goals as goal
 
@@ -9,14 +10,14 @@ returns-clause-entry c =
     applied-call c.args.self.now new c.args.lane c.args.call c.in_ok-reply.reply c.in_ok-snapshot.snapshot
     (subst IsBook c.self.view_is c.self.invariant)
     (subst (λ (b : BookView). IsApplied b c.args.lane c.args.call c.in_ok-reply.reply new) c.self.view_is c.in_ok-reply.ensures.applied)
-    c.in_ok-snapshot.ensures.snapshot
+    (subst (λ (b : BookView). c.in_ok-snapshot.snapshot ≡ snapshot_before b.wait b.state c.args.call) c.self.view_is c.in_ok-snapshot.ensures.snapshot)
 
 pub returns-clause-fits : goal.returns-clause-fits
 returns-clause-fits c =
     let new : BookView = c.apply.new.self in
     applied-fits c.args.self.now new c.args.lane c.args.call c.in_ok-reply.reply c.in_ok-snapshot.snapshot c.entries.ensures.kept
     (subst (λ (b : BookView). IsApplied b c.args.lane c.args.call c.in_ok-reply.reply new) c.self.view_is c.in_ok-reply.ensures.applied)
-    c.in_ok-snapshot.ensures.snapshot
+    (subst (λ (b : BookView). c.in_ok-snapshot.snapshot ≡ snapshot_before b.wait b.state c.args.call) c.self.view_is c.in_ok-snapshot.ensures.snapshot)
 
 pub returns-clause-short : goal.returns-clause-short
 returns-clause-short c =

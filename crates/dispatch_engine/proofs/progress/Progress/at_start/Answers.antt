@@ -1,8 +1,8 @@
 use Rattle.std.proofs.Common.{[], List, sym, subst}
-use Rattle.lane_progress.specs.declared.stand.LaneStand.{LaneStand}
-use Rattle.lane_progress.specs.Stand.{HaveCome}
-use Rattle.lane_progress.proofs.lemmas.LaneLemmas.{come_none}
-use Rattle.lane_progress.proofs.progress.Progress.at_start.Goals as goal
+use Rattle.dispatch_engine.specs.declared.stand.LaneStand.{LaneStand}
+use Rattle.dispatch_engine.specs.Progress.{HaveCome}
+use Rattle.dispatch_engine.proofs.lemmas.ProgressLemmas.{come_none}
+use Rattle.dispatch_engine.proofs.progress.Progress.at_start.Goals as goal
 
 pub returns-clause-come : goal.returns-clause-come
 returns-clause-come c = λ round. subst (λ (lanes : List LaneStand). HaveCome round lanes []) (sym (c.in_ok-lanes.ensures.items_if_clones_equal (λ y e. e))) (come_none round)

@@ -4,8 +4,8 @@ use Rattle.std.proofs.lemmas.Bool.{cases_eq, cases_lt, ne_eqb, cond-true, cond-f
 use Rattle.std.proofs.lemmas.List.{drop_all, get_or_past, get_or-replicate, get_or-set_same, get_or-set_other, length-replicate}
 use Rattle.std.proofs.lemmas.List.Elements.{filter-append}
 use Rattle.dispatch_engine.specs.Lane.{of_lane, IsLaneRun, IsLaneRunFrom}
-use Rattle.lane_progress.specs.declared.stand.LaneStand.{LaneStand}
-use Rattle.lane_progress.specs.Stand.{at_start, stand_at, IsRest, IsNext, stand_after, HaveCome, AreDone}
+use Rattle.dispatch_engine.specs.declared.stand.LaneStand.{LaneStand}
+use Rattle.dispatch_engine.specs.Progress.{at_start, stand_at, IsRest, IsNext, stand_after, HaveCome, AreDone}
 use Rattle.request_book.specs.declared.command.Command.{Command}
 use Rattle.request_book.specs.declared.journal.Entry.{Entry}
 use Rattle.script_rows.specs.Round.{NumberedLanes, IsRound, lane_at}

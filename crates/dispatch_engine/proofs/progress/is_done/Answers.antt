@@ -1,8 +1,8 @@
 use Rattle.std.proofs.Common.{◌<◌, ◌≤◌, ℕ, [], Option, length, drop, sym, subst, ⊎_elim}
 use Rattle.std.proofs.lemmas.Bool.{cases_lt, le-leb, leb-true}
 use Rattle.dispatch_engine.specs.Lane.{IsLaneRunFrom}
-use Rattle.lane_progress.proofs.lemmas.LaneLemmas.{rest_none, rest_some}
-use Rattle.lane_progress.proofs.progress.is_done.Goals as goal
+use Rattle.dispatch_engine.proofs.lemmas.ProgressLemmas.{rest_none, rest_some}
+use Rattle.dispatch_engine.proofs.progress.is_done.Goals as goal
 
 pub returns-in-None : goal.returns-in-None
 returns-in-None c =

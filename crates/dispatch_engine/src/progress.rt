@@ -1,6 +1,6 @@
 //! The lanes of a round, as entries come.
 ghost use Rattle.std.specs.Prelude.{◌≡◌, ◌↔◌, ◌<◌, ◌++◌, ◌∷◌, [], None, Some, ℕ, List, IfOk, IsTrue, MatchOption, length, replicate, slice_get, slice_set};
-ghost use Rattle.lane_progress.specs.Stand.{AreDone, HaveCome, IsNext, IsRest, at_start, stand_after, stand_at};
+ghost use Rattle.dispatch_engine.specs.Progress.{AreDone, HaveCome, IsNext, IsRest, at_start, stand_after, stand_at};
 ghost use Rattle.request_book.specs.declared.command.Command.{Command as OneCommand};
 ghost use Rattle.request_book.specs.declared.journal.Entry.{Entry as OneEntry};
 ghost use Rattle.script_rows.specs.Round.{NumberedLanes, lane_at};
@@ -21,7 +21,7 @@ pub struct Progress {
 
 impl Model for Progress {
     ghost use Rattle.std.specs.Prelude.{◌≡◌, List, length};
-    ghost use Rattle.lane_progress.specs.declared.stand.LaneStand.{LaneStand as Stand};
+    ghost use Rattle.dispatch_engine.specs.declared.stand.LaneStand.{LaneStand as Stand};
 
     ghost Value = { List Stand };
 

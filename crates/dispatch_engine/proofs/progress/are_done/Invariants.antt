@@ -1,7 +1,7 @@
 use Rattle.std.proofs.Common.{ℕ, ◌<◌, []}
-use Rattle.lane_progress.specs.Stand.{IsRest, stand_at}
+use Rattle.dispatch_engine.specs.Progress.{IsRest, stand_at}
 use Rattle.script_rows.specs.Round.{lane_at}
-use Rattle.lane_progress.proofs.progress.are_done.Given as goal
+use Rattle.dispatch_engine.proofs.progress.are_done.Given as goal
 
 abbrev pub invariant-loop-lane : goal.invariant-loop-lane
 invariant-loop-lane l = (k : ℕ) → k < l.lane → IsRest (lane_at l.round k) (stand_at l.lanes k) []

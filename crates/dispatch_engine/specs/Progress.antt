@@ -1,7 +1,7 @@
 -- How far the lanes of a round have come.
 use Rattle.std.specs.Prelude.{◌≡◌, ℕ, ◌+◌, ◌↔◌, List, [], ◌++◌, Option, None, Some, drop, slice_get, slice_index_or}
 use Rattle.dispatch_engine.specs.Lane.{of_lane, IsCloseOf, IsLaneRun, IsLaneRunFrom}
-use Rattle.lane_progress.specs.declared.stand.LaneStand.{LaneStand}
+use Rattle.dispatch_engine.specs.declared.stand.LaneStand.{LaneStand}
 use Rattle.request_book.specs.declared.command.Command.{Command}
 use Rattle.request_book.specs.declared.journal.Entry.{Entry}
 use Rattle.request_book.specs.declared.reply.Reply.{Reply}
