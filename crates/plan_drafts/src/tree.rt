@@ -309,8 +309,8 @@ impl Parter {
             return Ok(());
         };
         self.forbid_above(table, tree)?;
-        self.relaxation.go_to(table, &standing.basis)?;
-        self.relaxation.pivot_on(table, u64::MAX)?;
+        self.relaxation.go_to(&standing.basis)?;
+        self.relaxation.pivot_on(table)?;
         let effort = if self.relaxation.pivots() < self.most_pivots {
             Some(effort)
         } else {

@@ -2,11 +2,10 @@
 //!
 //! Steps are as long as Polyak's rule says (1969), toward a tenth of all penalties, and halved after eight
 //! turns without a rise.
-use crate::relaxation::elimination::reset;
 use crate::relaxation::pricing::{reduced_cost, value_of_riders};
 use pool_base::OutOfMemory;
 use row_tables::RowTable;
-use row_tables::fixed_point::{add_at, at, copy, set_at};
+use row_tables::fixed_point::{add_at, at, copy, reset, set_at};
 use std::alloc::Global;
 
 /// One, of slopes and step lengths.
