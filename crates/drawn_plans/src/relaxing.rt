@@ -1,9 +1,9 @@
 //! What the relaxation of the worked pairs chooses, and what is asked of it on the way.
 use crate::worked::three_pairs;
-use linear_relaxation::{Relaxation, Saved, first_multipliers};
+use linear_relaxation::{Relaxation, Saved};
 use plan_rules::{TripGraph, leaf_value};
 use pool_base::OutOfMemory;
-use row_tables::{RowTable, Share};
+use row_tables::{RowTable, Share, first_multipliers};
 use std::alloc::Global;
 use std::test::Fail;
 

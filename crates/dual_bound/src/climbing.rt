@@ -1,11 +1,13 @@
 //! Multipliers that climb from given ones, and never come out lower.
+//!
+//! Nothing is proved of how far an ascent comes: a leaf value judges what it reaches.
 ghost use Rattle.std.specs.Prelude.{◌≡◌, ◌≤ℤ◌, IfOk, length};
 ghost use Rattle.plan_rules.specs.Multipliers.{usable_of, leaf_value, first_fit_value};
 
-use crate::ascent::Ascent;
 use crate::first_fit_pass::first_fit;
-use plan_rules::{Multipliers, TripGraph, leaf_value};
+use plan_rules::{Multipliers, TripGraph, cost_of, held_plan, leaf_value};
 use pool_base::OutOfMemory;
+use row_tables::RowTable;
 use std::alloc::Global;
 
 /// Multipliers whose leaf value is at least that of the first-fit ones, after at most so many turns of an
@@ -21,7 +23,9 @@ pub fn ascend(
     ensures len { IfOk result (λ ms. length ms ≡ graph.now.riders) }
 {
     let start = first_fit(alloc, graph, allowed)?;
-    climb(alloc, graph, allowed, start, i64::MAX, turns)
+    let held = held_plan(alloc, graph)?;
+    let target = 1024 * cost_of(graph, &held).min(1 << 50) as i64;
+    climb(alloc, graph, allowed, start, target, turns)
 }
 
 /// Multipliers whose leaf value is at least that of the start. The target is a cost, in 1/1024 second,
@@ -39,42 +43,31 @@ pub fn climb(
     ensures value { IfOk result (λ ms. leaf_value graph.now (usable_of allowed.now) start ≤ℤ leaf_value graph.now (usable_of allowed.now) ms) }
     ensures len { IfOk result (λ ms. length ms ≡ graph.now.riders) }
 {
-    let mut best = start.into_vec();
-    let mut value = leaf_value(graph, allowed, &best);
-    let mut ascent = Ascent::new(alloc, graph, &best, target)?;
-    for _turn in 0..turns {
-        ascent.look(graph, allowed);
-        value = keep_better(graph, allowed, &mut best, value, &ascent);
-        if !ascent.go_on(graph, allowed, &best) {
-            return Ok(Multipliers::of(best));
-        }
-    }
-    Ok(Multipliers::of(best))
+    let table = RowTable::of_allowed(alloc, graph, allowed)?;
+    let first = Vec::from_slice(alloc, start.as_slice())?;
+    let reached = row_tables::ascend(alloc, &table, first, target, turns)?;
+    Ok(better_of(graph, allowed, start, Multipliers::of(reached)))
 }
 
-/// Puts the ascent's point in place of the best one where its leaf value is greater. The value of the best.
-fn keep_better(
+/// The multipliers of greater leaf value, of which the second may be for other riders.
+fn better_of(
     graph: &TripGraph,
     allowed: &[bool],
-    best: &mut [i64],
-    value: i128,
-    ascent: &Ascent,
-) -> i128
+    start: Multipliers,
+    reached: Multipliers,
+) -> Multipliers
     requires allowed { length allowed.now ≡ length graph.now.rows }
-    requires best { length best.old ≡ graph.now.riders }
-    requires value { value ≡ leaf_value graph.now (usable_of allowed.now) best.old }
-    ensures value { result ≡ leaf_value graph.now (usable_of allowed.now) best.new }
-    ensures rises { value ≤ℤ result }
-    ensures len { length best.new ≡ length best.old }
+    requires start { length start ≡ graph.now.riders }
+    ensures value { leaf_value graph.now (usable_of allowed.now) start ≤ℤ leaf_value graph.now (usable_of allowed.now) result }
+    ensures len { length result ≡ graph.now.riders }
 {
-    let point = ascent.point();
-    if !ascent.has_risen() || point.len() != best.len() {
-        return value;
+    if reached.as_slice().len() != graph.rider_count() {
+        return start;
     }
-    let other = leaf_value(graph, allowed, point);
-    if other <= value {
-        return value;
+    if leaf_value(graph, allowed, reached.as_slice())
+        < leaf_value(graph, allowed, start.as_slice())
+    {
+        return start;
     }
-    best.copy_from_slice(point);
-    other
+    reached
 }

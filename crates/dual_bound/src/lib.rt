@@ -19,7 +19,6 @@
 //! Main clauses: `first_fit`: `value`, `never_negative`, `worth`; `ascend`: `value`; `climb`: `value`.
 #![tactic(auto)]
 
-mod ascent;
 mod ceiling;
 mod cheapest;
 mod climbing;

@@ -23,4 +23,4 @@
 
 mod relaxation;
 
-pub use relaxation::{Ended, Relaxation, Saved, first_multipliers};
+pub use relaxation::{Ended, Relaxation, Saved};

@@ -7,7 +7,6 @@
 ghost use Rattle.std.specs.Prelude.{◌≡◌, IfOk, length};
 
 mod basis;
-mod climb;
 mod dual;
 mod factors;
 mod ordering;
@@ -19,11 +18,9 @@ mod sparse;
 use crate::relaxation::basis::Basis;
 use crate::relaxation::pool::Pool;
 use crate::relaxation::sparse::Sparse;
-pub use climb::first_multipliers;
 pub use dual::Ended;
 use pool_base::OutOfMemory;
 use row_tables::fixed_point::{ONE, at, copy, item, reset, set_at, times, write_over};
-use row_tables::lists::short;
 use row_tables::{RowTable, Share};
 use std::alloc::Global;
 

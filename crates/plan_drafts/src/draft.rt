@@ -8,9 +8,9 @@ use crate::ranks::by_falling_part;
 use crate::scout::{Round, Scout, look_all};
 use crate::team::grow;
 use crate::tree::{DraftTree, Growth, seconds_of};
-use linear_relaxation::{Relaxation, first_multipliers};
+use linear_relaxation::Relaxation;
 use pool_base::OutOfMemory;
-use row_tables::{Draft, Drafter, Draws, RowTable, Share};
+use row_tables::{Draft, Drafter, Draws, RowTable, Share, first_multipliers};
 use std::alloc::Global;
 use std::thread::Threads;
 

@@ -1,5 +1,5 @@
-//! The rows of a trip graph in flat tables, what a draft made of them is, and the numbers of fixed point and the
-//! draws that drafts share.
+//! The rows of a trip graph in flat tables, an ascent of multipliers over them, what a draft made of them is, and
+//! the numbers of fixed point and the draws that drafts share.
 //!
 //! Nothing is proved of what is made of them: it is judged where it is used.
 //!
@@ -22,6 +22,7 @@
 //! Main clauses: none, only what safety needs.
 #![tactic(auto)]
 
+mod ascent;
 mod draft;
 mod draws;
 pub mod fixed_point;
@@ -29,6 +30,7 @@ pub mod lists;
 mod row_table;
 mod share;
 
+pub use ascent::{ascend, first_multipliers};
 pub use draft::{Decision, Draft, DraftNode, Drafter};
 pub use draws::Draws;
 pub use row_table::RowTable;

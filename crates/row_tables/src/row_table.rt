@@ -1,7 +1,7 @@
 //! The rows of a trip graph, or of a part of one, in flat tables.
-use crate::fixed_point::{item, part};
+use crate::fixed_point::{at, item, part};
 use crate::lists::{Lists, short};
-use plan_rules::TripGraph;
+use plan_rules::{TripGraph, TripRow};
 use pool_base::OutOfMemory;
 use std::alloc::Global;
 use std::ops::Range;
@@ -42,29 +42,49 @@ impl RowTable {
 
     /// All rows of a graph.
     pub fn of_graph(alloc: Global, graph: &TripGraph) -> Result<Self, OutOfMemory> {
+        RowTable::of_allowed(alloc, graph, &[])
+    }
+
+    /// The rows of a graph but for those with a mark that says no. They are numbered anew.
+    pub fn of_allowed(
+        alloc: Global,
+        graph: &TripGraph,
+        allowed: &[bool],
+    ) -> Result<Self, OutOfMemory> {
         let mut must = Vec::new(alloc);
         for rider in 0..graph.rider_count() {
             must.push(graph.must(rider))?;
         }
         let mut table = RowTable::new(alloc, i64::from(graph.penalty()), must);
         for vehicle in 0..graph.vehicle_count() {
-            table.push_vehicle(graph, vehicle)?;
+            table.push_vehicle(graph, allowed, vehicle)?;
         }
         table.index()?;
         Ok(table)
     }
 
-    fn push_vehicle(&mut self, graph: &TripGraph, vehicle: usize) -> Result<(), OutOfMemory> {
+    fn push_vehicle(
+        &mut self,
+        graph: &TripGraph,
+        allowed: &[bool],
+        vehicle: usize,
+    ) -> Result<(), OutOfMemory> {
         if vehicle < graph.vehicle_count() {
             let rows = graph.rows();
             for row in graph.first_row(vehicle)..graph.first_row(vehicle + 1) {
-                for rider in rows[row].riders.as_slice() {
-                    self.conditions.push(*rider)?;
+                if item(allowed, row, true) {
+                    self.push_trip(&rows[row])?;
                 }
-                self.end_row(rows[row].cost.min(1_000_000_000) as i64)?;
             }
         }
         self.end_vehicle()
+    }
+
+    fn push_trip(&mut self, trip: &TripRow) -> Result<(), OutOfMemory> {
+        for rider in trip.riders.as_slice() {
+            self.conditions.push(*rider)?;
+        }
+        self.end_row(trip.cost.min(1_000_000_000) as i64)
     }
 
     /// Puts in a row of the vehicle at hand.
@@ -191,5 +211,34 @@ impl RowTable {
         } else {
             self.penalty
         }
+    }
+
+    /// What a row costs, less the multipliers of its riders, in 1/1024 second.
+    pub fn reduced_cost(&self, multipliers: &[i64], row: usize) -> i64 {
+        let mut cost = self.cost(row).wrapping_mul(1024);
+        for rider in self.riders_of(row) {
+            cost = cost.wrapping_sub(at(multipliers, *rider as usize));
+        }
+        cost
+    }
+
+    /// The greatest multiplier of a rider that counts, in 1/1024 second: the penalty, where she may be left out.
+    #[inline]
+    pub fn most_multiplier(&self, rider: usize) -> i64 {
+        if self.must(rider) {
+            i64::MAX
+        } else {
+            self.penalty.wrapping_mul(1024)
+        }
+    }
+
+    /// What the riders add to the value of multipliers, in 1/1024 second.
+    pub fn value_of_riders(&self, multipliers: &[i64]) -> i64 {
+        let mut value: i64 = 0;
+        for rider in 0..multipliers.len() {
+            let multiplier = at(multipliers, rider);
+            value = value.wrapping_add(multiplier.min(self.most_multiplier(rider)));
+        }
+        value
     }
 }

@@ -1,7 +1,7 @@
 //! The rows over which a solution is sought.
 use pool_base::OutOfMemory;
 use row_tables::RowTable;
-use row_tables::fixed_point::{item, reset, set_at};
+use row_tables::fixed_point::{item, set_at};
 use row_tables::lists::{Lists, short};
 use std::alloc::Global;
 

@@ -14,11 +14,9 @@ const LEAST_GAIN: i64 = 8;
 impl Relaxation {
     /// Rounds the riders' prices to multipliers.
     pub fn find_multipliers(&mut self, table: &RowTable) {
-        let penalty = table.penalty().wrapping_mul(1024);
         for rider in 0..self.tried.len() {
-            let most = if table.must(rider) { i64::MAX } else { penalty };
             let multiplier = self.in_multipliers(at(&self.prices, rider));
-            set_at(&mut self.tried, rider, multiplier.min(most));
+            set_at(&mut self.tried, rider, multiplier.min(table.most_multiplier(rider)));
         }
     }
 
@@ -26,7 +24,7 @@ impl Relaxation {
     /// puts up to so many rows of each vehicle into the pool. How many.
     pub fn pass(&mut self, table: &RowTable, most_rows: usize) -> Result<usize, OutOfMemory> {
         let before = self.pool.rows().len();
-        let mut value = value_of_riders(table, &self.tried);
+        let mut value = table.value_of_riders(&self.tried);
         for vehicle in 0..table.vehicle_count() {
             let condition = table.rider_count().saturating_add(vehicle);
             let price = self.in_multipliers(at(&self.prices, condition));
@@ -57,7 +55,7 @@ impl Relaxation {
         self.offers.clear();
         for row in table.rows_of(vehicle) {
             if !item(&self.is_forbidden, row, true) {
-                let cost = reduced_cost(table, &self.tried, row);
+                let cost = table.reduced_cost(&self.tried, row);
                 least = least.min(cost);
                 if cost < bar && !self.pool.has(row) {
                     offer(&mut self.offers, most_rows, (cost, short(row)))?;
@@ -69,29 +67,4 @@ impl Relaxation {
         }
         Ok(least)
     }
-}
-
-/// What a row costs, less the multipliers of its riders, in 1/1024 second.
-pub fn reduced_cost(table: &RowTable, multipliers: &[i64], row: usize) -> i64 {
-    let mut cost = table.cost(row).wrapping_mul(1024);
-    for rider in table.riders_of(row) {
-        cost = cost.wrapping_sub(at(multipliers, *rider as usize));
-    }
-    cost
-}
-
-/// What the riders add to the value of multipliers.
-pub fn value_of_riders(table: &RowTable, multipliers: &[i64]) -> i64 {
-    let most = table.penalty().wrapping_mul(1024);
-    let mut value: i64 = 0;
-    for rider in 0..multipliers.len() {
-        let multiplier = at(multipliers, rider);
-        let part = if table.must(rider) {
-            multiplier
-        } else {
-            multiplier.min(most)
-        };
-        value = value.wrapping_add(part);
-    }
-    value
 }

@@ -1,47 +1,64 @@
-//! The first multipliers: a few turns of a subgradient ascent over all rows.
+//! A subgradient ascent of multipliers over the rows of a table.
 //!
-//! Steps are as long as Polyak's rule says (1969), toward a tenth of all penalties, and halved after eight
-//! turns without a rise.
-use crate::relaxation::pricing::{reduced_cost, value_of_riders};
+//! The subgradient counts for each rider how often the vehicles' rows of least reduced cost have her. Steps are
+//! as long as Polyak's rule says (1969), and halved after eight turns without a rise.
+use crate::fixed_point::{add_at, at, copy, set_at};
+use crate::row_table::RowTable;
 use pool_base::OutOfMemory;
-use row_tables::RowTable;
-use row_tables::fixed_point::{add_at, at, copy, reset, set_at};
 use std::alloc::Global;
 
-/// One, of slopes and step lengths.
+/// One, of directions and step lengths.
 const UNIT: i64 = 1024;
 
 /// After so many turns without a rise the steps are halved.
 const MOST_IDLE: u32 = 8;
 
-/// Multipliers after so many turns, in 1/1024 second.
+/// Multipliers after so many turns from what each rider costs who is served alone, toward a tenth of all
+/// penalties, in 1/1024 second.
 pub fn first_multipliers(
     alloc: Global,
     table: &RowTable,
     turns: u32,
 ) -> Result<Vec<i64>, OutOfMemory> {
-    let mut climb = Climb::new(alloc, table)?;
-    let target = table
-        .penalty()
-        .wrapping_mul(table.rider_count().min(1_000_000) as i64 * UNIT)
-        / 10;
+    let riders = table.rider_count().min(1_000_000) as i64;
+    let target = table.penalty().wrapping_mul(riders * UNIT) / 10;
+    let start = first_point(alloc, table)?;
+    ascend(alloc, table, start, target, turns)
+}
+
+/// The best multipliers of so many turns from the start, one for each rider, toward this value, all in 1/1024
+/// second. A turn looks at each row once.
+pub fn ascend(
+    alloc: Global,
+    table: &RowTable,
+    start: Vec<i64>,
+    target: i64,
+    turns: u32,
+) -> Result<Vec<i64>, OutOfMemory> {
+    let mut ascent = Ascent {
+        best: Vec::from_slice(alloc, &start)?,
+        point: start,
+        value: i64::MIN,
+        slopes: vec![in alloc; 0; table.rider_count()]?,
+        direction: vec![in alloc; 0; table.rider_count()]?,
+        scale: UNIT,
+        idle: 0,
+    };
     for _ in 0..turns {
-        let value = climb.look(table);
-        climb.keep(value);
-        let size = climb.turn(table);
+        let value = ascent.look(table);
+        ascent.keep(value);
+        let size = ascent.turn(table);
         if size <= 0 {
             break;
         }
         let gap = target.saturating_sub(value).max(UNIT);
-        climb.step(table, gap, size);
+        ascent.step(table, gap, size);
     }
-    let mut best = Vec::new(alloc);
-    best.extend_from_slice(&climb.best)?;
-    Ok(best)
+    Ok(ascent.best)
 }
 
 #[derive(Drop)]
-struct Climb {
+struct Ascent {
     point: Vec<i64>,
     best: Vec<i64>,
     value: i64,
@@ -52,35 +69,17 @@ struct Climb {
     idle: u32,
 }
 
-impl Climb {
-    fn new(alloc: Global, table: &RowTable) -> Result<Self, OutOfMemory> {
-        let mut climb = Climb {
-            point: first_point(alloc, table)?,
-            best: Vec::new(alloc),
-            value: i64::MIN,
-            slopes: Vec::new(alloc),
-            direction: Vec::new(alloc),
-            scale: UNIT,
-            idle: 0,
-        };
-        climb.make_space(table.rider_count())?;
-        Ok(climb)
-    }
-
-    fn make_space(&mut self, riders: usize) -> Result<(), OutOfMemory> {
-        self.best.extend_from_slice(&self.point)?;
-        reset(&mut self.slopes, riders, 0)?;
-        reset(&mut self.direction, riders, 0)
-    }
-
+impl Ascent {
     /// The value at the point. Computes the slopes there.
     fn look(&mut self, table: &RowTable) -> i64 {
         self.mark_rising(table);
-        let mut value = value_of_riders(table, &self.point);
+        let mut value = table.value_of_riders(&self.point);
         for vehicle in 0..table.vehicle_count() {
             if let Some((row, cost)) = best_row(table, &self.point, vehicle) {
                 value = value.wrapping_add(cost);
-                take_one(&mut self.slopes, table.riders_of(row));
+                for rider in table.riders_of(row) {
+                    add_at(&mut self.slopes, *rider as usize, -1);
+                }
             }
         }
         value
@@ -88,9 +87,8 @@ impl Climb {
 
     /// A rider's slope is one where her multiplier counts if it rises.
     fn mark_rising(&mut self, table: &RowTable) {
-        let most = table.penalty().wrapping_mul(UNIT);
         for rider in 0..self.slopes.len() {
-            let rises = table.must(rider) || at(&self.point, rider) < most;
+            let rises = at(&self.point, rider) < table.most_multiplier(rider);
             set_at(&mut self.slopes, rider, if rises { 1 } else { 0 });
         }
     }
@@ -113,12 +111,11 @@ impl Climb {
 
     /// Makes the direction the mean of the last one and twice the slopes. The square of its length.
     fn turn(&mut self, table: &RowTable) -> i64 {
-        let most = table.penalty().wrapping_mul(UNIT);
         let mut size: i64 = 0;
         for rider in 0..self.direction.len() {
             let slope = at(&self.slopes, rider).wrapping_mul(2 * UNIT);
             let mut part = slope.wrapping_add(at(&self.direction, rider)) / 2;
-            if part > 0 && !table.must(rider) && at(&self.point, rider) >= most {
+            if part > 0 && at(&self.point, rider) >= table.most_multiplier(rider) {
                 part = 0;
             }
             set_at(&mut self.direction, rider, part);
@@ -128,22 +125,13 @@ impl Climb {
     }
 
     fn step(&mut self, table: &RowTable, gap: i64, size: i64) {
-        let most = table.penalty().wrapping_mul(UNIT);
         let length = self.scale.saturating_mul(gap / UNIT);
         for rider in 0..self.point.len() {
             let part = at(&self.direction, rider);
             let step = length.saturating_mul(part).checked_div(size).unwrap_or(0);
             let next = at(&self.point, rider).saturating_add(step);
-            let most = if table.must(rider) { i64::MAX } else { most };
-            set_at(&mut self.point, rider, next.min(most));
+            set_at(&mut self.point, rider, next.min(table.most_multiplier(rider)));
         }
-    }
-}
-
-/// Takes one from each of these riders' slopes.
-fn take_one(slopes: &mut [i64], riders: &[u32]) {
-    for rider in riders {
-        add_at(slopes, *rider as usize, -1);
     }
 }
 
@@ -170,7 +158,7 @@ fn best_row(table: &RowTable, point: &[i64], vehicle: usize) -> Option<(usize, i
     let mut best = None;
     let mut least = i64::MAX;
     for row in table.rows_of(vehicle) {
-        let cost = reduced_cost(table, point, row);
+        let cost = table.reduced_cost(point, row);
         if cost < least {
             least = cost;
             best = Some((row, cost));
