@@ -99,7 +99,7 @@ impl Relaxation {
     ) -> Result<Self, OutOfMemory> {
         let mut relaxation = Relaxation {
             basis: Basis::new(alloc),
-            pool: Pool::new(alloc, table.row_count())?,
+            pool: Pool::new(alloc, table.column_count())?,
             is_forbidden: Vec::new(alloc),
             is_held: false,
             costs: Vec::new(alloc),
@@ -119,6 +119,9 @@ impl Relaxation {
         relaxation.basis.begin(table, start)?;
         relaxation.make_space(table)?;
         relaxation.set_true_costs(table);
+        for rider in 0..table.rider_count() {
+            relaxation.add(table, table.row_count().saturating_add(rider))?;
+        }
         Ok(relaxation)
     }
 
@@ -130,24 +133,22 @@ impl Relaxation {
         start: &[Option<u32>],
     ) -> Result<Self, OutOfMemory> {
         let mut relaxation = Relaxation::new(alloc, table, start)?;
-        for row in self.pool.rows() {
-            relaxation.pool.add(*row as usize)?;
+        for column in self.pool.columns() {
+            relaxation.add(table, *column as usize)?;
         }
         Ok(relaxation)
     }
 
     fn make_space(&mut self, table: &RowTable) -> Result<(), OutOfMemory> {
         let conditions = table.condition_count();
-        let columns = table.row_count().saturating_add(conditions);
         reset(&mut self.is_forbidden, table.row_count(), false)?;
-        reset(&mut self.costs, columns, 0)?;
+        reset(&mut self.costs, table.column_count(), 0)?;
         for row in 0..table.row_count() {
             set_at(&mut self.costs, row, in_prices(table.cost(row), self.scale));
         }
         reset(&mut self.prices, conditions, 0)?;
         reset(&mut self.parts, conditions, 0)?;
         self.row.make_space(conditions)?;
-        self.products.make_space(columns)?;
         reset(&mut self.multipliers, table.rider_count(), 0)?;
         reset(&mut self.tried, table.rider_count(), 0)
     }
@@ -155,8 +156,7 @@ impl Relaxation {
     /// Has it cost as much to leave out a rider as the table says.
     pub fn set_true_costs(&mut self, table: &RowTable) {
         for rider in 0..table.rider_count() {
-            let cost = in_prices(table.cost_left(rider), self.scale);
-            set_at(&mut self.costs, table.row_count().saturating_add(rider), cost);
+            self.set_cost_left(table, rider, table.cost_left(rider));
         }
     }
 
@@ -164,9 +164,18 @@ impl Relaxation {
     pub fn set_boxed_costs(&mut self, table: &RowTable, multipliers: &[i64], seconds: i64) {
         for rider in 0..table.rider_count() {
             let boxed = (at(multipliers, rider) / 1024).saturating_add(seconds);
-            let cost = in_prices(boxed.min(table.cost_left(rider)), self.scale);
-            set_at(&mut self.costs, table.row_count().saturating_add(rider), cost);
+            self.set_cost_left(table, rider, boxed.min(table.cost_left(rider)));
         }
+    }
+
+    fn set_cost_left(&mut self, table: &RowTable, rider: usize, seconds: i64) {
+        let cost = in_prices(seconds, self.scale);
+        set_at(
+            &mut self.costs,
+            table.row_count().saturating_add(rider),
+            cost,
+        );
+        self.pool.set_cost(rider, cost);
     }
 
     /// Goes on to a solution over the rows that aren't forbidden, by passes over all of them that put up to
@@ -228,19 +237,34 @@ impl Relaxation {
     /// Puts all rows into the pool.
     pub fn fill_pool_whole(&mut self, table: &RowTable) -> Result<(), OutOfMemory> {
         for row in 0..table.row_count() {
-            self.pool.add(row)?;
+            self.add(table, row)?;
         }
         Ok(())
     }
 
-    /// NOTHING
+    fn add(&mut self, table: &RowTable, column: usize) -> Result<(), OutOfMemory> {
+        self.pool.add(table, column, at(&self.costs, column))
+    }
+
+    /// Takes the rows out of the pool that aren't in the basis and whose reduced cost lies so much above their
+    /// vehicle's least one, in 1/1024 second.
     pub fn shrink_pool(
         &mut self,
         table: &RowTable,
         multipliers: &[i64],
         most: i64,
     ) -> Result<(), OutOfMemory> {
-        Ok(())
+        copy(multipliers, &mut self.tried);
+        for vehicle in 0..table.vehicle_count() {
+            let bar = self.look_through(table, vehicle, i64::MIN, 0)?;
+            for row in table.rows_of(vehicle) {
+                let above = table.reduced_cost(multipliers, row).saturating_sub(bar);
+                if above > most && !self.basis.has(row) {
+                    self.pool.forget(row);
+                }
+            }
+        }
+        self.pool.press(table)
     }
 
     /// Has these count as the best multipliers, with this value.
@@ -297,9 +321,9 @@ impl Relaxation {
     }
 
     /// Goes to a basis that was one before.
-    pub fn go_to(&mut self, columns: &[u32]) -> Result<(), OutOfMemory> {
+    pub fn go_to(&mut self, table: &RowTable, columns: &[u32]) -> Result<(), OutOfMemory> {
         for column in columns {
-            self.pool.add(*column as usize)?;
+            self.add(table, *column as usize)?;
         }
         self.basis.go_to(columns)
     }

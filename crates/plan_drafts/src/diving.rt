@@ -33,7 +33,7 @@ pub fn dive(
     is_drawn: bool,
 ) -> Result<Option<Vec<Option<u32>>>, OutOfMemory> {
     let mut bans = Bans::new(alloc);
-    relaxation.go_to(basis)?;
+    relaxation.go_to(table, basis)?;
     let found = descend(alloc, table, relaxation, &mut bans, draws, is_drawn);
     bans.go_back(relaxation, 0);
     found

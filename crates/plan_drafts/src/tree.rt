@@ -309,7 +309,7 @@ impl Parter {
             return Ok(());
         };
         self.forbid_above(table, tree)?;
-        self.relaxation.go_to(&standing.basis)?;
+        self.relaxation.go_to(table, &standing.basis)?;
         self.relaxation.pivot_on(table)?;
         let effort = if self.relaxation.pivots() < self.most_pivots {
             Some(effort)

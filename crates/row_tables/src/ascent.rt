@@ -130,7 +130,11 @@ impl Ascent {
             let part = at(&self.direction, rider);
             let step = length.saturating_mul(part).checked_div(size).unwrap_or(0);
             let next = at(&self.point, rider).saturating_add(step);
-            set_at(&mut self.point, rider, next.min(table.most_multiplier(rider)));
+            set_at(
+                &mut self.point,
+                rider,
+                next.min(table.most_multiplier(rider)),
+            );
         }
     }
 }

@@ -99,7 +99,8 @@ impl RowTable {
         let vehicle = self.vehicle_count();
         self.vehicles.push(short(vehicle))?;
         self.costs.push(cost)?;
-        self.conditions.push(self.rider_count().saturating_add(vehicle))?;
+        let condition = self.rider_count().saturating_add(vehicle);
+        self.conditions.push(condition)?;
         self.conditions.end()
     }
 
@@ -143,6 +144,12 @@ impl RowTable {
         self.must.len().saturating_add(self.ends.len())
     }
 
+    /// How many columns there are: the rows, and behind them one for each condition alone.
+    #[inline]
+    pub fn column_count(&self) -> usize {
+        self.costs.len().saturating_add(self.condition_count())
+    }
+
     /// The vehicle's rows.
     #[inline]
     pub fn rows_of(&self, vehicle: usize) -> Range<usize> {
@@ -166,11 +173,6 @@ impl RowTable {
     #[inline]
     pub fn conditions_of(&self, column: usize) -> &[u32] {
         self.conditions.list(column)
-    }
-
-    /// The conditions of all columns.
-    pub fn conditions(&self) -> &Lists {
-        &self.conditions
     }
 
     /// The rows that have this rider, rising.

@@ -64,7 +64,7 @@ impl Basis {
     /// all other riders as left out.
     pub fn begin(&mut self, table: &RowTable, start: &[Option<u32>]) -> Result<(), OutOfMemory> {
         let count = table.condition_count();
-        reset(&mut self.is_in, table.row_count().saturating_add(count), false)?;
+        reset(&mut self.is_in, table.column_count(), false)?;
         reset(&mut self.levels, count, 0)?;
         self.numbers.make_space(count)?;
         self.entering.make_space(count)?;
@@ -272,8 +272,10 @@ impl Basis {
         self.factors.enter(place, &self.entering)?;
         let (count, size) = self.made.unwrap_or((0, 0));
         let most = self.columns.len().saturating_mul(8).saturating_add(2000);
-        Ok(self.factors.len().saturating_sub(count) < MOST_EXCHANGES
-            && self.factors.size().saturating_sub(size) <= most)
+        Ok(
+            self.factors.len().saturating_sub(count) < MOST_EXCHANGES
+                && self.factors.size().saturating_sub(size) <= most,
+        )
     }
 
     /// Takes so much of the column that was found from the levels.

@@ -64,7 +64,8 @@ impl Relaxation {
             self.basis.factor(table)?;
             self.reprice();
         }
-        self.pool.list(table)
+        self.pool.list_places(self.prices.len())?;
+        self.products.make_space(self.pool.columns().len())
     }
 
     /// Has the level at a place leave for the column that prices use up first. How much the cost rises, `None`
@@ -72,7 +73,7 @@ impl Relaxation {
     fn exchange_at(&mut self, table: &RowTable, place: usize) -> Result<Option<i64>, OutOfMemory> {
         self.basis.find_row(place, &mut self.row);
         let level = self.basis.level(place);
-        let Some(entering) = self.entering_for(table, level > 0) else {
+        let Some(entering) = self.entering_for(level > 0) else {
             return Ok(None);
         };
         self.basis.find_column(table, entering.column);
@@ -105,15 +106,16 @@ impl Relaxation {
 
     /// The column whose reduced cost is used up first as the prices change with the row that was found, where
     /// the leaving level is too high or too low.
-    fn entering_for(&mut self, table: &RowTable, is_high: bool) -> Option<Entering> {
+    fn entering_for(&mut self, is_high: bool) -> Option<Entering> {
+        self.find_products(is_high);
         let mut best = None;
-        self.find_products(table, is_high);
-        for column in self.products.places() {
-            let value = self.products.at(column);
+        for place in self.products.places() {
+            let value = self.products.at(place);
+            let column = self.pool.column(place);
             if value > LEAST_PIVOT && !self.is_forbidden(column) && !self.basis.has(column) {
                 let found = Entering {
                     column,
-                    cost: self.reduced_cost(table, column).max(0),
+                    cost: self.pool.reduced_cost(place, &self.prices).max(0),
                     value,
                 };
                 best = first_of(best, found);
@@ -122,16 +124,13 @@ impl Relaxation {
         best
     }
 
-    /// Adds the row that was found up over the conditions of each column of the pool and of each rider left out.
-    fn find_products(&mut self, table: &RowTable, is_high: bool) {
+    /// Adds the row that was found up over the conditions of each place of the pool.
+    fn find_products(&mut self, is_high: bool) {
         self.products.clear();
         for condition in self.row.places() {
             let value = signed(self.row.at(condition), is_high);
             self.products
-                .add_all(self.pool.rows_with(condition), value);
-            if condition < table.rider_count() {
-                self.products.set(table.row_count().saturating_add(condition), value);
-            }
+                .add_all(self.pool.places_with(condition), value);
         }
     }
 }

@@ -2,7 +2,7 @@
 use crate::relaxation::{FORBIDDEN, Relaxation};
 use pool_base::OutOfMemory;
 use row_tables::RowTable;
-use row_tables::fixed_point::{add_at, at, set_at, times};
+use row_tables::fixed_point::{add_at, at, item, set_at, times};
 use row_tables::lists::{offer, short};
 
 /// How many candidates a look at the columns keeps, and for how many turns they are used.
@@ -28,10 +28,10 @@ impl Relaxation {
         self.reprice();
         let mut is_exact = true;
         for _ in 0..u64::MAX {
-            match self.next_column(table)? {
-                Some((cost, column)) => {
+            match self.next_place()? {
+                Some((cost, place)) => {
                     is_exact = false;
-                    if !self.enter(table, column as usize, cost)? {
+                    if !self.enter(table, self.pool.column(place as usize), cost)? {
                         return Ok(());
                     }
                 }
@@ -63,22 +63,12 @@ impl Relaxation {
         }
     }
 
-    /// What a column costs, less the prices of its conditions.
-    #[inline]
-    pub fn reduced_cost(&self, table: &RowTable, column: usize) -> i64 {
-        let mut rest = at(&self.costs, column);
-        for condition in table.conditions_of(column) {
-            rest = rest.wrapping_sub(at(&self.prices, *condition as usize));
-        }
-        rest
-    }
-
-    /// The column to come in next, and its reduced cost.
-    fn next_column(&mut self, table: &RowTable) -> Result<Option<(i64, u32)>, OutOfMemory> {
-        self.reprice_candidates(table);
+    /// The place in the pool of the column to come in next, and its reduced cost.
+    fn next_place(&mut self) -> Result<Option<(i64, u32)>, OutOfMemory> {
+        self.reprice_candidates();
         if self.turns == 0 || self.candidates.is_empty() {
             self.turns = MOST_CANDIDATES as u32;
-            self.find_candidates(table)?;
+            self.find_candidates()?;
         } else {
             self.turns = self.turns.saturating_sub(1);
         }
@@ -94,34 +84,26 @@ impl Relaxation {
     }
 
     /// Takes out the candidates that better nothing any more.
-    fn reprice_candidates(&mut self, table: &RowTable) {
+    fn reprice_candidates(&mut self) {
         let mut count = 0;
-        for place in 0..self.candidates.len() {
-            let Some((_, column)) = self.candidates.get(place).copied() else {
-                return;
-            };
-            let cost = self.reduced_cost(table, column as usize);
-            if cost < -LEAST_GAIN && !self.basis.has(column as usize) {
-                set_at(&mut self.candidates, count, (cost, column));
+        for number in 0..self.candidates.len() {
+            let (_, place) = item(&self.candidates, number, (0, u32::MAX));
+            let cost = self.pool.reduced_cost(place as usize, &self.prices);
+            if cost < -LEAST_GAIN && !self.basis.has(self.pool.column(place as usize)) {
+                set_at(&mut self.candidates, count, (cost, place));
                 count = count.wrapping_add(1);
             }
         }
         self.candidates.truncate(count);
     }
 
-    fn find_candidates(&mut self, table: &RowTable) -> Result<(), OutOfMemory> {
+    fn find_candidates(&mut self) -> Result<(), OutOfMemory> {
         self.candidates.clear();
-        for rider in 0..table.rider_count() {
-            self.look_at(table, table.row_count().saturating_add(rider))?;
-        }
-        let count = self.pool.rows().len();
+        let count = self.pool.columns().len();
         let look = (count / 4).max(LEAST_LOOK).min(count);
         for part in 0..5_usize {
             let seen = part.wrapping_mul(look);
-            for _ in 0..look.min(count.saturating_sub(seen)) {
-                let row = self.pool.next();
-                self.look_at(table, row)?;
-            }
+            self.look_at(look.min(count.saturating_sub(seen)))?;
             if self.candidates.len() >= ENOUGH_CANDIDATES {
                 return Ok(());
             }
@@ -129,12 +111,17 @@ impl Relaxation {
         Ok(())
     }
 
-    /// Takes a column among the candidates, where it betters the solution and is better than theirs.
-    #[inline]
-    fn look_at(&mut self, table: &RowTable, column: usize) -> Result<(), OutOfMemory> {
-        let cost = self.reduced_cost(table, column);
-        if cost < -LEAST_GAIN && !self.basis.has(column) && !self.is_forbidden(column) {
-            offer(&mut self.candidates, MOST_CANDIDATES, (cost, short(column)))?;
+    /// Takes those of the next columns among the candidates that better the solution, and do so more than others.
+    fn look_at(&mut self, count: usize) -> Result<(), OutOfMemory> {
+        for _ in 0..count {
+            let place = self.pool.next();
+            let cost = self.pool.reduced_cost(place, &self.prices);
+            if cost < -LEAST_GAIN {
+                let column = self.pool.column(place);
+                if !self.basis.has(column) && !self.is_forbidden(column) {
+                    offer(&mut self.candidates, MOST_CANDIDATES, (cost, short(place)))?;
+                }
+            }
         }
         Ok(())
     }

@@ -1,85 +1,128 @@
-//! The rows over which a solution is sought.
+//! The columns over which a solution is sought.
 use pool_base::OutOfMemory;
 use row_tables::RowTable;
-use row_tables::fixed_point::{item, set_at};
+use row_tables::fixed_point::{at, item, set_at};
 use row_tables::lists::{Lists, short};
 use std::alloc::Global;
 
-/// Some rows of a table.
+/// The columns of the riders, each at her number as its place, and behind them those of some rows.
 #[derive(Drop)]
 pub struct Pool {
-    rows: Vec<u32>,
+    columns: Vec<u32>,
     is_in: Vec<bool>,
-    /// For each condition its rows, where they are listed.
-    with: Lists,
+    /// For each place what its column costs and its conditions: they lie side by side, unlike those of a table,
+    /// of which a pool has few rows.
+    costs: Vec<i64>,
+    conditions: Lists,
+    /// For each condition the places of the columns with it, where they are listed.
+    places: Lists,
     is_listed: bool,
-    /// Where the next look at the rows starts.
+    /// Where the next look at the columns starts.
     cursor: usize,
 }
 
 impl Pool {
-    /// No row of a table with so many.
-    pub fn new(alloc: Global, rows: usize) -> Result<Self, OutOfMemory> {
+    /// No column of a table with so many.
+    pub fn new(alloc: Global, columns: usize) -> Result<Self, OutOfMemory> {
         Ok(Pool {
-            rows: Vec::new(alloc),
-            is_in: vec![in alloc; false; rows]?,
-            with: Lists::new(alloc),
+            columns: Vec::new(alloc),
+            is_in: vec![in alloc; false; columns]?,
+            costs: Vec::new(alloc),
+            conditions: Lists::new(alloc),
+            places: Lists::new(alloc),
             is_listed: false,
             cursor: 0,
         })
     }
 
-    pub fn rows(&self) -> &[u32] {
-        &self.rows
+    pub fn columns(&self) -> &[u32] {
+        &self.columns
     }
 
-    pub fn has(&self, row: usize) -> bool {
-        item(&self.is_in, row, false)
+    pub fn has(&self, column: usize) -> bool {
+        item(&self.is_in, column, false)
     }
 
-    /// Takes in a row, where it isn't in yet.
-    pub fn add(&mut self, row: usize) -> Result<(), OutOfMemory> {
-        if !item(&self.is_in, row, true) {
-            set_at(&mut self.is_in, row, true);
-            self.rows.push(short(row))?;
+    /// Takes in a column, where it isn't in yet.
+    pub fn add(&mut self, table: &RowTable, column: usize, cost: i64) -> Result<(), OutOfMemory> {
+        if !item(&self.is_in, column, true) {
+            set_at(&mut self.is_in, column, true);
             self.is_listed = false;
+            self.columns.push(short(column))?;
+            self.costs.push(cost)?;
+            self.conditions.push_list(table.conditions_of(column))?;
         }
         Ok(())
     }
 
-    /// Takes all rows out.
-    pub fn clear(&mut self) {
-        for row in &self.rows {
-            set_at(&mut self.is_in, *row as usize, false);
-        }
-        self.rows.clear();
-        self.is_listed = false;
+    /// Has a column be out once the pool is pressed together.
+    pub fn forget(&mut self, column: usize) {
+        set_at(&mut self.is_in, column, false);
     }
 
-    /// The row at the cursor, which moves on, from the last row to the first.
+    /// Presses the columns together that are in.
+    pub fn press(&mut self, table: &RowTable) -> Result<(), OutOfMemory> {
+        let mut count = 0;
+        self.conditions.clear();
+        for place in 0..self.columns.len() {
+            let column = self.column(place);
+            if self.has(column) {
+                let cost = at(&self.costs, place);
+                set_at(&mut self.columns, count, short(column));
+                set_at(&mut self.costs, count, cost);
+                self.conditions.push_list(table.conditions_of(column))?;
+                count = count.wrapping_add(1);
+            }
+        }
+        self.columns.truncate(count);
+        self.costs.truncate(count);
+        self.is_listed = false;
+        Ok(())
+    }
+
+    /// Has the column at a place cost this.
+    pub fn set_cost(&mut self, place: usize, cost: i64) {
+        set_at(&mut self.costs, place, cost);
+    }
+
+    /// The place at the cursor, which moves on, from the last place to the first.
     pub fn next(&mut self) -> usize {
-        let place = if self.cursor < self.rows.len() {
+        let place = if self.cursor < self.columns.len() {
             self.cursor
         } else {
             0
         };
         self.cursor = place.saturating_add(1);
-        item(&self.rows, place, u32::MAX) as usize
+        place
     }
 
-    /// Lists the rows of each condition, where that isn't done.
-    pub fn list(&mut self, table: &RowTable) -> Result<(), OutOfMemory> {
+    /// The column at a place.
+    pub fn column(&self, place: usize) -> usize {
+        item(&self.columns, place, u32::MAX) as usize
+    }
+
+    /// What the column at a place costs, less the prices of its conditions.
+    #[inline]
+    pub fn reduced_cost(&self, place: usize, prices: &[i64]) -> i64 {
+        let mut rest = at(&self.costs, place);
+        for condition in self.conditions.list(place) {
+            rest = rest.wrapping_sub(at(prices, *condition as usize));
+        }
+        rest
+    }
+
+    /// Lists the places of each condition, below this many, where that isn't done.
+    pub fn list_places(&mut self, conditions: usize) -> Result<(), OutOfMemory> {
         if !self.is_listed {
             self.is_listed = true;
-            let count = table.condition_count();
-            self.with.transpose_in(table.conditions(), count, &self.rows)?;
+            self.places.transpose(&self.conditions, conditions)?;
         }
         Ok(())
     }
 
-    /// The rows with a condition, as they were listed last.
+    /// The places of the columns with a condition, as they were listed last.
     #[inline]
-    pub fn rows_with(&self, condition: usize) -> &[u32] {
-        self.with.list(condition)
+    pub fn places_with(&self, condition: usize) -> &[u32] {
+        self.places.list(condition)
     }
 }

@@ -16,14 +16,18 @@ impl Relaxation {
     pub fn find_multipliers(&mut self, table: &RowTable) {
         for rider in 0..self.tried.len() {
             let multiplier = self.in_multipliers(at(&self.prices, rider));
-            set_at(&mut self.tried, rider, multiplier.min(table.most_multiplier(rider)));
+            set_at(
+                &mut self.tried,
+                rider,
+                multiplier.min(table.most_multiplier(rider)),
+            );
         }
     }
 
     /// Computes the value of the multipliers over all rows, keeps them where they are the best so far, and
     /// puts up to so many rows of each vehicle into the pool. How many.
     pub fn pass(&mut self, table: &RowTable, most_rows: usize) -> Result<usize, OutOfMemory> {
-        let before = self.pool.rows().len();
+        let before = self.pool.columns().len();
         let mut value = table.value_of_riders(&self.tried);
         for vehicle in 0..table.vehicle_count() {
             let condition = table.rider_count().saturating_add(vehicle);
@@ -35,7 +39,7 @@ impl Relaxation {
             self.value = value;
             copy(&self.tried, &mut self.multipliers);
         }
-        Ok(self.pool.rows().len().saturating_sub(before))
+        Ok(self.pool.columns().len().saturating_sub(before))
     }
 
     /// The least reduced cost of the vehicle's rows under the multipliers at hand. Puts those below the bar into the
@@ -63,7 +67,8 @@ impl Relaxation {
             }
         }
         for offered in &self.offers {
-            self.pool.add(offered.1 as usize)?;
+            let row = offered.1 as usize;
+            self.pool.add(table, row, at(&self.costs, row))?;
         }
         Ok(least)
     }
