@@ -77,7 +77,8 @@ pub struct Relaxation {
     /// A row of the basis's inverse over the conditions, and its products with the rows of the pool.
     row: Sparse,
     products: Sparse,
-    /// Columns that may come in, with their reduced costs, and in how many turns these are still good.
+    /// The reduced costs of columns that may come in, with their places in the pool, and in how many turns these are
+    /// still good.
     candidates: Vec<(i64, u32)>,
     turns: u32,
     pivots: u64,
@@ -86,6 +87,7 @@ pub struct Relaxation {
     value: i64,
     /// The multipliers at hand.
     tried: Vec<i64>,
+    /// The reduced costs of a vehicle's least rows, and these.
     offers: Vec<(i64, u32)>,
 }
 
@@ -243,7 +245,8 @@ impl Relaxation {
     }
 
     fn add(&mut self, table: &RowTable, column: usize) -> Result<(), OutOfMemory> {
-        self.pool.add(table, column, at(&self.costs, column))
+        let cost = at(&self.costs, column);
+        self.pool.add(table, column, cost)
     }
 
     /// Takes the rows out of the pool that aren't in the basis and whose reduced cost lies so much above their

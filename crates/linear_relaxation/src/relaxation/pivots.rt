@@ -31,7 +31,8 @@ impl Relaxation {
             match self.next_place()? {
                 Some((cost, place)) => {
                     is_exact = false;
-                    if !self.enter(table, self.pool.column(place as usize), cost)? {
+                    let column = self.pool.column(place as usize);
+                    if !self.enter(table, column, cost)? {
                         return Ok(());
                     }
                 }

@@ -68,7 +68,8 @@ impl Relaxation {
         }
         for offered in &self.offers {
             let row = offered.1 as usize;
-            self.pool.add(table, row, at(&self.costs, row))?;
+            let cost = at(&self.costs, row);
+            self.pool.add(table, row, cost)?;
         }
         Ok(least)
     }
