@@ -9,7 +9,8 @@ use Rattle.plan_rules.specs.Sums.{least_below, lesser}
 use Rattle.plan_rules.specs.Graph.{Graph, riders_at, has_rider}
 use Rattle.plan_rules.specs.Multipliers.{Usable, room_at}
 use Rattle.plan_rules.proofs.lemmas.SumLemmas.{least_below_some, least_below_found, lesser-le_right, lesser-le_left}
-use Rattle.dual_bound.specs.Index.{IsListed, ListsAll}
+use Rattle.dual_bound.specs.declared.rider_index.RiderIndex.{RiderIndex}
+use Rattle.dual_bound.specs.Index.{start_at, end_at, IsListed, IsIndexOf}
 
 -- the least of f at the numbers below n that pass and stand at these places of a list, where there is one
 pub record IsLeastListed (n : ℕ) (p : ℕ → Bool) (f : ℕ → ℤ) (listed : List ℕ) (from to : ℕ) (least : Option ℤ) : Type 0 where
@@ -105,17 +106,18 @@ at_of P (x ∷ xs) r all e =
     (cases_eq x r)
 
 -- the least over a rider's list is the least over all rows
-pub listed_done : (g : Graph) (usable : Usable) (ms : List ℤ) (starts listed : List ℕ) (r to : ℕ) (o : Option ℤ) → ListsAll g starts listed → get_or starts (suc r) 0 ≤ to
-    → IsLeastListed (length g.rows) (λ k. usable k && has_rider g k r) (room_at g usable ms) listed (get_or starts r 0) to o
+pub listed_done : (g : Graph) (usable : Usable) (ms : List ℤ) (index : RiderIndex) (r to : ℕ) (o : Option ℤ) → IsIndexOf g index → end_at index r ≤ to
+    → IsLeastListed (length g.rows) (λ k. usable k && has_rider g k r) (room_at g usable ms) index.rows.items (start_at index r) to o
     → o ≡ least_below (length g.rows) (λ k. usable k && has_rider g k r) (room_at g usable ms)
-listed_done g usable ms starts listed r to o all ended least =
+listed_done g usable ms index r to o all ended least =
     let n = length g.rows in
     let p : ℕ → Bool = λ k. usable k && has_rider g k r in
     let f : ℕ → ℤ = room_at g usable ms in
     least_is n p f o
     (λ k l yes.
     let has : has_rider g k r ≡ true = (and_parts (usable k) (has_rider g k r) yes).1 in
-    let here : IsListed starts listed r k = at_of (λ (q : ℕ). IsListed starts listed q k) (riders_at g k) r (λ i low. all k i l low) has in
-    let w = least.covers here.place here.from (omega (arith, here.before, ended)) here.within (subst (λ (j : ℕ). j < n) (sym here.row) l) (subst (λ (j : ℕ). p j ≡ true) (sym here.row) yes) in
+    let here : IsListed index.rows.items (start_at index r) (end_at index r) k =
+    at_of (λ (q : ℕ). IsListed index.rows.items (start_at index q) (end_at index q) k) (riders_at g k) r (λ i low. all k i l low) has in
+    let w = least.covers here.place here.from_on (omega (arith, here.before, ended)) here.within (subst (λ (j : ℕ). j < n) (sym here.row) l) (subst (λ (j : ℕ). p j ≡ true) (sym here.row) yes) in
     (w.0, w.1, subst (λ (j : ℕ). w.0 ≤ℤ f j) here.row (w.2)))
     least.reached (least_below n p f) refl

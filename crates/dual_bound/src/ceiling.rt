@@ -7,7 +7,7 @@ ghost use Rattle.dual_bound.specs.Cheapest.{AreCheapestOf};
 ghost use Rattle.dual_bound.specs.work.Size.{HasLeastCosts, IsCost, IsModest};
 ghost use Rattle.dual_bound.specs.work.Ceiling.{AreCeilings};
 
-use crate::cheapest::{CheapestRows, least_costs, least_costs_by};
+use crate::cheapest::{CheapestRows, least_costs};
 use plan_rules::TripGraph;
 use pool_base::OutOfMemory;
 use std::alloc::Global;
@@ -24,7 +24,7 @@ pub fn first_fit_ceiling(
     requires { length allowed.now ≡ length graph.now.rows }
     ensures { IfOk result (λ ceiling. first_fit_value graph.now (usable_of allowed.now) ≤ℤ ceiling) }
 {
-    let costs = least_costs(alloc, graph, allowed)?;
+    let costs = least_costs(alloc, graph, &CheapestRows::none(alloc), allowed)?;
     let mut rooms = penalties(alloc, graph)?;
     Ok(ceiling_of(graph, allowed, &costs, &mut rooms))
 }
@@ -41,7 +41,7 @@ pub fn quick_ceiling(
     requires allowed { length allowed.now ≡ length graph.now.rows }
     ensures { IfOk result (λ ceiling. first_fit_value graph.now (usable_of allowed.now) ≤ℤ ceiling) }
 {
-    let costs = least_costs_by(alloc, graph, cheapest, allowed)?;
+    let costs = least_costs(alloc, graph, cheapest, allowed)?;
     let mut rooms = penalties(alloc, graph)?;
     Ok(quick_ceiling_of(graph, allowed, &costs, &mut rooms))
 }

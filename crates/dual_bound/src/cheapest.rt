@@ -1,7 +1,7 @@
 //! The cheapest allowed row of each vehicle.
 ghost use Rattle.std.specs.Prelude.{◌≡◌, ◌<◌, ◌≤◌, ℕ, true, IfOk, IfSome, length, slice_index_or, pos};
 ghost use Rattle.plan_rules.specs.Sums.{lesser};
-ghost use Rattle.plan_rules.specs.Graph.{cost_at};
+ghost use Rattle.plan_rules.specs.Graph.{Graph, cost_at};
 ghost use Rattle.plan_rules.specs.Multipliers.{usable_of, least_cost};
 ghost use Rattle.plan_rules.specs.Tree.{MayUse};
 ghost use Rattle.dual_bound.specs.Cheapest.{IsNoCheaper, AreCheapest, AreCheapestOf};
@@ -30,6 +30,16 @@ impl CheapestRows {
         }
         let is_right = are_cheapest(graph, &rows);
         Ok(CheapestRows { rows, is_right })
+    }
+
+    /// No rows at hand.
+    pub fn none(alloc: Global) -> CheapestRows
+        ensures { (g : Graph) → AreCheapestOf g result }
+    {
+        CheapestRows {
+            rows: Vec::new(alloc),
+            is_right: false,
+        }
     }
 }
 
@@ -74,24 +84,9 @@ fn is_no_cheaper(graph: &TripGraph, listed: &[u32], row: usize) -> bool
     cheapest < rows.len() && rows[cheapest].cost <= rows[row].cost
 }
 
-/// For each vehicle the least cost of an allowed row, 0 where it has none.
+/// For each vehicle the least cost of an allowed row, 0 where it has none. Where the cheapest of all rows are at
+/// hand, few others are looked at, since most of those are allowed.
 pub fn least_costs(
-    alloc: Global,
-    graph: &TripGraph,
-    allowed: &[bool],
-) -> Result<Vec<i64>, OutOfMemory>
-    requires { length allowed.now ≡ length graph.now.rows }
-    ensures { IfOk result (λ costs. HasLeastCosts graph.now (usable_of allowed.now) costs.items) }
-{
-    let mut costs = Vec::new(alloc);
-    for vehicle in 0..graph.vehicle_count() {
-        costs.push(least_cost_of(graph, allowed, vehicle))?;
-    }
-    Ok(costs)
-}
-
-/// The same, where the cheapest of all rows are at hand: most of them are allowed.
-pub fn least_costs_by(
     alloc: Global,
     graph: &TripGraph,
     cheapest: &CheapestRows,

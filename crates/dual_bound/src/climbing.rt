@@ -64,9 +64,8 @@ fn better_of(
     if reached.as_slice().len() != graph.rider_count() {
         return start;
     }
-    if leaf_value(graph, allowed, reached.as_slice())
-        < leaf_value(graph, allowed, start.as_slice())
-    {
+    let value = leaf_value(graph, allowed, reached.as_slice());
+    if value < leaf_value(graph, allowed, start.as_slice()) {
         return start;
     }
     reached

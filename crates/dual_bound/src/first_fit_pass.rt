@@ -4,10 +4,10 @@ ghost use Rattle.plan_rules.specs.Sums.{lesser, least_below, int_sum_below};
 ghost use Rattle.plan_rules.specs.Multipliers.{usable_of, leaf_value, least_cost, first_fit, first_fit_of, room_at, multiplier_at, multiplier_sum};
 ghost use Rattle.plan_rules.specs.Graph.{has_rider};
 ghost use Rattle.dual_bound.specs.work.Size.{IsCost, IsModest, HasLeastCosts};
-ghost use Rattle.dual_bound.specs.Index.{IsIndexOf, ListsAll};
+ghost use Rattle.dual_bound.specs.Index.{IsIndexOf};
 ghost use Rattle.dual_bound.specs.work.Index.{IsRowListed};
 
-use crate::cheapest::least_costs;
+use crate::cheapest::{CheapestRows, least_costs};
 use crate::rider_index::RiderIndex;
 use plan_rules::{Multipliers, TripGraph, TripRow};
 use pool_base::OutOfMemory;
@@ -48,7 +48,7 @@ pub fn first_fit_by(
     ensures never_negative { IfOk result (λ ms. (r : ℕ) → pos 0 ≤ℤ multiplier_at ms r) }
     ensures worth { IfOk result (λ ms. leaf_value graph.now (usable_of allowed.now) ms ≡ pos 1024 *ℤ int_sum_below graph.now.vehicles (least_cost graph.now (usable_of allowed.now)) +ℤ int_sum_below graph.now.riders (multiplier_at ms)) }
 {
-    let costs = least_costs(alloc, graph, allowed)?;
+    let costs = least_costs(alloc, graph, &CheapestRows::none(alloc), allowed)?;
     let mut multipliers: Vec<i64> = vec![in alloc; 0; graph.rider_count()]?;
     fit(graph, index, allowed, &costs, &mut multipliers);
     Ok(Multipliers::of(multipliers))
@@ -93,55 +93,21 @@ fn next_multiplier(
     ensures value { result ≡ first_fit_of graph.now (usable_of allowed.now) multipliers.now rider }
     ensures modest { IsModest result }
 {
-    if index.is_whole {
-        first_fit_listed(
-            graph,
-            index.starts.as_slice(),
-            index.rows.as_slice(),
-            allowed,
-            costs,
-            multipliers,
-            rider,
-        )
-    } else {
-        first_fit_at(graph, allowed, costs, multipliers, rider)
-    }
-}
-
-/// The next rider's multiplier, by the list of her rows.
-fn first_fit_listed(
-    graph: &TripGraph,
-    starts: &[u32],
-    listed: &[u32],
-    allowed: &[bool],
-    costs: &[i64],
-    multipliers: &[i64],
-    rider: usize,
-) -> i64
-    requires listed { ListsAll graph.now starts.now listed.now }
-    requires allowed { length allowed.now ≡ length graph.now.rows }
-    requires costs { HasLeastCosts graph.now (usable_of allowed.now) costs.now }
-    requires multipliers { length multipliers.now ≡ graph.now.riders }
-    requires modest { (r : ℕ) → IsModest (multiplier_at multipliers.now r) }
-    ensures value { result ≡ first_fit_of graph.now (usable_of allowed.now) multipliers.now rider }
-    ensures modest { IsModest result }
-{
-    let least = least_listed(graph, starts, listed, allowed, costs, multipliers, rider);
+    let least = least_listed(graph, index, allowed, costs, multipliers, rider);
     let penalty = 1024 * graph.penalty() as i64;
     lesser_room(least, penalty)
 }
 
-/// The least room of the rider's allowed rows, by the list of her rows.
+/// The least room of the rider's allowed rows.
 fn least_listed(
     graph: &TripGraph,
-    starts: &[u32],
-    listed: &[u32],
+    index: &RiderIndex,
     allowed: &[bool],
     costs: &[i64],
     multipliers: &[i64],
     rider: usize,
 ) -> Option<i64>
-    requires listed { ListsAll graph.now starts.now listed.now }
+    requires index { IsIndexOf graph.now index.now }
     requires allowed { length allowed.now ≡ length graph.now.rows }
     requires costs { HasLeastCosts graph.now (usable_of allowed.now) costs.now }
     requires multipliers { length multipliers.now ≡ graph.now.riders }
@@ -150,33 +116,13 @@ fn least_listed(
     ensures small { IfSome result (λ z. neg_ℤ (pos 8000000000000) ≤ℤ z) }
 {
     let mut least: Option<i64> = None;
-    for place in start_of(starts, rider)..end_of(starts, rider) {
-        if let Some(row) = row_listed(graph, listed, allowed, rider, place) {
+    for place in index.start(rider)..index.end(rider) {
+        if let Some(row) = row_listed(graph, index.rows.as_slice(), allowed, rider, place) {
             let room = room_of(graph, allowed, costs, multipliers, row);
             least = Some(lesser_room(least, room));
         }
     }
     least
-}
-
-fn start_of(starts: &[u32], rider: usize) -> usize
-    ensures { result ≡ slice_index_or starts.now rider 0 }
-{
-    if rider < starts.len() {
-        starts[rider] as usize
-    } else {
-        0
-    }
-}
-
-fn end_of(starts: &[u32], rider: usize) -> usize
-    ensures { result ≡ slice_index_or starts.now (suc rider) 0 }
-{
-    if rider < starts.len() && rider + 1 < starts.len() {
-        starts[rider + 1] as usize
-    } else {
-        0
-    }
 }
 
 /// The row that is listed at this place, where it is allowed and has the rider.
@@ -209,31 +155,6 @@ fn is_allowed_with(graph: &TripGraph, allowed: &[bool], row: usize, rider: usize
 {
     let rows = graph.rows();
     allowed[row] && rows[row].riders.as_slice().contains(&rider)
-}
-
-/// The next rider's multiplier, by all rows.
-fn first_fit_at(
-    graph: &TripGraph,
-    allowed: &[bool],
-    costs: &[i64],
-    multipliers: &[i64],
-    rider: usize,
-) -> i64
-    requires allowed { length allowed.now ≡ length graph.now.rows }
-    requires costs { HasLeastCosts graph.now (usable_of allowed.now) costs.now }
-    requires multipliers { length multipliers.now ≡ graph.now.riders }
-    requires modest { (r : ℕ) → IsModest (multiplier_at multipliers.now r) }
-    ensures value { result ≡ first_fit_of graph.now (usable_of allowed.now) multipliers.now rider }
-    ensures modest { IsModest result }
-{
-    let rows = graph.rows();
-    let mut least: Option<i64> = None;
-    for row in 0..rows.len() {
-        if allowed[row] && rows[row].riders.as_slice().contains(&rider) {
-            least = Some(lesser_room(least, room_of(graph, allowed, costs, multipliers, row)));
-        }
-    }
-    lesser_room(least, 1024 * graph.penalty() as i64)
 }
 
 fn lesser_room(least: Option<i64>, room: i64) -> i64

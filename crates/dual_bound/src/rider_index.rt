@@ -1,7 +1,8 @@
 //! The rows of each rider.
-ghost use Rattle.std.specs.Prelude.{◌≡◌, ◌<◌, ℕ, true, IfOk, length, slice_index_or};
+ghost use Rattle.std.specs.Prelude.{◌≡◌, ◌<◌, ◌≤◌, ℕ, suc, true, IfOk, length, slice_index_or};
 ghost use Rattle.plan_rules.specs.Graph.{riders_at};
-ghost use Rattle.dual_bound.specs.Index.{IsIndexOf, IsListed, ListsAll};
+ghost use Rattle.dual_bound.specs.Index.{IsIndexOf, IsListed, start_at, end_at};
+ghost use Rattle.dual_bound.specs.work.Index.{ListsAll};
 
 use plan_rules::TripGraph;
 use pool_base::OutOfMemory;
@@ -15,7 +16,7 @@ pub struct RiderIndex {
     /// Where each rider's list starts, and where the last one ends.
     pub starts: Vec<u32>,
     pub rows: Vec<u32>,
-    /// Whether each row was found in the lists of all its riders.
+    /// Whether each row was found in the lists of all its riders. Where not, one list has all rows, for anyone.
     pub is_whole: bool,
 }
 
@@ -33,13 +34,58 @@ impl RiderIndex {
         let mut rows = Vec::new(alloc);
         list(table, &mut starts, &mut rows)?;
         let mut cursors = Vec::from_slice(alloc, &starts)?;
-        let is_whole = lists_all(graph, &starts, &rows, &mut cursors);
+        if lists_all(graph, &starts, &rows, &mut cursors) {
+            return Ok(RiderIndex {
+                starts,
+                rows,
+                is_whole: true,
+            });
+        }
+        let rows = numbers_below(alloc, graph.rows().len())?;
         Ok(RiderIndex {
             starts,
             rows,
-            is_whole,
+            is_whole: false,
         })
     }
+
+    /// Where the rider's list starts.
+    pub fn start(&self, rider: usize) -> usize
+        ensures { result ≡ start_at self.now rider }
+    {
+        if self.is_whole && rider < self.starts.len() {
+            self.starts[rider] as usize
+        } else {
+            0
+        }
+    }
+
+    /// Where the rider's list ends.
+    pub fn end(&self, rider: usize) -> usize
+        ensures { result ≡ end_at self.now rider }
+    {
+        if !self.is_whole {
+            return self.rows.len();
+        }
+        if rider < self.starts.len() && rider + 1 < self.starts.len() {
+            self.starts[rider + 1] as usize
+        } else {
+            0
+        }
+    }
+}
+
+/// The numbers below this one.
+fn numbers_below(alloc: Global, count: usize) -> Result<Vec<u32>, OutOfMemory>
+    requires { count ≤ 2000000 }
+    ensures len { IfOk result (λ numbers. length numbers.items ≡ count) }
+    ensures each { IfOk result (λ numbers. (k : ℕ) → k < count → slice_index_or numbers.items k 0 ≡ k) }
+{
+    let mut numbers = Vec::new(alloc);
+    for number in 0..count {
+        numbers.push(number as u32)?;
+    }
+    Ok(numbers)
 }
 
 fn list(table: &RowTable, starts: &mut Vec<u32>, rows: &mut Vec<u32>) -> Result<(), OutOfMemory> {
@@ -72,7 +118,7 @@ fn is_listed_for_all(
     listed: &[u32],
     cursors: &mut [u32],
 ) -> bool
-    ensures { result ≡ true → (i : ℕ) → i < length riders.now → IsListed starts.now listed.now (slice_index_or riders.now i 0) row }
+    ensures { result ≡ true → (i : ℕ) → i < length riders.now → IsListed listed.now (slice_index_or starts.now (slice_index_or riders.now i 0) 0) (slice_index_or starts.now (suc (slice_index_or riders.now i 0)) 0) row }
 {
     for place in 0..riders.len() {
         let cursor = next_cursor(cursors, riders[place]);
@@ -85,7 +131,7 @@ fn is_listed_for_all(
 
 /// Whether this place is one of the rider's list, and the row stands there.
 fn is_listed_at(starts: &[u32], listed: &[u32], rider: usize, row: usize, place: usize) -> bool
-    ensures { result ≡ true → IsListed starts.now listed.now rider row }
+    ensures { result ≡ true → IsListed listed.now (slice_index_or starts.now rider 0) (slice_index_or starts.now (suc rider) 0) row }
 {
     if rider >= starts.len() || rider + 1 >= starts.len() || place >= listed.len() {
         return false;

@@ -2,27 +2,25 @@
 //!
 //! The revised simplex method in fixed point, so that each machine does the same, over a pool of rows to
 //! which a pass over all rows adds those that better the solution (column generation; Gilmore and Gomory,
-//! 1961). There is a condition for each vehicle, then one for each rider. Nothing is proved of how good a
+//! 1961). There is a condition for each rider, then one for each vehicle. Nothing is proved of how good a
 //! solution is: a leaf value judges any multipliers.
 ghost use Rattle.std.specs.Prelude.{◌≡◌, IfOk, length};
 
 mod basis;
 mod dual;
-mod elimination;
 mod factors;
+mod ordering;
 mod pivots;
 mod pool;
 mod pricing;
 mod sparse;
 
 use crate::relaxation::basis::Basis;
-use crate::relaxation::elimination::reset;
-use crate::relaxation::pool::{Candidate, Pool};
+use crate::relaxation::pool::Pool;
 use crate::relaxation::sparse::Sparse;
 pub use dual::Ended;
 use pool_base::OutOfMemory;
-use row_tables::fixed_point::{ONE, at, copy, item, set_at, times};
-use row_tables::lists::short;
+use row_tables::fixed_point::{ONE, at, copy, item, reset, set_at, times, write_over};
 use row_tables::{RowTable, Share};
 use std::alloc::Global;
 
@@ -31,6 +29,9 @@ const NEAR: i64 = 200;
 
 /// No column costs more, in units of 2^scale seconds.
 const MOST_COST: i64 = 10_000_000;
+
+/// What a forbidden row costs, in the units of prices: more than any other column.
+const FORBIDDEN: i64 = MOST_COST << 32;
 
 /// How many passes over all rows a solution takes at most.
 const MOST_PASSES: u32 = 1000;
@@ -57,8 +58,8 @@ impl Saved {
 
 /// A solution of the relaxation of some rows, and the work space for the next one.
 ///
-/// A number of a column is that of a row, or a rider's behind the rows, who is left out, or behind those a
-/// vehicle's without rows.
+/// A number of a column is that of a row, or behind the rows a single condition's: a rider's who is left out, or that
+/// of a vehicle without rows.
 #[derive(Drop)]
 pub struct Relaxation {
     basis: Basis,
@@ -66,32 +67,27 @@ pub struct Relaxation {
     is_forbidden: Vec<bool>,
     /// Whether forbidden rows are held at 0, at their own cost, in place of costing so much that they leave.
     is_held: bool,
-    /// What each row costs, in the units of prices.
-    row_costs: Vec<i64>,
-    /// What it costs to leave out each rider, in the units of prices.
-    left_costs: Vec<i64>,
+    /// What each column costs, in the units of prices.
+    costs: Vec<i64>,
     /// The prices of the conditions, in units of 2^-32 of 2^scale seconds.
     prices: Vec<i64>,
     scale: u32,
-    /// The prices before they were computed anew.
-    old_prices: Vec<i64>,
-    /// What each place costs, and how much of it is chosen.
-    costs: Vec<i64>,
+    /// How much each place costs, or how much of it is chosen.
     parts: Vec<i64>,
-    /// A row of the basis's inverse over the conditions, and its products with the columns of the pool's places.
+    /// A row of the basis's inverse over the conditions, and its products with the rows of the pool.
     row: Sparse,
     products: Sparse,
-    candidates: Vec<Candidate>,
-    /// In how many turns the candidates are still good.
+    /// The reduced costs of columns that may come in, with their places in the pool, and in how many turns these are
+    /// still good.
+    candidates: Vec<(i64, u32)>,
     turns: u32,
     pivots: u64,
-    most_pivots: u64,
     /// The best multipliers of the last solution and their value, in 1/1024 second.
     multipliers: Vec<i64>,
     value: i64,
-    /// The multipliers at hand, and for each vehicle the least reduced cost of its rows under them.
+    /// The multipliers at hand.
     tried: Vec<i64>,
-    least: Vec<i64>,
+    /// The reduced costs of a vehicle's least rows, and these.
     offers: Vec<(i64, u32)>,
 }
 
@@ -105,29 +101,29 @@ impl Relaxation {
     ) -> Result<Self, OutOfMemory> {
         let mut relaxation = Relaxation {
             basis: Basis::new(alloc),
-            pool: Pool::new(alloc),
+            pool: Pool::new(alloc, table.column_count())?,
             is_forbidden: Vec::new(alloc),
             is_held: false,
-            row_costs: Vec::new(alloc),
-            left_costs: Vec::new(alloc),
+            costs: Vec::new(alloc),
             prices: Vec::new(alloc),
             scale: scale_of(table),
-            old_prices: Vec::new(alloc),
-            costs: Vec::new(alloc),
             parts: Vec::new(alloc),
             row: Sparse::new(alloc),
             products: Sparse::new(alloc),
             candidates: Vec::new(alloc),
             turns: 0,
             pivots: 0,
-            most_pivots: u64::MAX,
             multipliers: Vec::new(alloc),
             value: i64::MIN,
             tried: Vec::new(alloc),
-            least: Vec::new(alloc),
             offers: Vec::new(alloc),
         };
-        relaxation.begin(table, start)?;
+        relaxation.basis.begin(table, start)?;
+        relaxation.make_space(table)?;
+        relaxation.set_true_costs(table);
+        for rider in 0..table.rider_count() {
+            relaxation.add(table, table.row_count().saturating_add(rider))?;
+        }
         Ok(relaxation)
     }
 
@@ -139,58 +135,49 @@ impl Relaxation {
         start: &[Option<u32>],
     ) -> Result<Self, OutOfMemory> {
         let mut relaxation = Relaxation::new(alloc, table, start)?;
-        for place in 0..self.pool.len() {
-            let row = self.pool.row(place);
-            relaxation.pool.add(table, row, at(&self.row_costs, row))?;
+        for column in self.pool.columns() {
+            relaxation.add(table, *column as usize)?;
         }
         Ok(relaxation)
     }
 
-    fn begin(&mut self, table: &RowTable, start: &[Option<u32>]) -> Result<(), OutOfMemory> {
-        self.basis.make_space(table)?;
-        self.basis.begin(table, start)?;
-        self.pool.make_space(table)?;
-        self.make_space_for_rows(table)?;
-        self.make_space_for_conditions(table)?;
-        self.set_true_costs(table);
-        Ok(())
-    }
-
-    fn make_space_for_rows(&mut self, table: &RowTable) -> Result<(), OutOfMemory> {
+    fn make_space(&mut self, table: &RowTable) -> Result<(), OutOfMemory> {
+        let conditions = table.condition_count();
         reset(&mut self.is_forbidden, table.row_count(), false)?;
+        reset(&mut self.costs, table.column_count(), 0)?;
         for row in 0..table.row_count() {
-            self.row_costs.push(in_prices(table.cost(row), self.scale))?;
+            set_at(&mut self.costs, row, in_prices(table.cost(row), self.scale));
         }
-        reset(&mut self.left_costs, table.rider_count(), 0)?;
+        reset(&mut self.prices, conditions, 0)?;
+        reset(&mut self.parts, conditions, 0)?;
+        self.row.make_space(conditions)?;
         reset(&mut self.multipliers, table.rider_count(), 0)?;
-        reset(&mut self.tried, table.rider_count(), 0)?;
-        reset(&mut self.least, table.vehicle_count(), 0)
-    }
-
-    fn make_space_for_conditions(&mut self, table: &RowTable) -> Result<(), OutOfMemory> {
-        let count = table.vehicle_count().saturating_add(table.rider_count());
-        reset(&mut self.prices, count, 0)?;
-        reset(&mut self.old_prices, count, 0)?;
-        reset(&mut self.costs, count, 0)?;
-        self.row.make_space(count)?;
-        reset(&mut self.parts, count, 0)
+        reset(&mut self.tried, table.rider_count(), 0)
     }
 
     /// Has it cost as much to leave out a rider as the table says.
     pub fn set_true_costs(&mut self, table: &RowTable) {
-        for rider in 0..self.left_costs.len() {
-            let cost = in_prices(table.cost_left(rider), self.scale);
-            set_at(&mut self.left_costs, rider, cost);
+        for rider in 0..table.rider_count() {
+            self.set_cost_left(table, rider, table.cost_left(rider));
         }
     }
 
     /// Has it cost no more to leave out a rider than her multiplier, in 1/1024 second, and these seconds.
     pub fn set_boxed_costs(&mut self, table: &RowTable, multipliers: &[i64], seconds: i64) {
-        for rider in 0..self.left_costs.len() {
+        for rider in 0..table.rider_count() {
             let boxed = (at(multipliers, rider) / 1024).saturating_add(seconds);
-            let cost = in_prices(boxed.min(table.cost_left(rider)), self.scale);
-            set_at(&mut self.left_costs, rider, cost);
+            self.set_cost_left(table, rider, boxed.min(table.cost_left(rider)));
         }
+    }
+
+    fn set_cost_left(&mut self, table: &RowTable, rider: usize, seconds: i64) {
+        let cost = in_prices(seconds, self.scale);
+        set_at(
+            &mut self.costs,
+            table.row_count().saturating_add(rider),
+            cost,
+        );
+        self.pool.set_cost(rider, cost);
     }
 
     /// Goes on to a solution over the rows that aren't forbidden, by passes over all of them that put up to
@@ -205,14 +192,14 @@ impl Relaxation {
     ) -> Result<(), OutOfMemory> {
         self.value = i64::MIN;
         for pass in 0..most_passes.min(MOST_PASSES) {
-            self.pivot_on(table, u64::MAX)?;
-            self.reprice(table);
+            self.pivot_on(table)?;
+            self.reprice();
             self.find_multipliers(table);
             let added = self.pass(table, most_rows)?;
-            if self.value >= most_value || added == 0 || self.is_spent() {
+            if self.value >= most_value || added == 0 {
                 return Ok(());
             }
-            if (pass % 2 == 1 || added < 20) && self.is_near(table) {
+            if (pass % 2 == 1 || added < 20) && self.is_near() {
                 return Ok(());
             }
         }
@@ -242,8 +229,9 @@ impl Relaxation {
         multipliers: &[i64],
         most_rows: usize,
     ) -> Result<(), OutOfMemory> {
+        copy(multipliers, &mut self.tried);
         for vehicle in 0..table.vehicle_count() {
-            self.offer_rows(table, multipliers, vehicle, i64::MAX, most_rows)?;
+            self.look_through(table, vehicle, i64::MAX, most_rows)?;
         }
         Ok(())
     }
@@ -251,28 +239,35 @@ impl Relaxation {
     /// Puts all rows into the pool.
     pub fn fill_pool_whole(&mut self, table: &RowTable) -> Result<(), OutOfMemory> {
         for row in 0..table.row_count() {
-            let cost = at(&self.row_costs, row);
-            self.pool.add(table, row, cost)?;
+            self.add(table, row)?;
         }
         Ok(())
     }
 
-    /// Takes the rows out of the pool whose reduced cost lies so much above their vehicle's least one, in
-    /// 1/1024 second.
+    fn add(&mut self, table: &RowTable, column: usize) -> Result<(), OutOfMemory> {
+        let cost = at(&self.costs, column);
+        self.pool.add(table, column, cost)
+    }
+
+    /// Takes the rows out of the pool that aren't in the basis and whose reduced cost lies so much above their
+    /// vehicle's least one, in 1/1024 second.
     pub fn shrink_pool(
         &mut self,
         table: &RowTable,
         multipliers: &[i64],
         most: i64,
     ) -> Result<(), OutOfMemory> {
+        copy(multipliers, &mut self.tried);
         for vehicle in 0..table.vehicle_count() {
-            let least = self.least_reduced_cost(table, multipliers, vehicle);
-            if vehicle < self.least.len() {
-                self.least[vehicle] = least;
+            let bar = self.look_through(table, vehicle, i64::MIN, 0)?;
+            for row in table.rows_of(vehicle) {
+                let above = table.reduced_cost(multipliers, row).saturating_sub(bar);
+                if above > most && !self.basis.has(row) {
+                    self.pool.forget(row);
+                }
             }
         }
-        self.pool
-            .keep(table, multipliers, &self.least, most, &self.basis)
+        self.pool.press(table)
     }
 
     /// Has these count as the best multipliers, with this value.
@@ -299,16 +294,6 @@ impl Relaxation {
     /// How many columns came in so far.
     pub fn pivots(&self) -> u64 {
         self.pivots
-    }
-
-    /// Breaks solutions off once so many columns came in.
-    pub fn set_most_pivots(&mut self, most: u64) {
-        self.most_pivots = most;
-    }
-
-    /// Whether as many columns came in as may.
-    pub fn is_spent(&self) -> bool {
-        self.pivots >= self.most_pivots
     }
 
     /// Whether the row is forbidden.
@@ -340,21 +325,15 @@ impl Relaxation {
 
     /// Goes to a basis that was one before.
     pub fn go_to(&mut self, table: &RowTable, columns: &[u32]) -> Result<(), OutOfMemory> {
-        self.basis.go_to(columns)?;
         for column in columns {
-            let row = *column as usize;
-            if row < table.row_count() {
-                let cost = at(&self.row_costs, row);
-                self.pool.add(table, row, cost)?;
-            }
+            self.add(table, *column as usize)?;
         }
-        Ok(())
+        self.basis.go_to(columns)
     }
 
     /// Writes the basis there.
     pub fn save(&self, saved: &mut Saved) -> Result<(), OutOfMemory> {
-        saved.prices.clear();
-        saved.prices.extend_from_slice(&self.prices)?;
+        write_over(&mut saved.prices, &self.prices)?;
         saved.basis.copy_from(&self.basis)
     }
 
@@ -365,11 +344,15 @@ impl Relaxation {
     }
 
     /// What the solution costs, in units of 2^-32 of 2^scale seconds.
-    pub fn cost(&self, table: &RowTable) -> i64 {
+    pub fn cost(&self) -> i64 {
+        self.cost_of_all(self.basis.levels())
+    }
+
+    /// What so much of each column of the basis costs.
+    fn cost_of_all(&self, parts: &[i64]) -> i64 {
         let mut cost: i64 = 0;
-        for place in 0..self.basis.len() {
-            let whole = self.cost_of(table, self.basis.column(place));
-            cost = cost.wrapping_add(times(whole, self.basis.level(place)));
+        for (column, part) in self.basis.columns().iter().zip(parts) {
+            cost = cost.wrapping_add(times(self.cost_of(*column as usize), *part));
         }
         cost
     }
@@ -387,13 +370,11 @@ impl Relaxation {
     ) -> Result<(), OutOfMemory> {
         self.basis.find_parts(&mut self.parts);
         shares.clear();
-        for place in 0..self.basis.len() {
-            let row = self.basis.column(place);
-            let part = at(&self.parts, place);
-            if row < table.row_count() && part > ONE / 100 {
+        for (column, part) in self.basis.columns().iter().zip(&self.parts) {
+            if (*column as usize) < table.row_count() && *part > ONE / 100 {
                 shares.push(Share {
-                    row: short(row),
-                    part,
+                    row: *column,
+                    part: *part,
                 })?;
             }
         }
@@ -401,14 +382,9 @@ impl Relaxation {
     }
 
     /// Whether the value is so near to what the solution costs that it is the best.
-    fn is_near(&mut self, table: &RowTable) -> bool {
+    fn is_near(&mut self) -> bool {
         self.basis.find_parts(&mut self.parts);
-        let mut cost: i64 = 0;
-        for place in 0..self.basis.len() {
-            let whole = self.cost_of(table, self.basis.column(place));
-            cost = cost.wrapping_add(times(whole, at(&self.parts, place)));
-        }
-        let bound = self.in_multipliers(cost);
+        let bound = self.in_multipliers(self.cost_of_all(&self.parts));
         bound.saturating_sub(self.value) < NEAR
     }
 

@@ -21,6 +21,7 @@ use Rattle.live_batch.specs.declared.read_on.Halt.TheVariants as stop
 use Rattle.live_desk.specs.Desk.{IsPassedOn, Outputs, desk_of, desk_root, entries_text, notices_in, text_of}
 use Rattle.live_desk.specs.declared.desk.DeskRoot.{DeskRoot}
 use Rattle.live_desk.specs.declared.desk.LaneCommand.{LaneCommand}
+use Rattle.live_rows.specs.Rows.{TakesRows}
 use Rattle.request_book.specs.Book.{BookView, next_position}
 use Rattle.request_book.specs.Consistent.{IsNode}
 use Rattle.request_book.specs.Replay.{state_after, RepliesAreSteps}

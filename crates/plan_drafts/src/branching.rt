@@ -54,7 +54,7 @@ impl Branching {
     ) -> Result<Option<usize>, OutOfMemory> {
         let rest = relaxation
             .in_prices(limit)
-            .saturating_sub(relaxation.cost(table));
+            .saturating_sub(relaxation.cost());
         let most = rest.saturating_add(rest / 5);
         relaxation.save(&mut self.saved)?;
         self.rank(table, shares)?;

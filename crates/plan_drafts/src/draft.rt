@@ -224,7 +224,7 @@ impl Drafting {
     /// Goes back to the first solution, without the rows whose reduced cost exceeds the gap.
     fn go_back(&mut self, table: &RowTable) -> Result<(), OutOfMemory> {
         self.relaxation.go_to(table, &self.basis)?;
-        self.relaxation.pivot_on(table, u64::MAX)?;
+        self.relaxation.pivot_on(table)?;
         let gap = self.cost.saturating_mul(1024).saturating_sub(self.value);
         self.relaxation.shrink_pool(table, &self.multipliers, gap)?;
         self.relaxation.set_best(&self.multipliers, self.value);

@@ -52,7 +52,7 @@ pub fn relax(
     most_rows: usize,
 ) -> Result<(), OutOfMemory> {
     relaxation.set_boxed_costs(table, multipliers, BOX);
-    relaxation.pivot_on(table, u64::MAX)?;
+    relaxation.pivot_on(table)?;
     relaxation.set_true_costs(table);
     relaxation.solve(table, i64::MAX, most_rows, u32::MAX)
 }

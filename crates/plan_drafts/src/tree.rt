@@ -310,7 +310,7 @@ impl Parter {
         };
         self.forbid_above(table, tree)?;
         self.relaxation.go_to(table, &standing.basis)?;
-        self.relaxation.pivot_on(table, u64::MAX)?;
+        self.relaxation.pivot_on(table)?;
         let effort = if self.relaxation.pivots() < self.most_pivots {
             Some(effort)
         } else {

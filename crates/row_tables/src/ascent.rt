@@ -88,7 +88,7 @@ impl Ascent {
     /// A rider's slope is one where her multiplier counts if it rises.
     fn mark_rising(&mut self, table: &RowTable) {
         for rider in 0..self.slopes.len() {
-            let rises = at(&self.point, rider) < most_of(table, rider);
+            let rises = at(&self.point, rider) < table.most_multiplier(rider);
             set_at(&mut self.slopes, rider, if rises { 1 } else { 0 });
         }
     }
@@ -115,7 +115,7 @@ impl Ascent {
         for rider in 0..self.direction.len() {
             let slope = at(&self.slopes, rider).wrapping_mul(2 * UNIT);
             let mut part = slope.wrapping_add(at(&self.direction, rider)) / 2;
-            if part > 0 && at(&self.point, rider) >= most_of(table, rider) {
+            if part > 0 && at(&self.point, rider) >= table.most_multiplier(rider) {
                 part = 0;
             }
             set_at(&mut self.direction, rider, part);
@@ -130,7 +130,11 @@ impl Ascent {
             let part = at(&self.direction, rider);
             let step = length.saturating_mul(part).checked_div(size).unwrap_or(0);
             let next = at(&self.point, rider).saturating_add(step);
-            set_at(&mut self.point, rider, next.min(most_of(table, rider)));
+            set_at(
+                &mut self.point,
+                rider,
+                next.min(table.most_multiplier(rider)),
+            );
         }
     }
 }
@@ -151,15 +155,6 @@ fn first_point(alloc: Global, table: &RowTable) -> Result<Vec<i64>, OutOfMemory>
         point.push(least.wrapping_mul(UNIT))?;
     }
     Ok(point)
-}
-
-/// The greatest multiplier of a rider that counts: the penalty, where she may be left out.
-fn most_of(table: &RowTable, rider: usize) -> i64 {
-    if table.must(rider) {
-        i64::MAX
-    } else {
-        table.penalty().wrapping_mul(UNIT)
-    }
 }
 
 /// The vehicle's row of least reduced cost, and that cost.

@@ -2,6 +2,7 @@
 //!
 //! Sums wrap and products are cut off at the ends of their type: what is made of these numbers is only
 //! tried, and judged in whole numbers afterwards.
+use pool_base::OutOfMemory;
 
 /// One.
 pub const ONE: i64 = 1 << 32;
@@ -103,4 +104,20 @@ pub fn copy(from: &[i64], to: &mut [i64]) {
     for (number, other) in to.iter_mut().zip(from) {
         *number = *other;
     }
+}
+
+/// Makes this a list of so many equal items.
+pub fn reset<T: Copy>(items: &mut Vec<T>, count: usize, item: T) -> Result<(), OutOfMemory> {
+    items.clear();
+    for _ in 0..count {
+        items.push(item)?;
+    }
+    Ok(())
+}
+
+/// Writes a list in place of another.
+pub fn write_over<T: Copy>(items: &mut Vec<T>, others: &[T]) -> Result<(), OutOfMemory> {
+    items.clear();
+    items.extend_from_slice(others)?;
+    Ok(())
 }

@@ -1,5 +1,5 @@
 //! The rows of a trip graph, or of a part of one, in flat tables.
-use crate::fixed_point::{at, item};
+use crate::fixed_point::{at, item, part};
 use crate::lists::{Lists, short};
 use plan_rules::{TripGraph, TripRow};
 use pool_base::OutOfMemory;
@@ -21,7 +21,8 @@ pub struct RowTable {
     ends: Vec<u32>,
     vehicles: Vec<u32>,
     costs: Vec<i64>,
-    riders: Lists,
+    /// The conditions of each column: a row's riders and behind them its vehicle, then those of single conditions.
+    conditions: Lists,
     rows: Lists,
 }
 
@@ -34,7 +35,7 @@ impl RowTable {
             ends: Vec::new(alloc),
             vehicles: Vec::new(alloc),
             costs: Vec::new(alloc),
-            riders: Lists::new(alloc),
+            conditions: Lists::new(alloc),
             rows: Lists::new(alloc),
         }
     }
@@ -81,7 +82,7 @@ impl RowTable {
 
     fn push_trip(&mut self, trip: &TripRow) -> Result<(), OutOfMemory> {
         for rider in trip.riders.as_slice() {
-            self.riders.push(*rider)?;
+            self.conditions.push(*rider)?;
         }
         self.end_row(trip.cost.min(1_000_000_000) as i64)
     }
@@ -89,16 +90,18 @@ impl RowTable {
     /// Puts in a row of the vehicle at hand.
     pub fn push_row(&mut self, cost: i64, riders: &[u32]) -> Result<(), OutOfMemory> {
         for rider in riders {
-            self.riders.push(*rider as usize)?;
+            self.conditions.push(*rider as usize)?;
         }
         self.end_row(cost)
     }
 
     fn end_row(&mut self, cost: i64) -> Result<(), OutOfMemory> {
-        let vehicle = short(self.vehicle_count());
-        self.vehicles.push(vehicle)?;
+        let vehicle = self.vehicle_count();
+        self.vehicles.push(short(vehicle))?;
         self.costs.push(cost)?;
-        self.riders.end()
+        let condition = self.rider_count().saturating_add(vehicle);
+        self.conditions.push(condition)?;
+        self.conditions.end()
     }
 
     /// Ends the rows of the vehicle at hand: later ones are those of the next.
@@ -107,9 +110,14 @@ impl RowTable {
         Ok(())
     }
 
-    /// Lists the rows of each rider. To be called after the last row.
+    /// Lists the rows of each rider, and the columns of single conditions. To be called after the last row.
     pub fn index(&mut self) -> Result<(), OutOfMemory> {
-        self.rows.transpose(&self.riders, self.must.len())
+        self.rows.transpose(&self.conditions, self.must.len())?;
+        for condition in 0..self.condition_count() {
+            self.conditions.push(condition)?;
+            self.conditions.end()?;
+        }
+        Ok(())
     }
 
     /// How many vehicles there are.
@@ -130,6 +138,18 @@ impl RowTable {
         self.costs.len()
     }
 
+    /// How many conditions a plan is under: one for each rider, and behind them one for each vehicle.
+    #[inline]
+    pub fn condition_count(&self) -> usize {
+        self.must.len().saturating_add(self.ends.len())
+    }
+
+    /// How many columns there are: the rows, and behind them one for each condition alone.
+    #[inline]
+    pub fn column_count(&self) -> usize {
+        self.costs.len().saturating_add(self.condition_count())
+    }
+
     /// The vehicle's rows.
     #[inline]
     pub fn rows_of(&self, vehicle: usize) -> Range<usize> {
@@ -144,7 +164,15 @@ impl RowTable {
     /// The row's riders.
     #[inline]
     pub fn riders_of(&self, row: usize) -> &[u32] {
-        self.riders.list(row)
+        let conditions = self.conditions.list(row);
+        part(conditions, 0, conditions.len().saturating_sub(1))
+    }
+
+    /// The conditions of a column: a row's, which are its riders and behind them its vehicle, or behind the rows a
+    /// single one.
+    #[inline]
+    pub fn conditions_of(&self, column: usize) -> &[u32] {
+        self.conditions.list(column)
     }
 
     /// The rows that have this rider, rising.
@@ -196,18 +224,22 @@ impl RowTable {
         cost
     }
 
+    /// The greatest multiplier of a rider that counts, in 1/1024 second: the penalty, where she may be left out.
+    #[inline]
+    pub fn most_multiplier(&self, rider: usize) -> i64 {
+        if self.must(rider) {
+            i64::MAX
+        } else {
+            self.penalty.wrapping_mul(1024)
+        }
+    }
+
     /// What the riders add to the value of multipliers, in 1/1024 second.
     pub fn value_of_riders(&self, multipliers: &[i64]) -> i64 {
-        let most = self.penalty.wrapping_mul(1024);
         let mut value: i64 = 0;
         for rider in 0..multipliers.len() {
             let multiplier = at(multipliers, rider);
-            let part = if self.must(rider) {
-                multiplier
-            } else {
-                multiplier.min(most)
-            };
-            value = value.wrapping_add(part);
+            value = value.wrapping_add(multiplier.min(self.most_multiplier(rider)));
         }
         value
     }

@@ -1,48 +1,44 @@
 //! A basis of the relaxation, with how much of each column it takes.
-use crate::relaxation::elimination::{Elimination, reset};
 use crate::relaxation::factors::Factors;
+use crate::relaxation::ordering::{LEAST_PIVOT, Ordering};
 use crate::relaxation::sparse::Sparse;
 use pool_base::OutOfMemory;
 use rand_xoshiro::SplitMix64;
 use rand_xoshiro::rand_core::{Rng, SeedableRng};
 use row_tables::RowTable;
 use row_tables::fixed_point::{
-    ONE, add_at, at, copy, is_quotient_above, item, quotient, set_at, times,
+    ONE, add_at, at, copy, is_quotient_above, item, quotient, reset, set_at, times, write_over,
 };
-use row_tables::lists::{Lists, short};
+use row_tables::lists::short;
 use std::alloc::Global;
 
 /// After so many exchanges the factors are made anew.
 const MOST_EXCHANGES: usize = 64;
 
-/// A number of the entering column may be divided by from here on.
-pub const LEAST_PIVOT: i64 = ONE / 1000;
-
 /// A level is wrong that lies this far from where it may be.
 const LEAST_WRONG: i64 = ONE / 100_000;
 
 /// What the riders' capacities are drawn from.
-const SEED: u64 = 77;
+const SEED: u64 = 4;
 
-/// Which column stands at each place, and the factors of those columns.
+/// Which column stands at each place, and the factors of those columns. The places are the conditions.
 #[derive(Drop)]
 pub struct Basis {
     columns: Vec<u32>,
-    /// For each column one more than its place, 0 where it isn't in the basis.
-    places: Vec<u32>,
+    /// Whether each column is in the basis.
+    is_in: Vec<bool>,
     levels: Vec<i64>,
     /// How much each condition has: a little more than one where a rider may be left out, so that no two
     /// levels are used up at once.
     capacities: Vec<i64>,
     factors: Factors,
-    is_factored: bool,
+    /// How many columns came in, and with how many numbers, when the factors were made; none where there are none.
+    made: Option<(usize, usize)>,
     /// The last columns that had factors.
     good: Vec<u32>,
-    elimination: Elimination,
-    matrix: Lists,
-    /// Numbers over the pivots, and costs over the places: all 0 between two calls.
+    ordering: Ordering,
+    /// Costs and prices on their way; all 0 between two calls.
     numbers: Sparse,
-    costs: Sparse,
     /// The column that was found last, over the places.
     entering: Sparse,
 }
@@ -52,77 +48,48 @@ impl Basis {
     pub fn new(alloc: Global) -> Self {
         Basis {
             columns: Vec::new(alloc),
-            places: Vec::new(alloc),
+            is_in: Vec::new(alloc),
             levels: Vec::new(alloc),
             capacities: Vec::new(alloc),
             factors: Factors::new(alloc),
-            is_factored: false,
+            made: None,
             good: Vec::new(alloc),
-            elimination: Elimination::new(alloc),
-            matrix: Lists::new(alloc),
+            ordering: Ordering::new(alloc),
             numbers: Sparse::new(alloc),
-            costs: Sparse::new(alloc),
             entering: Sparse::new(alloc),
         }
     }
 
-    /// Makes room for the columns of a table.
-    pub fn make_space(&mut self, table: &RowTable) -> Result<(), OutOfMemory> {
-        let count = table.vehicle_count().saturating_add(table.rider_count());
-        let columns = table.row_count().saturating_add(count);
-        reset(&mut self.places, columns, 0)?;
+    /// Takes these rows of a table, of which no two have a rider in common, one for each vehicle that has any, and
+    /// all other riders as left out.
+    pub fn begin(&mut self, table: &RowTable, start: &[Option<u32>]) -> Result<(), OutOfMemory> {
+        let count = table.condition_count();
+        reset(&mut self.is_in, table.column_count(), false)?;
         reset(&mut self.levels, count, 0)?;
         self.numbers.make_space(count)?;
-        self.costs.make_space(count)?;
         self.entering.make_space(count)?;
-        self.draw_capacities(table)
-    }
-
-    fn draw_capacities(&mut self, table: &RowTable) -> Result<(), OutOfMemory> {
-        let mut draws = SplitMix64::seed_from_u64(SEED);
-        reset(&mut self.capacities, table.vehicle_count(), ONE)?;
-        for rider in 0..table.rider_count() {
-            let more = ONE / (4096 * 2048) * (1 + (draws.next_u64() % 4096) as i64);
-            let more = if table.must(rider) { 0 } else { more };
-            self.capacities.push(ONE.wrapping_add(more))?;
-        }
-        Ok(())
-    }
-
-    /// Takes these rows, of which no two have a rider in common, one for each vehicle that has any, and all other
-    /// riders as left out.
-    pub fn begin(&mut self, table: &RowTable, start: &[Option<u32>]) -> Result<(), OutOfMemory> {
-        self.columns.clear();
-        let riders_end = table.row_count().saturating_add(table.rider_count());
-        for vehicle in 0..table.vehicle_count() {
-            let idle = short(riders_end.saturating_add(vehicle));
-            let column = item(start, vehicle, None).unwrap_or(idle);
+        self.draw_capacities(table)?;
+        for condition in 0..count {
+            let vehicle = condition.wrapping_sub(table.rider_count());
+            let single = short(table.row_count().saturating_add(condition));
+            let column = item(start, vehicle, None).unwrap_or(single);
             self.columns.push(column)?;
+            set_at(&mut self.is_in, column as usize, true);
         }
-        for rider in 0..table.rider_count() {
-            self.columns
-                .push(short(table.row_count().saturating_add(rider)))?;
-        }
-        self.note_places();
-        self.good.clear();
         self.good.extend_from_slice(&self.columns)?;
         Ok(())
     }
 
-    fn note_places(&mut self) {
-        for place in 0..self.columns.len() {
-            set_at(
-                &mut self.places,
-                item(&self.columns, place, u32::MAX) as usize,
-                short(place.saturating_add(1)),
-            );
+    fn draw_capacities(&mut self, table: &RowTable) -> Result<(), OutOfMemory> {
+        let mut draws = SplitMix64::seed_from_u64(SEED);
+        reset(&mut self.capacities, table.condition_count(), ONE)?;
+        for rider in 0..table.rider_count() {
+            let more = ONE / (4096 * 2048) * (1 + (draws.next_u64() % 4096) as i64);
+            if !table.must(rider) {
+                add_at(&mut self.capacities, rider, more);
+            }
         }
-    }
-
-    fn forget_places(&mut self) {
-        for column in &self.columns {
-            set_at(&mut self.places, *column as usize, 0);
-        }
+        Ok(())
     }
 
     pub fn len(&self) -> usize {
@@ -138,42 +105,42 @@ impl Basis {
     }
 
     pub fn has(&self, column: usize) -> bool {
-        item(&self.places, column, 0) != 0
+        item(&self.is_in, column, false)
     }
 
     pub fn level(&self, place: usize) -> i64 {
         at(&self.levels, place)
     }
 
+    pub fn levels(&self) -> &[i64] {
+        &self.levels
+    }
+
     pub fn is_factored(&self) -> bool {
-        self.is_factored
+        self.made.is_some()
     }
 
     /// Goes to other columns, which were a basis before.
     pub fn go_to(&mut self, columns: &[u32]) -> Result<(), OutOfMemory> {
         if columns.len() == self.columns.len() {
             self.put_columns(columns)?;
-            self.is_factored = false;
+            self.made = None;
         }
         Ok(())
     }
 
     fn put_columns(&mut self, columns: &[u32]) -> Result<(), OutOfMemory> {
-        self.forget_places();
-        self.columns.clear();
-        self.columns.extend_from_slice(columns)?;
-        self.note_places();
-        Ok(())
+        mark(&mut self.is_in, &self.columns, false);
+        mark(&mut self.is_in, columns, true);
+        write_over(&mut self.columns, columns)
     }
 
     /// Becomes the same as another basis over the same rows.
     pub fn copy_from(&mut self, other: &Basis) -> Result<(), OutOfMemory> {
         self.put_columns(&other.columns)?;
-        self.levels.clear();
-        self.levels.extend_from_slice(&other.levels)?;
-        self.factors.copy_from(&other.factors)?;
-        self.is_factored = other.is_factored;
-        Ok(())
+        write_over(&mut self.levels, &other.levels)?;
+        self.made = other.made;
+        self.factors.copy_from(&other.factors)
     }
 
     /// Makes the factors of the columns, or where there are none goes back to the last columns that had
@@ -181,110 +148,57 @@ impl Basis {
     pub fn factor(&mut self, table: &RowTable) -> Result<bool, OutOfMemory> {
         let is_good = self.try_factor(table)?;
         if is_good {
-            self.good.clear();
-            self.good.extend_from_slice(&self.columns)?;
+            write_over(&mut self.good, &self.columns)?;
         } else {
-            self.go_back()?;
+            mark(&mut self.is_in, &self.columns, false);
+            mark(&mut self.is_in, &self.good, true);
+            write_over(&mut self.columns, &self.good)?;
             self.try_factor(table)?;
         }
-        self.find_levels();
+        self.made = Some((self.factors.len(), self.factors.size()));
+        self.entering.load(&self.capacities);
+        self.factors.solve(&mut self.entering);
+        copy(self.entering.numbers(), &mut self.levels);
         Ok(is_good)
     }
 
-    fn go_back(&mut self) -> Result<(), OutOfMemory> {
-        self.forget_places();
-        self.columns.clear();
-        self.columns.extend_from_slice(&self.good)?;
-        self.note_places();
-        Ok(())
-    }
-
     fn try_factor(&mut self, table: &RowTable) -> Result<bool, OutOfMemory> {
-        self.matrix.clear();
-        for place in 0..self.columns.len() {
-            let column = self.column(place);
-            self.push_column(table, column)?;
-        }
-        self.is_factored = true;
-        self.elimination.factor(&mut self.matrix, &mut self.factors)
-    }
-
-    fn push_column(&mut self, table: &RowTable, column: usize) -> Result<(), OutOfMemory> {
-        if column < table.row_count() {
-            self.matrix.push(table.vehicle(column))?;
-            for rider in table.riders_of(column) {
-                self.matrix
-                    .push(table.vehicle_count().saturating_add(*rider as usize))?;
-            }
-        } else {
-            self.matrix.push(unit_condition(table, column))?;
-        }
-        self.matrix.end()
-    }
-
-    /// Computes the levels from the capacities.
-    fn find_levels(&mut self) {
-        for condition in 0..self.capacities.len() {
-            let number = self.factors.number_of(condition);
-            self.numbers.set(number, at(&self.capacities, condition));
-        }
-        self.factors.solve(&mut self.numbers, &mut self.entering);
-        copy(self.entering.numbers(), &mut self.levels);
+        self.ordering.factor(
+            table,
+            &mut self.columns,
+            &mut self.factors,
+            &mut self.entering,
+        )
     }
 
     /// Computes how much of each column is taken where each condition has one.
     pub fn find_parts(&mut self, parts: &mut [i64]) {
-        for number in 0..self.numbers.len() {
-            self.numbers.set(number, ONE);
+        for place in 0..parts.len() {
+            self.entering.set(place, ONE);
         }
-        self.factors.solve(&mut self.numbers, &mut self.entering);
+        self.factors.solve(&mut self.entering);
         copy(self.entering.numbers(), parts);
     }
 
     /// Computes the prices at which each place costs this.
     pub fn find_prices(&mut self, costs: &[i64], prices: &mut [i64]) {
-        self.costs.load(costs);
-        self.factors.price(&mut self.costs, &mut self.numbers);
-        for condition in 0..prices.len() {
-            let number = self.factors.number_of(condition);
-            prices[condition] = self.numbers.at(number);
-        }
-        self.numbers.clear();
+        self.numbers.load(costs);
+        self.factors.price(&mut self.numbers);
+        copy(self.numbers.numbers(), prices);
     }
 
     /// Writes the inverse's row of a place over the conditions.
-    pub fn find_row(&mut self, place: usize, row: &mut Sparse) {
+    pub fn find_row(&self, place: usize, row: &mut Sparse) {
         row.clear();
-        self.costs.set(place, ONE);
-        self.factors.price(&mut self.costs, &mut self.numbers);
-        let mut from = 0;
-        for _ in 0..row.len() {
-            let Some(number) = self.numbers.next(from) else {
-                return;
-            };
-            let value = self.numbers.take(number);
-            if let Some(pivot) = self.factors.pivot(number) {
-                row.set(pivot.condition as usize, value);
-            }
-            from = number;
-        }
+        row.set(place, ONE);
+        self.factors.price(row);
     }
 
     /// Computes a column over the places.
     pub fn find_column(&mut self, table: &RowTable, column: usize) {
-        if column < table.row_count() {
-            self.put_one(table.vehicle(column));
-            for rider in table.riders_of(column) {
-                self.put_one(table.vehicle_count().saturating_add(*rider as usize));
-            }
-        } else {
-            self.put_one(unit_condition(table, column));
-        }
-        self.factors.solve(&mut self.numbers, &mut self.entering);
-    }
-
-    fn put_one(&mut self, condition: usize) {
-        self.numbers.set(self.factors.number_of(condition), ONE);
+        self.entering.clear();
+        self.entering.add_all(table.conditions_of(column), ONE);
+        self.factors.solve(&mut self.entering);
     }
 
     /// The place whose level is the first to be used up as the column that was found comes in, and how much of
@@ -293,13 +207,9 @@ impl Basis {
         let mut best = None;
         let mut least = i64::MAX;
         let mut divisor = 0;
-        let mut from = 0;
-        for _ in 0..self.entering.len() {
-            let Some(place) = self.entering.next(from) else {
-                break;
-            };
+        for place in self.entering.places() {
             let value = self.entering.at(place);
-            let level = at(&self.levels, place).max(0);
+            let level = self.level(place).max(0);
             if value > LEAST_PIVOT && !is_quotient_above(level, value, least) {
                 let ratio = quotient(level, value);
                 if best.is_none() || ratio < least || (ratio == least && value > divisor) {
@@ -308,7 +218,6 @@ impl Basis {
                     divisor = value;
                 }
             }
-            from = place.wrapping_add(1);
         }
         best
     }
@@ -317,17 +226,12 @@ impl Basis {
     pub fn forbidden_place(&self, is_forbidden: &[bool]) -> Option<usize> {
         let mut best = None;
         let mut most = LEAST_PIVOT;
-        let mut from = 0;
-        for _ in 0..self.entering.len() {
-            let Some(place) = self.entering.next(from) else {
-                break;
-            };
+        for place in self.entering.places() {
             let size = self.entering.at(place).saturating_abs();
             if size > most && item(is_forbidden, self.column(place), false) {
                 most = size;
                 best = Some(place);
             }
-            from = place.wrapping_add(1);
         }
         best
     }
@@ -362,42 +266,40 @@ impl Basis {
         self.take_levels(level);
         set_at(&mut self.levels, place, level);
         let leaving = self.column(place);
-        set_at(&mut self.places, leaving, 0);
+        set_at(&mut self.is_in, leaving, false);
         set_at(&mut self.columns, place, short(column));
-        set_at(&mut self.places, column, short(place.saturating_add(1)));
-        self.factors.exchange(place, &self.entering)?;
+        set_at(&mut self.is_in, column, true);
+        self.factors.enter(place, &self.entering)?;
+        let (count, size) = self.made.unwrap_or((0, 0));
         let most = self.columns.len().saturating_mul(8).saturating_add(2000);
-        Ok(self.factors.exchange_count() < MOST_EXCHANGES && self.factors.exchange_size() <= most)
+        Ok(
+            self.factors.len().saturating_sub(count) < MOST_EXCHANGES
+                && self.factors.size().saturating_sub(size) <= most,
+        )
     }
 
     /// Takes so much of the column that was found from the levels.
     fn take_levels(&mut self, level: i64) {
-        if level == 0 {
-            return;
-        }
-        let mut from = 0;
-        for _ in 0..self.entering.len() {
-            let Some(place) = self.entering.next(from) else {
-                return;
-            };
-            let taken = times(self.entering.at(place), level);
-            add_at(&mut self.levels, place, taken.wrapping_neg());
-            from = place.wrapping_add(1);
+        if level != 0 {
+            for place in self.entering.places() {
+                let taken = times(self.entering.at(place), level);
+                add_at(&mut self.levels, place, taken.wrapping_neg());
+            }
         }
     }
 
     /// Whether columns were exchanged since the factors were made.
     pub fn is_exchanged(&self) -> bool {
-        self.factors.exchange_count() > 0
+        match self.made {
+            Some((count, _)) => self.factors.len() > count,
+            None => false,
+        }
     }
 }
 
-/// The condition of a column with a single one.
-fn unit_condition(table: &RowTable, column: usize) -> usize {
-    let number = column.saturating_sub(table.row_count());
-    if number < table.rider_count() {
-        table.vehicle_count().saturating_add(number)
-    } else {
-        number.saturating_sub(table.rider_count())
+/// Marks these columns as in the basis, or as not in it.
+fn mark(is_in: &mut [bool], columns: &[u32], is_now: bool) {
+    for column in columns {
+        set_at(is_in, *column as usize, is_now);
     }
 }

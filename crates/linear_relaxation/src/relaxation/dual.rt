@@ -1,9 +1,9 @@
 //! The dual simplex over the pool (Lemke, 1954): from a solution to one where more rows are forbidden.
 use crate::relaxation::Relaxation;
-use crate::relaxation::basis::LEAST_PIVOT;
+use crate::relaxation::ordering::LEAST_PIVOT;
 use pool_base::OutOfMemory;
 use row_tables::RowTable;
-use row_tables::fixed_point::{at, item, quotient, times};
+use row_tables::fixed_point::{quotient, times};
 
 /// How pivots ended.
 #[derive(Clone, Copy, PartialEq, Eq)]
@@ -62,10 +62,10 @@ impl Relaxation {
     fn prepare_dual(&mut self, table: &RowTable) -> Result<(), OutOfMemory> {
         if !self.basis.is_factored() {
             self.basis.factor(table)?;
-            self.reprice(table);
+            self.reprice();
         }
         self.pool.list_places(self.prices.len())?;
-        self.products.make_space_for(self.pool.len())
+        self.products.make_space(self.pool.columns().len())
     }
 
     /// Has the level at a place leave for the column that prices use up first. How much the cost rises, `None`
@@ -73,7 +73,7 @@ impl Relaxation {
     fn exchange_at(&mut self, table: &RowTable, place: usize) -> Result<Option<i64>, OutOfMemory> {
         self.basis.find_row(place, &mut self.row);
         let level = self.basis.level(place);
-        let Some(entering) = self.entering_for(table, level > 0) else {
+        let Some(entering) = self.entering_for(level > 0) else {
             return Ok(None);
         };
         self.basis.find_column(table, entering.column);
@@ -89,7 +89,7 @@ impl Relaxation {
             if !self.basis.factor(table)? {
                 return Ok(None);
             }
-            self.reprice(table);
+            self.reprice();
         }
         Ok(Some(times(step, level)))
     }
@@ -97,7 +97,7 @@ impl Relaxation {
     /// Makes the factors anew, where that can help: the cost stays. `None` where it can't.
     fn factor_anew(&mut self, table: &RowTable) -> Result<Option<i64>, OutOfMemory> {
         if self.basis.is_exchanged() && self.basis.factor(table)? {
-            self.reprice(table);
+            self.reprice();
             Ok(Some(0))
         } else {
             Ok(None)
@@ -106,43 +106,16 @@ impl Relaxation {
 
     /// The column whose reduced cost is used up first as the prices change with the row that was found, where
     /// the leaving level is too high or too low.
-    fn entering_for(&mut self, table: &RowTable, is_high: bool) -> Option<Entering> {
-        let best = self.rider_for(table, is_high);
+    fn entering_for(&mut self, is_high: bool) -> Option<Entering> {
         self.find_products(is_high);
-        let mut best = best;
-        let mut from = 0;
-        for _ in 0..self.products.len() {
-            let Some(place) = self.products.next(from) else {
-                return best;
-            };
-            let value = self.products.take(place);
-            let row = self.pool.row(place);
-            if value > LEAST_PIVOT && !item(&self.is_forbidden, row, true) && !self.basis.has(row) {
-                let found = Entering {
-                    column: row,
-                    cost: self.pool.reduced_cost(place, &self.prices).max(0),
-                    value,
-                };
-                best = first_of(best, found);
-            }
-            from = place.wrapping_add(1);
-        }
-        best
-    }
-
-    /// The first among the riders who are left out.
-    fn rider_for(&self, table: &RowTable, is_high: bool) -> Option<Entering> {
         let mut best = None;
-        for rider in 0..table.rider_count() {
-            let condition = table.vehicle_count().saturating_add(rider);
-            let value = signed(self.row.at(condition), is_high);
-            let column = table.row_count().saturating_add(rider);
-            if value > LEAST_PIVOT && !self.basis.has(column) {
-                let price = at(&self.prices, condition);
-                let cost = at(&self.left_costs, rider).saturating_sub(price).max(0);
+        for place in self.products.places() {
+            let value = self.products.at(place);
+            let column = self.pool.column(place);
+            if value > LEAST_PIVOT && !self.is_forbidden(column) && !self.basis.has(column) {
                 let found = Entering {
                     column,
-                    cost,
+                    cost: self.pool.reduced_cost(place, &self.prices).max(0),
                     value,
                 };
                 best = first_of(best, found);
@@ -153,15 +126,11 @@ impl Relaxation {
 
     /// Adds the row that was found up over the conditions of each place of the pool.
     fn find_products(&mut self, is_high: bool) {
-        let mut from = 0;
-        for _ in 0..self.row.len() {
-            let Some(condition) = self.row.next(from) else {
-                return;
-            };
+        self.products.clear();
+        for condition in self.row.places() {
             let value = signed(self.row.at(condition), is_high);
             self.products
                 .add_all(self.pool.places_with(condition), value);
-            from = condition.wrapping_add(1);
         }
     }
 }

@@ -1,8 +1,6 @@
 //! Columns of numbers of which most are 0.
-use crate::relaxation::elimination::reset;
-use crate::relaxation::factors::Entry;
 use pool_base::OutOfMemory;
-use row_tables::fixed_point::{at, item, set_at, times};
+use row_tables::fixed_point::{add_at, at, item, reset, set_at, times};
 use std::alloc::Global;
 
 /// How many places share a word of marks.
@@ -31,18 +29,6 @@ impl Sparse {
         reset(&mut self.marks, count / WORD + 1, 0)
     }
 
-    /// Has at least so many places, where all numbers are 0.
-    pub fn make_space_for(&mut self, count: usize) -> Result<(), OutOfMemory> {
-        if self.numbers.len() < count {
-            self.make_space(count)?;
-        }
-        Ok(())
-    }
-
-    pub fn len(&self) -> usize {
-        self.numbers.len()
-    }
-
     pub fn numbers(&self) -> &[i64] {
         &self.numbers
     }
@@ -60,13 +46,6 @@ impl Sparse {
         }
     }
 
-    /// Writes all numbers anew.
-    pub fn load(&mut self, numbers: &[i64]) {
-        for place in 0..numbers.len() {
-            self.set(place, numbers[place]);
-        }
-    }
-
     #[inline]
     fn mark(&mut self, place: usize) {
         let word = place / WORD;
@@ -75,108 +54,113 @@ impl Sparse {
         }
     }
 
-    /// The number at a place, where 0 stands afterwards.
-    #[inline]
-    pub fn take(&mut self, place: usize) -> i64 {
-        let number = self.at(place);
-        set_at(&mut self.numbers, place, 0);
-        let word = place / WORD;
-        if word < self.marks.len() {
-            self.marks[word] &= !(1 << (place % WORD));
+    /// Writes all numbers anew.
+    pub fn load(&mut self, numbers: &[i64]) {
+        for place in 0..numbers.len() {
+            self.set(place, numbers[place]);
         }
-        number
+    }
+
+    /// Writes ones at these places, and 0 at all others.
+    pub fn load_ones(&mut self, places: &[u32], one: i64) {
+        self.clear();
+        self.add_all(places, one);
     }
 
     /// Adds a number at each of these places.
     #[inline]
     pub fn add_all(&mut self, places: &[u32], more: i64) {
         for place in places {
-            let place = *place as usize;
-            if place < self.numbers.len() {
-                self.numbers[place] = self.numbers[place].wrapping_add(more);
-                self.mark(place);
-            }
+            add_at(&mut self.numbers, *place as usize, more);
+            self.mark(*place as usize);
         }
     }
 
-    /// Takes the products of these entries with a factor from the numbers at their places.
+    /// Takes from the numbers at these places the products of these with a factor.
     #[inline]
-    pub fn take_products(&mut self, entries: &[Entry], factor: i64) {
-        for entry in entries {
-            let place = entry.place as usize;
-            if place < self.numbers.len() {
-                self.numbers[place] = self.numbers[place].wrapping_sub(times(factor, entry.value));
-                self.mark(place);
-            }
+    pub fn take_products(&mut self, places: &[u32], numbers: &[i64], factor: i64) {
+        for (place, number) in places.iter().zip(numbers) {
+            let product = times(factor, *number);
+            add_at(&mut self.numbers, *place as usize, product.wrapping_neg());
+            self.mark(*place as usize);
         }
     }
 
-    /// A number, less the products of these entries with the numbers at their places.
+    /// A number, less the products of these with the numbers at their places.
     #[inline]
-    pub fn less_products(&self, number: i64, entries: &[Entry]) -> i64 {
+    pub fn less_products(&self, number: i64, places: &[u32], numbers: &[i64]) -> i64 {
         let mut rest = number;
-        for entry in entries {
-            let other = self.at(entry.place as usize);
+        for (place, factor) in places.iter().zip(numbers) {
+            let other = self.at(*place as usize);
             if other != 0 {
-                rest = rest.wrapping_sub(times(other, entry.value));
+                rest = rest.wrapping_sub(times(other, *factor));
             }
         }
         rest
     }
 
-    /// The first marked place from this one on.
+    /// The marked places, rising.
     #[inline]
-    pub fn next(&self, from: usize) -> Option<usize> {
-        let first = from / WORD;
-        let rest = item(&self.marks, first, 0) >> (from % WORD);
-        if rest != 0 {
-            return Some(from.wrapping_add(rest.trailing_zeros() as usize));
+    pub fn places(&self) -> Places<'_> {
+        Places {
+            marks: &self.marks,
+            from: 0,
+            left: self.numbers.len(),
         }
-        for word in first.saturating_add(1)..self.marks.len() {
-            let marks = self.marks[word];
-            if marks != 0 {
-                return Some(
-                    word.wrapping_mul(WORD)
-                        .wrapping_add(marks.trailing_zeros() as usize),
-                );
-            }
-        }
-        None
-    }
-
-    /// The last marked place before this one.
-    #[inline]
-    pub fn last_before(&self, end: usize) -> Option<usize> {
-        let last = end / WORD;
-        let below = item(&self.marks, last, 0) & !(u64::MAX << (end % WORD));
-        if below != 0 {
-            return Some(top(last, below));
-        }
-        for word in (0..last.min(self.marks.len())).rev() {
-            let marks = self.marks[word];
-            if marks != 0 {
-                return Some(top(word, marks));
-            }
-        }
-        None
     }
 
     /// Makes all numbers 0.
     pub fn clear(&mut self) {
-        let mut from = 0;
-        for _ in 0..self.numbers.len() {
-            let Some(place) = self.next(from) else {
-                return;
-            };
-            self.take(place);
-            from = place;
+        for word in 0..self.marks.len() {
+            if self.marks[word] != 0 {
+                self.marks[word] = 0;
+                let from = word.wrapping_mul(WORD);
+                for place in from..from.saturating_add(WORD) {
+                    set_at(&mut self.numbers, place, 0);
+                }
+            }
         }
     }
 }
 
-/// The place of the highest of these marks, which aren't none, in the word of this number.
+/// The marked places from one on.
+#[derive(Drop)]
+pub struct Places<'a> {
+    marks: &'a [u64],
+    from: usize,
+    left: usize,
+}
+
+impl<'a> Iterator for Places<'a> {
+    type Item = usize;
+
+    ghost remaining = { λ s. at_most s.left };
+
+    #[inline]
+    fn next(&mut self) -> Option<usize> {
+        if self.left == 0 {
+            return None;
+        }
+        let place = next_marked(self.marks, self.from)?;
+        self.left -= 1;
+        self.from = place.wrapping_add(1);
+        Some(place)
+    }
+}
+
+/// The first marked place from this one on.
 #[inline]
-fn top(word: usize, marks: u64) -> usize {
-    word.wrapping_mul(WORD)
-        .wrapping_add(63_usize.saturating_sub(marks.leading_zeros() as usize))
+fn next_marked(marks: &[u64], from: usize) -> Option<usize> {
+    let first = from / WORD;
+    let rest = item(marks, first, 0) >> (from % WORD);
+    if rest != 0 {
+        return Some(from.wrapping_add(rest.trailing_zeros() as usize));
+    }
+    for word in first.saturating_add(1)..marks.len() {
+        if marks[word] != 0 {
+            let place = word.wrapping_mul(WORD);
+            return Some(place.wrapping_add(marks[word].trailing_zeros() as usize));
+        }
+    }
+    None
 }

@@ -1,8 +1,10 @@
-use Rattle.std.proofs.Common.{◌≡◌, ◌&&◌, ℕ, ◌+◌, Bool, List, length, get_or, Option, Some, ℤ, IfSome, neg_ℤ, pos, ◌≤ℤ◌, sym, ap, ◌∙◌, subst, arith, w64, to_z, of_z}
+use Rattle.std.proofs.Common.{◌≡◌, ◌&&◌, ℕ, ◌+◌, ◌<◌, Bool, false, List, length, get_or, Option, Some, ℤ, IfSome, neg_ℤ, pos, ◌≤ℤ◌, sym, ap, ◌∙◌, subst, arith, w64, to_z, of_z}
 use Rattle.std.proofs.lemmas.Int.{to_z-of_z}
 use Rattle.plan_rules.specs.Sums.{lesser}
 use Rattle.plan_rules.specs.Graph.{has_rider}
 use Rattle.plan_rules.specs.Multipliers.{usable_of, room_at}
+use Rattle.dual_bound.specs.Index.{start_at}
+use Rattle.dual_bound.specs.work.Index.{IsRowListed}
 use Rattle.dual_bound.proofs.ListedLemmas.{IsLeastListed, listed_take, listed_pass, listed_done}
 use Rattle.dual_bound.proofs.first_fit_pass.least_listed.Goals as goal
 use Rattle.dual_bound.proofs.first_fit_pass.least_listed.Goals.{in-Some, in_default}
@@ -15,12 +17,12 @@ loop-place-preserved c =
     let n = length g.rows in
     let p : ℕ → Bool = λ k. u k && has_rider g k r in
     let f : ℕ → ℤ = room_at g u c.args.multipliers.now in
-    let listed : List ℕ = c.args.listed.now in
-    let from = get_or c.args.starts.now r 0 in
+    let listed : List ℕ = c.args.index.now.rows.items in
+    let from = start_at c.args.index.now r in
     let place = c.loop-place.place in
     elim c.match-row_listed.branch [
       | in-Some w ↦
-          let at = w.in-Some.ensures.some in
+          let at = subst (λ (xs : List ℕ). IsRowListed g u xs r place w.in-Some.row) c.as_slice.ensures.value w.in-Some.ensures.some in
           let back : to_z w64 (of_z w64 w.lesser_room.result) ≡ w.lesser_room.result = to_z-of_z w64 w.lesser_room.result (record { sfits = w.lesser_room.type_inv }) in
           let passed : to_z w64 (of_z w64 w.room_of-room.result) ≡ w.room_of-room.result = to_z-of_z w64 w.room_of-room.result (record { sfits = w.room_of-room.type_inv }) in
           record {
@@ -29,12 +31,12 @@ loop-place-preserved c =
             small = subst (λ (o : Option ℤ). IfSome o (λ z. neg_ℤ (pos 8000000000000) ≤ℤ z)) (sym (w.least-is ∙ ap Some back)) w.lesser_room.ensures.low;
           }
       | in_default w ↦ record {
-        value = subst (λ (o : Option ℤ). IsLeastListed n p f listed from (place + 1) o) (sym w.least-is) (listed_pass n p f listed from place c.loop-place.least c.loop-place.invariant.value w.in_default.ensures.none);
+        value = subst (λ (o : Option ℤ). IsLeastListed n p f listed from (place + 1) o) (sym w.least-is) (listed_pass n p f listed from place c.loop-place.least c.loop-place.invariant.value (subst (λ (xs : List ℕ). place < length xs → get_or xs place 0 < n → p (get_or xs place 0) ≡ false) c.as_slice.ensures.value w.in_default.ensures.none));
         small = subst (λ (o : Option ℤ). IfSome o (λ z. neg_ℤ (pos 8000000000000) ≤ℤ z)) (sym w.least-is) c.loop-place.invariant.small;
       }
     ]
 
 pub returns-clause-value : goal.returns-clause-value
 returns-clause-value c =
-    listed_done c.args.graph.now (usable_of c.args.allowed.now) c.args.multipliers.now c.args.starts.now c.args.listed.now c.args.rider c.loop-place.place c.loop-place.least c.requires.listed
-    (omega (arith, c.end_of-place-end.ensures, c.loop-place-test.false)) c.loop-place.invariant.value
+    listed_done c.args.graph.now (usable_of c.args.allowed.now) c.args.multipliers.now c.args.index.now c.args.rider c.loop-place.place c.loop-place.least c.requires.index
+    (omega (arith, c.end-place-end.ensures, c.loop-place-test.false)) c.loop-place.invariant.value

@@ -6,7 +6,7 @@ use Rattle.pool_base.specs.Times.{point_count, travel_time}
 use Rattle.rebalancing.specs.Matching.{IsBestMatching}
 use Rattle.stop_orders.specs.Settled.{rider_at, vehicle_at}
 use Rattle.outcome_check.specs.work.Moves.{IsRisingMatching, TellsMoves}
-use Rattle.outcome_check.proofs.lemmas.MatchLemmas.{moves_best}
+use Rattle.outcome_check.proofs.lemmas.MatchLemmas.{moves_best, moves_tell}
 use Rattle.outcome_check.proofs.moves.are_best.Goals as goal
 
 pub is_rising_matching-requires-clause-starts : goal.is_rising_matching-requires-clause-starts
@@ -28,6 +28,12 @@ pub is_best-requires-clause-origins : goal.is_best-requires-clause-origins
 is_best-requires-clause-origins c =
     subst (λ (ps : List ℕ). All (λ p. p < point_count c.args.times.now) ps) (sym (c.deref-5.ensures.value ∙ c.in_ok-origins.ensures))
     (All-map (λ p. p < point_count c.args.times.now) (λ r. (rider_at c.args.settled.now r).leg.origin) c.args.left.now c.requires.places.origins)
+
+pub returns-in_default : goal.returns-in_default
+returns-in_default c =
+    let tau = travel_time c.args.times.now in let settled = c.args.settled.now in let idle = c.args.idle.now in let left = c.args.left.now in let moves = c.args.moves.now in
+    let none : (pairs : List (ℕ × ℕ)) → TellsMoves tau settled idle left moves pairs → ⊥ = rw c.in_default.is at c.in_ok-pairs.ensures in
+    (λ no. absurd (let f : false ≡ true = no in cc), λ are. absurd (none are.pairs (moves_tell tau settled idle left moves are)))
 
 pub returns-then-not-branch : goal.returns-then-not-branch
 returns-then-not-branch c =

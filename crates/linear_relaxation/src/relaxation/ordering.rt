@@ -1,0 +1,252 @@
+//! In which order the columns of a basis come in, and at which conditions.
+//!
+//! Conditions with a single column left come first, each with that column, and columns with a single condition
+//! left last: both need no arithmetic. The rest comes between, by rising size.
+use crate::relaxation::factors::Factors;
+use crate::relaxation::sparse::Sparse;
+use pool_base::OutOfMemory;
+use row_tables::RowTable;
+use row_tables::fixed_point::{ONE, item, reset, set_at};
+use row_tables::lists::{Lists, short};
+use std::alloc::Global;
+
+/// A number of a column may be divided by from here on.
+pub const LEAST_PIVOT: i64 = ONE / 1000;
+
+/// No number.
+const NONE: u32 = u32::MAX;
+
+/// The columns or the conditions, each with the numbers of those that it meets, and how many of these are left; none
+/// once it is done.
+#[derive(Drop)]
+struct Side {
+    lists: Lists,
+    counts: Vec<u32>,
+}
+
+impl Side {
+    fn new(alloc: Global) -> Self {
+        Side {
+            lists: Lists::new(alloc),
+            counts: Vec::new(alloc),
+        }
+    }
+
+    fn count_all(&mut self) -> Result<(), OutOfMemory> {
+        self.counts.clear();
+        for number in 0..self.lists.len() {
+            self.counts.push(short(self.lists.list(number).len()))?;
+        }
+        Ok(())
+    }
+
+    #[inline]
+    fn count(&self, number: usize) -> u32 {
+        item(&self.counts, number, 0)
+    }
+
+    /// The first of these that is left.
+    fn first_left(&self, numbers: &[u32]) -> Option<usize> {
+        for number in numbers {
+            if self.count(*number as usize) > 0 {
+                return Some(*number as usize);
+            }
+        }
+        None
+    }
+
+    /// Takes one of those that each of these meets.
+    fn take_one(&mut self, numbers: &[u32]) {
+        for number in numbers {
+            let count = self.count(*number as usize).saturating_sub(1);
+            set_at(&mut self.counts, *number as usize, count);
+        }
+    }
+}
+
+/// The order of a basis's columns, and the work space to find it.
+#[derive(Drop)]
+pub struct Ordering {
+    columns: Side,
+    conditions: Side,
+    queue: Vec<u32>,
+    /// The condition and the number of each column in order, no condition for the rest.
+    order: Vec<(u32, u32)>,
+    /// How many conditions of each column of the rest are left, and its number.
+    rest: Vec<(u32, u32)>,
+    /// The numbers of the columns that come last and their conditions, from the last to the first.
+    last: Vec<(u32, u32)>,
+    /// The column at each condition.
+    placed: Vec<u32>,
+}
+
+impl Ordering {
+    pub fn new(alloc: Global) -> Self {
+        Ordering {
+            columns: Side::new(alloc),
+            conditions: Side::new(alloc),
+            queue: Vec::new(alloc),
+            order: Vec::new(alloc),
+            rest: Vec::new(alloc),
+            last: Vec::new(alloc),
+            placed: Vec::new(alloc),
+        }
+    }
+
+    /// Makes the factors of these columns, and has each stand at the condition where it came in. False where one
+    /// can't come in. The numbers are work space.
+    pub fn factor(
+        &mut self,
+        table: &RowTable,
+        columns: &mut [u32],
+        factors: &mut Factors,
+        numbers: &mut Sparse,
+    ) -> Result<bool, OutOfMemory> {
+        self.find(table, columns)?;
+        factors.clear();
+        reset(&mut self.placed, columns.len(), NONE)?;
+        for turn in 0..self.order.len() {
+            let (condition, place) = item(&self.order, turn, (NONE, NONE));
+            let place = place as usize;
+            match self.enter(condition, place, factors, numbers)? {
+                None => return Ok(false),
+                Some(condition) => set_at(&mut self.placed, condition, item(columns, place, NONE)),
+            }
+        }
+        if self.order.len() < columns.len() {
+            return Ok(false);
+        }
+        for (column, placed) in columns.iter_mut().zip(&self.placed) {
+            *column = *placed;
+        }
+        Ok(true)
+    }
+
+    /// Has a column come in. At which condition.
+    fn enter(
+        &mut self,
+        condition: u32,
+        place: usize,
+        factors: &mut Factors,
+        numbers: &mut Sparse,
+    ) -> Result<Option<usize>, OutOfMemory> {
+        let met = self.columns.lists.list(place);
+        if condition != NONE {
+            factors.enter_ones(condition as usize, met)?;
+            return Ok(Some(condition as usize));
+        }
+        numbers.clear();
+        numbers.add_all(met, ONE);
+        factors.solve(numbers);
+        let found = self.emptiest_condition(numbers);
+        if let Some(condition) = found {
+            factors.enter(condition, numbers)?;
+            set_at(&mut self.conditions.counts, condition, 0);
+        }
+        Ok(found)
+    }
+
+    /// Orders these columns.
+    fn find(&mut self, table: &RowTable, columns: &[u32]) -> Result<(), OutOfMemory> {
+        self.columns.lists.clear();
+        for column in columns {
+            let conditions = table.conditions_of(*column as usize);
+            self.columns.lists.push_list(conditions)?;
+        }
+        self.conditions
+            .lists
+            .transpose(&self.columns.lists, columns.len())?;
+        self.columns.count_all()?;
+        self.conditions.count_all()?;
+        self.last.clear();
+        self.order.clear();
+        peel(
+            &mut self.columns,
+            &mut self.conditions,
+            &mut self.queue,
+            &mut self.last,
+        )?;
+        peel(
+            &mut self.conditions,
+            &mut self.columns,
+            &mut self.queue,
+            &mut self.order,
+        )?;
+        self.order_rest()
+    }
+
+    fn order_rest(&mut self) -> Result<(), OutOfMemory> {
+        self.rest.clear();
+        for place in 0..self.columns.lists.len() {
+            let count = self.columns.count(place);
+            if count > 0 {
+                self.rest.push((count, short(place)))?;
+            }
+        }
+        self.rest.sort()?;
+        for other in &self.rest {
+            self.order.push((NONE, other.1))?;
+        }
+        for pair in self.last.iter().rev() {
+            self.order.push((pair.1, pair.0))?;
+        }
+        Ok(())
+    }
+
+    /// Of the conditions that are left, at which these are at least a third of their greatest number there, the
+    /// one that the fewest columns meet.
+    fn emptiest_condition(&self, numbers: &Sparse) -> Option<usize> {
+        let mut greatest = LEAST_PIVOT;
+        for condition in numbers.places() {
+            if self.conditions.count(condition) > 0 {
+                greatest = greatest.max(numbers.at(condition).saturating_abs());
+            }
+        }
+        let mut best = None;
+        let mut best_rank = (u32::MAX, i64::MAX);
+        for condition in numbers.places() {
+            let size = numbers.at(condition).saturating_abs();
+            let count = self.conditions.count(condition);
+            let rank = (count, size.wrapping_neg());
+            if count > 0 && size >= greatest / 3 && size >= LEAST_PIVOT && rank < best_rank {
+                best = Some(condition);
+                best_rank = rank;
+            }
+        }
+        best
+    }
+}
+
+/// Pairs those of one side that meet a single one of the other with that, one after the other.
+fn peel(
+    side: &mut Side,
+    others: &mut Side,
+    queue: &mut Vec<u32>,
+    pairs: &mut Vec<(u32, u32)>,
+) -> Result<(), OutOfMemory> {
+    queue.clear();
+    for number in 0..side.lists.len() {
+        if side.count(number) == 1 {
+            queue.push(short(number))?;
+        }
+    }
+    for turn in 0..side.lists.len() {
+        let Some(number) = queue.get(turn).copied() else {
+            return Ok(());
+        };
+        let met = side.lists.list(number as usize);
+        if let Some(other) = others.first_left(met) {
+            others.take_one(met);
+            set_at(&mut others.counts, other, 0);
+            pairs.push((number, short(other)))?;
+            for near in others.lists.list(other) {
+                let count = side.count(*near as usize);
+                set_at(&mut side.counts, *near as usize, count.saturating_sub(1));
+                if count == 2 {
+                    queue.push(*near)?;
+                }
+            }
+        }
+    }
+    Ok(())
+}
