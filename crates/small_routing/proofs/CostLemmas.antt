@@ -8,14 +8,14 @@ use Rattle.stop_orders.specs.declared.task.Task.{Task}
 use Rattle.stop_orders.specs.declared.stop.Stop.{Stop}
 use Rattle.stop_orders.specs.declared.stop.Stop.TheVariants.{Pick, Drop, Alight}
 use Rattle.stop_orders.specs.Visit.{ServesFrom}
-use Rattle.stop_orders.specs.Task.{visits_of, free_seats, order_delay, Serves, IsServable, IsLeastDelay}
+use Rattle.stop_orders.specs.Task.{visits_of, free_seats, order_delay, IsServable, IsLeastDelay}
 use Rattle.stop_orders.specs.Done.{with_stop, IsNextStop, IsAllDone}
 use Rattle.stop_orders.specs.lemmas.Rest.{left_count}
 use Rattle.stop_orders.specs.lemmas.Plain.{NoneBetter, StaysGood}
 use Rattle.stop_orders.proofs.lemmas.DoneLemmas.{IsAllDone-from_nil, left_count-falls}
 use Rattle.stop_orders.proofs.lemmas.PlainLemmas.{MakesOrders-all}
 use Rattle.small_routing.specs.declared.label.Label.{Label}
-use Rattle.small_routing.specs.work.Label.{IsRoutable, task_riders, task_passengers, first_label, CanVisit, next_label, GoesOn, rest_delay, IsSmallLabel}
+use Rattle.small_routing.specs.work.Label.{IsRoutable, task_riders, task_passengers, first_label, CanVisit, second_at, label_at, next_label, rest_delay, IsSmallLabel}
 use Rattle.small_routing.specs.work.Ahead.{RiderCan, PassengerCan}
 use Rattle.small_routing.specs.work.Search.{LeadsTo, IsExhausted, IsTried, IsLabelDone}
 use Rattle.small_routing.specs.work.Cost.{route_of, IsCostFound, person_of, IsOnlyStop, IsPersonTried, IsNextOf, Priced}
@@ -40,6 +40,11 @@ module _ (points : ℕ) (tau : ℕ → ℕ → ℕ) (t : IsTravelTime points tau
   -- the person's only stop was tried
   pub tried_only : (label : Label) (person : ℕ) (best : Option Route) (stop : Stop) → IsOnlyStop (task_riders task) (task_passengers task) label.done person stop → IsTried tau task best label stop → IsPersonTried tau task best label person
   tried_only label person best stop only tried = λ s next e. subst (λ x. IsTried tau task best label x) (sym (only.only s next e)) tried
+
+  -- .. where no way on from the label behind it is better
+  pub tried_next : (label next : Label) (person second : ℕ) (best : Option Route) (stop : Stop) → IsOnlyStop (task_riders task) (task_passengers task) label.done person stop → second ≡ second_at tau task label stop
+      → next ≡ label_at task label stop second → IsExhausted tau task best next → IsPersonTried tau task best label person
+  tried_next label next person second best stop only at is exhausted = tried_only label person best stop only (tried_exhausted points tau t task valid label next stop best (is ∙ ap (λ n. label_at task label stop n) at) exhausted)
 
   -- the next label is small too, with fewer stops left
   pub next_small : (label next : Label) (s : Stop) → IsSmallLabel points (left_count (task_riders task) (task_passengers task) label.done) label → IsNextStop (task_riders task) (task_passengers task) label.done s → CanVisit tau task label s

@@ -1,4 +1,4 @@
-ghost use Rattle.std.specs.Prelude.{◌≡◌, ◌-◌, ◌<◌, ◌≤◌, ◌++◌, ◌∷◌, [], ◌↔◌, IsTrue, IsFalse, length, take, remove, slice_index};
+ghost use Rattle.std.specs.Prelude.{◌≡◌, ◌+◌, ◌-◌, ◌<◌, ◌≤◌, ◌++◌, ◌∷◌, [], ◌↔◌, IsTrue, IsFalse, All, length, take, remove, slice_index, slice_index_or};
 ghost use Rattle.trip_growth.specs.Trip.{trips_of};
 ghost use Rattle.trip_growth.specs.work.Level.{IsBelow};
 ghost use Rattle.trip_growth.specs.work.Growth.{CanGrow, serves};
@@ -38,6 +38,21 @@ pub(crate) fn have_same_front(one: &[usize], other: &[usize], front: usize) -> b
     ensures { IsTrue result ↔ (take front one.now ≡ take front other.now) }
 {
     one[..front] == other[..front]
+}
+
+/// Whether the row behind this one differs from it in the last rider alone; all have one rider more than the front.
+pub(crate) fn has_sibling(rows: &[TripOf], row: usize, front: usize) -> bool
+    requires row { row < length rows.now }
+    requires sized { All (λ one. length one.riders.items ≡ front + 1) rows.now }
+    ensures { IsFalse result → row + 1 < length rows.now
+        → take front (slice_index_or (trips_of rows.now) (row + 1) []) ≡ take front (slice_index_or (trips_of rows.now) row []) → ⊥ }
+{
+    if row + 1 >= rows.len() {
+        return false;
+    }
+    let riders = rows[row].riders.as_slice();
+    let other = rows[row + 1].riders.as_slice();
+    have_same_front(riders, other, front)
 }
 
 /// Whether the smaller trips leave it possible that the vehicle can serve the trip. The two smaller trips

@@ -6,13 +6,12 @@ ghost use Rattle.trip_growth.specs.Rows.{AreRowsOfSize, IsLevelOf};
 
 use crate::growth::Growth;
 use crate::level::Level;
-use crate::route_cost::least_cost;
 use crate::row_growth::grow_size;
 use crate::trip_of::TripOf;
 use crate::vehicle_trips::VehicleTrips;
 use arrayvec::ArrayVec;
 use pool_base::{OutOfMemory, Steps, Times};
-use small_routing::Workspace;
+use small_routing::{Workspace, least_cost_with};
 use std::alloc::Global;
 use std::sync::ledger::Ledger;
 use stop_orders::{PairList, Settled, laws, task_of};
@@ -34,7 +33,7 @@ pub fn empty_level<L: Ledger>(
 {
     let mut workspace = Workspace::new(alloc);
     let task = task_of(settled, vehicle, &[]);
-    let Some(cost) = least_cost(&mut workspace, &task, times, steps)? else {
+    let Some(cost) = least_cost_with(&mut workspace, &task, times, steps)? else {
         return Ok(VehicleTrips::new(alloc));
     };
     let mut rows = Vec::new(alloc);

@@ -4,31 +4,13 @@ ghost use Rattle.stop_orders.specs.Task.{IsTask, IsServable, IsLeastDelay};
 ghost use Rattle.trip_growth.specs.work.Growth.{task_with};
 
 use pool_base::{OutOfMemory, Steps, Times};
-use small_routing::{Workspace, are_apart, least_delay_with};
+use small_routing::{Workspace, are_apart, least_cost_with};
 use std::sync::ledger::Ledger;
 use stop_orders::{Leg, Task};
 
-/// The least delay of an order that serves the task; `None` where no order serves it. It is one search, in the
-/// room of earlier ones.
-pub(crate) fn least_cost<L: Ledger>(
-    workspace: &mut Workspace,
-    task: &Task,
-    times: &Times,
-    steps: &mut Steps<L>,
-) -> Result<Option<u64>, OutOfMemory>
-    requires valid { IsTask (point_count times.now) task.now }
-    ensures least { IfOk result (λ answer. IfSome answer (IsLeastDelay (travel_time times.entry.now) task.entry.now)) }
-    ensures none { IfOk result (λ answer. IfNone answer (IsServable (travel_time times.entry.now) task.entry.now → ⊥)) }
-    ensures step { steps.new ≡ steps.old + 1 }
-{
-    match least_delay_with(workspace, task, times, steps)? {
-        Some(route) => Ok(Some(route.delay)),
-        None => Ok(None),
-    }
-}
-
-/// The same of the task with one more rider. The task stays as it was, so that no copy of it is made for each rider
-/// who is tried.
+/// The least delay of an order that serves the task with one more rider; `None` where no order serves it. It is one
+/// search, in the room of earlier ones. The task stays as it was, so that no copy of it is made for each rider who is
+/// tried.
 pub(crate) fn cost_with<L: Ledger>(
     workspace: &mut Workspace,
     task: &mut Task,
@@ -44,7 +26,7 @@ pub(crate) fn cost_with<L: Ledger>(
     ensures step { steps.new ≡ steps.old + 1 }
 {
     task.riders.push(leg);
-    let cost = least_cost(workspace, task, times, steps)?;
+    let cost = least_cost_with(workspace, task, times, steps)?;
     task.riders.pop();
     Ok(cost)
 }

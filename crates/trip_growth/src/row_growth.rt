@@ -4,7 +4,7 @@ ghost use Rattle.trip_growth.specs.Trip.{trips_of};
 ghost use Rattle.trip_growth.specs.work.Level.{IsBelow, IsLevel, IsLevelUpTo, HasMoreOfLevel};
 ghost use Rattle.trip_growth.specs.work.Growth.{CanGrow, rider_count, serves, costs, task_of_trip};
 
-use crate::candidate::{have_same_front, is_possible, with_rider};
+use crate::candidate::{has_sibling, have_same_front, is_possible, with_rider};
 use crate::growth::Growth;
 use crate::route_cost::{are_apart_with, cost_with};
 use crate::trip_of::TripOf;
@@ -83,6 +83,9 @@ fn grow_row<L: Ledger>(
         (HasMoreOfLevel (serves growth.now) (costs growth.now) (size + 2) growth.now.room)) }
     ensures steps { steps.new ≤ steps.old + rider_count growth.now }
 {
+    if !has_sibling(rows, row, size) {
+        return Ok(true);
+    }
     let riders = rows[row].riders.as_slice();
     let mut task = task_of(growth.settled, growth.vehicle, riders);
     let mut at = row;

@@ -1,11 +1,11 @@
 use Rattle.std.proofs.Common.{◌≡◌, ap, ◌∙◌, arith}
 use Rattle.pool_base.specs.Times.{point_count, travel_time}
-use Rattle.small_routing.specs.work.Label.{task_riders, task_passengers, next_label, label_at}
+use Rattle.small_routing.specs.work.Label.{next_label, label_at}
 use Rattle.small_routing.specs.work.Kept.{labels_of}
 use Rattle.small_routing.specs.work.Cost.{route_of}
 use Rattle.small_routing.proofs.LabelLemmas.{known_next, second_most}
-use Rattle.small_routing.proofs.SearchLemmas.{exhausted_none, exhausted_bound, exhausted_dominated, tried_exhausted, tried_never}
-use Rattle.small_routing.proofs.CostLemmas.{tried_only, next_small}
+use Rattle.small_routing.proofs.SearchLemmas.{exhausted_none, exhausted_bound, exhausted_dominated, tried_never}
+use Rattle.small_routing.proofs.CostLemmas.{tried_only, tried_next, next_small}
 use Rattle.small_routing.proofs.cost.label_by.Goals as goal
 
 pub returns-in_default : goal.returns-in_default
@@ -56,42 +56,28 @@ pub returns-in_default-look_ahead : goal.returns-in_default-look_ahead
 returns-in_default-look_ahead c =
     let tau = travel_time c.args.times.now in
     let points = point_count c.args.times.now in
-    let time = c.args.times.now.table.times in
-    let task = c.args.task.now in
-    let label = c.args.label.now in
     let best = route_of c.args.best.now in
     let next = c.label_after-next.result in
-    let same : next ≡ next_label tau task label c.in-Some.stop = c.label_after-next.ensures ∙ ap (λ n. label_at task label c.in-Some.stop n) c.in-Some-second_of.ensures.1 in
-    tried_only points tau time task c.requires.valid label c.args.person best c.in-Some.stop c.in-Some.ensures
-    (tried_exhausted points tau time task c.requires.valid label next c.in-Some.stop best same (exhausted_none points tau time task c.requires.valid next best c.in_default-look_ahead.ensures.none))
+    tried_next points tau c.args.times.now.table.times c.args.task.now c.requires.valid c.args.label.now next c.args.person _ best c.in-Some.stop c.in-Some.ensures c.in-Some-second_of.ensures.1 c.label_after-next.ensures
+    (exhausted_none points tau c.args.times.now.table.times c.args.task.now c.requires.valid next best c.in_default-look_ahead.ensures.none)
 
 pub returns-then-not-is_less : goal.returns-then-not-is_less
 returns-then-not-is_less c =
     let tau = travel_time c.args.times.now in
     let points = point_count c.args.times.now in
-    let time = c.args.times.now.table.times in
-    let task = c.args.task.now in
-    let label = c.args.label.now in
     let best = route_of c.args.best.now in
     let next = c.label_after-next.result in
-    let same : next ≡ next_label tau task label c.in-Some.stop = c.label_after-next.ensures ∙ ap (λ n. label_at task label c.in-Some.stop n) c.in-Some-second_of.ensures.1 in
-    tried_only points tau time task c.requires.valid label c.args.person best c.in-Some.stop c.in-Some.ensures
-    (tried_exhausted points tau time task c.requires.valid label next c.in-Some.stop best same
-    (exhausted_bound points tau time task c.requires.valid next best c.in-Some-look_ahead.ahead c.in-Some-look_ahead.ensures.bound (c.is_less.ensures.0 c.if-not-is_less.true)))
+    tried_next points tau c.args.times.now.table.times c.args.task.now c.requires.valid c.args.label.now next c.args.person _ best c.in-Some.stop c.in-Some.ensures c.in-Some-second_of.ensures.1 c.label_after-next.ensures
+    (exhausted_bound points tau c.args.times.now.table.times c.args.task.now c.requires.valid next best c.in-Some-look_ahead.ahead c.in-Some-look_ahead.ensures.bound (c.is_less.ensures.0 c.if-not-is_less.true))
 
 pub returns-then-dominates : goal.returns-then-dominates
 returns-then-dominates c =
     let tau = travel_time c.args.times.now in
     let points = point_count c.args.times.now in
-    let time = c.args.times.now.table.times in
-    let task = c.args.task.now in
-    let label = c.args.label.now in
     let best = route_of c.args.best.now in
     let next = c.label_after-next.result in
-    let same : next ≡ next_label tau task label c.in-Some.stop = c.label_after-next.ensures ∙ ap (λ n. label_at task label c.in-Some.stop n) c.in-Some-second_of.ensures.1 in
-    tried_only points tau time task c.requires.valid label c.args.person best c.in-Some.stop c.in-Some.ensures
-    (tried_exhausted points tau time task c.requires.valid label next c.in-Some.stop best same
-    (exhausted_dominated points tau time task c.requires.valid next best (labels_of c.args.kept.now) (c.dominates.ensures c.if-dominates.true) c.requires.settled))
+    tried_next points tau c.args.times.now.table.times c.args.task.now c.requires.valid c.args.label.now next c.args.person _ best c.in-Some.stop c.in-Some.ensures c.in-Some-second_of.ensures.1 c.label_after-next.ensures
+    (exhausted_dominated points tau c.args.times.now.table.times c.args.task.now c.requires.valid next best (labels_of c.args.kept.now) (c.dominates.ensures c.if-dominates.true) c.requires.settled)
 
 pub returns : goal.returns
 returns c =

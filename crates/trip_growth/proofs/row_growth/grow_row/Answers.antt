@@ -4,6 +4,15 @@ use Rattle.trip_growth.proofs.lemmas.TripSearch.{size_of}
 use Rattle.trip_growth.proofs.RowGrowth.{opened_at, advanced_at, closed_at, siblings_rise, last_within, upto_as_read, upto_as_stored, more_as_stored, below_as_read, trip_as_read, read_at, same_front}
 use Rattle.trip_growth.proofs.row_growth.grow_row.Goals as goal
 
+pub returns-then-not-has_sibling-clause-answer : goal.returns-then-not-has_sibling-clause-answer
+returns-then-not-has_sibling-clause-answer g c =
+    let growth = c.args.growth.now in let rows = c.args.rows.now in let row = c.args.row in let found = c.args.found.now.items in
+    let opened = opened_at (rider_count growth) (serves growth) (costs growth) c.requires.can.rule c.args.size rows c.requires.below row found c.requires.row c.requires.upto in (
+      closed_at (rider_count growth) (serves growth) (costs growth) c.requires.can.rule c.args.size rows c.requires.below row row found (omega arith) c.requires.row refl
+          (c.has_sibling.ensures c.if-not-has_sibling.true) opened,
+      c.requires.room,
+    )
+
 pub loop-at-init : goal.loop-at-init
 loop-at-init g c =
     let growth = c.args.growth.now in
