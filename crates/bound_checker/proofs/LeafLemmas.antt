@@ -1,10 +1,10 @@
 -- The least costs of vehicles, row by row.
-use Rattle.std.proofs.Common.{◌≡◌, ◌==◌, ℕ, ◌+◌, ◌<◌, ◌≤◌, true, false, List, length, get_or, set, replicate, Option, Some, None, IfSome, ℤ, pos, negsuc, SFits, refl, sym, ap, ◌∙◌, subst, ⊎_elim, arith, ne_eqb}
+use Rattle.std.proofs.Common.{◌≡◌, ◌==◌, ℕ, ◌+◌, ◌<◌, true, false, List, length, get_or, set, Option, Some, None, IfSome, ℤ, pos, negsuc, SFits, refl, sym, ap, ◌∙◌, subst, ⊎_elim, arith, ne_eqb}
 use Rattle.std.specs.Prelude.{unwrap_or}
 use mir.Syntax.{w128}
 use Rattle.std.proofs.lemmas.Int.{ints, int_min_is}
-use Rattle.std.proofs.lemmas.Bool.{cases_eq, cases_lt, and_left, cond-false}
-use Rattle.std.proofs.lemmas.List.{get_or-set_same, get_or-set_other, get_or-replicate, get_or_past, length-set, length-replicate}
+use Rattle.std.proofs.lemmas.Bool.{cases_eq, and_left, cond-false}
+use Rattle.std.proofs.lemmas.List.{get_or-set_same, get_or-set_other, length-set}
 use Rattle.plan_rules.specs.Sums.{int_sum_below, least_below, lesser}
 use Rattle.plan_rules.specs.Graph.{Graph, row_vehicle}
 use Rattle.plan_rules.specs.Multipliers.{Usable, is_usable_by, reduced_cost, vehicle_term}
@@ -68,21 +68,6 @@ module _ (g : Graph) (usable : Usable) (ms : List ℤ) (n : ℕ) (least : List (
           least_below_more n (is_usable_by g usable v) (reduced_cost g ms)
           ∙ cond-false (is_usable_by g usable v n) (Some (lesser (least_below n (is_usable_by g usable v) (reduced_cost g ms)) (reduced_cost g ms n))) (least_below n (is_usable_by g usable v) (reduced_cost g ms))
           (and_left (row_vehicle g n == v) (usable n) (ne_eqb (row_vehicle g n) v differs))
-
--- before the first row no vehicle has any
-pub no_row_yet : (g : Graph) (usable : Usable) (ms : List ℤ) → AreLeast g usable ms 0 (replicate g.vehicles None)
-no_row_yet g usable ms = record {
-  sized = length-replicate g.vehicles None;
-  each = λ v l. none_in g.vehicles v;
-  small = λ v. subst (λ (o : Option ℤ). IfSome o IsSmall) (sym (none_in g.vehicles v)) tt;
-}
-  where
-    none_in : (n v : ℕ) → get_or (replicate {A = Option ℤ} n None) v None ≡ None
-    none_in n v =
-        ⊎_elim
-        (λ (low : v < n). get_or-replicate n v None None low)
-        (λ (high : n ≤ v). get_or_past (replicate n None) v None (omega (arith, length-replicate {A = Option ℤ} n None, high)))
-        (cases_lt v n)
 
 -- the sum over the table of all rows is that of the vehicles' parts
 pub vehicles_sum : (g : Graph) (usable : Usable) (ms : List ℤ) (least : List (Option ℤ)) → AreLeast g usable ms (length g.rows) least

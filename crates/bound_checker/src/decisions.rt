@@ -67,8 +67,6 @@ fn keep_alone(graph: &TripGraph, decision: Decision, allowed: &mut [bool])
 {
     let vehicle = decision.vehicle as usize;
     for row in graph.first_row(vehicle)..graph.first_row(vehicle + 1) {
-        if row != decision.row as usize {
-            allowed[row] = false;
-        }
+        allowed[row] = allowed[row] && row == decision.row as usize;
     }
 }

@@ -135,9 +135,9 @@ fn least_of_rider(graph: &TripGraph, multipliers: &[i64], rider: usize) -> i128
     ensures small { IsSmall result }
 {
     let multiplier = multipliers[rider] as i128;
-    if graph.must(rider) {
-        multiplier
-    } else {
-        multiplier.min(1024 * graph.penalty() as i128)
+    let penalty = 1024 * graph.penalty() as i128;
+    if multiplier > penalty && !graph.must(rider) {
+        return penalty;
     }
+    multiplier
 }

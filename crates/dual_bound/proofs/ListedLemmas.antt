@@ -50,12 +50,6 @@ least_is n p f o covers reached (Some z) e =
     let equal : c.0 ≡ z = omega (arith, ints, same, low, is, high, here) in
     c.1 ∙ ap Some equal
 
-pub listed_none : (n : ℕ) (p : ℕ → Bool) (f : ℕ → ℤ) (listed : List ℕ) (from : ℕ) (o : Option ℤ) → o ≡ None → IsLeastListed n p f listed from from o
-listed_none n p f listed from o e = record {
-  covers = λ q l h. absurd (omega (arith, l, h));
-  reached = λ z is. absurd (not_some z (sym e ∙ is));
-}
-
 pub listed_take : (n : ℕ) (p : ℕ → Bool) (f : ℕ → ℤ) (listed : List ℕ) (from to k : ℕ) (o new : Option ℤ) (x : ℤ) → IsLeastListed n p f listed from to o → get_or listed to 0 ≡ k → k < n → p k ≡ true → x ≡ f k → new ≡ Some (lesser o x)
     → IsLeastListed n p f listed from (to + 1) new
 listed_take n p f listed from to k o new x before here low passes value is = record {

@@ -1,5 +1,5 @@
 //! The first-fit multipliers: one pass over the riders.
-ghost use Rattle.std.specs.Prelude.{◌≡◌, ◌*◌, ◌<◌, ◌≤◌, ◌&&◌, ℕ, suc, false, All, IfOk, IfSome, IfNone, length, slice_index_or, ℤ, pos, neg_ℤ, ◌≤ℤ◌, ◌+ℤ◌, ◌-ℤ◌, ◌*ℤ◌};
+ghost use Rattle.std.specs.Prelude.{◌≡◌, ◌*◌, ◌<◌, ◌≤◌, ◌&&◌, ℕ, false, All, IfOk, IfSome, IfNone, length, slice_index_or, ℤ, pos, neg_ℤ, ◌≤ℤ◌, ◌+ℤ◌, ◌-ℤ◌, ◌*ℤ◌};
 ghost use Rattle.plan_rules.specs.Sums.{lesser, least_below, int_sum_below};
 ghost use Rattle.plan_rules.specs.Multipliers.{usable_of, leaf_value, least_cost, first_fit, first_fit_of, room_at, multiplier_at, multiplier_sum};
 ghost use Rattle.plan_rules.specs.Graph.{has_rider};

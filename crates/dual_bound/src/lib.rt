@@ -1,8 +1,7 @@
 //! Bounds from multipliers: what a leaf of a search tree shows, the first-fit multipliers, and multipliers
 //! that are better than those.
 //!
-//! A leaf value is computed exactly, in whole numbers, and takes no memory; whatever an ascent tries, it
-//! keeps the best multipliers that a leaf value has judged.
+//! A leaf value is computed exactly, in whole numbers, and takes no memory. It judges what an ascent reaches.
 //!
 //! A caller, from the tests of `drawn_plans`:
 //!

@@ -1,24 +1,13 @@
 -- The first-fit pass.
-use Rattle.std.proofs.Common.{◌≡◌, ◌&&◌, ℕ, zero, suc, ◌+◌, ◌*◌, ◌<◌, ◌≤◌, Bool, true, false, List, [], ◌∷◌, ◌++◌, length, get_or, set, Option, Some, ℤ, pos, ◌-ℤ◌, ◌*ℤ◌, refl, sym, ap, ◌∙◌, subst, ⊎_elim, arith, add-one}
+use Rattle.std.proofs.Common.{◌≡◌, ◌&&◌, ℕ, zero, suc, ◌+◌, ◌*◌, ◌<◌, ◌≤◌, List, [], ◌∷◌, ◌++◌, length, get_or, set, ℤ, pos, ◌-ℤ◌, ◌*ℤ◌, refl, sym, ap, ◌∙◌, subst, ⊎_elim, arith, add-one}
 use Rattle.std.proofs.lemmas.Int.{ints}
-use Rattle.std.proofs.lemmas.Bool.{cases_eq, cases_lt, cond-true, cond-false}
+use Rattle.std.proofs.lemmas.Bool.{cases_eq, cases_lt}
 use Rattle.std.proofs.lemmas.List.{get_or_push, get_or_append_left, get_or_past, get_or-set_same, get_or-set_other, length_push, ext_get_or}
 use Rattle.plan_rules.specs.Sums.{least_below, lesser}
 use Rattle.plan_rules.specs.Graph.{Graph, row_at, has_rider}
 use Rattle.plan_rules.specs.Multipliers.{Usable, multiplier_at, multiplier_sum, least_cost, room_at, first_fit_of, first_fit_below}
 use Rattle.plan_rules.specs.declared.row.TripRow.{TripRow}
-use Rattle.plan_rules.proofs.lemmas.SumLemmas.{least_below_more}
 use Rattle.dual_bound.specs.work.Size.{IsModest}
-
--- one more number
-pub least_take : (n : ℕ) (p : ℕ → Bool) (f : ℕ → ℤ) (o : Option ℤ) (z : ℤ) → p n ≡ true → o ≡ least_below n p f → z ≡ f n → Some (lesser o z) ≡ least_below (n + 1) p f
-least_take n p f o z passes e value =
-    ap (λ (q : Option ℤ). Some (lesser q z)) e ∙ ap (λ (w : ℤ). Some (lesser (least_below n p f) w)) value
-    ∙ sym (least_below_more n p f ∙ cond-true (p n) (Some (lesser (least_below n p f) (f n))) (least_below n p f) passes)
-
-pub least_pass : (n : ℕ) (p : ℕ → Bool) (f : ℕ → ℤ) (o : Option ℤ) → p n ≡ false → o ≡ least_below n p f → o ≡ least_below (n + 1) p f
-least_pass n p f o fails e =
-    e ∙ sym (least_below_more n p f ∙ cond-false (p n) (Some (lesser (least_below n p f) (f n))) (least_below n p f) fails)
 
 -- what holds of each number at its place holds with one more at the end
 pub push_all : (P : ℕ → ℤ → Type 0) (xs : List ℤ) (n : ℕ) (z : ℤ) → length xs ≡ n → ((v : ℕ) → v < n → P v (get_or xs v (pos 0))) → P n z → (v : ℕ) → v < n + 1 → P v (get_or (xs ++ z ∷ []) v (pos 0))
