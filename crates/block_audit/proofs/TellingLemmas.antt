@@ -21,9 +21,6 @@ module _ {X : Type 0} (P : X → Type 0) (xs : List X) where
   pub all_there : (i : ℕ) → length xs ≤ i → All P (take i xs) → All P xs
   all_there i end all = subst (λ ys. All P ys) (take_all i xs end) all
 
-  pub one_fails : (i : ℕ) (x : X) → i < length xs → x ≡ get_or xs i x → (P x → ⊥) → All P xs → ⊥
-  one_fails i x within is refuted all = refuted (subst P (sym is) (all i x within))
-
 module _ (t : Told) where
   abbrev Can : Point → Type 0
   Can q = CanBeTold q t

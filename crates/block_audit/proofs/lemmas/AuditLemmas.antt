@@ -1,5 +1,5 @@
 -- A block as which one outcome is judged, and good outcomes that print it.
-use Rattle.std.proofs.Common.{◌≡◌, ◌≢◌, ◌↔◌, ℕ, ◌<◌, ◌≤◌, min, true, List, [], ◌++◌, length, map, ⊎_elim, refl, sym, ap, ◌∙◌, subst, arith}
+use Rattle.std.proofs.Common.{◌≡◌, ◌≢◌, ℕ, ◌<◌, ◌≤◌, min, true, List, ◌++◌, length, map, ⊎_elim, refl, sym, ap, ◌∙◌, subst, arith}
 use Rattle.std.specs.List.{All}
 use Rattle.std.proofs.lemmas.Bool.{cases_lt}
 use Rattle.std.proofs.lemmas.List.{length-map}
@@ -33,7 +33,7 @@ use Rattle.block_audit.specs.work.Block.{refusal_for}
 use Rattle.block_audit.specs.work.Judged.{FailsFirst, HoldUpTo, IsRight, verdict_place}
 use Rattle.block_audit.specs.declared.refusal.BlockRefusal.{BlockRefusal}
 use Rattle.block_audit.specs.declared.refusal.BlockRefusal.TheVariants.{OutOfMemory, Cut, Form, Wrong}
-use Rattle.block_audit.proofs.NumberedLemmas.{vehicle_ids, few_ids, outcome_numbered, outcome_trips}
+use Rattle.block_audit.proofs.NumberedLemmas.{vehicle_ids, outcome_numbered, outcome_trips}
 use Rattle.block_audit.proofs.OutcomeLemmas.{IsToldAs, judged_few, lines_are, outcome_is_told}
 
 -- two lists of points, one beside the other
