@@ -32,7 +32,6 @@ mod reading;
 mod run;
 mod status;
 mod text;
-mod ways;
 mod words;
 mod writing;
 
