@@ -25,7 +25,7 @@ use Rattle.request_book.specs.Book.{BookView}
 use Rattle.request_book.specs.Command.{IsNoClose}
 use Rattle.request_book.specs.Step.{step}
 use Rattle.request_book.specs.declared.command.Command.{Command}
-use Rattle.request_book.specs.declared.command.Command.TheVariants.{Submit, Cancel, Report, Pickup, Dropoff, Seal, Close}
+use Rattle.request_book.specs.declared.command.Command.TheVariants.{Close}
 use Rattle.request_book.specs.declared.journal.Entry.{Entry}
 use Rattle.request_book.specs.declared.journal.Journal.{Journal}
 use Rattle.request_book.specs.declared.outcome.Outcome.{Outcome}
@@ -68,31 +68,16 @@ begins_more settings roads round j e begins low reply good lanes come told = rec
 
 -- only closes are judged
 good_plain : (settings : Settings) (roads : Roads) (s : State) (c : Command) (reply : Reply) → IsNoClose c → IsGoodClose settings roads s c reply
-good_plain settings roads s (Submit rider origin destination time party) reply is = tt
-good_plain settings roads s (Cancel rider) reply is = tt
-good_plain settings roads s (Report vehicle node time) reply is = tt
-good_plain settings roads s (Pickup vehicle rider time) reply is = tt
-good_plain settings roads s (Dropoff vehicle rider time) reply is = tt
-good_plain settings roads s (Seal now) reply is = tt
 good_plain settings roads s (Close batch outcome) reply is = absurd is
+good_plain settings roads s _ reply is = tt
 
 fits_plain : (c : Command) (reply : Reply) → IsNoClose c → HasFittingBlock c reply
-fits_plain (Submit rider origin destination time party) reply is = tt
-fits_plain (Cancel rider) reply is = tt
-fits_plain (Report vehicle node time) reply is = tt
-fits_plain (Pickup vehicle rider time) reply is = tt
-fits_plain (Dropoff vehicle rider time) reply is = tt
-fits_plain (Seal now) reply is = tt
 fits_plain (Close batch outcome) reply is = absurd is
+fits_plain _ reply is = tt
 
 block_plain : (c : Command) (reply : Reply) → IsNoClose c → entry_block true c reply ≡ []
-block_plain (Submit rider origin destination time party) reply is = refl
-block_plain (Cancel rider) reply is = refl
-block_plain (Report vehicle node time) reply is = refl
-block_plain (Pickup vehicle rider time) reply is = refl
-block_plain (Dropoff vehicle rider time) reply is = refl
-block_plain (Seal now) reply is = refl
 block_plain (Close batch outcome) reply is = absurd is
+block_plain _ reply is = refl
 
 -- the round isn't at its end while a lane isn't
 pub not_at_end : (settings : Settings) (roads : Roads) (round : NumberedLanes) (b : BookView) (lanes : List LaneStand) (sealed : Option Batch) → IsWithin settings roads round b lanes sealed → (AreDone round lanes → ⊥) → AreAtEnd round (journal_of b) → ⊥

@@ -13,7 +13,7 @@ use Rattle.dispatch_engine.specs.Progress.{at_start, stand_at, IsRest, IsNext, I
 use Rattle.request_book.specs.Command.{IsNoClose}
 use Rattle.request_book.specs.Step.{step}
 use Rattle.request_book.specs.declared.command.Command.{Command}
-use Rattle.request_book.specs.declared.command.Command.TheVariants.{Submit, Cancel, Report, Pickup, Dropoff, Seal, Close}
+use Rattle.request_book.specs.declared.command.Command.TheVariants.{Close}
 use Rattle.request_book.specs.declared.journal.Entry.{Entry}
 use Rattle.request_book.specs.declared.outcome.Answer.TheVariants.{Overflow}
 use Rattle.request_book.specs.declared.outcome.Outcome.{Outcome}
@@ -103,13 +103,8 @@ module _ (lanes : List LaneStand) (lane : ℕ) (stand : LaneStand) (low : lane <
   stand_other k other = get_or-set_other lanes lane k stand at_start other
 
 pub no_close_of : (lane : ℕ) (command : Command) → MayStand lane command → IsNoClose command
-no_close_of lane (Submit rider origin destination time party) stands = tt
-no_close_of lane (Cancel rider) stands = tt
-no_close_of lane (Report vehicle node time) stands = tt
-no_close_of lane (Pickup vehicle rider time) stands = tt
-no_close_of lane (Dropoff vehicle rider time) stands = tt
-no_close_of lane (Seal now) stands = tt
 no_close_of lane (Close batch outcome) stands = absurd stands
+no_close_of lane _ stands = tt
 
 number_none : (o : Option Batch) → None ≡ option_map (λ b. b.number) o → o ≡ None
 number_none None e = refl

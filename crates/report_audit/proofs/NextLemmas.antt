@@ -26,7 +26,7 @@ use Rattle.request_book.specs.Book.{BookView, IsApplied, IsBook, next_position}
 use Rattle.request_book.specs.Replay.{state_after}
 use Rattle.request_book.specs.Step.{step}
 use Rattle.request_book.specs.declared.command.Command.{Command}
-use Rattle.request_book.specs.declared.command.Command.TheVariants.{Submit, Cancel, Report, Pickup, Dropoff, Seal, Close}
+use Rattle.request_book.specs.declared.command.Command.TheVariants.{Close}
 use Rattle.request_book.specs.declared.journal.Entry.{Entry}
 use Rattle.request_book.specs.declared.journal.Journal.{Journal}
 use Rattle.request_book.specs.declared.outcome.Outcome.{Outcome}
@@ -333,10 +333,5 @@ read_one p e text line after rest has is behind =
 
 -- which command closes a batch
 pub close_of : (batch : ℕ) (c : Command) → IsCloseOf batch c → (o : Outcome) × (c ≡ Close batch o)
-close_of batch (Submit rider origin destination time party) is = absurd is
-close_of batch (Cancel rider) is = absurd is
-close_of batch (Report vehicle node time) is = absurd is
-close_of batch (Pickup vehicle rider time) is = absurd is
-close_of batch (Dropoff vehicle rider time) is = absurd is
-close_of batch (Seal now) is = absurd is
 close_of batch (Close closed o) is = (o, ap (λ (n : ℕ). Close n o) is)
+close_of batch _ is = absurd is

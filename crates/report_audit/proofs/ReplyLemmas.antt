@@ -16,7 +16,7 @@ use Rattle.request_book.specs.declared.reply.Reply.{Reply}
 use Rattle.request_book.specs.declared.reply.Reply.TheVariants.{Accepted, Cancelled, Placed, Picked, Dropped, Sealed, Closed, Refused}
 use Rattle.request_book.specs.declared.rider.BookRider.{BookRider}
 use Rattle.request_book.specs.declared.rider.Status.{Status}
-use Rattle.request_book.specs.declared.rider.Status.TheVariants.{Waiting, Promised, Aboard, Delivered, Expired, Cancelled as GivenUp}
+use Rattle.request_book.specs.declared.rider.Status.TheVariants.{Waiting, Promised, Aboard, Cancelled as GivenUp}
 use Rattle.request_book.specs.declared.state.State.{State}
 use Rattle.request_book.specs.lemmas.Closing.{closed_state}
 use Rattle.request_book.specs.lemmas.Named.{stands_at}
@@ -82,11 +82,7 @@ fair_aboard (Some r) = by r.status
   where
     by : (t : Status) → IsFair (aboard_refusal t)
     by Waiting = tt
-    by (Promised p) = tt
-    by (Aboard v) = tt
-    by GivenUp = tt
-    by Delivered = tt
-    by Expired = tt
+    by _ = tt
 
 fair_ended : (o : Option BookRider) → IsFair (has_ended o)
 fair_ended None = tt
@@ -94,35 +90,23 @@ fair_ended (Some r) = by r.status
   where
     by : (t : Status) → IsFair (ended_refusal t)
     by Waiting = tt
-    by (Promised p) = tt
-    by (Aboard v) = tt
-    by GivenUp = tt
-    by Delivered = tt
-    by Expired = tt
+    by _ = tt
 
 fair_promise : (o : Option BookRider) (vehicle : ℕ) → IsFair (not_promised o vehicle)
 fair_promise None vehicle = tt
 fair_promise (Some r) vehicle = by r.status
   where
     by : (t : Status) → IsFair (promise_refusal vehicle t)
-    by Waiting = tt
     by (Promised p) = fair_unless (p.vehicle == vehicle) (NotPromised (Some p.vehicle)) tt
-    by (Aboard v) = tt
-    by GivenUp = tt
-    by Delivered = tt
-    by Expired = tt
+    by _ = tt
 
 fair_seat : (o : Option BookRider) (vehicle : ℕ) → IsFair (not_aboard o vehicle)
 fair_seat None vehicle = tt
 fair_seat (Some r) vehicle = by r.status
   where
     by : (t : Status) → IsFair (seat_refusal vehicle t)
-    by Waiting = tt
-    by (Promised p) = tt
     by (Aboard v) = fair_unless (v == vehicle) NotAboard tt
-    by GivenUp = tt
-    by Delivered = tt
-    by Expired = tt
+    by _ = tt
 
 fair_full : (o : Option Vehicle) (p : Option BookRider) → IsFair (vehicle_full o p)
 fair_full None p = tt

@@ -19,11 +19,11 @@ use Rattle.request_book.specs.declared.command.Command.TheVariants.{Submit, Canc
 use Rattle.request_book.specs.declared.journal.Entry.{Entry}
 use Rattle.request_book.specs.declared.journal.Journal.{Journal}
 use Rattle.request_book.specs.declared.reply.BookRefusal.{BookRefusal}
-use Rattle.request_book.specs.declared.reply.BookRefusal.TheVariants.{DuplicateRider, UnknownNode, SamePlace, PoolFull, BookFull, UnknownRider, IsAboard, Ended, UnknownVehicle, TimeBack, NotPromised, VehicleFull, NotAboard, BatchOpen, ClockBack, NotThisBatch}
+use Rattle.request_book.specs.declared.reply.BookRefusal.TheVariants.{IsAboard, Ended, TimeBack, NotPromised, BatchOpen, ClockBack, NotThisBatch}
 use Rattle.request_book.specs.declared.reply.Reply.{Reply}
-use Rattle.request_book.specs.declared.reply.Reply.TheVariants.{Accepted, Cancelled, Placed, Picked, Dropped, Sealed, Closed, Refused}
+use Rattle.request_book.specs.declared.reply.Reply.TheVariants.{Sealed, Refused}
 use Rattle.request_book.specs.declared.rider.Status.{Status}
-use Rattle.request_book.specs.declared.rider.Status.TheVariants.{Waiting, Promised, Aboard, Cancelled as GivenUp, Delivered, Expired}
+use Rattle.request_book.specs.declared.rider.Status.TheVariants.{Waiting}
 use Rattle.report_audit.specs.work.Rest.{entries_text}
 
 -- lines
@@ -120,41 +120,24 @@ command_one (Close batch outcome) is = numbered_one_line (codes "close ") batch 
 
 status_one : (s : Status) → is_one_line (rider_status_text s) ≡ true
 status_one Waiting = refl
-status_one (Promised p) = refl
-status_one (Aboard v) = refl
-status_one GivenUp = refl
-status_one Delivered = refl
-status_one Expired = refl
+status_one _ = refl
 
 refusal_one : (r : BookRefusal) → IsRefusal r → is_one_line (refusal_text r) ≡ true
-refusal_one DuplicateRider is = refl
-refusal_one UnknownNode is = refl
-refusal_one SamePlace is = refl
-refusal_one PoolFull is = refl
-refusal_one BookFull is = refl
-refusal_one UnknownRider is = refl
 refusal_one (IsAboard vehicle) is = id_one (codes "is-aboard ") vehicle refl is
 refusal_one (Ended status) is = append_one_line (codes "ended ") (rider_status_text status) refl (status_one status)
-refusal_one UnknownVehicle is = refl
 refusal_one (TimeBack last) is = id_one (codes "time-back ") last refl is
 refusal_one (NotPromised None) is = refl
 refusal_one (NotPromised (Some holder)) is = append_one_line (codes "not-promised") (spaced holder) refl (id_one (codes " ") holder refl is)
-refusal_one VehicleFull is = refl
-refusal_one NotAboard is = refl
 refusal_one (BatchOpen batch) is = numbered_one_line (codes "batch-open ") batch refl (omega (arith, is))
 refusal_one (ClockBack last) is = id_one (codes "clock-back ") last refl is
 refusal_one (NotThisBatch None) is = refl
 refusal_one (NotThisBatch (Some batch)) is = append_one_line (codes "not-this-batch") (spaced batch) refl (spaced_one batch (omega (arith, is)))
+refusal_one _ is = refl
 
 reply_one : (r : Reply) → IsReply r → is_one_line (reply_text r) ≡ true
-reply_one Accepted is = refl
-reply_one Cancelled is = refl
-reply_one Placed is = refl
-reply_one Picked is = refl
-reply_one Dropped is = refl
 reply_one (Sealed batch) is = numbered_one_line (codes "sealed ") batch refl (omega (arith, is))
-reply_one Closed is = refl
 reply_one (Refused refusal) is = append_one_line (codes "refused ") (refusal_text refusal) refl (refusal_one refusal is)
+reply_one _ is = refl
 
 pub entry_one : (p : ℕ) (e : Entry) → IsEntry p e → is_one_line (entry_line p e) ≡ true
 entry_one p e is =

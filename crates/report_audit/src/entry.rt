@@ -48,30 +48,6 @@ pub(crate) fn audit_entry<'a, W: Ways, G: Gate>(
     if lane >= 16 {
         return Err(wrong_line(text.len()));
     }
-    audit_lane(
-        rt, alloc, book, lanes, sealed, round, text, lane, between, setup,
-    )
-}
-
-/// The same for an entry of this lane, which closes the lane's batch where it waits for that.
-fn audit_lane<'a, W: Ways, G: Gate>(
-    rt: &(impl Threads + Sync),
-    alloc: Global,
-    book: &mut Book,
-    lanes: &mut Progress,
-    sealed: &mut Option<Snapshot>,
-    round: &Round,
-    text: &'a [u8],
-    lane: u8,
-    between: Between<'a>,
-    setup: &Setup<'_, W, G>,
-) -> Result<&'a [u8], Stop>
-    requires within { IsWithin setup.now.settings.now setup.now.network.now round.now book.old lanes.old sealed.old }
-    requires going { AreDone round.now lanes.old → ⊥ }
-    requires entry { IsEntryOf lane text.now between.line.now between.after.now }
-    ensures { MatchResult result (λ rest. EntryRead setup.entry.now.settings.now setup.entry.now.network.now round.entry.now book.old book.new lanes.new sealed.new text.entry.now rest.now)
-        (StopsWithin setup.entry.now.settings.now setup.entry.now.network.now round.entry.now (journal_of book.old) text.entry.now) }
-{
     match lanes.stand(usize::from(lane)).pending {
         None => audit_plain(
             alloc, book, lanes, sealed, round, text, lane, between, setup,
@@ -82,7 +58,7 @@ fn audit_lane<'a, W: Ways, G: Gate>(
     }
 }
 
-/// The same where the lane waits for no close.
+/// The same for an entry of this lane, which waits for no close.
 fn audit_plain<'a, W: Ways, G: Gate>(
     alloc: Global,
     book: &mut Book,
@@ -111,7 +87,7 @@ fn audit_plain<'a, W: Ways, G: Gate>(
     }
 }
 
-/// The same where the lane waits for the close of its batch, which is the one that is sealed.
+/// The same for an entry of this lane, which waits for the close of its batch, the one that is sealed.
 fn audit_closing<'a, W: Ways, G: Gate>(
     rt: &(impl Threads + Sync),
     alloc: Global,

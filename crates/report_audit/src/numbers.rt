@@ -1,12 +1,12 @@
 //! That the numbers of commands and replies are within their types.
-ghost use Rattle.report_lines.specs.Command.{IsBatch, IsCommand, IsSecond};
+ghost use Rattle.report_lines.specs.Command.{IsBatch, IsCommand};
 ghost use Rattle.report_lines.specs.Reply.{IsReply, IsRefusal};
 ghost use Rattle.report_lines.specs.lemmas.Replies.{OrNone};
 ghost use Rattle.report_audit.specs.work.Taking.{TellsEnd};
 ghost use Rattle.report_lines.specs.Ids.{IsId};
 ghost use Rattle.request_book.specs.declared.reply.Reply.TheVariants.{Refused as RefusedFor};
 
-use pool_base::{Second, VehicleId};
+use pool_base::VehicleId;
 use request_book::{BookRefusal, Command, Reply};
 
 /// Each number of a command is within its type.
@@ -74,12 +74,16 @@ fn fits_refusal(refusal: &BookRefusal)
     ensures { IsRefusal refusal.now }
 {
     match refusal {
-        BookRefusal::IsAboard { vehicle } => fits_vehicle(*vehicle),
-        BookRefusal::Ended { .. } => {}
-        BookRefusal::TimeBack { last } => fits_second(*last),
-        BookRefusal::ClockBack { last } => fits_second(*last),
+        BookRefusal::IsAboard { vehicle } => {
+            let _number = vehicle.get();
+        }
+        BookRefusal::TimeBack { last } | BookRefusal::ClockBack { last } => {
+            let _number = last.get();
+        }
         BookRefusal::NotPromised { holder } => fits_holder(holder),
-        BookRefusal::BatchOpen { batch } => fits_batch(*batch),
+        BookRefusal::BatchOpen { batch } => {
+            let _number = *batch;
+        }
         BookRefusal::NotThisBatch { current } => fits_current(current),
         _ => {}
     }
@@ -89,7 +93,7 @@ fn fits_holder(holder: &Option<VehicleId>)
     ensures { OrNone IsId holder.now }
 {
     if let Some(vehicle) = holder {
-        fits_vehicle(*vehicle);
+        let _number = vehicle.get();
     }
 }
 
@@ -97,24 +101,6 @@ fn fits_current(current: &Option<u64>)
     ensures { OrNone IsBatch current.now }
 {
     if let Some(batch) = current {
-        fits_batch(*batch);
+        let _number = *batch;
     }
-}
-
-fn fits_vehicle(vehicle: VehicleId)
-    ensures { IsId vehicle }
-{
-    let _number = vehicle.get();
-}
-
-fn fits_second(second: Second)
-    ensures { IsSecond second }
-{
-    let _number = second.get();
-}
-
-fn fits_batch(batch: u64)
-    ensures { IsBatch batch }
-{
-    let _number = batch;
 }

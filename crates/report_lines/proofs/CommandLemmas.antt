@@ -23,24 +23,12 @@ use Rattle.request_book.specs.declared.reply.Reply.TheVariants.{Accepted, Cancel
 reply_letter : (reply : Reply) → is_ascii_digit (get_or (reply_text reply) 0 0) ≡ false
 unfolding numbered
 reply_letter Accepted = refl
-reply_letter Cancelled = refl
-reply_letter Placed = refl
-reply_letter Picked = refl
-reply_letter Dropped = refl
-reply_letter (Sealed batch) = refl
-reply_letter Closed = refl
-reply_letter (Refused refusal) = refl
+reply_letter _ = refl
 
 reply_some : (reply : Reply) → reply_text reply ≡ get_or (reply_text reply) 0 0 ∷ drop 1 (reply_text reply)
 unfolding numbered
 reply_some Accepted = refl
-reply_some Cancelled = refl
-reply_some Placed = refl
-reply_some Picked = refl
-reply_some Dropped = refl
-reply_some (Sealed batch) = refl
-reply_some Closed = refl
-reply_some (Refused refusal) = refl
+reply_some _ = refl
 
 -- no number stands before a reply
 reply_is_no_number : (reply : Reply) (n : ℕ) (rest : List ℕ) → n < 2 ^ 128 → spaced_reply reply ≡ spaced n ++ rest → ⊥

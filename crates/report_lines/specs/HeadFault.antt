@@ -1,5 +1,5 @@
 -- Why a text begins with no head.
-use Rattle.std.specs.Prelude.{◌≡◌, ℕ, ◌<◌, ◌^◌, ◌⊎◌, true, List, codes, length}
+use Rattle.std.specs.Prelude.{◌≡◌, ℕ, ◌+◌, ◌<◌, ◌^◌, ◌⊎◌, true, List, [], ◌∷◌, codes, length}
 use Rattle.dispatch_report.specs.Words.{numbered}
 use Rattle.report_lines.specs.Line.{IsFirstLine, Passes}
 use Rattle.report_lines.specs.Settings.{AreLawful}
@@ -10,61 +10,49 @@ use Rattle.report_lines.specs.HeadLines.{settings_text, AreSettings, sizes_text,
 use Rattle.report_lines.specs.declared.head_lines.SettingsText.{SettingsText}
 use Rattle.road_network.specs.Roads.{Roads}
 
--- the name of a report
-abbrev pub IsName : List ℕ → Type 0
-IsName line = line ≡ codes "ridepool report 1"
+-- a line of a head: the report's name, the settings, the sizes of a network with so many nodes and arcs, and a fleet of so
+-- many vehicles
+pub data HeadLine : Type 0 where
+  name : HeadLine
+  settings : HeadLine
+  sizes : ℕ × ℕ → HeadLine
+  fleet : ℕ → HeadLine
 
--- a line of settings
-abbrev pub TellsSettings : List ℕ → Type 0
-TellsSettings line = (s : SettingsText) × AreSettings s × (line ≡ settings_text s)
+-- a line has its form, whichever numbers it tells
+abbrev pub HasForm : HeadLine → List ℕ → Type 0
+HasForm HeadLine.name line = line ≡ codes "ridepool report 1"
+HasForm HeadLine.settings line = (s : SettingsText) × AreSettings s × (line ≡ settings_text s)
+HasForm (HeadLine.sizes own) line = (told : ℕ × ℕ) × AreSizes told × (line ≡ sizes_text told)
+HasForm (HeadLine.fleet own) line = (told : ℕ) × (told < 2 ^ 64) × (line ≡ numbered (codes "fleet vehicles=") told)
 
--- a line of settings that are lawful
-abbrev pub TellsLawful : List ℕ → Type 0
-TellsLawful line = (s : SettingsText) × AreSettings s × AreLawful s × (line ≡ settings_text s)
+-- a line tells what it must: of settings lawful ones, of a network and a fleet its own numbers
+abbrev pub Fits : HeadLine → List ℕ → Type 0
+Fits HeadLine.name line = line ≡ codes "ridepool report 1"
+Fits HeadLine.settings line = (s : SettingsText) × AreSettings s × AreLawful s × (line ≡ settings_text s)
+Fits (HeadLine.sizes own) line = line ≡ sizes_text own
+Fits (HeadLine.fleet own) line = line ≡ numbered (codes "fleet vehicles=") own
 
--- a line of a network's sizes
-abbrev pub TellsSizes : List ℕ → Type 0
-TellsSizes line = (sizes : ℕ × ℕ) × AreSizes sizes × (line ≡ sizes_text sizes)
+-- the first line of a text, which is the report's line of this number, fails: no line feed stands any more, or the line
+-- isn't of its form, or it is of its form and doesn't fit
+abbrev pub LineFails : HeadLine → ℕ → List ℕ → HeadFault → Type 0
+LineFails form number text (Cut line) = (line ≡ number) × (is_one_line text ≡ true)
+LineFails form number text (Form line) = (line ≡ number) × (first rest : List ℕ) × IsFirstLine text first rest × (HasForm form first → ⊥)
+LineFails form number text (Head line) = (line ≡ number) × (first rest : List ℕ) × IsFirstLine text first rest × HasForm form first × (Fits form first → ⊥)
+
+-- one of these lines fails, of which the first has this number, and those before it fit
+abbrev pub LinesFail : List HeadLine → ℕ → List ℕ → HeadFault → Type 0
+LinesFail [] number text fault = ⊥
+LinesFail (form ∷ forms) number text fault =
+    LineFails form number text fault ⊎ ((rest : List ℕ) × Passes (Fits form) text rest × LinesFail forms (number + 1) rest fault)
 
 -- how many nodes and arcs a network has
 abbrev pub sizes_of : Roads → ℕ × ℕ
 sizes_of roads = (length roads.nodes, length roads.arcs)
 
--- the line of these sizes
-abbrev pub TellsSizesOf : ℕ × ℕ → List ℕ → Type 0
-TellsSizesOf sizes line = line ≡ sizes_text sizes
+-- the lines of a head
+abbrev pub head_lines : ℕ × ℕ → ℕ → List HeadLine
+head_lines own vehicles = HeadLine.name ∷ HeadLine.settings ∷ HeadLine.sizes own ∷ HeadLine.fleet vehicles ∷ []
 
--- a line of a number of vehicles
-abbrev pub TellsFleet : List ℕ → Type 0
-TellsFleet line = (n : ℕ) × (n < 2 ^ 64) × (line ≡ numbered (codes "fleet vehicles=") n)
-
--- the line of this number of vehicles
-abbrev pub TellsFleetOf : ℕ → List ℕ → Type 0
-TellsFleetOf vehicles line = line ≡ numbered (codes "fleet vehicles=") vehicles
-
--- the first line of a text, which is the report's line of this number, fails: no line feed stands any more, or the line
--- isn't of its form, or it is of its form and doesn't fit
-abbrev pub LineFails : (List ℕ → Type 0) → (List ℕ → Type 0) → ℕ → List ℕ → HeadFault → Type 0
-LineFails IsForm Fits number text (Cut line) = (line ≡ number) × (is_one_line text ≡ true)
-LineFails IsForm Fits number text (Form line) = (line ≡ number) × (first rest : List ℕ) × IsFirstLine text first rest × (IsForm first → ⊥)
-LineFails IsForm Fits number text (Head line) = (line ≡ number) × (first rest : List ℕ) × IsFirstLine text first rest × IsForm first × (Fits first → ⊥)
-
--- the first line fits, and what follows it fails
-abbrev pub FailsBehind : (List ℕ → Type 0) → (List ℕ → HeadFault → Type 0) → List ℕ → HeadFault → Type 0
-FailsBehind Fits FailsNext text fault = (rest : List ℕ) × Passes Fits text rest × FailsNext rest fault
-
--- the fourth line fails
-abbrev pub FleetFails : ℕ → List ℕ → HeadFault → Type 0
-FleetFails vehicles = LineFails TellsFleet (TellsFleetOf vehicles) 4
-
--- the third line fails, or it fits and the fourth fails
-abbrev pub SizesFail : ℕ × ℕ → ℕ → List ℕ → HeadFault → Type 0
-SizesFail sizes vehicles text fault = LineFails TellsSizes (TellsSizesOf sizes) 3 text fault ⊎ FailsBehind (TellsSizesOf sizes) (FleetFails vehicles) text fault
-
--- the second line fails, or it fits and one behind it fails
-abbrev pub SettingsFail : ℕ × ℕ → ℕ → List ℕ → HeadFault → Type 0
-SettingsFail sizes vehicles text fault = LineFails TellsSettings TellsLawful 2 text fault ⊎ FailsBehind TellsLawful (SizesFail sizes vehicles) text fault
-
--- the first line fails, or it fits and one behind it fails
+-- a line of the head fails
 abbrev pub HeadFails : Roads → ℕ → List ℕ → HeadFault → Type 0
-HeadFails roads vehicles text fault = LineFails IsName IsName 1 text fault ⊎ FailsBehind IsName (SettingsFail (sizes_of roads) vehicles) text fault
+HeadFails roads vehicles = LinesFail (head_lines (sizes_of roads) vehicles) 1

@@ -3,52 +3,41 @@ use Rattle.std.specs.Prelude.{ℕ, ◌==◌, Bool, true, ◌&&◌, List, [], ◌
 use Rattle.report_lines.specs.declared.block_line.BlockLine.{BlockLine}
 use Rattle.report_lines.specs.declared.block_line.BlockLine.TheVariants.{Batch, Expired, Overflow, Lapsed, Late, Alone, Shared, Row, Trip, Out, Move, Cost, Bound, Nodes, Branch, Leaf, Dead, End}
 
--- the place of a kind in a block; before the first line it is 0
-abbrev pub kind_place : BlockLine → ℕ
-kind_place (Batch n) = 1
-kind_place (Expired rider) = 2
-kind_place (Lapsed rider) = 3
-kind_place (Late late) = 4
-kind_place (Alone pair) = 5
-kind_place (Shared pair) = 6
-kind_place (Row row) = 7
-kind_place (Trip trip) = 8
-kind_place (Out rider) = 9
-kind_place (Move m) = 10
-kind_place (Cost n) = 11
-kind_place (Bound z) = 12
-kind_place (Nodes n) = 13
-kind_place (Branch branch) = 14
-kind_place (Leaf multipliers) = 14
-kind_place Dead = 14
-kind_place Overflow = 15
-kind_place End = 16
+-- a number that is this one, and one from one to another
+abbrev pub is_at : ℕ → ℕ → Bool
+is_at one n = n == one
 
--- a number from one to another
 abbrev pub is_between : ℕ → ℕ → ℕ → Bool
 is_between low high n = nat_le low n && nat_le n high
 
--- whether a line may follow one of this place: the number comes first, overflow stands in the place of a plan, cost,
--- bound and number of nodes stand once and one behind the other, and the lists before them stand in their order
+-- after which places a line may follow, and the place of its kind; before the first line it is 0. The number comes first,
+-- overflow stands in the place of a plan, cost, bound and number of nodes stand once and one behind the other, and the
+-- lists before them stand in their order
+abbrev pub order_of : BlockLine → (ℕ → Bool) × ℕ
+order_of (Batch n) = (is_at 0, 1)
+order_of (Expired rider) = (is_between 1 2, 2)
+order_of (Lapsed rider) = (is_between 1 3, 3)
+order_of (Late late) = (is_between 1 4, 4)
+order_of (Alone pair) = (is_between 1 5, 5)
+order_of (Shared pair) = (is_between 1 6, 6)
+order_of (Row row) = (is_between 1 7, 7)
+order_of (Trip trip) = (is_between 1 8, 8)
+order_of (Out rider) = (is_between 1 9, 9)
+order_of (Move m) = (is_between 1 10, 10)
+order_of (Cost n) = (is_between 1 10, 11)
+order_of (Bound z) = (is_at 11, 12)
+order_of (Nodes n) = (is_at 12, 13)
+order_of (Branch branch) = (is_between 13 14, 14)
+order_of (Leaf multipliers) = (is_between 13 14, 14)
+order_of Dead = (is_between 13 14, 14)
+order_of Overflow = (is_between 1 2, 15)
+order_of End = (is_between 13 15, 16)
+
+abbrev pub kind_place : BlockLine → ℕ
+kind_place line = (order_of line).1
+
 abbrev pub may_follow_at : ℕ → BlockLine → Bool
-may_follow_at place (Batch n) = place == 0
-may_follow_at place Overflow = is_between 1 2 place
-may_follow_at place (Bound z) = place == 11
-may_follow_at place (Nodes n) = place == 12
-may_follow_at place (Branch branch) = is_between 13 14 place
-may_follow_at place (Leaf multipliers) = is_between 13 14 place
-may_follow_at place Dead = is_between 13 14 place
-may_follow_at place End = is_between 13 15 place
-may_follow_at place (Cost n) = is_between 1 10 place
-may_follow_at place (Expired rider) = is_between 1 2 place
-may_follow_at place (Lapsed rider) = is_between 1 3 place
-may_follow_at place (Late late) = is_between 1 4 place
-may_follow_at place (Alone pair) = is_between 1 5 place
-may_follow_at place (Shared pair) = is_between 1 6 place
-may_follow_at place (Row row) = is_between 1 7 place
-may_follow_at place (Trip trip) = is_between 1 8 place
-may_follow_at place (Out rider) = is_between 1 9 place
-may_follow_at place (Move m) = is_between 1 10 place
+may_follow_at place line = (order_of line).0 place
 
 -- whether each line may follow the one before it
 abbrev pub follow_on : ℕ → List BlockLine → Bool

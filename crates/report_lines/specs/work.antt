@@ -2,8 +2,8 @@
 pub mod Stops
 pub mod Late
 pub mod LineKinds
-pub mod HeadLines
 pub mod Settings
+pub mod Head
 pub mod Told
 pub mod Replies
 pub mod Commands

@@ -1,7 +1,7 @@
 ghost use Rattle.std.specs.Prelude.{◌≡◌, ◌≢◌, ℕ, ◌≤◌, ◌<◌, List, ◌++◌, MatchOption, IfOk, codes};
 ghost use Rattle.report_lines.specs.Reading.{IsReadAs};
 ghost use Rattle.report_lines.specs.BlockLine.{block_line_text, IsBlockLine};
-ghost use Rattle.report_lines.specs.work.LineKinds.{IsWordLine, IsCountLine, IsRiderLine, IsGraphLine, IsListLine, IsPlanLine};
+ghost use Rattle.report_lines.specs.work.LineKinds.{IsPlainLine, IsPairLine, IsListLine};
 
 use crate::late::{LateText, read_late};
 use crate::leaf::read_leaf;
@@ -52,19 +52,10 @@ pub enum BlockLine {
 pub fn read_block_line(alloc: Global, line: &[u8]) -> Result<Option<BlockLine>, OutOfMemory>
     ensures { IfOk result (λ found. IsReadAs block_line_text IsBlockLine line.now found) }
 {
-    if let Some(found) = read_word_line(line) {
+    if let Some(found) = read_plain_line(line) {
         return Ok(Some(found));
     }
-    if let Some(found) = read_count_line(line) {
-        return Ok(Some(found));
-    }
-    if let Some(found) = read_rider_line(line) {
-        return Ok(Some(found));
-    }
-    if let Some(found) = read_graph_line(line) {
-        return Ok(Some(found));
-    }
-    if let Some(found) = read_plan_line(line) {
+    if let Some(found) = read_pair_line(line) {
         return Ok(Some(found));
     }
     read_list_line(alloc, line)
@@ -89,9 +80,9 @@ fn read_list_line(alloc: Global, line: &[u8]) -> Result<Option<BlockLine>, OutOf
     }
 }
 
-/// A line that is a word.
-fn read_word_line(line: &[u8]) -> Option<BlockLine>
-    ensures { IsReadAs block_line_text IsWordLine line.now result }
+/// A line that is a word, or has one number.
+fn read_plain_line(line: &[u8]) -> Option<BlockLine>
+    ensures { IsReadAs block_line_text IsPlainLine line.now result }
 {
     if is_words(line, b"overflow") {
         return Some(BlockLine::Overflow);
@@ -102,13 +93,6 @@ fn read_word_line(line: &[u8]) -> Option<BlockLine>
     if is_words(line, b"end") {
         return Some(BlockLine::End);
     }
-    None
-}
-
-/// A line of one number.
-fn read_count_line(line: &[u8]) -> Option<BlockLine>
-    ensures { IsReadAs block_line_text IsCountLine line.now result }
-{
     if let Some(batch) = read_numbered(line, b"batch ", u64::MAX) {
         return Some(BlockLine::Batch(batch));
     }
@@ -118,16 +102,9 @@ fn read_count_line(line: &[u8]) -> Option<BlockLine>
     if let Some(nodes) = read_numbered(line, b"nodes ", u64::MAX) {
         return Some(BlockLine::Nodes(nodes));
     }
-    match read_signed(line, b"bound ") {
-        Some(bound) => Some(BlockLine::Bound(bound)),
-        None => None,
+    if let Some(bound) = read_signed(line, b"bound ") {
+        return Some(BlockLine::Bound(bound));
     }
-}
-
-/// A line of one rider.
-fn read_rider_line(line: &[u8]) -> Option<BlockLine>
-    ensures { IsReadAs block_line_text IsRiderLine line.now result }
-{
     if let Some(expired) = read_rider(line, b"expired ") {
         return Some(BlockLine::Expired(expired));
     }
@@ -140,23 +117,16 @@ fn read_rider_line(line: &[u8]) -> Option<BlockLine>
     }
 }
 
-/// A line that says who can ride.
-fn read_graph_line(line: &[u8]) -> Option<BlockLine>
-    ensures { IsReadAs block_line_text IsGraphLine line.now result }
+/// A line of two numbers or three.
+fn read_pair_line(line: &[u8]) -> Option<BlockLine>
+    ensures { IsReadAs block_line_text IsPairLine line.now result }
 {
     if let Some(alone) = read_rv(line) {
         return Some(BlockLine::Alone(alone));
     }
-    match read_rr(line) {
-        Some(shared) => Some(BlockLine::Shared(shared)),
-        None => None,
+    if let Some(shared) = read_rr(line) {
+        return Some(BlockLine::Shared(shared));
     }
-}
-
-/// A line that says where an idle vehicle goes, or where a tree branches.
-fn read_plan_line(line: &[u8]) -> Option<BlockLine>
-    ensures { IsReadAs block_line_text IsPlanLine line.now result }
-{
     if let Some(move_line) = read_move(line) {
         return Some(BlockLine::Move(move_line));
     }

@@ -1,10 +1,12 @@
-ghost use Rattle.std.specs.Prelude.{◌≡◌, ℕ, ◌≤◌, List, IfOk, IfErr};
-ghost use Rattle.report_lines.specs.HeadFault.{HeadFails, sizes_of};
+ghost use Rattle.std.specs.Prelude.{◌≡◌, ℕ, ◌≤◌, List, IfOk, IfErr, MatchResult};
+ghost use Rattle.report_lines.specs.HeadFault.{HeadFails, LinesFail, head_lines, sizes_of};
 ghost use Rattle.report_lines.specs.Head.{BeginsWithHead};
 ghost use Rattle.report_lines.specs.HeadLines.{AreSizes};
+ghost use Rattle.report_lines.specs.work.Head.{HasHead};
 ghost use Rattle.rider_limits.specs.declared.settings.Settings.{Settings};
 
 use crate::head_fault::HeadFault;
+use crate::head_lines::SettingsText;
 use crate::head_parts::{fleet_behind, name_behind, settings_first, sizes_behind};
 use crate::settings::settings_of;
 use rider_limits::Settings;
@@ -28,11 +30,26 @@ pub fn read_head<'a>(
     ensures fault { IfErr result (λ fault. HeadFails network.now vehicles text.now fault) }
 {
     let (nodes, arcs) = sizes_of(network);
+    match head_behind(text, nodes, arcs, vehicles) {
+        Ok((told, rest)) => Ok((settings_of(&told, workers), rest)),
+        Err(fault) => Err(fault),
+    }
+}
+
+/// The numbers of the settings that a head tells, and what follows the head.
+fn head_behind(
+    text: &[u8],
+    nodes: u64,
+    arcs: u64,
+    vehicles: u64,
+) -> Result<(SettingsText, &[u8]), HeadFault>
+    ensures { MatchResult result (λ r. HasHead r.0 (nodes, arcs) vehicles text.now r.1.now) (LinesFail (head_lines (nodes, arcs) vehicles) 1 text.now) }
+{
     let after_name = name_behind(text)?;
     let (told, after_settings) = settings_first(after_name)?;
     let after_sizes = sizes_behind(after_settings, nodes, arcs)?;
     let rest = fleet_behind(after_sizes, vehicles)?;
-    Ok((settings_of(&told, workers), rest))
+    Ok((told, rest))
 }
 
 /// How many nodes and arcs a network has.

@@ -1,8 +1,7 @@
-ghost use Rattle.std.specs.Prelude.{◌≡◌, ◌≢◌, ℕ, ◌≤◌, ◌<◌, ◌^◌, List, ◌++◌, MatchOption, codes};
+ghost use Rattle.std.specs.Prelude.{◌≡◌, ◌≢◌, ℕ, ◌≤◌, ◌<◌, ◌^◌, List};
 ghost use Rattle.report_lines.specs.HeadLines.{settings_text, AreSettings, sizes_text, AreSizes, IsShortNumber};
-ghost use Rattle.report_lines.specs.Reading.{BeginsWith, BeginsWithNone, IsReadAs};
+ghost use Rattle.report_lines.specs.Reading.{IsReadAs};
 ghost use Rattle.report_lines.specs.lemmas.HeadLines.{dwell_text};
-ghost use Rattle.report_lines.specs.work.HeadLines.{limits_text, costs_text, AreThree};
 
 use crate::words::{numbered_first, read_numbered};
 
@@ -24,25 +23,37 @@ pub struct SettingsText {
 pub fn read_settings(line: &[u8]) -> Option<SettingsText>
     ensures { IsReadAs settings_text AreSettings line.now result }
 {
-    let Some((limits, after_limits)) = limits_first(line) else {
+    let Some((wait, after_wait)) = numbered_first(line, b"settings wait=", MOST) else {
         return None;
     };
-    let Some((costs, after_costs)) = costs_first(after_limits) else {
+    let Some((delay, after_delay)) = numbered_first(after_wait, b" delay=", MOST) else {
         return None;
     };
-    let Some((proof, rest)) = numbered_first(after_costs, b" proof=", MOST) else {
+    let Some((trip, after_trip)) = numbered_first(after_delay, b" trip=", MOST) else {
+        return None;
+    };
+    let Some((penalty, after_penalty)) = numbered_first(after_trip, b" penalty=", MOST) else {
+        return None;
+    };
+    let Some((budget, after_budget)) = numbered_first(after_penalty, b" budget=", MOST) else {
+        return None;
+    };
+    let Some((pairs, after_pairs)) = numbered_first(after_budget, b" pairs=", MOST) else {
+        return None;
+    };
+    let Some((proof, rest)) = numbered_first(after_pairs, b" proof=", MOST) else {
         return None;
     };
     let Some(dwell) = read_dwell(rest) else {
         return None;
     };
     Some(SettingsText {
-        wait: limits.0.0,
-        delay: limits.0.1,
-        trip: limits.1,
-        penalty: costs.0.0,
-        budget: costs.0.1,
-        pairs: costs.1,
+        wait,
+        delay,
+        trip,
+        penalty,
+        budget,
+        pairs,
         proof,
         dwell,
     })
@@ -63,38 +74,6 @@ pub fn read_sizes(line: &[u8]) -> Option<(u64, u64)>
 
 /// The greatest number of a line of settings.
 const MOST: u64 = u32::MAX as u64;
-
-/// The time limits and the most riders of a trip.
-fn limits_first(text: &[u8]) -> Option<(((u64, u64), u64), &[u8])>
-    ensures { MatchOption result (BeginsWithNone limits_text AreThree text.now) (λ r. BeginsWith limits_text AreThree text.now r.0 r.1.now) }
-{
-    let Some((wait, after_wait)) = numbered_first(text, b"settings wait=", MOST) else {
-        return None;
-    };
-    let Some((delay, after_delay)) = numbered_first(after_wait, b" delay=", MOST) else {
-        return None;
-    };
-    let Some((trip, rest)) = numbered_first(after_delay, b" trip=", MOST) else {
-        return None;
-    };
-    Some((((wait, delay), trip), rest))
-}
-
-/// The penalty and the limits of the search.
-fn costs_first(text: &[u8]) -> Option<(((u64, u64), u64), &[u8])>
-    ensures { MatchOption result (BeginsWithNone costs_text AreThree text.now) (λ r. BeginsWith costs_text AreThree text.now r.0 r.1.now) }
-{
-    let Some((penalty, after_penalty)) = numbered_first(text, b" penalty=", MOST) else {
-        return None;
-    };
-    let Some((budget, after_budget)) = numbered_first(after_penalty, b" budget=", MOST) else {
-        return None;
-    };
-    let Some((pairs, rest)) = numbered_first(after_budget, b" pairs=", MOST) else {
-        return None;
-    };
-    Some((((penalty, budget), pairs), rest))
-}
 
 /// The dwell, where one is told.
 fn read_dwell(text: &[u8]) -> Option<u64>

@@ -1,111 +1,20 @@
 -- The line of the settings.
-use Rattle.std.proofs.Common.{◌≡◌, ◌≢◌, ℕ, zero, suc, ◌≤◌, ◌==◌, Bool, true, false, if◌then◌else◌, nat_eq, get_or, length, codes, List, [], refl, sym, ap, ◌∙◌, append-nil, ne_eqb, arith}
+use Rattle.std.proofs.Common.{◌≡◌, ◌≢◌, ℕ, zero, suc, ◌≤◌, ◌==◌, Bool, true, false, not, if◌then◌else◌, nat_eq, get_or, length, codes, List, [], ◌∷◌, ◌++◌, refl, sym, ap, ◌∙◌, append-nil, append_assoc, ne_eqb, arith}
+use Rattle.std.specs.Char.{is_ascii_digit}
+use Rattle.std.proofs.lemmas.Bool.{and_parts}
 use Rattle.dispatch_report.specs.Words.{numbered}
 use Rattle.report_lines.specs.HeadLines.{IsShortNumber, settings_text, AreSettings}
 use Rattle.report_lines.specs.Reading.{BeginsWith, BeginsWithNone, ends_number}
 use Rattle.report_lines.specs.declared.head_lines.SettingsText.{SettingsText}
-use Rattle.report_lines.specs.Both.{both_texts, BothAre}
 use Rattle.report_lines.specs.lemmas.HeadLines.{dwell_text}
-use Rattle.report_lines.specs.work.HeadLines.{limits_text, costs_text, AreThree}
-use Rattle.report_lines.proofs.lemmas.ReadingLemmas.{EndsOnce, StandsApart, both_none_first, both_none_second, both_some, both_once, numbered_once, head_none, tail_none}
+use Rattle.report_lines.proofs.lemmas.ReadingLemmas.{EndsOnce, TextIsOfOne, numbered_once, of_one}
 
 short_once : (words : List ℕ) → EndsOnce (numbered words) IsShortNumber
 short_once words = numbered_once words 4294967295 (omega arith)
 
-delay_apart : StandsApart (numbered (codes " delay="))
-unfolding numbered
-delay_apart n rest ends = refl
-
-trip_apart : StandsApart (numbered (codes " trip="))
-unfolding numbered
-trip_apart n rest ends = refl
-
-budget_apart : StandsApart (numbered (codes " budget="))
-unfolding numbered
-budget_apart n rest ends = refl
-
-pairs_apart : StandsApart (numbered (codes " pairs="))
-unfolding numbered
-pairs_apart n rest ends = refl
-
-proof_apart : StandsApart (numbered (codes " proof="))
-unfolding numbered
-proof_apart n rest ends = refl
-
-costs_apart : StandsApart costs_text
-unfolding numbered
-costs_apart p rest ends = refl
-
 pub arcs_end : (n : ℕ) → ends_number (numbered (codes " arcs=") n) ≡ true
 unfolding numbered
 arcs_end n = refl
-
--- three numbers behind words
-module _ (first second third : List ℕ) (apart_second : StandsApart (numbered second)) (apart_third : StandsApart (numbered third)) (text : List ℕ) where
-  pub three_no_first : BeginsWithNone (numbered first) IsShortNumber text → BeginsWithNone (both_texts (both_texts (numbered first) (numbered second)) (numbered third)) AreThree text
-  three_no_first none =
-      both_none_first (both_texts (numbered first) (numbered second)) (BothAre IsShortNumber IsShortNumber) (numbered third) IsShortNumber apart_third text
-      (both_none_first (numbered first) IsShortNumber (numbered second) IsShortNumber apart_second text none)
-
-  pub three_no_second : (a : ℕ) (after : List ℕ) → BeginsWith (numbered first) IsShortNumber text a after → BeginsWithNone (numbered second) IsShortNumber after → BeginsWithNone (both_texts (both_texts (numbered first) (numbered second)) (numbered third)) AreThree text
-  three_no_second a after b none =
-      both_none_first (both_texts (numbered first) (numbered second)) (BothAre IsShortNumber IsShortNumber) (numbered third) IsShortNumber apart_third text
-      (both_none_second (numbered first) IsShortNumber (numbered second) IsShortNumber apart_second text a after (short_once first) b none)
-
-  pub three_no_third : (a : ℕ) (after : List ℕ) (d : ℕ) (last : List ℕ) → BeginsWith (numbered first) IsShortNumber text a after → BeginsWith (numbered second) IsShortNumber after d last → BeginsWithNone (numbered third) IsShortNumber last → BeginsWithNone (both_texts (both_texts (numbered first) (numbered second)) (numbered third)) AreThree text
-  three_no_third a after d last b bd none =
-      both_none_second (both_texts (numbered first) (numbered second)) (BothAre IsShortNumber IsShortNumber) (numbered third) IsShortNumber apart_third text (a, d) last
-      (both_once (numbered first) IsShortNumber (numbered second) IsShortNumber apart_second (short_once first) (short_once second))
-      (both_some (numbered first) IsShortNumber (numbered second) IsShortNumber apart_second text a after d last b bd) none
-
-three_once : (first second third : List ℕ) → StandsApart (numbered second) → StandsApart (numbered third) → EndsOnce (both_texts (both_texts (numbered first) (numbered second)) (numbered third)) AreThree
-three_once first second third apart_second apart_third =
-    both_once (both_texts (numbered first) (numbered second)) (BothAre IsShortNumber IsShortNumber) (numbered third) IsShortNumber apart_third
-    (both_once (numbered first) IsShortNumber (numbered second) IsShortNumber apart_second (short_once first) (short_once second)) (short_once third)
-
-pub limits_once : EndsOnce limits_text AreThree
-limits_once = three_once (codes "settings wait=") (codes " delay=") (codes " trip=") delay_apart trip_apart
-
-pub costs_once : EndsOnce costs_text AreThree
-costs_once = three_once (codes " penalty=") (codes " budget=") (codes " pairs=") budget_apart pairs_apart
-
-module _ (text : List ℕ) where
-  pub limits_no_wait : BeginsWithNone (numbered (codes "settings wait=")) IsShortNumber text → BeginsWithNone limits_text AreThree text
-  limits_no_wait = three_no_first (codes "settings wait=") (codes " delay=") (codes " trip=") delay_apart trip_apart text
-
-  pub limits_no_delay : (a : ℕ) (after : List ℕ) → BeginsWith (numbered (codes "settings wait=")) IsShortNumber text a after → BeginsWithNone (numbered (codes " delay=")) IsShortNumber after → BeginsWithNone limits_text AreThree text
-  limits_no_delay = three_no_second (codes "settings wait=") (codes " delay=") (codes " trip=") delay_apart trip_apart text
-
-  pub limits_no_trip : (a : ℕ) (after : List ℕ) (d : ℕ) (last : List ℕ) → BeginsWith (numbered (codes "settings wait=")) IsShortNumber text a after → BeginsWith (numbered (codes " delay=")) IsShortNumber after d last → BeginsWithNone (numbered (codes " trip=")) IsShortNumber last → BeginsWithNone limits_text AreThree text
-  limits_no_trip = three_no_third (codes "settings wait=") (codes " delay=") (codes " trip=") delay_apart trip_apart text
-
-  pub costs_no_penalty : BeginsWithNone (numbered (codes " penalty=")) IsShortNumber text → BeginsWithNone costs_text AreThree text
-  costs_no_penalty = three_no_first (codes " penalty=") (codes " budget=") (codes " pairs=") budget_apart pairs_apart text
-
-  pub costs_no_budget : (a : ℕ) (after : List ℕ) → BeginsWith (numbered (codes " penalty=")) IsShortNumber text a after → BeginsWithNone (numbered (codes " budget=")) IsShortNumber after → BeginsWithNone costs_text AreThree text
-  costs_no_budget = three_no_second (codes " penalty=") (codes " budget=") (codes " pairs=") budget_apart pairs_apart text
-
-  pub costs_no_pairs : (a : ℕ) (after : List ℕ) (d : ℕ) (last : List ℕ) → BeginsWith (numbered (codes " penalty=")) IsShortNumber text a after → BeginsWith (numbered (codes " budget=")) IsShortNumber after d last → BeginsWithNone (numbered (codes " pairs=")) IsShortNumber last → BeginsWithNone costs_text AreThree text
-  costs_no_pairs = three_no_third (codes " penalty=") (codes " budget=") (codes " pairs=") budget_apart pairs_apart text
-
--- the three parts of a line, before the dwell
-abbrev parts_text : (((ℕ × ℕ) × ℕ) × ((ℕ × ℕ) × ℕ)) × ℕ → List ℕ
-parts_text = both_texts (both_texts limits_text costs_text) (numbered (codes " proof="))
-
-abbrev AreParts : (((ℕ × ℕ) × ℕ) × ((ℕ × ℕ) × ℕ)) × ℕ → Type 0
-AreParts = BothAre (BothAre AreThree AreThree) IsShortNumber
-
-abbrev parts_of : SettingsText → (((ℕ × ℕ) × ℕ) × ((ℕ × ℕ) × ℕ)) × ℕ
-parts_of s = ((((s.wait, s.delay), s.trip), ((s.penalty, s.budget), s.pairs)), s.proof)
-
-are_parts : (s : SettingsText) → AreSettings s → AreParts (parts_of s)
-are_parts s is = ((((is.wait, is.delay), is.trip), ((is.penalty, is.budget), is.pairs)), is.proof)
-
-both_parts_once : EndsOnce (both_texts limits_text costs_text) (BothAre AreThree AreThree)
-both_parts_once = both_once limits_text AreThree costs_text AreThree costs_apart limits_once costs_once
-
-parts_once : EndsOnce parts_text AreParts
-parts_once = both_once (both_texts limits_text costs_text) (BothAre AreThree AreThree) (numbered (codes " proof=")) IsShortNumber proof_apart both_parts_once (short_once (codes " proof="))
 
 dwell_first : (dwell : ℕ) → ends_number (numbered (codes " dwell=") dwell) ≡ true
 unfolding numbered
@@ -118,49 +27,13 @@ dwell_ends dwell = by (dwell == 0)
     by true = refl
     by false = dwell_first dwell
 
-module _ (line : List ℕ) where
-  parts_none : BeginsWithNone parts_text AreParts line → (s : SettingsText) → AreSettings s → line ≢ settings_text s
-  parts_none none s is e = head_none parts_text AreParts dwell_text line none (parts_of s) s.dwell (are_parts s is) (dwell_ends s.dwell) e
-
-  pub settings_no_limits : BeginsWithNone limits_text AreThree line → (s : SettingsText) → AreSettings s → line ≢ settings_text s
-  settings_no_limits none =
-      parts_none
-      (both_none_first (both_texts limits_text costs_text) (BothAre AreThree AreThree) (numbered (codes " proof=")) IsShortNumber proof_apart line
-      (both_none_first limits_text AreThree costs_text AreThree costs_apart line none))
-
-  module _ (limits : (ℕ × ℕ) × ℕ) (after : List ℕ) (has_limits : BeginsWith limits_text AreThree line limits after) where
-    pub settings_no_costs : BeginsWithNone costs_text AreThree after → (s : SettingsText) → AreSettings s → line ≢ settings_text s
-    settings_no_costs none =
-        parts_none
-        (both_none_first (both_texts limits_text costs_text) (BothAre AreThree AreThree) (numbered (codes " proof=")) IsShortNumber proof_apart line
-        (both_none_second limits_text AreThree costs_text AreThree costs_apart line limits after limits_once has_limits none))
-
-    module _ (costs : (ℕ × ℕ) × ℕ) (behind : List ℕ) (has_costs : BeginsWith costs_text AreThree after costs behind) where
-      pub settings_no_proof : BeginsWithNone (numbered (codes " proof=")) IsShortNumber behind → (s : SettingsText) → AreSettings s → line ≢ settings_text s
-      settings_no_proof none =
-          parts_none
-          (both_none_second (both_texts limits_text costs_text) (BothAre AreThree AreThree) (numbered (codes " proof=")) IsShortNumber proof_apart line (limits, costs) behind both_parts_once
-          (both_some limits_text AreThree costs_text AreThree costs_apart line limits after costs behind has_limits has_costs) none)
-
-      module _ (proof : ℕ) (rest : List ℕ) (has_proof : BeginsWith (numbered (codes " proof=")) IsShortNumber behind proof rest) where
-        pub settings_parts : BeginsWith parts_text AreParts line ((limits, costs), proof) rest
-        settings_parts =
-            both_some (both_texts limits_text costs_text) (BothAre AreThree AreThree) (numbered (codes " proof=")) IsShortNumber proof_apart line (limits, costs) behind proof rest
-            (both_some limits_text AreThree costs_text AreThree costs_apart line limits after costs behind has_limits has_costs) has_proof
-
-        pub settings_no_dwell : ((dwell : ℕ) → IsShortNumber dwell → rest ≢ dwell_text dwell) → (s : SettingsText) → AreSettings s → line ≢ settings_text s
-        settings_no_dwell none s is e =
-            tail_none parts_text AreParts dwell_text line parts_once ((limits, costs), proof) rest settings_parts (parts_of s) s.dwell (are_parts s is) (dwell_ends s.dwell) (none s.dwell is.dwell) e
-
-pub limits_some : (text : List ℕ) (a : ℕ) (after : List ℕ) (d : ℕ) (last : List ℕ) (k : ℕ) (rest : List ℕ) → BeginsWith (numbered (codes "settings wait=")) IsShortNumber text a after → BeginsWith (numbered (codes " delay=")) IsShortNumber after d last → BeginsWith (numbered (codes " trip=")) IsShortNumber last k rest → BeginsWith limits_text AreThree text ((a, d), k) rest
-limits_some text a after d last k rest ba bd bk =
-    both_some (both_texts (numbered (codes "settings wait=")) (numbered (codes " delay="))) (BothAre IsShortNumber IsShortNumber) (numbered (codes " trip=")) IsShortNumber trip_apart text (a, d) last k rest
-    (both_some (numbered (codes "settings wait=")) IsShortNumber (numbered (codes " delay=")) IsShortNumber delay_apart text a after d last ba bd) bk
-
 dwell_told : (dwell : ℕ) → dwell ≢ 0 → dwell_text dwell ≡ numbered (codes " dwell=") dwell
 dwell_told dwell some =
     let text : Bool → List ℕ = λ none. if none then [] else numbered (codes " dwell=") dwell in
     ap text (ne_eqb dwell 0 some)
+
+dwell_number : TextIsOfOne (numbered (codes " dwell=")) IsShortNumber
+dwell_number = of_one (numbered (codes " dwell=")) IsShortNumber (short_once (codes " dwell="))
 
 -- no dwell is told as 0
 pub dwell_not_zero : (text : List ℕ) (told : ℕ) → nat_eq (length text) 0 ≡ false → told ≡ 0 → text ≡ numbered (codes " dwell=") told → (dwell : ℕ) → IsShortNumber dwell → text ≢ dwell_text dwell
@@ -170,10 +43,8 @@ dwell_not_zero text told some zero_told is zero within e =
     cc
 dwell_not_zero text told some zero_told is (suc dwell) within e =
     let told_so : dwell_text (suc dwell) ≡ numbered (codes " dwell=") (suc dwell) = dwell_told (suc dwell) (λ z. omega arith) in
-    let here : BeginsWith (numbered (codes " dwell=")) IsShortNumber text (suc dwell) [] = record { whole = e ∙ told_so ∙ sym (append-nil (numbered (codes " dwell=") (suc dwell))); lawful = within; ends = refl } in
     let small : told ≤ 4294967295 = omega arith in
-    let there : BeginsWith (numbered (codes " dwell=")) IsShortNumber text told [] = record { whole = is ∙ sym (append-nil (numbered (codes " dwell=") told)); lawful = small; ends = refl } in
-    let same : suc dwell ≡ told = (short_once (codes " dwell=") text (suc dwell) told [] [] here there).0 in
+    let same : suc dwell ≡ told = dwell_number (suc dwell) told within small (sym told_so ∙ sym e ∙ is) in
     omega arith
 
 -- no dwell is told by nothing
@@ -189,22 +60,116 @@ dwell_of_one zero zero ia ib e = refl
 dwell_of_one zero (suc b) ia ib e = absurd (no_dwell_told (suc b) (e ∙ dwell_told (suc b) (λ z. omega arith)))
 dwell_of_one (suc a) zero ia ib e = absurd (no_dwell_told (suc a) (sym e ∙ dwell_told (suc a) (λ z. omega arith)))
 dwell_of_one (suc a) (suc b) ia ib e =
-    let same : numbered (codes " dwell=") (suc a) ≡ numbered (codes " dwell=") (suc b) = sym (dwell_told (suc a) (λ z. omega arith)) ∙ e ∙ dwell_told (suc b) (λ z. omega arith) in
-    let here : BeginsWith (numbered (codes " dwell=")) IsShortNumber (numbered (codes " dwell=") (suc a)) (suc a) [] = record { whole = sym (append-nil (numbered (codes " dwell=") (suc a))); lawful = ia; ends = refl } in
-    let there : BeginsWith (numbered (codes " dwell=")) IsShortNumber (numbered (codes " dwell=") (suc a)) (suc b) [] = record { whole = same ∙ sym (append-nil (numbered (codes " dwell=") (suc b))); lawful = ib; ends = refl } in
-    (short_once (codes " dwell=") (numbered (codes " dwell=") (suc a)) (suc a) (suc b) [] [] here there).0
+    dwell_number (suc a) (suc b) ia ib (sym (dwell_told (suc a) (λ z. omega arith)) ∙ e ∙ dwell_told (suc b) (λ z. omega arith))
+
+-- a number for each of the words
+abbrev pub Numbers : List (List ℕ) → Type 0
+Numbers [] = Unit {0}
+Numbers (w ∷ ws) = ℕ × Numbers ws
+
+abbrev pub AreShort : (ws : List (List ℕ)) → Numbers ws → Type 0
+AreShort [] ns = Unit {0}
+AreShort (w ∷ ws) ns = IsShortNumber ns.0 × AreShort ws ns.1
+
+-- the numbers, each behind its words, and then the dwell
+abbrev pub fields_text : (ws : List (List ℕ)) → Numbers ws → ℕ → List ℕ
+fields_text [] ns dwell = dwell_text dwell
+fields_text (w ∷ ws) ns dwell = numbered w ns.0 ++ fields_text ws ns.1 dwell
+
+-- none of the words is empty, or begins with a digit
+abbrev pub are_apart : List (List ℕ) → Bool
+are_apart [] = true
+are_apart ([] ∷ ws) = false
+are_apart ((c ∷ cs) ∷ ws) = if is_ascii_digit c then false else are_apart ws
+
+apart_behind : (w : List ℕ) (ws : List (List ℕ)) → are_apart (w ∷ ws) ≡ true → are_apart ws ≡ true
+apart_behind [] ws apart = cc
+apart_behind (c ∷ cs) ws apart = by (is_ascii_digit c) apart
+  where
+    by : (digit : Bool) → (if digit then false else are_apart ws) ≡ true → are_apart ws ≡ true
+    by true e = cc
+    by false e = e
+
+fields_end : (ws : List (List ℕ)) (ns : Numbers ws) (dwell : ℕ) → are_apart ws ≡ true → ends_number (fields_text ws ns dwell) ≡ true
+unfolding numbered
+fields_end [] ns dwell apart = dwell_ends dwell
+fields_end ([] ∷ ws) ns dwell apart = cc
+fields_end ((c ∷ cs) ∷ ws) ns dwell apart = by (is_ascii_digit c) apart
+  where
+    by : (digit : Bool) → (if digit then false else are_apart ws) ≡ true → not digit ≡ true
+    by true e = cc
+    by false e = refl
+
+begins_field : (w : List ℕ) (ws : List (List ℕ)) (text : List ℕ) (ns : Numbers (w ∷ ws)) (dwell : ℕ) → are_apart (w ∷ ws) ≡ true → AreShort (w ∷ ws) ns → text ≡ fields_text (w ∷ ws) ns dwell → BeginsWith (numbered w) IsShortNumber text ns.0 (fields_text ws ns.1 dwell)
+begins_field w ws text ns dwell apart short e = record { whole = e; lawful = short.0; ends = fields_end ws ns.1 dwell (apart_behind w ws apart) }
+
+-- a text is that of no such numbers
+pub record IsNoFields (ws : List (List ℕ)) (text : List ℕ) : Type 0 where
+  pub never : are_apart ws ≡ true → (ns : Numbers ws) (dwell : ℕ) → AreShort ws ns → IsShortNumber dwell → text ≢ fields_text ws ns dwell
+
+pub none_here : {w : List ℕ} {ws : List (List ℕ)} {text : List ℕ} → BeginsWithNone (numbered w) IsShortNumber text → IsNoFields (w ∷ ws) text
+none_here {w} {ws} {text} none =
+    record { never = λ apart ns dwell short is e. none ns.0 (fields_text ws ns.1 dwell) (begins_field w ws text ns dwell apart short e) }
+
+pub none_behind : {w : List ℕ} {ws : List (List ℕ)} {text : List ℕ} {n : ℕ} {after : List ℕ} → BeginsWith (numbered w) IsShortNumber text n after → IsNoFields ws after → IsNoFields (w ∷ ws) text
+none_behind {w} {ws} {text} {n} {after} b none =
+    record {
+      never = λ apart ns dwell short is e.
+          none.never (apart_behind w ws apart) ns.1 dwell short.1 is (short_once w text n ns.0 after (fields_text ws ns.1 dwell) b (begins_field w ws text ns dwell apart short e)).1;
+    }
+
+pub none_dwell : {text : List ℕ} → ((dwell : ℕ) → IsShortNumber dwell → text ≢ dwell_text dwell) → IsNoFields [] text
+none_dwell none = record { never = λ apart ns dwell short is. none dwell is }
+
+pub field_behind : (w : List ℕ) {text after rest : List ℕ} {n : ℕ} → BeginsWith (numbered w) IsShortNumber text n after → after ≡ rest → text ≡ numbered w n ++ rest
+field_behind w {text} {after} {rest} {n} b e = b.whole ∙ ap (λ r. numbered w n ++ r) e
+
+-- the same text is that of the same numbers
+same_fields : (ws : List (List ℕ)) (ns ms : Numbers ws) (d e : ℕ) → are_apart ws ≡ true → AreShort ws ns → AreShort ws ms → IsShortNumber d → IsShortNumber e → fields_text ws ns d ≡ fields_text ws ms e → (ns ≡ ms) × (d ≡ e)
+same_fields [] ns ms d e apart sn sm sd se same = (refl, dwell_of_one d e sd se same)
+same_fields (w ∷ ws) ns ms d e apart sn sm sd se same =
+    let text = fields_text (w ∷ ws) ns d in
+    let p = short_once w text ns.0 ms.0 (fields_text ws ns.1 d) (fields_text ws ms.1 e) (begins_field w ws text ns d apart sn refl) (begins_field w ws text ms e apart sm same) in
+    let q = same_fields ws ns.1 ms.1 d e (apart_behind w ws apart) sn.1 sm.1 sd se p.1 in
+    (pair_is ns ms p.0 q.0, q.1)
+  where
+    pair_is : (a b : ℕ × Numbers ws) → a.0 ≡ b.0 → a.1 ≡ b.1 → a ≡ b
+    pair_is (a, b) (c, d) e f = cc
+
+-- the words of a line of settings
+abbrev pub settings_words : List (List ℕ)
+settings_words =
+    codes "settings wait=" ∷ codes " delay=" ∷ codes " trip=" ∷ codes " penalty=" ∷ codes " budget=" ∷ codes " pairs=" ∷ codes " proof=" ∷ []
+
+abbrev numbers_of : SettingsText → Numbers settings_words
+numbers_of s = (s.wait, (s.delay, (s.trip, (s.penalty, (s.budget, (s.pairs, (s.proof, tt)))))))
+
+short_numbers : (s : SettingsText) → AreSettings s → AreShort settings_words (numbers_of s)
+short_numbers s is = (is.wait, (is.delay, (is.trip, (is.penalty, (is.budget, (is.pairs, (is.proof, tt)))))))
+
+pub settings_fields : (s : SettingsText) → settings_text s ≡ fields_text settings_words (numbers_of s) s.dwell
+settings_fields s =
+    nest (numbered (codes "settings wait=") s.wait) (numbered (codes " delay=") s.delay) (numbered (codes " trip=") s.trip) (numbered (codes " penalty=") s.penalty)
+    (numbered (codes " budget=") s.budget) (numbered (codes " pairs=") s.pairs) (numbered (codes " proof=") s.proof) (dwell_text s.dwell)
+  where
+    nest : (w d t p b q r x : List ℕ) → (w ++ d ++ t) ++ (p ++ b ++ q) ++ r ++ x ≡ w ++ (d ++ (t ++ (p ++ (b ++ (q ++ (r ++ x))))))
+    nest w d t p b q r x =
+        append_assoc ((w ++ d ++ t) ++ (p ++ b ++ q)) r x
+        ∙ append_assoc (w ++ d ++ t) (p ++ b ++ q) (r ++ x)
+        ∙ ap (λ l. (w ++ d ++ t) ++ l) (append_assoc (p ++ b) q (r ++ x) ∙ append_assoc p b (q ++ (r ++ x)))
+        ∙ append_assoc (w ++ d) t (p ++ (b ++ (q ++ (r ++ x))))
+        ∙ append_assoc w d (t ++ (p ++ (b ++ (q ++ (r ++ x)))))
+
+pub no_settings_line : {line : List ℕ} → IsNoFields settings_words line → (s : SettingsText) → AreSettings s → line ≢ settings_text s
+no_settings_line none s is e = none.never refl (numbers_of s) s.dwell (short_numbers s is) is.dwell (e ∙ settings_fields s)
 
 -- lines of settings of the same text say the same
 pub settings_of_one : (a b : SettingsText) → AreSettings a → AreSettings b → settings_text a ≡ settings_text b → a ≡ b
 settings_of_one a b ia ib e =
-    let here : BeginsWith parts_text AreParts (settings_text a) (parts_of a) (dwell_text a.dwell) = record { whole = refl; lawful = are_parts a ia; ends = dwell_ends a.dwell } in
-    let there : BeginsWith parts_text AreParts (settings_text a) (parts_of b) (dwell_text b.dwell) = record { whole = e; lawful = are_parts b ib; ends = dwell_ends b.dwell } in
-    let same = parts_once (settings_text a) (parts_of a) (parts_of b) (dwell_text a.dwell) (dwell_text b.dwell) here there in
-    let dwell : a.dwell ≡ b.dwell = dwell_of_one a.dwell b.dwell ia.dwell ib.dwell same.1 in
-    let f : (((ℕ × ℕ) × ℕ) × ((ℕ × ℕ) × ℕ)) × ℕ → SettingsText =
-    λ p. record { wait = p.0.0.0.0; delay = p.0.0.0.1; trip = p.0.0.1; penalty = p.0.1.0.0; budget = p.0.1.0.1; pairs = p.0.1.1; proof = p.1; dwell = a.dwell }
+    let same =
+    same_fields settings_words (numbers_of a) (numbers_of b) a.dwell b.dwell refl (short_numbers a ia) (short_numbers b ib) ia.dwell ib.dwell (sym (settings_fields a) ∙ e ∙ settings_fields b)
     in
-    let g : ℕ → SettingsText =
-    λ n. record { wait = b.wait; delay = b.delay; trip = b.trip; penalty = b.penalty; budget = b.budget; pairs = b.pairs; proof = b.proof; dwell = n }
+    let told : Numbers settings_words → ℕ → SettingsText =
+    λ n dwell. record { wait = n.0; delay = n.1.0; trip = n.1.1.0; penalty = n.1.1.1.0; budget = n.1.1.1.1.0; pairs = n.1.1.1.1.1.0; proof = n.1.1.1.1.1.1.0; dwell = dwell }
     in
-    ap f same.0 ∙ ap g dwell
+    ap (λ n. told n a.dwell) same.0 ∙ ap (told (numbers_of b)) same.1

@@ -7,8 +7,7 @@ use Rattle.report_lines.specs.declared.next.NextLine.{NextLine}
 use Rattle.report_lines.specs.declared.next.NextLine.TheVariants.{Round, Done, Entry as EntryOf}
 use Rattle.report_lines.proofs.EntryLemmas.{same_lane, entry_begins}
 use Rattle.report_lines.proofs.ToldLemmas.{no_number}
-use Rattle.report_lines.specs.Reading.{BeginsWith}
-use Rattle.report_lines.proofs.lemmas.ReadingLemmas.{numbered_once}
+use Rattle.report_lines.proofs.lemmas.ReadingLemmas.{numbered_below}
 
 pub no_line : (line : List ℕ) → ((n : ℕ) → n ≤ 4294967295 → line ≢ numbered (codes "round ") n) → ((n : ℕ) → n ≤ 18446744073709551615 → line ≢ numbered (codes "done ") n) → ((lane : ℕ) → IsNextLine (EntryOf lane) line → ⊥) → (x : NextLine) → IsNextLine x line → ⊥
 no_line line round done entry (Round n) is =
@@ -18,15 +17,6 @@ no_line line round done entry (Done n) is =
     let most : n ≤ 18446744073709551615 = omega (arith, is.0) in
     done n most is.1
 no_line line round done entry (EntryOf lane) is = entry lane is
-
--- the number behind words is one
-same_number : (words line : List ℕ) (m n : ℕ) → m < 2 ^ 64 → n < 2 ^ 64 → line ≡ numbered words m → line ≡ numbered words n → m ≡ n
-same_number words line m n wm wn em en =
-    let most : m ≤ 2 ^ 64 = omega arith in
-    let most_too : n ≤ 2 ^ 64 = omega arith in
-    let here : BeginsWith (numbered words) (λ k. k ≤ 2 ^ 64) line m [] = record { whole = em ∙ sym (append-nil (numbered words m)); lawful = most; ends = refl } in
-    let there : BeginsWith (numbered words) (λ k. k ≤ 2 ^ 64) line n [] = record { whole = en ∙ sym (append-nil (numbered words n)); lawful = most_too; ends = refl } in
-    (numbered_once words (2 ^ 64) (omega arith) line m n [] [] here there).0
 
 -- lines of different kinds
 round_is_no_done : (m n : ℕ) → numbered (codes "round ") m ≡ numbered (codes "done ") n → ⊥
@@ -56,11 +46,11 @@ module _ (line : List ℕ) where
       done_is_no_entry m x.0 x.1 (omega (arith, x.2)) (sym e ∙ x.3)
 
 pub one_kind : (x y : NextLine) (line : List ℕ) → IsNextLine x line → IsNextLine y line → x ≡ y
-one_kind (Round m) (Round n) line ix iy = ap Round (same_number (codes "round ") line m n (omega (arith, ix.0)) (omega (arith, iy.0)) ix.1 iy.1)
+one_kind (Round m) (Round n) line ix iy = ap Round (numbered_below (codes "round ") m n (omega (arith, ix.0)) (omega (arith, iy.0)) (sym ix.1 ∙ iy.1))
 one_kind (Round m) (Done n) line ix iy = absurd (round_is_no_done m n (sym ix.1 ∙ iy.1))
 one_kind (Round m) (EntryOf lane) line ix iy = absurd (round_no_entry line m lane ix.1 iy)
 one_kind (Done m) (Round n) line ix iy = absurd (round_is_no_done n m (sym iy.1 ∙ ix.1))
-one_kind (Done m) (Done n) line ix iy = ap Done (same_number (codes "done ") line m n ix.0 iy.0 ix.1 iy.1)
+one_kind (Done m) (Done n) line ix iy = ap Done (numbered_below (codes "done ") m n ix.0 iy.0 (sym ix.1 ∙ iy.1))
 one_kind (Done m) (EntryOf lane) line ix iy = absurd (done_no_entry line m lane ix.1 iy)
 one_kind (EntryOf lane) (Round n) line ix iy = absurd (round_no_entry line n lane iy.1 ix)
 one_kind (EntryOf lane) (Done n) line ix iy = absurd (done_no_entry line n lane iy.1 ix)

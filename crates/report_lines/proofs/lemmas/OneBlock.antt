@@ -174,82 +174,17 @@ unfolding lines_text
 first_line x xs rest =
     append_assoc (block_line_text x ++ 10 ∷ []) (lines_text (map block_line_text xs)) rest ∙ append_assoc (block_line_text x) (10 ∷ []) (lines_text (map block_line_text xs) ++ rest)
 
--- nothing follows the last line
-follows_end : (y : BlockLine) → may_follow_at 16 y ≡ true → ⊥
-follows_end (Batch n) h = cc
-follows_end (Expired rider) h = cc
-follows_end Overflow h = cc
-follows_end (Lapsed rider) h = cc
-follows_end (Late late) h = cc
-follows_end (Alone pair) h = cc
-follows_end (Shared pair) h = cc
-follows_end (Row row) h = cc
-follows_end (Trip trip) h = cc
-follows_end (Out rider) h = cc
-follows_end (Move m) h = cc
-follows_end (Cost n) h = cc
-follows_end (Bound z) h = cc
-follows_end (Nodes n) h = cc
-follows_end (Branch branch) h = cc
-follows_end (Leaf multipliers) h = cc
-follows_end Dead h = cc
-follows_end End h = cc
-
-nothing_follows_end : (place : ℕ) (y : BlockLine) → place ≡ 16 → may_follow_at place y ≡ true → ⊥
-nothing_follows_end place y at h = follows_end y (subst (λ p. may_follow_at p y ≡ true) at h)
-
--- blocks at the beginning of one text, from a place on
-blocks_same : (place : ℕ) (xs ys : List BlockLine) (r s : List ℕ) → All IsBlockLine xs → All IsBlockLine ys → follow_on place xs ≡ true → follow_on place ys ≡ true → last_place place xs ≡ 16 → last_place place ys ≡ 16 → lines_text (map block_line_text xs) ++ r ≡ lines_text (map block_line_text ys) ++ s → (xs ≡ ys) × (r ≡ s)
-unfolding lines_text
-blocks_same place [] [] r s ix iy fx fy lx ly e = (refl, e)
-blocks_same place [] (y ∷ ys) r s ix iy fx fy lx ly e = absurd (nothing_follows_end place y lx (and_parts (may_follow_at place y) (follow_on (kind_place y) ys) fy).0)
-blocks_same place (x ∷ xs) [] r s ix iy fx fy lx ly e = absurd (nothing_follows_end place x ly (and_parts (may_follow_at place x) (follow_on (kind_place x) xs) fx).0)
-blocks_same place (x ∷ xs) (y ∷ ys) r s ix iy fx fy lx ly e =
-    let hx = All-head IsBlockLine x xs ix in
-    let hy = All-head IsBlockLine y ys iy in
-    let cut =
-    cut_once (block_line_text x) (block_line_text y) (lines_text (map block_line_text xs) ++ r) (lines_text (map block_line_text ys) ++ s)
-    (block_line_one_line x hx) (block_line_one_line y hy) (sym (first_line x xs r) ∙ e ∙ first_line y ys s)
-    in
-    let head : x ≡ y = block_line_of_one x y hx hy cut.0 in
-    let place_same : kind_place x ≡ kind_place y = ap kind_place head in
-    let rest =
-    blocks_same (kind_place x) xs ys r s (All-tail IsBlockLine x xs ix) (All-tail IsBlockLine y ys iy)
-    (and_parts (may_follow_at place x) (follow_on (kind_place x) xs) fx).1
-    (subst (λ p. follow_on p ys ≡ true) (sym place_same) (and_parts (may_follow_at place y) (follow_on (kind_place y) ys) fy).1)
-    lx (subst (λ p. last_place p ys ≡ 16) (sym place_same) ly) cut.1
-    in
-    (ap (λ z. z ∷ xs) head ∙ ap (λ zs. y ∷ zs) rest.0, rest.1)
-
--- what a text's block is, is known of the text
-pub block_of_one : (text : List ℕ) (xs ys : List BlockLine) (r s : List ℕ) → IsBlock text xs r → IsBlock text ys s → (xs ≡ ys) × (r ≡ s)
-block_of_one text xs ys r s bx by =
-    blocks_same 0 xs ys r s bx.begins.lawful by.begins.lawful bx.begins.order by.begins.order bx.ended by.ended (sym bx.begins.whole ∙ by.begins.whole)
-
 -- a text begins with no line that may follow one of this place
 abbrev IsStuck : ℕ → List ℕ → Type 0
 IsStuck place r = (x : BlockLine) (behind : List ℕ) → IsBlockLine x → may_follow_at place x ≡ true → r ≢ block_line_text x ++ 10 ∷ behind
 
--- lines that end before the block, and a block, at the beginning of one text
-stuck_no_block : (place : ℕ) (xs ys : List BlockLine) (r s : List ℕ) → All IsBlockLine xs → All IsBlockLine ys → follow_on place xs ≡ true → follow_on place ys ≡ true → last_place place xs ≢ 16 → last_place place ys ≡ 16 → IsStuck (last_place place xs) r → lines_text (map block_line_text xs) ++ r ≡ lines_text (map block_line_text ys) ++ s → ⊥
-unfolding lines_text
-stuck_no_block place [] [] r s ix iy fx fy lx ly stuck e = lx ly
-stuck_no_block place [] (y ∷ ys) r s ix iy fx fy lx ly stuck e =
-    stuck y (lines_text (map block_line_text ys) ++ s) (All-head IsBlockLine y ys iy) (and_parts (may_follow_at place y) (follow_on (kind_place y) ys) fy).0 (e ∙ first_line y ys s)
-stuck_no_block place (x ∷ xs) [] r s ix iy fx fy lx ly stuck e = nothing_follows_end place x ly (and_parts (may_follow_at place x) (follow_on (kind_place x) xs) fx).0
-stuck_no_block place (x ∷ xs) (y ∷ ys) r s ix iy fx fy lx ly stuck e =
-    let hx = All-head IsBlockLine x xs ix in
-    let hy = All-head IsBlockLine y ys iy in
-    let cut =
-    cut_once (block_line_text x) (block_line_text y) (lines_text (map block_line_text xs) ++ r) (lines_text (map block_line_text ys) ++ s)
-    (block_line_one_line x hx) (block_line_one_line y hy) (sym (first_line x xs r) ∙ e ∙ first_line y ys s)
-    in
-    let head : x ≡ y = block_line_of_one x y hx hy cut.0 in
-    let place_same : kind_place x ≡ kind_place y = ap kind_place head in
-    stuck_no_block (kind_place x) xs ys r s (All-tail IsBlockLine x xs ix) (All-tail IsBlockLine y ys iy)
-    (and_parts (may_follow_at place x) (follow_on (kind_place x) xs) fx).1
-    (subst (λ p. follow_on p ys ≡ true) (sym place_same) (and_parts (may_follow_at place y) (follow_on (kind_place y) ys) fy).1)
-    lx (subst (λ p. last_place p ys ≡ 16) (sym place_same) ly) stuck cut.1
+-- nothing follows the last line
+follows_end : (y : BlockLine) → may_follow_at 16 y ≡ true → ⊥
+follows_end (Batch n) h = cc
+follows_end _ h = cc
+
+end_stuck : (text : List ℕ) (xs : List BlockLine) (r : List ℕ) → IsBlock text xs r → IsStuck (last_place 0 xs) r
+end_stuck text xs r block x behind is may e = follows_end x (subst (λ p. may_follow_at p x ≡ true) block.ended may)
 
 -- a text with a line feed isn't one line
 pub no_one_line : (a r : List ℕ) → is_one_line (a ++ 10 ∷ r) ≡ true → ⊥
@@ -263,15 +198,7 @@ bad_stuck : (text : List ℕ) (xs : List BlockLine) (r line after : List ℕ) �
 bad_stuck text xs r line after bad x behind is may e =
     bad.bad x is may (cut_once line (block_line_text x) after behind bad.one (block_line_one_line x is) (sym bad.next ∙ e)).0
 
--- a text that begins with a block isn't cut, and no line is out of form
-pub block_no_fault : (text : List ℕ) (ys : List BlockLine) (s : List ℕ) → IsBlock text ys s → (fault : BlockFault) → fault ≢ NoMemory → BlockFails text fault → ⊥
-block_no_fault text ys s block NoMemory other fails = other refl
-block_no_fault text ys s block (Cut n) other (xs, r, size, cut) =
-    stuck_no_block 0 xs ys r s cut.begins.lawful block.begins.lawful cut.begins.order block.begins.order cut.going block.ended (cut_stuck text xs r cut) (sym cut.begins.whole ∙ block.begins.whole)
-block_no_fault text ys s block (Form n) other (xs, r, line, after, size, bad) =
-    stuck_no_block 0 xs ys r s bad.begins.lawful block.begins.lawful bad.begins.order block.begins.order bad.going block.ended (bad_stuck text xs r line after bad) (sym bad.begins.whole ∙ block.begins.whole)
-
--- lines that end before the block at the beginning of one text are the same
+-- lines behind which none follows, at the beginning of one text, are the same
 stuck_same : (place : ℕ) (xs ys : List BlockLine) (r s : List ℕ) → All IsBlockLine xs → All IsBlockLine ys → follow_on place xs ≡ true → follow_on place ys ≡ true → IsStuck (last_place place xs) r → IsStuck (last_place place ys) s → lines_text (map block_line_text xs) ++ r ≡ lines_text (map block_line_text ys) ++ s → (xs ≡ ys) × (r ≡ s)
 unfolding lines_text
 stuck_same place [] [] r s ix iy fx fy kx ky e = (refl, e)
@@ -296,8 +223,20 @@ stuck_same place (x ∷ xs) (y ∷ ys) r s ix iy fx fy kx ky e =
     in
     (ap (λ z. z ∷ xs) head ∙ ap (λ zs. y ∷ zs) rest.0, rest.1)
 
-fails_once : (text : List ℕ) (xs ys : List BlockLine) (r s : List ℕ) → BeginsBlock text xs r → BeginsBlock text ys s → IsStuck (last_place 0 xs) r → IsStuck (last_place 0 ys) s → (xs ≡ ys) × (r ≡ s)
-fails_once text xs ys r s bx by kx ky = stuck_same 0 xs ys r s bx.lawful by.lawful bx.order by.order kx ky (sym bx.whole ∙ by.whole)
+stop_once : (text : List ℕ) (xs ys : List BlockLine) (r s : List ℕ) → BeginsBlock text xs r → BeginsBlock text ys s → IsStuck (last_place 0 xs) r → IsStuck (last_place 0 ys) s → (xs ≡ ys) × (r ≡ s)
+stop_once text xs ys r s bx by kx ky = stuck_same 0 xs ys r s bx.lawful by.lawful bx.order by.order kx ky (sym bx.whole ∙ by.whole)
+
+-- what a text's block is, is known of the text
+pub block_of_one : (text : List ℕ) (xs ys : List BlockLine) (r s : List ℕ) → IsBlock text xs r → IsBlock text ys s → (xs ≡ ys) × (r ≡ s)
+block_of_one text xs ys r s bx by = stop_once text xs ys r s bx.begins by.begins (end_stuck text xs r bx) (end_stuck text ys s by)
+
+-- a text that begins with a block isn't cut, and no line is out of form
+pub block_no_fault : (text : List ℕ) (ys : List BlockLine) (s : List ℕ) → IsBlock text ys s → (fault : BlockFault) → fault ≢ NoMemory → BlockFails text fault → ⊥
+block_no_fault text ys s block NoMemory other fails = other refl
+block_no_fault text ys s block (Cut n) other (xs, r, size, cut) =
+    cut.going (ap (last_place 0) (stop_once text xs ys r s cut.begins block.begins (cut_stuck text xs r cut) (end_stuck text ys s block)).0 ∙ block.ended)
+block_no_fault text ys s block (Form n) other (xs, r, line, after, size, bad) =
+    bad.going (ap (last_place 0) (stop_once text xs ys r s bad.begins block.begins (bad_stuck text xs r line after bad) (end_stuck text ys s block)).0 ∙ block.ended)
 
 same_length : (n m : ℕ) (xs ys : List BlockLine) → length xs ≡ n → length ys ≡ m → xs ≡ ys → n ≡ m
 same_length n m xs ys a b e = sym a ∙ ap length e ∙ b
@@ -311,10 +250,10 @@ one_fault text NoMemory other mx my fx fy = absurd (mx refl)
 one_fault text (Cut n) NoMemory mx my fx fy = absurd (my refl)
 one_fault text (Form n) NoMemory mx my fx fy = absurd (my refl)
 one_fault text (Cut n) (Cut m) mx my (xs, r, size, cut) (ys, s, long, other) =
-    ap Cut (same_length n m xs ys size long (fails_once text xs ys r s cut.begins other.begins (cut_stuck text xs r cut) (cut_stuck text ys s other)).0)
+    ap Cut (same_length n m xs ys size long (stop_once text xs ys r s cut.begins other.begins (cut_stuck text xs r cut) (cut_stuck text ys s other)).0)
 one_fault text (Cut n) (Form m) mx my (xs, r, size, cut) (ys, s, line, after, long, bad) =
-    absurd (cut_not_bad r s line after cut.cut bad.next (fails_once text xs ys r s cut.begins bad.begins (cut_stuck text xs r cut) (bad_stuck text ys s line after bad)).1)
+    absurd (cut_not_bad r s line after cut.cut bad.next (stop_once text xs ys r s cut.begins bad.begins (cut_stuck text xs r cut) (bad_stuck text ys s line after bad)).1)
 one_fault text (Form n) (Cut m) mx my (xs, r, line, after, size, bad) (ys, s, long, cut) =
-    absurd (cut_not_bad s r line after cut.cut bad.next (sym (fails_once text xs ys r s bad.begins cut.begins (bad_stuck text xs r line after bad) (cut_stuck text ys s cut)).1))
+    absurd (cut_not_bad s r line after cut.cut bad.next (sym (stop_once text xs ys r s bad.begins cut.begins (bad_stuck text xs r line after bad) (cut_stuck text ys s cut)).1))
 one_fault text (Form n) (Form m) mx my (xs, r, line, after, size, bad) (ys, s, next, behind, long, other) =
-    ap Form (same_length n m xs ys size long (fails_once text xs ys r s bad.begins other.begins (bad_stuck text xs r line after bad) (bad_stuck text ys s next behind other)).0)
+    ap Form (same_length n m xs ys size long (stop_once text xs ys r s bad.begins other.begins (bad_stuck text xs r line after bad) (bad_stuck text ys s next behind other)).0)

@@ -144,3 +144,20 @@ pair_once words most other small small_too =
 pub spaced_ends : (n : ℕ) → ends_number (spaced n) ≡ true
 unfolding numbered
 spaced_ends n = refl
+
+-- things of the same text are the same
+abbrev pub TextIsOfOne : {X : Type 0} → (X → List ℕ) → (X → Type 0) → Type 0
+TextIsOfOne {X} t Is = (a b : X) → Is a → Is b → t a ≡ t b → a ≡ b
+
+begins_all : {X : Type 0} (t : X → List ℕ) (Is : X → Type 0) (text : List ℕ) (a : X) → Is a → text ≡ t a → BeginsWith t Is text a []
+begins_all t Is text a is e = record { whole = e ∙ sym (append-nil (t a)); lawful = is; ends = refl }
+
+pub of_one : {X : Type 0} (t : X → List ℕ) (Is : X → Type 0) → EndsOnce t Is → TextIsOfOne t Is
+of_one t Is once a b ia ib e = (once (t a) a b [] [] (begins_all t Is (t a) a ia refl) (begins_all t Is (t a) b ib e)).0
+
+-- numbers below 2^64
+pub numbered_below : (words : List ℕ) → TextIsOfOne (numbered words) (λ n. n < 2 ^ 64)
+numbered_below words a b ia ib e =
+    let wa : a ≤ 2 ^ 64 = omega arith in
+    let wb : b ≤ 2 ^ 64 = omega arith in
+    of_one (numbered words) (λ n. n ≤ 2 ^ 64) (numbered_once words (2 ^ 64) (omega arith)) a b wa wb e

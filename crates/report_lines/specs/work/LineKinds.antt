@@ -9,29 +9,23 @@ use Rattle.report_lines.specs.Order.{may_follow_at}
 abbrev pub CannotFollow : ℕ → List ℕ → Type 0
 CannotFollow place line = (x : BlockLine) → IsBlockLine x → may_follow_at place x ≡ true → line ≢ block_line_text x
 
-abbrev pub IsWordLine : BlockLine → Type 0
-IsWordLine Overflow = Unit {0}
-IsWordLine Dead = Unit {0}
-IsWordLine End = Unit {0}
-IsWordLine _ = ⊥
+abbrev pub IsPlainLine : BlockLine → Type 0
+IsPlainLine (Late late) = ⊥
+IsPlainLine (Alone pair) = ⊥
+IsPlainLine (Shared pair) = ⊥
+IsPlainLine (Row row) = ⊥
+IsPlainLine (Trip trip) = ⊥
+IsPlainLine (Move m) = ⊥
+IsPlainLine (Branch branch) = ⊥
+IsPlainLine (Leaf multipliers) = ⊥
+IsPlainLine line = IsBlockLine line
 
-abbrev pub IsCountLine : BlockLine → Type 0
-IsCountLine (Batch n) = IsBlockLine (Batch n)
-IsCountLine (Cost n) = IsBlockLine (Cost n)
-IsCountLine (Nodes n) = IsBlockLine (Nodes n)
-IsCountLine (Bound z) = IsBlockLine (Bound z)
-IsCountLine _ = ⊥
-
-abbrev pub IsRiderLine : BlockLine → Type 0
-IsRiderLine (Expired rider) = IsBlockLine (Expired rider)
-IsRiderLine (Lapsed rider) = IsBlockLine (Lapsed rider)
-IsRiderLine (Out rider) = IsBlockLine (Out rider)
-IsRiderLine _ = ⊥
-
-abbrev pub IsGraphLine : BlockLine → Type 0
-IsGraphLine (Alone pair) = IsBlockLine (Alone pair)
-IsGraphLine (Shared pair) = IsBlockLine (Shared pair)
-IsGraphLine _ = ⊥
+abbrev pub IsPairLine : BlockLine → Type 0
+IsPairLine (Alone pair) = IsBlockLine (Alone pair)
+IsPairLine (Shared pair) = IsBlockLine (Shared pair)
+IsPairLine (Move m) = IsBlockLine (Move m)
+IsPairLine (Branch branch) = IsBlockLine (Branch branch)
+IsPairLine _ = ⊥
 
 abbrev pub IsListLine : BlockLine → Type 0
 IsListLine (Late late) = IsBlockLine (Late late)
@@ -39,8 +33,3 @@ IsListLine (Row row) = IsBlockLine (Row row)
 IsListLine (Trip trip) = IsBlockLine (Trip trip)
 IsListLine (Leaf multipliers) = IsBlockLine (Leaf multipliers)
 IsListLine _ = ⊥
-
-abbrev pub IsPlanLine : BlockLine → Type 0
-IsPlanLine (Move m) = IsBlockLine (Move m)
-IsPlanLine (Branch branch) = IsBlockLine (Branch branch)
-IsPlanLine _ = ⊥

@@ -1,6 +1,7 @@
 use Rattle.std.proofs.Common.{◌≡◌, ℕ, ◌<◌, ◌^◌, List, length, Some, None, sym, ap, subst, ◌∙◌, arith}
 use Rattle.batch_snapshot.specs.declared.vehicle.Vehicle.{Vehicle}
-use Rattle.report_audit.proofs.HeadFaults.{head_fails_once, head_is_no_fault}
+use Rattle.report_audit.proofs.HeadFaults.{head_fails_once}
+use Rattle.report_lines.proofs.lemmas.WholeHead.{no_head as fails_no_head}
 use Rattle.report_lines.specs.HeadFault.{HeadFails, sizes_of}
 use Rattle.report_lines.specs.HeadLines.{AreSizes}
 use Rattle.report_lines.specs.Head.{BeginsWithHead}
@@ -65,7 +66,7 @@ returns-in-Err-audit_behind-clause-only g c = λ some other memory has.
     let few : length c.args.fleet.now < 2 ^ 64 = subst (λ (vs : List Vehicle). length vs < 2 ^ 64) c.vehicles.ensures.vehicles (omega arith) in
     only_fault c.args.network.now c.args.fleet.now c.args.script.now c.args.workers c.args.report.now c.in-Ok.head.0 head.settings c.in-Ok.head.1.now head.whole (Some c.in-Err-audit_behind.stop) only
     (c.in-Err-audit_behind.ensures.only (λ is. some (c.fault_at.ensures ∙ ap (fault_of c.args.report.now) is)))
-    (λ g. head_is_no_fault c.args.network.now (length c.args.fleet.now) sizes few c.args.workers c.args.report.now c.in-Ok.head.0 c.in-Ok.head.1.now head g) other memory has
+    (λ g found. fails_no_head c.args.workers c.args.network.now (length c.args.fleet.now) c.args.report.now sizes few g found c.in-Ok.head.0 c.in-Ok.head.1.now head) other memory has
     ∙ sym c.fault_at.ensures
 
 pub returns-in-Ok-audit_behind-clause-sound : goal.returns-in-Ok-audit_behind-clause-sound
@@ -76,4 +77,4 @@ returns-in-Ok-audit_behind-clause-sound g c = λ other memory has.
     let sizes : AreSizes (sizes_of c.args.network.now) = (subst (λ (k : ℕ). k < 2 ^ 64) c.node_count.ensures.count (omega arith), subst (λ (k : ℕ). k < 2 ^ 64) c.arc_count.ensures.count (omega arith)) in
     let few : length c.args.fleet.now < 2 ^ 64 = subst (λ (vs : List Vehicle). length vs < 2 ^ 64) c.vehicles.ensures.vehicles (omega arith) in
     only_fault c.args.network.now c.args.fleet.now c.args.script.now c.args.workers c.args.report.now c.in-Ok.head.0 head.settings c.in-Ok.head.1.now head.whole None only c.in-Ok-audit_behind.ensures.only
-    (λ g. head_is_no_fault c.args.network.now (length c.args.fleet.now) sizes few c.args.workers c.args.report.now c.in-Ok.head.0 c.in-Ok.head.1.now head g) other memory has
+    (λ g found. fails_no_head c.args.workers c.args.network.now (length c.args.fleet.now) c.args.report.now sizes few g found c.in-Ok.head.0 c.in-Ok.head.1.now head) other memory has

@@ -9,7 +9,7 @@ returns-in_default-read_numbered c = (
   c.in-Some.line.now,
   c.in-Some.rest.now,
   record { whole = c.in-Some.ensures.0; one = c.in-Some.ensures.1 },
-  no_fleet_line c.in-Some.line.now c.in_default-read_numbered.ensures,
+  no_fleet_line c.in-Some.line.now c.in_default-read_numbered.ensures c.args.vehicles,
 )
 
 pub returns-then-told-vehicles : goal.returns-then-told-vehicles

@@ -1,5 +1,6 @@
 use Rattle.std.proofs.Common.{refl}
-use Rattle.report_lines.proofs.FormLemmas.{not_so, no_lawful}
+use Rattle.report_lines.proofs.FormLemmas.{no_lawful}
+use Rattle.report_lines.proofs.ToldLemmas.{not_so}
 use Rattle.report_lines.proofs.head_parts.settings_first.Goals as goal
 
 pub returns-else-is_lawful : goal.returns-else-is_lawful
