@@ -20,10 +20,8 @@ const MOVES_A_ROW: u64 = 150;
 
 const MOVES_EACH: u64 = 1024;
 
-/// The temperature at the start, in seconds, for even and for odd seeds, and at the end. Neighbourhoods do the rest.
-const MILD: i64 = 300;
-
-const WARM: i64 = 600;
+/// The temperature at the start, in seconds, and at the end. Neighbourhoods do the rest.
+const WARM: i64 = 300;
 
 const COOL: i64 = 150;
 
@@ -98,10 +96,10 @@ struct Annealing<'a> {
 
 /// The best plan of many moves from this one, or the last one where none was better than the first. What is drawn
 /// follows from the seed.
-pub fn anneal(
+pub fn anneal<'a>(
     alloc: Global,
-    table: &RowTable,
-    board: &Board,
+    table: &'a RowTable,
+    board: &'a Board,
     rows: &[Option<u32>],
     seed: u64,
 ) -> Result<Vec<Option<u32>>, OutOfMemory> {
@@ -119,24 +117,31 @@ pub fn anneal(
         found: Vec::new(alloc),
     };
     annealing.present.adopt(table, rows);
-    annealing.run(if seed % 2 == 0 { MILD } else { WARM })?;
+    annealing.run()?;
     Ok(annealing.found)
 }
 
 impl Annealing<'_> {
-    /// Cools from this temperature.
-    fn run(&mut self, first: i64) -> Result<(), OutOfMemory> {
+    /// Makes all moves while it cools.
+    fn run(&mut self) -> Result<(), OutOfMemory> {
         let most = (self.table.row_count() as u64).saturating_mul(MOVES_A_ROW);
         let moves = MOVES.min(most);
-        for number in 0..moves {
-            let part = ((number / MOVES_EACH) << 20).checked_div(moves / MOVES_EACH);
-            let cooled = first
-                .saturating_sub(COOL)
-                .saturating_mul(part.unwrap_or(0).min(1 << 20) as i64);
-            self.attempt(first.saturating_mul(1024).saturating_sub(cooled >> 10))?;
+        let stages = moves / MOVES_EACH;
+        for stage in 0..stages {
+            let part = (stage << 20).checked_div(stages).unwrap_or(0).min(1 << 20) as i64;
+            let cooled = (WARM - COOL) * part >> 10;
+            self.make_moves(WARM * 1024 - cooled)?;
         }
         if self.least >= 0 {
             self.note()?;
+        }
+        Ok(())
+    }
+
+    /// Tries moves at this temperature, in 1/1024 second.
+    fn make_moves(&mut self, temperature: i64) -> Result<(), OutOfMemory> {
+        for _ in 0..MOVES_EACH {
+            self.attempt(temperature)?;
         }
         Ok(())
     }

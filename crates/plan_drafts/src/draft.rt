@@ -3,6 +3,7 @@ use crate::annealing::Board;
 use crate::branching::condition_count;
 use crate::decided::Decided;
 use crate::diving::dive;
+use crate::merge::Merge;
 use crate::plans::Plans;
 use crate::regrets::Regrets;
 use crate::scout::{Scout, Start};
@@ -62,19 +63,19 @@ impl Drafter for RelaxationDrafter {
         workers: u8,
     ) -> Result<Draft, OutOfMemory> {
         let mut drafting = Drafting::new(alloc, table, held, workers)?;
-        let first = drafting.tree.draft.bound;
         drafting.make_plans()?;
+        let first = drafting.tree.draft.bound;
         drafting.grow(rt, budget.min(PROBE))?;
-        let tree = &drafting.tree;
-        let is_growing = tree.gap(tree.draft.bound).saturating_mul(3)
-            <= tree.gap(first).saturating_mul(2);
-        if tree.is_open() && !is_growing {
-            drafting.send_scouts(rt)?;
-        }
-        if is_growing || !drafting.is_near() {
+        if drafting.is_growing(first) {
             drafting.grow(rt, budget)?;
+        } else {
+            drafting.make_more_plans(rt)?;
+            if !drafting.is_near() {
+                drafting.grow(rt, budget)?;
+            }
         }
-        Ok(drafting.tree.draft)
+        let Drafting { tree, .. } = drafting;
+        Ok(tree.draft)
     }
 }
 
@@ -160,26 +161,32 @@ impl<'a> Drafting<'a> {
         self.tree.gap(draft.bound).saturating_mul(NEAR_PART) <= draft.cost
     }
 
-    /// Has scouts look for plans, and takes the best. They anneal where the gap is so wide that a rider more might be
+    /// Whether a third of the gap is closed that there was at this bound.
+    fn is_growing(&self, first: i64) -> bool {
+        let closed = self.tree.draft.bound.saturating_sub(first);
+        closed.saturating_mul(3) >= self.tree.gap(first)
+    }
+
+    /// Has scouts look for plans, and merges these. Scouts anneal where the gap is so wide that a rider more might be
     /// served.
-    fn send_scouts<R: Threads + Sync>(&mut self, rt: &R) -> Result<(), OutOfMemory> {
-        let draft = &self.tree.draft;
-        let mut board = None;
+    fn make_more_plans<R: Threads + Sync>(&mut self, rt: &R) -> Result<(), OutOfMemory> {
         let mut count = if self.is_near() { FEW_SCOUTS } else { SCOUTS };
-        if self.tree.gap(draft.bound) >= self.regrets.table.penalty() / 4 {
-            board = Some(Board::new(self.alloc, &self.regrets)?);
+        let mut board = None;
+        if self.tree.gap(self.tree.draft.bound) >= self.regrets.table.penalty() / 4 {
             count = MOST_SCOUTS;
+            board = Some(Board::new(self.alloc, &self.regrets)?);
         }
+        let mut scouts: Vec<Scout> = Vec::new(self.alloc);
         let start = Start {
             regrets: &self.regrets,
-            plan: &draft.plan,
-            bound: draft.bound,
+            plan: &self.tree.draft.plan,
+            bound: self.tree.draft.bound,
             basis: root_basis(&self.tree),
             board: board.as_ref(),
         };
-        let mut scouts: Vec<Scout> = Vec::new(self.alloc);
         for number in 0..count {
-            scouts.push(Scout::beside(self.alloc, &self.decided.relaxation, start, number)?)?;
+            let relaxation = &self.decided.relaxation;
+            scouts.push(Scout::beside(self.alloc, relaxation, start, number)?)?;
         }
         look_all(rt, self.alloc, start, self.workers, &mut scouts);
         for scout in &scouts {
@@ -189,7 +196,19 @@ impl<'a> Drafting<'a> {
             self.tree
                 .offer(self.alloc, scout.plans.rows(), scout.plans.cost())?;
         }
-        Ok(())
+        self.merge(rt, &scouts)
+    }
+
+    /// Takes the best plan of the rows that the best one and those of scouts choose, as a small draft finds it.
+    fn merge<R: Threads + Sync>(&mut self, rt: &R, scouts: &[Scout]) -> Result<(), OutOfMemory> {
+        let merge = Merge::new(self.alloc, &self.regrets, &self.tree.draft.plan, scouts)?;
+        let plan = merge.in_part(self.alloc, &self.tree.draft.plan)?;
+        let mut drafting = Drafting::new(self.alloc, &merge.part, &plan, self.workers)?;
+        drafting.make_plans()?;
+        drafting.grow(rt, PROBE)?;
+        let draft = &drafting.tree.draft;
+        let plan = merge.in_whole(self.alloc, &draft.plan)?;
+        self.tree.offer(self.alloc, &plan, draft.cost)
     }
 }
 

@@ -26,6 +26,7 @@ mod costs;
 mod decided;
 mod diving;
 mod draft;
+mod merge;
 mod neighbourhood;
 mod parter;
 mod plans;

@@ -10,7 +10,7 @@ use pool_base::OutOfMemory;
 use std::alloc::Global;
 
 /// Of so many scouts who may anneal one dives.
-const TURNS: u64 = 3;
+const TURNS: u64 = 4;
 
 /// After so many neighbourhoods in a row without a gain a plan is left, and how far each is searched.
 const IDLE: u32 = 1500;
