@@ -3,7 +3,7 @@
 use pool_base::OutOfMemory;
 use row_tables::RowTable;
 use row_tables::fixed_point::{item, part};
-use row_tables::lists::{Lists, short};
+use row_tables::lists::Lists;
 use std::alloc::Global;
 
 /// The rows beside each row.

@@ -8,8 +8,9 @@ use row_tables::lists::short;
 use row_tables::{Decision, Draft, DraftNode, RowTable, Share};
 use std::alloc::Global;
 use std::collections::BinaryHeap;
+use std::mem::replace;
+use std::thread;
 use std::thread::Threads;
-use std::{mem, thread};
 
 /// More and less of a row than counts as chosen in part, in units of 2^-32.
 const LEAST_PART: i64 = (1 << 32) / 100;
@@ -191,7 +192,7 @@ impl DraftTree {
         if let (Some(number), Some(row)) = (parter.node, parter.branch) {
             self.note_branch(alloc, number, row);
         }
-        for end in mem::replace(&mut parter.ends, Vec::new(alloc)) {
+        for end in replace(&mut parter.ends, Vec::new(alloc)) {
             let End {
                 decision,
                 multipliers,
