@@ -8,8 +8,8 @@ use crate::beside::Beside;
 use crate::present::Present;
 use crate::regrets::Regrets;
 use pool_base::OutOfMemory;
-use row_tables::fixed_point::{item, set_at};
-use row_tables::lists::{Lists, short};
+use row_tables::fixed_point::item;
+use row_tables::lists::short;
 use row_tables::{Draws, RowTable};
 use std::alloc::Global;
 
@@ -28,58 +28,11 @@ const COOL: i64 = 150;
 /// How many riders a row has at most.
 const MOST_RIDERS: usize = 6;
 
-/// Of how many rows of each vehicle moves take one.
-const WIDTH: usize = 40;
-
-/// What all annealings over the same rows share.
-#[derive(Drop)]
-pub struct Board {
-    beside: Beside,
-    /// For each rider the rows that moves take.
-    proposals: Lists,
-}
-
-impl Board {
-    /// Lists for each rider the rows of least regret of each vehicle.
-    pub fn new(alloc: Global, regrets: &Regrets) -> Result<Self, OutOfMemory> {
-        let table = regrets.table;
-        let mut is_near = vec![in alloc; false; table.row_count()]?;
-        for vehicle in 0..table.vehicle_count() {
-            mark_first(regrets.rows_of(vehicle), &mut is_near);
-        }
-        let mut proposals = Lists::new(alloc);
-        for rider in 0..table.rider_count() {
-            put_marked(regrets.rows_with(rider), &is_near, &mut proposals)?;
-        }
-        Ok(Board {
-            beside: Beside::new(alloc, table)?,
-            proposals,
-        })
-    }
-}
-
-/// Marks the first of a vehicle's rows.
-fn mark_first(rows: &[u32], is_near: &mut [bool]) {
-    for row in rows.iter().take(WIDTH) {
-        set_at(is_near, *row as usize, true);
-    }
-}
-
-/// Makes a list of the marked rows among these.
-fn put_marked(rows: &[u32], is_near: &[bool], lists: &mut Lists) -> Result<(), OutOfMemory> {
-    for row in rows {
-        if item(is_near, *row as usize, false) {
-            lists.push(*row as usize)?;
-        }
-    }
-    lists.end()
-}
-
 /// A plan under way and the best one so far, with what moves need.
 #[derive(Drop)]
 struct Annealing<'a> {
-    table: &'a RowTable,
-    board: &'a Board,
+    regrets: &'a Regrets<'a>,
+    beside: &'a Beside,
     draws: Draws,
     present: Present,
     /// What the move at hand costs, in seconds, the rows that it replaced, whom it dropped, and the vehicles that
@@ -98,16 +51,16 @@ struct Annealing<'a> {
 /// follows from the seed.
 pub fn anneal<'a>(
     alloc: Global,
-    table: &'a RowTable,
-    board: &'a Board,
+    regrets: &'a Regrets<'a>,
+    beside: &'a Beside,
     rows: &[Option<u32>],
     seed: u64,
 ) -> Result<Vec<Option<u32>>, OutOfMemory> {
     let mut annealing = Annealing {
-        table,
-        board,
+        regrets,
+        beside,
         draws: Draws::new(seed),
-        present: Present::new(alloc, table)?,
+        present: Present::new(alloc, regrets.table)?,
         change: 0,
         log: Vec::new(alloc),
         dropped: Vec::new(alloc),
@@ -116,7 +69,7 @@ pub fn anneal<'a>(
         least: 0,
         found: Vec::new(alloc),
     };
-    annealing.present.adopt(table, rows);
+    annealing.present.adopt(regrets.table, rows);
     annealing.run()?;
     Ok(annealing.found)
 }
@@ -124,7 +77,7 @@ pub fn anneal<'a>(
 impl Annealing<'_> {
     /// Makes all moves while it cools.
     fn run(&mut self) -> Result<(), OutOfMemory> {
-        let most = (self.table.row_count() as u64).saturating_mul(MOVES_A_ROW);
+        let most = (self.regrets.table.row_count() as u64).saturating_mul(MOVES_A_ROW);
         let moves = MOVES.min(most);
         let stages = moves / MOVES_EACH;
         for stage in 0..stages {
@@ -155,7 +108,7 @@ impl Annealing<'_> {
         let Some(row) = self.proposal() else {
             return Ok(());
         };
-        let old = self.present.row(self.table.vehicle(row as usize));
+        let old = self.present.row(self.regrets.table.vehicle(row as usize));
         if old == Some(row) {
             return Ok(());
         }
@@ -167,9 +120,9 @@ impl Annealing<'_> {
         }
     }
 
-    /// A row with a rider, who is left out half the time.
+    /// A row with a rider, who is left out half the time. Rows of less regret are drawn more often.
     fn proposal(&mut self) -> Option<u32> {
-        let riders = self.table.rider_count();
+        let riders = self.regrets.table.rider_count();
         let mut rider = self.draws.below(riders);
         if self.draws.below(2) == 1 {
             for _ in 0..6 {
@@ -179,8 +132,9 @@ impl Annealing<'_> {
                 rider = self.draws.below(riders);
             }
         }
-        let rows = self.board.proposals.list(rider);
-        rows.get(self.draws.below(rows.len())).copied()
+        let rows = self.regrets.rows_with(rider);
+        let most = self.draws.below(rows.len()).saturating_add(1);
+        rows.get(self.draws.below(most)).copied()
     }
 
     /// Whether the move's loss is no more than the temperature times a drawn number, which is how often a coin falls
@@ -198,7 +152,7 @@ impl Annealing<'_> {
 
     /// Gives the row to its vehicle and mends the rest, where others have rows without its riders. Whether they do.
     fn make(&mut self, row: u32) -> Result<bool, OutOfMemory> {
-        let vehicle = self.table.vehicle(row as usize);
+        let vehicle = self.regrets.table.vehicle(row as usize);
         let Some(old) = self.present.row(vehicle) else {
             return Ok(false);
         };
@@ -206,7 +160,7 @@ impl Annealing<'_> {
             return Ok(false);
         }
         self.dropped
-            .extend_from_slice(self.table.riders_of(old as usize))?;
+            .extend_from_slice(self.regrets.table.riders_of(old as usize))?;
         self.set_row(row)?;
         self.robbed.push(short(vehicle))?;
         self.insert_dropped()?;
@@ -216,7 +170,7 @@ impl Annealing<'_> {
 
     /// Takes the row's riders from the vehicles that serve them. Whether these have rows for that.
     fn take_riders(&mut self, row: u32, vehicle: usize) -> Result<bool, OutOfMemory> {
-        for rider in self.table.riders_of(row as usize) {
+        for rider in self.regrets.table.riders_of(row as usize) {
             if let Some(server) = self.present.server(*rider) {
                 if server as usize != vehicle {
                     let Some(narrower) = self.narrower(server, *rider) else {
@@ -233,7 +187,7 @@ impl Annealing<'_> {
     /// The row of the vehicle without this rider of it.
     fn narrower(&self, vehicle: u32, rider: u32) -> Option<u32> {
         let row = self.present.row(vehicle as usize)?;
-        self.board.beside.without(self.table, row, rider)
+        self.beside.without(self.regrets.table, row, rider)
     }
 
     /// Adds each dropped rider where that is cheapest.
@@ -253,9 +207,9 @@ impl Annealing<'_> {
     fn best_with(&self, rider: u32) -> Option<u32> {
         let mut least = 0;
         let mut best = None;
-        for vehicle in self.board.beside.vehicles_with(rider) {
+        for vehicle in self.beside.vehicles_with(rider) {
             if let Some(row) = self.present.row(*vehicle as usize) {
-                if let Some(wider) = self.board.beside.with(row, rider) {
+                if let Some(wider) = self.beside.with(row, rider) {
                     let cost = self.cost_of_adding(row, wider, rider);
                     if cost < least {
                         least = cost;
@@ -286,8 +240,8 @@ impl Annealing<'_> {
         let row = self.present.row(vehicle)?;
         let mut least = 0;
         let mut best = None;
-        let wider = self.board.beside.wider(row);
-        for (rider, wider) in self.board.beside.added(row).iter().zip(wider) {
+        let wider = self.beside.wider(row);
+        for (rider, wider) in self.beside.added(row).iter().zip(wider) {
             if self.present.server(*rider).is_none() {
                 let cost = self.cost_of_adding(row, *wider, *rider);
                 if cost < least {
@@ -301,9 +255,9 @@ impl Annealing<'_> {
 
     /// What it costs to go on from a row to one with this rider too, less what it costs to leave her out.
     fn cost_of_adding(&self, row: u32, wider: u32, rider: u32) -> i64 {
-        let cost = self.table.cost(wider as usize);
-        cost.saturating_sub(self.table.cost(row as usize))
-            .saturating_sub(self.table.cost_left(rider as usize))
+        let cost = self.regrets.table.cost(wider as usize);
+        cost.saturating_sub(self.regrets.table.cost(row as usize))
+            .saturating_sub(self.regrets.table.cost_left(rider as usize))
     }
 
     /// Gives the row to its vehicle, which has one.
@@ -312,18 +266,18 @@ impl Annealing<'_> {
             self.log.push(old)?;
             self.change = self
                 .change
-                .saturating_add(worth(self.table, row))
-                .saturating_sub(worth(self.table, old));
+                .saturating_add(worth(self.regrets.table, row))
+                .saturating_sub(worth(self.regrets.table, old));
         }
         Ok(())
     }
 
     /// Gives the row to its vehicle in place of another. The other one.
     fn replace(&mut self, row: u32) -> Option<u32> {
-        let vehicle = self.table.vehicle(row as usize);
+        let vehicle = self.regrets.table.vehicle(row as usize);
         let old = self.present.row(vehicle);
-        self.present.release(self.table, vehicle);
-        self.present.give(self.table, row);
+        self.present.release(self.regrets.table, vehicle);
+        self.present.give(self.regrets.table, row);
         old
     }
 

@@ -1,5 +1,5 @@
 //! A draft: the relaxation of all rows, plans made from it, and a tree where they leave a gap.
-use crate::annealing::Board;
+use crate::beside::Beside;
 use crate::branching::condition_count;
 use crate::decided::Decided;
 use crate::diving::dive;
@@ -33,6 +33,9 @@ const BOX: i64 = 5;
 
 /// With so many nodes a tree waits for better plans unless a third of the gap is closed.
 const PROBE: usize = 41;
+
+/// How many nodes the tree of a merge has at most.
+const MERGE_NODES: usize = 200;
 
 /// After so many neighbourhoods in a row without a gain a plan is left, and how far each is searched.
 const IDLE: u32 = 300;
@@ -171,10 +174,10 @@ impl<'a> Drafting<'a> {
     /// served.
     fn make_more_plans<R: Threads + Sync>(&mut self, rt: &R) -> Result<(), OutOfMemory> {
         let mut count = if self.is_near() { FEW_SCOUTS } else { SCOUTS };
-        let mut board = None;
+        let mut beside = None;
         if self.tree.gap(self.tree.draft.bound) >= self.regrets.table.penalty() / 4 {
             count = MOST_SCOUTS;
-            board = Some(Board::new(self.alloc, &self.regrets)?);
+            beside = Some(Beside::new(self.alloc, self.regrets.table)?);
         }
         let mut scouts: Vec<Scout> = Vec::new(self.alloc);
         let start = Start {
@@ -182,7 +185,7 @@ impl<'a> Drafting<'a> {
             plan: &self.tree.draft.plan,
             bound: self.tree.draft.bound,
             basis: root_basis(&self.tree),
-            board: board.as_ref(),
+            beside: beside.as_ref(),
         };
         for number in 0..count {
             let relaxation = &self.decided.relaxation;
@@ -204,8 +207,11 @@ impl<'a> Drafting<'a> {
         let merge = Merge::new(self.alloc, &self.regrets, &self.tree.draft.plan, scouts)?;
         let plan = merge.in_part(self.alloc, &self.tree.draft.plan)?;
         let mut drafting = Drafting::new(self.alloc, &merge.part, &plan, self.workers)?;
+        drafting
+            .tree
+            .offer(self.alloc, &plan, self.tree.draft.cost)?;
         drafting.make_plans()?;
-        drafting.grow(rt, PROBE)?;
+        drafting.grow(rt, MERGE_NODES)?;
         let draft = &drafting.tree.draft;
         let plan = merge.in_whole(self.alloc, &draft.plan)?;
         self.tree.offer(self.alloc, &plan, draft.cost)

@@ -1,6 +1,7 @@
 //! Plans that are sought side by side: each scout goes its own way from the best plan, and what it finds follows from
 //! its number alone.
-use crate::annealing::{Board, anneal};
+use crate::annealing::anneal;
+use crate::beside::Beside;
 use crate::decided::Decided;
 use crate::diving::dive;
 use crate::plans::Plans;
@@ -13,7 +14,7 @@ use std::alloc::Global;
 const TURNS: u64 = 4;
 
 /// After so many neighbourhoods in a row without a gain a plan is left, and how far each is searched.
-const IDLE: u32 = 1500;
+const IDLE: u32 = 1000;
 
 const STEPS: u32 = 2000;
 
@@ -25,7 +26,7 @@ pub struct Start<'a> {
     pub bound: i64,
     pub basis: &'a [u32],
     /// What annealings share, where one rider more might be served.
-    pub board: Option<&'a Board>,
+    pub beside: Option<&'a Beside>,
 }
 
 /// One who looks for plans, with a relaxation of its own.
@@ -64,9 +65,9 @@ impl Scout {
     fn find(&mut self, alloc: Global, start: Start) -> Result<(), OutOfMemory> {
         let table = start.regrets.table;
         self.plans.adopt(start.regrets, start.plan)?;
-        match start.board {
-            Some(board) if self.number % TURNS > 0 => {
-                let plan = anneal(alloc, table, board, start.plan, self.number)?;
+        match start.beside {
+            Some(beside) if self.number % TURNS > 0 => {
+                let plan = anneal(alloc, start.regrets, beside, start.plan, self.number)?;
                 self.plans.adopt(start.regrets, &plan)?;
                 self.plans.better(start.regrets, start.bound, IDLE, STEPS)
             }
@@ -75,8 +76,7 @@ impl Scout {
                 if let Some(plan) = dive(alloc, table, decided, start.basis, self.number)? {
                     self.plans.adopt(start.regrets, &plan)?;
                 }
-                self.plans
-                    .better(start.regrets, start.bound, 2 * IDLE, STEPS)
+                self.plans.better(start.regrets, start.bound, IDLE, STEPS)
             }
         }
     }
