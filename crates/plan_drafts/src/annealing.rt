@@ -82,8 +82,8 @@ impl Annealing<'_> {
         let stages = moves / MOVES_EACH;
         for stage in 0..stages {
             let part = (stage << 20).checked_div(stages).unwrap_or(0).min(1 << 20) as i64;
-            let cooled = (WARM - COOL) * part >> 10;
-            self.make_moves(WARM * 1024 - cooled)?;
+            let cooled = (WARM - COOL).saturating_mul(part) >> 10;
+            self.make_moves((WARM * 1024).saturating_sub(cooled))?;
         }
         if self.least >= 0 {
             self.note()?;
@@ -143,11 +143,15 @@ impl Annealing<'_> {
         if self.change <= 0 {
             return true;
         }
-        let chance = self.draws.below(1 << 32) as u32;
+        let chance = short(self.draws.below(1 << 32));
         let zeros = chance.leading_zeros();
-        let rest = (chance << zeros.min(31)) >> 21;
-        let logarithm = i64::from(zeros * 1024 + 2048 - rest);
-        self.change.saturating_mul(1 << 30) <= temperature.saturating_mul(logarithm * 710)
+        let rest = chance.checked_shl(zeros).unwrap_or(0) >> 21;
+        let logarithm = zeros
+            .saturating_mul(1024)
+            .saturating_add(2048)
+            .saturating_sub(rest);
+        self.change.saturating_mul(1 << 30)
+            <= temperature.saturating_mul(i64::from(logarithm).saturating_mul(710))
     }
 
     /// Gives the row to its vehicle and mends the rest, where others have rows without its riders. Whether they do.
