@@ -42,7 +42,8 @@ const IDLE: u32 = 300;
 
 const STEPS: u32 = 500;
 
-/// How many scouts there are where one rider more might be served, elsewhere, and where the gap is at most this part of the cost.
+/// How many scouts there are where one rider more might be served, elsewhere, and where the gap is at most this part
+/// of the cost.
 const MOST_SCOUTS: u64 = 12;
 
 const SCOUTS: u64 = 4;
@@ -71,7 +72,8 @@ impl Drafter for RelaxationDrafter {
         drafting.grow(rt, budget.min(PROBE))?;
         if drafting.is_growing(first) {
             drafting.grow(rt, budget)?;
-        } else {
+        }
+        if drafting.tree.is_open() {
             drafting.make_more_plans(rt)?;
             if !drafting.is_near() {
                 drafting.grow(rt, budget)?;
