@@ -42,7 +42,8 @@ const IDLE: u32 = 300;
 
 const STEPS: u32 = 500;
 
-/// How many scouts there are where one rider more might be served, elsewhere, and where the gap is at most this part of the cost.
+/// How many scouts there are where one rider more might be served, elsewhere, and where the gap is at most this part
+/// of the cost.
 const MOST_SCOUTS: u64 = 12;
 
 const SCOUTS: u64 = 4;
@@ -71,7 +72,8 @@ impl Drafter for RelaxationDrafter {
         drafting.grow(rt, budget.min(PROBE))?;
         if drafting.is_growing(first) {
             drafting.grow(rt, budget)?;
-        } else {
+        }
+        if drafting.tree.is_open() {
             drafting.make_more_plans(rt)?;
             if !drafting.is_near() {
                 drafting.grow(rt, budget)?;
@@ -122,9 +124,8 @@ impl<'a> Drafting<'a> {
         plans.round(&self.regrets, &shares)?;
         self.better(&mut plans)?;
         if self.tree.is_open() {
-            let basis = root_basis(&self.tree);
             let decided = &mut self.decided;
-            if let Some(plan) = dive(self.alloc, table, decided, basis, 0)? {
+            if let Some(plan) = dive(self.alloc, table, decided, self.tree.root_basis(), 0)? {
                 plans.adopt(&self.regrets, &plan)?;
                 self.better(&mut plans)?;
             }
@@ -179,19 +180,13 @@ impl<'a> Drafting<'a> {
             count = MOST_SCOUTS;
             beside = Some(Beside::new(self.alloc, self.regrets.table)?);
         }
-        let mut scouts: Vec<Scout> = Vec::new(self.alloc);
         let start = Start {
             regrets: &self.regrets,
-            plan: &self.tree.draft.plan,
-            bound: self.tree.draft.bound,
-            basis: root_basis(&self.tree),
+            relaxation: &self.decided.relaxation,
+            tree: &self.tree,
             beside: beside.as_ref(),
         };
-        for number in 0..count {
-            let relaxation = &self.decided.relaxation;
-            scouts.push(Scout::beside(self.alloc, relaxation, start, number)?)?;
-        }
-        look_all(rt, self.alloc, start, self.workers, &mut scouts);
+        let scouts = send_scouts(rt, self.alloc, start, count, self.workers)?;
         for scout in &scouts {
             if !scout.is_done {
                 return Err(OutOfMemory);
@@ -218,31 +213,28 @@ impl<'a> Drafting<'a> {
     }
 }
 
-/// Has scouts look for plans, by at most so many workers.
-fn look_all<R: Threads + Sync>(
+/// Has so many scouts look for plans, by at most so many workers.
+fn send_scouts<R: Threads + Sync>(
     rt: &R,
     alloc: Global,
     start: Start,
+    count: u64,
     workers: u8,
-    scouts: &mut [Scout],
-) {
+) -> Result<Vec<Scout>, OutOfMemory> {
+    let mut scouts: Vec<Scout> = Vec::new(alloc);
+    for number in 0..count {
+        scouts.push(Scout::new(alloc, start, number)?)?;
+    }
     let workers = usize::from(workers).max(1);
     thread::for_each_mut(
         rt,
-        scouts,
+        &mut scouts,
         workers,
         &|_: usize, scout: &mut Scout| {
             scout.look(alloc, start);
         },
     );
-}
-
-/// The basis of the first solution.
-fn root_basis(tree: &DraftTree) -> &[u32] {
-    match tree.standing(0) {
-        Some(standing) => &standing.basis,
-        None => &[],
-    }
+    Ok(scouts)
 }
 
 /// Solves the relaxation, at first with little to pay for a rider who is left out.

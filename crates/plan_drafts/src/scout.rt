@@ -6,6 +6,7 @@ use crate::decided::Decided;
 use crate::diving::dive;
 use crate::plans::Plans;
 use crate::regrets::Regrets;
+use crate::tree::DraftTree;
 use linear_relaxation::Relaxation;
 use pool_base::OutOfMemory;
 use std::alloc::Global;
@@ -22,10 +23,10 @@ const STEPS: u32 = 2000;
 #[derive(Clone, Copy)]
 pub struct Start<'a> {
     pub regrets: &'a Regrets<'a>,
-    pub plan: &'a [Option<u32>],
-    pub bound: i64,
-    pub basis: &'a [u32],
-    /// What annealings share, where one rider more might be served.
+    pub relaxation: &'a Relaxation,
+    /// A tree with the best plan so far.
+    pub tree: &'a DraftTree,
+    /// What annealings need, where one rider more might be served.
     pub beside: Option<&'a Beside>,
 }
 
@@ -40,18 +41,16 @@ pub struct Scout {
 }
 
 impl Scout {
-    /// One with a relaxation beside this one.
-    pub fn beside(
-        alloc: Global,
-        relaxation: &Relaxation,
-        start: Start,
-        number: u64,
-    ) -> Result<Self, OutOfMemory> {
-        let beside = relaxation.beside(alloc, start.regrets.table, start.plan)?;
+    /// The scout of this number, with the best plan so far.
+    pub fn new(alloc: Global, start: Start, number: u64) -> Result<Self, OutOfMemory> {
+        let table = start.regrets.table;
+        let plan = start.tree.draft.plan.as_slice();
+        let mut plans = Plans::new(alloc, start.regrets, number)?;
+        plans.adopt(start.regrets, plan)?;
         Ok(Scout {
             number,
-            decided: Decided::new(alloc, beside),
-            plans: Plans::new(alloc, start.regrets, number)?,
+            decided: Decided::new(alloc, start.relaxation.beside(alloc, table, plan)?),
+            plans,
             is_done: false,
         })
     }
@@ -63,21 +62,21 @@ impl Scout {
 
     /// Goes on from the best plan by annealing, or to another by a dive, and betters it.
     fn find(&mut self, alloc: Global, start: Start) -> Result<(), OutOfMemory> {
-        let table = start.regrets.table;
-        self.plans.adopt(start.regrets, start.plan)?;
-        match start.beside {
+        let plan = match start.beside {
             Some(beside) if self.number % TURNS > 0 => {
-                let plan = anneal(alloc, start.regrets, beside, start.plan, self.number)?;
-                self.plans.adopt(start.regrets, &plan)?;
-                self.plans.better(start.regrets, start.bound, IDLE, STEPS)
+                let plan = start.tree.draft.plan.as_slice();
+                Some(anneal(alloc, start.regrets, beside, plan, self.number)?)
             }
             _ => {
+                let basis = start.tree.root_basis();
                 let decided = &mut self.decided;
-                if let Some(plan) = dive(alloc, table, decided, start.basis, self.number)? {
-                    self.plans.adopt(start.regrets, &plan)?;
-                }
-                self.plans.better(start.regrets, start.bound, IDLE, STEPS)
+                dive(alloc, start.regrets.table, decided, basis, self.number)?
             }
+        };
+        if let Some(plan) = plan {
+            self.plans.adopt(start.regrets, &plan)?;
         }
+        let bound = start.tree.draft.bound;
+        self.plans.better(start.regrets, bound, IDLE, STEPS)
     }
 }

@@ -111,6 +111,14 @@ impl DraftTree {
         self.standings.get(number)
     }
 
+    /// The basis of the first solution.
+    pub fn root_basis(&self) -> &[u32] {
+        match self.standing(0) {
+            Some(standing) => &standing.basis,
+            None => &[],
+        }
+    }
+
     /// The multipliers of a node.
     pub fn multipliers(&self, number: usize) -> &[i64] {
         match self.draft.nodes.get(number) {
