@@ -1,16 +1,15 @@
 //! Which rows of a vehicle have one rider less than a row, or one more.
 
-use crate::present::NONE;
 use pool_base::OutOfMemory;
 use row_tables::RowTable;
-use row_tables::fixed_point::item;
-use row_tables::lists::{Lists, short};
+use row_tables::fixed_point::{item, part};
+use row_tables::lists::Lists;
 use std::alloc::Global;
 
 /// The rows beside each row.
 #[derive(Drop)]
 pub struct Beside {
-    /// For each row and each of its riders the row without her, or `NONE`.
+    /// For each row and each of its riders the row without her, or one past the last row.
     without: Lists,
     /// For each row the riders who can be added, rising, and the rows with these.
     added: Lists,
@@ -44,146 +43,107 @@ impl Beside {
         Ok(())
     }
 
-    /// The row without this rider of its own, or `NONE`.
-    pub fn without(&self, table: &RowTable, row: usize, rider: u32) -> u32 {
-        for (place, member) in table.riders_of(row).iter().enumerate() {
+    /// The row without this rider of its own, if there is one.
+    pub fn without(&self, table: &RowTable, row: u32, rider: u32) -> Option<u32> {
+        let rows = self.without.list(row as usize);
+        for (place, member) in table.riders_of(row as usize).iter().enumerate() {
             if *member == rider {
-                return item(self.without.list(row), place, NONE);
+                let row = item(rows, place, u32::MAX);
+                return if (row as usize) < table.row_count() {
+                    Some(row)
+                } else {
+                    None
+                };
             }
         }
-        NONE
+        None
     }
 
     /// The vehicles with a row that has this rider.
-    pub fn vehicles_with(&self, rider: usize) -> &[u32] {
-        self.vehicles.list(rider)
+    pub fn vehicles_with(&self, rider: u32) -> &[u32] {
+        self.vehicles.list(rider as usize)
     }
 
     /// The riders who can be added to this row, rising.
-    pub fn added(&self, row: usize) -> &[u32] {
-        self.added.list(row)
+    pub fn added(&self, row: u32) -> &[u32] {
+        self.added.list(row as usize)
     }
 
     /// The rows that these riders make of it.
-    pub fn wider(&self, row: usize) -> &[u32] {
-        self.wider.list(row)
+    pub fn wider(&self, row: u32) -> &[u32] {
+        self.wider.list(row as usize)
     }
 
-    /// The row with this rider too, or `NONE`.
-    pub fn with(&self, row: usize, rider: u32) -> u32 {
-        let riders = self.added.list(row);
-        let mut low = 0;
-        let mut high = riders.len();
-        for _ in 0..32 {
-            if low >= high {
-                break;
-            }
-            let middle = low + (high - low) / 2;
-            if item(riders, middle, NONE) < rider {
-                low = middle.saturating_add(1);
-            } else {
-                high = middle;
-            }
-        }
-        if item(riders, low, NONE) == rider {
-            item(self.wider.list(row), low, NONE)
-        } else {
-            NONE
+    /// The row with this rider too, if there is one.
+    pub fn with(&self, row: u32, rider: u32) -> Option<u32> {
+        match self.added(row).binary_search(&rider) {
+            Ok(place) => self.wider(row).get(place).copied(),
+            Err(_) => None,
         }
     }
 }
 
-/// For each row and each of its riders the row of the same vehicle without her, or `NONE`.
+/// For each row and each of its riders the row of the same vehicle without her, or one past the last row. A
+/// vehicle's rows stand by size, then riders.
 fn rows_without(alloc: Global, table: &RowTable) -> Result<Lists, OutOfMemory> {
     let mut without = Lists::new(alloc);
+    let mut trip: Vec<u32> = Vec::new(alloc);
     for row in 0..table.row_count() {
         let riders = table.riders_of(row);
-        let first = table.rows_of(table.vehicle(row)).start;
         for skipped in 0..riders.len() {
-            without.push(find(table, first, row, riders, skipped) as usize)?;
+            trip.clear();
+            trip.extend_from_slice(part(riders, 0, skipped))?;
+            trip.extend_from_slice(part(riders, skipped.saturating_add(1), riders.len()))?;
+            without.push(find(table, row, &trip))?;
         }
         without.end()?;
     }
     Ok(without)
 }
 
-/// The row among these that has all of the riders but the skipped one, or `NONE`. Rows stand by size, then
-/// riders.
-fn find(table: &RowTable, first: usize, end: usize, riders: &[u32], skipped: usize) -> u32 {
-    let mut low = first;
-    let mut high = end;
+/// The row with these riders among those of the same vehicle before this one, or one past the last row.
+fn find(table: &RowTable, row: usize, trip: &[u32]) -> usize {
+    let mut low = table.rows_of(table.vehicle(row)).start;
+    let mut high = row;
     for _ in 0..32 {
         if low >= high {
             break;
         }
         let middle = low + (high - low) / 2;
-        if is_below(table.riders_of(middle), riders, skipped) {
+        let riders = table.riders_of(middle);
+        if (riders.len(), riders) < (trip.len(), trip) {
             low = middle.saturating_add(1);
         } else {
             high = middle;
         }
     }
-    if low < end && are_same(table.riders_of(low), riders, skipped) {
-        short(low)
+    if low < row && table.riders_of(low) == trip {
+        low
     } else {
-        NONE
+        table.row_count()
     }
 }
 
-/// Whether these stand before the other riders without the skipped one.
-fn is_below(these: &[u32], riders: &[u32], skipped: usize) -> bool {
-    let size = riders.len().saturating_sub(1);
-    if these.len() != size {
-        return these.len() < size;
-    }
-    for (place, rider) in these.iter().enumerate() {
-        let other = rider_at(riders, skipped, place);
-        if *rider != other {
-            return *rider < other;
-        }
-    }
-    false
-}
-
-/// Whether these are the other riders without the skipped one.
-fn are_same(these: &[u32], riders: &[u32], skipped: usize) -> bool {
-    for (place, rider) in these.iter().enumerate() {
-        if *rider != rider_at(riders, skipped, place) {
-            return false;
-        }
-    }
-    these.len() == riders.len().saturating_sub(1)
-}
-
-/// The rider at this place, where the skipped one isn't counted.
-fn rider_at(riders: &[u32], skipped: usize, place: usize) -> u32 {
-    if place < skipped {
-        item(riders, place, NONE)
-    } else {
-        item(riders, place.saturating_add(1), NONE)
-    }
-}
-
-/// The first of these riders who isn't where she stands among the others, or `NONE`.
+/// The first of these riders who isn't where she stands among the others.
 fn first_other(riders: &[u32], others: &[u32]) -> u32 {
     for (place, rider) in riders.iter().enumerate() {
-        if item(others, place, NONE) != *rider {
+        if item(others, place, u32::MAX) != *rider {
             return *rider;
         }
     }
-    NONE
+    u32::MAX
 }
 
 /// For each rider the vehicles with a row that has her.
 fn vehicles_with(alloc: Global, table: &RowTable) -> Result<Lists, OutOfMemory> {
     let mut vehicles = Lists::new(alloc);
     for rider in 0..table.rider_count() {
-        let mut last = NONE;
+        let mut last = None;
         for row in table.rows_with(rider) {
-            let vehicle = short(table.vehicle(*row as usize));
-            if vehicle != last {
-                vehicles.push(vehicle as usize)?;
-                last = vehicle;
+            let vehicle = table.vehicle(*row as usize);
+            if last != Some(vehicle) {
+                vehicles.push(vehicle)?;
+                last = Some(vehicle);
             }
         }
         vehicles.end()?;

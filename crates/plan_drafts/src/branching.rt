@@ -3,8 +3,8 @@
 //! Of the rows that the relaxation chooses most nearly by half some are tried: the dual simplex takes some columns in
 //! with the row taken and with the row forbidden, over the rows at hand, and the greatest product of the two rises
 //! wins.
-use crate::bans::{Bans, decision, has_choice};
-use linear_relaxation::{Ended, Relaxation, Saved};
+use crate::decided::Decided;
+use linear_relaxation::{Ended, Saved};
 use pool_base::OutOfMemory;
 use row_tables::fixed_point::{ONE, item};
 use row_tables::{Decision, RowTable, Share};
@@ -17,58 +17,99 @@ const A_RIDER: i64 = ONE / 100 * 3;
 #[derive(Clone, Copy)]
 pub struct Effort {
     /// How many rows are tried at most.
-    pub candidates: usize,
+    candidates: usize,
     /// After so many trials in a row without a better score no more are made.
-    pub idle: usize,
+    idle: usize,
     /// How many columns come in for one trial at most.
-    pub pivots: u64,
+    pivots: u64,
+}
+
+/// The effort in most graphs; in graphs of up to so many vehicles and riders, where a trial is cheap; and in graphs
+/// of more than so many, where it is dear.
+const EFFORT: Effort = Effort {
+    candidates: 12,
+    idle: 8,
+    pivots: 30,
+};
+
+const FEW_CONDITIONS: usize = 350;
+
+const STRONG_EFFORT: Effort = Effort {
+    candidates: 60,
+    idle: 60,
+    pivots: 600,
+};
+
+const MANY_CONDITIONS: usize = 800;
+
+const LIGHT_EFFORT: Effort = Effort {
+    candidates: 3,
+    idle: 3,
+    pivots: 30,
+};
+
+/// The effort for this table.
+fn effort_for(table: &RowTable) -> Effort {
+    let conditions = condition_count(table);
+    if conditions <= FEW_CONDITIONS {
+        STRONG_EFFORT
+    } else if conditions > MANY_CONDITIONS {
+        LIGHT_EFFORT
+    } else {
+        EFFORT
+    }
+}
+
+/// How many vehicles and riders there are.
+pub fn condition_count(table: &RowTable) -> usize {
+    table.vehicle_count().saturating_add(table.rider_count())
 }
 
 /// The work space of a choice.
 #[derive(Drop)]
 pub struct Branching {
+    effort: Effort,
+    /// Where the relaxation stood when the last choice was made.
     pub saved: Saved,
     /// The rows that may be tried, behind how far they lie from one half.
     ranks: Vec<(i64, u32)>,
 }
 
 impl Branching {
-    pub fn new(alloc: Global) -> Self {
+    pub fn new(alloc: Global, table: &RowTable) -> Self {
         Branching {
+            effort: effort_for(table),
             saved: Saved::new(alloc),
             ranks: Vec::new(alloc),
         }
     }
 
     /// The row to branch on, where the relaxation stands at the node, which is saved; it stands there again
-    /// afterwards. None where there is no choice left. Without an effort the first row is taken, and none is tried.
-    /// The limit is what a plan is to cost less than, in seconds.
+    /// afterwards. None where there is no choice left. The limit is what a plan is to cost less than, in seconds.
+    /// Where no rows are to be tried the first one is taken.
     pub fn choose(
         &mut self,
         table: &RowTable,
-        relaxation: &mut Relaxation,
-        bans: &mut Bans,
+        decided: &mut Decided,
         shares: &[Share],
-        effort: Option<Effort>,
         limit: i64,
+        tries: bool,
     ) -> Result<Option<usize>, OutOfMemory> {
-        let rest = relaxation
-            .in_prices(limit)
-            .saturating_sub(relaxation.cost());
-        let most = rest.saturating_add(rest / 5);
-        relaxation.save(&mut self.saved)?;
+        let limit = decided.relaxation.in_prices(limit);
+        let rest = limit.saturating_sub(decided.relaxation.cost());
+        decided.relaxation.save(&mut self.saved)?;
         self.rank(table, shares)?;
         if self.ranks.is_empty() {
-            return Ok(any_open_row(table, relaxation));
+            return Ok(any_open_row(table, decided));
         }
-        let best = match effort {
-            None => 0,
-            Some(effort) => self.try_rows(table, relaxation, bans, effort, most)?,
-        };
+        let mut best = 0;
+        if tries && self.ranks.len() > 1 {
+            best = self.try_rows(table, decided, rest.saturating_add(rest / 5))?;
+        }
         Ok(Some(self.row(best)))
     }
 
-    /// Ranks these rows, those that are chosen most nearly by half first.
+    /// Ranks these rows, those that are chosen most nearly by half first, as many as may be tried.
     fn rank(&mut self, table: &RowTable, shares: &[Share]) -> Result<(), OutOfMemory> {
         self.ranks.clear();
         for share in shares {
@@ -77,7 +118,8 @@ impl Branching {
             let rank = distance.wrapping_sub(A_RIDER.wrapping_mul(riders));
             self.ranks.push((rank, share.row))?;
         }
-        self.ranks.sort()?;
+        self.ranks.as_mut_slice().sort_unstable();
+        self.ranks.truncate(self.effort.candidates);
         Ok(())
     }
 
@@ -89,23 +131,19 @@ impl Branching {
     fn try_rows(
         &mut self,
         table: &RowTable,
-        relaxation: &mut Relaxation,
-        bans: &mut Bans,
-        effort: Effort,
+        decided: &mut Decided,
         most: i64,
     ) -> Result<usize, OutOfMemory> {
         let mut best: usize = 0;
         let mut most_score = -1;
-        self.ranks.truncate(effort.candidates);
-        if self.ranks.len() == 1 {
-            return Ok(0);
-        }
         for place in 0..self.ranks.len() {
-            if place.saturating_sub(best) >= effort.idle {
+            if place.saturating_sub(best) >= self.effort.idle {
                 break;
             }
             let row = self.row(place);
-            let score = self.score(table, relaxation, bans, row, effort.pivots, most)?;
+            let taken = self.rise(table, decided, decision(0, row, true), most)?;
+            let left = self.rise(table, decided, decision(0, row, false), most)?;
+            let score = score_of(taken, most).wrapping_mul(score_of(left, most));
             if score > most_score {
                 most_score = score;
                 best = place;
@@ -114,55 +152,21 @@ impl Branching {
         Ok(best)
     }
 
-    /// The product of the rises with the row taken and with the row forbidden.
-    fn score(
-        &mut self,
-        table: &RowTable,
-        relaxation: &mut Relaxation,
-        bans: &mut Bans,
-        row: usize,
-        pivots: u64,
-        most: i64,
-    ) -> Result<i128, OutOfMemory> {
-        let taken = self.rise(
-            table,
-            relaxation,
-            bans,
-            decision(0, row, true),
-            pivots,
-            most,
-        )?;
-        let left = self.rise(
-            table,
-            relaxation,
-            bans,
-            decision(0, row, false),
-            pivots,
-            most,
-        )?;
-        Ok(score_of(taken, most).wrapping_mul(score_of(left, most)))
-    }
-
     /// How much the cost rises at least with this decision, up to the most.
     fn rise(
         &mut self,
         table: &RowTable,
-        relaxation: &mut Relaxation,
-        bans: &mut Bans,
+        decided: &mut Decided,
         decision: Decision,
-        pivots: u64,
         most: i64,
     ) -> Result<i64, OutOfMemory> {
-        let count = bans.len();
-        bans.decide(table, relaxation, decision)?;
-        let (ended, rise) = relaxation.pivot_dual(table, pivots, most)?;
-        bans.go_back(relaxation, count);
+        let count = decided.len();
+        decided.decide(table, decision)?;
+        let relaxation = &mut decided.relaxation;
+        let (ended, rise) = relaxation.pivot_dual(table, self.effort.pivots, most)?;
         relaxation.go_back(&self.saved)?;
-        if ended == Ended::Failed {
-            Ok(most)
-        } else {
-            Ok(rise)
-        }
+        decided.go_back(count);
+        Ok(if ended == Ended::Failed { most } else { rise })
     }
 }
 
@@ -171,13 +175,22 @@ fn score_of(rise: i64, most: i64) -> i128 {
     i128::from(rise.min(most).max(ONE / 2))
 }
 
+/// A row taken or forbidden below this node.
+pub fn decision(parent: usize, row: usize, is_taken: bool) -> Decision {
+    Decision {
+        parent,
+        row,
+        is_taken,
+    }
+}
+
 /// A row of the basis whose vehicle has another one.
-fn any_open_row(table: &RowTable, relaxation: &Relaxation) -> Option<usize> {
-    for column in relaxation.columns() {
+fn any_open_row(table: &RowTable, decided: &Decided) -> Option<usize> {
+    for column in decided.relaxation.columns() {
         let row = *column as usize;
         if row < table.row_count()
-            && !relaxation.is_forbidden(row)
-            && has_choice(table, relaxation, row)
+            && !decided.relaxation.is_forbidden(row)
+            && decided.has_choice(table, row)
         {
             return Some(row);
         }

@@ -1,14 +1,15 @@
 //! A plan from the relaxation: rows that it chooses nearly whole are taken, and it is solved again.
-use crate::bans::{Bans, has_choice};
-use crate::ranks::Rank;
-use crate::whole::whole_plan;
-use linear_relaxation::Relaxation;
+use crate::decided::Decided;
 use pool_base::OutOfMemory;
+use row_tables::fixed_point::set_at;
 use row_tables::{Draws, RowTable, Share};
 use std::alloc::Global;
 use std::cmp::Reverse;
 
-/// From this share on, in units of 2^-32, a row is chosen whole.
+/// More than half of a row, in units of 2^-32.
+const HALF: i64 = 1 << 31;
+
+/// From this share on a row is chosen whole.
 const WHOLE: i64 = (1 << 32) / 100 * 99;
 
 /// From this share on a row is taken.
@@ -22,44 +23,47 @@ const MOST_ROWS: usize = 10;
 
 const MOST_PASSES: u32 = 3;
 
-/// A plan that starts at this basis, if it comes to one. Of drawn ones the first row is left out now and
-/// then.
+/// What stands in order as rows do by falling share: share and row.
+type Rank = (Reverse<i64>, u32);
+
+/// A plan that starts at this basis, if it comes to one. But for number 0 the first row is left out now and then, as
+/// is drawn from the number.
 pub fn dive(
     alloc: Global,
     table: &RowTable,
-    relaxation: &mut Relaxation,
+    decided: &mut Decided,
     basis: &[u32],
-    draws: &mut Draws,
-    is_drawn: bool,
+    number: u64,
 ) -> Result<Option<Vec<Option<u32>>>, OutOfMemory> {
-    let mut bans = Bans::new(alloc);
-    relaxation.go_to(table, basis)?;
-    let found = descend(alloc, table, relaxation, &mut bans, draws, is_drawn);
-    bans.go_back(relaxation, 0);
+    decided.go_back(0);
+    decided.relaxation.hold(false);
+    decided.relaxation.go_to(table, basis)?;
+    let found = descend(alloc, table, decided, number);
+    decided.go_back(0);
     found
 }
 
 fn descend(
     alloc: Global,
     table: &RowTable,
-    relaxation: &mut Relaxation,
-    bans: &mut Bans,
-    draws: &mut Draws,
-    is_drawn: bool,
+    decided: &mut Decided,
+    number: u64,
 ) -> Result<Option<Vec<Option<u32>>>, OutOfMemory> {
+    let mut draws = Draws::new(number);
     let mut shares: Vec<Share> = Vec::new(alloc);
     let mut ranks: Vec<Rank> = Vec::new(alloc);
     for _ in 0..table.vehicle_count().saturating_mul(2) {
+        let relaxation = &mut decided.relaxation;
         relaxation.solve(table, i64::MAX, MOST_ROWS, MOST_PASSES)?;
         relaxation.find_shares(table, &mut shares)?;
-        if !rank_open(table, relaxation, &shares, &mut ranks)? {
+        if !rank_open(table, decided, &shares, &mut ranks)? {
             return Ok(None);
         }
         if is_whole(&shares) {
             return Ok(Some(whole_plan(alloc, table, &shares)?));
         }
-        let skips = is_drawn && draws.below(4) == 0;
-        take_first(table, relaxation, bans, &shares, &ranks, skips)?;
+        let skips = number > 0 && draws.below(4) == 0;
+        take_first(table, decided, &ranks, skips)?;
     }
     Ok(None)
 }
@@ -68,22 +72,21 @@ fn descend(
 /// chosen.
 fn rank_open(
     table: &RowTable,
-    relaxation: &Relaxation,
+    decided: &Decided,
     shares: &[Share],
     ranks: &mut Vec<Rank>,
 ) -> Result<bool, OutOfMemory> {
     ranks.clear();
-    for place in 0..shares.len() {
-        let share = shares[place];
+    for share in shares {
         let row = share.row as usize;
-        if relaxation.is_forbidden(row) {
+        if decided.relaxation.is_forbidden(row) {
             return Ok(false);
         }
-        if has_choice(table, relaxation, row) {
-            ranks.push((Reverse(share.part), place))?;
+        if decided.has_choice(table, row) {
+            ranks.push((Reverse(share.part), share.row))?;
         }
     }
-    ranks.sort()?;
+    ranks.as_mut_slice().sort_unstable();
     Ok(true)
 }
 
@@ -96,32 +99,44 @@ fn is_whole(shares: &[Share]) -> bool {
     true
 }
 
-/// Takes the first rows that are still allowed.
+/// The rows of which more than half is chosen.
+pub fn whole_plan(
+    alloc: Global,
+    table: &RowTable,
+    shares: &[Share],
+) -> Result<Vec<Option<u32>>, OutOfMemory> {
+    let mut plan: Vec<Option<u32>> = vec![in alloc; None; table.vehicle_count()]?;
+    for share in shares {
+        if share.part > HALF {
+            set_at(
+                &mut plan,
+                table.vehicle(share.row as usize),
+                Some(share.row),
+            );
+        }
+    }
+    Ok(plan)
+}
+
+/// Takes the first rows that are still allowed, the very first one not where it is skipped.
 fn take_first(
     table: &RowTable,
-    relaxation: &mut Relaxation,
-    bans: &mut Bans,
-    shares: &[Share],
+    decided: &mut Decided,
     ranks: &[Rank],
     skips: bool,
 ) -> Result<(), OutOfMemory> {
     let mut skips = skips;
     let mut count: u32 = 0;
-    for rank in ranks {
-        let Some(share) = shares.get(rank.1).copied() else {
-            return Ok(());
-        };
-        let is_sure = share.part > WHOLE;
-        if !is_sure && count > 0 && (share.part < NEARLY_WHOLE || count >= MOST_AT_ONCE) {
+    for (Reverse(part), row) in ranks {
+        let is_sure = *part > WHOLE;
+        if !is_sure && count > 0 && (*part < NEARLY_WHOLE || count >= MOST_AT_ONCE) {
             return Ok(());
         }
         if !is_sure && skips {
             skips = false;
-        } else if !relaxation.is_forbidden(share.row as usize) {
-            bans.take(table, relaxation, share.row as usize)?;
-            if !is_sure {
-                count = count.saturating_add(1);
-            }
+        } else if !decided.relaxation.is_forbidden(*row as usize) {
+            decided.take(table, *row as usize)?;
+            count = count.saturating_add(u32::from(!is_sure));
         }
     }
     Ok(())

@@ -19,24 +19,20 @@
 #![tactic(auto)]
 
 mod annealing;
-mod bans;
 mod beside;
 mod branching;
 mod choices;
-mod cooling;
+mod costs;
+mod decided;
 mod diving;
 mod draft;
 mod merge;
 mod neighbourhood;
-mod part;
+mod parter;
 mod plans;
 mod present;
-mod ranks;
 mod regrets;
-mod rounding;
 mod scout;
-mod team;
 mod tree;
-mod whole;
 
 pub use draft::RelaxationDrafter;

@@ -19,74 +19,80 @@ pub struct Neighbourhood {
     is_in: Vec<bool>,
     /// Riders from whom the walk goes on.
     frontier: Vec<u32>,
+    draws: Draws,
     choices: Choices,
 }
 
 impl Neighbourhood {
-    /// The room of a search among so many vehicles and riders.
-    pub fn new(alloc: Global, vehicles: usize, riders: usize) -> Result<Self, OutOfMemory> {
+    /// Walks over these rows. What is drawn follows from the seed.
+    pub fn new(alloc: Global, regrets: &Regrets, seed: u64) -> Result<Self, OutOfMemory> {
         Ok(Neighbourhood {
             vehicles: Vec::new(alloc),
-            is_in: vec![in alloc; false; vehicles]?,
+            is_in: vec![in alloc; false; regrets.table.vehicle_count()]?,
             frontier: Vec::new(alloc),
-            choices: Choices::new(alloc, riders)?,
+            draws: Draws::new(seed),
+            choices: Choices::new(alloc, regrets.table.rider_count())?,
         })
     }
 
-    /// Chooses the rows of so many vehicles anew. What that saves, in 1/1024 second.
+    /// Chooses the rows of so many vehicles near each other anew, if there are enough. What that saves, in 1/1024
+    /// second.
     pub fn attempt(
         &mut self,
         regrets: &Regrets,
         present: &mut Present,
-        draws: &mut Draws,
         size: usize,
         most_steps: u32,
     ) -> Result<i64, OutOfMemory> {
-        self.walk(regrets, present, draws, size)?;
-        self.choices
-            .choose(regrets, present, &self.vehicles, most_steps)
-    }
-
-    /// So many vehicles near each other, if there are enough.
-    pub fn walk(
-        &mut self,
-        regrets: &Regrets,
-        present: &Present,
-        draws: &mut Draws,
-        size: usize,
-    ) -> Result<(), OutOfMemory> {
         self.vehicles.clear();
         self.frontier.clear();
-        self.begin(regrets, present, draws)?;
+        self.is_in.as_mut_slice().fill(false);
+        self.begin(regrets, present)?;
         for _ in 0..size.saturating_mul(6) {
             if self.vehicles.len() >= size {
                 break;
             }
-            self.step(regrets, present, draws, size)?;
+            self.step(regrets, present, size)?;
         }
-        self.is_in.as_mut_slice().fill(false);
-        Ok(())
+        self.choices
+            .choose(regrets, present, &self.vehicles, most_steps)
     }
 
-    /// The vehicles of the last walk.
-    pub fn vehicles(&self) -> &[u32] {
-        &self.vehicles
-    }
-
-    fn begin(
-        &mut self,
-        regrets: &Regrets,
-        present: &Present,
-        draws: &mut Draws,
-    ) -> Result<(), OutOfMemory> {
-        let left = left_rider(regrets, present, draws);
+    fn begin(&mut self, regrets: &Regrets, present: &Present) -> Result<(), OutOfMemory> {
+        let left = self.left_rider(regrets, present);
         if let Some(rider) = left {
-            self.frontier.push(short(rider))?;
+            self.frontier.push(rider)?;
         }
-        if left.is_none() || draws.below(3) == 0 {
-            self.add(regrets, present, regretted(regrets, present, draws))?;
+        if left.is_none() || self.draws.below(3) == 0 {
+            let vehicle = self.regretted(regrets, present);
+            self.add(regrets, present, vehicle)?;
         }
         Ok(())
+    }
+
+    /// A rider who is left out and could be served, if one is soon found.
+    fn left_rider(&mut self, regrets: &Regrets, present: &Present) -> Option<u32> {
+        for _ in 0..8 {
+            let rider = self.draws.below(regrets.table.rider_count());
+            if present.server(short(rider)).is_none() && !regrets.rows_with(rider).is_empty() {
+                return Some(short(rider));
+            }
+        }
+        None
+    }
+
+    /// A vehicle whose row has regret, if one is soon found.
+    fn regretted(&mut self, regrets: &Regrets, present: &Present) -> usize {
+        let mut vehicle = 0;
+        for turn in 0..20 {
+            vehicle = self.draws.below(regrets.table.vehicle_count());
+            if let Some(row) = present.row(vehicle) {
+                if turn > 10 || regrets.above(row) > 0 {
+                    return vehicle;
+                }
+            }
+        }
+        vehicle
     }
 
     /// Goes on from one of the riders to a row with her, its vehicle and those that serve its riders.
@@ -94,31 +100,27 @@ impl Neighbourhood {
         &mut self,
         regrets: &Regrets,
         present: &Present,
-        draws: &mut Draws,
         size: usize,
     ) -> Result<(), OutOfMemory> {
         if self.frontier.is_empty() {
-            let vehicle = draws.below(regrets.vehicle_count());
+            let vehicle = self.draws.below(regrets.table.vehicle_count());
             return self.add(regrets, present, vehicle);
         }
-        let rider = item(&self.frontier, draws.below(self.frontier.len()), 0) as usize;
-        let places = regrets.with(rider);
-        if places.is_empty() {
+        let rider = item(&self.frontier, self.draws.below(self.frontier.len()), 0);
+        let rows = regrets.rows_with(rider as usize);
+        if rows.is_empty() {
             return Ok(());
         }
-        let most = draws
-            .below(places.len())
-            .saturating_add(4)
-            .min(places.len());
-        let most = draws.below(most).saturating_add(1);
-        let place = item(places, draws.below(most), 0) as usize;
-        self.add(regrets, present, regrets.vehicle(place))?;
-        for rider in regrets.riders(place) {
-            match present.server(*rider as usize) {
+        let most = self.draws.below(rows.len()).saturating_add(4);
+        let most = self.draws.below(most.min(rows.len())).saturating_add(1);
+        let row = item(rows, self.draws.below(most), 0) as usize;
+        self.add(regrets, present, regrets.table.vehicle(row))?;
+        for rider in regrets.table.riders_of(row) {
+            match present.server(*rider) {
                 None => self.frontier.push(*rider)?,
                 Some(server) => {
                     if self.vehicles.len() < size {
-                        self.add(regrets, present, server)?;
+                        self.add(regrets, present, server as usize)?;
                     }
                 }
             }
@@ -133,41 +135,14 @@ impl Neighbourhood {
         present: &Present,
         vehicle: usize,
     ) -> Result<(), OutOfMemory> {
-        if item(&self.is_in, vehicle, true) {
-            return Ok(());
-        }
-        if let Some(place) = present.place(vehicle) {
-            set_at(&mut self.is_in, vehicle, true);
-            self.vehicles.push(short(vehicle))?;
-            for rider in regrets.riders(place) {
-                self.frontier.push(*rider)?;
+        if let Some(row) = present.row(vehicle) {
+            if !item(&self.is_in, vehicle, true) {
+                set_at(&mut self.is_in, vehicle, true);
+                self.vehicles.push(short(vehicle))?;
+                self.frontier
+                    .extend_from_slice(regrets.table.riders_of(row as usize))?;
             }
         }
         Ok(())
     }
-}
-
-/// A rider who is left out and could be served, if one is soon found.
-fn left_rider(regrets: &Regrets, present: &Present, draws: &mut Draws) -> Option<usize> {
-    for _ in 0..8 {
-        let rider = draws.below(regrets.rider_count());
-        if present.server(rider).is_none() && !regrets.with(rider).is_empty() {
-            return Some(rider);
-        }
-    }
-    None
-}
-
-/// A vehicle whose row has regret, if one is soon found.
-fn regretted(regrets: &Regrets, present: &Present, draws: &mut Draws) -> usize {
-    let mut vehicle = 0;
-    for turn in 0..20 {
-        vehicle = draws.below(regrets.vehicle_count());
-        if let Some(place) = present.place(vehicle) {
-            if turn > 10 || regrets.above(place) > 0 {
-                return vehicle;
-            }
-        }
-    }
-    vehicle
 }

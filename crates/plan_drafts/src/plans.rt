@@ -4,119 +4,79 @@
 //! Nothing is proved of the plans that come out: they are judged before they are used. All choices follow
 //! from counts and drawn numbers, so that the same rows give the same plan.
 
-use crate::annealing::{Board, anneal};
-use crate::merge::{Wanted, solve};
+use crate::costs::{UNLAWFUL, plan_cost};
 use crate::neighbourhood::Neighbourhood;
 use crate::present::Present;
 use crate::regrets::Regrets;
-use crate::rounding::round;
-use crate::whole::plan_cost;
 use pool_base::OutOfMemory;
-use row_tables::fixed_point::{item, set_at};
-use row_tables::lists::short;
-use row_tables::{Draws, RowTable, Share};
+use row_tables::Share;
 use std::alloc::Global;
+use std::cmp::Reverse;
 
 /// How many neighbourhoods are tried at most in one call.
 const MOST_ATTEMPTS: usize = 10_000_000;
-
-/// How many nodes the tree of a merge has at most.
-const MERGE_NODES: u32 = 40;
-
-/// How many vehicles a program of its own is for, the regret of its rows in 1/1024 second, and how many
-/// nodes its tree has at most.
-const PROGRAM_VEHICLES: usize = 20;
-
-const PROGRAM_REGRET: i64 = 100 * 1024;
-
-const PROGRAM_NODES: u32 = 20;
-
-/// What a plan that isn't lawful counts as, in seconds.
-const UNLAWFUL: i64 = i64::MAX / 4096;
 
 /// A plan under way, with what is needed to change it.
 #[derive(Drop)]
 pub struct Plans {
     alloc: Global,
-    draws: Draws,
-    regrets: Regrets,
     present: Present,
     neighbourhood: Neighbourhood,
-    multipliers: Vec<i64>,
-    chosen: Vec<Option<u32>>,
     cost: i64,
 }
 
 impl Plans {
-    /// A plan, with the regrets of rows under these multipliers, in 1/1024 second. What is drawn follows from the
-    /// number.
-    pub fn new(
-        alloc: Global,
-        table: &RowTable,
-        multipliers: &[i64],
-        chosen: &[Option<u32>],
-        number: u64,
-    ) -> Result<Plans, OutOfMemory> {
-        let vehicles = table.vehicle_count();
-        let riders = table.rider_count();
-        let mut plans = Plans {
+    /// A plan without rows. What is drawn follows from the number.
+    pub fn new(alloc: Global, regrets: &Regrets, number: u64) -> Result<Plans, OutOfMemory> {
+        Ok(Plans {
             alloc,
-            draws: Draws::new(number.wrapping_add(4242)),
-            regrets: Regrets::none(alloc),
-            present: Present::new(alloc, vehicles, riders)?,
-            neighbourhood: Neighbourhood::new(alloc, vehicles, riders)?,
-            multipliers: Vec::from_slice(alloc, multipliers)?,
-            chosen: Vec::from_slice(alloc, chosen)?,
-            cost: 0,
-        };
-        plans.count(table)?;
-        plans.list(table)?;
-        Ok(plans)
-    }
-
-    /// The regrets of rows.
-    pub fn regrets(&self) -> &Regrets {
-        &self.regrets
+            present: Present::new(alloc, regrets.table)?,
+            neighbourhood: Neighbourhood::new(alloc, regrets, number.wrapping_add(4242))?,
+            cost: UNLAWFUL,
+        })
     }
 
     /// The rows of the present plan.
-    pub fn chosen(&self) -> &[Option<u32>] {
-        &self.chosen
+    pub fn rows(&self) -> &[Option<u32>] {
+        self.present.rows()
     }
 
-    /// What the present plan costs, in seconds.
+    /// What the present plan costs, in seconds; very much where it isn't lawful.
     pub fn cost(&self) -> i64 {
         self.cost
     }
 
-    /// Makes a plan of the relaxation's shares. Where the vehicles' rows can't be made to fit, the present
-    /// one stays.
-    pub fn round(&mut self, table: &RowTable, shares: &[Share]) -> Result<(), OutOfMemory> {
-        round(table, &self.regrets, shares, &mut self.present);
-        if self.present.is_whole(table) {
-            self.keep(table)
-        } else {
-            self.present.adopt(&self.regrets, &self.chosen);
-            Ok(())
+    /// Makes a plan of the relaxation's shares: the rows by falling share, then those of each vehicle by rising
+    /// regret, where they still fit.
+    pub fn round(&mut self, regrets: &Regrets, shares: &[Share]) -> Result<(), OutOfMemory> {
+        let mut ranks = Vec::new(self.alloc);
+        for share in shares {
+            ranks.push((Reverse(share.part), share.row))?;
         }
+        ranks.as_mut_slice().sort_unstable();
+        self.present.clear();
+        for rank in &ranks {
+            self.present.offer(regrets.table, rank.1);
+        }
+        for vehicle in 0..regrets.table.vehicle_count() {
+            for row in regrets.rows_of(vehicle) {
+                self.present.offer(regrets.table, *row);
+            }
+        }
+        self.count(regrets)
     }
 
     /// Takes this plan as the present one.
-    pub fn adopt(&mut self, table: &RowTable, chosen: &[Option<u32>]) -> Result<(), OutOfMemory> {
-        self.chosen = Vec::from_slice(self.alloc, chosen)?;
-        self.count(table)?;
-        if self.present.adopt(&self.regrets, chosen) {
-            Ok(())
-        } else {
-            self.list(table)
-        }
+    pub fn adopt(&mut self, regrets: &Regrets, rows: &[Option<u32>]) -> Result<(), OutOfMemory> {
+        self.present.adopt(regrets.table, rows);
+        self.count(regrets)
     }
 
     /// Chooses the rows of a few vehicles anew, over and over, until the plan costs no more than the bound,
     /// or nothing was saved so many times in a row. Each choice is broken off after so many steps.
     pub fn better(
         &mut self,
-        table: &RowTable,
+        regrets: &Regrets,
         bound: i64,
         most_idle: u32,
         most_steps: u32,
@@ -127,144 +87,18 @@ impl Plans {
                 break;
             }
             let size = 3 + attempt / 32 % 8;
-            if self.attempt(size, most_steps)? {
-                idle = 0;
-            } else {
-                idle = idle.saturating_add(1);
-            }
+            let present = &mut self.present;
+            let saved = self
+                .neighbourhood
+                .attempt(regrets, present, size, most_steps)?;
+            self.cost = self.cost.saturating_sub(saved / 1024);
+            idle = if saved > 0 { 0 } else { idle.saturating_add(1) };
         }
-        self.keep(table)
+        self.count(regrets)
     }
 
-    /// Makes so many moves of an annealing from the present plan, others in each round, and takes what it finds.
-    pub fn anneal(
-        &mut self,
-        table: &RowTable,
-        board: &Board,
-        round: u64,
-        moves: u64,
-    ) -> Result<(), OutOfMemory> {
-        let found = anneal(self.alloc, table, board, &self.chosen, round, moves)?;
-        self.adopt(table, &found)
-    }
-
-    /// Solves the part of the vehicles whose rows aren't the same in all these plans, over the rows that any
-    /// of these takes and those of up to this regret, in seconds.
-    pub fn merge(
-        &mut self,
-        table: &RowTable,
-        optima: &[Vec<Option<u32>>],
-        width: i64,
-    ) -> Result<(), OutOfMemory> {
-        let mut marks = vec![in self.alloc; false; self.regrets.order().len()]?;
-        let mut vehicles = Vec::new(self.alloc);
-        for vehicle in 0..table.vehicle_count() {
-            if self.mark_rows(vehicle, optima, &mut marks) {
-                vehicles.push(short(vehicle))?;
-            }
-        }
-        let regret = width.saturating_mul(1024);
-        self.solve_part(table, &vehicles, &marks, regret, MERGE_NODES)
-    }
-
-    /// Solves parts of a few vehicles near each other.
-    pub fn try_programs(&mut self, table: &RowTable, count: u32) -> Result<(), OutOfMemory> {
-        for _ in 0..count {
-            self.neighbourhood.walk(
-                &self.regrets,
-                &self.present,
-                &mut self.draws,
-                PROGRAM_VEHICLES,
-            )?;
-            let mut vehicles = Vec::from_slice(self.alloc, self.neighbourhood.vehicles())?;
-            vehicles.as_mut_slice().sort_unstable();
-            self.solve_part(table, &vehicles, &[], PROGRAM_REGRET, PROGRAM_NODES)?;
-        }
-        Ok(())
-    }
-
-    /// Marks the rows that these plans give the vehicle. Whether one of them isn't the present row.
-    fn mark_rows(&self, vehicle: usize, optima: &[Vec<Option<u32>>], marks: &mut [bool]) -> bool {
-        let mut differs = false;
-        for optimum in optima {
-            if let Some(row) = item(optimum, vehicle, None) {
-                if let Some(place) = self.regrets.place_of(vehicle, row) {
-                    set_at(marks, place, true);
-                    differs = differs || self.present.place(vehicle) != Some(place);
-                }
-            }
-        }
-        differs
-    }
-
-    /// Chooses the rows of these vehicles anew by a solution of their part, where that saves something.
-    fn solve_part(
-        &mut self,
-        table: &RowTable,
-        vehicles: &[u32],
-        marks: &[bool],
-        regret: i64,
-        most_nodes: u32,
-    ) -> Result<(), OutOfMemory> {
-        for vehicle in vehicles {
-            self.present.release(&self.regrets, *vehicle as usize);
-        }
-        let wanted = Wanted {
-            vehicles,
-            marks,
-            regret,
-        };
-        let fits = solve(
-            self.alloc,
-            table,
-            &self.regrets,
-            &mut self.present,
-            &self.multipliers,
-            &wanted,
-            most_nodes,
-        )?;
-        let before = self.cost;
-        if fits {
-            let was = Vec::from_slice(self.alloc, &self.chosen)?;
-            self.keep(table)?;
-            if self.cost > before {
-                self.adopt(table, &was)?;
-            }
-        } else {
-            self.present.adopt(&self.regrets, &self.chosen);
-        }
-        Ok(())
-    }
-
-    /// Chooses the rows of so many vehicles anew. Whether that saves something.
-    fn attempt(&mut self, size: usize, most_steps: u32) -> Result<bool, OutOfMemory> {
-        let saved = self.neighbourhood.attempt(
-            &self.regrets,
-            &mut self.present,
-            &mut self.draws,
-            size,
-            most_steps,
-        )?;
-        self.cost = self.cost.saturating_sub(saved / 1024);
-        Ok(saved > 0)
-    }
-
-    /// Lists the rows of least regret and those of the present plan.
-    fn list(&mut self, table: &RowTable) -> Result<(), OutOfMemory> {
-        self.regrets = Regrets::new(self.alloc, table, &self.multipliers, &self.chosen)?;
-        self.present.adopt(&self.regrets, &self.chosen);
-        Ok(())
-    }
-
-    /// Writes the rows of the present plan, and what it costs.
-    fn keep(&mut self, table: &RowTable) -> Result<(), OutOfMemory> {
-        self.present.write(&self.regrets, &mut self.chosen);
-        self.count(table)
-    }
-
-    fn count(&mut self, table: &RowTable) -> Result<(), OutOfMemory> {
-        let cost = plan_cost(self.alloc, table, &self.chosen)?;
-        self.cost = cost.unwrap_or(UNLAWFUL);
+    fn count(&mut self, regrets: &Regrets) -> Result<(), OutOfMemory> {
+        self.cost = plan_cost(self.alloc, regrets.table, self.present.rows())?;
         Ok(())
     }
 }

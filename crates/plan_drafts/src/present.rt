@@ -1,118 +1,94 @@
 //! A plan that changes.
-
-use crate::regrets::Regrets;
 use pool_base::OutOfMemory;
 use row_tables::RowTable;
 use row_tables::fixed_point::{item, set_at};
 use row_tables::lists::short;
 use std::alloc::Global;
 
-/// Stands where there is no number.
-pub const NONE: u32 = u32::MAX;
-
-/// The present plan: for each vehicle the place of its row, and for each rider who serves her.
+/// For each vehicle its row, and for each rider the vehicle that serves her.
 #[derive(Drop)]
 pub struct Present {
-    places: Vec<u32>,
-    servers: Vec<u32>,
+    rows: Vec<Option<u32>>,
+    servers: Vec<Option<u32>>,
 }
 
 impl Present {
     /// No vehicle has a row.
-    pub fn new(alloc: Global, vehicles: usize, riders: usize) -> Result<Self, OutOfMemory> {
+    pub fn new(alloc: Global, table: &RowTable) -> Result<Self, OutOfMemory> {
         Ok(Present {
-            places: vec![in alloc; NONE; vehicles]?,
-            servers: vec![in alloc; NONE; riders]?,
+            rows: vec![in alloc; None; table.vehicle_count()]?,
+            servers: vec![in alloc; None; table.rider_count()]?,
         })
     }
 
     /// Takes all rows away.
     pub fn clear(&mut self) {
-        self.places.as_mut_slice().fill(NONE);
-        self.servers.as_mut_slice().fill(NONE);
+        self.rows.as_mut_slice().fill(None);
+        self.servers.as_mut_slice().fill(None);
     }
 
-    /// The place of the vehicle's row.
-    #[inline]
-    pub fn place(&self, vehicle: usize) -> Option<usize> {
-        let place = item(&self.places, vehicle, NONE);
-        if place == NONE {
-            None
-        } else {
-            Some(place as usize)
+    /// Takes these rows, of which no two have a rider in common.
+    pub fn adopt(&mut self, table: &RowTable, rows: &[Option<u32>]) {
+        self.clear();
+        for row in rows {
+            if let Some(row) = *row {
+                self.give(table, row);
+            }
         }
+    }
+
+    /// The rows.
+    pub fn rows(&self) -> &[Option<u32>] {
+        &self.rows
+    }
+
+    /// The vehicle's row.
+    #[inline]
+    pub fn row(&self, vehicle: usize) -> Option<u32> {
+        item(&self.rows, vehicle, None)
     }
 
     /// The vehicle that serves this rider.
     #[inline]
-    pub fn server(&self, rider: usize) -> Option<usize> {
-        let server = item(&self.servers, rider, NONE);
-        if server == NONE {
-            None
-        } else {
-            Some(server as usize)
-        }
+    pub fn server(&self, rider: u32) -> Option<u32> {
+        item(&self.servers, rider as usize, None)
     }
 
-    /// Whether nobody serves one of these riders.
+    /// Whether nobody serves one of the row's riders.
     #[inline]
-    pub fn are_free(&self, riders: &[u32]) -> bool {
-        for rider in riders {
-            if item(&self.servers, *rider as usize, NONE) != NONE {
+    pub fn is_free(&self, table: &RowTable, row: u32) -> bool {
+        for rider in table.riders_of(row as usize) {
+            if self.server(*rider).is_some() {
                 return false;
             }
         }
         true
     }
 
-    /// Gives its row to the place's vehicle.
-    pub fn give(&mut self, regrets: &Regrets, place: usize) {
-        let vehicle = regrets.vehicle(place);
-        set_at(&mut self.places, vehicle, short(place));
-        for rider in regrets.riders(place) {
-            set_at(&mut self.servers, *rider as usize, short(vehicle));
+    /// Gives the row to its vehicle.
+    pub fn give(&mut self, table: &RowTable, row: u32) {
+        let vehicle = table.vehicle(row as usize);
+        set_at(&mut self.rows, vehicle, Some(row));
+        self.serve(table, row, Some(short(vehicle)));
+    }
+
+    /// Gives the row to its vehicle, where that has none and nobody serves one of its riders.
+    pub fn offer(&mut self, table: &RowTable, row: u32) {
+        if self.row(table.vehicle(row as usize)).is_none() && self.is_free(table, row) {
+            self.give(table, row);
         }
     }
 
-    /// Nobody serves the vehicle's riders any more; it keeps its place until it is given another.
-    pub fn release(&mut self, regrets: &Regrets, vehicle: usize) {
-        if let Some(place) = self.place(vehicle) {
-            for rider in regrets.riders(place) {
-                set_at(&mut self.servers, *rider as usize, NONE);
-            }
+    /// Nobody serves the vehicle's riders any more; it keeps its row until it is given another.
+    pub fn release(&mut self, table: &RowTable, vehicle: usize) {
+        if let Some(row) = self.row(vehicle) {
+            self.serve(table, row, None);
         }
     }
 
-    /// Takes these rows. Whether each has a place.
-    pub fn adopt(&mut self, regrets: &Regrets, chosen: &[Option<u32>]) -> bool {
-        self.clear();
-        let mut is_whole = true;
-        for (vehicle, row) in chosen.iter().enumerate() {
-            if let Some(row) = *row {
-                match regrets.place_of(vehicle, row) {
-                    Some(place) => self.give(regrets, place),
-                    None => is_whole = false,
-                }
-            }
-        }
-        is_whole
-    }
-
-    /// Whether each vehicle with rows has one.
-    pub fn is_whole(&self, table: &RowTable) -> bool {
-        for vehicle in 0..self.places.len() {
-            let rows = table.rows_of(vehicle);
-            if rows.start < rows.end && self.place(vehicle).is_none() {
-                return false;
-            }
-        }
-        true
-    }
-
-    /// Writes the rows.
-    pub fn write(&self, regrets: &Regrets, chosen: &mut [Option<u32>]) {
-        for vehicle in 0..chosen.len() {
-            chosen[vehicle] = self.place(vehicle).map(|place| regrets.row(place));
+    fn serve(&mut self, table: &RowTable, row: u32, server: Option<u32>) {
+        for rider in table.riders_of(row as usize) {
+            set_at(&mut self.servers, *rider as usize, server);
         }
     }
 }

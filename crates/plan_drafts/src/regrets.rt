@@ -4,309 +4,186 @@
 //! cost of its row lies above the vehicle's least, and for each rider who is left out what that costs above
 //! her multiplier. Of each vehicle's rows only those of least regret are looked at.
 
-use crate::present::NONE;
 use pool_base::OutOfMemory;
 use row_tables::RowTable;
-use row_tables::fixed_point::{item, set_at};
+use row_tables::fixed_point::{at, item, set_at};
 use row_tables::lists::{Lists, short};
 use std::alloc::Global;
+use std::ops::Range;
 
-/// How many rows of a vehicle are looked at.
+/// How many rows of a vehicle are looked at, beside its first one.
 const MOST_ROWS: usize = 200;
 
-/// A regret counts up to this, in 1/1024 second.
-const MOST_REGRET: i64 = 1 << 42;
-
-/// A regret, and then a row or place: what these are sorted by.
+/// A regret and a row, by which rows are sorted.
 type Rank = (i64, u32);
 
-/// For each vehicle some of its rows, each at a place of its own, by rising regret.
+/// A table of rows with their regrets, in 1/1024 second.
 #[derive(Drop)]
-pub struct Regrets {
-    /// Where each vehicle's places end.
-    ends: Vec<u32>,
-    /// For each place its row, the row's vehicle, the row's regret in 1/1024 second, and its riders.
-    rows: Vec<u32>,
-    vehicles: Vec<u32>,
+pub struct Regrets<'a> {
+    pub table: &'a RowTable,
+    /// For each row its regret.
     above: Vec<i64>,
-    riders: Lists,
-    /// For each rider the places with her, by rising regret.
-    with: Lists,
-    /// What it costs to leave the rider out, in 1/1024 second above her multiplier.
+    /// For each rider what it costs to leave her out above her multiplier.
     left: Vec<i64>,
-    /// All places by rising regret.
-    order: Vec<u32>,
+    /// For each vehicle its rows that are looked at, and for each rider those that have her, by rising regret.
+    rows: Lists,
+    with: Lists,
 }
 
-impl Regrets {
-    /// The rows of least regret of each vehicle, with its smallest one and the one that is kept.
+impl<'a> Regrets<'a> {
+    /// The regrets under these multipliers, in 1/1024 second.
     pub fn new(
         alloc: Global,
-        table: &RowTable,
+        table: &'a RowTable,
         multipliers: &[i64],
-        kept: &[Option<u32>],
     ) -> Result<Self, OutOfMemory> {
-        let mut regrets = Regrets::none(alloc);
-        regrets.left = left_costs(alloc, table, multipliers)?;
-        regrets.list(alloc, table, multipliers, kept)?;
+        let mut regrets = Regrets {
+            table,
+            above: Vec::new(alloc),
+            left: Vec::new(alloc),
+            rows: Lists::new(alloc),
+            with: Lists::new(alloc),
+        };
+        let prices = regrets.price_riders(alloc, multipliers)?;
+        for vehicle in 0..table.vehicle_count() {
+            regrets.reduce(&prices, table.rows_of(vehicle))?;
+        }
+        regrets.list(alloc)?;
         Ok(regrets)
     }
 
-    /// Nobody's rows.
-    pub fn none(alloc: Global) -> Self {
-        Regrets {
-            ends: Vec::new(alloc),
-            rows: Vec::new(alloc),
-            vehicles: Vec::new(alloc),
-            above: Vec::new(alloc),
-            riders: Lists::new(alloc),
-            with: Lists::new(alloc),
-            left: Vec::new(alloc),
-            order: Vec::new(alloc),
-        }
-    }
-
-    fn list(
+    /// What each rider is worth: her multiplier, and at most what it costs to leave her out.
+    fn price_riders(
         &mut self,
         alloc: Global,
-        table: &RowTable,
         multipliers: &[i64],
-        kept: &[Option<u32>],
-    ) -> Result<(), OutOfMemory> {
-        let mut costs = Vec::new(alloc);
-        let mut ranks = Vec::new(alloc);
-        for vehicle in 0..table.vehicle_count() {
-            let kept = item(kept, vehicle, None);
-            rank_rows(table, multipliers, vehicle, kept, &mut costs, &mut ranks)?;
-            self.add_vehicle(table, vehicle, &ranks)?;
+    ) -> Result<Vec<i64>, OutOfMemory> {
+        let mut prices = Vec::new(alloc);
+        for rider in 0..self.table.rider_count() {
+            let cost = self.table.cost_left(rider).saturating_mul(1024);
+            let price = at(multipliers, rider).min(cost);
+            prices.push(price)?;
+            self.left.push(cost.saturating_sub(price))?;
         }
-        self.put_in_order(alloc)?;
-        self.with
-            .transpose_in(&self.riders, table.rider_count(), &self.order)
+        Ok(prices)
     }
 
-    /// Takes these rows as the vehicle's.
-    fn add_vehicle(
-        &mut self,
-        table: &RowTable,
-        vehicle: usize,
-        ranks: &[Rank],
-    ) -> Result<(), OutOfMemory> {
-        let first = table.rows_of(vehicle).start;
-        for (above, offset) in ranks {
-            let row = first.saturating_add(*offset as usize);
-            self.rows.push(short(row))?;
-            self.vehicles.push(short(vehicle))?;
-            self.above.push(*above)?;
-            for rider in table.riders_of(row) {
-                self.riders.push(*rider as usize)?;
-            }
-            self.riders.end()?;
+    /// Notes the regrets of a vehicle's rows.
+    fn reduce(&mut self, prices: &[i64], rows: Range<usize>) -> Result<(), OutOfMemory> {
+        let least = least_cost(self.table, prices, rows.start, rows.end);
+        for row in rows {
+            let cost = self.table.reduced_cost(prices, row);
+            self.above.push(cost.saturating_sub(least))?;
         }
-        self.ends.push(short(self.rows.len()))?;
         Ok(())
     }
 
-    fn put_in_order(&mut self, alloc: Global) -> Result<(), OutOfMemory> {
+    /// Lists the rows that are looked at.
+    fn list(&mut self, alloc: Global) -> Result<(), OutOfMemory> {
         let mut ranks = Vec::new(alloc);
-        for (place, above) in self.above.iter().enumerate() {
-            ranks.push(rank_of(*above, place))?;
+        let mut is_listed = vec![in alloc; false; self.table.row_count()]?;
+        for vehicle in 0..self.table.vehicle_count() {
+            self.rank_vehicle(vehicle, &mut ranks)?;
+            self.list_vehicle(vehicle, &ranks, &mut is_listed)?;
+        }
+        self.list_riders(&is_listed, &mut ranks)
+    }
+
+    /// All rows of the vehicle by rising regret.
+    fn rank_vehicle(&self, vehicle: usize, ranks: &mut Vec<Rank>) -> Result<(), OutOfMemory> {
+        ranks.clear();
+        for row in self.table.rows_of(vehicle) {
+            ranks.push((self.above(short(row)), short(row)))?;
         }
         ranks.as_mut_slice().sort_unstable();
-        for (_, place) in &ranks {
-            self.order.push(*place)?;
+        Ok(())
+    }
+
+    /// Lists the vehicle's rows of least regret and its first one, and marks them.
+    fn list_vehicle(
+        &mut self,
+        vehicle: usize,
+        ranks: &[Rank],
+        is_listed: &mut [bool],
+    ) -> Result<(), OutOfMemory> {
+        let first = self.table.rows_of(vehicle).start;
+        for (place, rank) in ranks.iter().enumerate() {
+            let row = rank.1 as usize;
+            if place < MOST_ROWS || row == first {
+                self.rows.push(row)?;
+                set_at(is_listed, row, true);
+            }
+        }
+        self.rows.end()
+    }
+
+    /// Lists for each rider the marked rows that have her.
+    fn list_riders(
+        &mut self,
+        is_listed: &[bool],
+        ranks: &mut Vec<Rank>,
+    ) -> Result<(), OutOfMemory> {
+        for rider in 0..self.table.rider_count() {
+            self.rank_rider(rider, is_listed, ranks)?;
+            self.put_with(ranks)?;
         }
         Ok(())
     }
 
-    /// How many vehicles there are.
-    pub fn vehicle_count(&self) -> usize {
-        self.ends.len()
-    }
-
-    /// How many riders there are.
-    pub fn rider_count(&self) -> usize {
-        self.left.len()
-    }
-
-    /// All places by rising regret.
-    pub fn order(&self) -> &[u32] {
-        &self.order
-    }
-
-    /// Where the vehicle's places begin and end.
-    pub fn places_of(&self, vehicle: usize) -> (usize, usize) {
-        let start = if vehicle == 0 {
-            0
-        } else {
-            item(&self.ends, vehicle - 1, 0) as usize
-        };
-        (start, item(&self.ends, vehicle, 0) as usize)
-    }
-
-    /// The vehicle's place for this row.
-    pub fn place_of(&self, vehicle: usize, row: u32) -> Option<usize> {
-        let (start, end) = self.places_of(vehicle);
-        for place in start..end {
-            if self.row(place) == row {
-                return Some(place);
+    /// The marked rows that have the rider, by rising regret.
+    fn rank_rider(
+        &self,
+        rider: usize,
+        is_listed: &[bool],
+        ranks: &mut Vec<Rank>,
+    ) -> Result<(), OutOfMemory> {
+        ranks.clear();
+        for row in self.table.rows_with(rider) {
+            if item(is_listed, *row as usize, false) {
+                ranks.push((self.above(*row), *row))?;
             }
         }
-        None
+        ranks.as_mut_slice().sort_unstable();
+        Ok(())
     }
 
-    /// The row at this place.
-    #[inline]
-    pub fn row(&self, place: usize) -> u32 {
-        item(&self.rows, place, NONE)
+    fn put_with(&mut self, ranks: &[Rank]) -> Result<(), OutOfMemory> {
+        for rank in ranks {
+            self.with.push(rank.1 as usize)?;
+        }
+        self.with.end()
     }
 
-    /// The vehicle of the row at this place.
+    /// The regret of this row.
     #[inline]
-    pub fn vehicle(&self, place: usize) -> usize {
-        item(&self.vehicles, place, NONE) as usize
-    }
-
-    /// The regret of the row at this place.
-    #[inline]
-    pub fn above(&self, place: usize) -> i64 {
-        item(&self.above, place, 0)
-    }
-
-    /// The riders of the row at this place.
-    #[inline]
-    pub fn riders(&self, place: usize) -> &[u32] {
-        self.riders.list(place)
-    }
-
-    /// The places whose rows have this rider, by rising regret.
-    #[inline]
-    pub fn with(&self, rider: usize) -> &[u32] {
-        self.with.list(rider)
+    pub fn above(&self, row: u32) -> i64 {
+        at(&self.above, row as usize)
     }
 
     /// The regret of leaving this rider out.
     #[inline]
-    pub fn left(&self, rider: usize) -> i64 {
-        item(&self.left, rider, 0)
+    pub fn left(&self, rider: u32) -> i64 {
+        at(&self.left, rider as usize)
+    }
+
+    /// The vehicle's rows that are looked at, by rising regret.
+    #[inline]
+    pub fn rows_of(&self, vehicle: usize) -> &[u32] {
+        self.rows.list(vehicle)
+    }
+
+    /// Those rows of all vehicles that have this rider, by rising regret.
+    #[inline]
+    pub fn rows_with(&self, rider: usize) -> &[u32] {
+        self.with.list(rider)
     }
 }
 
-fn rank_of(above: i64, place: usize) -> Rank {
-    (above.clamp(0, MOST_REGRET - 1), short(place))
-}
-
-/// What it costs to leave each rider out, above her multiplier; none is below 0.
-fn left_costs(
-    alloc: Global,
-    table: &RowTable,
-    multipliers: &[i64],
-) -> Result<Vec<i64>, OutOfMemory> {
-    let mut left = Vec::new(alloc);
-    for rider in 0..table.rider_count() {
-        left.push(left_cost(table, rider).saturating_sub(price(table, multipliers, rider)))?;
-    }
-    Ok(left)
-}
-
-/// What it costs to leave the rider out, in 1/1024 second.
-fn left_cost(table: &RowTable, rider: usize) -> i64 {
-    table.cost_left(rider).saturating_mul(1024)
-}
-
-/// The rider's multiplier, and at most what it costs to leave her out.
-#[inline]
-fn price(table: &RowTable, multipliers: &[i64], rider: usize) -> i64 {
-    item(multipliers, rider, 0).min(left_cost(table, rider))
-}
-
-/// The ranks of the vehicle's rows that are looked at, rising; a row counts from the vehicle's first one.
-fn rank_rows(
-    table: &RowTable,
-    multipliers: &[i64],
-    vehicle: usize,
-    kept: Option<u32>,
-    costs: &mut Vec<i64>,
-    ranks: &mut Vec<Rank>,
-) -> Result<(), OutOfMemory> {
-    let rows = table.rows_of(vehicle);
-    let first = rows.start;
-    let least = reduce(table, multipliers, rows.start, rows.end, costs)?;
-    let widest = width_of(costs, least);
-    ranks.clear();
-    for (offset, cost) in costs.iter().enumerate() {
-        let above = cost.saturating_sub(least);
-        if width(above) <= widest {
-            ranks.push(rank_of(above, offset))?;
-        }
-    }
-    ranks.as_mut_slice().sort_unstable();
-    ranks.truncate(MOST_ROWS);
-    add_rank(costs, least, 0, ranks)?;
-    if let Some(row) = kept {
-        add_rank(costs, least, (row as usize).saturating_sub(first), ranks)?;
-    }
-    ranks.as_mut_slice().sort_unstable();
-    Ok(())
-}
-
-/// Writes the reduced costs of these rows; the least of them.
-fn reduce(
-    table: &RowTable,
-    multipliers: &[i64],
-    first: usize,
-    end: usize,
-    costs: &mut Vec<i64>,
-) -> Result<i64, OutOfMemory> {
-    costs.clear();
+/// The least reduced cost of these rows.
+fn least_cost(table: &RowTable, prices: &[i64], first: usize, end: usize) -> i64 {
     let mut least = i64::MAX;
     for row in first..end {
-        let mut cost = table.cost(row).saturating_mul(1024);
-        for rider in table.riders_of(row) {
-            cost = cost.saturating_sub(price(table, multipliers, *rider as usize));
-        }
-        least = least.min(cost);
-        costs.push(cost)?;
+        least = least.min(table.reduced_cost(prices, row));
     }
-    Ok(least)
-}
-
-/// How many bits the regret has.
-#[inline]
-fn width(above: i64) -> usize {
-    64_usize.saturating_sub(above.max(0).unsigned_abs().leading_zeros() as usize)
-}
-
-/// The least width of regrets that is that of as many rows as are looked at.
-fn width_of(costs: &[i64], least: i64) -> usize {
-    let mut counts: [usize; 65] = [0; 65];
-    for cost in costs {
-        let width = width(cost.saturating_sub(least));
-        let count = item(&counts, width, 0);
-        set_at(&mut counts, width, count.saturating_add(1));
-    }
-    let mut total: usize = 0;
-    for (width, count) in counts.iter().enumerate() {
-        total = total.saturating_add(*count);
-        if total >= MOST_ROWS {
-            return width;
-        }
-    }
-    64
-}
-
-/// Takes in the row at this offset, where it isn't among them yet.
-fn add_rank(
-    costs: &[i64],
-    least: i64,
-    offset: usize,
-    ranks: &mut Vec<Rank>,
-) -> Result<(), OutOfMemory> {
-    if offset < costs.len() {
-        let rank = rank_of(costs[offset].saturating_sub(least), offset);
-        if !ranks.contains(&rank) {
-            ranks.push(rank)?;
-        }
-    }
-    Ok(())
+    least
 }

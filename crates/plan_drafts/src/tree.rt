@@ -1,45 +1,33 @@
 //! A tree of decisions, best bound first, without proofs: what comes out is a plan, and for each node a row
 //! to branch on and multipliers, which are judged where they are used.
-use crate::bans::{Bans, decision};
-use crate::branching::{Branching, Effort};
-use crate::whole::{plan_cost, whole_plan};
+use crate::costs::{UNLAWFUL, plan_cost};
+use crate::parter::{End, MOST_AT_ONCE, Parter};
 use linear_relaxation::Relaxation;
 use pool_base::OutOfMemory;
 use row_tables::lists::short;
 use row_tables::{Decision, Draft, DraftNode, RowTable, Share};
 use std::alloc::Global;
 use std::collections::BinaryHeap;
-use std::mem;
+use std::mem::replace;
+use std::thread;
+use std::thread::Threads;
 
 /// More and less of a row than counts as chosen in part, in units of 2^-32.
 const LEAST_PART: i64 = (1 << 32) / 100;
 
 const MOST_PART: i64 = (1 << 32) / 100 * 99;
 
-/// How many rows of a vehicle a pass puts into the pool.
-const MOST_ROWS: usize = 10;
-
 /// Up to this part of the gap above the bound nodes are parted beside the one of least value.
 const NEAR_PART: i64 = 8;
 
 /// Where the relaxation stands at a node.
 #[derive(Drop)]
-struct Standing {
+pub struct Standing {
     /// In 1/1024 second.
-    value: i64,
-    basis: Vec<u32>,
-    /// The rows that are chosen in part.
-    shares: Vec<Share>,
-}
-
-/// How a tree grows.
-#[derive(Clone, Copy)]
-pub struct Growth {
-    /// How many nodes it has at most.
-    pub budget: usize,
-    pub effort: Effort,
-    /// When it first has so many nodes it stops unless a third of the gap is closed.
-    pub probe: usize,
+    pub value: i64,
+    pub basis: Vec<u32>,
+    /// The rows that are chosen in part, until the node is branched.
+    pub shares: Vec<Share>,
 }
 
 /// A tree that grows.
@@ -51,142 +39,178 @@ pub struct DraftTree {
     standings: Vec<Standing>,
     /// The open nodes, least value first.
     open: BinaryHeap<(i64, u32)>,
-    /// The bound when growth began, until the tree was probed.
-    first: Option<i64>,
-}
-
-/// The other end of a branch: a node, where it stands, and a plan where its solution is one.
-#[derive(Drop)]
-struct End {
-    node: DraftNode,
-    standing: Standing,
-    plan: Option<Vec<Option<u32>>>,
-}
-
-/// Who parts nodes: a relaxation of its own with what is forbidden in it, and the node at hand.
-#[derive(Drop)]
-pub struct Parter {
-    relaxation: Relaxation,
-    /// Once so many columns came in no row is tried any more.
-    most_pivots: u64,
-    bans: Bans,
-    branching: Branching,
-    node: usize,
-    /// What came of it: the row that the node is branched on and its ends, if there is one, and whether there was
-    /// memory for that.
-    branch: Option<usize>,
-    ends: Vec<End>,
-    is_done: bool,
 }
 
 impl DraftTree {
-    /// A tree of one node, where the relaxation stands, and a plan that costs this.
+    /// A tree of one node, where the relaxation stands, without a plan.
     pub fn new(
         alloc: Global,
         table: &RowTable,
         relaxation: &mut Relaxation,
-        plan: &[Option<u32>],
-        cost: i64,
     ) -> Result<Self, OutOfMemory> {
-        let bound = seconds_of(relaxation.value());
         let mut tree = DraftTree {
             draft: Draft {
-                plan: Vec::from_slice(alloc, plan)?,
-                cost,
-                bound,
+                plan: Vec::new(alloc),
+                cost: UNLAWFUL,
+                bound: seconds_of(relaxation.value()),
                 nodes: Vec::new(alloc),
             },
             standings: Vec::new(alloc),
             open: BinaryHeap::new(alloc),
-            first: Some(bound),
         };
-        let standing = standing_of(alloc, table, relaxation)?;
         let multipliers = relaxation.multipliers(alloc, table.rider_count())?;
-        tree.put(node_at(None, multipliers), standing)?;
+        let standing = standing_of(alloc, table, relaxation)?;
+        tree.put(None, multipliers, standing)?;
         Ok(tree)
     }
 
     /// Puts in a node, which is open.
-    fn put(&mut self, node: DraftNode, standing: Standing) -> Result<(), OutOfMemory> {
+    fn put(
+        &mut self,
+        decision: Option<Decision>,
+        multipliers: Vec<i64>,
+        standing: Standing,
+    ) -> Result<(), OutOfMemory> {
         let number = short(self.standings.len());
         self.open.push((standing.value.wrapping_neg(), number))?;
-        self.draft.nodes.push(node)?;
         self.standings.push(standing)?;
+        self.draft.nodes.push(DraftNode {
+            decision,
+            branch: None,
+            multipliers,
+        })?;
         Ok(())
     }
 
-    /// How many nodes are open.
-    pub fn open_count(&self) -> usize {
-        self.open.len()
-    }
-
-    /// Grows the tree by these alone, one after the other.
-    pub fn grow_alone(
+    /// Takes a plan of this cost where it is the best.
+    pub fn offer(
         &mut self,
         alloc: Global,
-        table: &RowTable,
-        team: &mut [Parter],
-        growth: Growth,
+        plan: &[Option<u32>],
+        cost: i64,
     ) -> Result<(), OutOfMemory> {
-        for _ in 0..growth.budget {
-            if self.hand_out(team, growth) == 0 {
+        if cost < self.draft.cost {
+            self.draft.cost = cost;
+            self.draft.plan = Vec::from_slice(alloc, plan)?;
+        }
+        Ok(())
+    }
+
+    /// Whether a plan might cost less than the best one.
+    pub fn is_open(&self) -> bool {
+        self.draft.bound < self.draft.cost
+    }
+
+    /// The gap between the cost and this bound, in seconds.
+    pub fn gap(&self, bound: i64) -> i64 {
+        self.draft.cost.saturating_sub(bound)
+    }
+
+    /// Where the relaxation stands at a node, if there is such a one.
+    pub fn standing(&self, number: usize) -> Option<&Standing> {
+        self.standings.get(number)
+    }
+
+    /// The basis of the first solution.
+    pub fn root_basis(&self) -> &[u32] {
+        match self.standing(0) {
+            Some(standing) => &standing.basis,
+            None => &[],
+        }
+    }
+
+    /// The multipliers of a node.
+    pub fn multipliers(&self, number: usize) -> &[i64] {
+        match self.draft.nodes.get(number) {
+            Some(node) => &node.multipliers,
+            None => &[],
+        }
+    }
+
+    /// Grows to so many nodes, by a team with relaxations beside this one and at most so many workers.
+    pub fn grow<R: Threads + Sync>(
+        &mut self,
+        rt: &R,
+        alloc: Global,
+        table: &RowTable,
+        relaxation: &Relaxation,
+        budget: usize,
+        workers: u8,
+    ) -> Result<(), OutOfMemory> {
+        let mut team: Vec<Parter> = Vec::new(alloc);
+        for _ in 0..budget {
+            for _ in team.len()..self.open.len().min(MOST_AT_ONCE) {
+                team.push(Parter::beside(alloc, table, relaxation, &self.draft.plan)?)?;
+            }
+            if !self.hand_out(&mut team, budget) {
                 break;
             }
+            self.part_all(rt, alloc, table, workers, &mut team);
             for parter in team.iter_mut() {
-                parter.part(alloc, table, self, growth.effort);
+                self.take_in(alloc, table, parter)?;
             }
-            self.take_in(alloc, table, team)?;
         }
         Ok(())
     }
 
-    /// Gives the open nodes of least value to these, one each. How many: none where the bound meets the cost, or
-    /// there is no room, or it isn't worth it.
-    pub fn hand_out(&mut self, team: &mut [Parter], growth: Growth) -> usize {
+    /// Gives the open nodes of least value to these, one each. Whether there was one: not where the bound meets the
+    /// cost, or there is no room.
+    fn hand_out(&mut self, team: &mut [Parter], budget: usize) -> bool {
         self.raise_bound();
-        let mut count: usize = 0;
-        if self.draft.bound >= self.draft.cost || self.ends_at_probe(growth.probe) {
-            return count;
-        }
-        let mut size = self.standings.len().saturating_add(2);
+        let mut room = budget.saturating_sub(self.standings.len()) / 2;
+        let mut is_any = false;
         for parter in team.iter_mut() {
-            if size > growth.budget {
-                break;
-            }
-            let Some(number) = self.take_near() else {
-                break;
-            };
-            parter.node = number;
-            count = count.saturating_add(1);
-            size = size.saturating_add(2);
+            parter.node = if room > 0 { self.take_near() } else { None };
+            is_any = is_any || parter.node.is_some();
+            room = room.saturating_sub(1);
         }
-        count
+        is_any
     }
 
-    /// Takes in what these made of their nodes.
-    pub fn take_in(
+    /// Has these part their nodes.
+    fn part_all<R: Threads + Sync>(
+        &self,
+        rt: &R,
+        alloc: Global,
+        table: &RowTable,
+        workers: u8,
+        team: &mut [Parter],
+    ) {
+        let workers = usize::from(workers).max(1);
+        thread::for_each_mut(
+            rt,
+            team,
+            workers,
+            &|_: usize, parter: &mut Parter| {
+                parter.part(alloc, table, self);
+            },
+        );
+    }
+
+    /// Takes in what one made of its node: the next two nodes are its ends.
+    fn take_in(
         &mut self,
         alloc: Global,
         table: &RowTable,
-        team: &mut [Parter],
+        parter: &mut Parter,
     ) -> Result<(), OutOfMemory> {
-        for parter in team.iter_mut() {
-            if !parter.is_done {
-                return Err(OutOfMemory);
-            }
-            if let Some(row) = parter.branch {
-                self.note_branch(alloc, parter.node, row);
-            }
-            for end in mem::replace(&mut parter.ends, Vec::new(alloc)) {
-                let End {
-                    node,
-                    standing,
-                    plan,
-                } = end;
-                self.put(node, standing)?;
-                if let Some(plan) = plan {
-                    self.offer(alloc, table, plan)?;
-                }
+        if !parter.is_done {
+            return Err(OutOfMemory);
+        }
+        if let (Some(number), Some(row)) = (parter.node, parter.branch) {
+            self.note_branch(alloc, number, row);
+        }
+        for end in replace(&mut parter.ends, Vec::new(alloc)) {
+            let End {
+                decision,
+                multipliers,
+                standing,
+                plan,
+            } = end;
+            self.put(Some(decision), multipliers, standing)?;
+            if let Some(plan) = plan {
+                let cost = plan_cost(alloc, table, &plan)?;
+                self.offer(alloc, &plan, cost)?;
             }
         }
         Ok(())
@@ -197,8 +221,7 @@ impl DraftTree {
     fn take_near(&mut self) -> Option<usize> {
         let (value, _) = *self.open.peek()?;
         let above = seconds_of(value.wrapping_neg()).saturating_sub(self.draft.bound);
-        let gap = self.draft.cost.saturating_sub(self.draft.bound);
-        if above > gap / NEAR_PART {
+        if !self.is_open() || above > self.gap(self.draft.bound) / NEAR_PART {
             return None;
         }
         let (_, number) = self.open.pop()?;
@@ -214,204 +237,21 @@ impl DraftTree {
         self.draft.bound = self.draft.bound.max(bound);
     }
 
-    /// Whether the tree has so many nodes for the first time, and a third of the gap isn't closed.
-    fn ends_at_probe(&mut self, probe: usize) -> bool {
-        if self.standings.len() < probe {
-            return false;
-        }
-        match self.first.take() {
-            None => false,
-            Some(first) => !self.is_growing(first),
-        }
-    }
-
-    /// Whether a third of the gap is closed that there was at this bound.
-    fn is_growing(&self, first: i64) -> bool {
-        let closed = self.draft.bound.saturating_sub(first);
-        closed.saturating_mul(3) >= self.draft.cost.saturating_sub(first)
-    }
-
     /// Notes that a node is branched on a row, and that the next two nodes are its ends. It doesn't need the rows any
     /// more that it chooses in part.
     fn note_branch(&mut self, alloc: Global, number: usize, row: usize) {
         let first = self.draft.nodes.len();
-        if number < first {
-            self.draft.nodes[number].branch = Some((row, first));
+        if let Some(node) = self.draft.nodes.get_mut(number) {
+            node.branch = Some((row, first));
         }
-        if number < self.standings.len() {
-            self.standings[number].shares = Vec::new(alloc);
+        if let Some(standing) = self.standings.get_mut(number) {
+            standing.shares = Vec::new(alloc);
         }
-    }
-
-    /// The multipliers of a node.
-    fn multipliers(&self, number: usize) -> &[i64] {
-        if number < self.draft.nodes.len() {
-            &self.draft.nodes[number].multipliers
-        } else {
-            &[]
-        }
-    }
-
-    /// Takes a plan where it is lawful and the best.
-    pub fn offer(
-        &mut self,
-        alloc: Global,
-        table: &RowTable,
-        plan: Vec<Option<u32>>,
-    ) -> Result<(), OutOfMemory> {
-        if let Some(cost) = plan_cost(alloc, table, &plan)? {
-            if cost < self.draft.cost {
-                self.draft.cost = cost;
-                self.draft.plan = plan;
-            }
-        }
-        Ok(())
-    }
-}
-
-impl Parter {
-    /// One with a relaxation beside this one, which starts at a lawful plan, and who tries rows until so many columns
-    /// came in.
-    pub fn beside(
-        alloc: Global,
-        table: &RowTable,
-        relaxation: &Relaxation,
-        plan: &[Option<u32>],
-        pivots: u64,
-    ) -> Result<Self, OutOfMemory> {
-        Ok(Parter {
-            relaxation: relaxation.beside(alloc, table, plan)?,
-            most_pivots: pivots,
-            bans: Bans::new(alloc),
-            branching: Branching::new(alloc),
-            node: 0,
-            branch: None,
-            ends: Vec::new(alloc),
-            is_done: false,
-        })
-    }
-
-    /// Parts the node at hand of this tree.
-    pub fn part(&mut self, alloc: Global, table: &RowTable, tree: &DraftTree, effort: Effort) {
-        self.relaxation.hold(true);
-        self.is_done = self.branch(alloc, table, tree, effort).is_ok();
-    }
-
-    fn branch(
-        &mut self,
-        alloc: Global,
-        table: &RowTable,
-        tree: &DraftTree,
-        effort: Effort,
-    ) -> Result<(), OutOfMemory> {
-        self.branch = None;
-        let Some(standing) = tree.standings.get(self.node) else {
-            return Ok(());
-        };
-        self.forbid_above(table, tree)?;
-        self.relaxation.go_to(table, &standing.basis)?;
-        self.relaxation.pivot_on(table)?;
-        let effort = if self.relaxation.pivots() < self.most_pivots {
-            Some(effort)
-        } else {
-            None
-        };
-        self.branch = self.branching.choose(
-            table,
-            &mut self.relaxation,
-            &mut self.bans,
-            &standing.shares,
-            effort,
-            tree.draft.cost,
-        )?;
-        if let Some(row) = self.branch {
-            self.add(alloc, table, tree, standing, decision(self.node, row, true))?;
-            self.add(
-                alloc,
-                table,
-                tree,
-                standing,
-                decision(self.node, row, false),
-            )?;
-        }
-        Ok(())
-    }
-
-    /// Forbids what the decisions above the node forbid.
-    fn forbid_above(&mut self, table: &RowTable, tree: &DraftTree) -> Result<(), OutOfMemory> {
-        self.bans.go_back(&mut self.relaxation, 0);
-        let mut number = self.node;
-        for _ in 0..tree.standings.len() {
-            match tree.draft.decision(number) {
-                None => return Ok(()),
-                Some(decision) => {
-                    self.bans.decide(table, &mut self.relaxation, decision)?;
-                    number = decision.parent;
-                }
-            }
-        }
-        Ok(())
-    }
-
-    /// Makes the end to which this decision leads from where the relaxation stands, and goes back there. It has the
-    /// value and the multipliers of the node above where those are better.
-    fn add(
-        &mut self,
-        alloc: Global,
-        table: &RowTable,
-        tree: &DraftTree,
-        above: &Standing,
-        decision: Decision,
-    ) -> Result<(), OutOfMemory> {
-        let bans = self.bans.len();
-        let most = tree.draft.cost.saturating_mul(1024).saturating_sub(1023);
-        self.bans.decide(table, &mut self.relaxation, decision)?;
-        self.solve(table, most)?;
-        let mut standing = standing_of(alloc, table, &mut self.relaxation)?;
-        let mut multipliers = self.relaxation.multipliers(alloc, table.rider_count())?;
-        let mut plan = None;
-        if standing.shares.is_empty() && standing.value < most {
-            self.relaxation.find_shares(table, &mut standing.shares)?;
-            plan = Some(whole_plan(alloc, table, &standing.shares)?);
-            standing.shares.clear();
-        }
-        if standing.value < above.value {
-            standing.value = above.value;
-            multipliers.clear();
-            multipliers.extend_from_slice(tree.multipliers(decision.parent))?;
-        }
-        self.ends.push(End {
-            node: node_at(Some(decision), multipliers),
-            standing,
-            plan,
-        })?;
-        self.bans.go_back(&mut self.relaxation, bans);
-        self.relaxation.go_back(&self.branching.saved)
-    }
-
-    /// Solves the relaxation by the dual simplex, or where that fails from the node above.
-    fn solve(&mut self, table: &RowTable, most: i64) -> Result<(), OutOfMemory> {
-        if !self.relaxation.solve_dual(table, most, MOST_ROWS)? {
-            self.relaxation.go_back(&self.branching.saved)?;
-            self.relaxation.hold(false);
-            self.relaxation.solve(table, most, MOST_ROWS, u32::MAX)?;
-            self.relaxation.hold(true);
-        }
-        Ok(())
-    }
-}
-
-/// A node that isn't branched yet.
-fn node_at(decision: Option<Decision>, multipliers: Vec<i64>) -> DraftNode {
-    DraftNode {
-        decision,
-        branch: None,
-        multipliers,
     }
 }
 
 /// Where the relaxation stands.
-fn standing_of(
+pub fn standing_of(
     alloc: Global,
     table: &RowTable,
     relaxation: &mut Relaxation,
@@ -432,6 +272,6 @@ fn standing_of(
 }
 
 /// A value in 1/1024 second, in seconds, rounded up.
-pub fn seconds_of(value: i64) -> i64 {
+fn seconds_of(value: i64) -> i64 {
     value.saturating_add(1023) >> 10
 }

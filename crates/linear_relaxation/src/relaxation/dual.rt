@@ -73,7 +73,8 @@ impl Relaxation {
     fn exchange_at(&mut self, table: &RowTable, place: usize) -> Result<Option<i64>, OutOfMemory> {
         self.basis.find_row(place, &mut self.row);
         let level = self.basis.level(place);
-        let Some(entering) = self.entering_for(level > 0) else {
+        self.find_products(level > 0);
+        let Some(entering) = self.entering() else {
             return Ok(None);
         };
         self.basis.find_column(table, entering.column);
@@ -104,10 +105,8 @@ impl Relaxation {
         }
     }
 
-    /// The column whose reduced cost is used up first as the prices change with the row that was found, where
-    /// the leaving level is too high or too low.
-    fn entering_for(&mut self, is_high: bool) -> Option<Entering> {
-        self.find_products(is_high);
+    /// The column whose reduced cost is used up first as the prices change with the row that was found.
+    fn entering(&self) -> Option<Entering> {
         let mut best = None;
         for place in self.products.places() {
             let value = self.products.at(place);
@@ -124,11 +123,13 @@ impl Relaxation {
         best
     }
 
-    /// Adds the row that was found up over the conditions of each place of the pool.
+    /// Adds the row that was found up over the conditions of each place of the pool, or its negative where the
+    /// leaving level is too low.
     fn find_products(&mut self, is_high: bool) {
         self.products.clear();
         for condition in self.row.places() {
-            let value = signed(self.row.at(condition), is_high);
+            let value = self.row.at(condition);
+            let value = if is_high { value } else { value.wrapping_neg() };
             self.products
                 .add_all(self.pool.places_with(condition), value);
         }
@@ -141,9 +142,4 @@ fn first_of(best: Option<Entering>, found: Entering) -> Option<Entering> {
         Some(other) if !found.is_before(other) => best,
         _ => Some(found),
     }
-}
-
-/// A number, or its negative where the leaving level is too low.
-fn signed(value: i64, is_high: bool) -> i64 {
-    if is_high { value } else { value.wrapping_neg() }
 }

@@ -1,4 +1,6 @@
 //! Columns of numbers of which most are 0.
+ghost use Rattle.std.specs.Iterator.{at_most};
+
 use pool_base::OutOfMemory;
 use row_tables::fixed_point::{add_at, at, item, reset, set_at, times};
 use std::alloc::Global;

@@ -1,0 +1,182 @@
+//! The parting of a node: it is branched on a row, and its two ends are solved.
+use crate::branching::{Branching, condition_count, decision};
+use crate::decided::Decided;
+use crate::diving::whole_plan;
+use crate::tree::{DraftTree, Standing, standing_of};
+use linear_relaxation::Relaxation;
+use pool_base::OutOfMemory;
+use row_tables::{Decision, RowTable};
+use std::alloc::Global;
+
+/// How many nodes are parted at once: a tree follows from this, and not from the number of workers.
+pub const MOST_AT_ONCE: usize = 4;
+
+/// How many columns come in before no more rows are tried, times vehicles and riders.
+const MOST_WORK: usize = 60_000_000 / MOST_AT_ONCE;
+
+/// How many rows of a vehicle a pass puts into the pool.
+const MOST_ROWS: usize = 10;
+
+/// The other end of a branch: where it stands, and a plan where its solution is one.
+#[derive(Drop)]
+pub struct End {
+    pub decision: Decision,
+    pub multipliers: Vec<i64>,
+    pub standing: Standing,
+    pub plan: Option<Vec<Option<u32>>>,
+}
+
+/// Who parts nodes, with a relaxation of its own.
+#[derive(Drop)]
+pub struct Parter {
+    decided: Decided,
+    branching: Branching,
+    /// The node at hand, if there is one.
+    pub node: Option<usize>,
+    /// What came of it: the row that the node is branched on and its ends, if there is one, and whether there was
+    /// memory for that.
+    pub branch: Option<usize>,
+    pub ends: Vec<End>,
+    pub is_done: bool,
+}
+
+impl Parter {
+    /// One with a relaxation beside this one, which starts at a lawful plan.
+    pub fn beside(
+        alloc: Global,
+        table: &RowTable,
+        relaxation: &Relaxation,
+        plan: &[Option<u32>],
+    ) -> Result<Self, OutOfMemory> {
+        let mut beside = relaxation.beside(alloc, table, plan)?;
+        beside.hold(true);
+        Ok(Parter {
+            decided: Decided::new(alloc, beside),
+            branching: Branching::new(alloc, table),
+            node: None,
+            branch: None,
+            ends: Vec::new(alloc),
+            is_done: false,
+        })
+    }
+
+    /// Parts the node at hand of this tree.
+    pub fn part(&mut self, alloc: Global, table: &RowTable, tree: &DraftTree) {
+        self.branch = None;
+        self.is_done = match self.node {
+            None => true,
+            Some(number) => self.branch(alloc, table, tree, number).is_ok(),
+        };
+    }
+
+    fn branch(
+        &mut self,
+        alloc: Global,
+        table: &RowTable,
+        tree: &DraftTree,
+        number: usize,
+    ) -> Result<(), OutOfMemory> {
+        let Some(standing) = tree.standing(number) else {
+            return Ok(());
+        };
+        self.forbid_above(table, tree, number)?;
+        let relaxation = &mut self.decided.relaxation;
+        relaxation.go_to(table, &standing.basis)?;
+        relaxation.pivot_on(table)?;
+        let work = relaxation
+            .pivots()
+            .saturating_mul(condition_count(table) as u64);
+        let tries = work < MOST_WORK as u64;
+        let (decided, cost) = (&mut self.decided, tree.draft.cost);
+        let branching = &mut self.branching;
+        self.branch = branching.choose(table, decided, &standing.shares, cost, tries)?;
+        if let Some(row) = self.branch {
+            self.add(alloc, table, tree, decision(number, row, true))?;
+            self.add(alloc, table, tree, decision(number, row, false))?;
+        }
+        Ok(())
+    }
+
+    /// Forbids what the decisions above the node forbid.
+    fn forbid_above(
+        &mut self,
+        table: &RowTable,
+        tree: &DraftTree,
+        number: usize,
+    ) -> Result<(), OutOfMemory> {
+        let mut number = number;
+        self.decided.go_back(0);
+        for _ in 0..tree.draft.nodes.len() {
+            match tree.draft.decision(number) {
+                None => break,
+                Some(decision) => {
+                    self.decided.decide(table, decision)?;
+                    number = decision.parent;
+                }
+            }
+        }
+        Ok(())
+    }
+
+    /// Makes the end to which this decision leads from where the relaxation stands, and goes back there.
+    fn add(
+        &mut self,
+        alloc: Global,
+        table: &RowTable,
+        tree: &DraftTree,
+        decision: Decision,
+    ) -> Result<(), OutOfMemory> {
+        let count = self.decided.len();
+        self.decided.decide(table, decision)?;
+        let end = self.end(alloc, table, tree, decision)?;
+        self.ends.push(end)?;
+        self.decided.go_back(count);
+        self.decided.relaxation.go_back(&self.branching.saved)
+    }
+
+    /// The end to which this decision leads, which is made. It has the value and the multipliers of the node above
+    /// where those are better.
+    fn end(
+        &mut self,
+        alloc: Global,
+        table: &RowTable,
+        tree: &DraftTree,
+        decision: Decision,
+    ) -> Result<End, OutOfMemory> {
+        let most = tree.draft.cost.saturating_mul(1024).saturating_sub(1023);
+        self.solve(table, most)?;
+        let relaxation = &mut self.decided.relaxation;
+        let mut multipliers = relaxation.multipliers(alloc, table.rider_count())?;
+        let mut standing = standing_of(alloc, table, relaxation)?;
+        let mut plan = None;
+        if standing.shares.is_empty() && standing.value < most {
+            let mut shares = Vec::new(alloc);
+            relaxation.find_shares(table, &mut shares)?;
+            plan = Some(whole_plan(alloc, table, &shares)?);
+        }
+        if let Some(above) = tree.standing(decision.parent) {
+            if standing.value < above.value {
+                standing.value = above.value;
+                multipliers = Vec::from_slice(alloc, tree.multipliers(decision.parent))?;
+            }
+        }
+        Ok(End {
+            decision,
+            multipliers,
+            standing,
+            plan,
+        })
+    }
+
+    /// Solves the relaxation by the dual simplex, or where that fails from the node above.
+    fn solve(&mut self, table: &RowTable, most: i64) -> Result<(), OutOfMemory> {
+        let relaxation = &mut self.decided.relaxation;
+        if !relaxation.solve_dual(table, most, MOST_ROWS)? {
+            relaxation.go_back(&self.branching.saved)?;
+            relaxation.hold(false);
+            relaxation.solve(table, most, MOST_ROWS, u32::MAX)?;
+            relaxation.hold(true);
+        }
+        Ok(())
+    }
+}
